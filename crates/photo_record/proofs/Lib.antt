@@ -1,0 +1,5 @@
+pub mod SetLemmas
+pub mod FormLemmas
+pub mod DayLemmas
+pub mod DateLemmas
+pub mod ReadLemmas

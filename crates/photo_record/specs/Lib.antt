@@ -1,0 +1,6 @@
+pub mod Limits
+pub mod Calendar
+pub mod Civil
+pub mod Word
+pub mod Reading
+pub mod Examples

@@ -1,0 +1,24 @@
+use thiserror::Error;
+
+/// Why a text is no word, or no set of words.
+#[derive(Clone, Copy, Debug, PartialEq, Eq, Drop, Error)]
+pub enum WordFault {
+    /// A word has no character.
+    #[error("Empty")]
+    Empty,
+    /// A word has a space, a control character, a double quote, a parenthesis or a comma.
+    #[error("BadCharacter")]
+    BadCharacter,
+    /// A word has over 64 bytes in form C.
+    #[error("TooLong")]
+    TooLong,
+    /// Memory was refused.
+    #[error("NoMemory")]
+    NoMemory,
+    /// There are over 16 words.
+    #[error("TooMany")]
+    TooMany,
+    /// A word stands there twice.
+    #[error("Repeated")]
+    Repeated,
+}

@@ -1,0 +1,34 @@
+//! Laws of what texts denote. Each function's contract is a law, and its body does nothing.
+ghost use Rattle.std.specs.Prelude.{◌≡◌, ℕ, ◌≤◌, true, ℤ, List, length, Ok};
+ghost use Rattle.std.specs.Str.{IsUtf8};
+ghost use Rattle.photo_record.specs.Limits.{IsDay, max_words};
+ghost use Rattle.photo_record.specs.Calendar.{Civil, IsDateOf, is_date, day_number, date_of};
+ghost use Rattle.photo_record.specs.Word.{IsWord, is_rising};
+ghost use Rattle.photo_record.specs.Reading.{word_of_text, words_of_text};
+ghost use Rattle.photo_record.specs.Examples.{TheDays, TheWords, TheSets};
+
+/// The days of the range and the dates of the years 0 to 9999 are the same, one to one.
+pub fn days_are_dates()
+    ensures dates { (day : ℤ) → IsDay day → IsDateOf day (date_of day) }
+    ensures days { (d : Civil) → is_date d ≡ true → IsDay (day_number d) }
+    ensures one_to_one { (d : Civil) → is_date d ≡ true → date_of (day_number d) ≡ d }
+{}
+
+/// What is read as a word is a word, and a word is read as itself.
+pub fn words_are_read(text: &str)
+    ensures word { (w : List ℕ) → IsUtf8 w → word_of_text text.now ≡ Ok w → IsWord w }
+    ensures itself { IsWord text.now → word_of_text text.now ≡ Ok text.now }
+{}
+
+/// A set that is read rises, so it has no word twice, and it has at most sixteen words.
+pub fn sets_are_read(text: &str)
+    ensures rising { (words : List (List ℕ)) → words_of_text text.now ≡ Ok words → is_rising words ≡ true }
+    ensures few { (words : List (List ℕ)) → words_of_text text.now ≡ Ok words → length words ≤ max_words }
+{}
+
+/// The definitions at some texts.
+pub fn examples()
+    ensures days { TheDays }
+    ensures words { TheWords }
+    ensures sets { TheSets }
+{}

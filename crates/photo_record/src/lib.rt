@@ -1,0 +1,22 @@
+//! Ratings, days, picture numbers, words and records: the values that a photo collection is made of.
+#![tactic(auto)]
+
+mod day;
+mod fault;
+pub mod laws;
+mod pic_no;
+mod rating;
+mod record;
+mod word;
+mod words;
+
+pub use day::Day;
+pub use fault::WordFault;
+pub use pic_no::PicNo;
+pub use rating::Rating;
+pub use record::Record;
+pub use word::Word;
+pub use words::Words;
+
+#[cfg(test)]
+mod tests;

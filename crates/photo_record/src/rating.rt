@@ -1,0 +1,41 @@
+ghost use Rattle.std.specs.Prelude.{◌≡◌, ℕ, ◌≤◌, ◌<◌};
+ghost use Rattle.std.specs.Option.{SomeIff};
+ghost use Rattle.photo_record.specs.Limits.{max_rating};
+
+use std::marker::Model;
+
+/// How good a picture is: 0 to 5.
+#[derive(Clone, Copy, Debug, PartialEq, Eq, PartialOrd, Ord, Hash)]
+pub struct Rating {
+    value: u8,
+}
+
+impl Model for Rating {
+    ghost Value = { ℕ };
+
+    ghost view = { λ r. r.value };
+
+    ghost invariant = { λ r. r.value ≤ max_rating };
+
+    ghost inverse = { λ n. record { value = n } };
+}
+
+impl Rating {
+    /// The rating of that value, `None` above 5.
+    pub fn new(value: u8) -> Option<Rating>
+        ensures { SomeIff result (value ≤ max_rating) value }
+    {
+        if value > 5 {
+            return None;
+        }
+        Some(Rating { value })
+    }
+
+    /// The rating as a number, 0 to 5.
+    pub fn value(&self) -> u8
+        ensures value { result ≡ self.now }
+        ensures in_range { result ≤ max_rating }
+    {
+        self.value
+    }
+}

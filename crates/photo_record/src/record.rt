@@ -1,0 +1,31 @@
+ghost use Rattle.std.specs.Prelude.{◌≡◌, IfOk};
+
+use crate::{Day, Rating, Words};
+use std::alloc::AllocError;
+
+/// What a version of a picture says: how the picture is rated, its day and its words, or that it was removed.
+#[derive(Debug, PartialEq, Eq, Drop)]
+pub enum Record {
+    Picture {
+        rating: Rating,
+        day: Day,
+        words: Words,
+    },
+    Removed,
+}
+
+impl Record {
+    /// An equal record. Its only error is want of memory.
+    pub fn try_clone(&self) -> Result<Record, AllocError>
+        ensures { IfOk result (λ copy. copy ≡ self.now) }
+    {
+        match self {
+            Record::Picture { rating, day, words } => Ok(Record::Picture {
+                rating: *rating,
+                day: *day,
+                words: words.try_clone()?,
+            }),
+            Record::Removed => Ok(Record::Removed),
+        }
+    }
+}
