@@ -1,0 +1,208 @@
+-- Held versions in order.
+use Rattle.std.proofs.Common.{◌≡◌, ◌≢◌, ℕ, zero, suc, ◌<◌, ◌≤◌, Bool, true, false, not, ◌&&◌, ◌||◌, eqb, leb, ltb, cond, List, [], ◌∷◌, ◌++◌, length, get_or, take, drop, refl, sym, ap, ◌∙◌, ◌⊎◌, inl, inr, arith, add-one}
+use Rattle.std.specs.Prelude.{filter}
+use Rattle.std.specs.List.{list_all}
+use Rattle.std.specs.List.Sorted.{IsNonDecreasingBy, IsPartitionPoint}
+use Rattle.std.proofs.lemmas.Bool.{and_parts, and_from, lt-ltb, le-ltb, ltb-true, ltb-false, eqb-true, eqb-false, eq-eqb, ne_eqb, or_cases, cases_Bool, not-true, leb-true, leb-false, cases_lt, false≢true, true≢false, cases_order}
+use Rattle.std.proofs.lemmas.Bool.Decides.{nat_tests}
+use Rattle.photo_device.specs.declared.held.Held.{Held}
+use Rattle.photo_device.specs.Version.{version_before}
+use Rattle.photo_device.specs.Ordered.{in_order, put}
+use Rattle.photo_device.specs.Held.{held_before, are_in_order, held_elsewhere, replaced, IsRangeOf}
+
+-- the test of the order, by the picture numbers where these differ
+
+held_before-less : (a b : Held) → a.picture < b.picture → held_before a b ≡ true
+held_before-less a b h = rw (lt-ltb a.picture b.picture h) refl
+
+held_before-greater : (a b : Held) → b.picture < a.picture → held_before a b ≡ false
+held_before-greater a b h =
+    let no_less = le-ltb a.picture b.picture (omega arith) in
+    let no_equal = ne_eqb a.picture b.picture (λ e. absurd (omega arith)) in
+    rw (no_less, no_equal) refl
+
+held_before-le : (a b : Held) → held_before a b ≡ true → a.picture ≤ b.picture
+held_before-le a b h = elim (cases_order a.picture b.picture) [
+  | inl e ↦ omega arith
+  | inr o ↦ elim o [
+    | inl less ↦ omega arith
+    | inr greater ↦ absurd (false≢true (sym (held_before-greater a b greater) ∙ h))
+  ]
+]
+
+-- along a list in order the picture numbers don't fall
+
+first_le : (x : Held) (xs : List Held) (j : ℕ) (d : Held) → list_all (held_before x) xs ≡ true → j < length xs → x.picture ≤ (get_or xs j d).picture
+first_le x [] j d h l = absurd (omega arith)
+first_le x (y ∷ ys) zero d h l = held_before-le x y (and_parts _ _ h).0
+first_le x (y ∷ ys) (suc j) d h l = first_le x ys j d (and_parts _ _ h).1 (omega arith)
+
+pub rises : (xs : List Held) → are_in_order xs ≡ true → IsNonDecreasingBy (λ h. h.picture) xs
+rises [] h i j d le l = absurd (omega arith)
+rises (x ∷ xs) h zero zero d le l = omega arith
+rises (x ∷ xs) h zero (suc j) d le l = first_le x xs j d (and_parts _ _ h).0 (omega arith)
+rises (x ∷ xs) h (suc i) zero d le l = absurd (omega arith)
+rises (x ∷ xs) h (suc i) (suc j) d le l = rises xs (and_parts _ _ h).1 i j d (omega arith) (omega arith)
+
+-- A list in three parts: smaller pictures up to `from`, the picture itself up to `to`, and greater ones
+
+pub record Parts (p : ℕ) (xs : List Held) (from to : ℕ) : Type 0 where
+  pub below : (k : ℕ) (d : Held) → k < from → (get_or xs k d).picture < p
+  pub here : (k : ℕ) (d : Held) → from ≤ k → k < to → (get_or xs k d).picture ≡ p
+  pub above : (k : ℕ) (d : Held) → to ≤ k → k < length xs → p < (get_or xs k d).picture
+
+tail : (p : ℕ) (x : Held) (xs : List Held) (from to : ℕ) → Parts p (x ∷ xs) (suc from) (suc to) → Parts p xs from to
+tail p x xs from to parts = record {
+  below = λ k d h. parts.below (suc k) d (omega arith);
+  here = λ k d h g. parts.here (suc k) d (omega arith) (omega arith);
+  above = λ k d h g. parts.above (suc k) d (omega arith) (omega arith);
+}
+
+tail_here : (p : ℕ) (x : Held) (xs : List Held) (to : ℕ) → Parts p (x ∷ xs) 0 (suc to) → Parts p xs 0 to
+tail_here p x xs to parts = record {
+  below = λ k d h. absurd (omega arith);
+  here = λ k d h g. parts.here (suc k) d (omega arith) (omega arith);
+  above = λ k d h g. parts.above (suc k) d (omega arith) (omega arith);
+}
+
+tail_above : (p : ℕ) (x : Held) (xs : List Held) → Parts p (x ∷ xs) 0 0 → Parts p xs 0 0
+tail_above p x xs parts = record {
+  below = λ k d h. absurd (omega arith);
+  here = λ k d h g. absurd (omega arith);
+  above = λ k d h g. parts.above (suc k) d (omega arith) (omega arith);
+}
+
+keeps : (p : ℕ) (x : Held) (xs : List Held) → (x.picture ≡ p → ⊥) → filter (held_elsewhere p) (x ∷ xs) ≡ x ∷ filter (held_elsewhere p) xs
+keeps p x xs h = rw (ne_eqb x.picture p h) refl
+
+drops : (p : ℕ) (x : Held) (xs : List Held) → x.picture ≡ p → filter (held_elsewhere p) (x ∷ xs) ≡ filter (held_elsewhere p) xs
+drops p x xs h = rw (eq-eqb x.picture p h) refl
+
+pub rest_of : (p : ℕ) (xs : List Held) (from to : ℕ) → from ≤ to → to ≤ length xs → Parts p xs from to → filter (held_elsewhere p) xs ≡ take from xs ++ drop to xs
+rest_of p [] zero zero o w parts = refl
+rest_of p [] zero (suc to) o w parts = absurd (omega arith)
+rest_of p [] (suc from) zero o w parts = absurd (omega arith)
+rest_of p [] (suc from) (suc to) o w parts = absurd (omega arith)
+rest_of p (x ∷ xs) zero zero o w parts =
+    let above = parts.above 0 x (omega arith) (omega arith) in
+    keeps p x xs (λ e. absurd (omega arith)) ∙ ap (λ l. x ∷ l) (rest_of p xs 0 0 (omega arith) (omega arith) (tail_above p x xs parts))
+rest_of p (x ∷ xs) zero (suc to) o w parts =
+    drops p x xs (parts.here 0 x (omega arith) (omega arith)) ∙ rest_of p xs 0 to (omega arith) (omega arith) (tail_here p x xs to parts)
+rest_of p (x ∷ xs) (suc from) zero o w parts = absurd (omega arith)
+rest_of p (x ∷ xs) (suc from) (suc to) o w parts =
+    let below = parts.below 0 x (omega arith) in
+    keeps p x xs (λ e. absurd (omega arith)) ∙ ap (λ l. x ∷ l) (rest_of p xs from to (omega arith) (omega arith) (tail p x xs from to parts))
+
+-- where `put` puts a version of that picture
+
+put_after : (h x : Held) (xs : List Held) → x.picture < h.picture → put held_before h (x ∷ xs) ≡ x ∷ put held_before h xs
+put_after h x xs l = rw (held_before-less x h l) refl
+
+put_before : (h x : Held) (xs : List Held) → h.picture < x.picture → put held_before h (x ∷ xs) ≡ h ∷ x ∷ xs
+put_before h x xs l = rw (held_before-greater x h l) refl
+
+pub place_of : (h : Held) (xs : List Held) (from to : ℕ) → from ≤ to → to ≤ length xs → Parts h.picture xs from to → put held_before h (take from xs ++ drop to xs) ≡ take from xs ++ h ∷ drop to xs
+place_of h [] zero zero o w parts = refl
+place_of h [] zero (suc to) o w parts = absurd (omega arith)
+place_of h [] (suc from) zero o w parts = absurd (omega arith)
+place_of h [] (suc from) (suc to) o w parts = absurd (omega arith)
+place_of h (x ∷ xs) zero zero o w parts = put_before h x xs (parts.above 0 x (omega arith) (omega arith))
+place_of h (x ∷ xs) zero (suc to) o w parts = place_of h xs 0 to (omega arith) (omega arith) (tail_here h.picture x xs to parts)
+place_of h (x ∷ xs) (suc from) zero o w parts = absurd (omega arith)
+place_of h (x ∷ xs) (suc from) (suc to) o w parts =
+    put_after h x _ (parts.below 0 x (omega arith)) ∙ ap (λ l. x ∷ l) (place_of h xs from to (omega arith) (omega arith) (tail h.picture x xs from to parts))
+
+-- the order is kept
+
+list_all-filter : (q r : Held → Bool) (xs : List Held) → list_all q xs ≡ true → list_all q (filter r xs) ≡ true
+list_all-filter q r [] h = refl
+list_all-filter q r (x ∷ xs) h =
+    elim (r x) as (λ b. list_all q (cond b (x ∷ filter r xs) (filter r xs)) ≡ true) [
+      | true ↦ and_from _ _ (and_parts _ _ h).0 (list_all-filter q r xs (and_parts _ _ h).1)
+      | false ↦ list_all-filter q r xs (and_parts _ _ h).1
+    ]
+
+pub in_order-filter : (r : Held → Bool) (xs : List Held) → are_in_order xs ≡ true → are_in_order (filter r xs) ≡ true
+in_order-filter r [] h = refl
+in_order-filter r (x ∷ xs) h =
+    elim (r x) as (λ b. are_in_order (cond b (x ∷ filter r xs) (filter r xs)) ≡ true) [
+      | true ↦ and_from _ _ (list_all-filter _ r xs (and_parts _ _ h).0) (in_order-filter r xs (and_parts _ _ h).1)
+      | false ↦ in_order-filter r xs (and_parts _ _ h).1
+    ]
+
+list_all-put : (q : Held → Bool) (h : Held) (xs : List Held) → q h ≡ true → list_all q xs ≡ true → list_all q (put held_before h xs) ≡ true
+list_all-put q h [] p a = and_from _ _ p refl
+list_all-put q h (x ∷ xs) p a =
+    elim (held_before x h) as (λ b. list_all q (cond b (x ∷ put held_before h xs) (h ∷ x ∷ xs)) ≡ true) [
+      | true ↦ and_from _ _ (and_parts _ _ a).0 (list_all-put q h xs p (and_parts _ _ a).1)
+      | false ↦ and_from _ _ p a
+    ]
+
+-- a version before the first of a list in order is before all
+before_all : (h x : Held) (xs : List Held) → h.picture < x.picture → list_all (held_before x) xs ≡ true → list_all (held_before h) xs ≡ true
+before_all h x [] l a = refl
+before_all h x (y ∷ ys) l a =
+    let le = held_before-le x y (and_parts _ _ a).0 in
+    and_from _ _ (held_before-less h y (omega arith)) (before_all h x ys l (and_parts _ _ a).1)
+
+pub in_order-put : (h : Held) (xs : List Held) → are_in_order xs ≡ true → list_all (held_elsewhere h.picture) xs ≡ true → are_in_order (put held_before h xs) ≡ true
+in_order-put h [] o e = refl
+in_order-put h (x ∷ xs) o e =
+    let apart = eqb-false x.picture h.picture (not-true _ (and_parts _ _ e).0) in
+    elim (cases_order x.picture h.picture) [
+      | inl same ↦ absurd (apart same)
+      | inr side ↦ elim side [
+        | inl less ↦ rw (put_after h x xs less) (and_from _ _ (list_all-put _ h xs (held_before-less x h less) (and_parts _ _ o).0) (in_order-put h xs (and_parts _ _ o).1 (and_parts _ _ e).1))
+        | inr greater ↦ rw (put_before h x xs greater) (and_from _ _ (and_from _ _ (held_before-less h x greater) (before_all h x xs greater (and_parts _ _ o).0)) o)
+      ]
+    ]
+
+all_elsewhere : (p : ℕ) (xs : List Held) → list_all (held_elsewhere p) (filter (held_elsewhere p) xs) ≡ true
+all_elsewhere p [] = refl
+all_elsewhere p (x ∷ xs) = elim (cases_Bool (held_elsewhere p x)) [
+  | inl other ↦ rw other (and_from _ _ other (all_elsewhere p xs))
+  | inr same ↦ rw same (all_elsewhere p xs)
+]
+
+pub in_order-replaced : (h : Held) (xs : List Held) → are_in_order xs ≡ true → are_in_order (replaced h xs) ≡ true
+in_order-replaced h xs o = in_order-put h _ (in_order-filter _ xs o) (all_elsewhere h.picture xs)
+
+-- what two binary searches for a picture answer
+
+pub is_range : (p : ℕ) (xs : List Held) (from to : ℕ) → from ≤ length xs → to ≤ length xs → IsPartitionPoint (λ (h : Held). ltb h.picture p ≡ true) (λ (h : Held). ltb h.picture p ≡ false) xs from → IsPartitionPoint (λ (h : Held). leb h.picture p ≡ true) (λ (h : Held). leb h.picture p ≡ false) xs to → IsRangeOf p xs from to
+is_range p xs from to f t less most =
+    let order : from ≤ to = elim (cases_lt to from) [
+      | inl back ↦ some_between back
+      | inr o ↦ o
+    ] in
+    record {
+      order = order;
+      within = t;
+      rest = rest_of p xs from to order t parts;
+      place = λ h e. ap (put held_before h) (rest h e order) ∙ place_of h xs from to order t (parts_at h e);
+    }
+  where
+    parts : Parts p xs from to
+    parts = record {
+      below = λ k d h. ltb-true _ _ (less.0 k d (omega arith) h);
+      here = λ k d h g.
+          let low = ltb-false _ _ (less.1 k d h (omega arith)) in
+          let high = leb-true _ _ (most.0 k d (omega arith) g) in
+          omega arith;
+      above = λ k d h g. leb-false _ _ (most.1 k d h g);
+    }
+
+    parts_at : (h : Held) → h.picture ≡ p → Parts h.picture xs from to
+    parts_at h e = rw e parts
+
+    rest : (h : Held) → h.picture ≡ p → from ≤ to → filter (held_elsewhere h.picture) xs ≡ take from xs ++ drop to xs
+    rest h e order = rest_of h.picture xs from to order t (parts_at h e)
+
+    some_between : to < from → from ≤ to
+    some_between back = elim xs as (λ l. l ≡ xs → from ≤ to) [
+      | [] ↦ λ e. let none = ap length e in absurd (omega arith)
+      | x ∷ more ↦ λ e.
+          let low = ltb-true _ _ (less.0 to x (omega arith) back) in
+          let high = leb-false _ _ (most.1 to x (omega arith) (omega arith)) in
+          absurd (omega arith)
+    ] refl

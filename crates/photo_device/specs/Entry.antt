@@ -1,0 +1,26 @@
+-- Versions of pictures with what they say.
+use Rattle.std.specs.Prelude.{ℕ, Bool, not, ◌&&◌, ◌||◌, ◌==◌, nat_lt, List, filter}
+use Rattle.photo_record.specs.declared.record.Record.{Record}
+use Rattle.photo_device.specs.Version.{Version, version_before}
+use Rattle.photo_device.specs.Ordered.{put}
+
+-- a version of a picture, and the record that it gives the picture
+pub record Entry : Type 0 where
+  pub picture : ℕ
+  pub version : Version
+  pub content : Record
+
+-- by picture, then version
+abbrev pub entry_before : Entry → Entry → Bool
+entry_before a b = nat_lt a.picture b.picture || ((a.picture == b.picture) && version_before a.version b.version)
+
+abbrev pub is_of_other : ℕ → Entry → Bool
+is_of_other picture e = not (e.picture == picture)
+
+-- the entries of all other pictures
+abbrev pub others : ℕ → List Entry → List Entry
+others picture entries = filter (is_of_other picture) entries
+
+-- a set of entries with one more
+abbrev pub put_entry : Entry → List Entry → List Entry
+put_entry e entries = put entry_before e entries

@@ -1,0 +1,38 @@
+-- Held versions, and the entries that they show.
+use Rattle.std.specs.Prelude.{◌≡◌, ℕ, ◌≤◌, Bool, not, ◌==◌, List, ◌∷◌, ◌++◌, length, map, filter, take, drop, Option}
+use Rattle.std.specs.List.{find}
+use Rattle.photo_device.specs.declared.held.Held.{Held}
+use Rattle.photo_device.specs.Version.{Version, same_version}
+use Rattle.photo_device.specs.Ordered.{put, in_order}
+use Rattle.photo_device.specs.Entry.{Entry, entry_before}
+
+abbrev pub entry_of : Held → Entry
+entry_of held = record { picture = held.picture; version = held.version; content = held.content }
+
+abbrev pub entries_of : List Held → List Entry
+entries_of helds = map entry_of helds
+
+abbrev pub held_before : Held → Held → Bool
+held_before a b = entry_before (entry_of a) (entry_of b)
+
+-- by picture, then version, and none twice
+abbrev pub are_in_order : List Held → Bool
+are_in_order helds = in_order held_before helds
+
+abbrev pub held_elsewhere : ℕ → Held → Bool
+held_elsewhere picture held = not (held.picture == picture)
+
+-- one held version in the place of all of its picture
+abbrev pub replaced : Held → List Held → List Held
+replaced held helds = put held_before held (filter (held_elsewhere held.picture) helds)
+
+-- the one of that version
+abbrev pub find_version : Version → List Held → Option Held
+find_version v helds = find (λ h. same_version h.version v) helds
+
+-- the versions of a picture stand from the first place up to before the second
+pub record IsRangeOf (picture : ℕ) (helds : List Held) (from to : ℕ) : Type 0 where
+  pub order : from ≤ to
+  pub within : to ≤ length helds
+  pub rest : filter (held_elsewhere picture) helds ≡ take from helds ++ drop to helds
+  pub place : (held : Held) → held.picture ≡ picture → replaced held helds ≡ take from helds ++ held ∷ drop to helds

@@ -1,0 +1,9 @@
+pub mod Version
+pub mod Ordered
+pub mod Entry
+pub mod Held
+pub mod Device
+pub use Rattle.photo_record.specs.Limits
+pub use Rattle.photo_record.specs.Calendar
+pub use Rattle.photo_record.specs.Word
+pub use Rattle.photo_record.specs.Reading

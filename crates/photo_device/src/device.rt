@@ -1,0 +1,101 @@
+use crate::{Author, Held, HeldSet, Place, Version};
+use photo_record::{PicNo, Record};
+use std::alloc::{AllocError, Global};
+use std::marker::Model;
+
+/// A device: who it is, how many versions it has made, and those that it holds.
+#[derive(Debug, Drop)]
+pub struct Device {
+    author: Author,
+    counter: u32,
+    store: HeldSet,
+    out: HeldSet,
+}
+
+impl Model for Device {
+    ghost use Rattle.photo_device.specs.Device.{Kept};
+
+    ghost Value = { Kept };
+
+    ghost view = { λ d. record { author = d.author; counter = d.counter; store = d.store; out = d.out } };
+}
+
+impl Device {
+    ghost use Rattle.std.specs.Prelude.{◌≡◌, ℕ, ◌+◌, ◌<◌, ◌++◌, IfOk, OnErr};
+    ghost use Rattle.std.specs.Option.{option_copied};
+    ghost use Rattle.photo_device.specs.Held.{find_version};
+    ghost use Rattle.photo_device.specs.Device.{ModelDevice, Shows, opening, made, next_version, new_place};
+
+    /// A device that has made and holds nothing.
+    pub fn new(alloc: Global, author: Author) -> Device
+        ensures { Shows result (opening author) }
+    {
+        Device {
+            author,
+            counter: 0,
+            store: HeldSet::new(alloc),
+            out: HeldSet::new(alloc),
+        }
+    }
+
+    /// Makes the device's next version of a picture, in the place of all that it held of that picture.
+    ///
+    /// Gives the version and where it went. After want of memory the device is as it was.
+    pub fn make(&mut self, picture: PicNo, content: &Record) -> Result<(Version, Place), AllocError>
+        requires { self.old.counter < 4_294_967_295 }
+        ensures shows { IfOk result (λ answer. (m : ModelDevice) → Shows self.old m → Shows self.new (made m picture content.now)) }
+        ensures version { IfOk result (λ answer. (m : ModelDevice) → Shows self.old m → answer.0 ≡ next_version m) }
+        ensures place { IfOk result (λ answer. (m : ModelDevice) → Shows self.old m → answer.1 ≡ new_place m content.now) }
+        ensures err { OnErr result (self.new ≡ self.old) }
+    {
+        let number = self.counter + 1;
+        let version = Version::new(self.author, number).unwrap();
+        let held = Held {
+            picture,
+            version,
+            content: content.try_clone()?,
+        };
+        self.store.replace(held)?;
+        self.out.drop_picture(picture);
+        self.counter = number;
+        Ok((version, Place::Store))
+    }
+
+    /// Who it is as an author of versions.
+    pub fn author(&self) -> Author
+        ensures { result ≡ self.now.author }
+    {
+        self.author
+    }
+
+    /// How many versions it has made.
+    pub fn counter(&self) -> u32
+        ensures { result ≡ self.now.counter }
+    {
+        self.counter
+    }
+
+    /// The versions that it keeps.
+    pub fn store(&self) -> &HeldSet
+        ensures { result.now ≡ self.now.store }
+    {
+        &self.store
+    }
+
+    /// The versions that it holds for another device to take.
+    pub fn out(&self) -> &HeldSet
+        ensures { result.now ≡ self.now.out }
+    {
+        &self.out
+    }
+
+    /// What it holds of a version, in the store or in the out.
+    pub fn held(&self, version: Version) -> Option<&Held>
+        ensures { option_copied result ≡ find_version version (self.now.store ++ self.now.out) }
+    {
+        match self.store.find(version) {
+            Some(held) => Some(held),
+            None => self.out.find(version),
+        }
+    }
+}

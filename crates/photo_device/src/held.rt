@@ -1,0 +1,26 @@
+ghost use Rattle.std.specs.Prelude.{◌≡◌, IfOk};
+
+use crate::Version;
+use photo_record::{PicNo, Record};
+use std::alloc::AllocError;
+
+/// A version of a picture that a device holds, with the record that it gives the picture.
+#[derive(Debug, PartialEq, Eq, Drop)]
+pub struct Held {
+    pub picture: PicNo,
+    pub version: Version,
+    pub content: Record,
+}
+
+impl Held {
+    /// An equal held version. Its only error is want of memory.
+    pub fn try_clone(&self) -> Result<Held, AllocError>
+        ensures { IfOk result (λ copy. copy ≡ self.now) }
+    {
+        Ok(Held {
+            picture: self.picture,
+            version: self.version,
+            content: self.content.try_clone()?,
+        })
+    }
+}
