@@ -1,0 +1,24 @@
+-- The fields of a slice that a pattern takes apart.
+use Rattle.std.proofs.Common.{◌≡◌, ◌≤◌, ◌<◌, ◌∷◌, ℕ, List, [], length, get_or, map, refl, ap, suc, arith, Bor}
+use Rattle.photo_script.specs.Steps.{texts}
+
+abbrev pub field : List (Bor (List ℕ)) → ℕ → List ℕ
+field xs i = (get_or xs i (record { ref_ptr = (0, 0); now = [] })).now
+
+pub length-texts : (fields : List (Bor (List ℕ))) → length (texts fields) ≡ length fields
+length-texts [] = refl
+length-texts (f ∷ fs) = ap suc (length-texts fs)
+
+pub texts-one : (xs : List (Bor (List ℕ))) → length xs ≡ 1 → texts xs ≡ field xs 0 ∷ []
+texts-one [] h = absurd (omega arith)
+texts-one (a ∷ []) h = refl
+texts-one (a ∷ b ∷ xs) h = absurd (omega arith)
+
+pub texts-five : (xs : List (Bor (List ℕ))) → length xs ≡ 5 → texts xs ≡ field xs 0 ∷ field xs 1 ∷ field xs 2 ∷ field xs 3 ∷ field xs 4 ∷ []
+texts-five [] h = absurd (omega arith)
+texts-five (a ∷ []) h = absurd (omega arith)
+texts-five (a ∷ b ∷ []) h = absurd (omega arith)
+texts-five (a ∷ b ∷ c ∷ []) h = absurd (omega arith)
+texts-five (a ∷ b ∷ c ∷ d ∷ []) h = absurd (omega arith)
+texts-five (a ∷ b ∷ c ∷ d ∷ e ∷ []) h = refl
+texts-five (a ∷ b ∷ c ∷ d ∷ e ∷ f ∷ xs) h = absurd (omega arith)

@@ -1,0 +1,14 @@
+mod Arguments
+mod WorkedExamples
+mod Gathered
+mod Joined
+mod Listing
+mod Numbers
+mod Padded
+mod Places
+mod Returns
+mod Taken
+mod Taking
+mod Trailing
+mod Turns
+mod Whole

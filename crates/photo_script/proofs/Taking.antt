@@ -1,0 +1,89 @@
+-- What a reader has after a line of each kind, and what the line says then.
+use Rattle.std.proofs.Common.{◌≡◌, ◌≤◌, ◌<◌, ◌∷◌, ◌++◌, ℕ, List, [], length, Bool, true, false, cond, ◌||◌, eqb, leb, codes, Option, Some, None, Result, Ok, Err, refl, sym, ap, ◌∙◌, arith}
+use Rattle.std.specs.BTreeSet.{contains, Updates}
+use Rattle.std.specs.List.{list_any}
+use Rattle.std.specs.Ordering.{nat_cmp, is_eq}
+use Rattle.std.proofs.lemmas.Bool.{le-ltb, lt-leb}
+use Rattle.std.proofs.lemmas.List.{append-nil}
+use Rattle.std.proofs.lemmas.Bool.Decides.{nat_tests}
+use Rattle.std.proofs.lemmas.Option.{cond_some}
+use Rattle.photo_record.specs.declared.record.Record.{Record}
+use Rattle.photo_script.specs.Limits.{max_commands}
+use Rattle.photo_script.specs.Contents.{contents}
+use Rattle.photo_script.specs.Earlier.{Earlier}
+use Rattle.photo_script.specs.Fields.{number_of, picture_of}
+use Rattle.photo_script.specs.Steps.{Takes, seen}
+use Rattle.photo_script.specs.Saying.{device_line_said, declaration_said, list_line_said, new_line_said, command_said, creation_said, device_said, new_picture_said, record_said, or_fault, ◌>>=◌}
+use Rattle.photo_script.specs.declared.command.Command.TheVariants as command
+use Rattle.photo_script.specs.declared.fault.LineFault.{LineFault}
+use Rattle.photo_script.specs.declared.fault.LineFault.TheVariants as fault
+use Rattle.photo_script.specs.declared.reader.Reader.{Reader}
+
+-- behind no command, a name and a filter are a declaration
+pub device_line-declaration : (before : Earlier) (name : List ℕ) (filter : List (List ℕ)) → before.commands ≤ 0 → 1 ≤ length filter → device_line_said before (name ∷ filter) ≡ declaration_said before name filter
+unfolding device_line_said
+device_line-declaration before name [] early some = absurd (omega arith)
+device_line-declaration before name (first ∷ more) early some = rw (le-ltb 0 before.commands early)
+
+pub list_line-said : (before : Earlier) (name : List ℕ) (device : ℕ) → before.commands < max_commands → Ok device ≡ device_said before name
+    → list_line_said before (name ∷ []) ≡ Ok (Some (command.List device))
+unfolding list_line_said command_said
+list_line-said before name device room known = rw (lt-leb max_commands before.commands room, ← known)
+
+pub new_line-said : (before : Earlier) (name picture rating date words : List ℕ) (device number : ℕ) (r : Record) → before.commands < max_commands
+    → Ok device ≡ device_said before name → Ok number ≡ new_picture_said before picture → record_said rating date words ≡ Ok r
+    → new_line_said before (name ∷ picture ∷ rating ∷ date ∷ words ∷ []) ≡ Ok (Some (command.New device number r))
+unfolding new_line_said command_said creation_said
+new_line-said before name picture rating date words device number r room known fresh said = rw (lt-leb max_commands before.commands room, ← known, ← fresh, said)
+
+or_false : (b : Bool) → b ≡ (b || false)
+or_false true = refl
+or_false false = refl
+
+-- a `list` line puts a command behind the others
+pub takes_list : (old new : Reader) (name : List ℕ) (device : ℕ) → new.script ≡ contents old.script.names (old.script.commands ++ command.List device ∷ []) → new.pictures ≡ old.pictures
+    → Takes old (codes "list" ∷ name ∷ []) (Some (command.List device)) new
+takes_list old new name device script pictures = record {
+  names = ap (λ s. s.names) script ∙ sym (append-nil old.script.names);
+  commands = ap (λ s. s.commands) script;
+  makes = λ p. ap (λ s. contains nat_cmp s p) pictures ∙ or_false _;
+  counted = refl;
+}
+
+-- what comes of a field that denotes something
+or_fault-ok : {A B : Type 0} (o : Option A) (e : LineFault) (f : A → Result B LineFault) (y : B) → Ok y ≡ (or_fault o e >>= f) → (x : A) × (o ≡ Some x) × (Ok y ≡ f x)
+or_fault-ok None e f y h = cc
+or_fault-ok (Some x) e f y h = (x, refl, h)
+
+unless_true : {A : Type 0} (b : Bool) (e : LineFault) (x y : A) → Ok y ≡ cond b (Err e) (Ok x) → x ≡ y
+unless_true true e x y h = cc
+unless_true false e x y h = cc
+
+number-said : (before : Earlier) (text : List ℕ) (number : ℕ) → Ok number ≡ new_picture_said before text → number_of text ≡ number
+unfolding new_picture_said
+number-said before text number said =
+    let found = or_fault-ok (picture_of text) fault.BadNumber _ number said in
+    let same : found.0 ≡ number = unless_true _ _ _ _ found.2 in
+    (cond_some _ _ _ found.1).1 ∙ same
+
+is_equal : (a b : ℕ) → is_eq (nat_cmp a b) ≡ eqb a b
+is_equal a b = grind (arith, nat_tests)
+
+or_last : (b x : Bool) → cond b true x ≡ (x || (b || false))
+or_last true true = refl
+or_last true false = refl
+or_last false true = refl
+or_last false false = refl
+
+-- a `new` line puts a command behind the others, and its picture to the others
+pub takes_new : (old new : Reader) (name picture rating date words : List ℕ) (device number : ℕ) (r : Record) → Ok number ≡ new_picture_said (seen old) picture
+    → new.script ≡ contents old.script.names (old.script.commands ++ command.New device number r ∷ []) → Updates nat_cmp old.pictures new.pictures number true
+    → Takes old (codes "new" ∷ name ∷ picture ∷ rating ∷ date ∷ words ∷ []) (Some (command.New device number r)) new
+takes_new old new name picture rating date words device number r said script pictures = record {
+  names = ap (λ s. s.names) script ∙ sym (append-nil old.script.names);
+  commands = ap (λ s. s.commands) script;
+  makes = λ p.
+      let had = contains nat_cmp old.pictures p in
+      pictures.0 p ∙ ap (λ b. cond b true had) (is_equal number p) ∙ or_last (eqb number p) had ∙ ap (λ n. had || (eqb n p || false)) (sym (number-said (seen old) picture number said));
+  counted = refl;
+}

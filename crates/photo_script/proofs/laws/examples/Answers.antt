@@ -1,0 +1,14 @@
+use Rattle.photo_script.proofs.WorkedExamples.{first_run, single_faults, two_faults, lines_and_fields}
+use Rattle.photo_script.proofs.laws.examples.Goals as goal
+
+pub returns-clause-first_run : goal.returns-clause-first_run
+returns-clause-first_run c = first_run
+
+pub returns-clause-single_faults : goal.returns-clause-single_faults
+returns-clause-single_faults c = single_faults
+
+pub returns-clause-two_faults : goal.returns-clause-two_faults
+returns-clause-two_faults c = two_faults
+
+pub returns-clause-lines_and_fields : goal.returns-clause-lines_and_fields
+returns-clause-lines_and_fields c = lines_and_fields

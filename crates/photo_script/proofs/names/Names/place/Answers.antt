@@ -1,0 +1,10 @@
+use Rattle.std.proofs.Common.{◌≡◌, map, string_bytes, position, sym, ap, ◌∙◌}
+use Rattle.std.specs.Str.{bytes_eq}
+use Rattle.photo_script.specs.Fields.{place_of}
+use Rattle.photo_script.proofs.Places.{position-map}
+use Rattle.photo_script.proofs.names.Names.place.Goals as goal
+
+pub returns-clause-place : goal.returns-clause-place
+returns-clause-place c =
+    c.get_index_of.ensures.index ∙ sym (position-map string_bytes (bytes_eq c.args.name.now) c.self.inside.texts.keys)
+    ∙ ap (λ names. place_of names c.args.name.now) c.self.view_is

@@ -1,0 +1,59 @@
+-- Scripts and reports, worked.
+use Rattle.std.specs.Prelude.{◌≡◌, ℕ, pos, List, [], ◌∷◌, Ok, Err, codes}
+use Rattle.photo_record.specs.declared.record.Record.{Record}
+use Rattle.photo_record.specs.declared.record.Record.TheVariants as content
+use Rattle.photo_device.specs.Entry.{Entry}
+use Rattle.photo_device.specs.Version.{version}
+use Rattle.photo_device.specs.declared.place.Place.TheVariants as place
+use Rattle.photo_script.specs.Contents.{Contents, contents}
+use Rattle.photo_script.specs.Reading.{script_of}
+use Rattle.photo_script.specs.Reports.{Made, Listed, text_of}
+use Rattle.photo_script.specs.declared.command.Command.TheVariants as command
+use Rattle.photo_script.specs.declared.fault.LineFault.TheVariants as fault
+use Rattle.photo_script.specs.declared.fault.ScriptFault.TheVariants.{Line, NotUtf8}
+
+-- a picture of the beach
+abbrev pub beach : Record
+beach = content.Picture 5 (pos 19_844) (codes "beach" ∷ codes "sun" ∷ [])
+
+-- a camera that makes it, and lists what it holds
+abbrev pub camera : Contents
+camera = contents (codes "cam" ∷ []) (command.New 0 7 beach ∷ command.List 0 ∷ [])
+
+abbrev pub beach_entry : Entry
+beach_entry = record { picture = 7; version = version 0 1; content = beach }
+
+pub record FirstRun : Type 0 where
+  pub script : script_of (codes "device cam all\nnew cam 7 5 2024-05-01 sun,beach\nlist cam\n") ≡ Ok camera
+  pub made : text_of camera 1 (Made (version 0 1) place.Store) ≡ codes "1 made cam:1 store\n"
+  pub listed : text_of camera 2 (Listed 0 (beach_entry ∷ []) []) ≡ codes "2 list cam store 1 out 0\n  store 7 cam:1 rating 5 day 2024-05-01 words beach,sun\n"
+
+pub record SingleFaults : Type 0 where
+  pub empty : script_of [] ≡ Ok (contents [] [])
+  pub not_utf8 : script_of (0xff ∷ []) ≡ Err NotUtf8
+  pub command : script_of (codes "frob") ≡ Err (Line 1 fault.UnknownCommand)
+  pub fields : script_of (codes "device a all\nnew a 7") ≡ Err (Line 2 fault.WrongFields)
+  pub name : script_of (codes "device A all") ≡ Err (Line 1 fault.BadName)
+  pub device : script_of (codes "list b") ≡ Err (Line 1 fault.UnknownDevice)
+  pub repeated : script_of (codes "device a all\ndevice a all") ≡ Err (Line 2 fault.RepeatedDevice)
+  pub late : script_of (codes "device a all\nlist a\ndevice b all") ≡ Err (Line 3 fault.LateDevice)
+  pub number : script_of (codes "device a all\nnew a 07 5 2024-01-01 -") ≡ Err (Line 2 fault.BadNumber)
+  pub rating : script_of (codes "device a all\nnew a 7 6 2024-01-01 -") ≡ Err (Line 2 fault.BadRating)
+  pub date : script_of (codes "device a all\nnew a 7 5 2023-02-29 -") ≡ Err (Line 2 fault.BadDate)
+  pub words : script_of (codes "device a all\nnew a 7 5 2024-01-01 x,x") ≡ Err (Line 2 fault.BadKeyword)
+  pub filter : script_of (codes "device a rating >= 6") ≡ Err (Line 1 fault.BadFilter)
+  pub picture : script_of (codes "device a all\nnew a 7 5 2024-01-01 -\nnew a 7 5 2024-01-01 -") ≡ Err (Line 3 fault.RepeatedPicture)
+
+-- the first of two faults
+pub record TwoFaults : Type 0 where
+  pub late : script_of (codes "device a all\nlist a\ndevice b") ≡ Err (Line 3 fault.LateDevice)
+  pub device : script_of (codes "device a all\nnew b 7 9 2024-01-01 -") ≡ Err (Line 2 fault.UnknownDevice)
+  pub repeated : script_of (codes "device a all\nnew a 7 5 2024-01-01 -\nnew b 7 5 2024-01-01 -") ≡ Err (Line 3 fault.UnknownDevice)
+  pub line : script_of (codes "frob\nlist") ≡ Err (Line 1 fault.UnknownCommand)
+
+-- where lines end and what separates fields
+pub record LinesAndFields : Type 0 where
+  pub returns : script_of (codes "device a all\r\nlist a\r") ≡ Ok (contents (codes "a" ∷ []) (command.List 0 ∷ []))
+  pub two_returns : script_of (codes "device a all\nlist a\r\r\n") ≡ Err (Line 2 fault.UnknownDevice)
+  pub spaces : script_of (codes "\n  device   a  all  \n# list b\n   list a") ≡ Ok (contents (codes "a" ∷ []) (command.List 0 ∷ []))
+  pub tab : script_of (codes "device\ta all") ≡ Err (Line 1 fault.UnknownCommand)

@@ -1,0 +1,51 @@
+-- What single fields denote.
+use Rattle.std.specs.Prelude.{ℕ, ◌-◌, Bool, false, not, ◌&&◌, ◌||◌, nat_le, nat_lt, ◌==◌, if◌then◌else◌, List, [], ◌∷◌, length, Option, Some, None, codes, position}
+use Rattle.std.specs.List.{list_all}
+use Rattle.std.specs.Char.{is_ascii_lowercase, is_ascii_digit}
+use Rattle.std.specs.Str.{bytes_eq, all_ascii_digits}
+use Rattle.std.specs.Str.Parse.{digits_value}
+use Rattle.photo_record.specs.Limits.{max_picture}
+use Rattle.photo_script.specs.Limits.{max_name_characters}
+
+abbrev pub is_word : List ℕ → List ℕ → Bool
+is_word field word = bytes_eq field word
+
+-- a filter is the one field `all`
+abbrev pub is_filter : List (List ℕ) → Bool
+is_filter [] = false
+is_filter (field ∷ []) = is_word field (codes "all")
+is_filter (field ∷ next ∷ more) = false
+
+-- a letter from a to z, or a digit
+abbrev pub is_name_character : ℕ → Bool
+is_name_character c = is_ascii_lowercase c || is_ascii_digit c
+
+-- a device's name is a letter from a to z, and then such letters and digits
+abbrev pub is_name : List ℕ → Bool
+is_name [] = false
+is_name (c ∷ cs) = is_ascii_lowercase c && (nat_lt (length cs) max_name_characters && list_all is_name_character cs)
+
+-- the place of a name among the declared ones
+abbrev pub place_of : List (List ℕ) → List ℕ → Option ℕ
+place_of names name = position (bytes_eq name) names
+
+-- decimal digits without a leading zero
+abbrev pub is_decimal : List ℕ → Bool
+is_decimal [] = false
+is_decimal (d ∷ ds) = not (d == 48) && all_ascii_digits (d ∷ ds)
+
+-- what digits stand for
+abbrev pub number_of : List ℕ → ℕ
+number_of digits = digits_value 10 digits
+
+abbrev pub is_picture : ℕ → Bool
+is_picture n = nat_le 1 n && nat_le n max_picture
+
+abbrev pub picture_of : List ℕ → Option ℕ
+picture_of text = if is_decimal text && is_picture (number_of text) then Some (number_of text) else None
+
+-- one digit from 0 to 5
+abbrev pub rating_of : List ℕ → Option ℕ
+rating_of [] = None
+rating_of (d ∷ []) = if nat_le 48 d && nat_le d 53 then Some (d - 48) else None
+rating_of (d ∷ e ∷ more) = None

@@ -1,0 +1,22 @@
+-- The limits of a script.
+use Rattle.std.specs.Prelude.{ℕ}
+
+-- bytes of a script
+abbrev pub max_text_bytes : ℕ
+max_text_bytes = 8_388_608
+
+-- bytes of a line
+abbrev pub max_line_bytes : ℕ
+max_line_bytes = 1024
+
+-- devices of a script
+abbrev pub max_devices : ℕ
+max_devices = 64
+
+-- commands of a script
+abbrev pub max_commands : ℕ
+max_commands = 100_000
+
+-- characters of a device's name
+abbrev pub max_name_characters : ℕ
+max_name_characters = 16

@@ -1,0 +1,25 @@
+-- The lines of a text and the fields of a line.
+use Rattle.std.specs.Prelude.{ℕ, Bool, not, List, [], ◌∷◌, length, map, filter, ◌==◌, if◌then◌else◌}
+use Rattle.std.specs.List.{slice_split}
+use Rattle.std.specs.Str.Lines.{strip_carriage_return}
+
+-- a text that ends with LF has no further line after it
+abbrev pub without_last_empty : List (List ℕ) → List (List ℕ)
+without_last_empty [] = []
+without_last_empty (piece ∷ []) = if length piece == 0 then [] else piece ∷ []
+without_last_empty (piece ∷ next ∷ more) = piece ∷ without_last_empty (next ∷ more)
+
+-- what stands between the LFs
+abbrev pub pieces_of : List ℕ → List (List ℕ)
+pieces_of text = slice_split (λ b. b == 10) text
+
+-- the lines, each without one CR at its very end
+abbrev pub lines_of : List ℕ → List (List ℕ)
+lines_of text = map strip_carriage_return (without_last_empty (pieces_of text))
+
+abbrev pub is_not_empty : List ℕ → Bool
+is_not_empty piece = not (length piece == 0)
+
+-- the fields of a line are cut at runs of spaces
+abbrev pub fields_of : List ℕ → List (List ℕ)
+fields_of line = filter is_not_empty (slice_split (λ b. b == 32) line)

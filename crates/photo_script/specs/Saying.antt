@@ -1,0 +1,98 @@
+-- What a line says, by the lines before it: a command, or nothing that runs, or its first fault.
+use Rattle.std.specs.Prelude.{ℕ, Bool, true, false, not, nat_le, nat_lt, if◌then◌else◌, List, [], ◌∷◌, length, Option, Some, None, is_some, Result, Ok, Err, ℤ, codes}
+use Rattle.photo_record.specs.Reading.{day_of_text, words_of_text}
+use Rattle.photo_record.specs.declared.record.Record.{Record}
+use Rattle.photo_record.specs.declared.record.Record.TheVariants as content
+use Rattle.photo_record.specs.declared.fault.WordFault.{WordFault}
+use Rattle.photo_script.specs.Limits.{max_line_bytes, max_devices, max_commands}
+use Rattle.photo_script.specs.Lines.{fields_of}
+use Rattle.photo_script.specs.Fields.{is_word, is_filter, is_name, place_of, picture_of, rating_of}
+use Rattle.photo_script.specs.Earlier.{Earlier, is_comment}
+use Rattle.photo_script.specs.declared.command.Command.{Command}
+use Rattle.photo_script.specs.declared.command.Command.TheVariants as command
+use Rattle.photo_script.specs.declared.fault.LineFault.{LineFault}
+use Rattle.photo_script.specs.declared.fault.LineFault.TheVariants as fault
+
+infixl 10 ◌>>=◌
+abbrev pub ◌>>=◌ : {A B : Type 0} → Result A LineFault → (A → Result B LineFault) → Result B LineFault
+(Ok x) >>= f = f x
+(Err e) >>= f = Err e
+
+-- what a field denotes, and a fault where it denotes nothing
+abbrev pub or_fault : {A : Type 0} → Option A → LineFault → Result A LineFault
+or_fault None e = Err e
+or_fault (Some x) e = Ok x
+
+-- the place of a declared device
+unfoldable pub device_said : Earlier → List ℕ → Result ℕ LineFault
+device_said before name = or_fault (place_of before.names name) fault.UnknownDevice
+
+-- a picture that no earlier line makes
+unfoldable pub new_picture_said : Earlier → List ℕ → Result ℕ LineFault
+new_picture_said before text = do
+  picture ← or_fault (picture_of text) fault.BadNumber
+  if before.makes picture then Err fault.RepeatedPicture else Ok picture
+
+abbrev pub word_set : Result (List (List ℕ)) WordFault → Option (List (List ℕ))
+word_set (Ok words) = Some words
+word_set (Err e) = None
+
+-- a rating, a day and words
+unfoldable pub record_said : List ℕ → List ℕ → List ℕ → Result Record LineFault
+record_said rating date words = do
+  stars ← or_fault (rating_of rating) fault.BadRating
+  day ← or_fault (day_of_text date) fault.BadDate
+  set ← or_fault (word_set (words_of_text words)) fault.BadKeyword
+  Ok (content.Picture stars day set)
+
+-- a name that can be declared, and its filter
+unfoldable pub declaration_said : Earlier → List ℕ → List (List ℕ) → Result (Option Command) LineFault
+declaration_said before name filter =
+    if nat_le max_devices (length before.names) then Err fault.TooMany
+    else (if not (is_name name) then Err fault.BadName
+    else (if is_some (place_of before.names name) then Err fault.RepeatedDevice
+    else (if not (is_filter filter) then Err fault.BadFilter
+    else Ok None)))
+
+-- `device NAME FILTER`: what stands behind the first field. It comes before all commands
+unfoldable pub device_line_said : Earlier → List (List ℕ) → Result (Option Command) LineFault
+device_line_said before arguments = if nat_lt 0 before.commands then Err fault.LateDevice else by_cases arguments
+  where
+    by_cases : List (List ℕ) → Result (Option Command) LineFault
+    by_cases [] = Err fault.WrongFields
+    by_cases (name ∷ []) = Err fault.WrongFields
+    by_cases (name ∷ first ∷ more) = declaration_said before name (first ∷ more)
+
+-- one command more
+unfoldable pub command_said : Earlier → Result Command LineFault → Result (Option Command) LineFault
+command_said before said = if nat_le max_commands before.commands then Err fault.TooMany else (said >>= λ x. Ok (Some x))
+
+unfoldable pub creation_said : Earlier → List ℕ → List ℕ → Result Record LineFault → Result Command LineFault
+creation_said before name picture rest = do
+  device ← device_said before name
+  number ← new_picture_said before picture
+  record_ ← rest
+  Ok (command.New device number record_)
+
+-- `new DEV PIC RATING DATE WORDS`
+unfoldable pub new_line_said : Earlier → List (List ℕ) → Result (Option Command) LineFault
+new_line_said before (name ∷ picture ∷ rating ∷ date ∷ words ∷ []) = command_said before (creation_said before name picture (record_said rating date words))
+new_line_said before arguments = Err fault.WrongFields
+
+-- `list DEV`
+unfoldable pub list_line_said : Earlier → List (List ℕ) → Result (Option Command) LineFault
+list_line_said before (name ∷ []) = command_said before (device_said before name >>= λ device. Ok (command.List device))
+list_line_said before arguments = Err fault.WrongFields
+
+-- a line of these fields: empty lines and comments say nothing
+unfoldable pub fields_said : Earlier → List (List ℕ) → Result (Option Command) LineFault
+fields_said before [] = Ok None
+fields_said before (word ∷ arguments) =
+    if is_comment word then Ok None
+    else (if is_word word (codes "device") then device_line_said before arguments
+    else (if is_word word (codes "new") then new_line_said before arguments
+    else (if is_word word (codes "list") then list_line_said before arguments
+    else Err fault.UnknownCommand)))
+
+unfoldable pub said : Earlier → List ℕ → Result (Option Command) LineFault
+said before line = if nat_lt max_line_bytes (length line) then Err fault.LineTooLong else fields_said before (fields_of line)

@@ -1,0 +1,47 @@
+-- How what a reader does is tied to what lines say, where memory may be refused instead.
+use Rattle.std.specs.Prelude.{◌≡◌, ℕ, Bool, ◌||◌, ◌==◌, if◌then◌else◌, List, ◌++◌, length, map, Option, option_to_list, Result, Ok, Err}
+use Rattle.std.specs.Borrow.{Bor}
+use Rattle.std.specs.BTreeSet.{contains}
+use Rattle.std.specs.List.{list_any}
+use Rattle.std.specs.Ordering.{nat_cmp}
+use Rattle.photo_script.specs.Earlier.{Earlier, declared_by, made_by, is_command}
+use Rattle.photo_script.specs.declared.command.Command.{Command}
+use Rattle.photo_script.specs.declared.reader.Reader.{Reader}
+use Rattle.photo_script.specs.declared.fault.LineFault.{LineFault}
+use Rattle.photo_script.specs.declared.fault.ScriptFault.{ScriptFault}
+use Rattle.photo_script.specs.declared.fault.ScriptFault.TheVariants as script
+use Rattle.photo_script.specs.declared.refusal.Refusal.{Refusal}
+use Rattle.photo_script.specs.declared.refusal.Refusal.TheVariants.{Memory, Fault}
+
+abbrev pub fault_at : ℕ → Refusal → ScriptFault
+fault_at line Memory = script.NoMemory
+fault_at line (Fault fault) = script.Line line fault
+
+-- the refusal is that fault, unless memory was refused
+abbrev pub Refuses : {A : Type 0} → Refusal → Result A LineFault → Type 0
+Refuses Memory said = Unit {0}
+Refuses (Fault fault) said = said ≡ Err fault
+
+-- the answer, seen by a view, is what is said, unless memory was refused
+abbrev pub Gives : {A B : Type 0} → (A → B) → Result A Refusal → Result B LineFault → Type 0
+Gives view (Ok x) said = said ≡ Ok (view x)
+Gives view (Err e) said = Refuses e said
+
+-- what the lines tell that a reader has taken
+abbrev pub seen : Reader → Earlier
+seen r = record { names = r.script.names; makes = λ p. contains nat_cmp r.pictures p; commands = length r.script.commands }
+
+-- a reader has taken one line more, of these fields, which says that command
+pub record Takes (old : Reader) (fields : List (List ℕ)) (said : Option Command) (new : Reader) : Type 0 where
+  pub names : new.script.names ≡ old.script.names ++ declared_by fields
+  pub commands : new.script.commands ≡ old.script.commands ++ option_to_list said
+  pub makes : (p : ℕ) → contains nat_cmp new.pictures p ≡ (contains nat_cmp old.pictures p || list_any (λ q. q == p) (made_by fields))
+  pub counted : length (option_to_list said) ≡ (if is_command fields then 1 else 0)
+
+-- a reader has taken the line, or it is refused as it is said
+abbrev pub Reads : Reader → List (List ℕ) → Result (Option Command) LineFault → Result (Unit {0}) Refusal → Reader → Type 0
+Reads old fields said (Ok done) new = (x : Option Command) × (said ≡ Ok x) × Takes old fields x new
+Reads old fields said (Err e) new = Refuses e said
+
+abbrev pub texts : List (Bor (List ℕ)) → List (List ℕ)
+texts fields = map (λ f. f.now) fields

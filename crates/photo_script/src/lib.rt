@@ -1,0 +1,24 @@
+//! Scripts of a photo collection: which devices there are and what is done on them, in order; and the texts of
+//! the reports on it.
+#![tactic(auto)]
+
+mod command;
+mod fault;
+mod field;
+pub mod laws;
+mod limits;
+mod names;
+mod reader;
+mod refusal;
+mod report;
+mod script;
+
+pub use command::Command;
+pub use fault::{LineFault, ScriptFault};
+pub use limits::{MAX_COMMANDS, MAX_DEVICES, MAX_TEXT_BYTES};
+pub use reader::read_script;
+pub use report::{Report, report_text};
+pub use script::Script;
+
+#[cfg(test)]
+mod tests;

@@ -1,0 +1,14 @@
+/// The most bytes of a script.
+pub const MAX_TEXT_BYTES: usize = 8_388_608;
+
+/// The most bytes of a line, without its end.
+pub const MAX_LINE_BYTES: usize = 1024;
+
+/// The most devices of a script.
+pub const MAX_DEVICES: usize = 64;
+
+/// The most commands of a script.
+pub const MAX_COMMANDS: usize = 100_000;
+
+/// The most characters of a device's name.
+pub const MAX_NAME_CHARACTERS: usize = 16;

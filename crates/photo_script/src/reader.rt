@@ -1,0 +1,221 @@
+ghost use Rattle.std.specs.Prelude.{◌≡◌, ◌≢◌, ◌+◌, ◌++◌, ◌∷◌, [], ◌<◌, ◌≤◌, ℕ, length, map, codes, Option, Some, None, Ok, Err, IfOk, IfErr, option_to_list};
+ghost use Rattle.photo_script.specs.Lines.{fields_of, lines_of};
+ghost use Rattle.photo_script.specs.Limits.{max_text_bytes, max_line_bytes};
+ghost use Rattle.std.specs.Str.Lines.{strip_carriage_return};
+ghost use Rattle.photo_script.specs.Steps.{Gives};
+ghost use Rattle.photo_script.specs.Saying.{device_said, new_picture_said, record_said, device_line_said, declaration_said, new_line_said, list_line_said, fields_said, said};
+ghost use Rattle.photo_script.specs.Reading.{script_of, script_of_lines, MayWantMemory};
+ghost use Rattle.photo_script.specs.declared.fault.ScriptFault.TheVariants.{NoMemory, Read};
+
+use crate::field::{fields_of, is_filter, is_name, picture_of, rating_of};
+use crate::limits::{MAX_COMMANDS, MAX_DEVICES, MAX_LINE_BYTES, MAX_TEXT_BYTES};
+use crate::refusal::Refusal;
+use crate::{Command, LineFault, Script, ScriptFault};
+use photo_record::{Day, PicNo, Record, WordFault, Words};
+use std::alloc::Global;
+use std::collections::BTreeSet;
+use std::str;
+
+/// Reads a script.
+///
+/// Refused with the first fault of the text: `TooLarge`, then `NotUtf8`, then that of the first line that has one.
+/// `NoMemory` comes in place of what would follow, so not in place of an earlier fault; `Read` never comes.
+pub fn read_script(alloc: Global, bytes: &[u8]) -> Result<Script, ScriptFault>
+    ensures read { IfOk result (λ script. script_of bytes.now ≡ Ok script) }
+    ensures refused { IfErr result (λ fault. fault ≢ NoMemory → script_of bytes.now ≡ Err fault) }
+    ensures no_memory { result ≡ Err NoMemory → MayWantMemory bytes.now }
+    ensures no_read { result ≢ Err Read }
+{
+    if bytes.len() > MAX_TEXT_BYTES {
+        return Err(ScriptFault::TooLarge);
+    }
+    let Ok(text) = str::from_utf8(bytes) else {
+        return Err(ScriptFault::NotUtf8);
+    };
+    read_lines(alloc, text)
+}
+
+// Reads the lines of a script. An empty piece behind the last LF says nothing, so it may count as a line.
+fn read_lines(alloc: Global, text: &str) -> Result<Script, ScriptFault>
+    requires { length text.now ≤ max_text_bytes }
+    ensures read { IfOk result (λ script. script_of_lines (lines_of text.now) ≡ Ok script) }
+    ensures refused { IfErr result (λ fault. fault ≢ NoMemory → script_of_lines (lines_of text.now) ≡ Err fault) }
+    ensures no_memory { result ≡ Err NoMemory → MayWantMemory text.now }
+    ensures no_read { result ≢ Err Read }
+{
+    let mut reader = Reader {
+        alloc,
+        script: Script::new(alloc),
+        pictures: BTreeSet::new(alloc),
+    };
+    let mut number = 0;
+    for piece in text.split('\n') {
+        number += 1;
+        if let Err(refusal) = reader.read_line(without_return(piece)) {
+            return Err(refusal.in_line(number));
+        }
+    }
+    Ok(reader.script)
+}
+
+// A line without the CR that it may end in.
+fn without_return(line: &str) -> &str
+    ensures { result.now ≡ strip_carriage_return line.now }
+{
+    line.strip_suffix('\r').unwrap_or(line)
+}
+
+// The script of the lines so far, and the pictures that they make.
+#[derive(Drop)]
+struct Reader {
+    alloc: Global,
+    script: Script,
+    pictures: BTreeSet<u32>,
+}
+
+impl Reader {
+    ghost use Rattle.photo_script.specs.Steps.{Reads, seen, texts};
+    ghost use Rattle.photo_script.specs.declared.refusal.Refusal.TheVariants.{Memory};
+
+    #[tactic(auto, unfolding(crate::specs::Saying::said))]
+    fn read_line(&mut self, line: &str) -> Result<(), Refusal>
+        ensures reads { Reads self.old (fields_of line.now) (said (seen self.old) line.now) result self.new }
+        ensures memory { result ≡ Err Memory → length line.now ≤ max_line_bytes }
+    {
+        if line.len() > MAX_LINE_BYTES {
+            return Err(Refusal::Fault(LineFault::LineTooLong));
+        }
+        let fields = fields_of(self.alloc, line)?;
+        self.read_fields(fields.as_slice())
+    }
+
+    #[tactic(auto, unfolding(crate::specs::Saying::fields_said))]
+    fn read_fields(&mut self, fields: &[&str]) -> Result<(), Refusal>
+        ensures { Reads self.old (texts fields.now) (fields_said (seen self.old) (texts fields.now)) result self.new }
+    {
+        let Some((word, arguments)) = fields.split_first() else {
+            return Ok(());
+        };
+        if word.starts_with('#') {
+            return Ok(());
+        }
+        match *word {
+            "device" => self.read_device(arguments),
+            "new" => self.read_new(arguments),
+            "list" => self.read_list(arguments),
+            _ => Err(Refusal::Fault(LineFault::UnknownCommand)),
+        }
+    }
+
+    // `device NAME FILTER`
+    #[tactic(auto, unfolding(crate::specs::Saying::device_line_said))]
+    fn read_device(&mut self, arguments: &[&str]) -> Result<(), Refusal>
+        ensures { Reads self.old (codes "device" ∷ texts arguments.now) (device_line_said (seen self.old) (texts arguments.now)) result self.new }
+    {
+        if self.script.commands() > 0 {
+            return Err(Refusal::Fault(LineFault::LateDevice));
+        }
+        let Some((name, filter)) = arguments.split_first() else {
+            return Err(Refusal::Fault(LineFault::WrongFields));
+        };
+        if filter.is_empty() {
+            return Err(Refusal::Fault(LineFault::WrongFields));
+        }
+        self.declare(name, filter)
+    }
+
+    #[tactic(auto, unfolding(crate::specs::Saying::declaration_said))]
+    fn declare(&mut self, name: &str, filter: &[&str]) -> Result<(), Refusal>
+        ensures { Reads self.old (codes "device" ∷ name.now ∷ texts filter.now) (declaration_said (seen self.old) name.now (texts filter.now)) result self.new }
+    {
+        if self.script.devices() >= MAX_DEVICES {
+            return Err(Refusal::Fault(LineFault::TooMany));
+        }
+        if !is_name(name) {
+            return Err(Refusal::Fault(LineFault::BadName));
+        }
+        if self.script.place(name).is_some() {
+            return Err(Refusal::Fault(LineFault::RepeatedDevice));
+        }
+        if !is_filter(filter) {
+            return Err(Refusal::Fault(LineFault::BadFilter));
+        }
+        self.script.declare(name)?;
+        Ok(())
+    }
+
+    // `new DEV PIC RATING DATE WORDS`
+    #[tactic(auto, unfolding(crate::specs::Saying::new_line_said, crate::specs::Saying::command_said, crate::specs::Saying::creation_said))]
+    fn read_new(&mut self, arguments: &[&str]) -> Result<(), Refusal>
+        ensures { Reads self.old (codes "new" ∷ texts arguments.now) (new_line_said (seen self.old) (texts arguments.now)) result self.new }
+    {
+        let [name, picture, rating, date, words] = arguments else {
+            return Err(Refusal::Fault(LineFault::WrongFields));
+        };
+        if self.script.commands() >= MAX_COMMANDS {
+            return Err(Refusal::Fault(LineFault::TooMany));
+        }
+        let device = self.device(name)?;
+        let picture = self.new_picture(picture)?;
+        let record = record_of(self.alloc, rating, date, words)?;
+        self.script.push(Command::New {
+            device,
+            picture,
+            record,
+        })?;
+        self.pictures.insert(picture.value())?;
+        Ok(())
+    }
+
+    // `list DEV`
+    #[tactic(auto, unfolding(crate::specs::Saying::list_line_said, crate::specs::Saying::command_said))]
+    fn read_list(&mut self, arguments: &[&str]) -> Result<(), Refusal>
+        ensures { Reads self.old (codes "list" ∷ texts arguments.now) (list_line_said (seen self.old) (texts arguments.now)) result self.new }
+    {
+        let [name] = arguments else {
+            return Err(Refusal::Fault(LineFault::WrongFields));
+        };
+        if self.script.commands() >= MAX_COMMANDS {
+            return Err(Refusal::Fault(LineFault::TooMany));
+        }
+        let device = self.device(name)?;
+        self.script.push(Command::List { device })?;
+        Ok(())
+    }
+
+    // The device of that name.
+    #[tactic(auto, unfolding(crate::specs::Saying::device_said))]
+    fn device(&self, name: &str) -> Result<u16, LineFault>
+        ensures said { result ≡ device_said (seen self.now) name.now }
+        ensures within { IfOk result (λ i. i < length self.now.script.names) }
+    {
+        self.script.place(name).ok_or(LineFault::UnknownDevice)
+    }
+
+    // A picture number that no earlier line makes.
+    #[tactic(auto, unfolding(crate::specs::Saying::new_picture_said))]
+    fn new_picture(&self, text: &str) -> Result<PicNo, LineFault>
+        ensures { result ≡ new_picture_said (seen self.now) text.now }
+    {
+        let picture = picture_of(text).ok_or(LineFault::BadNumber)?;
+        if self.pictures.contains(&picture.value()) {
+            return Err(LineFault::RepeatedPicture);
+        }
+        Ok(picture)
+    }
+}
+
+// The record of those fields.
+#[tactic(auto, unfolding(crate::specs::Saying::record_said))]
+fn record_of(alloc: Global, rating: &str, date: &str, words: &str) -> Result<Record, Refusal>
+    ensures { Gives (λ r. r) result (record_said rating.now date.now words.now) }
+{
+    let rating = rating_of(rating).ok_or(LineFault::BadRating)?;
+    let day = Day::read(date).ok_or(LineFault::BadDate)?;
+    let words = match Words::read(alloc, words) {
+        Ok(words) => words,
+        Err(WordFault::NoMemory) => return Err(Refusal::Memory),
+        Err(_) => return Err(Refusal::Fault(LineFault::BadKeyword)),
+    };
+    Ok(Record::Picture { rating, day, words })
+}

@@ -1,0 +1,193 @@
+ghost use Rattle.std.specs.Prelude.{◌≡◌, ◌<◌, ℕ, ◌++◌, length, string_bytes, IfOk, OnOk};
+
+use crate::Script;
+use photo_device::{Held, HeldList, Place, Version};
+use photo_record::{Day, Record, Words};
+use std::alloc::{AllocError, Global};
+
+/// The answer to a command.
+#[derive(Debug, Drop)]
+pub enum Report {
+    /// A version was made, and went there.
+    Made {
+        version: Version,
+        place: Place,
+    },
+    /// What a device holds, in order. The device is given by its place in order of declaration, from 0.
+    Listed {
+        device: u16,
+        store: HeldList,
+        out: HeldList,
+    },
+}
+
+ghost use Rattle.photo_device.specs.Held.{entry_of, entries_of};
+ghost use Rattle.photo_script.specs.Reports.{IsAbout, IsOfScript, AreOfScript, answer_of, text_of, version_text, place_text, day_text, words_text, record_text, entry_text, entries_text, made_text, heading_text, listed_text};
+
+/// The text of a report on the command of that number: a line, and for a list a line more for each held version.
+/// Each line ends with LF. Its only error is want of memory.
+#[tactic(auto, unfolding(crate::specs::Reports::text_of))]
+pub fn report_text(
+    alloc: Global,
+    script: &Script,
+    number: u32,
+    report: &Report,
+) -> Result<String, AllocError>
+    requires { IsAbout script.now (answer_of report.now) }
+    ensures { IfOk result (λ text. string_bytes text ≡ text_of script.now number (answer_of report.now)) }
+{
+    let mut text = String::new(alloc);
+    match report {
+        Report::Made { version, place } => push_made(&mut text, script, number, *version, *place)?,
+        Report::Listed { device, store, out } => {
+            push_listed(&mut text, script, number, *device, store, out)?
+        }
+    }
+    Ok(text)
+}
+
+fn push_made(
+    text: &mut String,
+    script: &Script,
+    number: u32,
+    version: Version,
+    place: Place,
+) -> Result<(), AllocError>
+    requires { IsOfScript script.now version }
+    ensures { OnOk result (string_bytes text.new ≡ string_bytes text.old ++ made_text script.now number version place) }
+{
+    write!(text, "{number} made ")?;
+    push_version(text, script, version)?;
+    let word = place_word(place);
+    writeln!(text, " {word}")?;
+    Ok(())
+}
+
+fn push_listed(
+    text: &mut String,
+    script: &Script,
+    number: u32,
+    device: u16,
+    store: &HeldList,
+    out: &HeldList,
+) -> Result<(), AllocError>
+    requires device { device < length script.now.names }
+    requires store { AreOfScript script.now (entries_of store.now) }
+    requires out { AreOfScript script.now (entries_of out.now) }
+    ensures { OnOk result (string_bytes text.new ≡ string_bytes text.old ++ listed_text script.now number device (entries_of store.now) (entries_of out.now)) }
+{
+    push_heading(text, script, number, device, store.len(), out.len())?;
+    push_helds(text, script, Place::Store, store.as_slice())?;
+    push_helds(text, script, Place::Out, out.as_slice())?;
+    Ok(())
+}
+
+fn push_heading(
+    text: &mut String,
+    script: &Script,
+    number: u32,
+    device: u16,
+    stored: usize,
+    waiting: usize,
+) -> Result<(), AllocError>
+    requires { device < length script.now.names }
+    ensures { OnOk result (string_bytes text.new ≡ string_bytes text.old ++ heading_text script.now number device stored waiting) }
+{
+    let name = script.name(device);
+    writeln!(text, "{number} list {name} store {stored} out {waiting}")?;
+    Ok(())
+}
+
+fn push_helds(
+    text: &mut String,
+    script: &Script,
+    place: Place,
+    helds: &[Held],
+) -> Result<(), AllocError>
+    requires { AreOfScript script.now (entries_of helds.now) }
+    ensures { OnOk result (string_bytes text.new ≡ string_bytes text.old ++ entries_text script.now place (entries_of helds.now)) }
+{
+    for held in helds {
+        push_held(text, script, place, held)?;
+    }
+    Ok(())
+}
+
+fn push_held(
+    text: &mut String,
+    script: &Script,
+    place: Place,
+    held: &Held,
+) -> Result<(), AllocError>
+    requires { IsOfScript script.now held.now.version }
+    ensures { OnOk result (string_bytes text.new ≡ string_bytes text.old ++ entry_text script.now place (entry_of held.now)) }
+{
+    let word = place_word(place);
+    let picture = held.picture.value();
+    write!(text, "  {word} {picture} ")?;
+    push_version(text, script, held.version)?;
+    text.push_str(" ")?;
+    push_record(text, &held.content)?;
+    text.push_str("\n")?;
+    Ok(())
+}
+
+fn push_version(text: &mut String, script: &Script, version: Version) -> Result<(), AllocError>
+    requires { IsOfScript script.now version }
+    ensures { OnOk result (string_bytes text.new ≡ string_bytes text.old ++ version_text script.now version) }
+{
+    let name = script.name(version.author().value());
+    let n = version.n();
+    write!(text, "{name}:{n}")?;
+    Ok(())
+}
+
+fn push_record(text: &mut String, record: &Record) -> Result<(), AllocError>
+    ensures { OnOk result (string_bytes text.new ≡ string_bytes text.old ++ record_text «record».now) }
+{
+    match record {
+        Record::Picture { rating, day, words } => {
+            let stars = rating.value();
+            write!(text, "rating {stars} day ")?;
+            push_day(text, *day)?;
+            text.push_str(" words ")?;
+            push_words(text, words)?;
+        }
+        Record::Removed => text.push_str("removed")?,
+    }
+    Ok(())
+}
+
+fn push_day(text: &mut String, day: Day) -> Result<(), AllocError>
+    ensures { OnOk result (string_bytes text.new ≡ string_bytes text.old ++ day_text day) }
+{
+    let year = day.year();
+    let month = day.month();
+    let day = day.day();
+    write!(text, "{year:04}-{month:02}-{day:02}")?;
+    Ok(())
+}
+
+fn push_words(text: &mut String, words: &Words) -> Result<(), AllocError>
+    ensures { OnOk result (string_bytes text.new ≡ string_bytes text.old ++ words_text words.now) }
+{
+    if words.is_empty() {
+        text.push_str("-")?;
+        return Ok(());
+    }
+    text.push_str(words.get(0).text())?;
+    for i in 1..words.len() {
+        text.push_str(",")?;
+        text.push_str(words.get(i).text())?;
+    }
+    Ok(())
+}
+
+fn place_word(place: Place) -> &'static str
+    ensures { result.now ≡ place_text place }
+{
+    match place {
+        Place::Store => "store",
+        Place::Out => "out",
+    }
+}

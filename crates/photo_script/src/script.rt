@@ -1,0 +1,104 @@
+ghost use Rattle.std.specs.Prelude.{◌≡◌, ◌<◌, ◌≤◌, ◌-◌, ◌++◌, ◌∷◌, [], ℕ, length, slice_get, Some, None, IfSome, OnOk, OnErr};
+ghost use Rattle.photo_script.specs.Limits.{max_devices, max_commands};
+ghost use Rattle.photo_script.specs.Fields.{place_of};
+
+use crate::Command;
+use crate::names::Names;
+use std::alloc::{AllocError, Global};
+use std::marker::Model;
+
+/// A script: the names of its devices and its commands. Contracts see both lists.
+#[derive(Debug, Drop)]
+pub struct Script {
+    names: Names,
+    commands: Vec<Command>,
+}
+
+impl Model for Script {
+    ghost use Rattle.photo_script.specs.Contents.{Contents, contents, IsScript};
+
+    ghost Value = { Contents };
+
+    ghost view = { λ s. contents s.names s.commands.items };
+
+    ghost invariant = { λ s. IsScript (contents s.names s.commands.items) };
+}
+
+impl Script {
+    ghost use Rattle.photo_script.specs.Contents.{contents, device_of, NamesDevices};
+
+    /// A script with no devices and no commands.
+    pub(crate) fn new(alloc: Global) -> Script
+        ensures { result ≡ contents [] [] }
+    {
+        Script {
+            names: Names::new(alloc),
+            commands: Vec::new(alloc),
+        }
+    }
+
+    /// How many devices there are, at most 64.
+    pub fn devices(&self) -> usize
+        ensures count { result ≡ length self.now.names }
+        ensures at_most { result ≤ max_devices }
+    {
+        self.names.len()
+    }
+
+    /// The name of the device at place `i` in order of declaration, from 0.
+    pub fn name(&self, i: u16) -> &str
+        requires { i < length self.now.names }
+        ensures { slice_get self.now.names i ≡ Some result.now }
+    {
+        self.names.get(usize::from(i))
+    }
+
+    /// How many commands there are, at most 100,000.
+    pub fn commands(&self) -> usize
+        ensures count { result ≡ length self.now.commands }
+        ensures at_most { result ≤ max_commands }
+        ensures known { NamesDevices self.now }
+    {
+        self.commands.len()
+    }
+
+    /// The command of that number, from 1. Its device is a device of the script.
+    pub fn command(&self, number: u32) -> &Command
+        requires first { 0 < number }
+        requires within { number ≤ length self.now.commands }
+        ensures command { slice_get self.now.commands (number - 1) ≡ Some result.now }
+        ensures known { device_of result.now < length self.now.names }
+    {
+        &self.commands[number as usize - 1]
+    }
+
+    /// The place of the device with that name.
+    pub(crate) fn place(&self, name: &str) -> Option<u16>
+        ensures place { result ≡ place_of self.now.names name.now }
+        ensures within { IfSome result (λ i. i < length self.now.names) }
+    {
+        let place = self.names.place(name)?;
+        Some(place as u16)
+    }
+
+    /// Puts one device more behind the others.
+    pub(crate) fn declare(&mut self, name: &str) -> Result<(), AllocError>
+        requires room { length self.old.names < max_devices }
+        requires fresh { place_of self.old.names name.now ≡ None }
+        ensures ok { OnOk result (self.new ≡ contents (self.old.names ++ name.now ∷ []) self.old.commands) }
+        ensures err { OnErr result (self.new ≡ self.old) }
+    {
+        self.names.add(name)
+    }
+
+    /// Puts one command more behind the others.
+    pub(crate) fn push(&mut self, command: Command) -> Result<(), AllocError>
+        requires room { length self.old.commands < max_commands }
+        requires known { device_of command < length self.old.names }
+        ensures ok { OnOk result (self.new ≡ contents self.old.names (self.old.commands ++ command ∷ [])) }
+        ensures err { OnErr result (self.new ≡ self.old) }
+    {
+        self.commands.push(command)?;
+        Ok(())
+    }
+}
