@@ -1,0 +1,4 @@
+pub mod Bools
+pub mod Sets
+pub mod Spans
+pub mod Fitting

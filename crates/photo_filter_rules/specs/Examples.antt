@@ -1,0 +1,48 @@
+-- What some trees come to.
+use Rattle.std.specs.Prelude.{◌≡◌, ℕ, zero, suc, ◌+◌, true, false, List, [], ◌∷◌, length, codes, pos}
+use Rattle.photo_record.specs.Limits.{first_day}
+use Rattle.photo_record.specs.declared.record.Record.TheVariants.{Removed}
+use Rattle.photo_filter_text.specs.declared.tree.Cmp.TheVariants.{AtLeast, AtMost, Equal}
+use Rattle.photo_filter_text.specs.Tree.{Tree, All, Nothing, Rate, On, Keyword, Not, Both, Either}
+use Rattle.photo_filter_rules.specs.declared.polarity.Polarity.TheVariants.{Plain}
+use Rattle.photo_filter_rules.specs.Matching.{matches}
+use Rattle.photo_filter_rules.specs.Alternatives.{span, anything, with_ratings, with_word, alternatives_of, is_too_wide}
+
+abbrev pub word : List ℕ
+word = codes "x"
+
+-- so many words and one more, joined by `or`
+abbrev pub one_of_words : ℕ → ℕ → Tree
+one_of_words first zero = Keyword (first ∷ [])
+one_of_words first (suc more) = Either (one_of_words first more) (Keyword ((first + suc more) ∷ []))
+
+pub record TheLists : Type 0 where
+  pub not_or : alternatives_of (Not (Either (Rate Equal 0) (Keyword word))) Plain
+      ≡ record anything { ratings = span (pos 1) (pos 5); forbidden = word ∷ [] } ∷ []
+  pub unequal : alternatives_of (Not (Rate Equal 3)) Plain
+      ≡ with_ratings (span (pos 0) (pos 2)) ∷ with_ratings (span (pos 4) (pos 5)) ∷ []
+  pub word_and_all : alternatives_of (Both (Keyword (codes "and")) All) Plain ≡ with_word Plain (codes "and") ∷ []
+  pub all_or_none_and_all : alternatives_of (Either All (Both Nothing All)) Plain ≡ anything ∷ []
+  pub no_day : alternatives_of (Not (On AtLeast first_day)) Plain ≡ []
+  pub no_range : alternatives_of (Both (Rate AtLeast 4) (Rate AtMost 3)) Plain ≡ []
+  pub one_rating : alternatives_of (Both (Rate AtLeast 3) (Rate AtMost 3)) Plain ≡ with_ratings (span (pos 3) (pos 3)) ∷ []
+  pub asked_and_forbidden : alternatives_of (Both (Keyword word) (Not (Keyword word))) Plain ≡ []
+  -- nothing is merged
+  pub twice : alternatives_of (Either (Keyword word) (Keyword word)) Plain ≡ with_word Plain word ∷ with_word Plain word ∷ []
+  -- the word stands once in the union
+  pub once : alternatives_of (Both (Keyword word) (Keyword word)) Plain ≡ with_word Plain word ∷ []
+
+-- eight words by `or` and eight others; five and thirteen; these as a part of a tree whose own list is empty
+pub record TheWidths : Type 0 where
+  pub sixty_four : length (alternatives_of (Both (one_of_words 97 7) (one_of_words 105 7)) Plain) ≡ 64
+  pub not_wide : is_too_wide (Both (one_of_words 97 7) (one_of_words 105 7)) Plain ≡ false
+  pub sixty_five : is_too_wide (Both (one_of_words 97 4) (one_of_words 105 12)) Plain ≡ true
+  pub wide_part : is_too_wide (Both (Both (one_of_words 97 4) (one_of_words 105 12)) Nothing) Plain ≡ true
+  pub wide_negated : is_too_wide (Not (Either (Not (one_of_words 97 4)) (Not (one_of_words 105 12)))) Plain ≡ true
+  pub narrow_negated : is_too_wide (Not (Both (one_of_words 97 4) (one_of_words 105 12))) Plain ≡ false
+
+-- a removed record is matched by nothing
+pub record TheRemoved : Type 0 where
+  pub by_all : matches All Removed ≡ false
+  pub by_not_all : matches (Not All) Removed ≡ false
+  pub by_not_none : matches (Not Nothing) Removed ≡ false

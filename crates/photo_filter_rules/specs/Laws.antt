@@ -1,0 +1,20 @@
+-- Alternatives against matching, in both polarities.
+use Rattle.std.specs.Prelude.{◌≡◌, ◌≤◌, not}
+use Rattle.std.specs.List.{list_any}
+use Rattle.photo_record.specs.Limits.{max_rating, IsDay}
+use Rattle.photo_filter_text.specs.Tree.{Tree}
+use Rattle.photo_filter_rules.specs.declared.polarity.Polarity.TheVariants.{Plain, Negated}
+use Rattle.photo_filter_rules.specs.Matching.{Content, matches_picture}
+use Rattle.photo_filter_rules.specs.Alternatives.{fits, alternatives_of}
+
+-- a record's rating and day
+pub record IsContent (c : Content) : Type 0 where
+  pub rating : c.rating ≤ max_rating
+  pub day : IsDay c.day
+
+-- a picture fits one of the alternatives of a tree exactly where the tree matches it,
+-- and one of those that it has under `not` exactly where it doesn't
+abbrev pub FitsWhereMatched : Type 0
+FitsWhereMatched =
+    ((tree : Tree) (c : Content) → IsContent c → list_any (fits c) (alternatives_of tree Plain) ≡ matches_picture tree c)
+    × ((tree : Tree) (c : Content) → IsContent c → list_any (fits c) (alternatives_of tree Negated) ≡ not (matches_picture tree c))

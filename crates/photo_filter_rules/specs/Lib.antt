@@ -1,0 +1,6 @@
+pub mod Limits
+pub mod Matching
+pub mod Alternatives
+pub mod Coding
+pub mod Laws
+pub mod Examples

@@ -1,0 +1,40 @@
+-- Which records a tree matches.
+use Rattle.std.specs.Prelude.{ℕ, ℤ, Bool, true, false, not, ◌&&◌, ◌||◌, pos, int_le, List}
+use Rattle.std.specs.Ordering.{int_eq}
+use Rattle.photo_record.specs.Word.{has_word}
+use Rattle.photo_record.specs.declared.record.Record.{Record}
+use Rattle.photo_record.specs.declared.record.Record.TheVariants.{Picture, Removed}
+use Rattle.photo_filter_text.specs.declared.tree.Cmp.{Cmp}
+use Rattle.photo_filter_text.specs.declared.tree.Cmp.TheVariants.{AtLeast, AtMost, Equal}
+use Rattle.photo_filter_text.specs.Tree.{Tree, All, Nothing, Rate, On, Keyword, Not, Both, Either}
+
+-- what a picture's record says: a rating, a day number and a set of words
+pub record Content : Type 0 where
+  pub rating : ℕ
+  pub day : ℤ
+  pub words : List (List ℕ)
+
+abbrev pub content : ℕ → ℤ → List (List ℕ) → Content
+content rating day words = record { rating = rating; day = day; words = words }
+
+-- a number stands to the one that a test names as the test wants it
+abbrev pub compares : Cmp → ℤ → ℤ → Bool
+compares AtLeast named number = int_le named number
+compares AtMost named number = int_le number named
+compares Equal named number = int_eq number named
+
+-- a tree matches a picture
+abbrev pub matches_picture : Tree → Content → Bool
+matches_picture All c = true
+matches_picture Nothing c = false
+matches_picture (Rate cmp rating) c = compares cmp (pos rating) (pos c.rating)
+matches_picture (On cmp day) c = compares cmp day c.day
+matches_picture (Keyword word) c = has_word c.words word
+matches_picture (Not part) c = not (matches_picture part c)
+matches_picture (Both left right) c = matches_picture left c && matches_picture right c
+matches_picture (Either left right) c = matches_picture left c || matches_picture right c
+
+-- a tree matches a record: nothing matches one that was removed
+abbrev pub matches : Tree → Record → Bool
+matches tree (Picture rating day words) = matches_picture tree (content rating day words)
+matches tree Removed = false

@@ -1,0 +1,116 @@
+ghost use Rattle.std.specs.Prelude.{◌≡◌, IfOk};
+ghost use Rattle.photo_filter_rules.specs.Matching.{content};
+ghost use Rattle.photo_filter_rules.specs.Alternatives.{anything, with_ratings, with_days, with_word, fits, is_possible, both_of};
+
+use crate::polarity::Polarity;
+use crate::span::{DAYS, RATINGS, Span};
+use crate::words;
+use photo_record::{Word, Words};
+use std::alloc::{AllocError, Global};
+use std::marker::Model;
+
+/// An alternative: ranges of ratings and days, words that have to be there, and words that must not.
+#[derive(Debug, Drop)]
+pub struct Choice {
+    ratings: Span,
+    days: Span,
+    required: Vec<Word>,
+    forbidden: Vec<Word>,
+}
+
+impl Model for Choice {
+    ghost use Rattle.photo_filter_rules.specs.Alternatives.{Alternative};
+
+    ghost Value = { Alternative };
+
+    ghost view = { λ c. record { ratings = c.ratings; days = c.days; required = c.required.items; forbidden = c.forbidden.items } };
+}
+
+impl Choice {
+    /// The alternative that every picture fits.
+    pub fn anything(alloc: Global) -> Choice
+        ensures { result ≡ anything }
+    {
+        Choice {
+            ratings: RATINGS,
+            days: DAYS,
+            required: Vec::new(alloc),
+            forbidden: Vec::new(alloc),
+        }
+    }
+
+    /// The alternative that asks for a rating in the range.
+    pub fn with_ratings(alloc: Global, ratings: Span) -> Choice
+        ensures { result ≡ with_ratings ratings }
+    {
+        Choice {
+            ratings,
+            ..Choice::anything(alloc)
+        }
+    }
+
+    /// The alternative that asks for a day in the range, by day numbers.
+    pub fn with_days(alloc: Global, days: Span) -> Choice
+        ensures { result ≡ with_days days }
+    {
+        Choice {
+            days,
+            ..Choice::anything(alloc)
+        }
+    }
+
+    /// The alternative that asks for the word, or that forbids it. Its only error is want of memory.
+    pub fn with_word(alloc: Global, polarity: Polarity, word: &Word) -> Result<Choice, AllocError>
+        ensures { IfOk result (λ choice. choice ≡ with_word polarity word.now) }
+    {
+        let mut choice = Choice::anything(alloc);
+        match polarity {
+            Polarity::Plain => choice.required.push(word.try_clone()?)?,
+            Polarity::Negated => choice.forbidden.push(word.try_clone()?)?,
+        }
+        Ok(choice)
+    }
+
+    /// Whether a picture of that rating, day number and words fits. It takes no memory.
+    pub fn fits(&self, rating: u8, day: i32, words: &Words) -> bool
+        ensures { result ≡ fits (content rating day words.now) self.now }
+    {
+        self.ratings.has(i32::from(rating))
+            && self.days.has(day)
+            && words::has_all(words, &self.required)
+            && !words::has_any(words, &self.forbidden)
+    }
+
+    /// Whether no range is empty, and no word is both required and forbidden. It takes no memory.
+    pub fn is_possible(&self) -> bool
+        ensures { result ≡ is_possible self.now }
+    {
+        !self.ratings.is_empty()
+            && !self.days.is_empty()
+            && !words::meets(&self.required, &self.forbidden)
+    }
+
+    /// What the two ask together. Its only error is want of memory.
+    pub fn meet(&self, other: &Choice) -> Result<Choice, AllocError>
+        ensures { IfOk result (λ both. both ≡ both_of self.now other.now) }
+    {
+        Ok(Choice {
+            ratings: self.ratings.meet(&other.ratings),
+            days: self.days.meet(&other.days),
+            required: words::both_sets(&self.required, &other.required)?,
+            forbidden: words::both_sets(&self.forbidden, &other.forbidden)?,
+        })
+    }
+
+    /// An equal alternative. Its only error is want of memory.
+    pub fn try_clone(&self) -> Result<Choice, AllocError>
+        ensures { IfOk result (λ copy. copy ≡ self.now) }
+    {
+        Ok(Choice {
+            ratings: self.ratings,
+            days: self.days,
+            required: words::copied(&self.required)?,
+            forbidden: words::copied(&self.forbidden)?,
+        })
+    }
+}

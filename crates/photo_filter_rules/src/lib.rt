@@ -1,0 +1,16 @@
+//! Filters at work: which records a filter matches, by its alternatives.
+#![tactic(auto)]
+
+mod choice;
+mod fault;
+mod filter;
+pub mod laws;
+mod list;
+mod polarity;
+mod span;
+#[cfg(test)]
+mod tests;
+mod words;
+
+pub use fault::BuildFault;
+pub use filter::Filter;

@@ -1,0 +1,219 @@
+ghost use Rattle.std.specs.Prelude.{◌≡◌, ◌++◌, ◌<ℤ◌, ◌∷◌, [], pos, false, true, map, IfOk, IfErr, OnOk};
+ghost use Rattle.photo_filter_text.specs.Tree.{tree_of};
+ghost use Rattle.std.specs.List.{list_any};
+ghost use Rattle.photo_filter_rules.specs.Matching.{content};
+ghost use Rattle.photo_filter_rules.specs.Alternatives.{fits, all_ratings, all_days, spans_of, possible, with_ratings, with_days, with_word, all_or_none, both_of, pairs, either_list, alternatives_of, is_long, is_too_wide};
+
+use crate::BuildFault;
+use crate::choice::Choice;
+use crate::polarity::Polarity;
+use crate::span::{DAYS, RATINGS, Span};
+use photo_filter_text::{Cmp, FilterTree};
+use photo_record::{Day, Rating, Word, Words};
+use std::alloc::{AllocError, Global};
+
+/// The most alternatives that a tree, or a part of one, may have.
+pub const MAX_ALTERNATIVES: usize = 64;
+
+/// The alternatives of a tree that stands so. `TooWide` where the list of it or of one of its parts is too long;
+/// `NoMemory` may come in place of either.
+pub fn alternatives_of(
+    alloc: Global,
+    tree: &FilterTree,
+    polarity: Polarity,
+) -> Result<Vec<Choice>, BuildFault>
+    ensures list { IfOk result (λ list. list.items ≡ alternatives_of (tree_of tree.now) polarity) }
+    ensures short { IfOk result (λ list. is_long list.items ≡ false) }
+    ensures narrow { OnOk result (is_too_wide (tree_of tree.now) polarity ≡ false) }
+    ensures wide { IfErr result
+        (λ fault. fault ≡ BuildFault.TooWide → is_too_wide (tree_of tree.now) polarity ≡ true) }
+{
+    match tree {
+        FilterTree::All => Ok(all_or_none(alloc, polarity)?),
+        FilterTree::Nothing => Ok(all_or_none(alloc, polarity.opposite())?),
+        FilterTree::Rate(cmp, rating) => Ok(ratings_list(alloc, polarity, *cmp, *rating)?),
+        FilterTree::On(cmp, day) => Ok(days_list(alloc, polarity, *cmp, *day)?),
+        FilterTree::Keyword(word) => Ok(word_list(alloc, polarity, word)?),
+        FilterTree::Not(part) => alternatives_of(alloc, part, polarity.opposite()),
+        FilterTree::Both(left, right) => {
+            let left = alternatives_of(alloc, left, polarity)?;
+            let right = alternatives_of(alloc, right, polarity)?;
+            either_list(alloc, polarity.opposite(), left, right)
+        }
+        FilterTree::Either(left, right) => {
+            let left = alternatives_of(alloc, left, polarity)?;
+            let right = alternatives_of(alloc, right, polarity)?;
+            either_list(alloc, polarity, left, right)
+        }
+    }
+}
+
+fn all_or_none(alloc: Global, polarity: Polarity) -> Result<Vec<Choice>, AllocError>
+    ensures { IfOk result (λ list. list.items ≡ all_or_none polarity) }
+{
+    let mut list = Vec::new(alloc);
+    if polarity == Polarity::Plain {
+        list.push(Choice::anything(alloc))?;
+    }
+    Ok(list)
+}
+
+fn ratings_list(
+    alloc: Global,
+    polarity: Polarity,
+    cmp: Cmp,
+    rating: Rating,
+) -> Result<Vec<Choice>, AllocError>
+    ensures { IfOk result
+        (λ list. list.items ≡ possible (map with_ratings (spans_of all_ratings polarity cmp (pos rating)))) }
+{
+    let spans = spans_of(alloc, RATINGS, polarity, cmp, i32::from(rating.value()))?;
+    spans
+        .iter()
+        .map(|ratings| Choice::with_ratings(alloc, *ratings))
+        .filter(|choice| choice.is_possible())
+        .collect(alloc)
+}
+
+fn days_list(
+    alloc: Global,
+    polarity: Polarity,
+    cmp: Cmp,
+    day: Day,
+) -> Result<Vec<Choice>, AllocError>
+    ensures { IfOk result (λ list. list.items ≡ possible (map with_days (spans_of all_days polarity cmp day))) }
+{
+    let spans = spans_of(alloc, DAYS, polarity, cmp, day.number())?;
+    spans
+        .iter()
+        .map(|days| Choice::with_days(alloc, *days))
+        .filter(|choice| choice.is_possible())
+        .collect(alloc)
+}
+
+fn word_list(alloc: Global, polarity: Polarity, word: &Word) -> Result<Vec<Choice>, AllocError>
+    ensures { IfOk result (λ list. list.items ≡ with_word polarity word.now ∷ []) }
+{
+    let mut list = Vec::new(alloc);
+    list.push(Choice::with_word(alloc, polarity, word)?)?;
+    Ok(list)
+}
+
+fn spans_of(
+    alloc: Global,
+    whole: Span,
+    polarity: Polarity,
+    cmp: Cmp,
+    named: i32,
+) -> Result<Vec<Span>, AllocError>
+    requires above { i32.MIN <ℤ named }
+    requires below { named <ℤ i32.MAX }
+    ensures { IfOk result (λ spans. spans.items ≡ spans_of whole polarity cmp named) }
+{
+    let Span { first, last } = whole;
+    let only = Span {
+        first: named,
+        last: named,
+    };
+    let below = Span {
+        first,
+        last: named - 1,
+    };
+    let above = Span {
+        first: named + 1,
+        last,
+    };
+    match (polarity, cmp) {
+        (Polarity::Plain, Cmp::AtLeast) => Ok(vec![in alloc; Span { first: named, last }]?),
+        (Polarity::Plain, Cmp::AtMost) => Ok(vec![in alloc; Span { first, last: named }]?),
+        (Polarity::Plain, Cmp::Equal) => Ok(vec![in alloc; only]?),
+        (Polarity::Negated, Cmp::AtLeast) => Ok(vec![in alloc; below]?),
+        (Polarity::Negated, Cmp::AtMost) => Ok(vec![in alloc; above]?),
+        (Polarity::Negated, Cmp::Equal) => Ok(vec![in alloc; below, above]?),
+    }
+}
+
+fn either_list(
+    alloc: Global,
+    polarity: Polarity,
+    left: Vec<Choice>,
+    right: Vec<Choice>,
+) -> Result<Vec<Choice>, BuildFault>
+    requires { is_long left.items ≡ false }
+    ensures list { IfOk result (λ list. list.items ≡ either_list polarity left.items right.items) }
+    ensures short { OnOk result (is_long (either_list polarity left.items right.items) ≡ false) }
+    ensures long { IfErr result
+        (λ fault. fault ≡ BuildFault.TooWide → is_long (either_list polarity left.items right.items) ≡ true) }
+{
+    match polarity {
+        Polarity::Plain => joined(left, right),
+        Polarity::Negated => paired(alloc, &left, &right),
+    }
+}
+
+fn joined(mut left: Vec<Choice>, mut right: Vec<Choice>) -> Result<Vec<Choice>, BuildFault>
+    requires { is_long left.items ≡ false }
+    ensures list { IfOk result (λ list. list.items ≡ left.items ++ right.items) }
+    ensures short { OnOk result (is_long (left.items ++ right.items) ≡ false) }
+    ensures long { IfErr result
+        (λ fault. fault ≡ BuildFault.TooWide → is_long (left.items ++ right.items) ≡ true) }
+{
+    if right.len() > MAX_ALTERNATIVES - left.len() {
+        return Err(BuildFault::TooWide);
+    }
+    left.append(&mut right)?;
+    Ok(left)
+}
+
+fn paired(alloc: Global, left: &[Choice], right: &[Choice]) -> Result<Vec<Choice>, BuildFault>
+    ensures list { IfOk result (λ list. list.items ≡ pairs left.now right.now) }
+    ensures short { OnOk result (is_long (pairs left.now right.now) ≡ false) }
+    ensures long { IfErr result
+        (λ fault. fault ≡ BuildFault.TooWide → is_long (pairs left.now right.now) ≡ true) }
+{
+    let mut list = Vec::new(alloc);
+    for choice in left {
+        pair_with(choice, right, &mut list)?;
+    }
+    Ok(list)
+}
+
+/// Puts the possible ones among the pairs of one alternative with others behind a list of at most 64.
+fn pair_with(choice: &Choice, others: &[Choice], list: &mut Vec<Choice>) -> Result<(), BuildFault>
+    requires { is_long list.old.items ≡ false }
+    ensures list { OnOk result (list.new.items ≡ list.old.items ++ possible (map (both_of choice.now) others.now)) }
+    ensures short { OnOk result (is_long list.new.items ≡ false) }
+    ensures long { IfErr result
+        (λ fault. fault ≡ BuildFault.TooWide
+        → is_long (list.old.items ++ possible (map (both_of choice.now) others.now)) ≡ true) }
+{
+    for other in others {
+        let both = choice.meet(other)?;
+        if both.is_possible() {
+            if list.len() == MAX_ALTERNATIVES {
+                return Err(BuildFault::TooWide);
+            }
+            list.push(both)?;
+        }
+    }
+    Ok(())
+}
+
+/// Equal alternatives in the same order. Its only error is want of memory.
+pub fn copied(list: &Vec<Choice>) -> Result<Vec<Choice>, AllocError>
+    ensures { IfOk result (λ copy. copy.items ≡ list.now.items) }
+{
+    let alloc = *list.allocator();
+    let mut copy = Vec::with_capacity(alloc, list.len())?;
+    for choice in list {
+        copy.push(choice.try_clone()?)?;
+    }
+    Ok(copy)
+}
+
+/// Whether a picture of that rating, day number and words fits one of the alternatives. It takes no memory.
+pub fn any_fits(list: &[Choice], rating: u8, day: i32, words: &Words) -> bool
+    ensures { result ≡ list_any (fits (content rating day words.now)) list.now }
+{
+    list.iter().any(|choice| choice.fits(rating, day, words))
+}

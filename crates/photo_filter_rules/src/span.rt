@@ -1,0 +1,45 @@
+ghost use Rattle.std.specs.Prelude.{◌≡◌, int_le, not};
+
+/// The numbers from the first to the last, both counted in: none where the last is below the first.
+#[derive(Clone, Copy, Debug, PartialEq, Eq)]
+pub struct Span {
+    pub first: i32,
+    pub last: i32,
+}
+
+/// The values of a rating.
+pub const RATINGS: Span = Span { first: 0, last: 5 };
+
+/// The numbers of the days of the calendar.
+pub const DAYS: Span = Span {
+    first: -719_528,
+    last: 2_932_896,
+};
+
+impl Span {
+    ghost use Rattle.photo_filter_rules.specs.Alternatives.{is_within, both_spans};
+
+    /// Whether the number is one of them.
+    pub fn has(&self, number: i32) -> bool
+        ensures { result ≡ is_within self.now number }
+    {
+        self.first <= number && number <= self.last
+    }
+
+    /// Whether there is no number.
+    pub fn is_empty(&self) -> bool
+        ensures { result ≡ not (int_le self.now.first self.now.last) }
+    {
+        self.last < self.first
+    }
+
+    /// The numbers that stand in both.
+    pub fn meet(&self, other: &Span) -> Span
+        ensures { result ≡ both_spans self.now other.now }
+    {
+        Span {
+            first: self.first.max(other.first),
+            last: self.last.min(other.last),
+        }
+    }
+}

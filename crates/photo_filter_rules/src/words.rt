@@ -1,0 +1,54 @@
+ghost use Rattle.std.specs.Prelude.{◌≡◌, IfOk};
+ghost use Rattle.std.specs.List.{list_all, list_any};
+ghost use Rattle.photo_record.specs.Word.{has_word};
+ghost use Rattle.photo_filter_rules.specs.Alternatives.{both_sets};
+
+use photo_record::{Word, Words};
+use std::alloc::AllocError;
+
+/// Equal words in the same order. Its only error is want of memory.
+pub fn copied(words: &Vec<Word>) -> Result<Vec<Word>, AllocError>
+    ensures { IfOk result (λ copy. copy.items ≡ words.now.items) }
+{
+    let alloc = *words.allocator();
+    let mut copy = Vec::with_capacity(alloc, words.len())?;
+    for word in words {
+        copy.push(word.try_clone()?)?;
+    }
+    Ok(copy)
+}
+
+/// The union of two sets of words: the first, and then the new ones of the second. Its only error is want of memory.
+pub fn both_sets(words: &Vec<Word>, others: &Vec<Word>) -> Result<Vec<Word>, AllocError>
+    ensures { IfOk result (λ union. union.items ≡ both_sets words.now.items others.now.items) }
+{
+    let mut union = copied(words)?;
+    for word in others {
+        if words.contains(word) {
+            continue;
+        }
+        union.push(word.try_clone()?)?;
+    }
+    Ok(union)
+}
+
+/// Whether a picture's words have all of these.
+pub fn has_all(words: &Words, wanted: &[Word]) -> bool
+    ensures { result ≡ list_all (has_word words.now) wanted.now }
+{
+    wanted.iter().all(|word| words.has(word))
+}
+
+/// Whether a picture's words have one of these.
+pub fn has_any(words: &Words, wanted: &[Word]) -> bool
+    ensures { result ≡ list_any (has_word words.now) wanted.now }
+{
+    wanted.iter().any(|word| words.has(word))
+}
+
+/// Whether one of the first words is among the second.
+pub fn meets(words: &[Word], others: &[Word]) -> bool
+    ensures { result ≡ list_any (has_word others.now) words.now }
+{
+    words.iter().any(|word| others.contains(word))
+}

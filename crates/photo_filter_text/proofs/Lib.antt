@@ -1,0 +1,14 @@
+pub mod Heights
+pub mod Levels
+pub mod Cutting
+pub mod Machine
+pub mod Complete
+pub mod Sound
+pub mod Faults
+pub mod Samples
+pub mod Verdict
+pub mod Dates
+pub mod Digits
+pub mod PrintedAgain
+pub mod Worked
+pub mod OneFault

@@ -1,0 +1,25 @@
+-- The tokens of a text: cut at spaces, with each parenthesis a token of its own.
+use Rattle.std.specs.Prelude.{ℕ, Bool, true, false, ◌||◌, ◌==◌, if◌then◌else◌, List, [], ◌∷◌, filter}
+use Rattle.std.specs.List.{slice_split, flat_map}
+
+-- the bytes of a token
+abbrev pub Token : Type 0
+Token = List ℕ
+
+abbrev pub is_space : ℕ → Bool
+is_space b = b == 32
+
+abbrev pub is_parenthesis : ℕ → Bool
+is_parenthesis b = (b == 40) || (b == 41)
+
+-- a parenthesis gets a space on either side
+abbrev pub with_room : ℕ → List ℕ
+with_room b = if is_parenthesis b then 32 ∷ b ∷ 32 ∷ [] else b ∷ []
+
+abbrev pub is_filled : Token → Bool
+is_filled [] = false
+is_filled (b ∷ bs) = true
+
+-- what then stands between the spaces
+abbrev pub tokens_of : List ℕ → List Token
+tokens_of text = filter is_filled (slice_split is_space (flat_map with_room text))

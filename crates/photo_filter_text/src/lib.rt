@@ -1,0 +1,19 @@
+//! The filter language: the trees of filters, their reading from text and their printing.
+#![tactic(auto)]
+
+mod fault;
+pub mod laws;
+mod printing;
+mod reader;
+mod reading;
+mod symbol;
+mod tokens;
+mod tree;
+
+pub use fault::FilterFault;
+pub use printing::print;
+pub use reading::read;
+pub use tree::{Cmp, FilterTree};
+
+#[cfg(test)]
+mod tests;

@@ -1,0 +1,117 @@
+ghost use Rattle.std.specs.Prelude.{◌≡◌, ◌<◌, ◌≤◌, [], ◌∷◌, ◌++◌, string_bytes, IfOk, OnOk};
+ghost use Rattle.photo_record.specs.Limits.{max_rating, IsDay};
+ghost use Rattle.photo_filter_text.specs.Tree.{Tree, tree_of};
+ghost use Rattle.photo_filter_text.specs.Tokens.{tokens_of};
+ghost use Rattle.photo_filter_text.specs.Grammar.{IsExpr};
+ghost use Rattle.photo_filter_text.specs.Printed.{text_of, cmp_text, date_text, digit, two_digits, IsSound};
+
+use crate::{Cmp, FilterTree};
+use photo_record::{Day, Rating};
+use std::alloc::{AllocError, Global};
+
+/// Prints a filter: `all`, `none`, `rating OP R`, `day OP DATE`, `keyword WORD`, `not X`, `( X and Y )` or `( X or Y )`,
+/// with one space between tokens. Its only error is want of memory.
+pub fn print(alloc: Global, tree: &FilterTree) -> Result<String, AllocError>
+    ensures text { IfOk result (λ text. string_bytes text ≡ text_of (tree_of tree.now)) }
+
+    // It is read as that tree, and as no other, where its tokens and the tree's height are within the limits.
+    ensures tree { IfOk result (λ text. IsExpr (tokens_of (string_bytes text)) (tree_of tree.now)) }
+    ensures only { IfOk result (λ text. (other : Tree) → IsExpr (tokens_of (string_bytes text)) other → other ≡ tree_of tree.now) }
+{
+    let mut text = String::new(alloc);
+    push_tree(&mut text, tree)?;
+    Ok(text)
+}
+
+fn push_tree(text: &mut String, tree: &FilterTree) -> Result<(), AllocError>
+    ensures text { OnOk result (string_bytes text.new ≡ string_bytes text.old ++ text_of (tree_of tree.now)) }
+    ensures sound { OnOk result (IsSound (tree_of tree.now)) }
+{
+    match tree {
+        FilterTree::All => text.push_str("all"),
+        FilterTree::Nothing => text.push_str("none"),
+        FilterTree::Rate(cmp, rating) => {
+            text.push_str("rating ")?;
+            text.push_str(symbol_of(*cmp))?;
+            push_rating(text, *rating)
+        }
+        FilterTree::On(cmp, day) => {
+            text.push_str("day ")?;
+            text.push_str(symbol_of(*cmp))?;
+            text.push_str(" ")?;
+            push_date(text, *day)
+        }
+        FilterTree::Keyword(word) => {
+            text.push_str("keyword ")?;
+            text.push_str(word.text())
+        }
+        FilterTree::Not(part) => {
+            text.push_str("not ")?;
+            push_tree(text, part)
+        }
+        FilterTree::Both(left, right) => {
+            text.push_str("( ")?;
+            push_tree(text, left)?;
+            text.push_str(" and ")?;
+            push_tree(text, right)?;
+            text.push_str(" )")
+        }
+        FilterTree::Either(left, right) => {
+            text.push_str("( ")?;
+            push_tree(text, left)?;
+            text.push_str(" or ")?;
+            push_tree(text, right)?;
+            text.push_str(" )")
+        }
+    }
+}
+
+fn symbol_of(cmp: Cmp) -> &'static str
+    ensures { result.now ≡ cmp_text cmp }
+{
+    match cmp {
+        Cmp::AtLeast => ">=",
+        Cmp::AtMost => "<=",
+        Cmp::Equal => "=",
+    }
+}
+
+// A space, and the rating.
+fn push_rating(text: &mut String, rating: Rating) -> Result<(), AllocError>
+    ensures text { OnOk result (string_bytes text.new ≡ string_bytes text.old ++ 32 ∷ digit rating ∷ []) }
+    ensures in_range { rating ≤ max_rating }
+{
+    text.push(' ')?;
+    push_digit(text, rating.value())
+}
+
+// The date, as `YYYY-MM-DD`.
+#[tactic(auto, unfolding(crate::specs::Printed::date_text))]
+fn push_date(text: &mut String, day: Day) -> Result<(), AllocError>
+    ensures text { OnOk result (string_bytes text.new ≡ string_bytes text.old ++ date_text day) }
+    ensures in_range { IsDay day }
+{
+    // A day's number is in its range, so its year has at most four digits.
+    let _number = day.number();
+    let year = day.year();
+    push_two_digits(text, (year / 100) as u8)?;
+    push_two_digits(text, (year % 100) as u8)?;
+    text.push('-')?;
+    push_two_digits(text, day.month())?;
+    text.push('-')?;
+    push_two_digits(text, day.day())
+}
+
+fn push_two_digits(text: &mut String, n: u8) -> Result<(), AllocError>
+    ensures { OnOk result (string_bytes text.new ≡ string_bytes text.old ++ two_digits n) }
+{
+    push_digit(text, n / 10)?;
+    push_digit(text, n % 10)
+}
+
+fn push_digit(text: &mut String, n: u8) -> Result<(), AllocError>
+    requires { n < 80 }
+    ensures { OnOk result (string_bytes text.new ≡ string_bytes text.old ++ digit n ∷ []) }
+{
+    text.push(char::from(b'0' + n))
+}

@@ -1,0 +1,333 @@
+ghost use Rattle.std.specs.Prelude.{◌≡◌, ◌≢◌, ◌+◌, ◌<◌, ◌^◌, true, false, IfOk, IfErr, IsErr, Some, None, Ok, Err, option_map};
+ghost use Rattle.photo_record.specs.Reading.{word_of_text};
+ghost use Rattle.photo_filter_text.specs.Grammar.{is_bracket};
+ghost use Rattle.photo_filter_text.specs.declared.reader.Refusal.TheVariants.{Unexpected, BadWord, NoMemory};
+ghost use Rattle.photo_filter_text.specs.Tree.{tree_of, Both, Either};
+ghost use Rattle.photo_filter_text.specs.Steps.{start, step, fresh, level_with, levels_of, finish, joined, negated, after_factor, at_factor, after_term, state_of, level_of};
+
+use crate::symbol::{Symbol, read_comparison, read_rating, read_symbol};
+use crate::{Cmp, FilterTree};
+use photo_record::{Day, Word, WordFault};
+use std::alloc::{AllocError, AllocFailed, Global};
+
+/// Why a token is not taken.
+#[derive(Clone, Copy)]
+pub(crate) enum Refusal {
+    Unexpected,
+    BadWord,
+    NoMemory,
+}
+
+impl From<AllocError> for Refusal {
+    ghost from_gives = { λ _ e. e ≡ NoMemory };
+
+    fn from(_error: AllocError) -> Refusal {
+        Refusal::NoMemory
+    }
+}
+
+impl<T: Drop> From<AllocFailed<T>> for Refusal {
+    ghost from_gives = { λ _ e. e ≡ NoMemory };
+
+    fn from(_error: AllocFailed<T>) -> Refusal {
+        Refusal::NoMemory
+    }
+}
+
+/// What a comparison is about.
+#[derive(Clone, Copy)]
+pub(crate) enum Field {
+    RatingField,
+    DayField,
+}
+
+/// What may come next.
+#[derive(Drop)]
+pub(crate) enum Place {
+    /// A test, a `not` or a bracket.
+    Factor,
+    /// `>=`, `<=` or `=`.
+    Operator(Field),
+    /// A rating or a date.
+    Value(Field, Cmp),
+    /// A word.
+    Word,
+    /// `and`, `or`, a closing bracket or the end, behind this term.
+    After(FilterTree),
+}
+
+/// What stands before the next factor since a bracket was opened.
+#[derive(Drop)]
+pub(crate) struct Level {
+    /// The terms before the last `or`.
+    either: Option<FilterTree>,
+    /// The factors since then, before the last `and`.
+    both: Option<FilterTree>,
+    /// How many times `not` stands since then.
+    negations: usize,
+}
+
+/// What has been read of a filter.
+#[derive(Drop)]
+pub(crate) struct Reader {
+    alloc: Global,
+    place: Place,
+    level: Level,
+    outer: Vec<Level>,
+}
+
+impl Reader {
+    pub(crate) fn new(alloc: Global) -> Reader
+        ensures { state_of result ≡ start }
+    {
+        Reader {
+            alloc,
+            place: Place::Factor,
+            level: Level::new(),
+            outer: Vec::new(alloc),
+        }
+    }
+
+    /// Takes the next token.
+    pub(crate) fn take(self, token: &str) -> Result<Reader, Refusal>
+        requires { self.level.negations < 2 ^ 32 }
+        ensures taken { IfOk result (λ reader. step (state_of self) token.now ≡ Ok (state_of reader)) }
+        ensures refused { IfErr result (λ refusal. refusal ≢ NoMemory → step (state_of self) token.now ≡ Err refusal) }
+    {
+        let Reader {
+            alloc,
+            place,
+            level,
+            outer,
+        } = self;
+        match place {
+            Place::Factor => at_factor(alloc, level, outer, read_symbol(token)),
+            Place::Operator(field) => match read_comparison(token) {
+                Some(cmp) => Ok(Reader {
+                    alloc,
+                    place: Place::Value(field, cmp),
+                    level,
+                    outer,
+                }),
+                None => Err(Refusal::Unexpected),
+            },
+            Place::Value(Field::RatingField, cmp) => match read_rating(token) {
+                Some(rating) => after_factor(alloc, level, outer, FilterTree::Rate(cmp, rating)),
+                None => Err(Refusal::Unexpected),
+            },
+            Place::Value(Field::DayField, cmp) => match Day::read(token) {
+                Some(day) => after_factor(alloc, level, outer, FilterTree::On(cmp, day)),
+                None => Err(Refusal::Unexpected),
+            },
+            Place::Word => {
+                let word = read_word(alloc, token)?;
+                after_factor(alloc, level, outer, FilterTree::Keyword(word))
+            }
+            Place::After(tree) => after_term(alloc, level, outer, tree, read_symbol(token)),
+        }
+    }
+
+    /// The tree, where the tokens are a filter.
+    pub(crate) fn finish(self) -> Result<Option<FilterTree>, AllocError>
+        ensures { IfOk result (λ tree. option_map tree_of tree ≡ finish (state_of self)) }
+    {
+        let Reader {
+            alloc,
+            place,
+            level,
+            outer,
+        } = self;
+        match place {
+            Place::After(tree) if outer.is_empty() => Ok(Some(disjunction(
+                alloc,
+                level.either,
+                tree,
+            )?)),
+            _ => Ok(None),
+        }
+    }
+}
+
+impl Level {
+    fn new() -> Level
+        ensures { level_of result ≡ fresh }
+    {
+        Level {
+            either: None,
+            both: None,
+            negations: 0,
+        }
+    }
+
+    // The level with one `not` more.
+    fn with_negation(self) -> Level
+        requires { self.negations < 2 ^ 32 }
+        ensures { level_of result ≡ level_with (option_map tree_of self.either) (option_map tree_of self.both) (self.negations + 1) }
+    {
+        Level {
+            negations: self.negations + 1,
+            ..self
+        }
+    }
+}
+
+// A token in the place of a word.
+fn read_word(alloc: Global, token: &str) -> Result<Word, Refusal>
+    ensures read { IfOk result (λ word. (is_bracket token.now ≡ false) × (word_of_text token.now ≡ Ok word)) }
+    ensures unexpected { result ≡ Err Unexpected → is_bracket token.now ≡ true }
+    ensures bad { result ≡ Err BadWord → (is_bracket token.now ≡ false) × IsErr (word_of_text token.now) }
+{
+    if token == "(" || token == ")" {
+        return Err(Refusal::Unexpected);
+    }
+    match Word::read(alloc, token) {
+        Ok(word) => Ok(word),
+        Err(WordFault::NoMemory) => Err(Refusal::NoMemory),
+        Err(_) => Err(Refusal::BadWord),
+    }
+}
+
+#[tactic(auto, using(crate::proofs::Levels::levels_push), unfolding(crate::specs::Steps::at_factor))]
+fn at_factor(
+    alloc: Global,
+    level: Level,
+    mut outer: Vec<Level>,
+    symbol: Symbol,
+) -> Result<Reader, Refusal>
+    requires { level.negations < 2 ^ 32 }
+    ensures taken { IfOk result (λ reader. at_factor (level_of level) (levels_of outer.items) symbol ≡ Ok (state_of reader)) }
+    ensures refused { IfErr result (λ refusal. refusal ≢ NoMemory → at_factor (level_of level) (levels_of outer.items) symbol ≡ Err refusal) }
+{
+    let (place, level) = match symbol {
+        Symbol::AllWord => return after_factor(alloc, level, outer, FilterTree::All),
+        Symbol::NoneWord => return after_factor(alloc, level, outer, FilterTree::Nothing),
+        Symbol::Open => {
+            outer.push(level)?;
+            (Place::Factor, Level::new())
+        }
+        Symbol::NotWord => (Place::Factor, level.with_negation()),
+        Symbol::RatingWord => (Place::Operator(Field::RatingField), level),
+        Symbol::DayWord => (Place::Operator(Field::DayField), level),
+        Symbol::KeywordWord => (Place::Word, level),
+        Symbol::Close | Symbol::OrWord | Symbol::AndWord | Symbol::Other => {
+            return Err(Refusal::Unexpected);
+        }
+    };
+    Ok(Reader {
+        alloc,
+        place,
+        level,
+        outer,
+    })
+}
+
+// A factor has been read.
+#[tactic(auto, unfolding(crate::specs::Steps::after_factor))]
+fn after_factor(
+    alloc: Global,
+    level: Level,
+    outer: Vec<Level>,
+    factor: FilterTree,
+) -> Result<Reader, Refusal>
+    ensures taken { IfOk result (λ reader. state_of reader ≡ after_factor (level_of level) (levels_of outer.items) (tree_of factor)) }
+    ensures refused { IfErr result (λ refusal. refusal ≡ NoMemory) }
+{
+    let Level {
+        either,
+        both,
+        negations,
+    } = level;
+    let factor = negated(alloc, negations, factor)?;
+    let term = conjunction(alloc, both, factor)?;
+    let level = Level {
+        either,
+        both: None,
+        negations: 0,
+    };
+    Ok(Reader {
+        alloc,
+        place: Place::After(term),
+        level,
+        outer,
+    })
+}
+
+#[tactic(auto, using(crate::proofs::Levels::levels_push), unfolding(crate::specs::Steps::after_term))]
+fn after_term(
+    alloc: Global,
+    level: Level,
+    mut outer: Vec<Level>,
+    term: FilterTree,
+    symbol: Symbol,
+) -> Result<Reader, Refusal>
+    ensures taken { IfOk result (λ reader. after_term (level_of level) (levels_of outer.items) (tree_of term) symbol ≡ Ok (state_of reader)) }
+    ensures refused { IfErr result (λ refusal. refusal ≢ NoMemory → after_term (level_of level) (levels_of outer.items) (tree_of term) symbol ≡ Err refusal) }
+{
+    let level = match symbol {
+        Symbol::AndWord => Level {
+            either: level.either,
+            both: Some(term),
+            negations: 0,
+        },
+        Symbol::OrWord => {
+            let tree = disjunction(alloc, level.either, term)?;
+            Level {
+                either: Some(tree),
+                both: None,
+                negations: 0,
+            }
+        }
+        Symbol::Close => {
+            let Some(below) = outer.pop() else {
+                return Err(Refusal::Unexpected);
+            };
+            let tree = disjunction(alloc, level.either, term)?;
+            return after_factor(alloc, below, outer, tree);
+        }
+        _ => return Err(Refusal::Unexpected),
+    };
+    Ok(Reader {
+        alloc,
+        place: Place::Factor,
+        level,
+        outer,
+    })
+}
+
+fn negated(alloc: Global, times: usize, factor: FilterTree) -> Result<FilterTree, AllocError>
+    ensures { IfOk result (λ tree. tree_of tree ≡ negated times (tree_of factor)) }
+{
+    let mut tree = factor;
+    for _ in 0..times {
+        tree = FilterTree::Not(Box::new(alloc, tree)?);
+    }
+    Ok(tree)
+}
+
+// The right side, joined to what stands left of an `and`.
+fn conjunction(
+    alloc: Global,
+    left: Option<FilterTree>,
+    right: FilterTree,
+) -> Result<FilterTree, AllocError>
+    ensures { IfOk result (λ tree. tree_of tree ≡ joined Both (option_map tree_of left) (tree_of right)) }
+{
+    match left {
+        Some(left) => Ok(FilterTree::Both(Box::new(alloc, left)?, Box::new(alloc, right)?)),
+        None => Ok(right),
+    }
+}
+
+// The right side, joined to what stands left of an `or`.
+fn disjunction(
+    alloc: Global,
+    left: Option<FilterTree>,
+    right: FilterTree,
+) -> Result<FilterTree, AllocError>
+    ensures { IfOk result (λ tree. tree_of tree ≡ joined Either (option_map tree_of left) (tree_of right)) }
+{
+    match left {
+        Some(left) => Ok(FilterTree::Either(Box::new(alloc, left)?, Box::new(alloc, right)?)),
+        None => Ok(right),
+    }
+}

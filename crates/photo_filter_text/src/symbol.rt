@@ -1,0 +1,62 @@
+ghost use Rattle.std.specs.Prelude.{◌≡◌};
+ghost use Rattle.photo_filter_text.specs.Grammar.{cmp_of, rating_of};
+ghost use Rattle.photo_filter_text.specs.Steps.{symbol_of};
+
+use crate::Cmp;
+use photo_record::Rating;
+
+/// The tokens of the grammar that stand for themselves.
+#[derive(Clone, Copy)]
+pub(crate) enum Symbol {
+    Open,
+    Close,
+    OrWord,
+    AndWord,
+    NotWord,
+    AllWord,
+    NoneWord,
+    RatingWord,
+    DayWord,
+    KeywordWord,
+    Other,
+}
+
+#[tactic(auto, unfolding(crate::specs::Steps::symbol_of))]
+pub(crate) fn read_symbol(token: &str) -> Symbol
+    ensures { result ≡ symbol_of token.now }
+{
+    match token {
+        "(" => Symbol::Open,
+        ")" => Symbol::Close,
+        "or" => Symbol::OrWord,
+        "and" => Symbol::AndWord,
+        "not" => Symbol::NotWord,
+        "all" => Symbol::AllWord,
+        "none" => Symbol::NoneWord,
+        "rating" => Symbol::RatingWord,
+        "day" => Symbol::DayWord,
+        "keyword" => Symbol::KeywordWord,
+        _ => Symbol::Other,
+    }
+}
+
+pub(crate) fn read_comparison(token: &str) -> Option<Cmp>
+    ensures { result ≡ cmp_of token.now }
+{
+    match token {
+        ">=" => Some(Cmp::AtLeast),
+        "<=" => Some(Cmp::AtMost),
+        "=" => Some(Cmp::Equal),
+        _ => None,
+    }
+}
+
+// A rating is written as one digit.
+pub(crate) fn read_rating(token: &str) -> Option<Rating>
+    ensures { result ≡ rating_of token.now }
+{
+    match token.as_bytes() {
+        [digit @ b'0'..=b'9'] => Rating::new(*digit - b'0'),
+        _ => None,
+    }
+}

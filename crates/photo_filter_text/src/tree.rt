@@ -1,0 +1,85 @@
+ghost use Rattle.std.specs.Prelude.{◌≡◌, ℕ, ◌≤◌, IsTrue, ◌↔◌, IfOk};
+ghost use Rattle.photo_filter_text.specs.Tree.{tree_of, height};
+
+use photo_record::{Day, Rating, Word};
+use std::alloc::AllocError;
+
+/// How a test compares a picture's rating or day with its own.
+#[derive(Clone, Copy, Debug, PartialEq, Eq)]
+pub enum Cmp {
+    /// At least as great: `>=`.
+    AtLeast,
+    /// At most as great: `<=`.
+    AtMost,
+    /// Equal: `=`.
+    Equal,
+}
+
+/// A filter as a tree of tests. Contracts see it as `tree_of` does, apart from where its parts lie in memory.
+#[derive(Debug, PartialEq, Eq, Drop)]
+pub enum FilterTree {
+    /// Every picture.
+    All,
+    /// No picture.
+    Nothing,
+    /// The pictures whose rating compares so with this one.
+    Rate(Cmp, Rating),
+    /// The pictures whose day compares so with this one.
+    On(Cmp, Day),
+    /// The pictures that have the word.
+    Keyword(Word),
+    /// The pictures that the part does not select.
+    Not(Box<FilterTree>),
+    /// The pictures that both parts select.
+    Both(Box<FilterTree>, Box<FilterTree>),
+    /// The pictures that at least one of the parts selects.
+    Either(Box<FilterTree>, Box<FilterTree>),
+}
+
+impl FilterTree {
+    /// An equal tree. Its only error is want of memory.
+    pub fn try_clone(&self) -> Result<FilterTree, AllocError>
+        ensures { IfOk result (λ copy. tree_of copy ≡ tree_of self.now) }
+    {
+        match self {
+            FilterTree::All => Ok(FilterTree::All),
+            FilterTree::Nothing => Ok(FilterTree::Nothing),
+            FilterTree::Rate(cmp, rating) => Ok(FilterTree::Rate(*cmp, *rating)),
+            FilterTree::On(cmp, day) => Ok(FilterTree::On(*cmp, *day)),
+            FilterTree::Keyword(word) => Ok(FilterTree::Keyword(word.try_clone()?)),
+            FilterTree::Not(part) => {
+                let alloc = *Box::allocator(part);
+                let part = part.try_clone()?;
+                Ok(FilterTree::Not(Box::new(alloc, part)?))
+            }
+            FilterTree::Both(left, right) => {
+                let alloc = *Box::allocator(left);
+                let left = left.try_clone()?;
+                let right = right.try_clone()?;
+                Ok(FilterTree::Both(Box::new(alloc, left)?, Box::new(alloc, right)?))
+            }
+            FilterTree::Either(left, right) => {
+                let alloc = *Box::allocator(left);
+                let left = left.try_clone()?;
+                let right = right.try_clone()?;
+                Ok(FilterTree::Either(Box::new(alloc, left)?, Box::new(alloc, right)?))
+            }
+        }
+    }
+
+    /// Whether the height is at most the limit.
+    pub(crate) fn is_within(&self, limit: u32) -> bool
+        ensures { IsTrue result ↔ (height (tree_of self.now) ≤ limit) }
+    {
+        if limit == 0 {
+            return false;
+        }
+        match self {
+            FilterTree::Not(part) => part.is_within(limit - 1),
+            FilterTree::Both(left, right) | FilterTree::Either(left, right) => {
+                left.is_within(limit - 1) && right.is_within(limit - 1)
+            }
+            _ => true,
+        }
+    }
+}
