@@ -43,10 +43,16 @@ fn versions_are_numbered_and_listed_by_picture(rt: HostRuntime) -> Result<(), Fa
     assert!(rt; device.author() == Author::new(2) && device.counter() == 4);
     let list = device.store().to_list(alloc)?;
     assert_eq!(rt; list.len(), 4);
-    for (i, (number, made)) in [(3, 2), (5, 4), (7, 1), (999_999_999, 3)].iter().enumerate() {
+    for (i, (number, made)) in [(3, 2), (5, 4), (7, 1), (999_999_999, 3)]
+        .iter()
+        .enumerate()
+    {
         assert!(rt; i < list.len());
         let held = list.get(i);
-        assert!(rt; held.picture.value() == *number && held.version.n() == *made, "at {i}");
+        assert!(rt;
+            held.picture.value() == *number && held.version.n() == *made,
+            "at {i}"
+        );
     }
     Ok(())
 }

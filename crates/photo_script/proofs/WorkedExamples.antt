@@ -19,8 +19,20 @@ first_run = record { script = refl; made = refl; listed = refl }
 pub single_faults : SingleFaults
 unfolding chars is_utf8 encode days_from_civil day_count days_of_years days_of_months unicode_normalization day_of_text words_of_text word_of_text said fields_said device_line_said declaration_said new_line_said creation_said command_said device_said new_picture_said record_said list_line_said script_of
 single_faults = record {
-  empty = refl; not_utf8 = refl; command = refl; fields = refl; name = refl; device = refl; repeated = refl; late = refl;
-  number = refl; rating = refl; date = refl; words = refl; filter = refl; picture = refl;
+  empty = refl;
+  not_utf8 = refl;
+  command = refl;
+  fields = refl;
+  name = refl;
+  device = refl;
+  repeated = refl;
+  late = refl;
+  number = refl;
+  rating = refl;
+  date = refl;
+  words = refl;
+  filter = refl;
+  picture = refl;
 }
 
 pub two_faults : TwoFaults

@@ -8,5 +8,4 @@ pub fn examples()
     ensures single_faults { SingleFaults }
     ensures two_faults { TwoFaults }
     ensures lines_and_fields { LinesAndFields }
-{
-}
+{}

@@ -1,0 +1,78 @@
+-- The answers of a run speak of devices of its script.
+use Rattle.std.proofs.Common.{◌≡◌, ℕ, zero, suc, ◌+◌, ◌<◌, ◌≤◌, Bool, true, false, cond, List, [], ◌∷◌, ◌++◌, length, get_or, set, map, refl, sym, ap, ◌∙◌, subst, arith}
+use Rattle.std.specs.Prelude.{filter, fold}
+use Rattle.std.specs.List.{AllByRecursion}
+use Rattle.photo_device.specs.Ordered.{put}
+use Rattle.photo_device.specs.Entry.{Entry, entry_before, others, put_entry, is_of_other}
+use Rattle.photo_device.specs.Device.{ModelDevice, opening, made, new_entry}
+use Rattle.photo_script.specs.declared.command.Command.{Command}
+use Rattle.photo_script.specs.declared.command.Command.TheVariants as command
+use Rattle.photo_script.specs.Contents.{Contents, device_of}
+use Rattle.photo_script.specs.Reports.{Answer, IsOfScript, AreOfScript, IsAbout}
+use Rattle.photo_script.specs.Runs.{Fleet, effect, opening_from}
+
+-- the device is of the script, and so is all that it holds
+pub record IsOfFleet (script : Contents) (d : ModelDevice) : Type 0 where
+  pub author : d.author < length script.names
+  pub store : AreOfScript script d.store
+  pub out : AreOfScript script d.out
+
+all_filter : {X : Type 0} (P : X → Type 0) (q : X → Bool) (xs : List X) → AllByRecursion P xs → AllByRecursion P (filter q xs)
+all_filter P q [] all = tt
+all_filter P q (x ∷ xs) all =
+    elim (q x) as (λ b. AllByRecursion P (cond b (x ∷ filter q xs) (filter q xs))) [
+      | true ↦ (all.0, all_filter P q xs all.1)
+      | false ↦ all_filter P q xs all.1
+    ]
+
+all_put : {X : Type 0} (P : X → Type 0) (before : X → X → Bool) (x : X) (ys : List X) → P x → AllByRecursion P ys → AllByRecursion P (put before x ys)
+all_put P before x [] p all = (p, tt)
+all_put P before x (y ∷ ys) p all =
+    elim (before y x) as (λ b. AllByRecursion P (cond b (y ∷ put before x ys) (x ∷ y ∷ ys))) [
+      | true ↦ (all.0, all_put P before x ys p all.1)
+      | false ↦ (p, all)
+    ]
+
+pub all_push : {X : Type 0} (P : X → Type 0) (xs : List X) (x : X) → AllByRecursion P xs → P x → AllByRecursion P (xs ++ x ∷ [])
+all_push P [] x all p = (p, tt)
+all_push P (y ∷ ys) x all p = (all.0, all_push P ys x all.1 p)
+
+pub all_set : {X : Type 0} (P : X → Type 0) (xs : List X) (k : ℕ) (x : X) → AllByRecursion P xs → P x → AllByRecursion P (set xs k x)
+all_set P [] k x all p = tt
+all_set P (y ∷ ys) zero x all p = (p, all.1)
+all_set P (y ∷ ys) (suc k) x all p = (all.0, all_set P ys k x all.1 p)
+
+pub all_at : {X : Type 0} (P : X → Type 0) (xs : List X) (k : ℕ) (d : X) → AllByRecursion P xs → k < length xs → P (get_or xs k d)
+all_at P [] k d all h = absurd (omega arith)
+all_at P (y ∷ ys) zero d all h = all.0
+all_at P (y ∷ ys) (suc k) d all h = all_at P ys k d all.1 (omega arith)
+
+-- the devices that a script opens with
+opening_of_fleet : (script : Contents) (n : ℕ) (names : List (List ℕ)) → n + length names ≤ length script.names → AllByRecursion (IsOfFleet script) (opening_from n names)
+opening_of_fleet script n [] h = tt
+opening_of_fleet script n (x ∷ xs) h = (record { author = omega arith; store = tt; out = tt }, opening_of_fleet script (n + 1) xs (omega arith))
+
+pub opening_known : (script : Contents) → AllByRecursion (IsOfFleet script) (opening_from 0 script.names)
+opening_known script = opening_of_fleet script 0 script.names (omega arith)
+
+-- a command keeps this, and its answer is about the script
+pub effect_known : (script : Contents) (c : Command) (d : ModelDevice) → device_of c < length script.names → IsOfFleet script d → IsOfFleet script (effect c d).device
+effect_known script (command.New n picture content) d h of = record {
+  author = of.author;
+  store = all_put (λ e. IsOfScript script e.version) entry_before (new_entry d picture content) _ of.author (all_filter (λ e. IsOfScript script e.version) (is_of_other picture) d.store of.store);
+  out = all_filter (λ e. IsOfScript script e.version) (is_of_other picture) d.out of.out;
+}
+effect_known script (command.List n) d h of = of
+
+pub effect_about : (script : Contents) (c : Command) (d : ModelDevice) → device_of c < length script.names → IsOfFleet script d → IsAbout script (effect c d).report
+effect_about script (command.New n picture content) d h of = of.author
+effect_about script (command.List n) d h of = (h, of.store, of.out)
+
+-- what holds of each image holds of that of the item at a place
+pub all_map_at : {X Y : Type 0} (P : Y → Type 0) (f : X → Y) (xs : List X) (k : ℕ) (x : X) → AllByRecursion P (map f xs) → k < length xs → x ≡ get_or xs k x → P (f x)
+all_map_at {X} {Y} P f xs k x all h is = subst (λ (y : X). P (f y)) (sym is) (at xs k all h)
+  where
+    at : (ys : List X) (j : ℕ) → AllByRecursion P (map f ys) → j < length ys → P (f (get_or ys j x))
+    at [] j all h = absurd (omega arith)
+    at (y ∷ ys) zero all h = all.0
+    at (y ∷ ys) (suc j) all h = at ys j all.1 (omega arith)

@@ -1,0 +1,6 @@
+pub mod Known
+pub mod Zipped
+pub mod Shown
+pub mod About
+pub mod Runs
+pub mod Texts

@@ -1,0 +1,17 @@
+use Rattle.std.proofs.Common.{arith}
+use Rattle.photo_script.specs.Reports.{Made}
+use Rattle.photofleet.proofs.Shown.{model_of, shows_model}
+use Rattle.photofleet.proofs.runner.command.run_command.Goals as goal
+
+pub returns-in_ok-version-in-New-clause-report : goal.returns-in_ok-version-in-New-clause-report
+returns-in_ok-version-in-New-clause-report c =
+    λ m shows.
+    let version = c.in_ok-version-in-New.ensures.version m shows in
+    let place = c.in_ok-version-in-New.ensures.place m shows in
+    rw c.in-New.is (λ i. Made (version i) (place i))
+
+pub returns-in_ok-version-in-New-clause-counter : goal.returns-in_ok-version-in-New-clause-counter
+returns-in_ok-version-in-New-clause-counter c =
+    let old = c.args.device.now in
+    let counted = (c.in_ok-version-in-New.ensures.shows (model_of old) (shows_model old)).counter in
+    omega arith

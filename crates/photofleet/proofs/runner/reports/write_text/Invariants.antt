@@ -1,0 +1,12 @@
+use Rattle.std.proofs.Common.{List, ℕ, length}
+use Rattle.std.specs.Prelude.{Option}
+use Rattle.std.specs.Io.KnownBytes.{Appends}
+use Rattle.photofleet.proofs.runner.reports.write_text.Given as goal
+
+-- whoever writes the rest has written the text
+abbrev pub invariant-loop-rest : goal.invariant-loop-rest
+invariant-loop-rest g l =
+    (end : Option (List ℕ)) → Appends (g.W.Write.contents l.writer) end l.rest → Appends (g.W.Write.contents l.fn.writer) end l.text
+
+abbrev pub decreases-loop-rest : goal.decreases-loop-rest
+decreases-loop-rest g l = length l.rest

@@ -1,0 +1,28 @@
+-- What a run gives and writes.
+use Rattle.std.specs.Prelude.{◌≡◌, ℕ, ◌≤◌, List, length, map, Option, Result, Ok}
+use Rattle.std.specs.List.{AllZip, AllByRecursion}
+use Rattle.std.specs.Io.KnownBytes.{Appends}
+use Rattle.photo_device.specs.Device.{Shows}
+use Rattle.photo_script.specs.Limits.{max_commands}
+use Rattle.photo_script.specs.Contents.{Contents}
+use Rattle.photo_script.specs.Reading.{script_of}
+use Rattle.photo_script.specs.Reports.{answer_of, texts_from, IsAbout}
+use Rattle.photo_script.specs.Runs.{run}
+use Rattle.photofleet.specs.declared.runner.outcome.Outcome.{Outcome}
+
+-- the devices show those of the script's run, and the reports give its answers
+pub record IsOutcome (script : Contents) (o : Outcome) : Type 0 where
+  pub devices : AllZip Shows o.devices.items (run script).devices
+  pub reports : map answer_of o.reports.items ≡ (run script).reports
+  pub about : AllByRecursion (IsAbout script) (run script).reports
+  pub few : length o.reports.items ≤ max_commands
+
+-- what a script's run prints
+abbrev pub output_of : Contents → List ℕ
+output_of script = texts_from script 1 (run script).reports
+
+-- the input is the text of a script, and what its run prints has been written behind what was there, and nothing else
+pub record WritesOutput (old new : Option (List ℕ)) (input : List ℕ) : Type 0 where
+  pub script : Contents
+  pub read : script_of input ≡ Ok script
+  pub written : Appends old new (output_of script)

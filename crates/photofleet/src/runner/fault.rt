@@ -1,0 +1,16 @@
+use photo_script::ScriptFault;
+use thiserror::Error;
+
+/// Why a run gave no outcome, or its reports were not all written.
+#[derive(Clone, Copy, Debug, PartialEq, Eq, Drop, Error)]
+pub enum RunError {
+    /// Memory was refused.
+    #[error("E1 NoMemory")]
+    NoMemory,
+    /// The source is no script, or could not be read.
+    #[error("{0}")]
+    Script(ScriptFault),
+    /// The writer failed.
+    #[error("E5 Write")]
+    Write,
+}

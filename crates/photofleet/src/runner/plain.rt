@@ -1,0 +1,49 @@
+ghost use Rattle.std.specs.Prelude.{◌≡◌, IfOk, IfErr, ◌^◌, ◌<◌, ◌≤◌, length};
+ghost use Rattle.std.specs.List.{AllZip};
+ghost use Rattle.photo_device.specs.Device.{Shows};
+ghost use Rattle.photo_script.specs.Limits.{max_devices};
+ghost use Rattle.photo_script.specs.Runs.{opening_from};
+ghost use Rattle.photofleet.specs.Outcomes.{IsOutcome};
+ghost use Rattle.photofleet.specs.declared.runner.fault.RunError.TheVariants.{NoMemory};
+
+use super::RunError;
+use super::command::{device_of, run_command};
+use super::outcome::Outcome;
+use photo_device::{Author, Device};
+use photo_script::Script;
+use std::alloc::{AllocError, Global};
+
+/// Runs a script, command by command in the order of their numbers. Its only error is want of memory.
+pub fn run_plain(alloc: Global, script: &Script) -> Result<Outcome, RunError>
+    ensures ok { IfOk result (IsOutcome script.now) }
+    ensures err { IfErr result (λ e. e ≡ NoMemory) }
+{
+    match run(alloc, script) {
+        Ok(outcome) => Ok(outcome),
+        Err(_) => Err(RunError::NoMemory),
+    }
+}
+
+fn run(alloc: Global, script: &Script) -> Result<Outcome, AllocError>
+    ensures { IfOk result (IsOutcome script.now) }
+{
+    let mut devices = opening_devices(alloc, script)?;
+    let mut reports = Vec::new(alloc);
+    for place in 0..script.commands() {
+        let command = script.command(place as u32 + 1);
+        let device = &mut devices[usize::from(device_of(command))];
+        reports.push(run_command(alloc, command, device)?)?;
+    }
+    Ok(Outcome { devices, reports })
+}
+
+// The devices of a script, none of which has made or holds anything.
+fn opening_devices(alloc: Global, script: &Script) -> Result<Vec<Device>, AllocError>
+    ensures { IfOk result (λ devices. AllZip Shows devices.items (opening_from 0 script.now.names)) }
+{
+    let mut devices = Vec::new(alloc);
+    for place in 0..script.devices() {
+        devices.push(Device::new(alloc, Author::new(place as u16)))?;
+    }
+    Ok(devices)
+}

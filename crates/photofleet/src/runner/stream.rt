@@ -1,0 +1,24 @@
+ghost use Rattle.std.specs.Prelude.{OnOk, IfSome};
+ghost use Rattle.photofleet.specs.Outcomes.{WritesOutput};
+
+use super::{RunError, read_source, run_plain, write_reports};
+use std::alloc::Global;
+use std::io::{Read, Write};
+
+/// Reads a script, runs it command by command, and then writes its reports.
+///
+/// Nothing is written before the run has succeeded.
+pub fn plain_stream<R: Read, W: Write>(
+    alloc: Global,
+    reader: &mut R,
+    writer: &mut W,
+) -> Result<(), RunError>
+    ensures { OnOk result (IfSome (R.remaining reader.old) (WritesOutput (W.contents writer.old) (W.contents writer.new))) }
+{
+    let script = match read_source(alloc, reader) {
+        Ok(script) => script,
+        Err(fault) => return Err(RunError::Script(fault)),
+    };
+    let outcome = run_plain(alloc, &script)?;
+    write_reports(alloc, writer, &script, outcome.reports.as_slice())
+}

@@ -1,0 +1,118 @@
+//! Readers, writers and files in memory.
+use crate::serve::Opener;
+use photo_script::ScriptFault;
+use std::alloc::Global;
+use std::io::{self, ErrorKind, Read, Write};
+
+/// The stored run's script.
+pub const SCRIPT: &str = "device cam all\nnew cam 7 5 2024-05-01 sun,beach\nlist cam\n";
+
+/// What it prints.
+pub const OUTPUT: &str =
+    "1 made cam:1 store\n2 list cam store 1 out 0\n  store 7 cam:1 rating 5 day 2024-05-01 words beach,sun\n";
+
+/// Gives its bytes in pieces of at most `step`, and then an error in place of the end where `fails`.
+#[derive(Drop)]
+pub struct Source<'a> {
+    pub left: &'a [u8],
+    pub step: usize,
+    pub fails: bool,
+}
+
+impl Read for Source<'_> {
+    fn read(&mut self, buf: &mut [u8]) -> io::Result<usize> {
+        let count = self.left.len().min(buf.len()).min(self.step);
+        if count == 0 && self.fails {
+            return Err(ErrorKind::BrokenPipe.into());
+        }
+        let (piece, left) = self.left.split_at(count);
+        buf[..count].copy_from_slice(piece);
+        self.left = left;
+        Ok(count)
+    }
+}
+
+/// Gives LFs without end, and counts them.
+#[derive(Drop)]
+pub struct Endless {
+    pub given: u64,
+}
+
+impl Read for Endless {
+    fn read(&mut self, buf: &mut [u8]) -> io::Result<usize> {
+        let count = buf.len().min(4096);
+        buf[..count].fill(b'\n');
+        self.given = self.given.saturating_add(count as u64);
+        Ok(count)
+    }
+}
+
+/// What a writer answers once it is full.
+#[derive(Clone, Copy, PartialEq, Eq)]
+pub enum Full {
+    Error,
+    Zero,
+}
+
+/// Takes at most `step` bytes a write and `room` in all, and keeps them.
+#[derive(Drop)]
+pub struct Sink {
+    pub taken: Vec<u8>,
+    pub step: usize,
+    pub room: usize,
+    pub full: Full,
+    pub flush_fails: bool,
+}
+
+impl Sink {
+    /// A writer that takes all.
+    pub fn new(alloc: Global) -> Sink {
+        Sink {
+            taken: Vec::new(alloc),
+            step: usize::MAX,
+            room: usize::MAX,
+            full: Full::Error,
+            flush_fails: false,
+        }
+    }
+}
+
+impl Write for Sink {
+    fn write(&mut self, buf: &[u8]) -> io::Result<usize> {
+        let count = buf.len().min(self.step).min(self.room);
+        if count == 0 && self.full == Full::Error && !buf.is_empty() {
+            return Err(ErrorKind::StorageFull.into());
+        }
+        self.taken.extend_from_slice(&buf[..count])?;
+        self.room -= count;
+        Ok(count)
+    }
+
+    fn flush(&mut self) -> io::Result<()> {
+        if self.flush_fails {
+            return Err(ErrorKind::BrokenPipe.into());
+        }
+        Ok(())
+    }
+}
+
+/// One file in memory: `script`. No other can be opened.
+#[derive(Drop)]
+pub struct Shelf<'a> {
+    pub script: &'a [u8],
+}
+
+impl<'a> Opener for Shelf<'a> {
+    type Source = Source<'a>;
+
+    fn open(&mut self, file: &str) -> Result<Source<'a>, ScriptFault> {
+        if file != "script" {
+            return Err(ScriptFault::Read);
+        }
+        Ok(Source {
+            left: self.script,
+            step: 4096,
+            fails: false,
+        })
+    }
+}
