@@ -1,5 +1,5 @@
 -- The fields of a slice that a pattern takes apart.
-use Rattle.std.proofs.Common.{◌≡◌, ◌≤◌, ◌<◌, ◌∷◌, ℕ, List, [], length, get_or, map, refl, ap, suc, arith, Bor}
+use Rattle.std.proofs.Common.{◌≡◌, ◌∷◌, ℕ, List, [], length, get_or, refl, ap, suc, arith, Bor}
 use Rattle.photo_script.specs.Steps.{texts}
 
 abbrev pub field : List (Bor (List ℕ)) → ℕ → List ℕ

@@ -1,5 +1,5 @@
 -- Numbers with zeros in front, as a hole writes them.
-use Rattle.std.proofs.Common.{◌≡◌, ◌-◌, ◌∷◌, ◌++◌, ◌^◌, ℕ, List, [], length, Bool, false, eqb, cond, replicate, codes, refl, sym, ap, ◌∙◌, append_assoc, arith}
+use Rattle.std.proofs.Common.{◌≡◌, ◌-◌, ◌∷◌, ◌++◌, ◌^◌, ℕ, List, [], length, false, eqb, replicate, codes, ap, ◌∙◌, append_assoc, arith}
 use Rattle.std.specs.Fmt.{decimal, styled_decimal, padded_integral, format_spec, char_count}
 use Rattle.std.proofs.lemmas.List.{append-nil}
 use Rattle.photo_script.specs.Reports.{padded_decimal}

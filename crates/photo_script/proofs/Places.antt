@@ -1,7 +1,7 @@
 -- A place in a list, read through a map.
-use Rattle.std.proofs.Common.{◌≡◌, ◌<◌, ◌≤◌, ◌+◌, ℕ, suc, Bool, true, false, cond, not, ltb, ◌||◌, List, [], ◌∷◌, ◌++◌, length, map, Option, Some, None, position, refl, sym, ap, ◌∙◌, arith}
+use Rattle.std.proofs.Common.{◌≡◌, ◌≤◌, ◌+◌, suc, Bool, true, false, cond, not, ltb, ◌||◌, List, [], ◌∷◌, length, map, Some, None, position, refl, sym, ap, arith}
 use Rattle.std.specs.List.{prefix_len, position_or_len, list_any}
-use Rattle.std.proofs.lemmas.Bool.{ltb-false, cases_Bool}
+use Rattle.std.proofs.lemmas.Bool.{ltb-false}
 use Rattle.std.proofs.lemmas.Option.{none-some}
 
 prefix_len-map : {A B : Type 0} (f : A → B) (p : B → Bool) (xs : List A) → prefix_len p (map f xs) ≡ prefix_len (λ x. p (f x)) xs

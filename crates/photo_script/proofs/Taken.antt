@@ -1,7 +1,7 @@
 -- What a reader shows of the lines that it has taken.
-use Rattle.std.proofs.Common.{◌≡◌, ◌+◌, ◌∷◌, ◌++◌, ℕ, suc, List, [], length, Bool, true, false, cond, ◌||◌, eqb, count_by, Option, Some, None, Result, Ok, Err, refl, sym, ap, ◌∙◌, append_assoc, length-append, zero-add, arith}
+use Rattle.std.proofs.Common.{◌≡◌, ◌+◌, ◌∷◌, ◌++◌, ℕ, List, [], length, cond, ◌||◌, eqb, Option, Ok, sym, ap, ◌∙◌, length-append, zero-add}
 use Rattle.std.specs.BTreeSet.{contains}
-use Rattle.std.specs.List.{list_any, sum_by}
+use Rattle.std.specs.List.{list_any}
 use Rattle.std.specs.Option.{option_to_list}
 use Rattle.std.specs.Ordering.{nat_cmp}
 use Rattle.std.proofs.lemmas.List.{append-nil}
@@ -9,7 +9,7 @@ use Rattle.std.proofs.lemmas.List.Concat.{flat_map-append}
 use Rattle.std.proofs.lemmas.List.Folds.{list_any-append}
 use Rattle.std.proofs.lemmas.List.Sums.{sum_by-append}
 use Rattle.photo_script.specs.Lines.{fields_of}
-use Rattle.photo_script.specs.Earlier.{Earlier, earlier, names_of, pictures_of, commands_of, declared_by, made_by, is_command}
+use Rattle.photo_script.specs.Earlier.{earlier, names_of, pictures_of, commands_of, declared_by, made_by, is_command}
 use Rattle.photo_script.specs.Reading.{sayings, commands_said}
 use Rattle.photo_script.specs.Saying.{said}
 use Rattle.photo_script.specs.Steps.{Takes, seen}

@@ -1,5 +1,5 @@
 -- An empty line at the end of a script says nothing.
-use Rattle.std.proofs.Common.{◌≡◌, ◌+◌, ◌∷◌, ◌++◌, ◌⊎◌, ℕ, suc, List, [], length, map, Bool, true, false, cond, eqb, Option, Some, None, Result, Ok, Err, refl, sym, ap, ◌∙◌, inl, inr, arith}
+use Rattle.std.proofs.Common.{◌≡◌, ◌∷◌, ◌++◌, ◌⊎◌, ℕ, suc, List, [], length, map, None, Result, Ok, Err, refl, sym, ap, ◌∙◌, inl, inr, arith}
 use Rattle.std.specs.Str.Lines.{strip_carriage_return}
 use Rattle.std.proofs.lemmas.List.{append-nil, map-append}
 use Rattle.std.proofs.lemmas.List.Concat.{flat_map-append}
@@ -7,8 +7,7 @@ use Rattle.std.proofs.lemmas.Bool.{ne_eqb}
 use Rattle.photo_script.specs.Lines.{without_last_empty, pieces_of, lines_of, fields_of}
 use Rattle.photo_script.specs.Earlier.{Earlier, earlier, names_of, declared_by}
 use Rattle.photo_script.specs.Saying.{said, fields_said}
-use Rattle.photo_script.specs.Contents.{Contents}
-use Rattle.photo_script.specs.Reading.{sayings, with_front, commands_said, script_of_commands, script_of_lines}
+use Rattle.photo_script.specs.Reading.{sayings, commands_said, script_of_commands, script_of_lines}
 use Rattle.photo_script.specs.declared.command.Command.{Command}
 use Rattle.photo_script.specs.declared.fault.ScriptFault.{ScriptFault}
 use Rattle.photo_script.proofs.Gathered.{commands_said-append, commands_said-refused}

@@ -1,5 +1,5 @@
 -- The turns of the loop over the pieces of a text.
-use Rattle.std.proofs.Common.{◌≡◌, ◌≢◌, ◌<◌, ◌≤◌, ◌+◌, ◌∷◌, ◌++◌, ℕ, suc, List, [], length, get_or, take, drop, map, Option, Result, Ok, Err, refl, sym, ap, ◌∙◌, drop-cons, arith, Bor}
+use Rattle.std.proofs.Common.{◌≡◌, ◌≢◌, ◌<◌, ◌≤◌, ◌+◌, ◌∷◌, ◌++◌, ℕ, suc, List, [], length, get_or, take, drop, map, Option, Result, Ok, Err, refl, sym, ap, ◌∙◌, drop-cons, Bor}
 use Rattle.std.specs.Result.{is_ok}
 use Rattle.std.specs.Str.{IsUtf8}
 use Rattle.std.specs.Str.Lines.{strip_carriage_return}
@@ -7,10 +7,10 @@ use Rattle.std.proofs.lemmas.Str.{is_utf8-from_IsUtf8}
 use Rattle.photo_script.specs.Limits.{max_text_bytes, max_line_bytes}
 use Rattle.std.proofs.lemmas.List.{take-append-drop, map-append}
 use Rattle.photo_script.specs.Lines.{pieces_of, lines_of}
-use Rattle.photo_script.specs.Earlier.{earlier, names_of}
+use Rattle.photo_script.specs.Earlier.{names_of}
 use Rattle.photo_script.specs.Saying.{said}
 use Rattle.photo_script.specs.Contents.{Contents, contents}
-use Rattle.photo_script.specs.Reading.{script_of_commands, script_of_lines, commands_said, sayings, MayWantMemory}
+use Rattle.photo_script.specs.Reading.{script_of_commands, script_of_lines, MayWantMemory}
 use Rattle.photo_script.specs.Steps.{Refuses, Takes, seen, fault_at}
 use Rattle.photo_script.specs.declared.command.Command.{Command}
 use Rattle.photo_script.specs.declared.fault.ScriptFault.{ScriptFault}

@@ -1,7 +1,7 @@
 -- What the earlier lines of a script tell about a line: the names that they declare, the pictures that they make,
 -- and how many commands they are. Each is said of the lines themselves; where one of them has a fault it doesn't matter.
 use Rattle.std.specs.Prelude.{ℕ, Bool, false, not, ◌&&◌, ◌==◌, if◌then◌else◌, List, [], ◌∷◌, codes, count_by}
-use Rattle.std.specs.List.{flat_map, list_any, starts_with}
+use Rattle.std.specs.List.{flat_map, list_any}
 use Rattle.photo_script.specs.Lines.{fields_of}
 use Rattle.photo_script.specs.Fields.{is_word, number_of}
 

@@ -1,7 +1,5 @@
 -- What commands do to devices, and what a run of them gives.
-use Rattle.std.specs.Prelude.{ℕ, suc, ◌+◌, List, [], ◌∷◌, ◌++◌, slice_index_or, slice_set, fold}
-use Rattle.photo_device.specs.declared.place.Place.{Place}
-use Rattle.photo_device.specs.Version.{Version}
+use Rattle.std.specs.Prelude.{ℕ, ◌+◌, List, [], ◌∷◌, ◌++◌, slice_index_or, slice_set, fold}
 use Rattle.photo_device.specs.Entry.{Entry}
 use Rattle.photo_device.specs.Device.{ModelDevice, opening, made, new_entry, next_version, new_place}
 use Rattle.photo_script.specs.Contents.{Contents, device_of}

@@ -1,4 +1,4 @@
-ghost use Rattle.std.specs.Prelude.{◌≡◌, ◌<◌, ◌≤◌, ◌-◌, ◌++◌, ◌∷◌, [], ℕ, length, slice_get, Some, None, IfSome, OnOk, OnErr};
+ghost use Rattle.std.specs.Prelude.{◌≡◌, ◌<◌, ◌≤◌, ◌-◌, ◌++◌, ◌∷◌, [], length, slice_get, Some, None, IfSome, OnOk, OnErr};
 ghost use Rattle.photo_script.specs.Limits.{max_devices, max_commands};
 ghost use Rattle.photo_script.specs.Fields.{place_of};
 

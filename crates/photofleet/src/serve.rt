@@ -27,6 +27,7 @@ pub struct FileOpener<'a, R: Files> {
 }
 
 impl<'a, R: Files> FileOpener<'a, R> {
+    /// An opener that asks that runtime for files.
     pub fn new(rt: &'a R) -> FileOpener<'a, R> {
         FileOpener { rt }
     }

@@ -23,7 +23,8 @@ fn pieces_of_one_byte(rt: HostRuntime) -> Result<(), Fail> {
 fn a_reader_that_fails_after_each_count_of_bytes(rt: HostRuntime) -> Result<(), Fail> {
     let alloc = rt.alloc();
     let bytes = SCRIPT.as_bytes();
-    for k in 0..bytes.len() {
+    assert_eq!(rt; bytes.len(), 57);
+    for k in 0..58 {
         let mut source = Source {
             left: &bytes[..k],
             step: 10,

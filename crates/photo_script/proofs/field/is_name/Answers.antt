@@ -1,4 +1,4 @@
-use Rattle.std.proofs.Common.{◌≡◌, ◌<◌, ◌∷◌, ℕ, List, length, Bool, true, ◌&&◌, sym, ap, ◌∙◌, rules, tests, arith}
+use Rattle.std.proofs.Common.{◌≡◌, length, Bool, true, ◌&&◌, sym, ap, ◌∙◌, rules, tests}
 use Rattle.std.proofs.lemmas.Iterator.{YieldsList-from_slice}
 use Rattle.std.proofs.lemmas.Iterator.Search.{all_from_yields_List}
 use Rattle.std.proofs.lemmas.Bool.{lt-ltb}

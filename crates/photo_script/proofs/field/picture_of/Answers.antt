@@ -1,4 +1,4 @@
-use Rattle.std.proofs.Common.{◌≡◌, ◌≤◌, ap, get_or, sym, ◌∙◌, arith}
+use Rattle.std.proofs.Common.{◌≡◌, ap, get_or, sym, ◌∙◌, arith}
 use Rattle.photo_script.proofs.Numbers.{picture-unread, picture-read}
 use Rattle.photo_script.proofs.field.picture_of.Goals as goal
 

@@ -1,11 +1,11 @@
-use Rattle.std.proofs.Common.{◌≡◌, ◌+◌, length, sym, ap, ◌∙◌, lit<, arith}
+use Rattle.std.proofs.Common.{◌≡◌, ◌+◌, length, ap, ◌∙◌, lit<, arith}
 use Rattle.std.proofs.lemmas.Iterator.Consumers.{YieldsList-so_far, YieldsList-turn, YieldsList-end}
 use Rattle.std.proofs.lemmas.Iterator.Splits.{YieldsList-from_str_split}
 use Rattle.std.proofs.lemmas.List.{length_push}
 use Rattle.std.proofs.Common.{◌≤◌, Err}
 use Rattle.photo_script.specs.Limits.{max_line_bytes}
 use Rattle.photo_script.specs.declared.refusal.Refusal.TheVariants.{Memory}
-use Rattle.photo_script.specs.Steps.{Reads, Refuses, seen}
+use Rattle.photo_script.specs.Steps.{Refuses, seen}
 use Rattle.photo_script.specs.Saying.{said}
 use Rattle.photo_script.proofs.Turns.{refused-turn, wants-turn, taken-turn, taken-end}
 use Rattle.photo_script.proofs.reader.read_lines.Goals as goal

@@ -1,4 +1,4 @@
-use Rattle.std.proofs.Common.{◌≡◌, ap, ◌∙◌, lit<}
+use Rattle.std.proofs.Common.{ap, ◌∙◌, lit<}
 use Rattle.std.proofs.lemmas.Str.Pattern.{strip_suffix_char}
 use Rattle.photo_script.proofs.Returns.{strip-from_suffix}
 use Rattle.photo_script.proofs.reader.without_return.Goals as goal

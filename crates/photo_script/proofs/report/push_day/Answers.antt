@@ -1,4 +1,4 @@
-use Rattle.std.proofs.Common.{◌≡◌, ◌++◌, string_bytes, refl, ap, ◌∙◌}
+use Rattle.std.proofs.Common.{◌++◌, string_bytes, refl, ap, ◌∙◌}
 use Rattle.std.specs.Fmt.{styled_decimal}
 use Rattle.photo_script.specs.Reports.{padded_decimal}
 use Rattle.photo_script.proofs.Padded.{styled-zeros, dashed}

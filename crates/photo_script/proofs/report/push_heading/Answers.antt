@@ -1,7 +1,7 @@
-use Rattle.std.proofs.Common.{◌≡◌, ◌++◌, ◌∷◌, [], List, ℕ, string_bytes, codes, sym, ap, ◌∙◌, append_assoc}
+use Rattle.std.proofs.Common.{◌≡◌, ◌++◌, [], List, ℕ, string_bytes, codes, sym, ap, ◌∙◌, append_assoc}
 use Rattle.std.proofs.lemmas.Option.{get_or_from_slice_get}
 use Rattle.std.specs.Fmt.{decimal}
-use Rattle.photo_script.specs.Reports.{name_of, heading_text}
+use Rattle.photo_script.specs.Reports.{name_of}
 use Rattle.photo_script.proofs.report.push_heading.Goals as goal
 
 regrouped : (a b c d e f g h : List ℕ) → a ++ (b ++ (c ++ (d ++ (e ++ (f ++ (g ++ h)))))) ≡ a ++ b ++ c ++ d ++ e ++ f ++ g ++ h

@@ -1,4 +1,4 @@
-use Rattle.std.proofs.Common.{◌≡◌, ◌≤◌, ◌++◌, length, string_bytes, ap, ◌∙◌, arith}
+use Rattle.std.proofs.Common.{◌++◌, string_bytes, ap, ◌∙◌, arith}
 use Rattle.std.specs.List.{flat_map}
 use Rattle.std.proofs.lemmas.List.{take_all}
 use Rattle.photo_device.specs.Held.{entry_of}

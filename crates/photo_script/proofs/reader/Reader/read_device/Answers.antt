@@ -1,6 +1,6 @@
-use Rattle.std.proofs.Common.{◌≡◌, ◌≤◌, length, codes, sym, ap, arith}
+use Rattle.std.proofs.Common.{◌≡◌, ◌≤◌, length, sym, ap, arith}
 use Rattle.std.proofs.lemmas.Bool.{eqb-false}
-use Rattle.photo_script.specs.Steps.{Reads, seen, texts}
+use Rattle.photo_script.specs.Steps.{seen, texts}
 use Rattle.photo_script.proofs.Arguments.{length-texts}
 use Rattle.photo_script.proofs.Taking.{device_line-declaration}
 use Rattle.photo_script.proofs.reader.Reader.read_device.Goals as goal

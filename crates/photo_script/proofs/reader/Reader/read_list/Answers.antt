@@ -1,5 +1,5 @@
-use Rattle.std.proofs.Common.{◌≡◌, ◌∷◌, [], Some, refl, arith, rules}
-use Rattle.photo_script.specs.Steps.{seen, Takes}
+use Rattle.std.proofs.Common.{Some, refl, arith}
+use Rattle.photo_script.specs.Steps.{seen}
 use Rattle.photo_script.specs.declared.command.Command.TheVariants as command
 use Rattle.photo_script.proofs.Arguments.{field, texts-one}
 use Rattle.photo_script.proofs.Taking.{list_line-said, takes_list}

@@ -1,8 +1,8 @@
-use Rattle.std.proofs.Common.{◌≡◌, ◌∷◌, [], Some, refl, arith, rules}
+use Rattle.std.proofs.Common.{Some, arith}
 use Rattle.std.proofs.Common.{true, subst}
 use Rattle.std.specs.BTreeSet.{Updates}
 use Rattle.std.specs.Ordering.{nat_cmp}
-use Rattle.photo_script.specs.Steps.{seen, Takes}
+use Rattle.photo_script.specs.Steps.{seen}
 use Rattle.photo_script.specs.declared.command.Command.TheVariants as command
 use Rattle.photo_script.proofs.Arguments.{field, texts-five}
 use Rattle.photo_script.proofs.Taking.{new_line-said, takes_new}
