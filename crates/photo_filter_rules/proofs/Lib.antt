@@ -2,3 +2,5 @@ pub mod Bools
 pub mod Sets
 pub mod Spans
 pub mod Fitting
+pub mod Found
+pub mod Worked

@@ -1,11 +1,12 @@
 -- What some trees come to.
-use Rattle.std.specs.Prelude.{◌≡◌, ℕ, zero, suc, ◌+◌, true, false, List, [], ◌∷◌, length, codes, pos}
+use Rattle.std.specs.Prelude.{◌≡◌, ℕ, zero, suc, ◌+◌, true, false, List, [], ◌∷◌, ◌++◌, length, codes, pos, Some, None, is_some}
 use Rattle.photo_record.specs.Limits.{first_day}
 use Rattle.photo_record.specs.declared.record.Record.TheVariants.{Removed}
 use Rattle.photo_filter_text.specs.declared.tree.Cmp.TheVariants.{AtLeast, AtMost, Equal}
 use Rattle.photo_filter_text.specs.Tree.{Tree, All, Nothing, Rate, On, Keyword, Not, Both, Either}
 use Rattle.photo_filter_rules.specs.declared.polarity.Polarity.TheVariants.{Plain}
 use Rattle.photo_filter_rules.specs.Matching.{matches}
+use Rattle.photo_filter_rules.specs.Filters.{filter_of}
 use Rattle.photo_filter_rules.specs.Alternatives.{span, anything, with_ratings, with_word, alternatives_of, is_too_wide}
 
 abbrev pub word : List ℕ
@@ -15,6 +16,11 @@ word = codes "x"
 abbrev pub one_of_words : ℕ → ℕ → Tree
 one_of_words first zero = Keyword (first ∷ [])
 one_of_words first (suc more) = Either (one_of_words first more) (Keyword ((first + suc more) ∷ []))
+
+-- a text several times
+abbrev pub repeated : ℕ → List ℕ → List ℕ
+repeated zero text = []
+repeated (suc more) text = text ++ repeated more text
 
 pub record TheLists : Type 0 where
   pub not_or : alternatives_of (Not (Either (Rate Equal 0) (Keyword word))) Plain
@@ -46,3 +52,21 @@ pub record TheRemoved : Type 0 where
   pub by_all : matches All Removed ≡ false
   pub by_not_all : matches (Not All) Removed ≡ false
   pub by_not_none : matches (Not Nothing) Removed ≡ false
+
+-- texts that are filters, and texts that are none
+pub record TheFilters : Type 0 where
+  pub brackets : filter_of (codes "not (rating = 0 or keyword x)") ≡ Some (Not (Either (Rate Equal 0) (Keyword word)))
+  pub word : filter_of (codes "keyword and and all") ≡ Some (Both (Keyword (codes "and")) All)
+  pub from_left : filter_of (codes "all or none and all") ≡ Some (Either All (Both Nothing All))
+  pub day : filter_of (codes "not day >= 0000-01-01") ≡ Some (Not (On AtLeast first_day))
+  pub empty : filter_of [] ≡ None
+  pub two : filter_of (codes "all all") ≡ None
+  pub no_rating : filter_of (codes "rating >= 6") ≡ None
+  pub no_space : filter_of (codes "rating >=4") ≡ None
+  pub bracket_for_word : filter_of (codes "keyword (") ≡ None
+  pub not_closed : filter_of (codes "( all") ≡ None
+  pub short : filter_of (codes "keyword") ≡ None
+  pub no_word : filter_of (codes "keyword a,b") ≡ None
+  pub low : is_some (filter_of (repeated 31 (codes "not ") ++ codes "all")) ≡ true
+  pub deep : filter_of (repeated 32 (codes "not ") ++ codes "all") ≡ None
+  pub wide : filter_of (codes "(keyword a or keyword b or keyword c or keyword d or keyword e) and (keyword f or keyword g or keyword h or keyword i or keyword j or keyword k or keyword l or keyword m or keyword n or keyword o or keyword p or keyword q or keyword r)") ≡ None

@@ -4,3 +4,4 @@ pub mod Alternatives
 pub mod Coding
 pub mod Laws
 pub mod Examples
+pub mod Filters

@@ -1,4 +1,5 @@
 use Rattle.std.proofs.Common.{refl}
+use Rattle.photo_filter_rules.proofs.Worked.{the_filters}
 use Rattle.photo_filter_rules.proofs.laws.examples.Goals as goal
 
 pub returns-clause-lists : goal.returns-clause-lists
@@ -27,3 +28,6 @@ returns-clause-widths c = record {
 
 pub returns-clause-removed : goal.returns-clause-removed
 returns-clause-removed c = record { by_all = refl; by_not_all = refl; by_not_none = refl }
+
+pub returns-clause-filters : goal.returns-clause-filters
+returns-clause-filters c = the_filters
