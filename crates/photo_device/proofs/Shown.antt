@@ -1,27 +1,52 @@
 -- What a device shows after it made a version.
-use Rattle.std.proofs.Common.{◌≡◌, ℕ, ◌+◌, List, refl, sym, ap, ◌∙◌, subst}
-use Rattle.std.specs.Prelude.{filter}
+use Rattle.std.proofs.Common.{◌≡◌, ℕ, ◌+◌, Bool, true, false, not, cond, List, refl, sym, ap, ◌∙◌}
 use Rattle.photo_record.specs.declared.record.Record.{Record}
+use Rattle.photo_filter_rules.specs.Matching.{matches}
 use Rattle.photo_device.specs.declared.held.Held.{Held}
+use Rattle.photo_device.specs.declared.place.Place.{Place}
+use Rattle.photo_device.specs.declared.place.Place.TheVariants.{Store, Out}
 use Rattle.photo_device.specs.Version.{Version, version}
-use Rattle.photo_device.specs.Entry.{Entry, put_entry, others}
-use Rattle.photo_device.specs.Held.{entry_of, entries_of, held_elsewhere, replaced}
-use Rattle.photo_device.specs.Device.{ModelDevice, Kept, Shows, made, new_entry}
+use Rattle.photo_device.specs.Entry.{Entry, put_entry_if, others}
+use Rattle.photo_device.specs.Held.{entry_of, entries_of}
+use Rattle.photo_device.specs.Device.{ModelDevice, Kept, Shows, made, new_entry, place_for, held_at}
 use Rattle.photo_device.proofs.Entries.{entries-replaced, entries-elsewhere}
 
 abbrev pub held : ℕ → Version → Record → Held
 held picture v content = record { picture = picture; version = v; content = content }
 
-pub shows_made : (d : Kept) (m : ModelDevice) (p : ℕ) (content copy : Record) (v : Version) (store out : List Held) → v ≡ version d.author (d.counter + 1) → copy ≡ content → store ≡ replaced (held p v copy) d.store → out ≡ filter (held_elsewhere p) d.out → Shows d m → Shows (record { author = d.author; counter = d.counter + 1; store = store; out = out }) (made m p content)
-shows_made d m p content copy v store out v_is copy_is store_is out_is shows =
+-- what is held where a test of the filter says so
+store_at : (b : Bool) (d : Kept) (h : Held) → entries_of (held_at (cond b Store Out) h d).store ≡ put_entry_if b (entry_of h) (others h.picture (entries_of d.store))
+store_at true d h = entries-replaced h d.store
+store_at false d h = entries-elsewhere h.picture d.store
+
+out_at : (b : Bool) (d : Kept) (h : Held) → entries_of (held_at (cond b Store Out) h d).out ≡ put_entry_if (not b) (entry_of h) (others h.picture (entries_of d.out))
+out_at true d h = entries-elsewhere h.picture d.out
+out_at false d h = entries-replaced h d.out
+
+same_at : (b : Bool) (d : Kept) (h : Held) → (held_at (cond b Store Out) h d).author ≡ d.author
+same_at true d h = refl
+same_at false d h = refl
+
+same_tree : (b : Bool) (d : Kept) (h : Held) → (held_at (cond b Store Out) h d).tree ≡ d.tree
+same_tree true d h = refl
+same_tree false d h = refl
+
+-- the new version held at its place, and counted
+pub shows_made : (d after : Kept) (m : ModelDevice) (p : ℕ) (content copy : Record) (v : Version) (place : Place) → v ≡ version d.author (d.counter + 1) → copy ≡ content → place ≡ place_for d.tree content → after ≡ held_at place (held p v copy) d → Shows d m → Shows (record after { counter = d.counter + 1 }) (made m p content)
+shows_made d after m p content copy v place v_is copy_is place_is held_is shows =
     let same : entry_of (held p v copy) ≡ new_entry m p content = λ i. record {
       picture = p;
       version = (v_is ∙ (λ j. version (shows.author j) (shows.counter j + 1))) i;
       content = copy_is i;
     } in
+    let kept = matches d.tree content in
+    let after_is : after ≡ held_at (cond kept Store Out) (held p v copy) d = held_is ∙ ap (λ (x : Place). held_at x (held p v copy) d) place_is in
     record {
-      author = shows.author;
+      author = ap (λ (k : Kept). k.author) after_is ∙ same_at kept d (held p v copy) ∙ shows.author;
+      tree = ap (λ (k : Kept). k.tree) after_is ∙ same_tree kept d (held p v copy) ∙ shows.tree;
       counter = ap (λ n. n + 1) shows.counter;
-      store = ap entries_of store_is ∙ entries-replaced (held p v copy) d.store ∙ (λ i. put_entry (same i) (others p (shows.store i)));
-      out = ap entries_of out_is ∙ entries-elsewhere p d.out ∙ ap (others p) shows.out;
+      store = ap (λ (k : Kept). entries_of k.store) after_is ∙ store_at kept d (held p v copy)
+          ∙ (λ i. put_entry_if (matches (shows.tree i) content) (same i) (others p (shows.store i)));
+      out = ap (λ (k : Kept). entries_of k.out) after_is ∙ out_at kept d (held p v copy)
+          ∙ (λ i. put_entry_if (not (matches (shows.tree i) content)) (same i) (others p (shows.out i)));
     }

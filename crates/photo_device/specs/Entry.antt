@@ -1,5 +1,5 @@
 -- Versions of pictures with what they say.
-use Rattle.std.specs.Prelude.{ℕ, Bool, not, ◌&&◌, ◌||◌, ◌==◌, nat_lt, List, filter}
+use Rattle.std.specs.Prelude.{ℕ, Bool, true, false, not, ◌&&◌, ◌||◌, ◌==◌, nat_lt, List, filter}
 use Rattle.photo_record.specs.declared.record.Record.{Record}
 use Rattle.photo_device.specs.Version.{Version, version_before}
 use Rattle.photo_device.specs.Ordered.{put}
@@ -24,3 +24,8 @@ others picture entries = filter (is_of_other picture) entries
 -- a set of entries with one more
 abbrev pub put_entry : Entry → List Entry → List Entry
 put_entry e entries = put entry_before e entries
+
+-- a set of entries with one more where the test says so
+abbrev pub put_entry_if : Bool → Entry → List Entry → List Entry
+put_entry_if true e entries = put_entry e entries
+put_entry_if false e entries = entries

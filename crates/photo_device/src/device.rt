@@ -1,12 +1,14 @@
 use crate::{Author, Held, HeldSet, Place, Version};
+use photo_filter_rules::Filter;
 use photo_record::{PicNo, Record};
 use std::alloc::{AllocError, Global};
 use std::marker::Model;
 
-/// A device: who it is, how many versions it has made, and those that it holds.
+/// A device: who it is, which versions it is to keep, how many it has made, and those that it holds.
 #[derive(Debug, Drop)]
 pub struct Device {
     author: Author,
+    filter: Filter,
     counter: u32,
     store: HeldSet,
     out: HeldSet,
@@ -14,24 +16,28 @@ pub struct Device {
 
 impl Model for Device {
     ghost use Rattle.photo_device.specs.Device.{Kept};
+    ghost use Rattle.photo_device.specs.Coding.{kept_code};
 
     ghost Value = { Kept };
 
-    ghost view = { λ d. record { author = d.author; counter = d.counter; store = d.store; out = d.out } };
+    ghost coded = { kept_code };
+
+    ghost view = { λ d. record { author = d.author; tree = d.filter; counter = d.counter; store = d.store; out = d.out } };
 }
 
 impl Device {
-    ghost use Rattle.std.specs.Prelude.{◌≡◌, ℕ, ◌+◌, ◌<◌, ◌++◌, IfOk, OnErr};
+    ghost use Rattle.std.specs.Prelude.{◌≡◌, ℕ, ◌+◌, ◌<◌, ◌++◌, IfOk, OnOk, OnErr};
     ghost use Rattle.std.specs.Option.{option_copied};
     ghost use Rattle.photo_device.specs.Held.{find_version};
-    ghost use Rattle.photo_device.specs.Device.{ModelDevice, Shows, opening, made, next_version, new_place};
+    ghost use Rattle.photo_device.specs.Device.{ModelDevice, Shows, opening, made, next_version, new_place, held_at};
 
-    /// A device that has made and holds nothing.
-    pub fn new(alloc: Global, author: Author) -> Device
-        ensures { Shows result (opening author) }
+    /// A device that has made and holds nothing, and is to keep what the filter matches. It takes no memory.
+    pub fn new(alloc: Global, author: Author, filter: Filter) -> Device
+        ensures { Shows result (opening author filter) }
     {
         Device {
             author,
+            filter,
             counter: 0,
             store: HeldSet::new(alloc),
             out: HeldSet::new(alloc),
@@ -40,7 +46,8 @@ impl Device {
 
     /// Makes the device's next version of a picture, in the place of all that it held of that picture.
     ///
-    /// Gives the version and where it went. After want of memory the device is as it was.
+    /// It goes into the store where the filter matches its record, and into the out otherwise. Gives the version
+    /// and where it went. After want of memory the device is as it was.
     pub fn make(&mut self, picture: PicNo, content: &Record) -> Result<(Version, Place), AllocError>
         requires { self.old.counter < 4_294_967_295 }
         ensures shows { IfOk result (λ answer. (m : ModelDevice) → Shows self.old m → Shows self.new (made m picture content.now)) }
@@ -55,10 +62,29 @@ impl Device {
             version,
             content: content.try_clone()?,
         };
-        self.store.replace(held)?;
-        self.out.drop_picture(picture);
+        let place = Place::of(&self.filter, content);
+        self.hold(place, held)?;
         self.counter = number;
-        Ok((version, Place::Store))
+        Ok((version, place))
+    }
+
+    /// Holds a version at a place, and nothing else of its picture. An error leaves the device as it was.
+    fn hold(&mut self, place: Place, held: Held) -> Result<(), AllocError>
+        ensures ok { OnOk result (self.new ≡ held_at place held self.old) }
+        ensures err { OnErr result (self.new ≡ self.old) }
+    {
+        let picture = held.picture;
+        match place {
+            Place::Store => {
+                self.store.replace(held)?;
+                self.out.drop_picture(picture);
+            }
+            Place::Out => {
+                self.out.replace(held)?;
+                self.store.drop_picture(picture);
+            }
+        }
+        Ok(())
     }
 
     /// Who it is as an author of versions.
@@ -66,6 +92,13 @@ impl Device {
         ensures { result ≡ self.now.author }
     {
         self.author
+    }
+
+    /// Which versions it is to keep.
+    pub fn filter(&self) -> &Filter
+        ensures { result.now ≡ self.now.tree }
+    {
+        &self.filter
     }
 
     /// How many versions it has made.
