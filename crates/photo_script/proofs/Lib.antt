@@ -1,5 +1,6 @@
 mod Arguments
 mod WorkedExamples
+mod FilterTexts
 mod Gathered
 mod Joined
 mod Listing
@@ -7,6 +8,7 @@ mod Numbers
 mod Padded
 mod Places
 mod Returns
+mod Spaces
 mod Taken
 mod Taking
 mod Trailing

@@ -8,8 +8,9 @@ use Rattle.std.proofs.lemmas.List.{append-nil}
 use Rattle.std.proofs.lemmas.List.Concat.{flat_map-append}
 use Rattle.std.proofs.lemmas.List.Folds.{list_any-append}
 use Rattle.std.proofs.lemmas.List.Sums.{sum_by-append}
-use Rattle.photo_script.specs.Lines.{fields_of}
-use Rattle.photo_script.specs.Earlier.{earlier, names_of, pictures_of, commands_of, declared_by, made_by, is_command}
+use Rattle.photo_filter_text.specs.Tree.{Tree}
+use Rattle.photo_script.specs.Lines.{fields_of, third_field_on}
+use Rattle.photo_script.specs.Earlier.{earlier, names_of, filters_of, pictures_of, commands_of, declared_by, filter_declared_by, made_by, is_command}
 use Rattle.photo_script.specs.Reading.{sayings, commands_said}
 use Rattle.photo_script.specs.Saying.{said}
 use Rattle.photo_script.specs.Steps.{Takes, seen}
@@ -20,6 +21,7 @@ use Rattle.photo_script.proofs.Gathered.{commands_said-more}
 -- the reader has taken these lines, and none has a fault
 pub record HasTaken (lines : List (List ℕ)) (r : Reader) : Type 0 where
   pub names : r.script.names ≡ names_of lines
+  pub filters : r.script.filters ≡ filters_of lines
   pub makes : (p : ℕ) → contains nat_cmp r.pictures p ≡ (earlier lines).makes p
   pub counted : length r.script.commands ≡ commands_of lines
   pub said : commands_said 1 (sayings [] lines) ≡ Ok r.script.commands
@@ -31,6 +33,12 @@ seen-earlier lines r h = λ i. record { names = h.names i; makes = λ p. h.makes
 names_of-push : (lines : List (List ℕ)) (line : List ℕ) → names_of (lines ++ line ∷ []) ≡ names_of lines ++ declared_by (fields_of line)
 names_of-push lines line = flat_map-append (λ l. declared_by (fields_of l)) lines (line ∷ []) ∙ ap (λ n. names_of lines ++ n) (append-nil (declared_by (fields_of line)))
 
+abbrev filter_by : List ℕ → List Tree
+filter_by line = filter_declared_by (fields_of line) (third_field_on line)
+
+filters_of-push : (lines : List (List ℕ)) (line : List ℕ) → filters_of (lines ++ line ∷ []) ≡ filters_of lines ++ filter_by line
+filters_of-push lines line = flat_map-append filter_by lines (line ∷ []) ∙ ap (λ n. filters_of lines ++ n) (append-nil (filter_by line))
+
 pictures_of-push : (lines : List (List ℕ)) (line : List ℕ) → pictures_of (lines ++ line ∷ []) ≡ pictures_of lines ++ made_by (fields_of line)
 pictures_of-push lines line = flat_map-append (λ l. made_by (fields_of l)) lines (line ∷ []) ∙ ap (λ n. pictures_of lines ++ n) (append-nil (made_by (fields_of line)))
 
@@ -38,9 +46,10 @@ commands_of-push : (lines : List (List ℕ)) (line : List ℕ) → commands_of (
 commands_of-push lines line = sum_by-append (λ l. cond (is_command (fields_of l)) 1 0) lines (line ∷ []) ∙ ap (λ n. commands_of lines + n) (zero-add _)
 
 -- and after one line more that is so of one line more
-pub HasTaken-more : (lines : List (List ℕ)) (line : List ℕ) (old new : Reader) (x : Option Command) → HasTaken lines old → said (seen old) line ≡ Ok x → Takes old (fields_of line) x new → HasTaken (lines ++ line ∷ []) new
+pub HasTaken-more : (lines : List (List ℕ)) (line : List ℕ) (old new : Reader) (x : Option Command) → HasTaken lines old → said (seen old) line ≡ Ok x → Takes old (fields_of line) (third_field_on line) x new → HasTaken (lines ++ line ∷ []) new
 HasTaken-more lines line old new x h says takes = record {
   names = takes.names ∙ ap (λ n. n ++ declared_by (fields_of line)) h.names ∙ sym (names_of-push lines line);
+  filters = takes.filters ∙ ap (λ n. n ++ filter_by line) h.filters ∙ sym (filters_of-push lines line);
   makes = λ p.
       let test = λ (q : ℕ). eqb q p in
       takes.makes p ∙ ap (λ b. b || list_any test (made_by (fields_of line))) (h.makes p) ∙ sym (ap (list_any test) (pictures_of-push lines line) ∙ list_any-append test (pictures_of lines) (made_by (fields_of line)));

@@ -1,28 +1,37 @@
 -- What a reader has after a line of each kind, and what the line says then.
 use Rattle.std.proofs.Common.{◌≡◌, ◌≤◌, ◌<◌, ◌∷◌, ◌++◌, ℕ, List, [], length, Bool, true, false, cond, ◌||◌, eqb, codes, Option, Some, None, Result, Ok, Err, refl, sym, ap, ◌∙◌, arith}
 use Rattle.std.specs.BTreeSet.{contains, Updates}
+use Rattle.std.specs.List.{list_any}
+use Rattle.std.specs.Option.{is_some, option_to_list}
 use Rattle.std.specs.Ordering.{nat_cmp, is_eq}
 use Rattle.std.proofs.lemmas.Bool.{le-ltb, lt-leb}
 use Rattle.std.proofs.lemmas.List.{append-nil}
 use Rattle.std.proofs.lemmas.Bool.Decides.{nat_tests}
 use Rattle.std.proofs.lemmas.Option.{cond_some}
 use Rattle.photo_record.specs.declared.record.Record.{Record}
-use Rattle.photo_script.specs.Limits.{max_commands}
+use Rattle.photo_script.specs.Limits.{max_devices, max_commands}
 use Rattle.photo_script.specs.Contents.{contents}
-use Rattle.photo_script.specs.Earlier.{Earlier}
-use Rattle.photo_script.specs.Fields.{number_of, picture_of}
+use Rattle.photo_script.specs.Earlier.{Earlier, made_by}
+use Rattle.photo_filter_text.specs.Tree.{Tree}
+use Rattle.photo_filter_rules.specs.Filters.{filter_of}
+use Rattle.photo_script.specs.Fields.{number_of, picture_of, is_name, place_of}
 use Rattle.photo_script.specs.Steps.{Takes, seen}
-use Rattle.photo_script.specs.Saying.{device_line_said, declaration_said, list_line_said, new_line_said, command_said, creation_said, device_said, new_picture_said, record_said, or_fault, ◌>>=◌}
+use Rattle.photo_script.specs.Saying.{filter_said, device_line_said, declaration_said, list_line_said, new_line_said, command_said, creation_said, device_said, new_picture_said, record_said, or_fault, ◌>>=◌}
 use Rattle.photo_script.specs.declared.command.Command.TheVariants as command
 use Rattle.photo_script.specs.declared.fault.LineFault.{LineFault}
 use Rattle.photo_script.specs.declared.fault.LineFault.TheVariants as fault
 use Rattle.photo_script.specs.declared.reader.Reader.{Reader}
 
 -- behind no command, a name and a filter are a declaration
-pub device_line-declaration : (before : Earlier) (name : List ℕ) (filter : List (List ℕ)) → before.commands ≤ 0 → 1 ≤ length filter → device_line_said before (name ∷ filter) ≡ declaration_said before name filter
+pub device_line-declaration : (before : Earlier) (name : List ℕ) (others : List (List ℕ)) (filter : List ℕ) → before.commands ≤ 0 → 1 ≤ length others → device_line_said before (name ∷ others) filter ≡ declaration_said before name filter
 unfolding device_line_said
-device_line-declaration before name [] early some = absurd (omega arith)
-device_line-declaration before name (first ∷ more) early some = rw (le-ltb 0 before.commands early)
+device_line-declaration before name [] filter early some = absurd (omega arith)
+device_line-declaration before name (first ∷ more) filter early some = rw (le-ltb 0 before.commands early)
+
+pub declaration-said : (before : Earlier) (name filter : List ℕ) (tree : Tree) → length before.names < max_devices → is_name name ≡ true → is_some (place_of before.names name) ≡ false → filter_said filter ≡ Ok tree
+    → declaration_said before name filter ≡ Ok None
+unfolding declaration_said
+declaration-said before name filter tree room good fresh said = rw (lt-leb max_devices (length before.names) room, good, fresh, said)
 
 pub list_line-said : (before : Earlier) (name : List ℕ) (device : ℕ) → before.commands < max_commands → Ok device ≡ device_said before name
     → list_line_said before (name ∷ []) ≡ Ok (Some (command.List device))
@@ -39,11 +48,38 @@ or_false : (b : Bool) → b ≡ (b || false)
 or_false true = refl
 or_false false = refl
 
+found-said : (o : Option Tree) (e : LineFault) (tree : Tree) → or_fault o e ≡ Ok tree → o ≡ Some tree
+found-said None e tree h = cc
+found-said (Some x) e tree h = cc
+
+filter-found : (text : List ℕ) (tree : Tree) → filter_said text ≡ Ok tree → filter_of text ≡ Some tree
+unfolding filter_said
+filter-found text tree said = found-said (filter_of text) fault.BadFilter tree said
+
+makes-none : (name : List ℕ) (more : List (List ℕ)) → made_by (codes "device" ∷ name ∷ more) ≡ []
+makes-none name [] = refl
+makes-none name (field ∷ more) = refl
+
+-- a `device` line puts a name behind the others, and its filter behind theirs
+pub takes_device : (old new : Reader) (name filter : List ℕ) (more : List (List ℕ)) (tree : Tree) → filter_said filter ≡ Ok tree
+    → new.script ≡ contents (old.script.names ++ name ∷ []) (old.script.filters ++ tree ∷ []) old.script.commands → new.pictures ≡ old.pictures
+    → Takes old (codes "device" ∷ name ∷ more) filter None new
+takes_device old new name filter more tree said script pictures = record {
+  names = ap (λ s. s.names) script;
+  filters = ap (λ s. s.filters) script ∙ sym (ap (λ o. old.script.filters ++ option_to_list o) (filter-found filter tree said));
+  commands = ap (λ s. s.commands) script ∙ sym (append-nil old.script.commands);
+  makes = λ p.
+      let had = contains nat_cmp old.pictures p in
+      ap (λ s. contains nat_cmp s p) pictures ∙ or_false had ∙ ap (λ made. had || list_any (λ (q : ℕ). eqb q p) made) (sym (makes-none name more));
+  counted = refl;
+}
+
 -- a `list` line puts a command behind the others
-pub takes_list : (old new : Reader) (name : List ℕ) (device : ℕ) → new.script ≡ contents old.script.names (old.script.commands ++ command.List device ∷ []) → new.pictures ≡ old.pictures
-    → Takes old (codes "list" ∷ name ∷ []) (Some (command.List device)) new
+pub takes_list : (old new : Reader) (name : List ℕ) (device : ℕ) → new.script ≡ contents old.script.names old.script.filters (old.script.commands ++ command.List device ∷ []) → new.pictures ≡ old.pictures
+    → Takes old (codes "list" ∷ name ∷ []) [] (Some (command.List device)) new
 takes_list old new name device script pictures = record {
   names = ap (λ s. s.names) script ∙ sym (append-nil old.script.names);
+  filters = ap (λ s. s.filters) script ∙ sym (append-nil old.script.filters);
   commands = ap (λ s. s.commands) script;
   makes = λ p. ap (λ s. contains nat_cmp s p) pictures ∙ or_false _;
   counted = refl;
@@ -76,10 +112,11 @@ or_last false false = refl
 
 -- a `new` line puts a command behind the others, and its picture to the others
 pub takes_new : (old new : Reader) (name picture rating date words : List ℕ) (device number : ℕ) (r : Record) → Ok number ≡ new_picture_said (seen old) picture
-    → new.script ≡ contents old.script.names (old.script.commands ++ command.New device number r ∷ []) → Updates nat_cmp old.pictures new.pictures number true
-    → Takes old (codes "new" ∷ name ∷ picture ∷ rating ∷ date ∷ words ∷ []) (Some (command.New device number r)) new
+    → new.script ≡ contents old.script.names old.script.filters (old.script.commands ++ command.New device number r ∷ []) → Updates nat_cmp old.pictures new.pictures number true
+    → Takes old (codes "new" ∷ name ∷ picture ∷ rating ∷ date ∷ words ∷ []) [] (Some (command.New device number r)) new
 takes_new old new name picture rating date words device number r said script pictures = record {
   names = ap (λ s. s.names) script ∙ sym (append-nil old.script.names);
+  filters = ap (λ s. s.filters) script ∙ sym (append-nil old.script.filters);
   commands = ap (λ s. s.commands) script;
   makes = λ p.
       let had = contains nat_cmp old.pictures p in

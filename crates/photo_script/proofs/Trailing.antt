@@ -4,8 +4,8 @@ use Rattle.std.specs.Str.Lines.{strip_carriage_return}
 use Rattle.std.proofs.lemmas.List.{append-nil, map-append}
 use Rattle.std.proofs.lemmas.List.Concat.{flat_map-append}
 use Rattle.std.proofs.lemmas.Bool.{ne_eqb}
-use Rattle.photo_script.specs.Lines.{without_last_empty, pieces_of, lines_of, fields_of}
-use Rattle.photo_script.specs.Earlier.{Earlier, earlier, names_of, declared_by}
+use Rattle.photo_script.specs.Lines.{without_last_empty, pieces_of, lines_of, fields_of, third_field_on}
+use Rattle.photo_script.specs.Earlier.{Earlier, earlier, names_of, filters_of, declared_by, filter_declared_by}
 use Rattle.photo_script.specs.Saying.{said, fields_said}
 use Rattle.photo_script.specs.Reading.{sayings, commands_said, script_of_commands, script_of_lines}
 use Rattle.photo_script.specs.declared.command.Command.{Command}
@@ -26,6 +26,9 @@ pieces-cases (p ∷ q ∷ more) = elim (pieces-cases (q ∷ more)) [ inl same �
 names-trailing : (lines : List (List ℕ)) → names_of (lines ++ [] ∷ []) ≡ names_of lines
 names-trailing lines = flat_map-append (λ line. declared_by (fields_of line)) lines ([] ∷ []) ∙ append-nil _
 
+filters-trailing : (lines : List (List ℕ)) → filters_of (lines ++ [] ∷ []) ≡ filters_of lines
+filters-trailing lines = flat_map-append (λ line. filter_declared_by (fields_of line) (third_field_on line)) lines ([] ∷ []) ∙ append-nil _
+
 commands-trailing : (lines : List (List ℕ)) → commands_said 1 (sayings [] (lines ++ [] ∷ [])) ≡ commands_said 1 (sayings [] lines)
 commands-trailing lines = by (commands_said 1 (sayings [] lines)) refl
   where
@@ -42,4 +45,6 @@ script_of_lines-pieces text = by (pieces_of text) (pieces-cases (pieces_of text)
     by pieces (inr longer) =
         let lines = map strip_carriage_return (without_last_empty pieces) in
         let all = ap (map strip_carriage_return) longer ∙ map-append strip_carriage_return (without_last_empty pieces) ([] ∷ []) in
-        ap script_of_lines all ∙ ap (λ names. script_of_commands names (commands_said 1 (sayings [] (lines ++ [] ∷ [])))) (names-trailing lines) ∙ ap (script_of_commands (names_of lines)) (commands-trailing lines)
+        let said = commands_said 1 (sayings [] (lines ++ [] ∷ [])) in
+        ap script_of_lines all ∙ ap (λ names. script_of_commands names (filters_of (lines ++ [] ∷ [])) said) (names-trailing lines)
+        ∙ ap (λ filters. script_of_commands (names_of lines) filters said) (filters-trailing lines) ∙ ap (script_of_commands (names_of lines) (filters_of lines)) (commands-trailing lines)

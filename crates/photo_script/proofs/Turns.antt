@@ -6,8 +6,8 @@ use Rattle.std.specs.Str.Lines.{strip_carriage_return}
 use Rattle.std.proofs.lemmas.Str.{is_utf8-from_IsUtf8}
 use Rattle.photo_script.specs.Limits.{max_text_bytes, max_line_bytes}
 use Rattle.std.proofs.lemmas.List.{take-append-drop, map-append}
-use Rattle.photo_script.specs.Lines.{pieces_of, lines_of}
-use Rattle.photo_script.specs.Earlier.{names_of}
+use Rattle.photo_script.specs.Lines.{pieces_of, lines_of, fields_of, third_field_on}
+use Rattle.photo_script.specs.Earlier.{names_of, filters_of}
 use Rattle.photo_script.specs.Saying.{said}
 use Rattle.photo_script.specs.Contents.{Contents, contents}
 use Rattle.photo_script.specs.Reading.{script_of_commands, script_of_lines, MayWantMemory}
@@ -49,7 +49,7 @@ refused-line text lines rest line r Memory number h refused whole place other = 
 refused-line text lines rest line r (Fault f) number h refused whole place other =
     let says = ap (λ b. said b line) (sym (seen-earlier lines r h)) ∙ refused in
     let found = commands_said-fault lines line r.script.commands h.said rest f says in
-    sym (script_of_lines-pieces text) ∙ ap script_of_lines whole ∙ ap (script_of_commands (names_of (lines ++ line ∷ rest))) found ∙ ap (λ n. Err (fault_at n (Fault f))) place
+    sym (script_of_lines-pieces text) ∙ ap script_of_lines whole ∙ ap (script_of_commands (names_of (lines ++ line ∷ rest)) (filters_of (lines ++ line ∷ rest))) found ∙ ap (λ n. Err (fault_at n (Fault f))) place
 
 -- where a line is refused, so is the script
 pub refused-turn : (text : List ℕ) (yielded : List (Bor (List ℕ))) (piece line : List ℕ) (r : Reader) (refusal : Refusal) (number : ℕ) → HasTaken (taken_lines yielded) r
@@ -60,7 +60,7 @@ refused-turn text yielded piece line r refusal number h front within item end re
 
 -- where a line is taken, so are all so far
 pub taken-turn : (yielded : List (Bor (List ℕ))) (piece : Bor (List ℕ)) (old new : Reader) (x : Option Command) → HasTaken (taken_lines yielded) old
-    → said (seen old) (strip_carriage_return piece.now) ≡ Ok x → Takes old (Rattle.photo_script.specs.Lines.fields_of (strip_carriage_return piece.now)) x new → HasTaken (taken_lines (yielded ++ piece ∷ [])) new
+    → said (seen old) (strip_carriage_return piece.now) ≡ Ok x → Takes old (fields_of (strip_carriage_return piece.now)) (third_field_on (strip_carriage_return piece.now)) x new → HasTaken (taken_lines (yielded ++ piece ∷ [])) new
 taken-turn yielded piece old new x h says takes =
     rw (map-append (λ p. strip_carriage_return p.now) yielded (piece ∷ [])) (HasTaken-more (taken_lines yielded) (strip_carriage_return piece.now) old new x h says takes)
 
@@ -69,7 +69,7 @@ pub taken-end : (text : List ℕ) (yielded : List (Bor (List ℕ))) (r : Reader)
 taken-end text yielded r h all =
     let lines = taken_lines yielded in
     let whole = ap (map strip_carriage_return) (sym all) ∙ sym (taken_lines-now yielded) in
-    sym (script_of_lines-pieces text) ∙ ap script_of_lines whole ∙ ap (script_of_commands (names_of lines)) h.said ∙ ap (λ n. Ok (contents n r.script.commands)) (sym h.names)
+    sym (script_of_lines-pieces text) ∙ ap script_of_lines whole ∙ ap (script_of_commands (names_of lines) (filters_of lines)) h.said ∙ ap (λ n. Ok (contents n (filters_of lines) r.script.commands)) (sym h.names) ∙ ap (λ f. Ok (contents r.script.names f r.script.commands)) (sym h.filters)
 
 -- where memory is refused, no fault came before
 pub wants-turn : (text : List ℕ) (yielded : List (Bor (List ℕ))) (piece line : List ℕ) (r : Reader) (refusal : Refusal) (number : ℕ) → length text ≤ max_text_bytes → IsUtf8 text → HasTaken (taken_lines yielded) r
@@ -77,7 +77,7 @@ pub wants-turn : (text : List ℕ) (yielded : List (Bor (List ℕ))) (piece line
     → line ≡ strip_carriage_return piece → (refusal ≡ Memory → length line ≤ max_line_bytes) → ◌≡◌ {A = Result Contents ScriptFault} (Err (fault_at number refusal)) (Err NoMemory) → MayWantMemory text
 wants-turn text yielded piece line r (Fault f) number small utf8 h front within item end short e = cc
 wants-turn text yielded piece line r Memory number small utf8 h front within item end short e =
-    let read : script_of_lines (taken_lines yielded) ≡ Ok (contents (names_of (taken_lines yielded)) r.script.commands) = ap (script_of_commands (names_of (taken_lines yielded))) h.said in
+    let read : script_of_lines (taken_lines yielded) ≡ Ok (contents (names_of (taken_lines yielded)) (filters_of (taken_lines yielded)) r.script.commands) = ap (script_of_commands (names_of (taken_lines yielded)) (filters_of (taken_lines yielded))) h.said in
     record {
       small = small;
       utf8 = is_utf8-from_IsUtf8 text utf8;

@@ -5,19 +5,21 @@ use Rattle.std.specs.Fmt.{digits}
 use lib.Utf8.{encode}
 use Rattle.jiff_core.specs.Calendar.{days_from_civil, day_count, days_of_years, days_of_months}
 use Rattle.unicode_normalization.proofs.Computing.{unicode_normalization}
+use Rattle.photo_filter_text.specs.Steps.{symbol_of, at_factor, after_term, after_factor}
+use Rattle.photo_filter_rules.specs.Filters.{filter_of}
 use Rattle.photo_record.specs.Calendar.{date_of, years_off, months_off}
 use Rattle.photo_record.specs.Reading.{day_of_text, words_of_text, word_of_text}
-use Rattle.photo_script.specs.Saying.{said, fields_said, device_line_said, declaration_said, new_line_said, creation_said, command_said, device_said, new_picture_said, record_said, list_line_said}
+use Rattle.photo_script.specs.Saying.{said, fields_said, device_line_said, filter_said, declaration_said, new_line_said, creation_said, command_said, device_said, new_picture_said, record_said, list_line_said}
 use Rattle.photo_script.specs.Reading.{script_of}
 use Rattle.photo_script.specs.Reports.{text_of}
-use Rattle.photo_script.specs.Examples.{FirstRun, SingleFaults, TwoFaults, LinesAndFields}
+use Rattle.photo_script.specs.Examples.{FirstRun, SingleFaults, TwoFaults, LinesAndFields, Filters}
 
 pub first_run : FirstRun
-unfolding chars is_utf8 digits encode days_from_civil day_count days_of_years days_of_months unicode_normalization date_of years_off months_off day_of_text words_of_text word_of_text said fields_said device_line_said declaration_said new_line_said creation_said command_said device_said new_picture_said record_said list_line_said script_of text_of
+unfolding chars is_utf8 digits encode days_from_civil day_count days_of_years days_of_months unicode_normalization date_of years_off months_off day_of_text words_of_text word_of_text said fields_said device_line_said filter_said symbol_of at_factor after_term after_factor filter_of declaration_said new_line_said creation_said command_said device_said new_picture_said record_said list_line_said script_of text_of
 first_run = record { script = refl; made = refl; listed = refl }
 
 pub single_faults : SingleFaults
-unfolding chars is_utf8 encode days_from_civil day_count days_of_years days_of_months unicode_normalization day_of_text words_of_text word_of_text said fields_said device_line_said declaration_said new_line_said creation_said command_said device_said new_picture_said record_said list_line_said script_of
+unfolding chars is_utf8 encode days_from_civil day_count days_of_years days_of_months unicode_normalization day_of_text words_of_text word_of_text said fields_said device_line_said filter_said symbol_of at_factor after_term after_factor filter_of declaration_said new_line_said creation_said command_said device_said new_picture_said record_said list_line_said script_of
 single_faults = record {
   empty = refl;
   not_utf8 = refl;
@@ -36,9 +38,13 @@ single_faults = record {
 }
 
 pub two_faults : TwoFaults
-unfolding chars is_utf8 encode days_from_civil day_count days_of_years days_of_months unicode_normalization day_of_text words_of_text word_of_text said fields_said device_line_said declaration_said new_line_said creation_said command_said device_said new_picture_said record_said list_line_said script_of
+unfolding chars is_utf8 encode days_from_civil day_count days_of_years days_of_months unicode_normalization day_of_text words_of_text word_of_text said fields_said device_line_said filter_said symbol_of at_factor after_term after_factor filter_of declaration_said new_line_said creation_said command_said device_said new_picture_said record_said list_line_said script_of
 two_faults = record { late = refl; device = refl; repeated = refl; line = refl }
 
 pub lines_and_fields : LinesAndFields
-unfolding chars is_utf8 encode days_from_civil day_count days_of_years days_of_months unicode_normalization day_of_text words_of_text word_of_text said fields_said device_line_said declaration_said new_line_said creation_said command_said device_said new_picture_said record_said list_line_said script_of
+unfolding chars is_utf8 encode days_from_civil day_count days_of_years days_of_months unicode_normalization day_of_text words_of_text word_of_text said fields_said device_line_said filter_said symbol_of at_factor after_term after_factor filter_of declaration_said new_line_said creation_said command_said device_said new_picture_said record_said list_line_said script_of
 lines_and_fields = record { returns = refl; two_returns = refl; spaces = refl; tab = refl }
+
+pub filters : Filters
+unfolding chars is_utf8 encode days_from_civil day_count days_of_years days_of_months unicode_normalization day_of_text words_of_text word_of_text said fields_said device_line_said filter_said symbol_of at_factor after_term after_factor filter_of declaration_said new_line_said creation_said command_said device_said new_picture_said record_said list_line_said script_of
+filters = record { rating = refl; brackets = refl; two = refl; more = refl; bracket = refl; name = refl; repeated = refl }

@@ -1,8 +1,10 @@
 -- What the earlier lines of a script tell about a line: the names that they declare, the pictures that they make,
 -- and how many commands they are. Each is said of the lines themselves; where one of them has a fault it doesn't matter.
-use Rattle.std.specs.Prelude.{ℕ, Bool, false, not, ◌&&◌, ◌==◌, if◌then◌else◌, List, [], ◌∷◌, codes, count_by}
+use Rattle.std.specs.Prelude.{ℕ, Bool, false, not, ◌&&◌, ◌==◌, if◌then◌else◌, List, [], ◌∷◌, codes, count_by, option_to_list}
 use Rattle.std.specs.List.{flat_map, list_any}
-use Rattle.photo_script.specs.Lines.{fields_of}
+use Rattle.photo_filter_text.specs.Tree.{Tree}
+use Rattle.photo_filter_rules.specs.Filters.{filter_of}
+use Rattle.photo_script.specs.Lines.{fields_of, third_field_on}
 use Rattle.photo_script.specs.Fields.{is_word, number_of}
 
 -- a field that a comment begins with
@@ -15,6 +17,11 @@ abbrev pub declared_by : List (List ℕ) → List (List ℕ)
 declared_by [] = []
 declared_by (word ∷ []) = []
 declared_by (word ∷ name ∷ more) = if is_word word (codes "device") then name ∷ [] else []
+
+-- the filter that it declares, by the text from its third field on
+abbrev pub filter_declared_by : List (List ℕ) → List ℕ → List Tree
+filter_declared_by [] text = []
+filter_declared_by (word ∷ more) text = if is_word word (codes "device") then option_to_list (filter_of text) else []
 
 -- the picture that it makes
 abbrev pub made_by : List (List ℕ) → List ℕ
@@ -30,6 +37,9 @@ is_command (word ∷ more) = not (is_comment word) && not (is_word word (codes "
 
 abbrev pub names_of : List (List ℕ) → List (List ℕ)
 names_of lines = flat_map (λ line. declared_by (fields_of line)) lines
+
+abbrev pub filters_of : List (List ℕ) → List Tree
+filters_of lines = flat_map (λ line. filter_declared_by (fields_of line) (third_field_on line)) lines
 
 abbrev pub pictures_of : List (List ℕ) → List ℕ
 pictures_of lines = flat_map (λ line. made_by (fields_of line)) lines

@@ -2,6 +2,8 @@
 use Rattle.std.specs.Prelude.{◌≡◌, pos, [], ◌∷◌, Ok, Err, codes}
 use Rattle.photo_record.specs.declared.record.Record.{Record}
 use Rattle.photo_record.specs.declared.record.Record.TheVariants as content
+use Rattle.photo_filter_text.specs.declared.tree.Cmp.TheVariants.{AtLeast}
+use Rattle.photo_filter_text.specs.Tree.{All, Rate, Not, Keyword, Both}
 use Rattle.photo_device.specs.Entry.{Entry}
 use Rattle.photo_device.specs.Version.{version}
 use Rattle.photo_device.specs.declared.place.Place.TheVariants as place
@@ -18,7 +20,7 @@ beach = content.Picture 5 (pos 19_844) (codes "beach" ∷ codes "sun" ∷ [])
 
 -- a camera that makes it, and lists what it holds
 abbrev pub camera : Contents
-camera = contents (codes "cam" ∷ []) (command.New 0 7 beach ∷ command.List 0 ∷ [])
+camera = contents (codes "cam" ∷ []) (All ∷ []) (command.New 0 7 beach ∷ command.List 0 ∷ [])
 
 abbrev pub beach_entry : Entry
 beach_entry = record { picture = 7; version = version 0 1; content = beach }
@@ -29,7 +31,7 @@ pub record FirstRun : Type 0 where
   pub listed : text_of camera 2 (Listed 0 (beach_entry ∷ []) []) ≡ codes "2 list cam store 1 out 0\n  store 7 cam:1 rating 5 day 2024-05-01 words beach,sun\n"
 
 pub record SingleFaults : Type 0 where
-  pub empty : script_of [] ≡ Ok (contents [] [])
+  pub empty : script_of [] ≡ Ok (contents [] [] [])
   pub not_utf8 : script_of (0xff ∷ []) ≡ Err NotUtf8
   pub command : script_of (codes "frob") ≡ Err (Line 1 fault.UnknownCommand)
   pub fields : script_of (codes "device a all\nnew a 7") ≡ Err (Line 2 fault.WrongFields)
@@ -53,7 +55,17 @@ pub record TwoFaults : Type 0 where
 
 -- where lines end and what separates fields
 pub record LinesAndFields : Type 0 where
-  pub returns : script_of (codes "device a all\r\nlist a\r") ≡ Ok (contents (codes "a" ∷ []) (command.List 0 ∷ []))
+  pub returns : script_of (codes "device a all\r\nlist a\r") ≡ Ok (contents (codes "a" ∷ []) (All ∷ []) (command.List 0 ∷ []))
   pub two_returns : script_of (codes "device a all\nlist a\r\r\n") ≡ Err (Line 2 fault.UnknownDevice)
-  pub spaces : script_of (codes "\n  device   a  all  \n# list b\n   list a") ≡ Ok (contents (codes "a" ∷ []) (command.List 0 ∷ []))
+  pub spaces : script_of (codes "\n  device   a  all  \n# list b\n   list a") ≡ Ok (contents (codes "a" ∷ []) (All ∷ []) (command.List 0 ∷ []))
   pub tab : script_of (codes "device\ta all") ≡ Err (Line 1 fault.UnknownCommand)
+
+-- a filter is the text of its line from the third field on
+pub record Filters : Type 0 where
+  pub rating : script_of (codes "device frame rating >= 4") ≡ Ok (contents (codes "frame" ∷ []) (Rate AtLeast 4 ∷ []) [])
+  pub brackets : script_of (codes " device  a  not(keyword x)and all ") ≡ Ok (contents (codes "a" ∷ []) (Both (Not (Keyword (codes "x"))) All ∷ []) [])
+  pub two : script_of (codes "device a all\ndevice b rating >= 4\nlist b") ≡ Ok (contents (codes "a" ∷ codes "b" ∷ []) (All ∷ Rate AtLeast 4 ∷ []) (command.List 1 ∷ []))
+  pub more : script_of (codes "device a all all") ≡ Err (Line 1 fault.BadFilter)
+  pub bracket : script_of (codes "device a (") ≡ Err (Line 1 fault.BadFilter)
+  pub name : script_of (codes "device A rating >= 6") ≡ Err (Line 1 fault.BadName)
+  pub repeated : script_of (codes "device a all\ndevice a rating >= 6") ≡ Err (Line 2 fault.RepeatedDevice)

@@ -1,5 +1,5 @@
 -- What single fields denote.
-use Rattle.std.specs.Prelude.{ℕ, ◌-◌, Bool, false, not, ◌&&◌, ◌||◌, nat_le, nat_lt, ◌==◌, if◌then◌else◌, List, [], ◌∷◌, length, Option, Some, None, codes, position}
+use Rattle.std.specs.Prelude.{ℕ, ◌-◌, Bool, false, not, ◌&&◌, ◌||◌, nat_le, nat_lt, ◌==◌, if◌then◌else◌, List, [], ◌∷◌, length, Option, Some, None, position}
 use Rattle.std.specs.List.{list_all}
 use Rattle.std.specs.Char.{is_ascii_lowercase, is_ascii_digit}
 use Rattle.std.specs.Str.{bytes_eq, all_ascii_digits}
@@ -9,12 +9,6 @@ use Rattle.photo_script.specs.Limits.{max_name_characters}
 
 abbrev pub is_word : List ℕ → List ℕ → Bool
 is_word field word = bytes_eq field word
-
--- a filter is the one field `all`
-abbrev pub is_filter : List (List ℕ) → Bool
-is_filter [] = false
-is_filter (field ∷ []) = is_word field (codes "all")
-is_filter (field ∷ next ∷ more) = false
 
 -- a letter from a to z, or a digit
 abbrev pub is_name_character : ℕ → Bool

@@ -1,5 +1,6 @@
 pub mod Limits
 pub mod Contents
+pub mod Coding
 pub mod Lines
 pub mod Fields
 pub mod Earlier

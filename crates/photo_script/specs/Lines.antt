@@ -1,6 +1,6 @@
 -- The lines of a text and the fields of a line.
 use Rattle.std.specs.Prelude.{ℕ, Bool, not, List, [], ◌∷◌, length, map, filter, ◌==◌, if◌then◌else◌}
-use Rattle.std.specs.List.{slice_split}
+use Rattle.std.specs.List.{slice_split, after_first}
 use Rattle.std.specs.Str.Lines.{strip_carriage_return}
 
 -- a text that ends with LF has no further line after it
@@ -23,3 +23,16 @@ is_not_empty piece = not (length piece == 0)
 -- the fields of a line are cut at runs of spaces
 abbrev pub fields_of : List ℕ → List (List ℕ)
 fields_of line = filter is_not_empty (slice_split (λ b. b == 32) line)
+
+-- a text without the spaces at its front
+abbrev pub without_spaces : List ℕ → List ℕ
+without_spaces [] = []
+without_spaces (b ∷ bs) = if b == 32 then without_spaces bs else b ∷ bs
+
+-- a text without its first field
+abbrev pub behind_field : List ℕ → List ℕ
+behind_field text = after_first (λ b. b == 32) (without_spaces text)
+
+-- the text of a line from its third field on
+abbrev pub third_field_on : List ℕ → List ℕ
+third_field_on line = without_spaces (behind_field (behind_field line))

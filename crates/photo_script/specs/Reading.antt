@@ -4,7 +4,8 @@ use Rattle.std.specs.Str.{is_utf8}
 use Rattle.std.specs.Str.Lines.{strip_carriage_return}
 use Rattle.photo_script.specs.Limits.{max_text_bytes, max_line_bytes}
 use Rattle.photo_script.specs.Lines.{pieces_of, lines_of}
-use Rattle.photo_script.specs.Earlier.{earlier, names_of}
+use Rattle.photo_filter_text.specs.Tree.{Tree}
+use Rattle.photo_script.specs.Earlier.{earlier, names_of, filters_of}
 use Rattle.photo_script.specs.Saying.{said}
 use Rattle.photo_script.specs.Contents.{Contents, contents}
 use Rattle.photo_script.specs.declared.command.Command.{Command}
@@ -28,12 +29,12 @@ commands_said number [] = Ok []
 commands_said number (Ok x ∷ more) = with_front (option_to_list x) (commands_said (number + 1) more)
 commands_said number (Err e ∷ more) = Err (Line number e)
 
-abbrev pub script_of_commands : List (List ℕ) → Result (List Command) ScriptFault → Result Contents ScriptFault
-script_of_commands names (Ok commands) = Ok (contents names commands)
-script_of_commands names (Err e) = Err e
+abbrev pub script_of_commands : List (List ℕ) → List Tree → Result (List Command) ScriptFault → Result Contents ScriptFault
+script_of_commands names filters (Ok commands) = Ok (contents names filters commands)
+script_of_commands names filters (Err e) = Err e
 
 abbrev pub script_of_lines : List (List ℕ) → Result Contents ScriptFault
-script_of_lines lines = script_of_commands (names_of lines) (commands_said 1 (sayings [] lines))
+script_of_lines lines = script_of_commands (names_of lines) (filters_of lines) (commands_said 1 (sayings [] lines))
 
 -- the script of a text, or its first fault
 unfoldable pub script_of : List ℕ → Result Contents ScriptFault

@@ -1,5 +1,6 @@
 -- What commands do to devices, and what a run of them gives.
 use Rattle.std.specs.Prelude.{ℕ, ◌+◌, List, [], ◌∷◌, ◌++◌, slice_index_or, slice_set, fold}
+use Rattle.photo_filter_text.specs.Tree.{Tree, All}
 use Rattle.photo_device.specs.Entry.{Entry}
 use Rattle.photo_device.specs.Device.{ModelDevice, opening, made, new_entry, next_version, new_place}
 use Rattle.photo_script.specs.Contents.{Contents, device_of}
@@ -29,7 +30,7 @@ pub record Fleet : Type 0 where
 
 -- the device at a place in order of declaration
 abbrev pub device_at : List ModelDevice → ℕ → ModelDevice
-device_at devices n = slice_index_or devices n (opening n)
+device_at devices n = slice_index_or devices n (opening n All)
 
 abbrev pub step : Fleet → Command → Fleet
 step fleet c =
@@ -40,13 +41,13 @@ step fleet c =
       log = fleet.log ++ after.entries;
     }
 
--- a device for each name, from a number on, none of which has made or holds anything
-abbrev pub opening_from : ℕ → List (List ℕ) → List ModelDevice
+-- a device for each filter, from a number on, none of which has made or holds anything
+abbrev pub opening_from : ℕ → List Tree → List ModelDevice
 opening_from n [] = []
-opening_from n (name ∷ names) = opening n ∷ opening_from (n + 1) names
+opening_from n (filter ∷ filters) = opening n filter ∷ opening_from (n + 1) filters
 
 abbrev pub opening_fleet : Contents → Fleet
-opening_fleet script = record { devices = opening_from 0 script.names; reports = []; log = [] }
+opening_fleet script = record { devices = opening_from 0 script.filters; reports = []; log = [] }
 
 -- the fleet after all commands, in the order of their numbers
 abbrev pub run : Contents → Fleet

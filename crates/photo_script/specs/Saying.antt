@@ -5,8 +5,10 @@ use Rattle.photo_record.specs.declared.record.Record.{Record}
 use Rattle.photo_record.specs.declared.record.Record.TheVariants as content
 use Rattle.photo_record.specs.declared.fault.WordFault.{WordFault}
 use Rattle.photo_script.specs.Limits.{max_line_bytes, max_devices, max_commands}
-use Rattle.photo_script.specs.Lines.{fields_of}
-use Rattle.photo_script.specs.Fields.{is_word, is_filter, is_name, place_of, picture_of, rating_of}
+use Rattle.photo_filter_text.specs.Tree.{Tree}
+use Rattle.photo_filter_rules.specs.Filters.{filter_of}
+use Rattle.photo_script.specs.Lines.{fields_of, third_field_on}
+use Rattle.photo_script.specs.Fields.{is_word, is_name, place_of, picture_of, rating_of}
 use Rattle.photo_script.specs.Earlier.{Earlier, is_comment}
 use Rattle.photo_script.specs.declared.command.Command.{Command}
 use Rattle.photo_script.specs.declared.command.Command.TheVariants as command
@@ -45,23 +47,26 @@ record_said rating date words = do
   set ← or_fault (word_set (words_of_text words)) fault.BadKeyword
   Ok (content.Picture stars day set)
 
--- a name that can be declared, and its filter
-unfoldable pub declaration_said : Earlier → List ℕ → List (List ℕ) → Result (Option Command) LineFault
+-- the filter that a text is
+unfoldable pub filter_said : List ℕ → Result Tree LineFault
+filter_said text = or_fault (filter_of text) fault.BadFilter
+
+-- a name that can be declared, and the text of its filter
+unfoldable pub declaration_said : Earlier → List ℕ → List ℕ → Result (Option Command) LineFault
 declaration_said before name filter =
     if nat_le max_devices (length before.names) then Err fault.TooMany
     else (if not (is_name name) then Err fault.BadName
     else (if is_some (place_of before.names name) then Err fault.RepeatedDevice
-    else (if not (is_filter filter) then Err fault.BadFilter
-    else Ok None)))
+    else (filter_said filter >>= λ tree. Ok None)))
 
--- `device NAME FILTER`: what stands behind the first field. It comes before all commands
-unfoldable pub device_line_said : Earlier → List (List ℕ) → Result (Option Command) LineFault
-device_line_said before arguments = if nat_lt 0 before.commands then Err fault.LateDevice else by_cases arguments
+-- `device NAME FILTER`: what stands behind the first field, and the text of FILTER. It comes before all commands
+unfoldable pub device_line_said : Earlier → List (List ℕ) → List ℕ → Result (Option Command) LineFault
+device_line_said before arguments filter = if nat_lt 0 before.commands then Err fault.LateDevice else by_cases arguments
   where
     by_cases : List (List ℕ) → Result (Option Command) LineFault
     by_cases [] = Err fault.WrongFields
     by_cases (name ∷ []) = Err fault.WrongFields
-    by_cases (name ∷ first ∷ more) = declaration_said before name (first ∷ more)
+    by_cases (name ∷ first ∷ more) = declaration_said before name filter
 
 -- one command more
 unfoldable pub command_said : Earlier → Result Command LineFault → Result (Option Command) LineFault
@@ -84,15 +89,15 @@ unfoldable pub list_line_said : Earlier → List (List ℕ) → Result (Option C
 list_line_said before (name ∷ []) = command_said before (device_said before name >>= λ device. Ok (command.List device))
 list_line_said before arguments = Err fault.WrongFields
 
--- a line of these fields: empty lines and comments say nothing
-unfoldable pub fields_said : Earlier → List (List ℕ) → Result (Option Command) LineFault
-fields_said before [] = Ok None
-fields_said before (word ∷ arguments) =
+-- a line of these fields, and its text from the third on: empty lines and comments say nothing
+unfoldable pub fields_said : Earlier → List (List ℕ) → List ℕ → Result (Option Command) LineFault
+fields_said before [] filter = Ok None
+fields_said before (word ∷ arguments) filter =
     if is_comment word then Ok None
-    else (if is_word word (codes "device") then device_line_said before arguments
+    else (if is_word word (codes "device") then device_line_said before arguments filter
     else (if is_word word (codes "new") then new_line_said before arguments
     else (if is_word word (codes "list") then list_line_said before arguments
     else Err fault.UnknownCommand)))
 
 unfoldable pub said : Earlier → List ℕ → Result (Option Command) LineFault
-said before line = if nat_lt max_line_bytes (length line) then Err fault.LineTooLong else fields_said before (fields_of line)
+said before line = if nat_lt max_line_bytes (length line) then Err fault.LineTooLong else fields_said before (fields_of line) (third_field_on line)

@@ -4,7 +4,7 @@ use Rattle.std.specs.Borrow.{Bor}
 use Rattle.std.specs.BTreeSet.{contains}
 use Rattle.std.specs.List.{list_any}
 use Rattle.std.specs.Ordering.{nat_cmp}
-use Rattle.photo_script.specs.Earlier.{Earlier, declared_by, made_by, is_command}
+use Rattle.photo_script.specs.Earlier.{Earlier, declared_by, filter_declared_by, made_by, is_command}
 use Rattle.photo_script.specs.declared.command.Command.{Command}
 use Rattle.photo_script.specs.declared.reader.Reader.{Reader}
 use Rattle.photo_script.specs.declared.fault.LineFault.{LineFault}
@@ -31,17 +31,18 @@ Gives view (Err e) said = Refuses e said
 abbrev pub seen : Reader → Earlier
 seen r = record { names = r.script.names; makes = λ p. contains nat_cmp r.pictures p; commands = length r.script.commands }
 
--- a reader has taken one line more, of these fields, which says that command
-pub record Takes (old : Reader) (fields : List (List ℕ)) (said : Option Command) (new : Reader) : Type 0 where
+-- a reader has taken one line more, of these fields and this text from the third on, which says that command
+pub record Takes (old : Reader) (fields : List (List ℕ)) (filter : List ℕ) (said : Option Command) (new : Reader) : Type 0 where
   pub names : new.script.names ≡ old.script.names ++ declared_by fields
+  pub filters : new.script.filters ≡ old.script.filters ++ filter_declared_by fields filter
   pub commands : new.script.commands ≡ old.script.commands ++ option_to_list said
   pub makes : (p : ℕ) → contains nat_cmp new.pictures p ≡ (contains nat_cmp old.pictures p || list_any (λ q. q == p) (made_by fields))
   pub counted : length (option_to_list said) ≡ (if is_command fields then 1 else 0)
 
 -- a reader has taken the line, or it is refused as it is said
-abbrev pub Reads : Reader → List (List ℕ) → Result (Option Command) LineFault → Result (Unit {0}) Refusal → Reader → Type 0
-Reads old fields said (Ok done) new = (x : Option Command) × (said ≡ Ok x) × Takes old fields x new
-Reads old fields said (Err e) new = Refuses e said
+abbrev pub Reads : Reader → List (List ℕ) → List ℕ → Result (Option Command) LineFault → Result (Unit {0}) Refusal → Reader → Type 0
+Reads old fields filter said (Ok done) new = (x : Option Command) × (said ≡ Ok x) × Takes old fields filter x new
+Reads old fields filter said (Err e) new = Refuses e said
 
 abbrev pub texts : List (Bor (List ℕ)) → List (List ℕ)
 texts fields = map (λ f. f.now) fields

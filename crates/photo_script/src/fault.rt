@@ -56,7 +56,7 @@ pub enum LineFault {
     /// The words are no set of words.
     #[error("F14 BadKeyword")]
     BadKeyword,
-    /// The filter is not `all`.
+    /// The text from the third field on is no filter, or one that is too wide.
     #[error("F15 BadFilter")]
     BadFilter,
     /// An earlier line makes a picture of this number.

@@ -1,9 +1,14 @@
 ghost use Rattle.std.specs.Prelude.{◌≡◌, map, IfOk};
-ghost use Rattle.photo_script.specs.Lines.{fields_of};
-ghost use Rattle.photo_script.specs.Fields.{is_filter, is_name, picture_of, rating_of};
-ghost use Rattle.photo_script.specs.Steps.{texts};
+ghost use Rattle.photo_script.specs.Lines.{fields_of, without_spaces, behind_field, third_field_on};
+ghost use Rattle.photo_script.specs.Fields.{is_name, picture_of, rating_of};
+ghost use Rattle.photo_script.specs.Saying.{filter_said};
+ghost use Rattle.photo_script.specs.Steps.{Gives};
 
+use crate::LineFault;
 use crate::limits::MAX_NAME_CHARACTERS;
+use crate::refusal::Refusal;
+use photo_filter_rules::{BuildFault, Filter};
+use photo_filter_text::FilterFault;
 use photo_record::{PicNo, Rating};
 use std::alloc::{AllocError, Global};
 
@@ -14,6 +19,33 @@ pub fn fields_of(alloc: Global, line: &str) -> Result<Vec<&str>, AllocError>
     line.split(' ')
         .filter(|piece| !piece.is_empty())
         .collect(alloc)
+}
+
+/// The text of a line from its third field on.
+pub fn third_field_on(line: &str) -> &str
+    ensures { result.now ≡ third_field_on line.now }
+{
+    without_spaces(behind_field(behind_field(line)))
+}
+
+// A text without its first field.
+fn behind_field(text: &str) -> &str
+    ensures { result.now ≡ behind_field text.now }
+{
+    match without_spaces(text).split_once(' ') {
+        Some((_, rest)) => rest,
+        None => "",
+    }
+}
+
+fn without_spaces(text: &str) -> &str
+    ensures { result.now ≡ without_spaces text.now }
+{
+    let mut rest = text;
+    while let Some(more) = rest.strip_prefix(' ') {
+        rest = more;
+    }
+    rest
 }
 
 /// Whether a device may have that name.
@@ -52,12 +84,19 @@ pub fn rating_of(text: &str) -> Option<Rating>
     }
 }
 
-/// Whether the fields of a filter are the one field `all`.
-pub fn is_filter(filter: &[&str]) -> bool
-    ensures { result ≡ is_filter (texts filter.now) }
+/// The filter that a text is.
+#[tactic(auto, unfolding(crate::specs::Saying::filter_said))]
+pub fn filter_of(alloc: Global, text: &str) -> Result<Filter, Refusal>
+    ensures { Gives (λ f. f) result (filter_said text.now) }
 {
-    let [field] = filter else {
-        return false;
+    let tree = match photo_filter_text::read(alloc, text) {
+        Ok(tree) => tree,
+        Err(FilterFault::NoMemory) => return Err(Refusal::Memory),
+        Err(_) => return Err(Refusal::Fault(LineFault::BadFilter)),
     };
-    *field == "all"
+    match Filter::build(alloc, tree) {
+        Ok(filter) => Ok(filter),
+        Err((_, BuildFault::NoMemory)) => Err(Refusal::Memory),
+        Err((_, BuildFault::TooWide)) => Err(Refusal::Fault(LineFault::BadFilter)),
+    }
 }

@@ -1,11 +1,12 @@
 //! Laws of the definitions. Each function's contract is a law, and its body does nothing.
-ghost use Rattle.photo_script.specs.Examples.{FirstRun, SingleFaults, TwoFaults, LinesAndFields};
+ghost use Rattle.photo_script.specs.Examples.{FirstRun, SingleFaults, TwoFaults, LinesAndFields, Filters};
 
 /// The definitions at some texts: a camera that makes a picture and lists it, with the texts of its reports; scripts
-/// of one fault each and of two; ends of lines and spaces.
+/// of one fault each and of two; ends of lines and spaces; filters.
 pub fn examples()
     ensures first_run { FirstRun }
     ensures single_faults { SingleFaults }
     ensures two_faults { TwoFaults }
     ensures lines_and_fields { LinesAndFields }
+    ensures filters { Filters }
 {}

@@ -1,5 +1,5 @@
-ghost use Rattle.std.specs.Prelude.{◌≡◌, ◌≢◌, ◌∷◌, ◌<◌, ◌≤◌, length, codes, Ok, Err, IfOk, IfErr};
-ghost use Rattle.photo_script.specs.Lines.{fields_of, lines_of};
+ghost use Rattle.std.specs.Prelude.{◌≡◌, ◌≢◌, ℕ, List, [], ◌∷◌, ◌<◌, ◌≤◌, length, codes, Ok, Err, IfOk, IfErr};
+ghost use Rattle.photo_script.specs.Lines.{fields_of, lines_of, third_field_on};
 ghost use Rattle.photo_script.specs.Limits.{max_text_bytes, max_line_bytes};
 ghost use Rattle.std.specs.Str.Lines.{strip_carriage_return};
 ghost use Rattle.photo_script.specs.Steps.{Gives};
@@ -7,7 +7,7 @@ ghost use Rattle.photo_script.specs.Saying.{device_said, new_picture_said, recor
 ghost use Rattle.photo_script.specs.Reading.{script_of, script_of_lines, MayWantMemory};
 ghost use Rattle.photo_script.specs.declared.fault.ScriptFault.TheVariants.{NoMemory, Read};
 
-use crate::field::{fields_of, is_filter, is_name, picture_of, rating_of};
+use crate::field::{fields_of, filter_of, is_name, picture_of, rating_of, third_field_on};
 use crate::limits::{MAX_COMMANDS, MAX_DEVICES, MAX_LINE_BYTES, MAX_TEXT_BYTES};
 use crate::refusal::Refusal;
 use crate::{Command, LineFault, Script, ScriptFault};
@@ -79,19 +79,19 @@ impl Reader {
 
     #[tactic(auto, unfolding(crate::specs::Saying::said))]
     fn read_line(&mut self, line: &str) -> Result<(), Refusal>
-        ensures reads { Reads self.old (fields_of line.now) (said (seen self.old) line.now) result self.new }
+        ensures reads { Reads self.old (fields_of line.now) (third_field_on line.now) (said (seen self.old) line.now) result self.new }
         ensures memory { result ≡ Err Memory → length line.now ≤ max_line_bytes }
     {
         if line.len() > MAX_LINE_BYTES {
             return Err(Refusal::Fault(LineFault::LineTooLong));
         }
         let fields = fields_of(self.alloc, line)?;
-        self.read_fields(fields.as_slice())
+        self.read_fields(line, fields.as_slice())
     }
 
     #[tactic(auto, unfolding(crate::specs::Saying::fields_said))]
-    fn read_fields(&mut self, fields: &[&str]) -> Result<(), Refusal>
-        ensures { Reads self.old (texts fields.now) (fields_said (seen self.old) (texts fields.now)) result self.new }
+    fn read_fields(&mut self, line: &str, fields: &[&str]) -> Result<(), Refusal>
+        ensures { Reads self.old (texts fields.now) (third_field_on line.now) (fields_said (seen self.old) (texts fields.now) (third_field_on line.now)) result self.new }
     {
         let Some((word, arguments)) = fields.split_first() else {
             return Ok(());
@@ -100,7 +100,7 @@ impl Reader {
             return Ok(());
         }
         match *word {
-            "device" => self.read_device(arguments),
+            "device" => self.read_device(arguments, third_field_on(line)),
             "new" => self.read_new(arguments),
             "list" => self.read_list(arguments),
             _ => Err(Refusal::Fault(LineFault::UnknownCommand)),
@@ -109,24 +109,24 @@ impl Reader {
 
     // `device NAME FILTER`
     #[tactic(auto, unfolding(crate::specs::Saying::device_line_said))]
-    fn read_device(&mut self, arguments: &[&str]) -> Result<(), Refusal>
-        ensures { Reads self.old (codes "device" ∷ texts arguments.now) (device_line_said (seen self.old) (texts arguments.now)) result self.new }
+    fn read_device(&mut self, arguments: &[&str], filter: &str) -> Result<(), Refusal>
+        ensures { Reads self.old (codes "device" ∷ texts arguments.now) filter.now (device_line_said (seen self.old) (texts arguments.now) filter.now) result self.new }
     {
         if self.script.commands() > 0 {
             return Err(Refusal::Fault(LineFault::LateDevice));
         }
-        let Some((name, filter)) = arguments.split_first() else {
+        let Some((name, others)) = arguments.split_first() else {
             return Err(Refusal::Fault(LineFault::WrongFields));
         };
-        if filter.is_empty() {
+        if others.is_empty() {
             return Err(Refusal::Fault(LineFault::WrongFields));
         }
         self.declare(name, filter)
     }
 
     #[tactic(auto, unfolding(crate::specs::Saying::declaration_said))]
-    fn declare(&mut self, name: &str, filter: &[&str]) -> Result<(), Refusal>
-        ensures { Reads self.old (codes "device" ∷ name.now ∷ texts filter.now) (declaration_said (seen self.old) name.now (texts filter.now)) result self.new }
+    fn declare(&mut self, name: &str, filter: &str) -> Result<(), Refusal>
+        ensures { (more : List (List ℕ)) → Reads self.old (codes "device" ∷ name.now ∷ more) filter.now (declaration_said (seen self.old) name.now filter.now) result self.new }
     {
         if self.script.devices() >= MAX_DEVICES {
             return Err(Refusal::Fault(LineFault::TooMany));
@@ -137,17 +137,15 @@ impl Reader {
         if self.script.place(name).is_some() {
             return Err(Refusal::Fault(LineFault::RepeatedDevice));
         }
-        if !is_filter(filter) {
-            return Err(Refusal::Fault(LineFault::BadFilter));
-        }
-        self.script.declare(name)?;
+        let filter = filter_of(self.alloc, filter)?;
+        self.script.declare(name, filter)?;
         Ok(())
     }
 
     // `new DEV PIC RATING DATE WORDS`
     #[tactic(auto, unfolding(crate::specs::Saying::new_line_said, crate::specs::Saying::command_said, crate::specs::Saying::creation_said))]
     fn read_new(&mut self, arguments: &[&str]) -> Result<(), Refusal>
-        ensures { Reads self.old (codes "new" ∷ texts arguments.now) (new_line_said (seen self.old) (texts arguments.now)) result self.new }
+        ensures { Reads self.old (codes "new" ∷ texts arguments.now) [] (new_line_said (seen self.old) (texts arguments.now)) result self.new }
     {
         let [name, picture, rating, date, words] = arguments else {
             return Err(Refusal::Fault(LineFault::WrongFields));
@@ -170,7 +168,7 @@ impl Reader {
     // `list DEV`
     #[tactic(auto, unfolding(crate::specs::Saying::list_line_said, crate::specs::Saying::command_said))]
     fn read_list(&mut self, arguments: &[&str]) -> Result<(), Refusal>
-        ensures { Reads self.old (codes "list" ∷ texts arguments.now) (list_line_said (seen self.old) (texts arguments.now)) result self.new }
+        ensures { Reads self.old (codes "list" ∷ texts arguments.now) [] (list_line_said (seen self.old) (texts arguments.now)) result self.new }
     {
         let [name] = arguments else {
             return Err(Refusal::Fault(LineFault::WrongFields));

@@ -4,24 +4,29 @@ ghost use Rattle.photo_script.specs.Fields.{place_of};
 
 use crate::Command;
 use crate::names::Names;
+use photo_filter_rules::Filter;
 use std::alloc::{AllocError, Global};
 use std::marker::Model;
 
-/// A script: the names of its devices and its commands. Contracts see both lists.
+/// A script: the names of its devices, their filters and its commands. Contracts see these lists.
 #[derive(Debug, Drop)]
 pub struct Script {
     names: Names,
+    filters: Vec<Filter>,
     commands: Vec<Command>,
 }
 
 impl Model for Script {
     ghost use Rattle.photo_script.specs.Contents.{Contents, contents, IsScript};
+    ghost use Rattle.photo_script.specs.Coding.{contents_code};
 
     ghost Value = { Contents };
 
-    ghost view = { λ s. contents s.names s.commands.items };
+    ghost coded = { contents_code };
 
-    ghost invariant = { λ s. IsScript (contents s.names s.commands.items) };
+    ghost view = { λ s. contents s.names s.filters.items s.commands.items };
+
+    ghost invariant = { λ s. IsScript (contents s.names s.filters.items s.commands.items) };
 }
 
 impl Script {
@@ -29,10 +34,11 @@ impl Script {
 
     /// A script with no devices and no commands.
     pub(crate) fn new(alloc: Global) -> Script
-        ensures { result ≡ contents [] [] }
+        ensures { result ≡ contents [] [] [] }
     {
         Script {
             names: Names::new(alloc),
+            filters: Vec::new(alloc),
             commands: Vec::new(alloc),
         }
     }
@@ -41,6 +47,7 @@ impl Script {
     pub fn devices(&self) -> usize
         ensures count { result ≡ length self.now.names }
         ensures at_most { result ≤ max_devices }
+        ensures filtered { length self.now.filters ≡ length self.now.names }
     {
         self.names.len()
     }
@@ -51,6 +58,14 @@ impl Script {
         ensures { slice_get self.now.names i ≡ Some result.now }
     {
         self.names.get(usize::from(i))
+    }
+
+    /// The filter of the device at place `i` in order of declaration, from 0.
+    pub fn filter(&self, i: u16) -> &Filter
+        requires { i < length self.now.names }
+        ensures { slice_get self.now.filters i ≡ Some result.now }
+    {
+        &self.filters[usize::from(i)]
     }
 
     /// How many commands there are, at most 100,000.
@@ -82,20 +97,25 @@ impl Script {
     }
 
     /// Puts one device more behind the others.
-    pub(crate) fn declare(&mut self, name: &str) -> Result<(), AllocError>
+    pub(crate) fn declare(&mut self, name: &str, filter: Filter) -> Result<(), AllocError>
         requires room { length self.old.names < max_devices }
         requires fresh { place_of self.old.names name.now ≡ None }
-        ensures ok { OnOk result (self.new ≡ contents (self.old.names ++ name.now ∷ []) self.old.commands) }
+        ensures ok { OnOk result (self.new ≡ contents (self.old.names ++ name.now ∷ []) (self.old.filters ++ filter ∷ []) self.old.commands) }
         ensures err { OnErr result (self.new ≡ self.old) }
     {
-        self.names.add(name)
+        self.filters.push(filter)?;
+        if let Err(refused) = self.names.add(name) {
+            self.filters.pop();
+            return Err(refused);
+        }
+        Ok(())
     }
 
     /// Puts one command more behind the others.
     pub(crate) fn push(&mut self, command: Command) -> Result<(), AllocError>
         requires room { length self.old.commands < max_commands }
         requires known { device_of command < length self.old.names }
-        ensures ok { OnOk result (self.new ≡ contents self.old.names (self.old.commands ++ command ∷ [])) }
+        ensures ok { OnOk result (self.new ≡ contents self.old.names self.old.filters (self.old.commands ++ command ∷ [])) }
         ensures err { OnErr result (self.new ≡ self.old) }
     {
         self.commands.push(command)?;

@@ -159,6 +159,115 @@ fn first_of_two_faults(rt: HostRuntime) -> Result<(), Fail> {
 }
 
 #[test]
+fn filters(rt: HostRuntime) -> Result<(), Fail> {
+    for (text, wanted) in [
+        ("device a not(rating = 0 or keyword x)", "read"),
+        ("  device  a   keyword   and and all  ", "read"),
+        ("device a not day >= 0000-01-01", "read"),
+        ("device a all all", "line 1: F15 BadFilter"),
+        ("device a rating >=4", "line 1: F15 BadFilter"),
+        ("device a keyword (", "line 1: F15 BadFilter"),
+        ("device a ( all", "line 1: F15 BadFilter"),
+        ("device a keyword", "line 1: F15 BadFilter"),
+        ("device a keyword a,b", "line 1: F15 BadFilter"),
+        ("device a ALL", "line 1: F15 BadFilter"),
+        ("device a\tall all", "line 1: F7 BadName"),
+        ("device A rating >= 6", "line 1: F7 BadName"),
+        (
+            "device a all\ndevice a rating >= 6",
+            "line 2: F9 RepeatedDevice",
+        ),
+        (
+            "device a all\nlist a\ndevice b rating >= 6",
+            "line 3: F10 LateDevice",
+        ),
+        ("device a rating >= 6\nfrob", "line 1: F15 BadFilter"),
+        (
+            "device a all\ndevice b rating >= 6\nlist c",
+            "line 2: F15 BadFilter",
+        ),
+    ] {
+        expect(&rt, rt.alloc(), text, wanted)?;
+    }
+    Ok(())
+}
+
+#[test]
+fn deep_filters(rt: HostRuntime) -> Result<(), Fail> {
+    let alloc = rt.alloc();
+    for (count, front, end, wanted) in [
+        (31, "not ", "", "read"),
+        (32, "not ", "", "line 1: F15 BadFilter"),
+        (127, "(", ")", "read"),
+        (128, "(", ")", "line 1: F15 BadFilter"),
+    ] {
+        let mut text = String::from_str(alloc, "device a ")?;
+        for _ in 0..count {
+            text.push_str(front)?;
+        }
+        text.push_str("all")?;
+        for _ in 0..count {
+            text.push_str(end)?;
+        }
+        expect(&rt, alloc, text.as_str(), wanted)?;
+    }
+    Ok(())
+}
+
+// Puts a bracket with so many words behind a text, joined by `or`.
+fn push_words(text: &mut String, letter: char, count: usize) -> Result<(), Fail> {
+    text.push('(')?;
+    for i in 0..count {
+        if i > 0 {
+            text.push_str(" or ")?;
+        }
+        write!(text, "keyword {letter}{i}")?;
+    }
+    text.push(')')?;
+    Ok(())
+}
+
+#[test]
+fn wide_filters(rt: HostRuntime) -> Result<(), Fail> {
+    let alloc = rt.alloc();
+    for (left, right, wanted) in [
+        (8, 8, "read"),
+        (5, 13, "line 1: F15 BadFilter"),
+        (13, 5, "line 1: F15 BadFilter"),
+        (16, 4, "read"),
+    ] {
+        let mut text = String::from_str(alloc, "device a ")?;
+        push_words(&mut text, 'x', left)?;
+        text.push_str(" and ")?;
+        push_words(&mut text, 'y', right)?;
+        expect(&rt, alloc, text.as_str(), wanted)?;
+    }
+    Ok(())
+}
+
+#[test]
+fn filters_of_a_script(rt: HostRuntime) -> Result<(), Fail> {
+    let alloc = rt.alloc();
+    let text = "device a all\n device  b  not rating = 3 \r\ndevice c none\nlist b";
+    let script = read_script(alloc, text.as_bytes())?;
+    assert_eq!(&rt; script.devices(), 3);
+    assert_eq!(&rt; script.filter(0).alternatives(), 1);
+    assert_eq!(&rt; script.filter(1).alternatives(), 2);
+    assert_eq!(&rt; script.filter(2).alternatives(), 0);
+    for (rating, wanted) in [(2, true), (3, false), (4, true)] {
+        let record = Record::Picture {
+            rating: Rating::new(rating).expect(&rt, "a rating"),
+            day: Day::read("2024-05-01").expect(&rt, "a day"),
+            words: Words::read(alloc, "-")?,
+        };
+        assert_eq!(&rt; script.filter(0).matches(&record), true);
+        assert_eq!(&rt; script.filter(1).matches(&record), wanted, "at {rating}");
+        assert_eq!(&rt; script.filter(2).matches(&record), false);
+    }
+    Ok(())
+}
+
+#[test]
 fn long_lines(rt: HostRuntime) -> Result<(), Fail> {
     let alloc = rt.alloc();
     for (count, end, wanted) in [

@@ -8,8 +8,8 @@ use Rattle.photo_script.proofs.reader.Reader.read_device.Goals as goal
 pub returns : goal.returns
 returns c =
     let fields = ap texts c.in-Some.ensures.cases.0 in
-    let filter = c.in-Some.filter.now in
-    let full : length filter ≡ 0 → ⊥ = eqb-false (length filter) 0 (sym c.if-is_empty.ensures) in
-    let some : 1 ≤ length (texts filter) = rw (length-texts filter) (omega arith) in
-    let line = device_line-declaration (seen c.args.self.now) c.in-Some.name.now.now (texts filter) (omega arith) some in
-    rw (fields, line) c.declare.ensures
+    let others = c.in-Some.others.now in
+    let full : length others ≡ 0 → ⊥ = eqb-false (length others) 0 (sym c.if-is_empty.ensures) in
+    let some : 1 ≤ length (texts others) = rw (length-texts others) (omega arith) in
+    let line = device_line-declaration (seen c.args.self.now) c.in-Some.name.now.now (texts others) c.args.filter.now (omega arith) some in
+    rw (fields, line) (c.declare.ensures (texts others))
