@@ -5,6 +5,7 @@ pub mod Machine
 pub mod Complete
 pub mod Sound
 pub mod Faults
+pub mod Memory
 pub mod Samples
 pub mod Verdict
 pub mod Dates

@@ -37,7 +37,7 @@ pick t c s r f rest = go (bytes_eq t c) refl
     go true e = f ((bytes_eq-Decides t c).0 e)
     go false e = rest
 
-symbol_spelled : (t : Token) → IsSpelled (symbol_of t) t
+pub symbol_spelled : (t : Token) → IsSpelled (symbol_of t) t
 unfolding symbol_of
 symbol_spelled t =
     pick t (codes "(") Open _ (λ e. e) (pick t (codes ")") Close _ (λ e. e) (pick t (codes "or") OrWord _ (λ e. e)
@@ -78,14 +78,14 @@ abbrev pub OpenAt : List Level → List Token → Type 0
 OpenAt [] ts = ts ≡ []
 OpenAt (l ∷ outer) ts = (us : List Token) × (ls : List Token) × OpenAt outer us × LevelAt l ls × (ts ≡ us ++ (ls ++ codes "(" ∷ []))
 
-expr-from_term : (e : Option Tree) (t : Tree) (ts : List Token) → TermAt e t ts → IsExpr ts (joined Either e t)
+pub expr-from_term : (e : Option Tree) (t : Tree) (ts : List Token) → TermAt e t ts → IsExpr ts (joined Either e t)
 expr-from_term None t ts h = let P : List Token → Type 0 = λ xs. IsExpr xs t in subst P (sym (h.whole ∙ ap (λ o. o ++ h.last) h.or_at)) (term h.is_term)
 expr-from_term (Some a) t ts h =
     let P : List Token → Type 0 = λ xs. IsExpr xs (Either a t) in
     let e : ts ≡ h.or_at.0 ++ codes "or" ∷ h.last = h.whole ∙ ap (λ o. o ++ h.last) h.or_at.2 ∙ append_assoc h.or_at.0 (codes "or" ∷ []) h.last in
     subst P (sym e) (disjunction h.or_at.1 h.is_term)
 
-nots-factor : (n : ℕ) (xs : List Token) (t : Tree) → IsFactor xs t → IsFactor (nots n ++ xs) (negated n t)
+pub nots-factor : (n : ℕ) (xs : List Token) (t : Tree) → IsFactor xs t → IsFactor (nots n ++ xs) (negated n t)
 nots-factor zero xs t f = f
 nots-factor (suc n) xs t f = negation (nots-factor n xs t f)
 
@@ -111,7 +111,7 @@ pub begins-front : (front more : List Token) → Begins (front ++ more) → Begi
 begins-front front more b =
     let P : List Token → Type 0 = λ ys. IsExpr ys b.1 in (more ++ b.0, b.1, subst P (append_assoc front more b.0) b.2)
 
-regroup : (us ys ks ls : List Token) (x y : Token) → us ≡ ys ++ (ks ++ x ∷ []) → ys ++ (ks ++ x ∷ (ls ++ y ∷ [])) ≡ (us ++ ls) ++ y ∷ []
+pub regroup : (us ys ks ls : List Token) (x y : Token) → us ≡ ys ++ (ks ++ x ∷ []) → ys ++ (ks ++ x ∷ (ls ++ y ∷ [])) ≡ (us ++ ls) ++ y ∷ []
 regroup us ys ks ls x y e = rw e (simp append_assoc)
 
 -- a term behind open levels can be gone on with: each bracket can be closed
@@ -151,10 +151,10 @@ unfolding after_factor
 factor-at l outer us ls xs ts t o h f e = (us, ls ++ xs, o, level-factor l ls xs t h f, e, refl)
 
 -- one more token behind two lists
-push-two : (us ls ts : List Token) (x : Token) → ts ≡ us ++ ls → ts ++ x ∷ [] ≡ us ++ (ls ++ x ∷ [])
+pub push-two : (us ls ts : List Token) (x : Token) → ts ≡ us ++ ls → ts ++ x ∷ [] ≡ us ++ (ls ++ x ∷ [])
 push-two us ls ts x e = rw e (append_assoc us ls (x ∷ []))
 
-push-three : (us ls ms ts : List Token) (x : Token) → ts ≡ us ++ (ls ++ ms) → ts ++ x ∷ [] ≡ us ++ (ls ++ (ms ++ x ∷ []))
+pub push-three : (us ls ms ts : List Token) (x : Token) → ts ≡ us ++ (ls ++ ms) → ts ++ x ∷ [] ≡ us ++ (ls ++ (ms ++ x ∷ []))
 push-three us ls ms ts x e = rw e (simp append_assoc)
 
 abbrev pub LeadsTo : Result State Refusal → List Token → Type 0
