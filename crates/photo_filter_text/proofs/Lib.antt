@@ -8,7 +8,6 @@ pub mod Faults
 pub mod Memory
 pub mod Samples
 pub mod Verdict
-pub mod Dates
 pub mod Digits
 pub mod PrintedAgain
 pub mod Worked
