@@ -12,3 +12,4 @@ pub mod Digits
 pub mod PrintedAgain
 pub mod Worked
 pub mod OneFault
+pub mod WantedAt

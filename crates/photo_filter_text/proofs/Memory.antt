@@ -1,5 +1,5 @@
 -- Where reading may ask for memory.
-use Rattle.std.proofs.Common.{◌≡◌, ◌⊎◌, inl, inr, ℕ, suc, zero, ◌+◌, Bool, true, false, not, ◌||◌, ◌&&◌, nat_lt, is_some, List, [], ◌∷◌, ◌++◌, take, drop, Option, Some, None, Result, Ok, refl, sym, ap, subst, ◌∙◌, append_assoc, ℤ, arith}
+use Rattle.std.proofs.Common.{◌≡◌, ◌⊎◌, inl, inr, ℕ, suc, zero, ◌+◌, Bool, true, false, ◌||◌, ◌&&◌, nat_lt, is_some, List, [], ◌∷◌, ◌++◌, take, drop, Option, Some, None, Result, Ok, refl, sym, ap, subst, ◌∙◌, append_assoc, ℤ, arith}
 use Rattle.std.specs.Prelude.{codes}
 use Rattle.std.proofs.lemmas.Bool.{false≢true}
 use Rattle.photo_record.specs.Reading.{day_of_text}
@@ -14,6 +14,7 @@ use Rattle.photo_filter_text.specs.Grammar.{all, none, rating, day, IsFactor, br
 use Rattle.photo_filter_text.specs.Fault.{IsKept, MayWantMemory, at_token, at_word, at_end}
 use Rattle.photo_filter_text.specs.Fault as kept
 use Rattle.photo_filter_text.specs.Steps.{Place, AtFactor, AtOperator, AtValue, AtWord, After, Level, State, start, joined, at_factor, after_term, closed, test_of, step_at, step, finished, symbol_of, run, keeps_factor, keeps_at_factor, keeps_closed, keeps_after_term, keeps_at, keeps, keeps_finished, keeps_at_end}
+use Rattle.photo_filter_text.proofs.Cutting.{not-true}
 use Rattle.photo_filter_text.proofs.Sound.{IsSpelled, symbol_spelled, AndAt, nots, nots-factor, LevelAt, TermAt, OpenAt, PlaceAt, expr-from_term, push-two, push-three, regroup, state-at, read-expr}
 use Rattle.photo_filter_text.proofs.Faults.{run-begins, word-wanted, run-next, NextIs, next-is}
 
@@ -96,16 +97,12 @@ term-takes l outer us ls ts t x o h e DayWord p k = absurd (false≢true k)
 term-takes l outer us ls ts t x o h e KeywordWord p k = absurd (false≢true k)
 term-takes l outer us ls ts t x o h e Other p k = absurd (false≢true k)
 
-not-not : (b : Bool) → not b ≡ true → b ≡ false
-not-not true h = sym h
-not-not false h = refl
-
 place-takes : (p : Place) (l : Level) (outer : List Level) (ts : List Token) (x : Token) → PlaceAt p l outer ts → keeps_at p l outer x ≡ true → ((p ≡ AtWord) × (is_bracket x ≡ false)) ⊎ Takes (step_at p l outer x) (ts ++ x ∷ [])
 place-takes AtFactor l outer ts x h k = inr (factor-takes l outer h.0 h.1 ts x h.3 h.4 (symbol_of x) (symbol_spelled x) k)
 place-takes (AtOperator field) l outer ts x h k = absurd (false≢true k)
 place-takes (AtValue RatingField cmp) l outer ts x h k = inr (rating-takes l outer h.0 h.1 ts h.4 x cmp h.3 h.5 h.6 (rating_of x) refl k)
 place-takes (AtValue DayField cmp) l outer ts x h k = inr (day-takes l outer h.0 h.1 ts h.4 x cmp h.3 h.5 h.6 (day_of_text x) refl k)
-place-takes AtWord l outer ts x h k = inl (refl, not-not (is_bracket x) k)
+place-takes AtWord l outer ts x h k = inl (refl, not-true (is_bracket x) k)
 place-takes (After t) l outer ts x h k = inr (term-takes l outer h.0 h.1 ts t x h.2 h.3 h.4 (symbol_of x) (symbol_spelled x) k)
 
 -- a token where memory may be asked for

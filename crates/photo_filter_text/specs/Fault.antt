@@ -1,5 +1,6 @@
 -- Which tokens are a filter within the limits, and what is the first fault of all others.
-use Rattle.std.specs.Prelude.{◌≡◌, ◌≢◌, ◌⊎◌, ℕ, ◌+◌, ◌<◌, ◌≤◌, false, List, [], ◌∷◌, ◌++◌, length, take, slice_index_or, codes}
+use Rattle.std.specs.Prelude.{◌≡◌, ◌≢◌, ◌⊎◌, ℕ, ◌+◌, ◌<◌, ◌≤◌, Bool, false, ◌||◌, List, [], ◌∷◌, ◌++◌, length, take, slice_index_or, codes}
+use Rattle.std.specs.Str.{bytes_eq}
 use Rattle.photo_filter_text.specs.Tree.{Tree, height}
 use Rattle.photo_filter_text.specs.Tokens.{Token}
 use Rattle.photo_filter_text.specs.Grammar.{IsFactor, IsTerm, IsExpr, is_bracket}
@@ -58,6 +59,12 @@ pub data MayWantMemory (ts : List Token) : Type 0 where
   at_token : (k : ℕ) → Begins (take k ts) → IsKept (take k ts) → MayWantMemory ts
   at_word : (k : ℕ) → k ≤ length ts → IsWordAt ts k → MayWantMemory ts
   at_end : (before : List Token) → {part : List Token} {tree last : Tree} → IsExpr ts tree → ts ≡ before ++ codes "or" ∷ part → IsTerm part last → MayWantMemory ts
+
+-- without one of these tokens nothing is kept
+abbrev pub is_keeper : Token → Bool
+is_keeper token =
+    bytes_eq token (codes "(") || (bytes_eq token (codes "not") || (bytes_eq token (codes "and")
+    || (bytes_eq token (codes "or") || bytes_eq token (codes "keyword"))))
 
 -- the first fault, and want of memory in place of what follows
 abbrev pub IsFault : List Token → FilterFault → Type 0
