@@ -1,7 +1,7 @@
 -- Where reading may ask for memory.
 use Rattle.std.proofs.Common.{◌≡◌, ◌⊎◌, inl, inr, ℕ, suc, zero, ◌+◌, Bool, true, false, ◌||◌, ◌&&◌, nat_lt, is_some, List, [], ◌∷◌, ◌++◌, take, drop, Option, Some, None, Result, Ok, refl, sym, ap, subst, ◌∙◌, append_assoc, ℤ, arith}
 use Rattle.std.specs.Prelude.{codes}
-use Rattle.std.proofs.lemmas.Bool.{false≢true}
+use Rattle.std.proofs.lemmas.Bool.{false≢true, not-true}
 use Rattle.photo_record.specs.Reading.{day_of_text}
 use Rattle.photo_filter_text.specs.declared.tree.Cmp.{Cmp}
 use Rattle.photo_filter_text.specs.declared.reader.Refusal.{Refusal}
@@ -14,7 +14,6 @@ use Rattle.photo_filter_text.specs.Grammar.{all, none, rating, day, IsFactor, br
 use Rattle.photo_filter_text.specs.Fault.{IsKept, MayWantMemory, at_token, at_word, at_end}
 use Rattle.photo_filter_text.specs.Fault as kept
 use Rattle.photo_filter_text.specs.Steps.{Place, AtFactor, AtOperator, AtValue, AtWord, After, Level, State, start, joined, at_factor, after_term, closed, test_of, step_at, step, finished, symbol_of, run, keeps_factor, keeps_at_factor, keeps_closed, keeps_after_term, keeps_at, keeps, keeps_finished, keeps_at_end}
-use Rattle.photo_filter_text.proofs.Cutting.{not-true}
 use Rattle.photo_filter_text.proofs.Sound.{IsSpelled, symbol_spelled, AndAt, nots, nots-factor, LevelAt, TermAt, OpenAt, PlaceAt, expr-from_term, push-two, push-three, regroup, state-at, read-expr}
 use Rattle.photo_filter_text.proofs.Faults.{run-begins, word-wanted, run-next, NextIs, next-is}
 

@@ -1,8 +1,8 @@
 -- Want of memory comes no later than the first fault.
-use Rattle.std.proofs.Common.{◌≡◌, ℕ, suc, zero, ◌+◌, Bool, true, false, ◌||◌, List, [], ◌∷◌, ◌++◌, length, take, refl, sym, ap, subst, ◌∙◌, add-one, arith}
+use Rattle.std.proofs.Common.{◌≡◌, ℕ, suc, zero, ◌+◌, true, List, [], ◌∷◌, ◌++◌, length, take, refl, sym, ap, subst, ◌∙◌, add-one, arith}
 use Rattle.std.specs.Prelude.{codes}
 use Rattle.std.specs.List.{list_any}
-use Rattle.std.proofs.lemmas.Bool.{false≢true}
+use Rattle.std.proofs.lemmas.Bool.{false≢true, or_left, or_right}
 use Rattle.std.proofs.lemmas.List.{take_all}
 use Rattle.std.proofs.lemmas.List.Folds.{list_any_kept}
 use Rattle.photo_filter_text.specs.Tokens.{Token}
@@ -17,12 +17,8 @@ pub record WantedAt (ts : List Token) : Type 0 where
   pub keeps : list_any is_keeper (take (before + 1) ts) ≡ true
 
 has-keeper : (before rest : List Token) (x : Token) → is_keeper x ≡ true → list_any is_keeper (before ++ x ∷ rest) ≡ true
-has-keeper [] rest x h = ap (λ b. b || list_any is_keeper rest) h
-has-keeper (y ∷ ys) rest x h = go (is_keeper y) (has-keeper ys rest x h)
-  where
-    go : (b : Bool) → list_any is_keeper (ys ++ x ∷ rest) ≡ true → (b || list_any is_keeper (ys ++ x ∷ rest)) ≡ true
-    go true g = refl
-    go false g = g
+has-keeper [] rest x h = or_left (is_keeper x) (list_any is_keeper rest) h
+has-keeper (y ∷ ys) rest x h = or_right (is_keeper y) (list_any is_keeper (ys ++ x ∷ rest)) (has-keeper ys rest x h)
 
 kept-keeper : (ts : List Token) → IsKept ts → list_any is_keeper ts ≡ true
 kept-keeper ts (kept.bracket before) = has-keeper before [] (codes "(") refl

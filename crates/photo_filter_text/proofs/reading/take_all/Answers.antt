@@ -1,9 +1,10 @@
 use Rattle.std.proofs.Common.{◌+◌, take, Err, sym, ap, ◌∙◌, rules, arith}
+use Rattle.std.proofs.lemmas.List.{length-take}
 use Rattle.photo_filter_text.specs.Tokens.{tokens_of}
 use Rattle.photo_filter_text.specs.Steps.{start, run, state_of}
 use Rattle.photo_filter_text.proofs.Faults.{few-negations, stops-at, no-word-at, bad-word-at, run-next, next-is}
 use Rattle.photo_filter_text.proofs.Memory.{wants-at}
-use Rattle.photo_filter_text.proofs.Verdict.{all-taken, taken-short}
+use Rattle.photo_filter_text.proofs.Verdict.{all-taken}
 use Rattle.photo_filter_text.proofs.reading.take_all.Goals as goal
 
 pub take-requires : goal.take-requires
@@ -11,7 +12,7 @@ take-requires c =
     let ts = tokens_of c.args.text.now in
     let n = c.loop-token.number in
     let few = few-negations (take n ts) (state_of c.loop-token.reader) c.loop-token.invariant.at in
-    omega (arith, taken-short n ts, c.requires.1)
+    omega (arith, length-take n ts, c.requires.1)
 
 pub returns-in-Err-Unexpected-clause-fault : goal.returns-in-Err-Unexpected-clause-fault
 returns-in-Err-Unexpected-clause-fault c =
