@@ -14,30 +14,3 @@ not-or false b = refl
 pub not-and : (a b : Bool) → not (a && b) ≡ (not a || not b)
 not-and true b = refl
 not-and false b = refl
-
-pub and-or : (a b c : Bool) → ((a && b) || (a && c)) ≡ (a && (b || c))
-and-or true b c = refl
-and-or false b c = refl
-
-pub or-and : (a b c : Bool) → ((a && c) || (b && c)) ≡ ((a || b) && c)
-or-and true true true = refl
-or-and true true false = refl
-or-and true false true = refl
-or-and true false false = refl
-or-and false b c = refl
-
-pub not_not : (a : Bool) → not (not a) ≡ a
-not_not true = refl
-not_not false = refl
-
-pub and-true : (a : Bool) → (a && true) ≡ a
-and-true true = refl
-and-true false = refl
-
-pub or-false : (a : Bool) → (a || false) ≡ a
-or-false true = refl
-or-false false = refl
-
-pub and-false : (a : Bool) → (a && false) ≡ false
-and-false true = refl
-and-false false = refl

@@ -1,6 +1,7 @@
 -- A picture fits one of the alternatives of a tree exactly where the tree matches it.
 use Rattle.std.proofs.Common.{◌≡◌, refl, sym, ap, ◌∙◌, ℕ, ℤ, pos, Bool, true, false, not, ◌&&◌, ◌||◌, int_le, ◌≤◌, List, [], ◌∷◌, map, arith, inl, inr}
 use Rattle.std.specs.List.{list_any, list_all}
+use Rattle.std.proofs.Math.Bool.{and-true, and-false, not-not, and-or_distrib_left, and-or_distrib_right}
 use Rattle.std.proofs.lemmas.Bool.{false≢true, cases_Bool, and_parts, and_from, false_from_ne_true}
 use Rattle.std.proofs.lemmas.List.Folds.{list_any-append}
 use Rattle.std.proofs.lemmas.Int.{ints}
@@ -15,7 +16,7 @@ use Rattle.photo_filter_rules.specs.declared.polarity.Polarity.TheVariants.{Plai
 use Rattle.photo_filter_rules.specs.Matching.{Content, content, matches, matches_picture, compares}
 use Rattle.photo_filter_rules.specs.Alternatives.{Alternative, is_within, all_ratings, all_days, fits, is_possible, both_of, possible, with_ratings, with_days, spans_of, pairs, either_list, opposite, alternatives_of, all_or_none, with_word}
 use Rattle.photo_filter_rules.specs.Laws.{IsContent, FitsWhereMatched}
-use Rattle.photo_filter_rules.proofs.Bools.{and_pairs, and-or, or-and, not-and, not-or, not_not, and-true, and-false}
+use Rattle.photo_filter_rules.proofs.Bools.{and_pairs, not-and, not-or}
 use Rattle.photo_filter_rules.proofs.Sets.{all-both_sets, none-both_sets, not-list_any, no_common}
 use Rattle.photo_filter_rules.proofs.Spans.{is_within-both_spans, any-spans_of, toward}
 
@@ -60,13 +61,13 @@ any-possible c (a ∷ xs) =
 any-map_both_of : (c : Content) (a : Alternative) (ys : List Alternative) → list_any (fits c) (map (both_of a) ys) ≡ (fits c a && list_any (fits c) ys)
 any-map_both_of c a [] = sym (and-false (fits c a))
 any-map_both_of c a (y ∷ ys) =
-    rw (fits-both_of c a y, any-map_both_of c a ys) (and-or (fits c a) (fits c y) (list_any (fits c) ys))
+    rw (fits-both_of c a y, any-map_both_of c a ys) (sym (and-or_distrib_left (fits c a) (fits c y) (list_any (fits c) ys)))
 
 pub any-pairs : (c : Content) (xs ys : List Alternative) → list_any (fits c) (pairs xs ys) ≡ (list_any (fits c) xs && list_any (fits c) ys)
 any-pairs c [] ys = refl
 any-pairs c (a ∷ xs) ys =
     list_any-append (fits c) (possible (map (both_of a) ys)) (pairs xs ys)
-    ∙ rw (any-possible c (map (both_of a) ys), any-map_both_of c a ys, any-pairs c xs ys) (or-and (fits c a) (list_any (fits c) xs) (list_any (fits c) ys))
+    ∙ rw (any-possible c (map (both_of a) ys), any-map_both_of c a ys, any-pairs c xs ys) (sym (and-or_distrib_right (fits c a) (list_any (fits c) xs) (list_any (fits c) ys)))
 
 -- a record's rating and day are within the whole ranges
 rating_from : (c : Content) → IsContent c → int_le (pos 0) (pos c.rating) ≡ true
@@ -136,7 +137,7 @@ fits-with_word c is Negated word = rw (rating_within c is, day_within c is) (neg
 
 toward-opposite : (polarity : Polarity) (b : Bool) → toward (opposite polarity) b ≡ toward polarity (not b)
 toward-opposite Plain b = refl
-toward-opposite Negated b = sym (not_not b)
+toward-opposite Negated b = sym (not-not b)
 
 fits-either : (c : Content) (polarity : Polarity) (xs ys : List Alternative) (a b : Bool)
     → list_any (fits c) xs ≡ toward polarity a → list_any (fits c) ys ≡ toward polarity b

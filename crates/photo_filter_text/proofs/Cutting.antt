@@ -8,7 +8,7 @@ use Rattle.std.proofs.lemmas.List.{take_all, drop_all}
 use Rattle.std.proofs.lemmas.List.Splits.{slice_split-cons_yes, slice_split-cons_no}
 use Rattle.std.proofs.lemmas.List.Concat.{flat_map-append}
 use Rattle.std.proofs.lemmas.List.Elements.{filter-append}
-use Rattle.std.proofs.lemmas.Bool.{false≢true, ltb-false, ltb-true}
+use Rattle.std.proofs.lemmas.Bool.{false≢true, not-false, not-true, ltb-false, ltb-true}
 use Rattle.std.proofs.lemmas.Bool.Decides.{Decides-eqb}
 use Rattle.photo_filter_text.specs.Tokens.{is_space, is_parenthesis, with_room, is_filled, tokens_of}
 use Rattle.photo_filter_text.specs.Cuts.{ends_token, starts_token}
@@ -120,14 +120,6 @@ ends_ascii b h = go (eqb b 32) (eqb b 40) (eqb b 41) refl refl refl
     go false true c es eo ec = let e = (Decides-eqb b 40).0 eo in omega arith
     go false false true es eo ec = let e = (Decides-eqb b 41).0 ec in omega arith
     go false false false es eo ec = absurd (false≢true (sym (ap (λ x. x || (eqb b 40 || eqb b 41)) es ∙ ap (λ x. x || eqb b 41) eo ∙ ec) ∙ h))
-
-not-false : (b : Bool) → not b ≡ false → b ≡ true
-not-false true h = refl
-not-false false h = sym h
-
-not-true : (b : Bool) → not b ≡ true → b ≡ false
-not-true true h = sym h
-not-true false h = refl
 
 -- a text may be cut behind its first token
 pub cut-boundary : (bs : List ℕ) (n : ℕ) → IsUtf8 bs → 0 < length bs → n ≡ max 1 (position_or_len ends_token bs) → IsCharBoundary bs n

@@ -1,19 +1,17 @@
 -- Digits, and the date that a text writes.
-use Rattle.std.proofs.Common.{◌≡◌, ℕ, zero, suc, ◌+◌, ◌-◌, ◌/◌, ◌%◌, ◌<◌, ◌≤◌, Bool, true, false, ◌&&◌, ◌||◌, eqb, ℤ, Some, ◌++◌, length, get_or, refl, ap, ◌∙◌, arith}
+use Rattle.std.proofs.Common.{◌≡◌, ℕ, zero, suc, ◌+◌, ◌-◌, ◌/◌, ◌%◌, ◌<◌, ◌≤◌, true, false, ◌||◌, eqb, ℤ, Some, ◌++◌, length, get_or, refl, sym, ap, ◌∙◌, arith}
 use Rattle.std.specs.Char.{digit_value, is_ascii_digit}
-use Rattle.std.proofs.lemmas.Bool.{le-leb, lt-ltb, le-ltb, ne_eqb, cond-true, cond-false}
-use Rattle.photo_record.specs.Calendar.{Civil, civil, is_date, day_number, date_of}
+use Rattle.std.proofs.lemmas.Bool.{and_from, le-leb, lt-ltb, le-ltb, ne_eqb, cond-true, cond-false}
+use Rattle.photo_record.specs.Calendar.{Civil, date_of}
 use Rattle.photo_record.specs.Limits.{IsDay}
-use Rattle.photo_record.specs.Reading.{day_of_text, has_date_form, written_date, is_number, number}
+use Rattle.photo_record.specs.Reading.{day_of_text, is_number, number}
+use Rattle.photo_record.proofs.DayLemmas.{IsWritten}
+use Rattle.photo_record.proofs.DateLemmas.{date_of-in, date_ranges, read_back}
 use Rattle.photo_filter_text.specs.Printed.{digit, two_digits, civil_text, date_text}
 use Rattle.photo_filter_text.specs.Cuts.{ends_token}
-use Rattle.photo_filter_text.proofs.Dates.{date_of-day}
-
-and_both : (a b : Bool) → a ≡ true → b ≡ true → (a && b) ≡ true
-and_both a b p q = ap (λ x. x && b) p ∙ q
 
 is_digit : (n : ℕ) → n < 10 → is_ascii_digit (digit n) ≡ true
-is_digit n h = and_both _ _ (le-leb 48 (48 + n) (omega arith)) (le-leb (48 + n) 57 (omega arith))
+is_digit n h = and_from _ _ (le-leb 48 (48 + n) (omega arith)) (le-leb (48 + n) 57 (omega arith))
 
 value_digit : (n : ℕ) → n < 10 → digit_value (digit n) ≡ n
 value_digit n h =
@@ -26,7 +24,7 @@ number-two n h =
     let o : n % 10 < 10 = omega arith in
     let e = value_digit (n / 10) t in
     let f = value_digit (n % 10) o in
-    (and_both _ _ (is_digit (n / 10) t) (and_both _ _ (is_digit (n % 10) o) refl), omega arith)
+    (and_from _ _ (is_digit (n / 10) t) (and_from _ _ (is_digit (n % 10) o) refl), omega arith)
 
 number-four : (n : ℕ) → n ≤ 9999 → let text = two_digits (n / 100) ++ two_digits (n % 100) in (is_number text ≡ true) × (number text ≡ n)
 number-four n h =
@@ -38,25 +36,28 @@ number-four n h =
     let eb = value_digit (n / 100 % 10) b in
     let ec = value_digit (n % 100 / 10) c in
     let ed = value_digit (n % 100 % 10) d in
-    (and_both _ _ (is_digit (n / 100 / 10) a) (and_both _ _ (is_digit (n / 100 % 10) b) (and_both _ _ (is_digit (n % 100 / 10) c) (and_both _ _ (is_digit (n % 100 % 10) d) refl))), omega arith)
+    (and_from _ _ (is_digit (n / 100 / 10) a) (and_from _ _ (is_digit (n / 100 % 10) b) (and_from _ _ (is_digit (n % 100 / 10) c) (and_from _ _ (is_digit (n % 100 % 10) d) refl))), omega arith)
 
--- the date that a printed date writes
-civil-read : (y m d : ℕ) → y ≤ 9999 → m ≤ 12 → d ≤ 31 → is_date (civil y m d) ≡ true → day_of_text (civil_text (civil y m d)) ≡ Some (day_number (civil y m d))
-unfolding day_of_text
-civil-read y m d ly lm ld valid =
-    let year = number-four y ly in
-    let month = number-two m (omega arith) in
-    let day = number-two d (omega arith) in
-    let text = civil_text (civil y m d) in
-    let form : has_date_form text ≡ true = and_both _ _ year.0 (and_both _ _ month.0 day.0) in
-    let same : written_date text ≡ civil y m d = λ i. civil (year.1 i) (month.1 i) (day.1 i) in
-    cond-true _ _ _ (and_both _ _ form (ap is_date same ∙ valid)) ∙ ap (λ c. Some (day_number c)) same
+-- a printed date writes its year, month and day
+civil-written : (c : Civil) → c.year ≤ 9999 → c.month < 100 → c.day < 100 → IsWritten (civil_text c) c.year c.month c.day
+civil-written c ly lm ld =
+    let year = number-four c.year ly in
+    let month = number-two c.month lm in
+    let day = number-two c.day ld in
+    record {
+      ten = refl;
+      fourth = refl;
+      seventh = refl;
+      years = (year.0, sym year.1);
+      months = (month.0, sym month.1);
+      days = (day.0, sym day.1);
+    }
 
 pub date-read : (n : ℤ) → IsDay n → day_of_text (date_text n) ≡ Some n
 unfolding date_text
 date-read n range =
-    let d = date_of-day n range in
-    ap (λ c. day_of_text (civil_text c)) d.is ∙ civil-read d.year d.month d.day d.year_in d.month_in d.day_in d.valid ∙ ap Some d.number
+    let parts = date_ranges (date_of n) (date_of-in n range).in_calendar in
+    read_back (date_text n) n range (civil-written (date_of n) parts.year (omega (arith, parts.month)) (omega (arith, parts.day)))
 
 -- the bytes of a date are digits and dashes
 pub plain-byte : (b : ℕ) → 45 ≤ b → ends_token b ≡ false

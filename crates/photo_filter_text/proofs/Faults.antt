@@ -1,7 +1,7 @@
 -- Where the tokens stop being the beginning of a filter.
 use Rattle.std.proofs.Common.{◌≡◌, ℕ, suc, zero, ◌+◌, ◌<◌, ◌≤◌, Bool, true, false, List, [], ◌∷◌, ◌++◌, length, take, drop, get_or, Option, Some, None, Result, Ok, Err, refl, sym, ap, subst, ◌∙◌, cond, add-one, append_assoc, append-nil, length-append, ℤ, arith}
 use Rattle.std.specs.Prelude.{codes}
-use Rattle.photo_record.specs.Reading.{day_of_text, word_of_text}
+use Rattle.photo_record.specs.Reading.{rating_of_text, day_of_text, word_of_text}
 use Rattle.std.proofs.lemmas.Bool.{false≢true}
 use Rattle.photo_filter_text.specs.declared.tree.Cmp.{Cmp}
 use Rattle.photo_filter_text.specs.declared.tree.Cmp.TheVariants.{AtLeast}
@@ -12,9 +12,9 @@ use Rattle.photo_filter_text.specs.declared.symbol.Symbol.{Symbol}
 use Rattle.photo_filter_text.specs.declared.symbol.Symbol.TheVariants.{Open, Close, OrWord, AndWord, NotWord, AllWord, NoneWord, RatingWord, DayWord, KeywordWord, Other}
 use Rattle.photo_filter_text.specs.Tree.{Tree, All, Rate, On, Keyword, Either}
 use Rattle.photo_filter_text.specs.Tokens.{Token}
-use Rattle.photo_filter_text.specs.Grammar.{all, rating, day, keyword, IsFactor, brackets, test, factor, term, cmp_of, rating_of, is_bracket}
+use Rattle.photo_filter_text.specs.Grammar.{all, rating, day, keyword, IsFactor, brackets, test, factor, term, cmp_of, is_bracket}
 use Rattle.photo_filter_text.specs.Fault.{Begins, StopsAt, WantsWord, IsWordAt}
-use Rattle.photo_filter_text.specs.Steps.{Place, AtFactor, AtOperator, AtValue, AtWord, After, Level, State, start, joined, at_factor, after_term, closed, test_of, at_operator, at_word, step_at, step, symbol_of, go_on, run}
+use Rattle.photo_filter_text.specs.Steps.{Place, AtFactor, AtOperator, AtValue, AtWord, After, Level, State, state_with, start, joined, at_factor, after_term, closed, test_of, at_operator, at_word, step_at, step, symbol_of, go_on, run}
 use Rattle.photo_record.specs.declared.fault.WordFault.{WordFault}
 use Rattle.photo_filter_text.proofs.Samples.{some-date, some-word}
 use Rattle.photo_filter_text.proofs.Machine.{run-append, run-over, go_on-ok}
@@ -60,33 +60,51 @@ word-wanted ts s e w = go s.place s.level s.outer (state-at ts s e) w
     go (AtValue field cmp) l outer h q = cc
     go (After t) l outer h q = cc
 
--- a bracket is opened in the place of a factor alone, where a `keyword` begins a test
-keyword-place : (p : Place) (l : Level) (outer : List Level) (more : List Token) (tree : Tree) (s : State) → tree_read (go_on (λ r. run r more) (step_at p l outer (codes "("))) ≡ Some tree → step_at p l outer (codes "keyword") ≡ Ok s → s.place ≡ AtWord
-unfolding symbol_of at_factor after_term
-keyword-place AtFactor l outer more tree s h e = sym (ap (λ r. place_in r) e)
-  where
-    place_in : Result State Refusal → Place
-    place_in (Ok r) = r.place
-    place_in (Err f) = AtWord
-keyword-place (AtOperator field) l outer more tree s h e = cc
-keyword-place (AtValue RatingField cmp) l outer more tree s h e = cc
-keyword-place (AtValue DayField cmp) l outer more tree s h e =
+-- a bracket is opened in the place of a factor alone
+bracket-place : (p : Place) (l : Level) (outer : List Level) (more : List Token) (tree : Tree) → tree_read (go_on (λ r. run r more) (step_at p l outer (codes "("))) ≡ Some tree → p ≡ AtFactor
+unfolding symbol_of after_term
+bracket-place AtFactor l outer more tree h = refl
+bracket-place (AtOperator field) l outer more tree h = cc
+bracket-place (AtValue RatingField cmp) l outer more tree h = cc
+bracket-place (AtValue DayField cmp) l outer more tree h =
     let n = ap (λ o. tree_read (go_on (λ r. run r more) (test_of l outer (On cmp) o))) no-date in cc
-keyword-place AtWord l outer more tree s h e = cc
-keyword-place (After t) l outer more tree s h e = cc
+bracket-place AtWord l outer more tree h = cc
+bracket-place (After t) l outer more tree h = cc
 
-pub wants-word-place : (ts : List Token) (s : State) → run start ts ≡ Ok s → WantsWord ts → s.place ≡ AtWord
-wants-word-place ts s e w =
+-- where a `keyword` begins a test
+keyword-taken : (p : Place) (l : Level) (outer : List Level) → p ≡ AtFactor → step_at p l outer (codes "keyword") ≡ Ok (state_with AtWord l outer)
+unfolding symbol_of at_factor
+keyword-taken AtFactor l outer h = refl
+keyword-taken (AtOperator field) l outer h = cc
+keyword-taken (AtValue field cmp) l outer h = cc
+keyword-taken AtWord l outer h = cc
+keyword-taken (After t) l outer h = cc
+
+word-run : (ts : List Token) → WantsWord ts → (l : Level) × (outer : List Level) × (run start ts ≡ Ok (state_with AtWord l outer))
+word-run ts w =
     let b = w.0 in
     let more = w.2.0 in
     let tree = w.2.1 in
-    let f : run start (b ++ codes "keyword" ∷ []) ≡ Ok s = ap (run start) (sym w.1) ∙ e in
     let h : tree_read (run start (b ++ codes "(" ∷ more)) ≡ Some tree = ap (λ ys. tree_read (run start ys)) (sym (append_assoc b (codes "(" ∷ []) more)) ∙ expr-read w.2.2 in
-    go b more tree (run start b) (sym (run-append b (codes "keyword" ∷ []) start) ∙ f) (ap tree_read (sym (run-append b (codes "(" ∷ more) start)) ∙ h)
+    go b more tree (run start b) (ap (run start) w.1 ∙ run-append b (codes "keyword" ∷ []) start) (ap tree_read (sym (run-append b (codes "(" ∷ more) start)) ∙ h)
   where
-    go : (b more : List Token) (tree : Tree) (r : Result State Refusal) → go_on (λ q. run q (codes "keyword" ∷ [])) r ≡ Ok s → tree_read (go_on (λ q. run q (codes "(" ∷ more)) r) ≡ Some tree → s.place ≡ AtWord
+    go : (b more : List Token) (tree : Tree) (r : Result State Refusal) → run start ts ≡ go_on (λ q. run q (codes "keyword" ∷ [])) r → tree_read (go_on (λ q. run q (codes "(" ∷ more)) r) ≡ Some tree → (l : Level) × (outer : List Level) × (run start ts ≡ Ok (state_with AtWord l outer))
     go b more tree (Err x) f h = cc
-    go b more tree (Ok q) f h = keyword-place q.place q.level q.outer more tree s h (go_on-ok (step q (codes "keyword")) ∙ f)
+    go b more tree (Ok q) f h = (
+      q.level,
+      q.outer,
+      f ∙ sym (go_on-ok (step q (codes "keyword"))) ∙ keyword-taken q.place q.level q.outer (bracket-place q.place q.level q.outer more tree h),
+    )
+
+pub wants-word-place : (ts : List Token) (s : State) → run start ts ≡ Ok s → WantsWord ts → s.place ≡ AtWord
+wants-word-place ts s e w = let r = word-run ts w in ap place_in (sym e ∙ r.2)
+  where
+    place_in : Result State Refusal → Place
+    place_in (Ok q) = q.place
+    place_in (Err f) = AtWord
+
+pub word-begins : (ts : List Token) → WantsWord ts → Begins ts
+word-begins ts w = let r = word-run ts w in run-begins ts _ r.2
 
 -- The tokens one by one
 pub record NextIs (ts : List Token) (n : ℕ) (x : Token) (rest : List Token) : Type 0 where
@@ -172,7 +190,7 @@ bad-word-place (AtOperator field) l outer x e = absurd (go (cmp_of x) e)
     go : (c : Option Cmp) → at_operator l outer field c ≡ Err BadWord → ⊥
     go None h = cc
     go (Some c) h = cc
-bad-word-place (AtValue RatingField cmp) l outer x e = absurd (go (rating_of x) e)
+bad-word-place (AtValue RatingField cmp) l outer x e = absurd (go (rating_of_text x) e)
   where
     go : (c : Option ℕ) → test_of l outer (Rate cmp) c ≡ Err BadWord → ⊥
     go None h = cc

@@ -5,11 +5,12 @@ pub mod Machine
 pub mod Complete
 pub mod Sound
 pub mod Faults
+pub mod Memory
 pub mod Samples
 pub mod Verdict
-pub mod Dates
 pub mod Digits
 pub mod PrintedAgain
 pub mod Worked
 pub mod OneFault
 pub mod Decided
+pub mod WantedAt

@@ -11,7 +11,7 @@ use Rattle.photo_filter_text.specs.Fault.{IsFault, IsRoomy, IsWordAt, Begins, St
 use Rattle.photo_filter_text.proofs.Sound.{begins-front}
 
 -- a front of what begins a filter begins one
-begins-take : (k n : ℕ) (ts : List Token) → k ≤ n → Begins (take n ts) → Begins (take k ts)
+pub begins-take : (k n : ℕ) (ts : List Token) → k ≤ n → Begins (take n ts) → Begins (take k ts)
 begins-take k n ts h b =
     let e : take k (take n ts) ≡ take k ts = take-take k n ts h in
     let whole = subst Begins (sym (take-append-drop k (take n ts))) b in
@@ -39,7 +39,7 @@ roomy-not-long ts r l = let s = r.1 in omega arith
 empty-not-long : (ts : List Token) → ts ≡ [] → max_tokens < length ts → ⊥
 empty-not-long ts e l = let n = ap length e in omega arith
 
-tree-begins : (ts : List Token) (tree : Tree) → IsExpr ts tree → Begins ts
+pub tree-begins : (ts : List Token) (tree : Tree) → IsExpr ts tree → Begins ts
 tree-begins ts tree e = ([], tree, subst (λ (ys : List Token). IsExpr ys tree) (sym (append-nil ts)) e)
 
 stops-none : (ts : List Token) (k : ℕ) → StopsAt ts k → Begins ts → ⊥

@@ -1,5 +1,5 @@
 -- What is printed has the tree that was printed.
-use Rattle.std.proofs.Common.{◌≡◌, ℕ, zero, suc, ◌<◌, ◌≤◌, Bool, true, false, ◌||◌, eqb, Some, Ok, List, [], ◌∷◌, ◌++◌, length, get_or, encode_utf8_all, refl, sym, ap, subst, ◌∙◌, append_assoc, arith}
+use Rattle.std.proofs.Common.{◌≡◌, ℕ, zero, suc, ◌<◌, ◌≤◌, Bool, true, false, ◌||◌, eqb, Some, List, [], ◌∷◌, ◌++◌, length, get_or, refl, sym, ap, subst, ◌∙◌, append_assoc, arith}
 use Rattle.std.specs.Prelude.{codes}
 use Rattle.std.specs.List.{list_any}
 use Rattle.std.specs.Str.{chars, IsUtf8, NonePass, bytes_eq}
@@ -9,14 +9,14 @@ use Rattle.std.proofs.lemmas.Slice.Eq.{bytes_eq-Decides}
 use Rattle.std.proofs.lemmas.Bool.{false≢true, ne_eqb}
 use Rattle.photo_record.specs.Limits.{max_rating}
 use Rattle.photo_record.specs.Word.{IsWord, is_bad_character}
-use Rattle.photo_record.specs.Reading.{word_of_text}
-use Rattle.photo_record.proofs.FormLemmas.{word_of_text-ok}
+use Rattle.photo_record.proofs.ReadLemmas.{word_itself}
+use Rattle.photo_record.specs.Reading.{rating_of_text}
 use Rattle.photo_filter_text.specs.declared.tree.Cmp.{Cmp}
 use Rattle.photo_filter_text.specs.declared.tree.Cmp.TheVariants.{AtLeast, AtMost, Equal}
 use Rattle.photo_filter_text.specs.Tree.{Tree, All, Nothing, Rate, On, Keyword, Not, Both, Either}
 use Rattle.photo_filter_text.specs.Tokens.{Token, tokens_of}
 use Rattle.photo_filter_text.specs.Cuts.{ends_token}
-use Rattle.photo_filter_text.specs.Grammar.{all, none, rating, day, keyword, IsFactor, negation, brackets, test, factor, conjunction, IsExpr, term, disjunction, cmp_of, rating_of, is_bracket}
+use Rattle.photo_filter_text.specs.Grammar.{all, none, rating, day, keyword, IsFactor, negation, brackets, test, factor, conjunction, IsExpr, term, disjunction, cmp_of, is_bracket}
 use Rattle.photo_filter_text.specs.Printed.{text_of, cmp_text, date_text, digit, IsSound}
 use Rattle.photo_filter_text.proofs.Cutting.{tokens-one, tokens-append}
 use Rattle.photo_filter_text.proofs.Digits.{date-read, date-plain, date-filled}
@@ -31,7 +31,7 @@ cmp-tokens AtLeast = refl
 cmp-tokens AtMost = refl
 cmp-tokens Equal = refl
 
-rating-read : (n : ℕ) → n ≤ max_rating → (rating_of (digit n ∷ []) ≡ Some n) × (tokens_of (digit n ∷ []) ≡ (digit n ∷ []) ∷ [])
+rating-read : (n : ℕ) → n ≤ max_rating → (rating_of_text (digit n ∷ []) ≡ Some n) × (tokens_of (digit n ∷ []) ≡ (digit n ∷ []) ∷ [])
 rating-read zero h = (refl, refl)
 rating-read (suc zero) h = (refl, refl)
 rating-read (suc (suc zero)) h = (refl, refl)
@@ -81,9 +81,6 @@ no-bracket w h = go (bytes_eq w (codes "(")) (bytes_eq w (codes ")")) refl refl
     go false true e f = absurd (false≢true (sym (at 41 ((bytes_eq-Decides w (codes ")")).0 f))))
     go false false e f = ap (λ x. x || bytes_eq w (codes ")")) e ∙ f
 
-word-read : (w : List ℕ) → IsWord w → IsUtf8 w → word_of_text w ≡ Ok w
-word-read w word utf8 = word_of_text-ok w w (record { text_utf8 = utf8; some = word.not_empty; utf8 = utf8; is = sym (ap encode_utf8_all word.in_form_c ∙ encodes-chars w utf8) }) word.no_bad_character word.short
-
 -- two texts in brackets, and a word between them
 bracketed : (w : Token) → tokens_of w ≡ w ∷ [] → (x y : List ℕ) (t : Tree) → IsExpr (tokens_of x ++ w ∷ tokens_of y) t → IsFactor (tokens_of (codes "(" ++ 32 ∷ (x ++ 32 ∷ (w ++ 32 ∷ (y ++ 32 ∷ codes ")"))))) t
 bracketed w q x y t h =
@@ -107,7 +104,7 @@ printed (On cmp n) h =
     subst (λ (ts : List Token). IsFactor ts (On cmp n)) (sym e) (test (day (cmp-read cmp) (date-read n h)))
 printed (Keyword w) h =
     let e : tokens_of (text_of (Keyword w)) ≡ codes "keyword" ∷ w ∷ [] = tokens-append (codes "keyword") w ∙ ap (λ ts. codes "keyword" ∷ ts) (word-tokens w h.0 h.1) in
-    subst (λ (ts : List Token). IsFactor ts (Keyword w)) (sym e) (test (keyword (no-bracket w (word-plain w h.0 h.1)) (word-read w h.0 h.1)))
+    subst (λ (ts : List Token). IsFactor ts (Keyword w)) (sym e) (test (keyword (no-bracket w (word-plain w h.0 h.1)) (word_itself w h.1 h.0)))
 printed (Not part) h =
     subst (λ (ts : List Token). IsFactor ts (Not part)) (sym (tokens-append (codes "not") (text_of part))) (negation (printed part h))
 printed (Both a b) h =

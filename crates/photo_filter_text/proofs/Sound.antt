@@ -3,7 +3,7 @@ use Rattle.std.proofs.Common.{◌≡◌, ℕ, suc, zero, ◌+◌, Bool, true, fa
 use Rattle.std.specs.Prelude.{codes}
 use Rattle.std.specs.Str.{bytes_eq}
 use Rattle.std.proofs.lemmas.Slice.Eq.{bytes_eq-Decides}
-use Rattle.photo_record.specs.Reading.{day_of_text, word_of_text}
+use Rattle.photo_record.specs.Reading.{rating_of_text, day_of_text, word_of_text}
 use Rattle.photo_filter_text.specs.declared.tree.Cmp.{Cmp}
 use Rattle.photo_filter_text.specs.declared.reader.Refusal.{Refusal}
 use Rattle.photo_filter_text.specs.declared.reader.Field.{Field}
@@ -12,7 +12,7 @@ use Rattle.photo_filter_text.specs.declared.symbol.Symbol.{Symbol}
 use Rattle.photo_filter_text.specs.declared.symbol.Symbol.TheVariants.{Open, Close, OrWord, AndWord, NotWord, AllWord, NoneWord, RatingWord, DayWord, KeywordWord, Other}
 use Rattle.photo_filter_text.specs.Tree.{Tree, All, Nothing, Rate, On, Keyword, Both, Either}
 use Rattle.photo_filter_text.specs.Tokens.{Token}
-use Rattle.photo_filter_text.specs.Grammar.{all, none, rating, day, keyword, IsFactor, negation, brackets, test, IsTerm, factor, conjunction, IsExpr, term, disjunction, cmp_of, rating_of, is_bracket}
+use Rattle.photo_filter_text.specs.Grammar.{all, none, rating, day, keyword, IsFactor, negation, brackets, test, IsTerm, factor, conjunction, IsExpr, term, disjunction, cmp_of, is_bracket}
 use Rattle.photo_filter_text.specs.Fault.{Begins}
 use Rattle.photo_filter_text.specs.Steps.{Place, AtFactor, AtOperator, AtValue, AtWord, After, Level, State, level_with, fresh, start, joined, negated, after_factor, at_factor, after_term, closed, test_of, at_operator, at_word, step_at, step, finished, finish, symbol_of, go_on, run}
 
@@ -37,7 +37,7 @@ pick t c s r f rest = go (bytes_eq t c) refl
     go true e = f ((bytes_eq-Decides t c).0 e)
     go false e = rest
 
-symbol_spelled : (t : Token) → IsSpelled (symbol_of t) t
+pub symbol_spelled : (t : Token) → IsSpelled (symbol_of t) t
 unfolding symbol_of
 symbol_spelled t =
     pick t (codes "(") Open _ (λ e. e) (pick t (codes ")") Close _ (λ e. e) (pick t (codes "or") OrWord _ (λ e. e)
@@ -78,14 +78,14 @@ abbrev pub OpenAt : List Level → List Token → Type 0
 OpenAt [] ts = ts ≡ []
 OpenAt (l ∷ outer) ts = (us : List Token) × (ls : List Token) × OpenAt outer us × LevelAt l ls × (ts ≡ us ++ (ls ++ codes "(" ∷ []))
 
-expr-from_term : (e : Option Tree) (t : Tree) (ts : List Token) → TermAt e t ts → IsExpr ts (joined Either e t)
+pub expr-from_term : (e : Option Tree) (t : Tree) (ts : List Token) → TermAt e t ts → IsExpr ts (joined Either e t)
 expr-from_term None t ts h = let P : List Token → Type 0 = λ xs. IsExpr xs t in subst P (sym (h.whole ∙ ap (λ o. o ++ h.last) h.or_at)) (term h.is_term)
 expr-from_term (Some a) t ts h =
     let P : List Token → Type 0 = λ xs. IsExpr xs (Either a t) in
     let e : ts ≡ h.or_at.0 ++ codes "or" ∷ h.last = h.whole ∙ ap (λ o. o ++ h.last) h.or_at.2 ∙ append_assoc h.or_at.0 (codes "or" ∷ []) h.last in
     subst P (sym e) (disjunction h.or_at.1 h.is_term)
 
-nots-factor : (n : ℕ) (xs : List Token) (t : Tree) → IsFactor xs t → IsFactor (nots n ++ xs) (negated n t)
+pub nots-factor : (n : ℕ) (xs : List Token) (t : Tree) → IsFactor xs t → IsFactor (nots n ++ xs) (negated n t)
 nots-factor zero xs t f = f
 nots-factor (suc n) xs t f = negation (nots-factor n xs t f)
 
@@ -111,7 +111,7 @@ pub begins-front : (front more : List Token) → Begins (front ++ more) → Begi
 begins-front front more b =
     let P : List Token → Type 0 = λ ys. IsExpr ys b.1 in (more ++ b.0, b.1, subst P (append_assoc front more b.0) b.2)
 
-regroup : (us ys ks ls : List Token) (x y : Token) → us ≡ ys ++ (ks ++ x ∷ []) → ys ++ (ks ++ x ∷ (ls ++ y ∷ [])) ≡ (us ++ ls) ++ y ∷ []
+pub regroup : (us ys ks ls : List Token) (x y : Token) → us ≡ ys ++ (ks ++ x ∷ []) → ys ++ (ks ++ x ∷ (ls ++ y ∷ [])) ≡ (us ++ ls) ++ y ∷ []
 regroup us ys ks ls x y e = rw e (simp append_assoc)
 
 -- a term behind open levels can be gone on with: each bracket can be closed
@@ -151,10 +151,10 @@ unfolding after_factor
 factor-at l outer us ls xs ts t o h f e = (us, ls ++ xs, o, level-factor l ls xs t h f, e, refl)
 
 -- one more token behind two lists
-push-two : (us ls ts : List Token) (x : Token) → ts ≡ us ++ ls → ts ++ x ∷ [] ≡ us ++ (ls ++ x ∷ [])
+pub push-two : (us ls ts : List Token) (x : Token) → ts ≡ us ++ ls → ts ++ x ∷ [] ≡ us ++ (ls ++ x ∷ [])
 push-two us ls ts x e = rw e (append_assoc us ls (x ∷ []))
 
-push-three : (us ls ms ts : List Token) (x : Token) → ts ≡ us ++ (ls ++ ms) → ts ++ x ∷ [] ≡ us ++ (ls ++ (ms ++ x ∷ []))
+pub push-three : (us ls ms ts : List Token) (x : Token) → ts ≡ us ++ (ls ++ ms) → ts ++ x ∷ [] ≡ us ++ (ls ++ (ms ++ x ∷ []))
 push-three us ls ms ts x e = rw e (simp append_assoc)
 
 abbrev pub LeadsTo : Result State Refusal → List Token → Type 0
@@ -233,7 +233,7 @@ operator-step : (l : Level) (outer : List Level) (us ls ts : List Token) (x : To
 operator-step l outer us ls ts x field o h e None p = tt
 operator-step l outer us ls ts x field o h e (Some c) p = (us, ls, o, h, x, p, push-three us ls (field_token field ∷ []) ts x e)
 
-rating-step : (l : Level) (outer : List Level) (us ls ts : List Token) (op x : Token) (cmp : Cmp) → OpenAt outer us → LevelAt l ls → cmp_of op ≡ Some cmp → ts ≡ us ++ (ls ++ codes "rating" ∷ op ∷ []) → (r : Option ℕ) → rating_of x ≡ r → LeadsTo (test_of l outer (Rate cmp) r) (ts ++ x ∷ [])
+rating-step : (l : Level) (outer : List Level) (us ls ts : List Token) (op x : Token) (cmp : Cmp) → OpenAt outer us → LevelAt l ls → cmp_of op ≡ Some cmp → ts ≡ us ++ (ls ++ codes "rating" ∷ op ∷ []) → (r : Option ℕ) → rating_of_text x ≡ r → LeadsTo (test_of l outer (Rate cmp) r) (ts ++ x ∷ [])
 rating-step l outer us ls ts op x cmp o h c e None p = tt
 rating-step l outer us ls ts op x cmp o h c e (Some n) p = factor-at l outer us ls (codes "rating" ∷ op ∷ x ∷ []) _ (Rate cmp n) o h (test (rating c p)) (push-three us ls (codes "rating" ∷ op ∷ []) ts x e)
 
@@ -249,7 +249,7 @@ word-step l outer us ls ts x o h e false q (Ok w) p = factor-at l outer us ls (c
 place-step : (p : Place) (l : Level) (outer : List Level) (ts : List Token) (x : Token) → PlaceAt p l outer ts → LeadsTo (step_at p l outer x) (ts ++ x ∷ [])
 place-step AtFactor l outer ts x h = factor-step l outer h.0 h.1 ts x h.2 h.3 h.4 (symbol_of x) (symbol_spelled x)
 place-step (AtOperator field) l outer ts x h = operator-step l outer h.0 h.1 ts x field h.2 h.3 h.4 (cmp_of x) refl
-place-step (AtValue RatingField cmp) l outer ts x h = rating-step l outer h.0 h.1 ts h.4 x cmp h.2 h.3 h.5 h.6 (rating_of x) refl
+place-step (AtValue RatingField cmp) l outer ts x h = rating-step l outer h.0 h.1 ts h.4 x cmp h.2 h.3 h.5 h.6 (rating_of_text x) refl
 place-step (AtValue DayField cmp) l outer ts x h = day-step l outer h.0 h.1 ts h.4 x cmp h.2 h.3 h.5 h.6 (day_of_text x) refl
 place-step AtWord l outer ts x h = word-step l outer h.0 h.1 ts x h.2 h.3 h.4 (is_bracket x) refl (word_of_text x) refl
 place-step (After t) l outer ts x h = term-step l outer h.0 h.1 ts t x h.2 h.3 h.4 (symbol_of x) (symbol_spelled x)

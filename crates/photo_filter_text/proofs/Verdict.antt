@@ -1,6 +1,6 @@
 -- A filter within the limits has no fault.
-use Rattle.std.proofs.Common.{◌≡◌, ℕ, ◌≤◌, List, [], ◌∷◌, length, take, drop, Result, Ok, Err, IfOk, IfErr, MatchResult, refl, sym, ap, subst, arith}
-use Rattle.std.proofs.lemmas.List.{take-append-drop, take_all, length-take, length-drop}
+use Rattle.std.proofs.Common.{◌≡◌, ℕ, List, [], length, take, drop, Result, Ok, Err, IfOk, IfErr, MatchResult, refl, sym, ap, subst, arith}
+use Rattle.std.proofs.lemmas.List.{take-append-drop, take_all, length-drop}
 use Rattle.photo_filter_text.specs.declared.fault.FilterFault.{FilterFault}
 use Rattle.photo_filter_text.specs.declared.fault.FilterFault.TheVariants.{Empty, Unexpected, EndsEarly, TooDeep, TooManyTokens, BadWord, NoMemory}
 use Rattle.photo_filter_text.specs.declared.tree.FilterTree.{FilterTree}
@@ -36,10 +36,3 @@ accepted ts (Err x) o e tree f = no-fault ts tree x f e
 
 pub all-taken : (n : ℕ) (ts : List Token) → drop n ts ≡ [] → take n ts ≡ ts
 all-taken n ts h = let l = ap length h in let m = length-drop n ts in take_all n ts (omega arith)
-
-pub taken-short : (n : ℕ) (ts : List Token) → length (take n ts) ≤ length ts
-taken-short n ts = let m = length-take n ts in omega arith
-
-pub nil-from_length : (ts : List Token) → length ts ≡ 0 → ts ≡ []
-nil-from_length [] h = refl
-nil-from_length (t ∷ ts) h = absurd (omega arith)

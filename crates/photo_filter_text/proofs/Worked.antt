@@ -21,4 +21,4 @@ the-trees = record {
 }
 
 pub the-texts : TheTexts
-the-texts = record { either = refl; negation = refl; keyword = refl; low = refl; six = refl; five = refl; zeros = refl }
+the-texts = record { either = refl; negation = refl; keyword = refl; low = refl }

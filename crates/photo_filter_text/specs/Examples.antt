@@ -1,9 +1,9 @@
 -- The definitions at some texts.
-use Rattle.std.specs.Prelude.{◌≡◌, [], ◌∷◌, pos, Some, None, codes}
+use Rattle.std.specs.Prelude.{◌≡◌, [], ◌∷◌, pos, codes}
 use Rattle.photo_filter_text.specs.declared.tree.Cmp.TheVariants.{AtLeast, AtMost, Equal}
 use Rattle.photo_filter_text.specs.Tree.{All, Nothing, Rate, On, Keyword, Not, Both, Either, height}
 use Rattle.photo_filter_text.specs.Tokens.{tokens_of}
-use Rattle.photo_filter_text.specs.Grammar.{IsExpr, rating_of}
+use Rattle.photo_filter_text.specs.Grammar.{IsExpr}
 use Rattle.photo_filter_text.specs.Printed.{text_of}
 
 pub record TheTokens : Type 0 where
@@ -28,6 +28,3 @@ pub record TheTexts : Type 0 where
   pub negation : text_of (Not (Rate AtMost 3)) ≡ codes "not rating <= 3"
   pub keyword : text_of (Keyword (codes "sun")) ≡ codes "keyword sun"
   pub low : height (Not (Both All (Not All))) ≡ 4
-  pub six : rating_of (codes "6") ≡ None
-  pub five : rating_of (codes "5") ≡ Some 5
-  pub zeros : rating_of (codes "05") ≡ None

@@ -1,8 +1,9 @@
 -- Which tokens are a filter within the limits, and what is the first fault of all others.
-use Rattle.std.specs.Prelude.{◌≡◌, ◌≢◌, ℕ, ◌+◌, ◌<◌, ◌≤◌, false, List, [], ◌∷◌, ◌++◌, length, take, slice_index_or, codes}
+use Rattle.std.specs.Prelude.{◌≡◌, ◌≢◌, ◌⊎◌, ℕ, ◌+◌, ◌<◌, ◌≤◌, Bool, false, ◌||◌, List, [], ◌∷◌, ◌++◌, length, take, slice_index_or, codes}
+use Rattle.std.specs.Str.{bytes_eq}
 use Rattle.photo_filter_text.specs.Tree.{Tree, height}
 use Rattle.photo_filter_text.specs.Tokens.{Token}
-use Rattle.photo_filter_text.specs.Grammar.{IsExpr, is_bracket}
+use Rattle.photo_filter_text.specs.Grammar.{IsFactor, IsTerm, IsExpr, is_bracket}
 use Rattle.photo_filter_text.specs.declared.fault.FilterFault.{FilterFault}
 use Rattle.photo_filter_text.specs.declared.fault.FilterFault.TheVariants.{Empty, Unexpected, EndsEarly, TooDeep, TooManyTokens, BadWord, NoMemory}
 
@@ -44,7 +45,28 @@ WantsWord front = (before : List Token) × (front ≡ before ++ codes "keyword" 
 abbrev pub IsWordAt : List Token → ℕ → Type 0
 IsWordAt ts k = (before : ℕ) × (k ≡ before + 1) × WantsWord (take before ts) × (is_bracket (slice_index_or ts before []) ≡ false)
 
--- the first fault
+-- the last of these tokens makes something to be kept: it opens a bracket, it ends the factor behind a `not` or an `and`,
+-- or with it ends the term behind an `or`, since an `or` or a closing bracket follows
+pub data IsKept : List Token → Type 0 where
+  bracket : (before : List Token) → IsKept (before ++ codes "(" ∷ [])
+  negation : (before : List Token) → {part : List Token} {t : Tree} → IsFactor part t → IsKept (before ++ codes "not" ∷ part)
+  conjunction : (before : List Token) → {part : List Token} {t : Tree} → IsFactor part t → IsKept (before ++ codes "and" ∷ part)
+  disjunction : (before : List Token) → {part : List Token} {t : Tree} {next : Token} → IsTerm part t → (next ≡ codes "or") ⊎ (next ≡ codes ")") → IsKept (before ++ codes "or" ∷ (part ++ next ∷ []))
+
+-- reading these tokens may ask for memory: at a token up to which some filter begins, and which makes something to be kept;
+-- at a token in the place of a word; or at the end of a filter, for the term behind its last `or`
+pub data MayWantMemory (ts : List Token) : Type 0 where
+  at_token : (k : ℕ) → Begins (take k ts) → IsKept (take k ts) → MayWantMemory ts
+  at_word : (k : ℕ) → k ≤ length ts → IsWordAt ts k → MayWantMemory ts
+  at_end : (before : List Token) → {part : List Token} {tree last : Tree} → IsExpr ts tree → ts ≡ before ++ codes "or" ∷ part → IsTerm part last → MayWantMemory ts
+
+-- without one of these tokens nothing is kept
+abbrev pub is_keeper : Token → Bool
+is_keeper token =
+    bytes_eq token (codes "(") || (bytes_eq token (codes "not") || (bytes_eq token (codes "and")
+    || (bytes_eq token (codes "or") || bytes_eq token (codes "keyword"))))
+
+-- the first fault, and want of memory in place of what follows
 abbrev pub IsFault : List Token → FilterFault → Type 0
 IsFault ts Empty = ts ≡ []
 IsFault ts TooManyTokens = max_tokens < length ts
@@ -52,4 +74,4 @@ IsFault ts (Unexpected k) = IsRoomy ts × StopsAt ts k × (IsWordAt ts k → ⊥
 IsFault ts BadWord = IsRoomy ts × ((k : ℕ) × StopsAt ts k × IsWordAt ts k)
 IsFault ts EndsEarly = IsRoomy ts × Begins ts × ((tree : Tree) → IsExpr ts tree → ⊥)
 IsFault ts TooDeep = IsRoomy ts × ((tree : Tree) × IsExpr ts tree × (max_height < height tree))
-IsFault ts NoMemory = IsRoomy ts
+IsFault ts NoMemory = IsRoomy ts × MayWantMemory ts

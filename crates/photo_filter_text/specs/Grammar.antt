@@ -1,8 +1,7 @@
 -- The grammar of filters: which lists of tokens are which trees.
-use Rattle.std.specs.Prelude.{◌≡◌, ℕ, ◌-◌, Bool, ◌||◌, ◌&&◌, if◌then◌else◌, nat_le, false, List, [], ◌∷◌, ◌++◌, ℤ, Option, Some, None, Ok, codes}
+use Rattle.std.specs.Prelude.{◌≡◌, ℕ, Bool, ◌||◌, if◌then◌else◌, false, List, [], ◌∷◌, ◌++◌, ℤ, Option, Some, None, Ok, codes}
 use Rattle.std.specs.Str.{bytes_eq}
-use Rattle.photo_record.specs.Limits.{max_rating}
-use Rattle.photo_record.specs.Reading.{day_of_text, word_of_text}
+use Rattle.photo_record.specs.Reading.{rating_of_text, day_of_text, word_of_text}
 use Rattle.photo_filter_text.specs.declared.tree.Cmp.{Cmp}
 use Rattle.photo_filter_text.specs.declared.tree.Cmp.TheVariants.{AtLeast, AtMost, Equal}
 use Rattle.photo_filter_text.specs.Tree.{Tree, All, Nothing, Rate, On, Keyword, Not, Both, Either}
@@ -15,19 +14,13 @@ cmp_of token =
     else (if bytes_eq token (codes "<=") then Some AtMost
     else (if bytes_eq token (codes "=") then Some Equal else None))
 
--- the rating that a token writes: one digit, 0 to 5
-abbrev pub rating_of : Token → Option ℕ
-rating_of [] = None
-rating_of (digit ∷ []) = if nat_le 48 digit && nat_le (digit - 48) max_rating then Some (digit - 48) else None
-rating_of (digit ∷ more ∷ digits) = None
-
 abbrev pub is_bracket : Token → Bool
 is_bracket token = bytes_eq token (codes "(") || bytes_eq token (codes ")")
 
 pub data IsTest : List Token → Tree → Type 0 where
   all : IsTest (codes "all" ∷ []) All
   none : IsTest (codes "none" ∷ []) Nothing
-  rating : {op r : Token} {cmp : Cmp} {n : ℕ} → cmp_of op ≡ Some cmp → rating_of r ≡ Some n → IsTest (codes "rating" ∷ op ∷ r ∷ []) (Rate cmp n)
+  rating : {op r : Token} {cmp : Cmp} {n : ℕ} → cmp_of op ≡ Some cmp → rating_of_text r ≡ Some n → IsTest (codes "rating" ∷ op ∷ r ∷ []) (Rate cmp n)
   day : {op date : Token} {cmp : Cmp} {n : ℤ} → cmp_of op ≡ Some cmp → day_of_text date ≡ Some n → IsTest (codes "day" ∷ op ∷ date ∷ []) (On cmp n)
   keyword : {w word : Token} → is_bracket w ≡ false → word_of_text w ≡ Ok word → IsTest (codes "keyword" ∷ w ∷ []) (Keyword word)
 

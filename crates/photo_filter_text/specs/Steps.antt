@@ -1,7 +1,7 @@
 -- The reader's steps, a token at a time: what each token makes of what has been read before it.
-use Rattle.std.specs.Prelude.{ℕ, suc, zero, ◌+◌, if◌then◌else◌, List, [], ◌∷◌, map, reverse, Option, Some, None, option_map, Result, Ok, Err, codes}
+use Rattle.std.specs.Prelude.{ℕ, suc, zero, ◌+◌, Bool, true, false, not, ◌||◌, ◌&&◌, nat_lt, if◌then◌else◌, List, [], ◌∷◌, map, reverse, Option, Some, None, is_some, option_map, Result, Ok, Err, codes}
 use Rattle.std.specs.Str.{bytes_eq}
-use Rattle.photo_record.specs.Reading.{day_of_text, word_of_text}
+use Rattle.photo_record.specs.Reading.{rating_of_text, day_of_text, word_of_text}
 use Rattle.photo_filter_text.specs.declared.tree.Cmp.{Cmp}
 use Rattle.photo_filter_text.specs.declared.symbol.Symbol.{Symbol}
 use Rattle.photo_filter_text.specs.declared.symbol.Symbol.TheVariants.{Open, Close, OrWord, AndWord, NotWord, AllWord, NoneWord, RatingWord, DayWord, KeywordWord, Other}
@@ -15,7 +15,7 @@ use Rattle.photo_filter_text.specs.declared.reader.Level as code_level
 use Rattle.photo_filter_text.specs.declared.reader.Reader as code_reader
 use Rattle.photo_filter_text.specs.Tree.{Tree, All, Nothing, Rate, On, Keyword, Not, Both, Either, tree_of}
 use Rattle.photo_filter_text.specs.Tokens.{Token}
-use Rattle.photo_filter_text.specs.Grammar.{cmp_of, rating_of, is_bracket}
+use Rattle.photo_filter_text.specs.Grammar.{cmp_of, is_bracket}
 
 -- which of the grammar's own tokens a token is
 unfoldable pub symbol_of : Token → Symbol
@@ -123,7 +123,7 @@ at_word l outer (Err fault) = Err BadWord
 abbrev pub step_at : Place → Level → List Level → Token → Result State Refusal
 step_at AtFactor l outer token = at_factor l outer (symbol_of token)
 step_at (AtOperator field) l outer token = at_operator l outer field (cmp_of token)
-step_at (AtValue RatingField cmp) l outer token = test_of l outer (Rate cmp) (rating_of token)
+step_at (AtValue RatingField cmp) l outer token = test_of l outer (Rate cmp) (rating_of_text token)
 step_at (AtValue DayField cmp) l outer token = test_of l outer (On cmp) (day_of_text token)
 step_at AtWord l outer token = if is_bracket token then Err Unexpected else at_word l outer (word_of_text token)
 step_at (After t) l outer token = after_term l outer t (symbol_of token)
@@ -151,6 +151,63 @@ finished AtWord l outer = None
 
 abbrev pub finish : State → Option Tree
 finish s = finished s.place s.level s.outer
+
+-- Where memory may be asked for: for a factor behind a `not` or an `and`
+abbrev pub keeps_factor : Level → Bool
+keeps_factor l = nat_lt 0 l.negations || is_some l.both
+
+unfoldable pub keeps_at_factor : Level → Symbol → Bool
+keeps_at_factor l Open = true
+keeps_at_factor l AllWord = keeps_factor l
+keeps_at_factor l NoneWord = keeps_factor l
+keeps_at_factor l NotWord = false
+keeps_at_factor l RatingWord = false
+keeps_at_factor l DayWord = false
+keeps_at_factor l KeywordWord = false
+keeps_at_factor l Close = false
+keeps_at_factor l OrWord = false
+keeps_at_factor l AndWord = false
+keeps_at_factor l Other = false
+
+-- for what stands in a bracket that is closed, and for the bracket as a factor
+abbrev pub keeps_closed : Level → List Level → Bool
+keeps_closed l [] = false
+keeps_closed l (below ∷ outer) = is_some l.either || keeps_factor below
+
+unfoldable pub keeps_after_term : Level → List Level → Symbol → Bool
+keeps_after_term l outer OrWord = is_some l.either
+keeps_after_term l outer Close = keeps_closed l outer
+keeps_after_term l outer AndWord = false
+keeps_after_term l outer Open = false
+keeps_after_term l outer NotWord = false
+keeps_after_term l outer AllWord = false
+keeps_after_term l outer NoneWord = false
+keeps_after_term l outer RatingWord = false
+keeps_after_term l outer DayWord = false
+keeps_after_term l outer KeywordWord = false
+keeps_after_term l outer Other = false
+
+abbrev pub keeps_at : Place → Level → List Level → Token → Bool
+keeps_at AtFactor l outer token = keeps_at_factor l (symbol_of token)
+keeps_at (AtOperator field) l outer token = false
+keeps_at (AtValue RatingField cmp) l outer token = is_some (rating_of_text token) && keeps_factor l
+keeps_at (AtValue DayField cmp) l outer token = is_some (day_of_text token) && keeps_factor l
+keeps_at AtWord l outer token = not (is_bracket token)
+keeps_at (After t) l outer token = keeps_after_term l outer (symbol_of token)
+
+abbrev pub keeps : State → Token → Bool
+keeps s token = keeps_at s.place s.level s.outer token
+
+abbrev pub keeps_finished : Place → Level → List Level → Bool
+keeps_finished (After t) l [] = is_some l.either
+keeps_finished (After t) l (m ∷ outer) = false
+keeps_finished AtFactor l outer = false
+keeps_finished (AtOperator field) l outer = false
+keeps_finished (AtValue field cmp) l outer = false
+keeps_finished AtWord l outer = false
+
+abbrev pub keeps_at_end : State → Bool
+keeps_at_end s = keeps_finished s.place s.level s.outer
 
 -- The values of the code as these
 abbrev pub place_of : code.Place → Place

@@ -1,10 +1,12 @@
 //! Laws of the filter language. Each function's contract is a law, and its body does nothing.
 
-ghost use Rattle.std.specs.Prelude.{◌≡◌, ◌≢◌, List};
-ghost use Rattle.photo_filter_text.specs.Tree.{Tree};
-ghost use Rattle.photo_filter_text.specs.Tokens.{Token};
+ghost use Rattle.std.specs.Prelude.{◌≡◌, ◌≢◌, ℕ, ◌+◌, ◌≤◌, true, List, length, take};
+ghost use Rattle.std.specs.List.{list_any};
+ghost use Rattle.photo_filter_text.specs.Tree.{Tree, height};
+ghost use Rattle.photo_filter_text.specs.Tokens.{Token, tokens_of};
 ghost use Rattle.photo_filter_text.specs.Grammar.{IsExpr};
-ghost use Rattle.photo_filter_text.specs.Fault.{IsFilter, IsFault};
+ghost use Rattle.photo_filter_text.specs.Fault.{IsFilter, IsFault, Begins, MayWantMemory, is_keeper, max_tokens, max_height};
+ghost use Rattle.photo_filter_text.specs.Printed.{text_of, IsSound};
 ghost use Rattle.photo_filter_text.specs.Examples.{TheTokens, TheTrees, TheTexts};
 ghost use Rattle.photo_filter_text.specs.declared.fault.FilterFault.{FilterFault};
 ghost use Rattle.photo_filter_text.specs.declared.fault.FilterFault.TheVariants.{NoMemory};
@@ -18,6 +20,17 @@ pub fn one_tree()
 pub fn one_fault()
     ensures none { (tokens : List Token) (tree : Tree) (fault : FilterFault) → IsFilter tokens tree → IsFault tokens fault → fault ≡ NoMemory }
     ensures one { (tokens : List Token) (fault other : FilterFault) → fault ≢ NoMemory → other ≢ NoMemory → IsFault tokens fault → IsFault tokens other → fault ≡ other }
+{}
+
+/// Want of memory stands in place of no earlier fault, and only where reading keeps something: a filter begins with the
+/// tokens before some place, and up to and with that place stands `(`, `not`, `and`, `or` or `keyword`.
+pub fn memory_wanted()
+    ensures { (tokens : List Token) → MayWantMemory tokens → (before : ℕ) × Begins (take before tokens) × (list_any is_keeper (take (before + 1) tokens) ≡ true) }
+{}
+
+/// The text of a tree within both limits is a filter of that tree, so reading it gives the tree back.
+pub fn printed_again()
+    ensures { (tree : Tree) → IsSound tree → length (tokens_of (text_of tree)) ≤ max_tokens → height tree ≤ max_height → IsFilter (tokens_of (text_of tree)) tree }
 {}
 
 /// The definitions at some texts.

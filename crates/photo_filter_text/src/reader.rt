@@ -1,13 +1,13 @@
-ghost use Rattle.std.specs.Prelude.{◌≡◌, ◌≢◌, ◌+◌, ◌<◌, ◌^◌, true, false, IfOk, IfErr, IsErr, Some, None, Ok, Err, option_map};
+ghost use Rattle.std.specs.Prelude.{◌≡◌, ◌≢◌, ◌+◌, ◌<◌, ◌^◌, true, false, is_some, IfOk, IfErr, IsErr, Some, None, Ok, Err, option_map};
 ghost use Rattle.photo_record.specs.Reading.{word_of_text};
 ghost use Rattle.photo_filter_text.specs.Grammar.{is_bracket};
 ghost use Rattle.photo_filter_text.specs.declared.reader.Refusal.TheVariants.{Unexpected, BadWord, NoMemory};
 ghost use Rattle.photo_filter_text.specs.Tree.{tree_of, Both, Either};
-ghost use Rattle.photo_filter_text.specs.Steps.{start, step, fresh, level_with, levels_of, finish, joined, negated, after_factor, at_factor, after_term, state_of, level_of};
+ghost use Rattle.photo_filter_text.specs.Steps.{start, step, fresh, level_with, levels_of, finish, joined, negated, after_factor, at_factor, after_term, keeps, keeps_at_end, keeps_factor, keeps_at_factor, keeps_after_term, state_of, level_of};
 
-use crate::symbol::{Symbol, read_comparison, read_rating, read_symbol};
+use crate::symbol::{Symbol, read_comparison, read_symbol};
 use crate::{Cmp, FilterTree};
-use photo_record::{Day, Word, WordFault};
+use photo_record::{Day, Rating, Word, WordFault};
 use std::alloc::{AllocError, AllocFailed, Global};
 
 /// Why a token is not taken.
@@ -93,6 +93,7 @@ impl Reader {
         requires { self.level.negations < 2 ^ 32 }
         ensures taken { IfOk result (λ reader. step (state_of self) token.now ≡ Ok (state_of reader)) }
         ensures refused { IfErr result (λ refusal. refusal ≢ NoMemory → step (state_of self) token.now ≡ Err refusal) }
+        ensures memory { IfErr result (λ refusal. refusal ≡ NoMemory → keeps (state_of self) token.now ≡ true) }
     {
         let Reader {
             alloc,
@@ -111,7 +112,7 @@ impl Reader {
                 }),
                 None => Err(Refusal::Unexpected),
             },
-            Place::Value(Field::RatingField, cmp) => match read_rating(token) {
+            Place::Value(Field::RatingField, cmp) => match Rating::read(token) {
                 Some(rating) => after_factor(alloc, level, outer, FilterTree::Rate(cmp, rating)),
                 None => Err(Refusal::Unexpected),
             },
@@ -129,7 +130,8 @@ impl Reader {
 
     /// The tree, where the tokens are a filter.
     pub(crate) fn finish(self) -> Result<Option<FilterTree>, AllocError>
-        ensures { IfOk result (λ tree. option_map tree_of tree ≡ finish (state_of self)) }
+        ensures tree { IfOk result (λ tree. option_map tree_of tree ≡ finish (state_of self)) }
+        ensures memory { IsErr result → keeps_at_end (state_of self) ≡ true }
     {
         let Reader {
             alloc,
@@ -176,6 +178,7 @@ fn read_word(alloc: Global, token: &str) -> Result<Word, Refusal>
     ensures read { IfOk result (λ word. (is_bracket token.now ≡ false) × (word_of_text token.now ≡ Ok word)) }
     ensures unexpected { result ≡ Err Unexpected → is_bracket token.now ≡ true }
     ensures bad { result ≡ Err BadWord → (is_bracket token.now ≡ false) × IsErr (word_of_text token.now) }
+    ensures memory { result ≡ Err NoMemory → is_bracket token.now ≡ false }
 {
     if token == "(" || token == ")" {
         return Err(Refusal::Unexpected);
@@ -187,7 +190,7 @@ fn read_word(alloc: Global, token: &str) -> Result<Word, Refusal>
     }
 }
 
-#[tactic(auto, using(crate::proofs::Levels::levels_push), unfolding(crate::specs::Steps::at_factor))]
+#[tactic(auto, using(crate::proofs::Levels::levels_push), unfolding(crate::specs::Steps::at_factor, crate::specs::Steps::keeps_at_factor))]
 fn at_factor(
     alloc: Global,
     level: Level,
@@ -197,6 +200,7 @@ fn at_factor(
     requires { level.negations < 2 ^ 32 }
     ensures taken { IfOk result (λ reader. at_factor (level_of level) (levels_of outer.items) symbol ≡ Ok (state_of reader)) }
     ensures refused { IfErr result (λ refusal. refusal ≢ NoMemory → at_factor (level_of level) (levels_of outer.items) symbol ≡ Err refusal) }
+    ensures memory { IfErr result (λ refusal. refusal ≡ NoMemory → keeps_at_factor (level_of level) symbol ≡ true) }
 {
     let (place, level) = match symbol {
         Symbol::AllWord => return after_factor(alloc, level, outer, FilterTree::All),
@@ -230,7 +234,7 @@ fn after_factor(
     factor: FilterTree,
 ) -> Result<Reader, Refusal>
     ensures taken { IfOk result (λ reader. state_of reader ≡ after_factor (level_of level) (levels_of outer.items) (tree_of factor)) }
-    ensures refused { IfErr result (λ refusal. refusal ≡ NoMemory) }
+    ensures refused { IfErr result (λ refusal. (refusal ≡ NoMemory) × (keeps_factor (level_of level) ≡ true)) }
 {
     let Level {
         either,
@@ -252,7 +256,7 @@ fn after_factor(
     })
 }
 
-#[tactic(auto, using(crate::proofs::Levels::levels_push), unfolding(crate::specs::Steps::after_term))]
+#[tactic(auto, using(crate::proofs::Levels::levels_push), unfolding(crate::specs::Steps::after_term, crate::specs::Steps::keeps_after_term))]
 fn after_term(
     alloc: Global,
     level: Level,
@@ -262,6 +266,7 @@ fn after_term(
 ) -> Result<Reader, Refusal>
     ensures taken { IfOk result (λ reader. after_term (level_of level) (levels_of outer.items) (tree_of term) symbol ≡ Ok (state_of reader)) }
     ensures refused { IfErr result (λ refusal. refusal ≢ NoMemory → after_term (level_of level) (levels_of outer.items) (tree_of term) symbol ≡ Err refusal) }
+    ensures memory { IfErr result (λ refusal. refusal ≡ NoMemory → keeps_after_term (level_of level) (levels_of outer.items) symbol ≡ true) }
 {
     let level = match symbol {
         Symbol::AndWord => Level {
@@ -295,7 +300,8 @@ fn after_term(
 }
 
 fn negated(alloc: Global, times: usize, factor: FilterTree) -> Result<FilterTree, AllocError>
-    ensures { IfOk result (λ tree. tree_of tree ≡ negated times (tree_of factor)) }
+    ensures tree { IfOk result (λ tree. tree_of tree ≡ negated times (tree_of factor)) }
+    ensures memory { IsErr result → 0 < times }
 {
     let mut tree = factor;
     for _ in 0..times {
@@ -310,7 +316,8 @@ fn conjunction(
     left: Option<FilterTree>,
     right: FilterTree,
 ) -> Result<FilterTree, AllocError>
-    ensures { IfOk result (λ tree. tree_of tree ≡ joined Both (option_map tree_of left) (tree_of right)) }
+    ensures tree { IfOk result (λ tree. tree_of tree ≡ joined Both (option_map tree_of left) (tree_of right)) }
+    ensures memory { IsErr result → is_some (option_map tree_of left) ≡ true }
 {
     match left {
         Some(left) => Ok(FilterTree::Both(Box::new(alloc, left)?, Box::new(alloc, right)?)),
@@ -324,7 +331,8 @@ fn disjunction(
     left: Option<FilterTree>,
     right: FilterTree,
 ) -> Result<FilterTree, AllocError>
-    ensures { IfOk result (λ tree. tree_of tree ≡ joined Either (option_map tree_of left) (tree_of right)) }
+    ensures tree { IfOk result (λ tree. tree_of tree ≡ joined Either (option_map tree_of left) (tree_of right)) }
+    ensures memory { IsErr result → is_some (option_map tree_of left) ≡ true }
 {
     match left {
         Some(left) => Ok(FilterTree::Either(Box::new(alloc, left)?, Box::new(alloc, right)?)),

@@ -19,7 +19,9 @@ const MAX_HEIGHT: u32 = 32;
 /// The text is cut into tokens at its spaces, each parenthesis being a token of its own. `Ok` has the tree that the
 /// grammar gives the tokens. Otherwise the fault is the first that holds of them, in this order: `Empty`;
 /// `TooManyTokens`; `Unexpected` or `BadWord` at the first token up to which they begin no filter; `EndsEarly`;
-/// `TooDeep`. `NoMemory` may come in place of what follows the first two.
+/// `TooDeep`. `NoMemory` comes only where the first two don't hold and reading asks for memory: at a token that opens a
+/// bracket, at one that ends the factor behind a `not` or an `and`, where the term behind an `or` ends, and in the place
+/// of a word; it stands in place of what follows, and of no fault before.
 pub fn read(alloc: Global, text: &str) -> Result<FilterTree, FilterFault>
     ensures filter { IfOk result (λ tree. IsFilter (tokens_of text.now) (tree_of tree)) }
     ensures fault { IfErr result (IsFault (tokens_of text.now)) }

@@ -1,9 +1,8 @@
 ghost use Rattle.std.specs.Prelude.{◌≡◌};
-ghost use Rattle.photo_filter_text.specs.Grammar.{cmp_of, rating_of};
+ghost use Rattle.photo_filter_text.specs.Grammar.{cmp_of};
 ghost use Rattle.photo_filter_text.specs.Steps.{symbol_of};
 
 use crate::Cmp;
-use photo_record::Rating;
 
 /// The tokens of the grammar that stand for themselves.
 #[derive(Clone, Copy)]
@@ -47,16 +46,6 @@ pub(crate) fn read_comparison(token: &str) -> Option<Cmp>
         ">=" => Some(Cmp::AtLeast),
         "<=" => Some(Cmp::AtMost),
         "=" => Some(Cmp::Equal),
-        _ => None,
-    }
-}
-
-// A rating is written as one digit.
-pub(crate) fn read_rating(token: &str) -> Option<Rating>
-    ensures { result ≡ rating_of token.now }
-{
-    match token.as_bytes() {
-        [digit @ b'0'..=b'9'] => Rating::new(*digit - b'0'),
         _ => None,
     }
 }

@@ -140,6 +140,8 @@ fn trees_made_by_hand_are_printed_and_copied(rt: HostRuntime) -> Result<(), Fail
     assert!(rt; copy != FilterTree::Nothing);
     laws::one_tree();
     laws::one_fault();
+    laws::memory_wanted();
+    laws::printed_again();
     laws::examples();
     Ok(())
 }

@@ -1,7 +1,14 @@
 -- What some texts denote.
 use Rattle.std.specs.Prelude.{◌≡◌, [], ◌∷◌, ◌++◌, pos, neg_ℤ, Some, None, Ok, Err, codes, replicate}
-use Rattle.photo_record.specs.Reading.{day_of_text, word_of_text, words_of_text}
+use Rattle.photo_record.specs.Reading.{rating_of_text, day_of_text, word_of_text, words_of_text}
 use Rattle.photo_record.specs.declared.fault.WordFault.TheVariants.{Empty, BadCharacter, TooLong, TooMany, Repeated}
+
+pub record TheRatings : Type 0 where
+  pub none : rating_of_text (codes "0") ≡ Some 0
+  pub five : rating_of_text (codes "5") ≡ Some 5
+  pub six : rating_of_text (codes "6") ≡ None
+  pub zeros : rating_of_text (codes "05") ≡ None
+  pub empty : rating_of_text [] ≡ None
 
 pub record TheDays : Type 0 where
   pub first : day_of_text (codes "0000-01-01") ≡ Some (neg_ℤ (pos 719_528))

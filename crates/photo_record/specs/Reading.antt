@@ -1,14 +1,20 @@
--- What texts denote: numbers, dates, words and sets of words.
-use Rattle.std.specs.Prelude.{◌≡◌, ◌≢◌, ℕ, ◌<◌, Bool, false, ◌&&◌, ◌==◌, if◌then◌else◌, nat_lt, nat_le, List, [], ◌∷◌, length, take, slice_index_or, slice_index, slice_range, ℤ, Option, Some, None, Result, Ok, Err, encode_utf8_all, codes}
+-- What texts denote: ratings, numbers, dates, words and sets of words.
+use Rattle.std.specs.Prelude.{◌≡◌, ◌≢◌, ℕ, ◌-◌, ◌<◌, Bool, false, ◌&&◌, ◌==◌, if◌then◌else◌, nat_lt, nat_le, List, [], ◌∷◌, length, take, slice_index_or, slice_index, slice_range, ℤ, Option, Some, None, Result, Ok, Err, encode_utf8_all, codes}
 use Rattle.std.specs.List.{list_any, slice_split}
 use Rattle.std.specs.Str.{chars, all_ascii_digits}
 use Rattle.std.specs.Str.Parse.{digits_value}
 use Rattle.unicode_normalization.specs.Forms.{nfc}
-use Rattle.photo_record.specs.Limits.{max_word_bytes, max_words}
+use Rattle.photo_record.specs.Limits.{max_rating, max_word_bytes, max_words}
 use Rattle.photo_record.specs.Calendar.{Civil, civil, is_date, day_number}
 use Rattle.photo_record.specs.Word.{is_bad_character, same_word, has_word, put_word}
 use Rattle.photo_record.specs.declared.fault.WordFault.{WordFault}
 use Rattle.photo_record.specs.declared.fault.WordFault.TheVariants.{Empty, BadCharacter, TooLong, TooMany, Repeated}
+
+-- a rating is written as one digit
+abbrev pub rating_of_text : List ℕ → Option ℕ
+rating_of_text [] = None
+rating_of_text (digit ∷ []) = if nat_le 48 digit && nat_le (digit - 48) max_rating then Some (digit - 48) else None
+rating_of_text (digit ∷ next ∷ more) = None
 
 -- digits alone, and at least one
 abbrev pub is_number : List ℕ → Bool

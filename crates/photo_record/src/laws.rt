@@ -5,7 +5,7 @@ ghost use Rattle.photo_record.specs.Limits.{IsDay, max_words};
 ghost use Rattle.photo_record.specs.Calendar.{Civil, IsDateOf, is_date, day_number, date_of};
 ghost use Rattle.photo_record.specs.Word.{IsWord, is_rising};
 ghost use Rattle.photo_record.specs.Reading.{word_of_text, words_of_text};
-ghost use Rattle.photo_record.specs.Examples.{TheDays, TheWords, TheSets};
+ghost use Rattle.photo_record.specs.Examples.{TheRatings, TheDays, TheWords, TheSets};
 
 /// The days of the range and the dates of the years 0 to 9999 are the same, one to one.
 pub fn days_are_dates()
@@ -28,6 +28,7 @@ pub fn sets_are_read(text: &str)
 
 /// The definitions at some texts.
 pub fn examples()
+    ensures ratings { TheRatings }
     ensures days { TheDays }
     ensures words { TheWords }
     ensures sets { TheSets }

@@ -1,6 +1,7 @@
 ghost use Rattle.std.specs.Prelude.{◌≡◌, ℕ, ◌≤◌, ◌<◌};
 ghost use Rattle.std.specs.Option.{SomeIff};
 ghost use Rattle.photo_record.specs.Limits.{max_rating};
+ghost use Rattle.photo_record.specs.Reading.{rating_of_text};
 
 use std::marker::Model;
 
@@ -29,6 +30,16 @@ impl Rating {
             return None;
         }
         Some(Rating { value })
+    }
+
+    /// The rating that a text writes: one ASCII digit, 0 to 5.
+    pub fn read(text: &str) -> Option<Rating>
+        ensures { result ≡ rating_of_text text.now }
+    {
+        match text.as_bytes() {
+            [digit @ b'0'..=b'9'] => Rating::new(*digit - b'0'),
+            _ => None,
+        }
     }
 
     /// The rating as a number, 0 to 5.

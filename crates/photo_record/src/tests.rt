@@ -6,6 +6,20 @@ fn ranges(rt: HostRuntime) {
     for (value, rating) in [(0, Some(0)), (5, Some(5)), (6, None), (255, None)] {
         assert_eq!(rt; Rating::new(value).map(|r| r.value()), rating, "at {value}");
     }
+    for (text, rating) in [
+        ("0", Some(0)),
+        ("5", Some(5)),
+        ("6", None),
+        ("9", None),
+        ("05", None),
+        ("+5", None),
+        (" 5", None),
+        ("", None),
+        ("\u{665}", None),
+    ] {
+        let read = Rating::read(text);
+        assert_eq!(rt; read.map(|r| r.value()), rating, "of {text:?}");
+    }
     let numbers = [
         (0, None),
         (1, Some(1)),

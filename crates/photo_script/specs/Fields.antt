@@ -1,5 +1,5 @@
 -- What single fields denote.
-use Rattle.std.specs.Prelude.{ℕ, ◌-◌, Bool, false, not, ◌&&◌, ◌||◌, nat_le, nat_lt, ◌==◌, if◌then◌else◌, List, [], ◌∷◌, length, Option, Some, None, position}
+use Rattle.std.specs.Prelude.{ℕ, Bool, false, not, ◌&&◌, ◌||◌, nat_le, nat_lt, ◌==◌, if◌then◌else◌, List, [], ◌∷◌, length, Option, Some, None, position}
 use Rattle.std.specs.List.{list_all}
 use Rattle.std.specs.Char.{is_ascii_lowercase, is_ascii_digit}
 use Rattle.std.specs.Str.{bytes_eq, all_ascii_digits}
@@ -37,9 +37,3 @@ is_picture n = nat_le 1 n && nat_le n max_picture
 
 abbrev pub picture_of : List ℕ → Option ℕ
 picture_of text = if is_decimal text && is_picture (number_of text) then Some (number_of text) else None
-
--- one digit from 0 to 5
-abbrev pub rating_of : List ℕ → Option ℕ
-rating_of [] = None
-rating_of (d ∷ []) = if nat_le 48 d && nat_le d 53 then Some (d - 48) else None
-rating_of (d ∷ e ∷ more) = None

@@ -1,6 +1,6 @@
 -- What a line says, by the lines before it: a command, or nothing that runs, or its first fault.
 use Rattle.std.specs.Prelude.{ℕ, not, nat_le, nat_lt, if◌then◌else◌, List, [], ◌∷◌, length, Option, Some, None, is_some, Result, Ok, Err, codes}
-use Rattle.photo_record.specs.Reading.{day_of_text, words_of_text}
+use Rattle.photo_record.specs.Reading.{rating_of_text, day_of_text, words_of_text}
 use Rattle.photo_record.specs.declared.record.Record.{Record}
 use Rattle.photo_record.specs.declared.record.Record.TheVariants as content
 use Rattle.photo_record.specs.declared.fault.WordFault.{WordFault}
@@ -8,7 +8,7 @@ use Rattle.photo_script.specs.Limits.{max_line_bytes, max_devices, max_commands}
 use Rattle.photo_filter_text.specs.Tree.{Tree}
 use Rattle.photo_filter_rules.specs.Filters.{filter_of}
 use Rattle.photo_script.specs.Lines.{fields_of, third_field_on}
-use Rattle.photo_script.specs.Fields.{is_word, is_name, place_of, picture_of, rating_of}
+use Rattle.photo_script.specs.Fields.{is_word, is_name, place_of, picture_of}
 use Rattle.photo_script.specs.Earlier.{Earlier, is_comment}
 use Rattle.photo_script.specs.declared.command.Command.{Command}
 use Rattle.photo_script.specs.declared.command.Command.TheVariants as command
@@ -42,7 +42,7 @@ word_set (Err e) = None
 -- a rating, a day and words
 unfoldable pub record_said : List ℕ → List ℕ → List ℕ → Result Record LineFault
 record_said rating date words = do
-  stars ← or_fault (rating_of rating) fault.BadRating
+  stars ← or_fault (rating_of_text rating) fault.BadRating
   day ← or_fault (day_of_text date) fault.BadDate
   set ← or_fault (word_set (words_of_text words)) fault.BadKeyword
   Ok (content.Picture stars day set)

@@ -1,6 +1,6 @@
 ghost use Rattle.std.specs.Prelude.{◌≡◌, map, IfOk};
 ghost use Rattle.photo_script.specs.Lines.{fields_of, without_spaces, behind_field, third_field_on};
-ghost use Rattle.photo_script.specs.Fields.{is_name, picture_of, rating_of};
+ghost use Rattle.photo_script.specs.Fields.{is_name, picture_of};
 ghost use Rattle.photo_script.specs.Saying.{filter_said};
 ghost use Rattle.photo_script.specs.Steps.{Gives};
 
@@ -9,7 +9,7 @@ use crate::limits::MAX_NAME_CHARACTERS;
 use crate::refusal::Refusal;
 use photo_filter_rules::{BuildFault, Filter};
 use photo_filter_text::FilterFault;
-use photo_record::{PicNo, Rating};
+use photo_record::PicNo;
 use std::alloc::{AllocError, Global};
 
 /// The fields of a line: what stands between runs of spaces.
@@ -72,16 +72,6 @@ pub fn picture_of(text: &str) -> Option<PicNo>
         return None;
     }
     PicNo::new(text.parse().ok()?)
-}
-
-/// The rating that a field denotes: one digit.
-pub fn rating_of(text: &str) -> Option<Rating>
-    ensures { result ≡ rating_of text.now }
-{
-    match text.as_bytes() {
-        [digit @ b'0'..=b'5'] => Rating::new(*digit - b'0'),
-        _ => None,
-    }
 }
 
 /// The filter that a text is.

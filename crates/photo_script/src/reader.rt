@@ -7,11 +7,11 @@ ghost use Rattle.photo_script.specs.Saying.{device_said, new_picture_said, recor
 ghost use Rattle.photo_script.specs.Reading.{script_of, script_of_lines, MayWantMemory};
 ghost use Rattle.photo_script.specs.declared.fault.ScriptFault.TheVariants.{NoMemory, Read};
 
-use crate::field::{fields_of, filter_of, is_name, picture_of, rating_of, third_field_on};
+use crate::field::{fields_of, filter_of, is_name, picture_of, third_field_on};
 use crate::limits::{MAX_COMMANDS, MAX_DEVICES, MAX_LINE_BYTES, MAX_TEXT_BYTES};
 use crate::refusal::Refusal;
 use crate::{Command, LineFault, Script, ScriptFault};
-use photo_record::{Day, PicNo, Record, WordFault, Words};
+use photo_record::{Day, PicNo, Rating, Record, WordFault, Words};
 use std::alloc::Global;
 use std::collections::BTreeSet;
 use std::str;
@@ -208,7 +208,7 @@ impl Reader {
 fn record_of(alloc: Global, rating: &str, date: &str, words: &str) -> Result<Record, Refusal>
     ensures { Gives (λ r. r) result (record_said rating.now date.now words.now) }
 {
-    let rating = rating_of(rating).ok_or(LineFault::BadRating)?;
+    let rating = Rating::read(rating).ok_or(LineFault::BadRating)?;
     let day = Day::read(date).ok_or(LineFault::BadDate)?;
     let words = match Words::read(alloc, words) {
         Ok(words) => words,

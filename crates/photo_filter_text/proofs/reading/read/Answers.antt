@@ -1,13 +1,14 @@
 use Rattle.std.proofs.Common.{rules, arith}
+use Rattle.std.proofs.lemmas.List.{nil_from_length}
 use Rattle.photo_filter_text.specs.Tokens.{tokens_of}
 use Rattle.photo_filter_text.specs.Tree.{tree_of}
 use Rattle.photo_filter_text.proofs.Complete.{one-tree}
-use Rattle.photo_filter_text.proofs.Verdict.{accepted, no-fault, nil-from_length}
+use Rattle.photo_filter_text.proofs.Verdict.{accepted, no-fault}
 use Rattle.photo_filter_text.proofs.reading.read.Goals as goal
 
 pub returns-then-count-eq0-clause-accepted : goal.returns-then-count-eq0-clause-accepted
 returns-then-count-eq0-clause-accepted c =
-    λ tree f. no-fault (tokens_of c.args.text.now) tree _ f (nil-from_length _ (omega arith))
+    λ tree f. no-fault (tokens_of c.args.text.now) tree _ f (nil_from_length _ (omega arith))
 
 pub returns-in_err-tree-clause-accepted : goal.returns-in_err-tree-clause-accepted
 returns-in_err-tree-clause-accepted c = accepted (tokens_of c.args.text.now) _ (search rules) (search rules)

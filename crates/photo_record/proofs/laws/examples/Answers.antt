@@ -6,6 +6,9 @@ use Rattle.unicode_normalization.proofs.Computing.{unicode_normalization}
 use Rattle.photo_record.specs.Reading.{day_of_text, word_of_text, words_of_text}
 use Rattle.photo_record.proofs.laws.examples.Goals as goal
 
+pub returns-clause-ratings : goal.returns-clause-ratings
+returns-clause-ratings c = record { none = refl; five = refl; six = refl; zeros = refl; empty = refl }
+
 pub returns-clause-days : goal.returns-clause-days
 unfolding day_of_text days_from_civil day_count days_of_years days_of_months
 returns-clause-days c =
