@@ -1,15 +1,17 @@
 -- The answers of a run speak of devices of its script.
-use Rattle.std.proofs.Common.{◌≡◌, ℕ, zero, suc, ◌+◌, ◌<◌, ◌≤◌, Bool, true, false, cond, List, [], ◌∷◌, ◌++◌, length, get_or, set, map, refl, sym, ap, ◌∙◌, subst, arith}
-use Rattle.std.specs.Prelude.{filter, fold}
+use Rattle.std.proofs.Common.{◌≡◌, ℕ, zero, suc, ◌+◌, ◌<◌, ◌≤◌, Bool, true, false, not, cond, List, [], ◌∷◌, ◌++◌, length, get_or, set, map, sym, subst, arith}
+use Rattle.std.specs.Prelude.{filter}
 use Rattle.std.specs.List.{AllByRecursion}
+use Rattle.photo_filter_text.specs.Tree.{Tree}
+use Rattle.photo_filter_rules.specs.Matching.{matches}
 use Rattle.photo_device.specs.Ordered.{put}
-use Rattle.photo_device.specs.Entry.{Entry, entry_before, others, put_entry, is_of_other}
-use Rattle.photo_device.specs.Device.{ModelDevice, opening, made, new_entry}
+use Rattle.photo_device.specs.Entry.{Entry, entry_before, others, put_entry_if, is_of_other}
+use Rattle.photo_device.specs.Device.{ModelDevice, new_entry}
 use Rattle.photo_script.specs.declared.command.Command.{Command}
 use Rattle.photo_script.specs.declared.command.Command.TheVariants as command
 use Rattle.photo_script.specs.Contents.{Contents, device_of}
-use Rattle.photo_script.specs.Reports.{Answer, IsOfScript, AreOfScript, IsAbout}
-use Rattle.photo_script.specs.Runs.{Fleet, effect, opening_from}
+use Rattle.photo_script.specs.Reports.{IsOfScript, AreOfScript, IsAbout}
+use Rattle.photo_script.specs.Runs.{effect, opening_from}
 
 -- the device is of the script, and so is all that it holds
 pub record IsOfFleet (script : Contents) (d : ModelDevice) : Type 0 where
@@ -33,6 +35,11 @@ all_put P before x (y ∷ ys) p all =
       | false ↦ (p, all)
     ]
 
+-- a new entry into either place, and nothing else of its picture
+all_made : (P : Entry → Type 0) (b : Bool) (e : Entry) (picture : ℕ) (entries : List Entry) → P e → AllByRecursion P entries → AllByRecursion P (put_entry_if b e (others picture entries))
+all_made P true e picture entries p all = all_put P entry_before e _ p (all_filter P (is_of_other picture) entries all)
+all_made P false e picture entries p all = all_filter P (is_of_other picture) entries all
+
 pub all_push : {X : Type 0} (P : X → Type 0) (xs : List X) (x : X) → AllByRecursion P xs → P x → AllByRecursion P (xs ++ x ∷ [])
 all_push P [] x all p = (p, tt)
 all_push P (y ∷ ys) x all p = (all.0, all_push P ys x all.1 p)
@@ -48,19 +55,19 @@ all_at P (y ∷ ys) zero d all h = all.0
 all_at P (y ∷ ys) (suc k) d all h = all_at P ys k d all.1 (omega arith)
 
 -- the devices that a script opens with
-opening_of_fleet : (script : Contents) (n : ℕ) (names : List (List ℕ)) → n + length names ≤ length script.names → AllByRecursion (IsOfFleet script) (opening_from n names)
+opening_of_fleet : (script : Contents) (n : ℕ) (filters : List Tree) → n + length filters ≤ length script.names → AllByRecursion (IsOfFleet script) (opening_from n filters)
 opening_of_fleet script n [] h = tt
 opening_of_fleet script n (x ∷ xs) h = (record { author = omega arith; store = tt; out = tt }, opening_of_fleet script (n + 1) xs (omega arith))
 
-pub opening_known : (script : Contents) → AllByRecursion (IsOfFleet script) (opening_from 0 script.names)
-opening_known script = opening_of_fleet script 0 script.names (omega arith)
+pub opening_known : (script : Contents) → length script.filters ≤ length script.names → AllByRecursion (IsOfFleet script) (opening_from 0 script.filters)
+opening_known script h = opening_of_fleet script 0 script.filters (omega arith)
 
 -- a command keeps this, and its answer is about the script
 pub effect_known : (script : Contents) (c : Command) (d : ModelDevice) → device_of c < length script.names → IsOfFleet script d → IsOfFleet script (effect c d).device
 effect_known script (command.New n picture content) d h of = record {
   author = of.author;
-  store = all_put (λ e. IsOfScript script e.version) entry_before (new_entry d picture content) _ of.author (all_filter (λ e. IsOfScript script e.version) (is_of_other picture) d.store of.store);
-  out = all_filter (λ e. IsOfScript script e.version) (is_of_other picture) d.out of.out;
+  store = all_made (λ e. IsOfScript script e.version) (matches d.tree content) (new_entry d picture content) picture d.store of.author of.store;
+  out = all_made (λ e. IsOfScript script e.version) (not (matches d.tree content)) (new_entry d picture content) picture d.out of.author of.out;
 }
 effect_known script (command.List n) d h of = of
 

@@ -1,16 +1,17 @@
 -- A run, command by command.
-use Rattle.std.proofs.Common.{◌≡◌, ℕ, ◌+◌, ◌<◌, ◌≤◌, List, [], ◌∷◌, ◌++◌, length, get_or, set, take, map, refl, sym, ap, ◌∙◌, subst, length-append, inl, inr, arith}
+use Rattle.std.proofs.Common.{◌≡◌, ℕ, ◌+◌, ◌<◌, ◌≤◌, List, [], ◌∷◌, ◌++◌, length, get_or, set, take, map, sym, ap, ◌∙◌, subst, length-append, inl, inr, arith}
 use Rattle.std.specs.Prelude.{Some, slice_get, fold}
 use Rattle.std.specs.List.{AllZip, AllByRecursion}
 use Rattle.std.proofs.lemmas.Bool.{cases_eq}
 use Rattle.std.proofs.lemmas.List.{take_all, map-append, length-set, get_or-set_same, get_or-set_other}
 use Rattle.std.proofs.lemmas.List.Sums.{fold_more}
 use Rattle.std.proofs.lemmas.Option.{slice_get_within, get_or_from_slice_get}
+use Rattle.photo_filter_text.specs.Tree.{All}
 use Rattle.photo_device.specs.Device.{Kept, ModelDevice, Shows, opening}
 use Rattle.photo_script.specs.declared.command.Command.{Command}
 use Rattle.photo_script.specs.declared.report.Report.{Report}
 use Rattle.photo_script.specs.Contents.{Contents, device_of}
-use Rattle.photo_script.specs.Reports.{Answer, answer_of, IsAbout}
+use Rattle.photo_script.specs.Reports.{answer_of, IsAbout}
 use Rattle.photo_script.specs.Runs.{Fleet, opening_from, step, effect, opening_fleet, run, device_at}
 use Rattle.photofleet.proofs.Zipped.{zip_at, zip_set, zip_long}
 use Rattle.photofleet.proofs.About.{IsOfFleet, all_push, all_set, all_at, opening_known, effect_known, effect_about}
@@ -36,8 +37,8 @@ runs_more script n devices reports c d new report so_far here known shows tells 
     let fleet = fleet_after script n in
     let within : n < length script.commands = slice_get_within script.commands n c here in
     let more : fleet_after script (n + 1) ≡ step fleet c = fold_more step (opening_fleet script) script.commands n c within ∙ ap (step fleet) (get_or_from_slice_get script.commands n c c here) in
-    let old : Shows (get_or devices k d) (device_at fleet.devices k) = zip_at Shows devices fleet.devices k d (opening k) so_far.shown (omega (arith, so_far.long)) in
-    let of_fleet : IsOfFleet script (device_at fleet.devices k) = all_at (IsOfFleet script) fleet.devices k (opening k) so_far.known (let same = zip_long Shows devices fleet.devices so_far.shown in omega (arith, so_far.long)) in
+    let old : Shows (get_or devices k d) (device_at fleet.devices k) = zip_at Shows devices fleet.devices k d (opening k All) so_far.shown (omega (arith, so_far.long)) in
+    let of_fleet : IsOfFleet script (device_at fleet.devices k) = all_at (IsOfFleet script) fleet.devices k (opening k All) so_far.known (let same = zip_long Shows devices fleet.devices so_far.shown in omega (arith, so_far.long)) in
     record {
       long = length-set devices k new ∙ so_far.long;
       count = length-append reports (report ∷ []) ∙ ap (λ x. x + 1) so_far.count;
@@ -59,15 +60,15 @@ runs_on script n devices reports c at old new report so_far here known at_is old
     subst (λ k. RunsTo script (n + 1) (set devices k new) (reports ++ report ∷ [])) (sym at_is) done
 
 -- no command
-pub runs_none : (script : Contents) (devices : List Kept) (reports : List Report) → AllZip Shows devices (opening_from 0 script.names) → reports ≡ [] → RunsTo script 0 devices reports
-runs_none script devices reports all none = record {
-  long = opening_long script.names 0 devices all;
+pub runs_none : (script : Contents) (devices : List Kept) (reports : List Report) → AllZip Shows devices (opening_from 0 script.filters) → length devices ≡ length script.names → reports ≡ [] → RunsTo script 0 devices reports
+runs_none script devices reports all long none = record {
+  long = long;
   count = ap length none;
   shown = all;
   told = ap (map answer_of) none;
-  known = opening_known script;
+  known = opening_known script (let same = opening_long script.filters 0 devices all in omega (arith, long));
   about = tt;
-  counted = opening_counts script.names 0 devices all;
+  counted = opening_counts script.filters 0 devices all;
 }
 
 -- all commands

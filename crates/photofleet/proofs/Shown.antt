@@ -1,47 +1,50 @@
 -- Devices of the program and the model devices that they show.
-use Rattle.std.proofs.Common.{◌≡◌, ℕ, ◌+◌, ◌<◌, ◌≤◌, zero, suc, List, [], ◌∷◌, ◌++◌, length, get_or, take, min, refl, sym, ap, ◌∙◌, subst, arith, zero-add, add-suc, add-zero}
+use Rattle.std.proofs.Common.{◌≡◌, ℕ, ◌+◌, ◌<◌, ◌≤◌, zero, suc, List, [], ◌∷◌, ◌++◌, length, get_or, take, refl, sym, ap, ◌∙◌, subst, arith, zero-add, add-zero}
+use Rattle.std.specs.Prelude.{Some, slice_get}
 use Rattle.std.specs.List.{AllZip}
-use Rattle.std.proofs.lemmas.List.{take_more, length-take-le}
+use Rattle.std.proofs.lemmas.List.{take_more, take_all, length-take-le}
+use Rattle.std.proofs.lemmas.Option.{slice_get_within, get_or_from_slice_get}
 use Rattle.photofleet.proofs.Zipped.{zip_push}
+use Rattle.photo_filter_text.specs.Tree.{Tree}
 use Rattle.photo_device.specs.Held.{entries_of}
 use Rattle.photo_device.specs.Device.{Kept, ModelDevice, Shows, opening}
-use Rattle.photo_script.specs.Contents.{Contents, contents}
 use Rattle.photo_script.specs.Runs.{opening_from}
 
 -- the model device that a device shows
 abbrev pub model_of : Kept → ModelDevice
-model_of d = record { author = d.author; counter = d.counter; store = entries_of d.store; out = entries_of d.out }
+model_of d = record { author = d.author; tree = d.tree; counter = d.counter; store = entries_of d.store; out = entries_of d.out }
 
 pub shows_model : (d : Kept) → Shows d (model_of d)
-shows_model d = record { author = refl; counter = refl; store = refl; out = refl }
+shows_model d = record { author = refl; tree = refl; counter = refl; store = refl; out = refl }
 
-pub opening_from-push : (n : ℕ) (names : List (List ℕ)) (name : List ℕ) → opening_from n (names ++ name ∷ []) ≡ opening_from n names ++ opening (n + length names) ∷ []
-opening_from-push n [] name = rw add-zero refl
-opening_from-push n (x ∷ xs) name =
-    ap (λ l. opening n ∷ l) (opening_from-push (n + 1) xs name ∙ ap (λ k. opening_from (n + 1) xs ++ opening k ∷ []) (omega arith))
-
-pub length-opening_from : (n : ℕ) (names : List (List ℕ)) → length (opening_from n names) ≡ length names
-length-opening_from n [] = refl
-length-opening_from n (x ∷ xs) = rw (length-opening_from (n + 1) xs) refl
+pub opening_from-push : (n : ℕ) (filters : List Tree) (filter : Tree) → opening_from n (filters ++ filter ∷ []) ≡ opening_from n filters ++ opening (n + length filters) filter ∷ []
+opening_from-push n [] filter = rw add-zero refl
+opening_from-push n (x ∷ xs) filter =
+    ap (λ l. opening n x ∷ l) (opening_from-push (n + 1) xs filter ∙ ap (λ k. opening_from (n + 1) xs ++ opening k filter ∷ []) (omega arith))
 
 -- one device more
-pub opening_more : (names : List (List ℕ)) (n : ℕ) (devices : List Kept) (d : Kept) → n < length names → AllZip Shows devices (opening_from 0 (take n names)) → Shows d (opening n) → AllZip Shows (devices ++ d ∷ []) (opening_from 0 (take (n + 1) names))
-opening_more names n devices d h all here =
-    let grown = take_more names n [] h in
-    let long = length-take-le n names (omega arith) in
-    let name = get_or names n [] in
-    let opened : opening_from 0 (take (n + 1) names) ≡ opening_from 0 (take n names) ++ opening n ∷ [] =
-    ap (opening_from 0) grown ∙ opening_from-push 0 (take n names) name ∙ ap (λ k. opening_from 0 (take n names) ++ opening k ∷ []) (zero-add _ ∙ long) in
-    subst (λ ms. AllZip Shows (devices ++ d ∷ []) ms) (sym opened) (zip_push Shows devices _ d (opening n) all here)
+pub opening_more : (filters : List Tree) (n : ℕ) (devices : List Kept) (d : Kept) (filter : Tree) → slice_get filters n ≡ Some filter → AllZip Shows devices (opening_from 0 (take n filters)) → Shows d (opening n filter) → AllZip Shows (devices ++ d ∷ []) (opening_from 0 (take (n + 1) filters))
+opening_more filters n devices d filter is all here =
+    let within = slice_get_within filters n filter is in
+    let grown : take (n + 1) filters ≡ take n filters ++ filter ∷ [] =
+    take_more filters n filter within ∙ ap (λ x. take n filters ++ x ∷ []) (get_or_from_slice_get filters n filter filter is) in
+    let long = length-take-le n filters (omega arith) in
+    let opened : opening_from 0 (take (n + 1) filters) ≡ opening_from 0 (take n filters) ++ opening n filter ∷ [] =
+    ap (opening_from 0) grown ∙ opening_from-push 0 (take n filters) filter ∙ ap (λ k. opening_from 0 (take n filters) ++ opening k filter ∷ []) (zero-add _ ∙ long) in
+    subst (λ ms. AllZip Shows (devices ++ d ∷ []) ms) (sym opened) (zip_push Shows devices _ d (opening n filter) all here)
+
+-- all devices
+pub opening_all : (filters : List Tree) (n : ℕ) (devices : List Kept) → length filters ≤ n → AllZip Shows devices (opening_from 0 (take n filters)) → AllZip Shows devices (opening_from 0 filters)
+opening_all filters n devices h all = subst (λ ms. AllZip Shows devices (opening_from 0 ms)) (take_all n filters h) all
 
 -- devices that have made nothing
-pub opening_counts : (names : List (List ℕ)) (n : ℕ) (devices : List Kept) → AllZip Shows devices (opening_from n names) → (k : ℕ) (d : Kept) → k < length devices → (get_or devices k d).counter ≤ 0
-opening_counts names n [] all k d h = absurd (omega arith)
+pub opening_counts : (filters : List Tree) (n : ℕ) (devices : List Kept) → AllZip Shows devices (opening_from n filters) → (k : ℕ) (d : Kept) → k < length devices → (get_or devices k d).counter ≤ 0
+opening_counts filters n [] all k d h = absurd (omega arith)
 opening_counts [] n (x ∷ xs) all k d h = absurd all
 opening_counts (y ∷ ys) n (x ∷ xs) all zero d h = let none = all.0.counter in omega arith
 opening_counts (y ∷ ys) n (x ∷ xs) all (suc k) d h = opening_counts ys (n + 1) xs all.1 k d (omega arith)
 
-pub opening_long : (names : List (List ℕ)) (n : ℕ) (devices : List Kept) → AllZip Shows devices (opening_from n names) → length devices ≡ length names
+pub opening_long : (filters : List Tree) (n : ℕ) (devices : List Kept) → AllZip Shows devices (opening_from n filters) → length devices ≡ length filters
 opening_long [] n [] all = refl
 opening_long (y ∷ ys) n [] all = absurd all
 opening_long [] n (x ∷ xs) all = absurd all

@@ -1,3 +1,4 @@
+mod filters;
 mod memory;
 mod program;
 mod streams;

@@ -39,11 +39,14 @@ fn run(alloc: Global, script: &Script) -> Result<Outcome, AllocError>
 
 // The devices of a script, none of which has made or holds anything.
 fn opening_devices(alloc: Global, script: &Script) -> Result<Vec<Device>, AllocError>
-    ensures { IfOk result (λ devices. AllZip Shows devices.items (opening_from 0 script.now.names)) }
+    ensures shown { IfOk result (λ devices. AllZip Shows devices.items (opening_from 0 script.now.filters)) }
+    ensures long { IfOk result (λ devices. length devices.items ≡ length script.now.names) }
 {
     let mut devices = Vec::new(alloc);
     for place in 0..script.devices() {
-        devices.push(Device::new(alloc, Author::new(place as u16)))?;
+        let author = Author::new(place as u16);
+        let filter = script.filter(place as u16).try_clone()?;
+        devices.push(Device::new(alloc, author, filter))?;
     }
     Ok(devices)
 }

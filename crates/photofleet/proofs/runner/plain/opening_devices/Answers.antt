@@ -1,9 +1,21 @@
-use Rattle.std.proofs.Common.{◌≡◌, arith, subst, sym, ◌∙◌}
+use Rattle.std.proofs.Common.{◌≤◌, length, arith, subst, ◌∙◌}
+use Rattle.photo_filter_text.specs.Tree.{Tree}
 use Rattle.photo_device.specs.Device.{Shows, opening}
-use Rattle.photofleet.proofs.Shown.{opening_more}
+use Rattle.photofleet.proofs.Shown.{opening_more, opening_all, opening_long}
 use Rattle.photofleet.proofs.runner.plain.opening_devices.Goals as goal
 
 pub loop-place-preserved : goal.loop-place-preserved
 loop-place-preserved c =
-    let here : Shows c.new-in-loop-place.result (opening c.loop-place.place) = subst (λ n. Shows c.new-in-loop-place.result (opening n)) c.new.ensures c.new-in-loop-place.ensures in
-    rw c.in_ok-push.ensures.items (opening_more c.args.script.now.names c.loop-place.place _ _ (omega arith) c.loop-place.invariant here)
+    let place = c.loop-place.place in
+    let device = c.new.result in
+    let filter = c.filter.result.now in
+    let copied : Shows device (opening c.new-author.result filter) = subst (λ (t : Tree). Shows device (opening c.new-author.result t)) c.in_ok-filter.ensures c.new.ensures in
+    let here : Shows device (opening place filter) = subst (λ n. Shows device (opening n filter)) c.new-author.ensures copied in
+    rw c.in_ok-push.ensures.items (opening_more c.args.script.now.filters place _ _ filter c.filter.ensures c.loop-place.invariant here)
+
+pub returns-clause-long : goal.returns-clause-long
+returns-clause-long c =
+    let filters = c.args.script.now.filters in
+    let filtered = c.devices-place-end.ensures.filtered in
+    let reached : length filters ≤ c.loop-place.place = omega (arith, filtered, c.devices-place-end.ensures.count) in
+    opening_long filters 0 _ (opening_all filters c.loop-place.place _ reached c.loop-place.invariant) ∙ filtered

@@ -1,14 +1,14 @@
-use Rattle.std.proofs.Common.{◌≡◌, ◌-◌, ◌∙◌, subst, sym, ap, arith}
+use Rattle.std.proofs.Common.{◌≡◌, ◌∙◌, subst, ap, arith}
 use Rattle.std.specs.Prelude.{slice_get, Some}
 use Rattle.std.specs.List.{AllZip, AllByRecursion}
 use Rattle.photo_device.specs.Device.{Shows}
 use Rattle.photo_script.specs.Reports.{IsAbout}
 use Rattle.photo_script.specs.Runs.{Fleet}
-use Rattle.photofleet.proofs.Runs.{RunsTo, runs_none, runs_on, runs_all}
+use Rattle.photofleet.proofs.Runs.{runs_none, runs_on, runs_all}
 use Rattle.photofleet.proofs.runner.plain.run.Goals as goal
 
 pub loop-place-init : goal.loop-place-init
-loop-place-init c = runs_none _ _ _ c.in_ok-devices.ensures c.new-reports.ensures.items
+loop-place-init c = runs_none _ _ _ c.in_ok-devices.ensures.shown c.in_ok-devices.ensures.long c.new-reports.ensures.items
 
 pub loop-place-preserved : goal.loop-place-preserved
 loop-place-preserved c =

@@ -1,0 +1,141 @@
+use super::memory::{Shelf, Sink};
+use crate::serve::serve;
+use std::alloc::Global;
+use std::test::Fail;
+
+// What a script gives: the status, the reports and what went wrong.
+fn ran(alloc: Global, script: &str) -> (u8, Vec<u8>, Vec<u8>) {
+    let mut shelf = Shelf {
+        script: script.as_bytes(),
+    };
+    let mut told = Sink::new(alloc);
+    let mut fault = Sink::new(alloc);
+    let words = ["photofleet", "plain", "script"];
+    let status = serve(alloc, words.as_slice(), &mut shelf, &mut told, &mut fault);
+    (status, told.taken, fault.taken)
+}
+
+#[test]
+fn places_of_new_versions(rt: HostRuntime) -> Result<(), Fail> {
+    let alloc = rt.alloc();
+    for (script, reports) in [
+        (
+            "device frame rating >= 4\nnew frame 1 3 2024-05-01 -\nlist frame\n",
+            "1 made frame:1 out\n2 list frame store 0 out 1\n  out 1 frame:1 rating 3 day 2024-05-01 words -\n",
+        ),
+        // the letter é in one form for the filter, and in the other for the picture
+        (
+            "device a keyword \u{e9}\nnew a 1 0 2024-02-29 e\u{301}\nlist a\n",
+            "1 made a:1 store\n2 list a store 1 out 0\n  store 1 a:1 rating 0 day 2024-02-29 words \u{e9}\n",
+        ),
+        (
+            "device a keyword e\u{301}\nnew a 1 0 2024-02-29 \u{e9}\n",
+            "1 made a:1 store\n",
+        ),
+        // each device by its own filter
+        (
+            "device a rating <= 2\ndevice b none\ndevice c not rating <= 2\nnew a 1 3 2024-05-01 -\nnew b 2 3 2024-05-01 -\nnew c 3 3 2024-05-01 -\nnew a 4 2 2024-05-01 -\nnew c 5 2 2024-05-01 -\nlist a\n",
+            "1 made a:1 out\n2 made b:1 out\n3 made c:1 store\n4 made a:2 store\n5 made c:2 out\n6 list a store 1 out 1\n  store 4 a:2 rating 2 day 2024-05-01 words -\n  out 1 a:1 rating 3 day 2024-05-01 words -\n",
+        ),
+    ] {
+        let (status, told, fault) = ran(alloc, script);
+        assert_eq!(rt; status, 0, "{script}");
+        assert!(rt; told.as_slice() == reports.as_bytes(), "{script}");
+        assert!(rt; fault.is_empty(), "{script}");
+    }
+    Ok(())
+}
+
+#[test]
+fn filters_that_are_refused(rt: HostRuntime) -> Result<(), Fail> {
+    let alloc = rt.alloc();
+    for (script, text) in [
+        (
+            "device a rating >= 6\n",
+            "script fault: line 1: F15 BadFilter\n",
+        ),
+        (
+            "device a all\ndevice b all all\n",
+            "script fault: line 2: F15 BadFilter\n",
+        ),
+        // before a fault of a later line
+        (
+            "device a ( all\nfrob\n",
+            "script fault: line 1: F15 BadFilter\n",
+        ),
+        (
+            "device a rating >=4\nlist b\n",
+            "script fault: line 1: F15 BadFilter\n",
+        ),
+        // behind a fault of an earlier field or line
+        (
+            "device A rating >= 6\n",
+            "script fault: line 1: F7 BadName\n",
+        ),
+        (
+            "frob\ndevice a rating >= 6\n",
+            "script fault: line 1: F5 UnknownCommand\n",
+        ),
+    ] {
+        let (status, told, fault) = ran(alloc, script);
+        assert_eq!(rt; status, 3, "{script}");
+        assert!(rt; told.is_empty(), "{script}");
+        assert!(rt; fault.as_slice() == text.as_bytes(), "{script}");
+    }
+    Ok(())
+}
+
+#[test]
+fn heights_of_filters(rt: HostRuntime) -> Result<(), Fail> {
+    let alloc = rt.alloc();
+    for (count, status, text) in [
+        (31, 0, ""),
+        (32, 3, "script fault: line 1: F15 BadFilter\n"),
+    ] {
+        let mut script = String::from_str(alloc, "device a ")?;
+        for _ in 0..count {
+            script.push_str("not ")?;
+        }
+        script.push_str("all\n")?;
+        let (given, told, fault) = ran(alloc, script.as_str());
+        assert_eq!(rt; given, status, "{count}");
+        assert!(rt;
+            told.is_empty() && fault.as_slice() == text.as_bytes(),
+            "{count}"
+        );
+    }
+    Ok(())
+}
+
+// Puts so many words, joined by `or` and in brackets, behind a text.
+fn push_words(text: &mut String, letter: char, count: usize) -> Result<(), Fail> {
+    text.push('(')?;
+    for i in 0..count {
+        if i > 0 {
+            text.push_str(" or ")?;
+        }
+        write!(text, "keyword {letter}{i}")?;
+    }
+    text.push(')')?;
+    Ok(())
+}
+
+#[test]
+fn widths_of_filters(rt: HostRuntime) -> Result<(), Fail> {
+    let alloc = rt.alloc();
+    for (left, right, status, told, fault) in [
+        (8, 8, 0, "1 made a:1 store\n2 made a:2 out\n", ""),
+        (5, 13, 3, "", "script fault: line 1: F15 BadFilter\n"),
+    ] {
+        let mut script = String::from_str(alloc, "device a ")?;
+        push_words(&mut script, 'x', left)?;
+        script.push_str(" and ")?;
+        push_words(&mut script, 'y', right)?;
+        script.push_str("\nnew a 1 0 2024-05-01 x7,y0\nnew a 2 0 2024-05-01 x1,x2\n")?;
+        let given = ran(alloc, script.as_str());
+        assert_eq!(rt; given.0, status, "{left} by {right}");
+        assert!(rt; given.1.as_slice() == told.as_bytes(), "{left} by {right}");
+        assert!(rt; given.2.as_slice() == fault.as_bytes(), "{left} by {right}");
+    }
+    Ok(())
+}
