@@ -3,7 +3,7 @@ mod WorkedExamples
 mod FilterTexts
 mod Gathered
 mod Joined
-mod Listing
+pub mod Listing
 mod Numbers
 mod Padded
 mod Places

@@ -1,5 +1,5 @@
 -- The answers of a run speak of devices of its script.
-use Rattle.std.proofs.Common.{◌≡◌, ℕ, zero, suc, ◌+◌, ◌<◌, ◌≤◌, Bool, true, false, not, cond, List, [], ◌∷◌, ◌++◌, length, get_or, set, map, sym, subst, arith}
+use Rattle.std.proofs.Common.{ℕ, zero, suc, ◌+◌, ◌<◌, ◌≤◌, Bool, true, false, not, cond, List, [], ◌∷◌, ◌++◌, length, get_or, set, arith}
 use Rattle.std.specs.Prelude.{filter}
 use Rattle.std.specs.List.{AllByRecursion}
 use Rattle.photo_filter_text.specs.Tree.{Tree}
@@ -74,12 +74,3 @@ effect_known script (command.List n) d h of = of
 pub effect_about : (script : Contents) (c : Command) (d : ModelDevice) → device_of c < length script.names → IsOfFleet script d → IsAbout script (effect c d).report
 effect_about script (command.New n picture content) d h of = of.author
 effect_about script (command.List n) d h of = (h, of.store, of.out)
-
--- what holds of each image holds of that of the item at a place
-pub all_map_at : {X Y : Type 0} (P : Y → Type 0) (f : X → Y) (xs : List X) (k : ℕ) (x : X) → AllByRecursion P (map f xs) → k < length xs → x ≡ get_or xs k x → P (f x)
-all_map_at {X} {Y} P f xs k x all h is = subst (λ (y : X). P (f y)) (sym is) (at xs k all h)
-  where
-    at : (ys : List X) (j : ℕ) → AllByRecursion P (map f ys) → j < length ys → P (f (get_or ys j x))
-    at [] j all h = absurd (omega arith)
-    at (y ∷ ys) zero all h = all.0
-    at (y ∷ ys) (suc j) all h = at ys j all.1 (omega arith)

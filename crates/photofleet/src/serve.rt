@@ -1,5 +1,7 @@
-ghost use Rattle.std.specs.Prelude.{◌≡◌, true};
-ghost use Rattle.photofleet.specs.Status.{is_status};
+ghost use Rattle.std.specs.Prelude.{◌≡◌, ◌≢◌, ◌⊎◌, true, Err};
+ghost use Rattle.photo_script.specs.declared.fault.ScriptFault as script;
+ghost use Rattle.photofleet.specs.Status.{is_status, status_of};
+ghost use Rattle.photofleet.specs.declared.runner.fault.RunError.TheVariants.{Script};
 
 use crate::runner::{RunError, plain_stream};
 use clap::error::ErrorKind;
@@ -60,7 +62,8 @@ enum Job<'a> {
 /// Does what a command line asks for, and gives the exit status. `words` begins with the program's name.
 ///
 /// Reports and help go to `out`, and what went wrong to `err`: 2 for words that are refused, 3 for a script
-/// fault, 4 for want of memory, 5 for a failed write. A failed write to `err` changes no status.
+/// fault, 4 for want of memory, 5 for a failed write. A failed write to `err` changes no status. Where the words or
+/// the script are refused, nothing is written to `out`.
 pub fn serve<S: AsStr, O: Opener, W: Write, E: Write>(
     alloc: Global,
     words: &[S],
@@ -68,7 +71,8 @@ pub fn serve<S: AsStr, O: Opener, W: Write, E: Write>(
     out: &mut W,
     err: &mut E,
 ) -> u8
-    ensures { is_status result ≡ true }
+    ensures status { is_status result ≡ true }
+    ensures nothing { (result ≡ 2) ⊎ (result ≡ 3) → out.new ≡ out.old }
 {
     match job_of(alloc, words) {
         Ok(Job::Plain { file }) => {
@@ -84,14 +88,16 @@ fn plain<O: Opener, W: Write>(
     file: &str,
     opener: &mut O,
     out: &mut W,
-) -> Result<(), RunError> {
+) -> Result<(), RunError>
+    ensures nothing { (fault : script.ScriptFault) → result ≡ Err (Script fault) → out.new ≡ out.old }
+{
     let mut source = opener.open(file).map_err(RunError::Script)?;
     plain_stream(alloc, &mut source, out)
 }
 
 // The status of a run, whose error is told.
 fn status_of<E: Write>(done: Result<(), RunError>, err: &mut E) -> u8
-    ensures { is_status result ≡ true }
+    ensures { result ≡ status_of done }
 {
     match done {
         Ok(()) => DONE,
@@ -112,14 +118,16 @@ fn status_of<E: Write>(done: Result<(), RunError>, err: &mut E) -> u8
 
 /// Tells that memory was refused before anything was done, and gives the status.
 pub fn without_memory<E: Write>(err: &mut E) -> u8
-    ensures { is_status result ≡ true }
+    ensures { result ≡ 4 }
 {
     status_of(Err(RunError::NoMemory), err)
 }
 
 // Help is asked for, or the words are refused.
 fn refused<W: Write, E: Write>(alloc: Global, refusal: &clap::Error, out: &mut W, err: &mut E) -> u8
-    ensures { is_status result ≡ true }
+    ensures status { is_status result ≡ true }
+    ensures of_words { result ≢ 3 }
+    ensures nothing { result ≡ 2 → out.new ≡ out.old }
 {
     if refusal.kind() == ErrorKind::OutOfMemory {
         return without_memory(err);

@@ -1,8 +1,9 @@
-ghost use Rattle.std.specs.Prelude.{◌≤◌, length, map, OnOk};
+ghost use Rattle.std.specs.Prelude.{◌≤◌, length, map, OnOk, IfErr};
 ghost use Rattle.std.specs.List.{AllByRecursion};
 ghost use Rattle.photo_script.specs.Limits.{max_commands};
 ghost use Rattle.std.specs.Io.KnownBytes.{Appends};
 ghost use Rattle.photo_script.specs.Reports.{answer_of, texts_from, IsAbout};
+ghost use Rattle.photofleet.specs.Status.{IsOfWriting};
 
 use super::RunError;
 use photo_script::{Report, Script, report_text};
@@ -21,7 +22,8 @@ pub fn write_reports<W: Write>(
 ) -> Result<(), RunError>
     requires few { length reports.now ≤ max_commands }
     requires about { AllByRecursion (IsAbout script.now) (map answer_of reports.now) }
-    ensures { OnOk result (Appends (W.contents writer.old) (W.contents writer.new) (texts_from script.now 1 (map answer_of reports.now))) }
+    ensures written { OnOk result (Appends (W.contents writer.old) (W.contents writer.new) (texts_from script.now 1 (map answer_of reports.now))) }
+    ensures err { IfErr result IsOfWriting }
 {
     write_texts(alloc, writer, script, reports)?;
     if writer.flush().is_err() {
@@ -38,7 +40,8 @@ fn write_texts<W: Write>(
 ) -> Result<(), RunError>
     requires few { length reports.now ≤ max_commands }
     requires about { AllByRecursion (IsAbout script.now) (map answer_of reports.now) }
-    ensures { OnOk result (Appends (W.contents writer.old) (W.contents writer.new) (texts_from script.now 1 (map answer_of reports.now))) }
+    ensures written { OnOk result (Appends (W.contents writer.old) (W.contents writer.new) (texts_from script.now 1 (map answer_of reports.now))) }
+    ensures err { IfErr result IsOfWriting }
 {
     let mut number = 0;
     for report in reports {
@@ -52,7 +55,8 @@ fn write_texts<W: Write>(
 }
 
 fn write_text<W: Write>(writer: &mut W, text: &[u8]) -> Result<(), RunError>
-    ensures { OnOk result (Appends (W.contents writer.old) (W.contents writer.new) text.now) }
+    ensures written { OnOk result (Appends (W.contents writer.old) (W.contents writer.new) text.now) }
+    ensures err { IfErr result IsOfWriting }
 {
     let mut rest = text;
     while !rest.is_empty() {

@@ -1,4 +1,6 @@
-ghost use Rattle.std.specs.Prelude.{OnOk, IfSome};
+ghost use Rattle.std.specs.Prelude.{◌≡◌, OnOk, IfSome, Err};
+ghost use Rattle.photo_script.specs.declared.fault.ScriptFault.{ScriptFault};
+ghost use Rattle.photofleet.specs.declared.runner.fault.RunError.TheVariants.{Script};
 ghost use Rattle.photofleet.specs.Outcomes.{WritesOutput};
 
 use super::{RunError, read_source, run_plain, write_reports};
@@ -13,7 +15,8 @@ pub fn plain_stream<R: Read, W: Write>(
     reader: &mut R,
     writer: &mut W,
 ) -> Result<(), RunError>
-    ensures { OnOk result (IfSome (R.remaining reader.old) (WritesOutput (W.contents writer.old) (W.contents writer.new))) }
+    ensures written { OnOk result (IfSome (R.remaining reader.old) (WritesOutput (W.contents writer.old) (W.contents writer.new))) }
+    ensures nothing { (fault : ScriptFault) → result ≡ Err (Script fault) → writer.new ≡ writer.old }
 {
     let script = match read_source(alloc, reader) {
         Ok(script) => script,
