@@ -1,9 +1,9 @@
 -- Entries of held versions.
-use Rattle.std.proofs.Common.{◌≡◌, ℕ, Bool, true, false, cond, List, [], ◌∷◌, map, refl, sym, ap, ◌∙◌}
+use Rattle.std.proofs.Common.{◌≡◌, ℕ, true, false, cond, List, [], ◌∷◌, refl, ap, ◌∙◌}
 use Rattle.std.specs.Prelude.{filter}
 use Rattle.photo_device.specs.declared.held.Held.{Held}
 use Rattle.photo_device.specs.Ordered.{put}
-use Rattle.photo_device.specs.Entry.{Entry, entry_before, others, put_entry}
+use Rattle.photo_device.specs.Entry.{others, put_entry}
 use Rattle.photo_device.specs.Held.{entry_of, entries_of, held_before, held_elsewhere, replaced}
 
 pub entries-elsewhere : (p : ℕ) (xs : List Held) → entries_of (filter (held_elsewhere p) xs) ≡ others p (entries_of xs)

@@ -1,12 +1,12 @@
 -- What a device shows after it made a version.
-use Rattle.std.proofs.Common.{◌≡◌, ℕ, ◌+◌, Bool, true, false, not, cond, List, refl, sym, ap, ◌∙◌}
+use Rattle.std.proofs.Common.{◌≡◌, ℕ, ◌+◌, Bool, true, false, not, cond, refl, ap, ◌∙◌}
 use Rattle.photo_record.specs.declared.record.Record.{Record}
 use Rattle.photo_filter_rules.specs.Matching.{matches}
 use Rattle.photo_device.specs.declared.held.Held.{Held}
 use Rattle.photo_device.specs.declared.place.Place.{Place}
 use Rattle.photo_device.specs.declared.place.Place.TheVariants.{Store, Out}
 use Rattle.photo_device.specs.Version.{Version, version}
-use Rattle.photo_device.specs.Entry.{Entry, put_entry_if, others}
+use Rattle.photo_device.specs.Entry.{put_entry_if, others}
 use Rattle.photo_device.specs.Held.{entry_of, entries_of}
 use Rattle.photo_device.specs.Device.{ModelDevice, Kept, Shows, made, new_entry, place_for, held_at}
 use Rattle.photo_device.proofs.Entries.{entries-replaced, entries-elsewhere}
