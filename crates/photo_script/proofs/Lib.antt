@@ -13,4 +13,4 @@ mod Taken
 mod Taking
 mod Trailing
 mod Turns
-mod Whole
+pub mod Whole

@@ -3,4 +3,5 @@ pub mod Zipped
 pub mod Shown
 pub mod About
 pub mod Runs
+pub mod Sources
 pub mod Texts

@@ -1,6 +1,7 @@
-ghost use Rattle.std.specs.Prelude.{◌≡◌, ◌≢◌, ◌≤◌, length, Ok, Err, IfOk, IfErr, IfSome};
+ghost use Rattle.std.specs.Prelude.{◌≡◌, ◌≢◌, ◌⊎◌, ◌<◌, length, Ok, Err, IfOk, IfErr, IfSome};
 ghost use Rattle.photo_script.specs.Limits.{max_text_bytes};
 ghost use Rattle.photo_script.specs.Reading.{script_of};
+ghost use Rattle.photo_script.specs.declared.fault.ScriptFault.TheVariants.{Read, NoMemory, TooLarge};
 
 use photo_script::{MAX_TEXT_BYTES, Script, ScriptFault, read_script};
 use std::alloc::Global;
@@ -8,16 +9,20 @@ use std::io::Read;
 
 /// Reads a script to the end of its source, whatever pieces the reader gives.
 ///
-/// Every error of the reader is `Read`, and the source's byte 8,388,609 is the last that is read: `TooLarge`.
+/// Every error of the reader is `Read`, and the source's byte 8,388,609 is the last that is read: `TooLarge`. Each other
+/// fault but want of memory is that of the source's text.
 pub fn read_source<R: Read>(alloc: Global, reader: &mut R) -> Result<Script, ScriptFault>
-    ensures { IfOk result (λ script. IfSome (R.remaining reader.old) (λ input. script_of input ≡ Ok script)) }
+    ensures read { IfOk result (λ script. IfSome (R.remaining reader.old) (λ input. script_of input ≡ Ok script)) }
+    ensures refused { IfErr result (λ fault. fault ≢ Read → fault ≢ NoMemory → IfSome (R.remaining reader.old) (λ input. script_of input ≡ Err fault)) }
 {
     let bytes = read_bytes(alloc, reader)?;
     read_script(alloc, bytes.as_slice())
 }
 
 fn read_bytes<R: Read>(alloc: Global, reader: &mut R) -> Result<Vec<u8>, ScriptFault>
-    ensures { IfOk result (λ bytes. IfSome (R.remaining reader.old) (λ input. bytes.items ≡ input)) }
+    ensures read { IfOk result (λ bytes. IfSome (R.remaining reader.old) (λ input. bytes.items ≡ input)) }
+    ensures err { IfErr result (λ fault. (fault ≡ Read) ⊎ ((fault ≡ NoMemory) ⊎ (fault ≡ TooLarge))) }
+    ensures large { result ≡ Err TooLarge → IfSome (R.remaining reader.old) (λ input. max_text_bytes < length input) }
 {
     let mut bytes = Vec::new(alloc);
     let mut piece = [0u8; 4096];

@@ -1,5 +1,7 @@
-ghost use Rattle.std.specs.Prelude.{◌≡◌, OnOk, IfSome, Err};
+ghost use Rattle.std.specs.Prelude.{◌≡◌, ◌≢◌, OnOk, IfSome, Err};
+ghost use Rattle.photo_script.specs.Reading.{script_of};
 ghost use Rattle.photo_script.specs.declared.fault.ScriptFault.{ScriptFault};
+ghost use Rattle.photo_script.specs.declared.fault.ScriptFault.TheVariants.{Read, NoMemory};
 ghost use Rattle.photofleet.specs.declared.runner.fault.RunError.TheVariants.{Script};
 ghost use Rattle.photofleet.specs.Outcomes.{WritesOutput};
 
@@ -9,13 +11,15 @@ use std::io::{Read, Write};
 
 /// Reads a script, runs it command by command, and then writes its reports.
 ///
-/// Nothing is written before the run has succeeded.
+/// Nothing is written before the run has succeeded. A script's fault is the first one of the bytes read, unless reading
+/// or memory failed.
 pub fn plain_stream<R: Read, W: Write>(
     alloc: Global,
     reader: &mut R,
     writer: &mut W,
 ) -> Result<(), RunError>
     ensures written { OnOk result (IfSome (R.remaining reader.old) (WritesOutput (W.contents writer.old) (W.contents writer.new))) }
+    ensures refused { (fault : ScriptFault) → result ≡ Err (Script fault) → fault ≢ Read → fault ≢ NoMemory → IfSome (R.remaining reader.old) (λ input. script_of input ≡ Err fault) }
     ensures nothing { (fault : ScriptFault) → result ≡ Err (Script fault) → writer.new ≡ writer.old }
 {
     let script = match read_source(alloc, reader) {
