@@ -15,7 +15,7 @@ pub record IsFilterOf (text : List ℕ) (tree : Tree) : Type 0 where
 abbrev pub unless_wide : Tree → Option Tree
 unless_wide tree = if is_too_wide tree Plain then None else Some tree
 
--- all tokens are a filter of some tree or of none, and `decided` says which: so its proof is the whole of its meaning
+-- all tokens are a filter of some tree or of none, and `decided` shows which: its type says all that it means
 abbrev pub tree_of_tokens : {tokens : List Token} → Decided tokens → Option Tree
 tree_of_tokens (filter tree is_filter) = unless_wide tree
 tree_of_tokens (no_filter is_none) = None
