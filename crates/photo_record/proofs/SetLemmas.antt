@@ -1,9 +1,10 @@
 -- Sets of words as rising lists: a search, and one word more.
-use Rattle.std.proofs.Common.{◌≡◌, ◌≢◌, ℕ, zero, suc, ◌+◌, ◌<◌, ◌≤◌, true, false, cond, List, [], ◌∷◌, ◌++◌, length, get_or, take, drop, Result, Ok, Err, refl, sym, ap, subst, ◌∙◌, add-one, arith, inl, inr}
+use Rattle.std.proofs.Common.{◌≡◌, ◌≢◌, ℕ, zero, suc, ◌+◌, ◌<◌, ◌≤◌, true, false, cond, ◌==◌, List, [], ◌∷◌, ◌++◌, length, get_or, slice_index_or, take, drop, Result, Ok, Err, refl, sym, ap, subst, ◌∙◌, add-one, arith, inl, inr}
 use Rattle.std.proofs.lemmas.Bool.{and_parts, and_from, or_parts, or_from, cases_Bool, cases_lt, lt-leb, cond-true, cond-false}
 use Rattle.std.proofs.lemmas.List.{get_or_read, take_more, at_drop_more, take-append-drop}
 use Rattle.std.proofs.lemmas.List.Elements.{All-cons, All-head, All-tail}
 use Rattle.std.proofs.lemmas.Cmp.{nat_list_cmp_total}
+use Rattle.std.proofs.lemmas.List.Splits.{length-slice_split}
 use Rattle.std.proofs.lemmas.List.Folds.{list_any_at}
 use Rattle.std.proofs.lemmas.List.Sorted.{searchable_from_sorted}
 use Rattle.std.specs.Cmp.{IsTotalOrder}
@@ -16,7 +17,8 @@ use Rattle.std.specs.Ordering.{nat_cmp, is_lt, is_eq, ordering_reverse, ordering
 use Rattle.photo_record.specs.Word.{IsWord, IsWordSet, word_before, same_word, is_rising, has_word, put_word}
 use Rattle.photo_record.specs.Reading.{word_of_text, ◌>>=◌, with_word, with_piece, with_pieces, pieces_of, is_dash, words_of_text, MayWantMemory}
 use Rattle.photo_record.specs.declared.fault.WordFault.{WordFault}
-use Rattle.photo_record.specs.declared.fault.WordFault.TheVariants.{TooMany, Repeated}
+use Rattle.photo_record.specs.declared.fault.WordFault.TheVariants.{Empty, TooMany, Repeated}
+use Rattle.photo_record.proofs.FormLemmas.{word_of_text-nil}
 
 abbrev pub order : List ℕ → List ℕ → Ordering
 order = slice_cmp nat_cmp
@@ -246,6 +248,26 @@ may_want text k words piece none h room some = record {
   room = room;
   piece = λ empty. some (get_or_read (pieces_of text) k piece h.within h.at [] ∙ empty);
 }
+
+-- of a text that is read, the first piece is a word
+pub may_want-read : (text : List ℕ) (words : List (List ℕ)) → is_dash text ≡ false → words_of_text text ≡ Ok words → MayWantMemory text
+may_want-read text words none is = record {
+  at = 0;
+  words = [];
+  no_dash = none;
+  in_text = omega (arith, length-slice_split (λ b. b == 44) text);
+  before = refl;
+  room = omega arith;
+  piece = first (pieces_of text) (omega (arith, length-slice_split (λ b. b == 44) text)) (sym (words_of_text-pieces text none) ∙ is);
+}
+  where
+    first : (pieces : List (List ℕ)) → 0 < length pieces → with_pieces [] pieces ≡ Ok words → slice_index_or pieces 0 [] ≢ []
+    first [] some is empty = absurd (omega arith)
+    first (piece ∷ pieces) some is empty =
+        let e : with_pieces [] (piece ∷ pieces) ≡ Err Empty =
+        ap (λ p. with_piece [] p >>= λ more. with_pieces more pieces) empty
+        ∙ ap (λ r. (r >>= with_word []) >>= λ more. with_pieces more pieces) word_of_text-nil in
+        cc
 
 pub err_again : {A B : Type 0} {x y : WordFault} → (let r : Result A WordFault = Err x in r) ≡ Err y → (let r : Result B WordFault = Err x in r) ≡ Err y
 err_again e = let same = fault_same e in ap (λ f. Err f) same

@@ -1,0 +1,8 @@
+-- How a set of words is kept, which only `Words` itself looks at: the list of its words behind a shared pointer, and no pointer for no word.
+use Rattle.std.specs.Prelude.{ℕ, List, [], Option, Some, None}
+use Rattle.std.specs.Arc.{arc_value}
+use Rattle.std.specs.declared.sync.Arc.{Arc}
+
+abbrev pub shared_words : {Z : Type 0} → Option (Arc (List (List ℕ)) Z) → List (List ℕ)
+shared_words None = []
+shared_words (Some words) = arc_value words
