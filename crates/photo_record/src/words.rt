@@ -117,3 +117,26 @@ impl PartialEq for Words {
 impl Eq for Words {
     ghost laws = { lists_equiv nat_list_eq_equiv };
 }
+
+#[cfg(test)]
+mod tests {
+    use super::{Global, Words};
+    use std::sync::Arc;
+
+    #[test]
+    fn copies_share_their_words(rt: HostRuntime) {
+        assert!(rt; owners(rt.alloc(), "b,a") == Some(2));
+        assert!(rt; owners(rt.alloc(), "-") == Some(0));
+    }
+
+    // How many sets share the words once a copy was made of the set.
+    fn owners(alloc: Global, text: &str) -> Option<usize> {
+        let words = Words::read(alloc, text).ok()?;
+        let copy = words.try_clone().ok()?;
+        Some(
+            copy.shared
+                .as_ref()
+                .map_or(0, |words| Arc::strong_count(words)),
+        )
+    }
+}
