@@ -1,4 +1,4 @@
--- How a set of words is kept, which only `Words` itself looks at: the list of its words behind a shared pointer, and no pointer for no word.
+-- For `Words` itself: the words behind its shared pointer. No pointer stands for no word.
 use Rattle.std.specs.Prelude.{ℕ, List, [], Option, Some, None}
 use Rattle.std.specs.Arc.{arc_value}
 use Rattle.std.specs.declared.sync.Arc.{Arc}
