@@ -4,7 +4,7 @@ use Rattle.photo_record.specs.Reading.{word_of_text}
 use Rattle.photo_record.specs.Word.{is_rising, IsWord, IsWordSet}
 use Rattle.photo_record.proofs.SetLemmas.{found, inserted_ok, inserted_set}
 use Rattle.photo_record.proofs.FormLemmas.{word_of_text-nil}
-use Rattle.photo_record.proofs.words.Words.add_piece.Goals as goal
+use Rattle.photo_record.proofs.word_list.WordList.add_piece.Goals as goal
 
 pub returns-in_default-clause-refused : goal.returns-in_default-clause-refused
 returns-in_default-clause-refused c = λ _.
