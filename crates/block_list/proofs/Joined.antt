@@ -1,5 +1,5 @@
 -- Blocks as one list.
-use Rattle.std.proofs.Common.{slice_get, Some, ◌≡◌, ℕ, zero, suc, ◌+◌, ◌-◌, ◌<◌, ◌≤◌, List, [], ◌∷◌, ◌++◌, length, get_or, set, take, drop, Vec, refl, sym, ap, ◌∙◌, append_assoc, arith}
+use Rattle.std.proofs.Common.{slice_get, Some, ◌≡◌, ℕ, zero, suc, ◌+◌, ◌<◌, ◌≤◌, List, [], ◌∷◌, ◌++◌, length, get_or, set, take, drop, Vec, refl, sym, ap, ◌∙◌, append_assoc, arith}
 use Rattle.std.specs.List.{insert, remove}
 use Rattle.std.specs.declared.alloc.Global.{Global}
 use Rattle.std.proofs.lemmas.List.{set_split, length-set, get_or-set_same, length-take-le, take_at, drop_at, drop-drop, take-append-le, drop-append-le, take-set-le, drop-set-lt}
