@@ -1,3 +1,7 @@
+ghost use Rattle.std.specs.Prelude.{◌≡◌};
+ghost use Rattle.photo_script.specs.Contents.{devices_of};
+
+use photo_device::Author;
 use photo_record::{PicNo, Record};
 
 /// A command of a script. Devices are given by their places in order of declaration, from 0.
@@ -13,4 +17,13 @@ pub enum Command {
     List {
         device: u16,
     },
+}
+
+/// The devices that a command works on, as authors: one, and perhaps a second.
+pub fn devices_of(command: &Command) -> (Author, Option<Author>)
+    ensures { result ≡ devices_of command.now }
+{
+    match command {
+        Command::New { device, .. } | Command::List { device } => (Author::new(*device), None),
+    }
 }
