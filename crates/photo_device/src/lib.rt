@@ -3,6 +3,7 @@
 
 mod author;
 mod device;
+mod fault;
 mod held;
 mod held_list;
 mod held_set;
@@ -12,6 +13,7 @@ mod version;
 
 pub use author::Author;
 pub use device::Device;
+pub use fault::ChangeFault;
 pub use held::Held;
 pub use held_list::HeldList;
 pub use held_set::HeldSet;

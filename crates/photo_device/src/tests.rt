@@ -1,3 +1,5 @@
+mod changes;
+
 use crate::{Author, Device, Held, HeldList, Place, Version};
 use photo_filter_rules::Filter;
 use photo_record::{Day, PicNo, Rating, Record, Words};
