@@ -4,6 +4,7 @@ use Rattle.std.specs.List.{flat_map}
 use Rattle.std.specs.Option.{option_map, option_to_list}
 use Rattle.photo_record.specs.declared.record.Record.{Record}
 use Rattle.photo_filter_text.specs.Tree.{Tree, All}
+use Rattle.photo_version.specs.Author.{author}
 use Rattle.photo_device.specs.Entry.{Entry}
 use Rattle.photo_device.specs.Device.{ModelDevice, opening, made, new_entry, next_version, new_place}
 use Rattle.photo_script.specs.Contents.{Contents, command_of, devices_of}
@@ -44,7 +45,7 @@ pub record Fleet : Type 0 where
 
 -- the device at a place in order of declaration
 abbrev pub device_at : List ModelDevice → ℕ → ModelDevice
-device_at devices n = slice_index_or devices n (opening n All)
+device_at devices n = slice_index_or devices n (opening (author n) All)
 
 -- devices with one more exchanged, if there is a second
 abbrev pub with_second : Option ℕ → Option ModelDevice → List ModelDevice → List ModelDevice
@@ -74,7 +75,7 @@ step script fleet number = by_cases (command_of script number)
 -- a device for each filter, from a number on, none of which has made or holds anything
 abbrev pub opening_from : ℕ → List Tree → List ModelDevice
 opening_from n [] = []
-opening_from n (filter ∷ filters) = opening n filter ∷ opening_from (n + 1) filters
+opening_from n (filter ∷ filters) = opening (author n) filter ∷ opening_from (n + 1) filters
 
 abbrev pub opening_fleet : Contents → Fleet
 opening_fleet script = record {

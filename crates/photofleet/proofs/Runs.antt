@@ -9,6 +9,7 @@ use Rattle.std.proofs.lemmas.List.{append-nil, length-map, map-append, length-se
 use Rattle.std.proofs.lemmas.List.Sums.{fold-append}
 use Rattle.std.proofs.lemmas.Option.{slice_get_within}
 use Rattle.photo_filter_text.specs.Tree.{All}
+use Rattle.photo_version.specs.Author.{author}
 use Rattle.photo_device.specs.Device.{Kept, ModelDevice, Shows, opening}
 use Rattle.photo_script.specs.declared.command.Command.{Command}
 use Rattle.photo_script.specs.declared.command.Command.TheVariants as command
@@ -92,8 +93,8 @@ runs_more script n devices reports c d new report so_far here declared shows tel
     let fleet = fleet_after script n in
     let within : n < length script.commands = slice_get_within script.commands n c here in
     let more : fleet_after script (n + 1) ≡ after_one fleet (n + 1) c = next script n c here in
-    let old : Shows (get_or devices k d) (device_at fleet.devices k) = zip_at Shows devices fleet.devices k d (opening k All) so_far.shown (omega (arith, so_far.long)) in
-    let of_fleet : IsOfFleet script (device_at fleet.devices k) = all_at (IsOfFleet script) fleet.devices k (opening k All) so_far.known (let same = zip_long Shows devices fleet.devices so_far.shown in omega (arith, so_far.long)) in
+    let old : Shows (get_or devices k d) (device_at fleet.devices k) = zip_at Shows devices fleet.devices k d (opening (author k) All) so_far.shown (omega (arith, so_far.long)) in
+    let of_fleet : IsOfFleet script (device_at fleet.devices k) = all_at (IsOfFleet script) fleet.devices k (opening (author k) All) so_far.known (let same = zip_long Shows devices fleet.devices so_far.shown in omega (arith, so_far.long)) in
     let answer = (effect c (device_at fleet.devices k) None).report in
     let left : length script.commands - n - 1 ≡ length script.commands - (n + 1) = omega arith in
     let place : (n + 1) - 1 ≡ n = omega arith in

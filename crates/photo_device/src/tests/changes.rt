@@ -1,5 +1,6 @@
 use super::{filter, picture, rated};
-use crate::{Author, ChangeFault, Device, Place, Version};
+use crate::{ChangeFault, Device, Place};
+use photo_version::{Author, Version};
 use std::test::Fail;
 
 // The number of the version that was made, and its place. None where nothing of the picture is held.
