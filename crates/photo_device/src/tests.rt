@@ -1,3 +1,5 @@
+mod changes;
+
 use crate::{Device, Held, HeldList, Place};
 use photo_filter_rules::Filter;
 use photo_record::{Day, PicNo, Rating, Record, Words};
