@@ -1,0 +1,47 @@
+-- Authors with bounds, and the versions that they denote.
+use Rattle.std.specs.Prelude.{ℕ, Bool, ◌&&◌, ◌==◌, max, nat_lt, nat_le, List}
+use Rattle.std.specs.List.{list_any, list_all}
+use Rattle.std.specs.Cmp.Lexicographic.{pointwise}
+use Rattle.item_knowledge.specs.Versions.{Version, author_word}
+use Rattle.item_knowledge.specs.Tables.{in_order, at, merge}
+
+-- an author, as its word, with a bound
+abbrev pub Entry : Type 0
+Entry = ℕ × ℕ
+
+-- the author's versions from 1 to the bound
+abbrev pub denotes_one : Entry → Version → Bool
+denotes_one e v = (e.0 == author_word v.author) && (nat_le 1 v.number && nat_le v.number e.1)
+
+-- the versions that entries denote
+abbrev pub denotes : List Entry → Version → Bool
+denotes entries v = list_any (λ e. denotes_one e v) entries
+
+abbrev pub most_author_word : ℕ
+most_author_word = 65535
+
+abbrev pub most_bound : ℕ
+most_bound = 4294967295
+
+-- a bound above 0; and both numbers have room where an author's word and a version's number have it
+abbrev pub is_entry : Entry → Bool
+is_entry e = nat_lt 0 e.1 && (nat_le e.1 most_bound && nat_le e.0 most_author_word)
+
+-- authors rise, and each has a bound above 0
+abbrev pub is_vector : List Entry → Bool
+is_vector es = in_order es && list_all (λ e. is_entry e) es
+
+-- the bound of an author, 0 where it has no entry
+abbrev pub bound : List Entry → ℕ → ℕ
+bound es a = at 0 es a
+
+-- each bound of the one is at most the other's
+abbrev pub leq : List Entry → List Entry → Bool
+leq es fs = list_all (λ e. nat_le e.1 (bound fs e.0)) es
+
+abbrev pub same_entries : List Entry → List Entry → Bool
+same_entries es fs = pointwise (λ e f. (e.0 == f.0) && (e.1 == f.1)) es fs
+
+-- of each author the greater bound
+abbrev pub joined : List Entry → List Entry → List Entry
+joined xs ys = merge (λ a. a) (λ a b. max a b) (λ b. b) xs ys

@@ -1,0 +1,16 @@
+-- Authors and versions.
+use Rattle.std.specs.Prelude.{ℕ}
+
+pub record Author : Type 0 where
+  pub device : ℕ
+
+pub record Version : Type 0 where
+  pub author : Author
+  pub number : ℕ
+
+-- an author as one word
+abbrev pub author_word : Author → ℕ
+author_word a = a.device
+
+abbrev pub author_of_word : ℕ → Author
+author_of_word w = record { device = w }
