@@ -4,11 +4,13 @@ use Rattle.std.specs.List.{list_all}
 use Rattle.std.proofs.lemmas.Bool.{and_parts, and_from, ltb-true, eq-eqb, ne_eqb, cases_eq, cases_lt, cases_order}
 use Rattle.std.proofs.lemmas.Bool.Decides.{nat_tests}
 use Rattle.item_knowledge.specs.Tables.{in_order}
-use Rattle.item_knowledge.specs.Versions.{Version, author_word, author_of_word}
-use Rattle.item_knowledge.specs.Entries.{Entry, denotes, is_entry, is_vector, bound, most_bound, most_author_word}
+use Rattle.item_knowledge.specs.Versions.{Version, author_word, is_author_word, author_of_word}
+use Rattle.item_knowledge.specs.Entries.{Entry, denotes, is_entry, is_vector, bound, most_number}
 
 pub entry_positive : (e : Entry) → is_entry e ≡ true → 0 < e.1
-entry_positive e h = ltb-true 0 e.1 (and_parts (ltb 0 e.1) (leb e.1 most_bound && leb e.0 most_author_word) h).0
+entry_positive e h =
+    let a = and_parts (is_author_word e.0) (ltb 0 e.1 && leb e.1 most_number) h in
+    ltb-true 0 e.1 (and_parts (ltb 0 e.1) (leb e.1 most_number) a.1).0
 
 pub record VectorParts (e : Entry) (es : List Entry) : Type 0 where
   pub entry : is_entry e ≡ true

@@ -2,7 +2,7 @@
 use Rattle.std.specs.Prelude.{ℕ, Bool, ◌&&◌, ◌==◌, max, nat_lt, nat_le, List}
 use Rattle.std.specs.List.{list_any, list_all}
 use Rattle.std.specs.Cmp.Lexicographic.{pointwise}
-use Rattle.item_knowledge.specs.Versions.{Version, author_word}
+use Rattle.item_knowledge.specs.Versions.{Version, author_word, is_author_word}
 use Rattle.item_knowledge.specs.Tables.{in_order, at, merge}
 
 -- an author, as its word, with a bound
@@ -17,15 +17,13 @@ denotes_one e v = (e.0 == author_word v.author) && (nat_le 1 v.number && nat_le 
 abbrev pub denotes : List Entry → Version → Bool
 denotes entries v = list_any (λ e. denotes_one e v) entries
 
-abbrev pub most_author_word : ℕ
-most_author_word = 65535
+-- the greatest number of a version
+abbrev pub most_number : ℕ
+most_number = 4294967295
 
-abbrev pub most_bound : ℕ
-most_bound = 4294967295
-
--- a bound above 0; and both numbers have room where an author's word and a version's number have it
+-- the word is an author's, and its bound a version's number
 abbrev pub is_entry : Entry → Bool
-is_entry e = nat_lt 0 e.1 && (nat_le e.1 most_bound && nat_le e.0 most_author_word)
+is_entry e = is_author_word e.0 && (nat_lt 0 e.1 && nat_le e.1 most_number)
 
 -- authors rise, and each has a bound above 0
 abbrev pub is_vector : List Entry → Bool

@@ -2,5 +2,9 @@ pub mod Versions
 pub mod Tables
 pub mod Entries
 pub mod Fragments
+pub mod Rows
+pub mod Gathering
+pub mod Places
+pub mod Coding
 pub mod Laws
 pub mod Examples
