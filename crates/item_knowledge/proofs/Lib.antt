@@ -10,3 +10,4 @@ pub mod GatherLemmas
 pub mod PlaceLemmas
 pub mod IndexLemmas
 pub mod UnionLemmas
+pub mod SearchLemmas

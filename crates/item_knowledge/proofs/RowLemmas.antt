@@ -1,12 +1,12 @@
 -- Rows of words.
-use Rattle.std.proofs.Common.{◌≡◌, ℕ, zero, suc, ◌+◌, ◌*◌, ◌<◌, ◌≤◌, Bool, true, false, ltb, eqb, ◌&&◌, max, List, [], ◌∷◌, ◌++◌, length, get_or, drop, refl, sym, subst, ap, ◌∙◌, inl, inr, arith, append_assoc}
+use Rattle.std.proofs.Common.{◌≡◌, ℕ, zero, suc, ◌+◌, ◌*◌, ◌<◌, ◌≤◌, Bool, true, false, leb, ltb, eqb, ◌&&◌, max, List, [], ◌∷◌, ◌++◌, length, get_or, drop, refl, sym, subst, ap, ◌∙◌, inl, inr, arith, append_assoc}
 use Rattle.std.specs.Cmp.Lexicographic.{pointwise}
 use Rattle.std.specs.Bool.{Decides}
 use Rattle.std.proofs.lemmas.Bool.Decides.{Decides-eqb}
 use Rattle.std.proofs.lemmas.Slice.Eq.{slice_eq-Decides}
-use Rattle.std.proofs.lemmas.Bool.{and_parts, and_from, lt-ltb, cases_lt}
+use Rattle.std.proofs.lemmas.Bool.{and_parts, and_from, lt-ltb, cases_lt, eq-eqb, ne_eqb, le-leb, lt-leb}
 use Rattle.item_knowledge.specs.Tables.{keys_pass, in_order}
-use Rattle.item_knowledge.specs.Entries.{Entry, same_entries, joined}
+use Rattle.item_knowledge.specs.Entries.{Entry, same_entries, joined, bound, leq}
 use Rattle.item_knowledge.specs.Fragments.{Fragment, nothing, entries_at}
 use Rattle.item_knowledge.specs.Rows.{pairs, flat, IsRow, fragments_of, rows_of, AreRows}
 use Rattle.item_knowledge.proofs.TableLemmas.{above_all, merge_left, merge_right, merge_both}
@@ -200,3 +200,33 @@ both_taken xs ys out new i j n m l k e greater is =
 pub same_lists : (xs ys : List (List ℕ)) → Decides (pointwise (λ x y. pointwise (λ a b. eqb a b) x y) xs ys) (xs ≡ ys)
 same_lists xs ys = slice_eq-Decides {A = List ℕ} (λ x y. slice_eq-Decides {A = ℕ} (λ a b. Decides-eqb a b) x y (pointwise (λ a b. eqb a b) x y) refl) xs ys (pointwise (λ x y. pointwise (λ a b. eqb a b) x y) xs ys) refl
 
+
+-- A search along a row
+
+pub record EntryStep (xs : List ℕ) (i : ℕ) : Type 0 where
+  pub entries : pairs (drop i xs) ≡ (get_or xs i 0, get_or xs (i + 1) 0) ∷ pairs (drop (i + 2) xs)
+  pub rest : IsRow (drop (i + 2) xs)
+
+pub entry_step : (xs : List ℕ) (i : ℕ) → i < length xs → IsRow (drop i xs) → EntryStep xs i
+entry_step xs i l h =
+    let s = row_step xs i l h in
+    let two : i + 1 + 1 ≡ i + 2 = omega arith in
+    record {
+      entries = subst (λ n. pairs (drop i xs) ≡ (get_or xs i 0, get_or xs (i + 1) 0) ∷ pairs (drop n xs)) two (step_pairs xs i s);
+      rest = subst (λ n. IsRow (drop n xs)) two s.rest;
+    }
+
+pub bound_here : (xs : List ℕ) (i a : ℕ) → i < length xs → IsRow (drop i xs) → get_or xs i 0 ≡ a → bound (pairs (drop i xs)) a ≡ get_or xs (i + 1) 0
+bound_here xs i a l h e = ap (λ es. bound es a) (entry_step xs i l h).entries ∙ rw (eq-eqb (get_or xs i 0) a e) refl
+
+pub bound_later : (xs : List ℕ) (i a : ℕ) → i < length xs → IsRow (drop i xs) → (get_or xs i 0 ≡ a → ⊥) → bound (pairs (drop i xs)) a ≡ bound (pairs (drop (i + 2) xs)) a
+bound_later xs i a l h n = ap (λ es. bound es a) (entry_step xs i l h).entries ∙ rw (ne_eqb (get_or xs i 0) a n) refl
+
+pub leq_step : (xs : List ℕ) (i : ℕ) (es : List Entry) → i < length xs → IsRow (drop i xs) → leq (pairs (drop i xs)) es ≡ (leb (get_or xs (i + 1) 0) (bound es (get_or xs i 0)) && leq (pairs (drop (i + 2) xs)) es)
+leq_step xs i es l h = ap (λ ds. leq ds es) (entry_step xs i l h).entries
+
+pub leq_more : (xs : List ℕ) (i : ℕ) (es : List Entry) → i < length xs → IsRow (drop i xs) → get_or xs (i + 1) 0 ≤ bound es (get_or xs i 0) → leq (pairs (drop i xs)) es ≡ leq (pairs (drop (i + 2) xs)) es
+leq_more xs i es l h le = leq_step xs i es l h ∙ rw (le-leb _ _ le) refl
+
+pub leq_none : (xs : List ℕ) (i : ℕ) (es : List Entry) → i < length xs → IsRow (drop i xs) → bound es (get_or xs i 0) < get_or xs (i + 1) 0 → leq (pairs (drop i xs)) es ≡ false
+leq_none xs i es l h less = leq_step xs i es l h ∙ rw (lt-leb _ _ less) refl

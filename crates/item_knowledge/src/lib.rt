@@ -7,4 +7,5 @@ mod joined;
 pub mod laws;
 mod paired;
 mod rows;
+mod search;
 mod union;
