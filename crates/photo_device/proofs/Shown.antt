@@ -5,7 +5,7 @@ use Rattle.photo_filter_rules.specs.Matching.{matches}
 use Rattle.photo_device.specs.declared.held.Held.{Held}
 use Rattle.photo_device.specs.declared.place.Place.{Place}
 use Rattle.photo_device.specs.declared.place.Place.TheVariants.{Store, Out}
-use Rattle.photo_device.specs.Version.{Version, version}
+use Rattle.photo_version.specs.Version.{Version, version}
 use Rattle.photo_device.specs.Entry.{put_entry_if, others}
 use Rattle.photo_device.specs.Held.{entry_of, entries_of}
 use Rattle.photo_device.specs.Device.{ModelDevice, Kept, Shows, made, new_entry, place_for, held_at}

@@ -6,14 +6,15 @@ use Rattle.photo_filter_rules.specs.Matching.{matches}
 use Rattle.photo_device.specs.declared.place.Place.{Place}
 use Rattle.photo_device.specs.declared.place.Place.TheVariants.{Store, Out}
 use Rattle.photo_device.specs.declared.held.Held.{Held}
-use Rattle.photo_device.specs.Version.{Version, version}
+use Rattle.photo_version.specs.Author.{Author}
+use Rattle.photo_version.specs.Version.{Version, version}
 use Rattle.photo_device.specs.Entry.{Entry, others, put_entry_if}
 use Rattle.photo_device.specs.Held.{entries_of, held_elsewhere, replaced}
 
 -- a model device: who it is, the tree of its filter, how many versions it has made, and what it holds.
 -- Store and out list their entries in order
 pub record ModelDevice : Type 0 where
-  pub author : ℕ
+  pub author : Author
   pub tree : Tree
   pub counter : ℕ
   pub store : List Entry
@@ -21,7 +22,7 @@ pub record ModelDevice : Type 0 where
 
 -- what a device of the program keeps
 pub record Kept : Type 0 where
-  pub author : ℕ
+  pub author : Author
   pub tree : Tree
   pub counter : ℕ
   pub store : List Held
@@ -41,7 +42,7 @@ pub record Shows (d : Kept) (m : ModelDevice) : Type 0 where
   pub out : entries_of d.out ≡ m.out
 
 -- a device that has made and holds nothing
-abbrev pub opening : ℕ → Tree → ModelDevice
+abbrev pub opening : Author → Tree → ModelDevice
 opening author tree = record { author = author; tree = tree; counter = 0; store = []; out = [] }
 
 -- Making a version of a picture: the device's next version

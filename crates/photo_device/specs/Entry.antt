@@ -1,7 +1,7 @@
 -- Versions of pictures with what they say.
 use Rattle.std.specs.Prelude.{ℕ, Bool, true, false, not, ◌&&◌, ◌||◌, ◌==◌, nat_lt, List, filter}
 use Rattle.photo_record.specs.declared.record.Record.{Record}
-use Rattle.photo_device.specs.Version.{Version, version_before}
+use Rattle.photo_version.specs.Version.{Version, version_before}
 use Rattle.photo_device.specs.Ordered.{put}
 
 -- a version of a picture, and the record that it gives the picture

@@ -2,7 +2,7 @@
 use Rattle.std.specs.Prelude.{◌≡◌, ℕ, ◌≤◌, Bool, not, ◌==◌, List, ◌∷◌, ◌++◌, length, map, filter, take, drop, Option}
 use Rattle.std.specs.List.{find}
 use Rattle.photo_device.specs.declared.held.Held.{Held}
-use Rattle.photo_device.specs.Version.{Version, same_version}
+use Rattle.photo_version.specs.Version.{Version, same_version}
 use Rattle.photo_device.specs.Ordered.{put, in_order}
 use Rattle.photo_device.specs.Entry.{Entry, entry_before}
 

@@ -1,6 +1,7 @@
-use crate::{Author, Held, HeldSet, Place, Version};
+use crate::{Held, HeldSet, Place};
 use photo_filter_rules::Filter;
 use photo_record::{PicNo, Record};
+use photo_version::{Author, Version};
 use std::alloc::{AllocError, Global};
 use std::marker::Model;
 

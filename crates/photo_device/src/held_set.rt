@@ -1,6 +1,7 @@
 use crate::range::range_of;
-use crate::{Held, HeldList, Version};
+use crate::{Held, HeldList};
 use photo_record::PicNo;
+use photo_version::Version;
 use std::alloc::{AllocError, Global};
 use std::marker::Model;
 

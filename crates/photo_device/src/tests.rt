@@ -1,6 +1,7 @@
-use crate::{Author, Device, Held, HeldList, Place, Version};
+use crate::{Device, Held, HeldList, Place};
 use photo_filter_rules::Filter;
 use photo_record::{Day, PicNo, Rating, Record, Words};
+use photo_version::{Author, Version};
 use std::alloc::Global;
 use std::test::Fail;
 
@@ -19,20 +20,6 @@ fn rated(alloc: Global, rating: u8) -> Result<Record, Fail> {
 fn filter(alloc: Global, text: &str) -> Result<Filter, Fail> {
     let tree = photo_filter_text::read(alloc, text)?;
     Ok(Filter::build(alloc, tree).map_err(|e| e.1)?)
-}
-
-#[test]
-fn authors_and_versions(rt: HostRuntime) -> Result<(), Fail> {
-    let cam = Author::new(0);
-    let frame = Author::new(63);
-    assert_eq!(rt; frame.value(), 63);
-    assert!(rt; Version::new(cam, 0).is_none());
-    let first = Version::new(cam, 1).ok_or("a version")?;
-    let later = Version::new(cam, 10).ok_or("a version")?;
-    let other = Version::new(frame, 2).ok_or("a version")?;
-    assert!(rt; first < later && later < other);
-    assert!(rt; other.author() == frame && other.n() == 2);
-    Ok(())
 }
 
 #[test]

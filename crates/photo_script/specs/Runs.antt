@@ -1,6 +1,7 @@
 -- What commands do to devices, and what a run of them gives.
 use Rattle.std.specs.Prelude.{ℕ, ◌+◌, List, [], ◌∷◌, ◌++◌, slice_index_or, slice_set, fold}
 use Rattle.photo_filter_text.specs.Tree.{Tree, All}
+use Rattle.photo_version.specs.Author.{author}
 use Rattle.photo_device.specs.Entry.{Entry}
 use Rattle.photo_device.specs.Device.{ModelDevice, opening, made, new_entry, next_version, new_place}
 use Rattle.photo_script.specs.Contents.{Contents, device_of}
@@ -30,7 +31,7 @@ pub record Fleet : Type 0 where
 
 -- the device at a place in order of declaration
 abbrev pub device_at : List ModelDevice → ℕ → ModelDevice
-device_at devices n = slice_index_or devices n (opening n All)
+device_at devices n = slice_index_or devices n (opening (author n) All)
 
 abbrev pub step : Fleet → Command → Fleet
 step fleet c =
@@ -44,7 +45,7 @@ step fleet c =
 -- a device for each filter, from a number on, none of which has made or holds anything
 abbrev pub opening_from : ℕ → List Tree → List ModelDevice
 opening_from n [] = []
-opening_from n (filter ∷ filters) = opening n filter ∷ opening_from (n + 1) filters
+opening_from n (filter ∷ filters) = opening (author n) filter ∷ opening_from (n + 1) filters
 
 abbrev pub opening_fleet : Contents → Fleet
 opening_fleet script = record { devices = opening_from 0 script.filters; reports = []; log = [] }

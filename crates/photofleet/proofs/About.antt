@@ -4,6 +4,7 @@ use Rattle.std.specs.Prelude.{filter}
 use Rattle.std.specs.List.{AllByRecursion}
 use Rattle.photo_filter_text.specs.Tree.{Tree}
 use Rattle.photo_filter_rules.specs.Matching.{matches}
+use Rattle.photo_version.specs.Author.{device_of_author}
 use Rattle.photo_device.specs.Ordered.{put}
 use Rattle.photo_device.specs.Entry.{Entry, entry_before, others, put_entry_if, is_of_other}
 use Rattle.photo_device.specs.Device.{ModelDevice, new_entry}
@@ -15,7 +16,7 @@ use Rattle.photo_script.specs.Runs.{effect, opening_from}
 
 -- the device is of the script, and so is all that it holds
 pub record IsOfFleet (script : Contents) (d : ModelDevice) : Type 0 where
-  pub author : d.author < length script.names
+  pub author : device_of_author d.author < length script.names
   pub store : AreOfScript script d.store
   pub out : AreOfScript script d.out
 

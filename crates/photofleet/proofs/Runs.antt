@@ -7,6 +7,7 @@ use Rattle.std.proofs.lemmas.List.{take_all, map-append, length-set, get_or-set_
 use Rattle.std.proofs.lemmas.List.Sums.{fold_more}
 use Rattle.std.proofs.lemmas.Option.{slice_get_within, get_or_from_slice_get}
 use Rattle.photo_filter_text.specs.Tree.{All}
+use Rattle.photo_version.specs.Author.{author}
 use Rattle.photo_device.specs.Device.{Kept, ModelDevice, Shows, opening}
 use Rattle.photo_script.specs.declared.command.Command.{Command}
 use Rattle.photo_script.specs.declared.report.Report.{Report}
@@ -37,8 +38,8 @@ runs_more script n devices reports c d new report so_far here known shows tells 
     let fleet = fleet_after script n in
     let within : n < length script.commands = slice_get_within script.commands n c here in
     let more : fleet_after script (n + 1) ≡ step fleet c = fold_more step (opening_fleet script) script.commands n c within ∙ ap (step fleet) (get_or_from_slice_get script.commands n c c here) in
-    let old : Shows (get_or devices k d) (device_at fleet.devices k) = zip_at Shows devices fleet.devices k d (opening k All) so_far.shown (omega (arith, so_far.long)) in
-    let of_fleet : IsOfFleet script (device_at fleet.devices k) = all_at (IsOfFleet script) fleet.devices k (opening k All) so_far.known (let same = zip_long Shows devices fleet.devices so_far.shown in omega (arith, so_far.long)) in
+    let old : Shows (get_or devices k d) (device_at fleet.devices k) = zip_at Shows devices fleet.devices k d (opening (author k) All) so_far.shown (omega (arith, so_far.long)) in
+    let of_fleet : IsOfFleet script (device_at fleet.devices k) = all_at (IsOfFleet script) fleet.devices k (opening (author k) All) so_far.known (let same = zip_long Shows devices fleet.devices so_far.shown in omega (arith, so_far.long)) in
     record {
       long = length-set devices k new ∙ so_far.long;
       count = length-append reports (report ∷ []) ∙ ap (λ x. x + 1) so_far.count;

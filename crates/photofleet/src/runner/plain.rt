@@ -9,8 +9,9 @@ ghost use Rattle.photofleet.specs.declared.runner.fault.RunError.TheVariants.{No
 use super::RunError;
 use super::command::{device_of, run_command};
 use super::outcome::Outcome;
-use photo_device::{Author, Device};
+use photo_device::Device;
 use photo_script::Script;
+use photo_version::Author;
 use std::alloc::{AllocError, Global};
 
 /// Runs a script, command by command in the order of their numbers. Its only error is want of memory.

@@ -10,7 +10,7 @@ pub struct Version {
 
 impl Model for Version {
     ghost use Rattle.std.specs.Prelude.{◌<◌};
-    ghost use Rattle.photo_device.specs.Version as spec;
+    ghost use Rattle.photo_version.specs.Version as spec;
 
     ghost Value = { spec.Version };
 
@@ -23,7 +23,7 @@ impl Model for Version {
 
 impl Version {
     ghost use Rattle.std.specs.Prelude.{◌≡◌, ◌<◌, SomeIff};
-    ghost use Rattle.photo_device.specs.Version as spec;
+    ghost use Rattle.photo_version.specs.Version as spec;
 
     /// The version that the author made as its `n`th, `None` for 0.
     pub fn new(author: Author, n: u32) -> Option<Version>

@@ -1,19 +1,13 @@
--- Authors and versions.
+-- Versions of what authors make.
 use Rattle.std.specs.Prelude.{ℕ, Bool, ◌&&◌, ◌||◌, ◌==◌, nat_lt}
-
--- an author, by the number of its device in the order of declaration
-abbrev pub same_author : ℕ → ℕ → Bool
-same_author a b = a == b
-
-abbrev pub author_before : ℕ → ℕ → Bool
-author_before a b = nat_lt a b
+use Rattle.photo_version.specs.Author.{Author, same_author, author_before}
 
 -- what an author made as its number-th version, from 1
 pub record Version : Type 0 where
-  pub author : ℕ
+  pub author : Author
   pub number : ℕ
 
-abbrev pub version : ℕ → ℕ → Version
+abbrev pub version : Author → ℕ → Version
 version author number = record { author = author; number = number }
 
 abbrev pub same_version : Version → Version → Bool

@@ -1,0 +1,2 @@
+pub mod Author
+pub mod Version
