@@ -4,7 +4,8 @@ use Rattle.std.specs.List.{list_all}
 use Rattle.std.proofs.lemmas.Bool.{and_parts, and_from, ltb-true, eq-eqb, ne_eqb, cases_eq, cases_lt, cases_order}
 use Rattle.std.proofs.lemmas.Bool.Decides.{nat_tests}
 use Rattle.item_knowledge.specs.Tables.{in_order}
-use Rattle.item_knowledge.specs.Versions.{Version, author_word, is_author_word, author_of_word}
+use Rattle.photo_version.specs.Author.{author_word, is_author_word, author_of_word}
+use Rattle.photo_version.specs.Version.{Version}
 use Rattle.item_knowledge.specs.Entries.{Entry, denotes, is_entry, is_vector, bound, most_number}
 
 pub entry_positive : (e : Entry) → is_entry e ≡ true → 0 < e.1

@@ -5,7 +5,8 @@ use Rattle.std.specs.Bool.{Decides}
 use Rattle.std.proofs.lemmas.Bool.{and_parts, not-true, ltb-true, eq-eqb, ne_eqb, cases_Bool, cases_eq, false≢true, leb-true}
 use Rattle.std.proofs.lemmas.Bool.Decides.{nat_tests, Decides-and, Decides-eqb, Decides-like}
 use Rattle.std.proofs.lemmas.Slice.Eq.{slice_eq-Decides}
-use Rattle.item_knowledge.specs.Versions.{Version, author_word}
+use Rattle.photo_version.specs.Author.{author_word}
+use Rattle.photo_version.specs.Version.{Version}
 use Rattle.item_knowledge.specs.Entries.{Entry, denotes, is_vector, leq, same_entries, bound}
 use Rattle.item_knowledge.specs.Fragments.{Fragment, is_empty, first, lists, reaches, knows, rises, is_group, goes_before, are_groups, is_normal, find, or_star, known, entries_at}
 use Rattle.item_knowledge.proofs.EntryLemmas.{one_vector, denotes-bound}

@@ -4,7 +4,8 @@ use Rattle.std.specs.List.{list_all}
 use Rattle.std.proofs.lemmas.Bool.{and_parts, and_from, lt-ltb, ltb-true, le-leb, leb-true, eq-eqb, ne_eqb, cases_eq}
 use Rattle.std.proofs.lemmas.Bool.Decides.{nat_tests}
 use Rattle.std.proofs.Math.Nat.{max-zero, zero-max}
-use Rattle.item_knowledge.specs.Versions.{Version, author_word, is_author_word}
+use Rattle.photo_version.specs.Author.{author_word, is_author_word}
+use Rattle.photo_version.specs.Version.{Version}
 use Rattle.item_knowledge.specs.Tables.{in_order, put}
 use Rattle.item_knowledge.specs.Entries.{Entry, denotes, is_entry, most_number, is_vector, bound, leq, joined}
 use Rattle.item_knowledge.proofs.TableLemmas.{merge_at, merge_order}

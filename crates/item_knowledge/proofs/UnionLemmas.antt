@@ -2,7 +2,7 @@
 use Rattle.std.proofs.Common.{◌≡◌, ℕ, zero, suc, ◌<◌, ◌≤◌, Bool, true, false, ltb, eqb, cond, ◌&&◌, ◌||◌, List, [], ◌∷◌, ◌++◌, length, get_or, drop, refl, sym, subst, ap, ◌∙◌, inl, inr, arith}
 use Rattle.std.specs.List.{list_all}
 use Rattle.std.proofs.lemmas.Bool.{and_parts, and_from, lt-ltb, ltb-true, eq-eqb, ne_eqb, cases_eq, false≢true}
-use Rattle.item_knowledge.specs.Versions.{Version}
+use Rattle.photo_version.specs.Version.{Version}
 use Rattle.item_knowledge.specs.Tables.{keys_pass, in_order, at, put}
 use Rattle.item_knowledge.specs.Entries.{Entry, denotes, is_entry, is_vector, leq, joined}
 use Rattle.item_knowledge.specs.Fragments.{Fragment, knows, are_groups, is_normal, known, nothing, entries_at}

@@ -2,7 +2,8 @@
 use Rattle.std.specs.Prelude.{ℕ, Bool, ◌&&◌, ◌==◌, max, nat_lt, nat_le, List}
 use Rattle.std.specs.List.{list_any, list_all}
 use Rattle.std.specs.Cmp.Lexicographic.{pointwise}
-use Rattle.item_knowledge.specs.Versions.{Version, author_word, is_author_word}
+use Rattle.photo_version.specs.Author.{author_word, is_author_word}
+use Rattle.photo_version.specs.Version.{Version}
 use Rattle.item_knowledge.specs.Tables.{in_order, at, merge}
 
 -- an author, as its word, with a bound

@@ -1,6 +1,6 @@
 -- The definitions at some fragments.
 use Rattle.std.specs.Prelude.{◌≡◌, ℕ, true, false, List, [], ◌∷◌}
-use Rattle.item_knowledge.specs.Versions.{Version}
+use Rattle.photo_version.specs.Version.{Version}
 use Rattle.item_knowledge.specs.Entries.{Entry, joined}
 use Rattle.item_knowledge.specs.Fragments.{Fragment, knows, is_normal, known}
 

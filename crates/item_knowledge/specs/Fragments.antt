@@ -1,7 +1,7 @@
 -- Fragments, the pairs of a picture and a version that they denote, and their normal form.
 use Rattle.std.specs.Prelude.{ℕ, Bool, true, false, not, ◌&&◌, ◌||◌, ◌==◌, nat_lt, List, [], ◌∷◌, get_or, Option, None, Some, if◌then◌else◌}
 use Rattle.std.specs.List.{list_any, list_all}
-use Rattle.item_knowledge.specs.Versions.{Version}
+use Rattle.photo_version.specs.Version.{Version}
 use Rattle.item_knowledge.specs.Entries.{Entry, denotes, is_vector, leq, same_entries}
 
 -- pictures with what is known of each of them

@@ -1,7 +1,7 @@
 -- The union of two lists of fragments, picture by picture.
 use Rattle.std.specs.Prelude.{◌≡◌, ℕ, Bool, suc, ◌<◌, true, ◌&&◌, ◌||◌, nat_lt, if◌then◌else◌, List, [], ◌∷◌, ◌++◌, length, Option, None, Some}
 use Rattle.std.specs.List.{list_all}
-use Rattle.item_knowledge.specs.Versions.{Version}
+use Rattle.photo_version.specs.Version.{Version}
 use Rattle.item_knowledge.specs.Tables.{merge, at, in_order, keys_pass}
 use Rattle.item_knowledge.specs.Entries.{Entry, denotes, is_vector, leq, same_entries, joined}
 use Rattle.item_knowledge.specs.Fragments.{Fragment, lists, knows, is_normal, known, entries_at}

@@ -1,6 +1,6 @@
 -- What holds of all normal forms.
 use Rattle.std.specs.Prelude.{◌≡◌, ℕ, true, ◌<◌, List}
-use Rattle.item_knowledge.specs.Versions.{Version}
+use Rattle.photo_version.specs.Version.{Version}
 use Rattle.item_knowledge.specs.Entries.{Entry, denotes, is_vector}
 use Rattle.item_knowledge.specs.Fragments.{Fragment, knows, is_normal, entries_at}
 

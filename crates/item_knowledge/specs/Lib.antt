@@ -1,4 +1,3 @@
-pub mod Versions
 pub mod Tables
 pub mod Entries
 pub mod Fragments
