@@ -1,7 +1,7 @@
 -- Vectors are determined by what they denote.
-use Rattle.std.proofs.Common.{◌≡◌, ℕ, ◌<◌, ◌≤◌, true, leb, ltb, ◌&&◌, List, [], ◌∷◌, refl, sym, ◌∙◌, inl, inr, arith}
+use Rattle.std.proofs.Common.{◌≡◌, ℕ, zero, suc, ◌<◌, ◌≤◌, true, leb, ltb, ◌&&◌, List, [], ◌∷◌, length, get_or, refl, sym, ◌∙◌, inl, inr, arith}
 use Rattle.std.specs.List.{list_all}
-use Rattle.std.proofs.lemmas.Bool.{and_parts, and_from, ltb-true, eq-eqb, ne_eqb, cases_eq, cases_lt, cases_order}
+use Rattle.std.proofs.lemmas.Bool.{and_parts, and_from, ltb-true, leb-true, eq-eqb, ne_eqb, cases_eq, cases_lt, cases_order}
 use Rattle.std.proofs.lemmas.Bool.Decides.{nat_tests}
 use Rattle.item_knowledge.specs.Tables.{in_order}
 use Rattle.photo_version.specs.Author.{author_word, is_author_word, author_of_word}
@@ -102,3 +102,22 @@ one_by_bounds (x ∷ xs) (y ∷ ys) hx hy h =
 -- what a vector denotes determines it
 pub one_vector : (xs ys : List Entry) → is_vector xs ≡ true → is_vector ys ≡ true → ((v : Version) → denotes xs v ≡ denotes ys v) → xs ≡ ys
 one_vector xs ys hx hy h = one_by_bounds xs ys hx hy (same_bounds xs ys hx hy h)
+
+-- An entry of a vector
+
+pub record EntryParts (e : Entry) : Type 0 where
+  pub word : is_author_word e.0 ≡ true
+  pub word_below : e.0 < 65536
+  pub positive : 0 < e.1
+  pub below : e.1 ≤ most_number
+
+pub entry_parts : (e : Entry) → is_entry e ≡ true → EntryParts e
+entry_parts e h =
+    let a = and_parts (is_author_word e.0) (ltb 0 e.1 && leb e.1 most_number) h in
+    let b = and_parts (ltb 0 e.1) (leb e.1 most_number) a.1 in
+    record { word = a.0; word_below = ltb-true e.0 65536 a.0; positive = ltb-true 0 e.1 b.0; below = leb-true e.1 most_number b.1 }
+
+pub entry_of : (es : List Entry) (i : ℕ) → is_vector es ≡ true → i < length es → EntryParts (get_or es i (0, 0))
+entry_of [] i h l = absurd (omega arith)
+entry_of (e ∷ es) zero h l = entry_parts e (vector_parts e es h).entry
+entry_of (e ∷ es) (suc i) h l = entry_of es i (vector_parts e es h).rest (omega arith)

@@ -11,3 +11,4 @@ pub mod PlaceLemmas
 pub mod IndexLemmas
 pub mod UnionLemmas
 pub mod SearchLemmas
+pub mod KeptLemmas

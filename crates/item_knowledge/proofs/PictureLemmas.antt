@@ -1,5 +1,5 @@
 -- Lists of pictures in order.
-use Rattle.std.proofs.Common.{◌≡◌, ℕ, ◌+◌, ◌≤◌, Bool, true, false, ltb, List, [], ◌∷◌, refl, sym, subst, ◌∙◌, inl, inr, arith}
+use Rattle.std.proofs.Common.{◌≡◌, ℕ, ◌+◌, ◌≤◌, Bool, true, false, ltb, eqb, List, [], ◌∷◌, length, refl, sym, subst, ◌∙◌, inl, inr, arith}
 use Rattle.std.specs.List.{list_all}
 use Rattle.std.proofs.lemmas.Bool.{and_parts, ltb-true, eq-eqb, ne_eqb, cases_Bool, cases_eq, false≢true, true≢false}
 use Rattle.item_knowledge.specs.Fragments.{is_empty, first, lists, rises}
@@ -67,3 +67,7 @@ beyond (p ∷ ps) = p + (beyond ps + 1)
 pub beyond_none : (ps : List ℕ) (p : ℕ) → beyond ps ≤ p → lists ps p ≡ false
 beyond_none [] p h = refl
 beyond_none (q ∷ ps) p h = lists_other q ps p (λ s. absurd (omega arith)) ∙ beyond_none ps p (omega arith)
+
+pub empty_length : (ps : List ℕ) → eqb (length ps) 0 ≡ is_empty ps
+empty_length [] = refl
+empty_length (p ∷ ps) = ne_eqb (length (p ∷ ps)) 0 (λ e. absurd (omega arith))

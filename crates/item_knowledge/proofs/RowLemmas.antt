@@ -230,3 +230,32 @@ leq_more xs i es l h le = leq_step xs i es l h ∙ rw (le-leb _ _ le) refl
 
 pub leq_none : (xs : List ℕ) (i : ℕ) (es : List Entry) → i < length xs → IsRow (drop i xs) → bound es (get_or xs i 0) < get_or xs (i + 1) 0 → leq (pairs (drop i xs)) es ≡ false
 leq_none xs i es l h less = leq_step xs i es l h ∙ rw (lt-leb _ _ less) refl
+
+-- The entries of a row by their places
+
+flat_length : (es : List Entry) → length (flat es) ≡ 2 * length es
+flat_length [] = refl
+flat_length (e ∷ es) = let rest = flat_length es in omega arith
+
+flat_word : (es : List Entry) (i : ℕ) → i < length es → get_or (flat es) (2 * i) 0 ≡ (get_or es i (0, 0)).0
+flat_word [] i l = absurd (omega arith)
+flat_word (e ∷ es) zero l = refl
+flat_word (e ∷ es) (suc i) l =
+    let n : 2 * suc i ≡ suc (suc (2 * i)) = omega arith in
+    ap (λ k. get_or (flat (e ∷ es)) k 0) n ∙ flat_word es i (omega arith)
+
+flat_number : (es : List Entry) (i : ℕ) → i < length es → get_or (flat es) (2 * i + 1) 0 ≡ (get_or es i (0, 0)).1
+flat_number [] i l = absurd (omega arith)
+flat_number (e ∷ es) zero l = refl
+flat_number (e ∷ es) (suc i) l =
+    let n : 2 * suc i + 1 ≡ suc (suc (2 * i + 1)) = omega arith in
+    ap (λ k. get_or (flat (e ∷ es)) k 0) n ∙ flat_number es i (omega arith)
+
+pub row_length : (ws : List ℕ) → IsRow ws → length ws ≡ 2 * length (pairs ws)
+row_length ws h = ap length (sym h) ∙ flat_length (pairs ws)
+
+pub row_word : (ws : List ℕ) (i : ℕ) → IsRow ws → i < length (pairs ws) → get_or ws (2 * i) 0 ≡ (get_or (pairs ws) i (0, 0)).0
+row_word ws i h l = ap (λ us. get_or us (2 * i) 0) (sym h) ∙ flat_word (pairs ws) i l
+
+pub row_number : (ws : List ℕ) (i : ℕ) → IsRow ws → i < length (pairs ws) → get_or ws (2 * i + 1) 0 ≡ (get_or (pairs ws) i (0, 0)).1
+row_number ws i h l = ap (λ us. get_or us (2 * i + 1) 0) (sym h) ∙ flat_number (pairs ws) i l

@@ -1,4 +1,4 @@
--- A fragment as the pair of its parts.
+-- Fragments as the pairs of their parts: by this a proof tells two of them apart.
 use Rattle.std.specs.Prelude.{ℕ, List, refl}
 use Rattle.std.specs.Coded.{Coded, code_by, coded×, coded_ℕ, coded_list}
 use Rattle.item_knowledge.specs.Fragments.{Fragment}
@@ -10,3 +10,6 @@ fragment_code =
     (λ f. (f.pictures, f.entries))
     (λ p. record { pictures = p.0; entries = p.1 })
     (λ _. refl)
+
+abbrev pub fragments_code : Coded (List Fragment)
+fragments_code = coded_list fragment_code

@@ -5,5 +5,6 @@ pub mod Rows
 pub mod Gathering
 pub mod Places
 pub mod Coding
+pub mod Kept
 pub mod Laws
 pub mod Examples

@@ -1,11 +1,16 @@
 //! What a device knows: of which picture which versions.
 #![tactic(auto)]
 
+mod fragment;
 mod gather;
 mod group;
 mod joined;
+mod knowledge;
 pub mod laws;
 mod paired;
 mod rows;
 mod search;
 mod union;
+
+pub use fragment::Fragment;
+pub use knowledge::Knowledge;

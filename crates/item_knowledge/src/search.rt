@@ -1,4 +1,4 @@
-ghost use Rattle.std.specs.Prelude.{◌≡◌, true};
+ghost use Rattle.std.specs.Prelude.{◌≡◌, ◌<◌, true, length, get_or};
 ghost use Rattle.item_knowledge.specs.Tables.{in_order, at};
 ghost use Rattle.item_knowledge.specs.Entries.{bound, leq};
 ghost use Rattle.item_knowledge.specs.Rows.{pairs, IsRow};
@@ -17,6 +17,16 @@ pub(crate) fn number_at(index: &[(u64, usize)], picture: u64) -> usize
         return 0;
     }
     row.1
+}
+
+/// The entry at place `i` of a row: the author's word, and the bound.
+pub(crate) fn entry_at(row: &[u64], i: usize) -> (u64, u64)
+    requires row { IsRow row.now }
+    requires place { i < length (pairs row.now) }
+    ensures { result ≡ get_or (pairs row.now) i (0, 0) }
+{
+    let _count = row.len();
+    (row[2 * i], row[2 * i + 1])
 }
 
 /// The bound of an author in a row of entries, 0 where it has none.

@@ -1,6 +1,7 @@
 ghost use Rattle.std.specs.Prelude.{◌≡◌, ◌<◌, [], true, length, IfOk, OnOk};
 ghost use Rattle.item_knowledge.specs.Fragments.{entries_at};
 ghost use Rattle.item_knowledge.specs.Gathering.{IsSide, IsUnion, pair_vector, groups_of, index_of, star_first};
+ghost use Rattle.item_knowledge.specs.Kept.{is_side_within};
 ghost use Rattle.item_knowledge.specs.Rows.{pairs, IsRow, AreRows, fragments_of, rows_of};
 
 use crate::gather::{add, same_row};
@@ -8,6 +9,7 @@ use crate::group::Group;
 use crate::joined::joined;
 use crate::paired::paired as paired_numbers;
 use crate::rows::Rows;
+use crate::search::{is_leq, number_at};
 use std::alloc::{AllocError, Global};
 use std::collections::BTreeMap;
 
@@ -113,4 +115,30 @@ pub(crate) fn union(
     let (listed, index) = groups(alloc, left, left_index, right, right_index, &star)?;
     write(&star, &listed, out)?;
     Ok(index)
+}
+
+/// Whether each vector of the one side is at most the other's at the same picture. Takes no memory.
+pub(crate) fn is_within(
+    rows: &Rows,
+    index: &[(u64, usize)],
+    others: &Rows,
+    others_index: &[(u64, usize)],
+) -> bool
+    requires rows { AreRows rows.now }
+    requires others { AreRows others.now }
+    requires left { IsSide (fragments_of rows.now) index.now }
+    requires right { IsSide (fragments_of others.now) others_index.now }
+    ensures { result ≡ is_side_within (fragments_of rows.now) index.now (fragments_of others.now) others_index.now }
+{
+    if !is_leq(entries(rows, 0), entries(others, 0)) {
+        return false;
+    }
+    for i in 0..index.len() {
+        let (picture, number) = index[i];
+        let other = number_at(others_index, picture);
+        if !is_leq(entries(rows, number), entries(others, other)) {
+            return false;
+        }
+    }
+    true
 }
