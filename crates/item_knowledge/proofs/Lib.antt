@@ -12,3 +12,4 @@ pub mod IndexLemmas
 pub mod UnionLemmas
 pub mod SearchLemmas
 pub mod KeptLemmas
+pub mod ToldLemmas

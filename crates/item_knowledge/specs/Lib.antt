@@ -6,5 +6,6 @@ pub mod Gathering
 pub mod Places
 pub mod Coding
 pub mod Kept
+pub mod Told
 pub mod Laws
 pub mod Examples

@@ -1,9 +1,10 @@
 use crate::Fragment;
 use crate::rows::Rows;
 use crate::search::{bound_at, number_at};
+use crate::told::{row_of, told, vector_of as vector_of_row};
 use crate::union::{entries, is_within, union};
 use photo_record::PicNo;
-use photo_version::Version;
+use photo_version::{Vector, Version};
 use std::alloc::{AllocError, Global};
 use std::marker::Model;
 use std::mem::swap;
@@ -36,8 +37,10 @@ impl Model for Knowledge {
 }
 
 impl Knowledge {
-    ghost use Rattle.std.specs.Prelude.{◌≡◌, ◌↔◌, ℕ, ◌<◌, ◌+◌, ◌||◌, ◌==◌, true, false, IsTrue, length, get_or, IfOk, OnOk, OnErr};
+    ghost use Rattle.std.specs.Prelude.{◌≡◌, ◌↔◌, ℕ, ◌<◌, ◌+◌, ◌||◌, ◌&&◌, ◌==◌, [], true, false, IsTrue, length, get_or, IfOk, OnOk, OnErr};
     ghost use Rattle.photo_version.specs.Version as versions;
+    ghost use Rattle.photo_version.specs.Vector as vectors;
+    ghost use Rattle.item_knowledge.specs.Tables.{in_order, at};
     ghost use Rattle.item_knowledge.specs.Entries.{denotes};
     ghost use Rattle.item_knowledge.specs.Fragments as spec;
     ghost use Rattle.item_knowledge.specs.Rows.{AreRows, fragments_of};
@@ -94,6 +97,15 @@ impl Knowledge {
         self.live.same(&other.live)
     }
 
+    /// What is known of the picture. Its only error is want of memory.
+    pub fn of(&self, picture: PicNo) -> Result<Vector, AllocError>
+        ensures { IfOk result (λ vector. (v : versions.Version) → vectors.denotes vector v ≡ spec.knows self.now picture v) }
+    {
+        let number = number_at(&self.index, u64::from(picture.value()));
+        let vector = vector_of_row(self.alloc, entries(&self.live, number))?;
+        Ok(vector)
+    }
+
     /// Learns what a side denotes.
     fn take_union(&mut self, rows: &Rows, index: &[(u64, usize)]) -> Result<(), AllocError>
         requires rows { AreRows rows.now }
@@ -104,6 +116,34 @@ impl Knowledge {
         let index = union(self.alloc, &self.live, &self.index, rows, index, &mut self.spare)?;
         swap(&mut self.live, &mut self.spare);
         self.index = index;
+        Ok(())
+    }
+
+    /// Learns of the picture all versions of the vector. Its only error is want of memory, which changes nothing.
+    pub fn learn(&mut self, picture: PicNo, vector: &Vector) -> Result<(), AllocError>
+        ensures learned { OnOk result ((p : ℕ) (v : versions.Version) → 0 < p → spec.knows self.new p v ≡ (spec.knows self.old p v || ((picture == p) && vectors.denotes vector.now v))) }
+        ensures refused { OnErr result (self.new ≡ self.old) }
+    {
+        let picture = u64::from(picture.value());
+        let row = row_of(self.alloc, vector)?;
+        let mut rows = Rows::new(self.alloc);
+        rows.place(&[])?;
+        rows.place(&[])?;
+        rows.place(&[picture])?;
+        rows.place(&row)?;
+        self.take_union(&rows, &[(picture, 1)])?;
+        Ok(())
+    }
+
+    /// Learns of each picture of a table all versions of the vector beside it, at once. Its only error is want of
+    /// memory, which changes nothing.
+    pub fn learn_table(&mut self, table: &[(PicNo, Vector)]) -> Result<(), AllocError>
+        requires { in_order table.now ≡ true }
+        ensures learned { OnOk result ((p : ℕ) (v : versions.Version) → 0 < p → spec.knows self.new p v ≡ (spec.knows self.old p v || vectors.denotes (at [] table.now p) v)) }
+        ensures refused { OnErr result (self.new ≡ self.old) }
+    {
+        let (rows, index) = told(self.alloc, table)?;
+        self.take_union(&rows, &index)?;
         Ok(())
     }
 

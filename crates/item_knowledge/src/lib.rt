@@ -10,6 +10,7 @@ pub mod laws;
 mod paired;
 mod rows;
 mod search;
+mod told;
 mod union;
 
 pub use fragment::Fragment;
