@@ -1,9 +1,9 @@
 -- What is kept denotes what is known.
-use Rattle.std.proofs.Common.{◌≡◌, ℕ, ◌+◌, ◌<◌, ◌≤◌, Bool, true, false, leb, ltb, eqb, ◌&&◌, ◌||◌, ◌↔◌, List, [], ◌∷◌, length, get_or, refl, sym, subst, ap, ◌∙◌, inl, inr, arith}
+use Rattle.std.proofs.Common.{◌≡◌, ℕ, ◌+◌, ◌<◌, ◌≤◌, Bool, true, false, leb, ltb, eqb, max, cond, ◌&&◌, ◌||◌, ◌↔◌, List, [], ◌∷◌, length, get_or, refl, sym, subst, ap, ◌∙◌, inl, inr, arith}
 use Rattle.std.specs.List.{list_all}
 use Rattle.std.proofs.lemmas.Bool.{and_parts, and_from, eq-eqb, ne_eqb, cases_Bool, cases_eq, true≢false, false≢true}
 use Rattle.std.proofs.lemmas.Bool.Decides.{nat_tests}
-use Rattle.photo_version.specs.Author.{Author, author_word}
+use Rattle.photo_version.specs.Author.{Author, same_author, author_word}
 use Rattle.photo_version.specs.Version.{Version, same_version}
 use Rattle.item_knowledge.specs.Tables.{at}
 use Rattle.item_knowledge.specs.Entries.{Entry, denotes, is_entry, is_vector, bound, leq}
@@ -118,3 +118,18 @@ next_known fs w p v h z e = by (knows fs p v) refl
           | inl same ↦ rw (eq-eqb (author_word w.author) (author_word v.author) same) (next_one v.number w.number (bound (entries_at fs 0) (author_word v.author)) (e ∙ ap (λ a. bound (entries_at fs 0) a + 1) same) bounds)
           | inr other ↦ rw (ne_eqb (author_word w.author) (author_word v.author) other) refl
         ]
+
+-- The star's bounds
+
+pub star_within : (fs gs : List Fragment) (xs ys : List (ℕ × ℕ)) (a : Author) → is_side_within fs xs gs ys ≡ true → star_bound gs a ≡ max (star_bound gs a) (star_bound fs a)
+star_within fs gs xs ys a w =
+    let le = leq_at (entries_at fs 0) (entries_at gs 0) (author_word a) (and_parts (leq (entries_at fs 0) (entries_at gs 0)) (list_all (λ r. leq (entries_at fs r.1) (vector_of gs ys r.0)) xs) w).0 in
+    omega arith
+
+pub star_next : (fs : List Fragment) (w a : Author) (n : ℕ) → n ≡ star_bound fs w + 1 → max (star_bound fs a) (bound ((author_word w, n) ∷ []) (author_word a)) ≡ cond (same_author w a) n (star_bound fs a)
+star_next fs w a n e = elim (cases_eq (author_word w) (author_word a)) [
+  | inl same ↦
+      let here : star_bound fs w ≡ star_bound fs a = ap (λ k. bound (entries_at fs 0) k) same in
+      rw (eq-eqb (author_word w) (author_word a) same) (omega arith)
+  | inr other ↦ rw (ne_eqb (author_word w) (author_word a) other) (omega arith)
+]

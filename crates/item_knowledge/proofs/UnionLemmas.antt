@@ -9,7 +9,7 @@ use Rattle.item_knowledge.specs.Fragments.{Fragment, knows, are_groups, is_norma
 use Rattle.item_knowledge.specs.Gathering.{vector_of, is_above, IsSide, IsIndex, paired, pair_vector, gathered, indexed, star_first, groups_of, index_of, IsUnion}
 use Rattle.item_knowledge.proofs.TableLemmas.{merge_at, merge_order, merge_pass}
 use Rattle.item_knowledge.proofs.MergeLemmas.{drop_none, append_nil}
-use Rattle.item_knowledge.proofs.JoinLemmas.{joined_vector, joined_leq, joined_denotes, leq_self}
+use Rattle.item_knowledge.proofs.JoinLemmas.{joined_bound, joined_vector, joined_leq, joined_denotes, leq_self}
 use Rattle.item_knowledge.proofs.FragmentLemmas.{normal_parts, knows_known, groups_parts}
 use Rattle.item_knowledge.proofs.GatherLemmas.{good, Ready, gathered_groups, gathered_find, row_vector_at}
 use Rattle.item_knowledge.proofs.IndexLemmas.{indexed_pass, indexed_order, indexed_range, indexed_vectors}
@@ -156,6 +156,7 @@ pub is_union : (fs gs : List Fragment) (xs ys : List (ℕ × ℕ)) → IsSide fs
 is_union fs gs xs ys h g = record {
   normal = union_normal fs gs xs ys h g;
   index = is_index fs gs xs ys h g;
+  star = λ a. joined_bound (star_of fs) (star_of gs) a (above fs xs 0 h h.star).vector (above gs ys 0 g g.star).vector;
   pairs = λ p v z.
       knows_vector (union_of fs gs xs ys) p v (union_normal fs gs xs ys h g)
       ∙ (ap (λ es. denotes es v) (known_union fs gs xs ys p h g)

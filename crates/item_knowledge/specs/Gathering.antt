@@ -1,9 +1,9 @@
 -- The union of two lists of fragments, picture by picture.
-use Rattle.std.specs.Prelude.{◌≡◌, ℕ, Bool, suc, ◌<◌, true, ◌&&◌, ◌||◌, nat_lt, if◌then◌else◌, List, [], ◌∷◌, ◌++◌, length, Option, None, Some}
+use Rattle.std.specs.Prelude.{◌≡◌, ℕ, Bool, suc, ◌<◌, true, ◌&&◌, ◌||◌, max, nat_lt, if◌then◌else◌, List, [], ◌∷◌, ◌++◌, length, Option, None, Some}
 use Rattle.std.specs.List.{list_all}
 use Rattle.photo_version.specs.Version.{Version}
 use Rattle.item_knowledge.specs.Tables.{merge, at, in_order, keys_pass}
-use Rattle.item_knowledge.specs.Entries.{Entry, denotes, is_vector, leq, same_entries, joined}
+use Rattle.item_knowledge.specs.Entries.{Entry, denotes, is_vector, bound, leq, same_entries, joined}
 use Rattle.item_knowledge.specs.Fragments.{Fragment, lists, knows, is_normal, known, entries_at}
 
 -- the vector to which an index leads, the star's where it leads nowhere
@@ -87,4 +87,5 @@ index_of fs gs xs ys = indexed (pair_vector fs gs (0, 0)) (pair_vector fs gs) (p
 pub record IsUnion (fs : List Fragment) (xs : List (ℕ × ℕ)) (gs : List Fragment) (ys : List (ℕ × ℕ)) (us : List Fragment) (zs : List (ℕ × ℕ)) : Type 0 where
   pub normal : is_normal us ≡ true
   pub index : IsIndex zs us
+  pub star : (a : ℕ) → bound (entries_at us 0) a ≡ max (bound (entries_at fs 0) a) (bound (entries_at gs 0) a)
   pub pairs : (p : ℕ) (v : Version) → 0 < p → knows us p v ≡ (denotes (vector_of fs xs p) v || denotes (vector_of gs ys p) v)

@@ -37,11 +37,12 @@ impl Model for Knowledge {
 }
 
 impl Knowledge {
-    ghost use Rattle.std.specs.Prelude.{◌≡◌, ◌↔◌, ℕ, ◌<◌, ◌+◌, ◌||◌, ◌&&◌, ◌==◌, [], true, false, IsTrue, length, get_or, IfOk, OnOk, OnErr};
+    ghost use Rattle.std.specs.Prelude.{◌≡◌, ◌↔◌, ℕ, ◌<◌, ◌+◌, ◌||◌, ◌&&◌, ◌==◌, max, if◌then◌else◌, [], true, false, IsTrue, length, get_or, IfOk, OnOk, OnErr};
+    ghost use Rattle.photo_version.specs.Author.{Author, same_author, author_word};
     ghost use Rattle.photo_version.specs.Version as versions;
     ghost use Rattle.photo_version.specs.Vector as vectors;
     ghost use Rattle.item_knowledge.specs.Tables.{in_order, at};
-    ghost use Rattle.item_knowledge.specs.Entries.{denotes};
+    ghost use Rattle.item_knowledge.specs.Entries.{denotes, bound};
     ghost use Rattle.item_knowledge.specs.Fragments as spec;
     ghost use Rattle.item_knowledge.specs.Rows.{AreRows, fragments_of};
     ghost use Rattle.item_knowledge.specs.Gathering.{IsSide, vector_of};
@@ -110,6 +111,7 @@ impl Knowledge {
     fn take_union(&mut self, rows: &Rows, index: &[(u64, usize)]) -> Result<(), AllocError>
         requires rows { AreRows rows.now }
         requires side { IsSide (fragments_of rows.now) index.now }
+        ensures star { OnOk result ((a : Author) → star_bound self.new a ≡ max (star_bound self.old a) (bound (spec.entries_at (fragments_of rows.now) 0) (author_word a))) }
         ensures learned { OnOk result ((p : ℕ) (v : versions.Version) → 0 < p → spec.knows self.new p v ≡ (spec.knows self.old p v || denotes (vector_of (fragments_of rows.now) index.now p) v)) }
         ensures refused { OnErr result (self.new ≡ self.old) }
     {
@@ -121,6 +123,7 @@ impl Knowledge {
 
     /// Learns of the picture all versions of the vector. Its only error is want of memory, which changes nothing.
     pub fn learn(&mut self, picture: PicNo, vector: &Vector) -> Result<(), AllocError>
+        ensures star { OnOk result ((a : Author) → star_bound self.new a ≡ star_bound self.old a) }
         ensures learned { OnOk result ((p : ℕ) (v : versions.Version) → 0 < p → spec.knows self.new p v ≡ (spec.knows self.old p v || ((picture == p) && vectors.denotes vector.now v))) }
         ensures refused { OnErr result (self.new ≡ self.old) }
     {
@@ -139,6 +142,7 @@ impl Knowledge {
     /// memory, which changes nothing.
     pub fn learn_table(&mut self, table: &[(PicNo, Vector)]) -> Result<(), AllocError>
         requires { in_order table.now ≡ true }
+        ensures star { OnOk result ((a : Author) → star_bound self.new a ≡ star_bound self.old a) }
         ensures learned { OnOk result ((p : ℕ) (v : versions.Version) → 0 < p → spec.knows self.new p v ≡ (spec.knows self.old p v || vectors.denotes (at [] table.now p) v)) }
         ensures refused { OnErr result (self.new ≡ self.old) }
     {
@@ -150,6 +154,7 @@ impl Knowledge {
     /// Learns all that the other knows. Its only error is want of memory, which changes nothing; none is wanted where
     /// the other knows nothing more.
     pub fn learn_all(&mut self, other: &Knowledge) -> Result<(), AllocError>
+        ensures star { OnOk result ((a : Author) → star_bound self.new a ≡ max (star_bound self.old a) (star_bound other.now a)) }
         ensures learned { OnOk result ((p : ℕ) (v : versions.Version) → 0 < p → spec.knows self.new p v ≡ (spec.knows self.old p v || spec.knows other.now p v)) }
         ensures refused { OnErr result (self.new ≡ self.old) }
     {
@@ -162,6 +167,7 @@ impl Knowledge {
     /// Learns of every picture the next version of an author. Its only error is want of memory, which changes nothing.
     pub fn learn_own(&mut self, version: Version) -> Result<(), AllocError>
         requires { version.number ≡ star_bound self.old version.author + 1 }
+        ensures star { OnOk result ((a : Author) → star_bound self.new a ≡ (if same_author version.author a then version.number else star_bound self.old a)) }
         ensures learned { OnOk result ((p : ℕ) (v : versions.Version) → 0 < p → spec.knows self.new p v ≡ (spec.knows self.old p v || versions.same_version version v)) }
         ensures refused { OnErr result (self.new ≡ self.old) }
     {

@@ -1,9 +1,12 @@
-use Rattle.std.proofs.Common.{rules, ◌≡◌, ◌||◌, ℕ, List, [], true, ltb, sym, subst, ap, ◌∙◌}
+use Rattle.std.proofs.Common.{rules, ◌≡◌, ◌||◌, max, ℕ, List, [], true, ltb, sym, subst, ap, ◌∙◌}
 use Rattle.std.specs.List.{list_all}
+use Rattle.std.proofs.Math.Nat.{max-zero}
+use Rattle.photo_version.specs.Author.{author_word}
 use Rattle.photo_version.specs.Vector as vectors
+use Rattle.item_knowledge.specs.Kept.{star_bound}
 use Rattle.item_knowledge.specs.Tables.{keys_pass, at}
-use Rattle.item_knowledge.specs.Entries.{denotes, is_vector}
-use Rattle.item_knowledge.specs.Fragments.{knows, Fragment}
+use Rattle.item_knowledge.specs.Entries.{denotes, is_vector, bound}
+use Rattle.item_knowledge.specs.Fragments.{knows, entries_at}
 use Rattle.item_knowledge.specs.Rows.{fragments_of, rows_of, AreRows}
 use Rattle.item_knowledge.specs.Gathering.{vector_of, IsSide}
 use Rattle.item_knowledge.specs.Told.{entries_of, told, numbered}
@@ -34,3 +37,9 @@ returns-clause-learned c p v z =
     l
     ∙ ((λ i. knows c.args.self.now p v || denotes (vector_of ((ap fragments_of rows ∙ fragments_rows (told c.args.table.now)) i) (index i) p) v)
     ∙ ap (λ b. knows c.args.self.now p v || b) (told_knows c.args.table.now p v))
+
+pub returns-clause-star : goal.returns-clause-star
+returns-clause-star c a =
+    let rows : c.in_ok-rows.rows ≡ rows_of (told c.args.table.now) = search rules in
+    let l : star_bound c.take_union.new.self a ≡ max (star_bound c.args.self.now a) (bound (entries_at (fragments_of c.in_ok-rows.rows) 0) (author_word a)) = c.in_ok-take_union.ensures.star a in
+    l ∙ (ap (λ fs. max (star_bound c.args.self.now a) (bound (entries_at fs 0) (author_word a))) (ap fragments_of rows ∙ fragments_rows (told c.args.table.now)) ∙ max-zero (star_bound c.args.self.now a))
