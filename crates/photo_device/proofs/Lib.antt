@@ -1,3 +1,4 @@
 pub mod Order
 pub mod Entries
+pub mod Found
 pub mod Shown

@@ -1,4 +1,5 @@
--- What a device keeps, as the tuple of its parts: by this a proof tells two of them apart.
+-- No definition, but a tool of the proofs: what a device keeps, as the tuple of its parts, by which a proof tells two of
+-- them apart.
 use Rattle.std.specs.Prelude.{ℕ, List, refl}
 use Rattle.std.specs.Coded.{Coded, code_by, coded×, coded_ℕ, coded_list}
 use Rattle.photo_filter_text.specs.Tree.{Tree}

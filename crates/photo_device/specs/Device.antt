@@ -1,5 +1,5 @@
 -- Devices as sets, and what making a version does to one.
-use Rattle.std.specs.Prelude.{◌≡◌, ℕ, ◌+◌, not, if◌then◌else◌, List, [], filter}
+use Rattle.std.specs.Prelude.{◌≡◌, ℕ, ◌+◌, not, if◌then◌else◌, List, []}
 use Rattle.photo_record.specs.declared.record.Record.{Record}
 use Rattle.photo_filter_text.specs.Tree.{Tree}
 use Rattle.photo_filter_rules.specs.Matching.{matches}
@@ -9,7 +9,7 @@ use Rattle.photo_device.specs.declared.held.Held.{Held}
 use Rattle.photo_version.specs.Author.{Author}
 use Rattle.photo_version.specs.Version.{Version, version}
 use Rattle.photo_device.specs.Entry.{Entry, others, put_entry_if}
-use Rattle.photo_device.specs.Held.{entries_of, held_elsewhere, replaced}
+use Rattle.photo_device.specs.Held.{entries_of, held_of_others, replaced}
 
 -- a model device: who it is, the tree of its filter, how many versions it has made, and what it holds.
 -- Store and out list their entries in order
@@ -30,8 +30,8 @@ pub record Kept : Type 0 where
 
 -- a version is held at a place, and nothing else of its picture
 abbrev pub held_at : Place → Held → Kept → Kept
-held_at Store held d = record d { store = replaced held d.store; out = filter (held_elsewhere held.picture) d.out }
-held_at Out held d = record d { store = filter (held_elsewhere held.picture) d.store; out = replaced held d.out }
+held_at Store held d = record d { store = replaced held d.store; out = held_of_others held.picture d.out }
+held_at Out held d = record d { store = held_of_others held.picture d.store; out = replaced held d.out }
 
 -- the device shows the model device
 pub record Shows (d : Kept) (m : ModelDevice) : Type 0 where

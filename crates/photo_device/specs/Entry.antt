@@ -14,6 +14,7 @@ pub record Entry : Type 0 where
 abbrev pub entry_before : Entry → Entry → Bool
 entry_before a b = nat_lt a.picture b.picture || ((a.picture == b.picture) && version_before a.version b.version)
 
+-- whether it is a version of another picture
 abbrev pub is_of_other : ℕ → Entry → Bool
 is_of_other picture e = not (e.picture == picture)
 

@@ -43,7 +43,7 @@ word_of_text-nil = no_form [] (ap length (ap nfc chars-nil ∙ normalize-nil Nfc
 pub word_of_text-empty : (text : List ℕ) → true ≡ (length text == 0) → word_of_text text ≡ Err Empty
 word_of_text-empty text none = ap word_of_text (no_element text (eqb-true (length text) 0 (sym none))) ∙ word_of_text-nil
 
-pub not_empty : (text : List ℕ) → false ≡ (length text == 0) → text ≢ []
+not_empty : (text : List ℕ) → false ≡ (length text == 0) → text ≢ []
 not_empty text some none = false≢true (some ∙ ap (λ t. length t == 0) none)
 
 -- the text's form C, as bytes
@@ -52,6 +52,9 @@ pub record IsFormOf (text bytes : List ℕ) : Type 0 where
   pub some : text ≢ []
   pub utf8 : IsUtf8 bytes
   pub is : bytes ≡ encode_utf8_all (nfc (chars text))
+
+pub form_of : (text bytes : List ℕ) → IsUtf8 text → false ≡ (length text == 0) → IsUtf8 bytes → bytes ≡ encode_utf8_all (nfc (chars text)) → IsFormOf text bytes
+form_of text bytes text_utf8 some utf8 is = record { text_utf8 = text_utf8; some = not_empty text some; utf8 = utf8; is = is }
 
 pub form_chars : (text bytes : List ℕ) → IsFormOf text bytes → chars bytes ≡ nfc (chars text)
 form_chars text bytes f = sym (chars_from_encodes (nfc (chars text)) bytes f.utf8 (sym f.is))

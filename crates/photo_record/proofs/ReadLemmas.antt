@@ -5,7 +5,7 @@ use Rattle.std.proofs.lemmas.Str.{chars-nil, chars_from_encodes, encodes-chars}
 use Rattle.std.specs.List.{list_any}
 use Rattle.unicode_normalization.specs.Forms.{nfc}
 use Rattle.unicode_normalization.proofs.FormsLemmas.{nfc_idem}
-use Rattle.photo_record.specs.Reading.{word_of_text, ◌>>=◌, with_word, with_piece, with_pieces, pieces_of, is_dash, words_of_text}
+use Rattle.photo_record.specs.Reading.{word_of_text, ◌>>=◌, with_new_word, with_piece, with_pieces, pieces_of, is_dash, words_of_text}
 use Rattle.photo_record.specs.Word.{IsWord, is_bad_character, is_rising, has_word, put_word}
 use Rattle.photo_record.specs.declared.fault.WordFault.{WordFault}
 use Rattle.photo_record.specs.declared.fault.WordFault.TheVariants.{Empty, BadCharacter, TooLong, TooMany, Repeated}
@@ -64,7 +64,7 @@ with_piece-set words piece more set = by _ _ refl
         let same : put_word w words ≡ more = cc in
         subst IsSet same (record { rising = rising_put w words set.rising h; few = omega (arith, length-put_word w words) })
 
-    by : (full : Bool) (r : Result (List ℕ) WordFault) → leb 16 (length words) ≡ full → cond full (Err TooMany) (r >>= with_word words) ≡ Ok more → IsSet more
+    by : (full : Bool) (r : Result (List ℕ) WordFault) → leb 16 (length words) ≡ full → cond full (Err TooMany) (r >>= with_new_word words) ≡ Ok more → IsSet more
     by true r h e = cc
     by false (Err f) h e = cc
     by false (Ok w) h e = last w (has_word words w) refl (leb-false 16 (length words) h) e

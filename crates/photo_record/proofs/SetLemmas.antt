@@ -1,9 +1,10 @@
 -- Sets of words as rising lists: a search, and one word more.
-use Rattle.std.proofs.Common.{◌≡◌, ◌≢◌, ℕ, zero, suc, ◌+◌, ◌<◌, ◌≤◌, true, false, cond, List, [], ◌∷◌, ◌++◌, length, get_or, take, drop, Result, Ok, Err, refl, sym, ap, subst, ◌∙◌, add-one, arith, inl, inr}
+use Rattle.std.proofs.Common.{◌≡◌, ◌≢◌, ℕ, zero, suc, ◌+◌, ◌<◌, ◌≤◌, true, false, cond, ◌==◌, List, [], ◌∷◌, ◌++◌, length, get_or, slice_index_or, take, drop, Result, Ok, Err, refl, sym, ap, subst, ◌∙◌, add-one, arith, inl, inr}
 use Rattle.std.proofs.lemmas.Bool.{and_parts, and_from, or_parts, or_from, cases_Bool, cases_lt, lt-leb, cond-true, cond-false}
 use Rattle.std.proofs.lemmas.List.{get_or_read, take_more, at_drop_more, take-append-drop}
 use Rattle.std.proofs.lemmas.List.Elements.{All-cons, All-head, All-tail}
 use Rattle.std.proofs.lemmas.Cmp.{nat_list_cmp_total}
+use Rattle.std.proofs.lemmas.List.Splits.{length-slice_split}
 use Rattle.std.proofs.lemmas.List.Folds.{list_any_at}
 use Rattle.std.proofs.lemmas.List.Sorted.{searchable_from_sorted}
 use Rattle.std.specs.Cmp.{IsTotalOrder}
@@ -12,11 +13,13 @@ use Rattle.std.specs.declared.cmp.Ordering.{Ordering}
 use Rattle.std.specs.declared.cmp.Ordering.TheVariants.{Less, Equal, Greater}
 use Rattle.std.specs.List.{All, HoldsAt, insert}
 use Rattle.std.specs.List.Sorted.{IsSortedBy, IsNonDecreasingBy, IsPartitionPoint}
+use Rattle.std.specs.Str.{bytes_eq}
 use Rattle.std.specs.Ordering.{nat_cmp, is_lt, is_eq, ordering_reverse, ordering_index}
-use Rattle.photo_record.specs.Word.{IsWord, IsWordSet, word_before, same_word, is_rising, has_word, put_word}
-use Rattle.photo_record.specs.Reading.{word_of_text, ◌>>=◌, with_word, with_piece, with_pieces, pieces_of, is_dash, words_of_text, MayWantMemory}
+use Rattle.photo_record.specs.Word.{IsWord, IsWordSet, word_before, is_rising, has_word, put_word}
+use Rattle.photo_record.specs.Reading.{word_of_text, ◌>>=◌, with_new_word, with_piece, with_pieces, pieces_of, is_dash, words_of_text, MayWantMemory}
 use Rattle.photo_record.specs.declared.fault.WordFault.{WordFault}
-use Rattle.photo_record.specs.declared.fault.WordFault.TheVariants.{TooMany, Repeated}
+use Rattle.photo_record.specs.declared.fault.WordFault.TheVariants.{Empty, TooMany, Repeated}
+use Rattle.photo_record.proofs.FormLemmas.{word_of_text-nil}
 
 abbrev pub order : List ℕ → List ℕ → Ordering
 order = slice_cmp nat_cmp
@@ -38,13 +41,13 @@ less_from_before v w h = by (order v w) h
 not_before : (v w : List ℕ) → order v w ≡ Less → word_before w v ≡ false
 not_before v w h = ap is_lt (less_back v w h)
 
-same-from_equal : (v w : List ℕ) → order v w ≡ Equal → same_word v w ≡ true
+same-from_equal : (v w : List ℕ) → order v w ≡ Equal → bytes_eq v w ≡ true
 same-from_equal v w h = texts_ties v w ∙ ap is_eq h
 
-differ-from_less : (v w : List ℕ) → order v w ≡ Less → same_word v w ≡ false
+differ-from_less : (v w : List ℕ) → order v w ≡ Less → bytes_eq v w ≡ false
 differ-from_less v w h = texts_ties v w ∙ ap is_eq h
 
-differ-from_greater : (v w : List ℕ) → order v w ≡ Greater → same_word v w ≡ false
+differ-from_greater : (v w : List ℕ) → order v w ≡ Greater → bytes_eq v w ≡ false
 differ-from_greater v w h = texts_ties v w ∙ ap is_eq h
 
 pub rising_tail : (v : List ℕ) (vs : List (List ℕ)) → is_rising (v ∷ vs) ≡ true → is_rising vs ≡ true
@@ -67,7 +70,7 @@ sorted words h k d lo hi = rw add-one (next_after words h k d (omega arith))
 pub searchable : (words : List (List ℕ)) (w : List ℕ) → is_rising words ≡ true → IsNonDecreasingBy (λ y. ordering_index (order y w)) words
 searchable words w h = searchable_from_sorted nat_list_cmp_total (λ x. x) words w (sorted words h)
 
-has_word_none : (words : List (List ℕ)) (w : List ℕ) → ((k : ℕ) (d : List ℕ) → k < length words → same_word (get_or words k d) w ≡ false) → has_word words w ≡ false
+has_word_none : (words : List (List ℕ)) (w : List ℕ) → ((k : ℕ) (d : List ℕ) → k < length words → bytes_eq (get_or words k d) w ≡ false) → has_word words w ≡ false
 has_word_none [] w h = refl
 has_word_none (v ∷ vs) w h =
     or_from _ _ (h zero v (omega arith)) (has_word_none vs w (λ k d lt. h (suc k) d (omega arith)))
@@ -93,7 +96,7 @@ placed (v ∷ vs) w (suc i) le p =
 
 -- a search that found the word
 pub present : (words : List (List ℕ)) (w : List ℕ) (i : ℕ) → i < length words → HoldsAt (λ y. order y w ≡ Equal) words i → has_word words w ≡ true
-present words w i lt h = list_any_at (λ v. same_word v w) words i w lt (same-from_equal (get_or words i w) w (h w))
+present words w i lt h = list_any_at (λ v. bytes_eq v w) words i w lt (same-from_equal (get_or words i w) w (h w))
 
 pub length-put_word : (w : List ℕ) (words : List (List ℕ)) → length (put_word w words) ≡ length words + 1
 length-put_word w [] = refl
@@ -104,7 +107,7 @@ length-put_word w (v ∷ vs) =
     ]
 
 -- of two words that differ one stands before the other
-other_before : (v w : List ℕ) → same_word v w ≡ false → word_before w v ≡ false → word_before v w ≡ true
+other_before : (v w : List ℕ) → bytes_eq v w ≡ false → word_before w v ≡ false → word_before v w ≡ true
 other_before v w differ after = by (order v w) (order w v) (less_back v w) (let o : IsTotalOrder order = nat_list_cmp_total in o.antisymm v w) (sym (texts_ties v w) ∙ differ) after
   where
     by : (a b : Ordering) → (a ≡ Less → b ≡ Greater) → a ≡ ordering_reverse b → is_eq a ≡ false → is_lt b ≡ false → is_lt a ≡ true
@@ -160,13 +163,13 @@ put_set words w set room none is = record {
 
 pub with_piece-present : (words : List (List ℕ)) (piece w : List ℕ) → length words < 16 → word_of_text piece ≡ Ok w → has_word words w ≡ true → with_piece words piece ≡ Err Repeated
 with_piece-present words piece w room is here =
-    ap (λ t. cond t (Err TooMany) (word_of_text piece >>= with_word words)) (lt-leb 16 (length words) room)
-    ∙ ap (λ r. r >>= with_word words) is ∙ ap (λ t. cond t (Err Repeated) (Ok (put_word w words))) here
+    ap (λ t. cond t (Err TooMany) (word_of_text piece >>= with_new_word words)) (lt-leb 16 (length words) room)
+    ∙ ap (λ r. r >>= with_new_word words) is ∙ ap (λ t. cond t (Err Repeated) (Ok (put_word w words))) here
 
 pub with_piece-absent : (words : List (List ℕ)) (piece w : List ℕ) → length words < 16 → word_of_text piece ≡ Ok w → has_word words w ≡ false → with_piece words piece ≡ Ok (put_word w words)
 with_piece-absent words piece w room is none =
-    ap (λ t. cond t (Err TooMany) (word_of_text piece >>= with_word words)) (lt-leb 16 (length words) room)
-    ∙ ap (λ r. r >>= with_word words) is ∙ ap (λ t. cond t (Err Repeated) (Ok (put_word w words))) none
+    ap (λ t. cond t (Err TooMany) (word_of_text piece >>= with_new_word words)) (lt-leb 16 (length words) room)
+    ∙ ap (λ r. r >>= with_new_word words) is ∙ ap (λ t. cond t (Err Repeated) (Ok (put_word w words))) none
 
 -- a search of the set that found the piece's word
 pub found : (self items : List (List ℕ)) (piece w : List ℕ) (i : ℕ) → items ≡ self → length items < 16 → word_of_text piece ≡ Ok w → i < length items → HoldsAt (λ y. order y w ≡ Equal) items i → with_piece self piece ≡ Err Repeated
@@ -246,6 +249,26 @@ may_want text k words piece none h room some = record {
   room = room;
   piece = λ empty. some (get_or_read (pieces_of text) k piece h.within h.at [] ∙ empty);
 }
+
+-- of a text that is read, the first piece is a word
+pub may_want-read : (text : List ℕ) (words : List (List ℕ)) → is_dash text ≡ false → words_of_text text ≡ Ok words → MayWantMemory text
+may_want-read text words none is = record {
+  at = 0;
+  words = [];
+  no_dash = none;
+  in_text = omega (arith, length-slice_split (λ b. b == 44) text);
+  before = refl;
+  room = omega arith;
+  piece = first (pieces_of text) (omega (arith, length-slice_split (λ b. b == 44) text)) (sym (words_of_text-pieces text none) ∙ is);
+}
+  where
+    first : (pieces : List (List ℕ)) → 0 < length pieces → with_pieces [] pieces ≡ Ok words → slice_index_or pieces 0 [] ≢ []
+    first [] some is empty = absurd (omega arith)
+    first (piece ∷ pieces) some is empty =
+        let e : with_pieces [] (piece ∷ pieces) ≡ Err Empty =
+        ap (λ p. with_piece [] p >>= λ more. with_pieces more pieces) empty
+        ∙ ap (λ r. (r >>= with_new_word []) >>= λ more. with_pieces more pieces) word_of_text-nil in
+        cc
 
 pub err_again : {A B : Type 0} {x y : WordFault} → (let r : Result A WordFault = Err x in r) ≡ Err y → (let r : Result B WordFault = Err x in r) ≡ Err y
 err_again e = let same = fault_same e in ap (λ f. Err f) same

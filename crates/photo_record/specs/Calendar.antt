@@ -1,5 +1,6 @@
 -- Days of the proleptic Gregorian calendar, by number and by year, month and day.
-use Rattle.std.specs.Prelude.{◌≡◌, true, ℕ, zero, suc, ◌+◌, ◌-◌, Bool, ◌&&◌, if◌then◌else◌, nat_lt, nat_le, ℤ, pos, ◌+ℤ◌, unsigned_abs}
+use Rattle.std.specs.Prelude.{◌≡◌, true, ℕ, zero, suc, ◌+◌, ◌-◌, Bool, ◌&&◌, if◌then◌else◌, nat_lt, nat_le, ℤ, pos, ◌-ℤ◌, unsigned_abs}
+use Rattle.photo_record.specs.Limits.{first_day, max_year}
 use Rattle.jiff_core.specs.Calendar.{days_in_month, days_in_year, days_from_civil}
 
 -- a year, a month from 1 and a day of the month from 1
@@ -11,10 +12,10 @@ pub record Civil : Type 0 where
 abbrev pub civil : ℕ → ℕ → ℕ → Civil
 civil year month day = record { year = year; month = month; day = day }
 
--- the calendar has the date, and its year has at most four digits
+-- the calendar has the date
 abbrev pub is_date : Civil → Bool
 is_date d =
-    nat_le d.year 9999 && ((nat_le 1 d.month && nat_le d.month 12)
+    nat_le d.year max_year && ((nat_le 1 d.month && nat_le d.month 12)
     && (nat_le 1 d.day && nat_le d.day (days_in_month (pos d.year) d.month)))
 
 -- the number of a date, where 1970-01-01 is 0
@@ -43,6 +44,6 @@ months_off (suc most) year month days =
 -- the date of a day number, from 0000-01-01 on
 unfoldable pub date_of : ℤ → Civil
 date_of number =
-    let years = years_off 9999 0 (unsigned_abs (number +ℤ pos 719_528)) in
+    let years = years_off max_year 0 (unsigned_abs (number -ℤ first_day)) in
     let months = months_off 11 years.0 1 years.1 in
     civil years.0 months.0 (months.1 + 1)

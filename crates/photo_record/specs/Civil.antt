@@ -1,4 +1,4 @@
--- A date of the calendar against its parts.
+-- For the private call that takes a day apart: a date of `jiff_core` against its parts.
 use Rattle.std.specs.Prelude.{◌≡◌, pos}
 use Rattle.jiff_core.specs.declared.civil.date.Date.{Date}
 use Rattle.photo_record.specs.Calendar.{Civil}

@@ -23,10 +23,14 @@ last_day = pos 2_932_896
 abbrev pub IsDay : ℤ → Type 0
 IsDay day = (first_day ≤ℤ day) × (day ≤ℤ last_day)
 
+-- the last year of the calendar, which begins with the year 0
+abbrev pub max_year : ℕ
+max_year = 9999
+
 -- bytes of a word in form C
 abbrev pub max_word_bytes : ℕ
 max_word_bytes = 64
 
--- words of one record
+-- words of one set
 abbrev pub max_words : ℕ
 max_words = 16

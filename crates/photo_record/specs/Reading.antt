@@ -1,12 +1,12 @@
 -- What texts denote: ratings, numbers, dates, words and sets of words.
 use Rattle.std.specs.Prelude.{◌≡◌, ◌≢◌, ℕ, ◌-◌, ◌<◌, Bool, false, ◌&&◌, ◌==◌, if◌then◌else◌, nat_lt, nat_le, List, [], ◌∷◌, length, take, slice_index_or, slice_index, slice_range, ℤ, Option, Some, None, Result, Ok, Err, encode_utf8_all, codes}
 use Rattle.std.specs.List.{list_any, slice_split}
-use Rattle.std.specs.Str.{chars, all_ascii_digits}
+use Rattle.std.specs.Str.{chars, all_ascii_digits, bytes_eq}
 use Rattle.std.specs.Str.Parse.{digits_value}
 use Rattle.unicode_normalization.specs.Forms.{nfc}
 use Rattle.photo_record.specs.Limits.{max_rating, max_word_bytes, max_words}
 use Rattle.photo_record.specs.Calendar.{Civil, civil, is_date, day_number}
-use Rattle.photo_record.specs.Word.{is_bad_character, same_word, has_word, put_word}
+use Rattle.photo_record.specs.Word.{is_bad_character, has_word, put_word}
 use Rattle.photo_record.specs.declared.fault.WordFault.{WordFault}
 use Rattle.photo_record.specs.declared.fault.WordFault.TheVariants.{Empty, BadCharacter, TooLong, TooMany, Repeated}
 
@@ -63,13 +63,13 @@ abbrev pub ◌>>=◌ : {A B : Type 0} → Result A WordFault → (A → Result B
 (Err e) >>= f = Err e
 
 -- a set with one word more, which has to be new
-abbrev pub with_word : List (List ℕ) → List ℕ → Result (List (List ℕ)) WordFault
-with_word words w = if has_word words w then Err Repeated else Ok (put_word w words)
+abbrev pub with_new_word : List (List ℕ) → List ℕ → Result (List (List ℕ)) WordFault
+with_new_word words w = if has_word words w then Err Repeated else Ok (put_word w words)
 
 -- a set with the word of one more piece: there may be sixteen words
 abbrev pub with_piece : List (List ℕ) → List ℕ → Result (List (List ℕ)) WordFault
 with_piece words piece =
-    if nat_le max_words (length words) then Err TooMany else (word_of_text piece >>= with_word words)
+    if nat_le max_words (length words) then Err TooMany else (word_of_text piece >>= with_new_word words)
 
 -- a set with the words of all pieces, or the first fault that the pieces have from the left
 abbrev pub with_pieces : List (List ℕ) → List (List ℕ) → Result (List (List ℕ)) WordFault
@@ -81,7 +81,7 @@ abbrev pub pieces_of : List ℕ → List (List ℕ)
 pieces_of text = slice_split (λ b. b == 44) text
 
 abbrev pub is_dash : List ℕ → Bool
-is_dash text = same_word text (codes "-")
+is_dash text = bytes_eq text (codes "-")
 
 -- the set of words that a text denotes
 unfoldable pub words_of_text : List ℕ → Result (List (List ℕ)) WordFault

@@ -3,7 +3,7 @@ use Rattle.std.specs.Prelude.{◌≡◌, ◌≢◌, ℕ, ◌≤◌, Bool, true, 
 use Rattle.std.specs.List.{All, list_any}
 use Rattle.std.specs.Ordering.{is_lt, nat_cmp}
 use Rattle.std.specs.Cmp.Lexicographic.{slice_cmp, pointwise}
-use Rattle.std.specs.Str.{chars}
+use Rattle.std.specs.Str.{chars, bytes_eq}
 use Rattle.unicode_normalization.specs.Forms.{nfc}
 use Rattle.photo_record.specs.Limits.{max_word_bytes, max_words}
 
@@ -23,11 +23,8 @@ pub record IsWord (text : List ℕ) : Type 0 where
 abbrev pub word_before : List ℕ → List ℕ → Bool
 word_before v w = is_lt (slice_cmp nat_cmp v w)
 
-abbrev pub same_word : List ℕ → List ℕ → Bool
-same_word = pointwise ◌==◌
-
 abbrev pub same_words : List (List ℕ) → List (List ℕ) → Bool
-same_words = pointwise same_word
+same_words = pointwise bytes_eq
 
 -- each word stands before the next, so none stands twice
 abbrev pub is_rising : List (List ℕ) → Bool
@@ -36,7 +33,7 @@ is_rising (v ∷ []) = true
 is_rising (v ∷ w ∷ ws) = word_before v w && is_rising (w ∷ ws)
 
 abbrev pub has_word : List (List ℕ) → List ℕ → Bool
-has_word words w = list_any (λ v. same_word v w) words
+has_word words w = list_any (λ v. bytes_eq v w) words
 
 -- the set with one word more
 abbrev pub put_word : List ℕ → List (List ℕ) → List (List ℕ)

@@ -1,5 +1,5 @@
 ghost use Rattle.std.specs.Prelude.{◌≡◌, ℤ, Some, None, length, ◌≤◌, if◌then◌else◌};
-ghost use Rattle.photo_record.specs.Limits.{IsDay};
+ghost use Rattle.photo_record.specs.Limits.{IsDay, max_year};
 ghost use Rattle.std.specs.Int.{IsInRange};
 ghost use Rattle.photo_record.specs.Calendar.{IsDateOf, date_of};
 ghost use Rattle.photo_record.specs.Reading.{day_of_text, is_number, number};
@@ -55,7 +55,7 @@ impl Day {
     /// The year, 0 to 9999.
     pub fn year(&self) -> u16
         ensures value { result ≡ (date_of self.now).year }
-        ensures in_range { result ≤ 9999 }
+        ensures in_range { result ≤ max_year }
     {
         self.date().year as u16
     }

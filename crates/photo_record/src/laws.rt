@@ -1,11 +1,15 @@
 //! Laws of what texts denote. Each function's contract is a law, and its body does nothing.
 ghost use Rattle.std.specs.Prelude.{◌≡◌, ℕ, ◌≤◌, true, ℤ, List, length, Ok};
 ghost use Rattle.std.specs.Str.{IsUtf8};
+ghost use Rattle.std.specs.Cmp.Lexicographic.{slice_cmp};
+ghost use Rattle.std.specs.Ordering.{nat_cmp, int_cmp};
 ghost use Rattle.photo_record.specs.Limits.{IsDay, max_words};
 ghost use Rattle.photo_record.specs.Calendar.{Civil, IsDateOf, is_date, day_number, date_of};
 ghost use Rattle.photo_record.specs.Word.{IsWord, is_rising};
 ghost use Rattle.photo_record.specs.Reading.{word_of_text, words_of_text};
 ghost use Rattle.photo_record.specs.Examples.{TheRatings, TheDays, TheWords, TheSets};
+
+use crate::{Day, PicNo, Rating, Word};
 
 /// The days of the range and the dates of the years 0 to 9999 are the same, one to one.
 pub fn days_are_dates()
@@ -24,6 +28,14 @@ pub fn words_are_read(text: &str)
 pub fn sets_are_read(text: &str)
     ensures rising { (words : List (List ℕ)) → words_of_text text.now ≡ Ok words → is_rising words ≡ true }
     ensures few { (words : List (List ℕ)) → words_of_text text.now ≡ Ok words → length words ≤ max_words }
+{}
+
+/// Ratings, picture numbers and days are ordered as the numbers that contracts see, and words by their bytes.
+pub fn orders()
+    ensures ratings { (a b : ℕ) → ⟦<Rating as Ord>⟧.cmp a b ≡ nat_cmp a b }
+    ensures pictures { (a b : ℕ) → ⟦<PicNo as Ord>⟧.cmp a b ≡ nat_cmp a b }
+    ensures days { (a b : ℤ) → ⟦<Day as Ord>⟧.cmp a b ≡ int_cmp a b }
+    ensures words { (v w : List ℕ) → ⟦<Word as Ord>⟧.cmp v w ≡ slice_cmp nat_cmp v w }
 {}
 
 /// The definitions at some texts.

@@ -8,6 +8,7 @@ mod pic_no;
 mod rating;
 mod record;
 mod word;
+mod word_list;
 mod words;
 
 pub use day::Day;

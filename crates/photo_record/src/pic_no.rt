@@ -4,6 +4,9 @@ ghost use Rattle.photo_record.specs.Limits.{IsPicNo};
 
 use std::marker::Model;
 
+/// The greatest picture number.
+const MAX_PICTURE: u32 = 999_999_999;
+
 /// The number of a picture: 1 to 999,999,999.
 #[derive(Clone, Copy, Debug, PartialEq, Eq, PartialOrd, Ord, Hash)]
 pub struct PicNo {
@@ -25,7 +28,7 @@ impl PicNo {
     pub fn new(value: u32) -> Option<PicNo>
         ensures { SomeIff result (IsPicNo value) value }
     {
-        if value == 0 || value > 999_999_999 {
+        if value == 0 || value > MAX_PICTURE {
             return None;
         }
         Some(PicNo { value })

@@ -5,6 +5,9 @@ ghost use Rattle.photo_record.specs.Reading.{rating_of_text};
 
 use std::marker::Model;
 
+/// The greatest rating.
+const MAX_RATING: u8 = 5;
+
 /// How good a picture is: 0 to 5.
 #[derive(Clone, Copy, Debug, PartialEq, Eq, PartialOrd, Ord, Hash)]
 pub struct Rating {
@@ -26,7 +29,7 @@ impl Rating {
     pub fn new(value: u8) -> Option<Rating>
         ensures { SomeIff result (value ≤ max_rating) value }
     {
-        if value > 5 {
+        if value > MAX_RATING {
             return None;
         }
         Some(Rating { value })

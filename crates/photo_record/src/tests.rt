@@ -1,12 +1,19 @@
 use crate::{Day, PicNo, Rating, Record, Word, WordFault, Words};
-use std::test::Fail;
+use std::alloc::Global;
 
 #[test]
-fn ranges(rt: HostRuntime) {
+fn ratings(rt: HostRuntime) {
     for (value, rating) in [(0, Some(0)), (5, Some(5)), (6, None), (255, None)] {
-        assert_eq!(rt; Rating::new(value).map(|r| r.value()), rating, "at {value}");
+        assert!(rt;
+            Rating::new(value).map(|r| r.value()) == rating,
+            "at {value}"
+        );
     }
-    for (text, rating) in [
+}
+
+#[test]
+fn written_ratings(rt: HostRuntime) {
+    let cases = [
         ("0", Some(0)),
         ("5", Some(5)),
         ("6", None),
@@ -16,19 +23,29 @@ fn ranges(rt: HostRuntime) {
         (" 5", None),
         ("", None),
         ("\u{665}", None),
-    ] {
-        let read = Rating::read(text);
-        assert_eq!(rt; read.map(|r| r.value()), rating, "of {text:?}");
+    ];
+    for (text, rating) in cases {
+        assert!(rt;
+            Rating::read(text).map(|r| r.value()) == rating,
+            "at {text:?}"
+        );
     }
-    let numbers = [
+}
+
+#[test]
+fn picture_numbers(rt: HostRuntime) {
+    let cases = [
         (0, None),
         (1, Some(1)),
         (999_999_999, Some(999_999_999)),
         (1_000_000_000, None),
         (4_294_967_295, None),
     ];
-    for (value, number) in numbers {
-        assert_eq!(rt; PicNo::new(value).map(|n| n.value()), number, "at {value}");
+    for (value, number) in cases {
+        assert!(rt;
+            PicNo::new(value).map(|n| n.value()) == number,
+            "at {value}"
+        );
     }
 }
 
@@ -59,28 +76,38 @@ fn days(rt: HostRuntime) {
         ("", None),
     ];
     for (text, number) in cases {
-        assert_eq!(rt; Day::read(text).map(|d| d.number()), number, "at {text}");
+        assert!(rt;
+            Day::read(text).map(|d| d.number()) == number,
+            "at {text:?}"
+        );
     }
 }
 
 #[test]
 fn dates(rt: HostRuntime) {
     let cases = [
-        ("0000-02-29", 0, 2, 29),
-        ("1969-12-31", 1969, 12, 31),
-        ("2000-03-01", 2000, 3, 1),
-        ("9999-12-31", 9999, 12, 31),
+        ("0000-02-29", (0, 2, 29)),
+        ("1969-12-31", (1969, 12, 31)),
+        ("2000-03-01", (2000, 3, 1)),
+        ("9999-12-31", (9999, 12, 31)),
     ];
-    for (text, year, month, day) in cases {
-        let date = Day::read(text).expect(&rt, "a date");
-        assert_eq!(rt; date.year(), year, "at {text}");
-        assert_eq!(rt; date.month(), month, "at {text}");
-        assert_eq!(rt; date.day(), day, "at {text}");
+    for (text, date) in cases {
+        assert!(rt; date_of(text) == Some(date), "at {text}");
     }
 }
 
+fn date_of(text: &str) -> Option<(u16, u8, u8)> {
+    let day = Day::read(text)?;
+    Some((day.year(), day.month(), day.day()))
+}
+
+// Of 64 bytes, and of 65.
+const LONGEST: &str = "aaaaaaaaaaaaaaaaaaaaaaaaaaaaaaaaaaaaaaaaaaaaaaaaaaaaaaaaaaaaaaaa";
+
+const LONGER: &str = "aaaaaaaaaaaaaaaaaaaaaaaaaaaaaaaaaaaaaaaaaaaaaaaaaaaaaaaaaaaaaaaaa";
+
 #[test]
-fn words(rt: HostRuntime) -> Result<(), Fail> {
+fn words(rt: HostRuntime) {
     let cases = [
         ("x", "x"),
         ("-", "-"),
@@ -89,21 +116,26 @@ fn words(rt: HostRuntime) -> Result<(), Fail> {
         ("\u{a0}", "\u{a0}"),
         ("\u{212b}", "\u{c5}"),
         ("!#'*+./:;\\{}~", "!#'*+./:;\\{}~"),
-        (
-            "aaaaaaaaaaaaaaaaaaaaaaaaaaaaaaaaaaaaaaaaaaaaaaaaaaaaaaaaaaaaaaaa",
-            "aaaaaaaaaaaaaaaaaaaaaaaaaaaaaaaaaaaaaaaaaaaaaaaaaaaaaaaaaaaaaaaa",
-        ),
+        (LONGEST, LONGEST),
         (
             "e\u{301}e\u{301}e\u{301}e\u{301}e\u{301}e\u{301}e\u{301}e\u{301}e\u{301}e\u{301}e\u{301}e\u{301}e\u{301}e\u{301}e\u{301}e\u{301}e\u{301}e\u{301}e\u{301}e\u{301}e\u{301}e\u{301}e\u{301}a",
             "éééééééééééééééééééééééa",
         ),
     ];
     for (text, form) in cases {
-        let word = Word::read(rt.alloc(), text)?;
-        assert_eq!(rt; word.text(), form);
-        assert_eq!(rt; word.try_clone()?, word);
+        assert!(rt; is_word(rt.alloc(), text, form), "at {text}");
     }
-    Ok(())
+}
+
+// Whether the text is read as that word, and a copy of it is made that is equal.
+fn is_word(alloc: Global, text: &str, form: &str) -> bool {
+    let Ok(word) = Word::read(alloc, text) else {
+        return false;
+    };
+    let Ok(copy) = word.try_clone() else {
+        return false;
+    };
+    word.text() == form && copy == word
 }
 
 #[test]
@@ -120,10 +152,7 @@ fn refused_words(rt: HostRuntime) {
         ("(a", WordFault::BadCharacter),
         ("a)", WordFault::BadCharacter),
         ("a,b", WordFault::BadCharacter),
-        (
-            "aaaaaaaaaaaaaaaaaaaaaaaaaaaaaaaaaaaaaaaaaaaaaaaaaaaaaaaaaaaaaaaaa",
-            WordFault::TooLong,
-        ),
+        (LONGER, WordFault::TooLong),
         (
             "\u{958}\u{958}\u{958}\u{958}\u{958}\u{958}\u{958}\u{958}\u{958}\u{958}\u{958}",
             WordFault::TooLong,
@@ -134,16 +163,15 @@ fn refused_words(rt: HostRuntime) {
         ),
     ];
     for (text, fault) in cases {
-        assert_eq!(rt;
-            Word::read(rt.alloc(), text).err(),
-            Some(fault),
-            "at {text}"
+        assert!(rt;
+            Word::read(rt.alloc(), text).err() == Some(fault),
+            "at {text:?}"
         );
     }
 }
 
 #[test]
-fn sets(rt: HostRuntime) -> Result<(), Fail> {
+fn sets(rt: HostRuntime) {
     // U+1F600 stands after U+FF5E by bytes, and before it by units of 16 bits.
     let cases: [(&str, &[&str]); 6] = [
         ("-", &[]),
@@ -159,16 +187,39 @@ fn sets(rt: HostRuntime) -> Result<(), Fail> {
         ),
     ];
     for (text, words) in cases {
-        let set = Words::read(rt.alloc(), text)?;
-        assert_eq!(rt; set.len(), words.len(), "at {text}");
-        assert_eq!(rt; set.is_empty(), text == "-");
-        for i in 0..set.len() {
-            assert_eq!(rt; set.get(i).text(), words[i]);
-            assert!(rt; set.has(&Word::read(rt.alloc(), words[i])?));
-        }
-        assert!(rt; !set.has(&Word::read(rt.alloc(), "other")?));
+        assert!(rt; is_set(rt.alloc(), text, words), "at {text}");
     }
-    Ok(())
+}
+
+// Whether the text is read as the set of just those words, and a copy of it is made that is equal.
+fn is_set(alloc: Global, text: &str, words: &[&str]) -> bool {
+    let Ok(set) = Words::read(alloc, text) else {
+        return false;
+    };
+    let Ok(copy) = set.try_clone() else {
+        return false;
+    };
+    lists(&set, words) && has_all(alloc, &set, words) && !has(alloc, &set, "other") && copy == set
+}
+
+fn lists(set: &Words, words: &[&str]) -> bool {
+    if set.len() != words.len() || set.is_empty() != words.is_empty() {
+        return false;
+    }
+    for i in 0..set.len() {
+        if set.get(i).text() != words[i] {
+            return false;
+        }
+    }
+    true
+}
+
+fn has_all(alloc: Global, set: &Words, words: &[&str]) -> bool {
+    words.iter().all(|word| has(alloc, set, word))
+}
+
+fn has(alloc: Global, set: &Words, word: &str) -> bool {
+    Word::read(alloc, word).is_ok_and(|word| set.has(&word))
 }
 
 #[test]
@@ -189,29 +240,35 @@ fn refused_sets(rt: HostRuntime) {
         ("a,b,c,d,e,f,g,h,i,j,k,l,m,n,o,a,q", WordFault::Repeated),
     ];
     for (text, fault) in cases {
-        assert_eq!(rt;
-            Words::read(rt.alloc(), text).err(),
-            Some(fault),
-            "at {text}"
+        assert!(rt;
+            Words::read(rt.alloc(), text).err() == Some(fault),
+            "at {text:?}"
         );
     }
 }
 
 #[test]
-fn copies(rt: HostRuntime) -> Result<(), Fail> {
-    let day = Day::read("2024-02-29").expect(&rt, "a date");
-    let rating = Rating::new(3).expect(&rt, "a rating");
-    let words = Words::read(rt.alloc(), "b,a")?;
-    assert_eq!(rt; words.try_clone()?, words);
-    let record = Record::Picture { rating, day, words };
-    assert_eq!(rt; record.try_clone()?, record);
-    assert_eq!(rt; Record::Removed.try_clone()?, Record::Removed);
+fn copies(rt: HostRuntime) {
+    let record = picture(rt.alloc()).expect(&rt, "a record");
     assert!(rt; record != Record::Removed);
-    Ok(())
+    assert!(rt; is_copied(&record));
+    assert!(rt; is_copied(&Record::Removed));
+}
+
+fn picture(alloc: Global) -> Option<Record> {
+    Some(Record::Picture {
+        rating: Rating::new(3)?,
+        day: Day::read("2024-02-29")?,
+        words: Words::read(alloc, "b,a").ok()?,
+    })
+}
+
+fn is_copied(record: &Record) -> bool {
+    record.try_clone().is_ok_and(|copy| copy == *record)
 }
 
 #[test]
-fn faults(rt: HostRuntime) -> Result<(), Fail> {
+fn faults(rt: HostRuntime) {
     let texts = [
         (WordFault::Empty, "Empty"),
         (WordFault::BadCharacter, "BadCharacter"),
@@ -221,8 +278,11 @@ fn faults(rt: HostRuntime) -> Result<(), Fail> {
         (WordFault::Repeated, "Repeated"),
     ];
     for (fault, text) in texts {
-        let printed = fault.to_string(rt.alloc())?;
-        assert_eq!(rt; printed.as_str(), text);
+        assert!(rt;
+            fault
+                .to_string(rt.alloc())
+                .is_ok_and(|t| t.as_str() == text),
+            "at {text}"
+        );
     }
-    Ok(())
 }

@@ -2,7 +2,9 @@ ghost use Rattle.std.specs.Prelude.{◌≡◌, ◌≢◌, ℕ, List, [], length,
 ghost use Rattle.std.specs.Cmp as laws;
 ghost use Rattle.std.specs.Cmp.Lexicographic.{slice_cmp, nat_list_eq_equiv, nat_list_cmp_total, texts_po, texts_ties};
 ghost use Rattle.std.specs.Ordering.{nat_cmp};
-ghost use Rattle.photo_record.specs.Word.{IsWord, same_word, is_bad_character};
+ghost use Rattle.std.specs.List.{list_any};
+ghost use Rattle.std.specs.Str.{chars, bytes_eq};
+ghost use Rattle.photo_record.specs.Word.{IsWord, is_bad_character};
 
 use crate::WordFault;
 use std::alloc::{AllocError, Global};
@@ -11,7 +13,7 @@ use std::marker::Model;
 use unicode_normalization::to_nfc;
 
 /// The most bytes of a word in form C.
-const MAX_BYTES: usize = 64;
+const MAX_WORD_BYTES: usize = 64;
 
 /// A word, in Unicode's normalization form C. Contracts see its UTF-8 bytes, and words are ordered by these.
 #[derive(Debug, Drop)]
@@ -46,10 +48,10 @@ impl Word {
         let Ok(form) = to_nfc(alloc, text) else {
             return Err(WordFault::NoMemory);
         };
-        if form.chars().any(is_bad_character) {
+        if has_bad_character(&form) {
             return Err(WordFault::BadCharacter);
         }
-        if form.len() > MAX_BYTES {
+        if form.len() > MAX_WORD_BYTES {
             return Err(WordFault::TooLong);
         }
         Ok(Word { text: form })
@@ -73,6 +75,12 @@ impl Word {
     }
 }
 
+fn has_bad_character(form: &str) -> bool
+    ensures { result ≡ list_any is_bad_character (chars form.now) }
+{
+    form.chars().any(is_bad_character)
+}
+
 fn is_bad_character(c: char) -> bool
     ensures { result ≡ is_bad_character c }
 {
@@ -80,7 +88,7 @@ fn is_bad_character(c: char) -> bool
 }
 
 impl PartialEq for Word {
-    ghost eq = { same_word };
+    ghost eq = { bytes_eq };
 
     ghost laws = { laws.partial_equiv_from_equiv nat_list_eq_equiv };
 

@@ -1,32 +1,33 @@
-ghost use Rattle.std.specs.Prelude.{◌≡◌, ℕ, true, ◌<◌, ◌≤◌, List, [], length, slice_get, Some, IfOk, IfErr, OnOk, OnErr, Ok, Err, IsTrue, ◌↔◌, ◌≢◌};
+ghost use Rattle.std.specs.Prelude.{◌≡◌, ℕ, true, ◌<◌, ◌≤◌, List, [], length, slice_get, Some, IfOk, IfErr, Ok, Err, IsTrue, ◌↔◌, ◌≢◌};
 ghost use Rattle.std.specs.Cmp as laws;
 ghost use Rattle.std.specs.Cmp.Lexicographic.{lists_per, lists_equiv, nat_list_eq_equiv};
-ghost use Rattle.photo_record.specs.Limits.{max_words};
 ghost use Rattle.photo_record.specs.Word.{IsWordSet, has_word, same_words};
+ghost use Rattle.photo_record.specs.Shared.{shared_words};
 
+use crate::word_list::WordList;
 use crate::{Word, WordFault};
 use std::alloc::{AllocError, Global};
 use std::marker::Model;
-
-/// The most words of one set.
-const MAX_WORDS: usize = 16;
+use std::sync::Arc;
 
 /// A set of at most 16 words. Contracts see the list of its words in the order of bytes.
+///
+/// A set never changes, so copies of it share its words. The empty set takes no memory.
 #[derive(Debug, Drop)]
 pub struct Words {
-    items: Vec<Word>,
+    shared: Option<Arc<WordList>>,
 }
 
 impl Model for Words {
     ghost Value = { List (List ℕ) };
 
-    ghost view = { λ w. w.items.items };
+    ghost view = { λ w. shared_words w.shared };
 
-    ghost invariant = { λ w. IsWordSet w.items.items };
+    ghost invariant = { λ w. IsWordSet (shared_words w.shared) };
 }
 
 impl Words {
-    ghost use Rattle.photo_record.specs.Reading.{words_of_text, with_piece, MayWantMemory};
+    ghost use Rattle.photo_record.specs.Reading.{words_of_text, MayWantMemory};
     ghost use Rattle.photo_record.specs.declared.fault.WordFault.TheVariants.{NoMemory};
 
     /// The set that a text denotes: `-` alone is the empty set, and otherwise words stand between commas.
@@ -38,35 +39,26 @@ impl Words {
         ensures refused { IfErr result (λ fault. fault ≢ NoMemory → words_of_text text.now ≡ Err fault) }
         ensures no_memory { result ≡ Err NoMemory → MayWantMemory text.now }
     {
-        let mut words = Words {
-            items: Vec::new(alloc),
-        };
         if text == "-" {
-            return Ok(words);
+            return Ok(Words { shared: None });
         }
-        for piece in text.split(',') {
-            words.add_piece(alloc, piece)?;
-        }
-        Ok(words)
+        let words = WordList::read(alloc, text)?;
+        let Ok(shared) = Arc::new(alloc, words) else {
+            return Err(WordFault::NoMemory);
+        };
+        Ok(Words {
+            shared: Some(shared),
+        })
     }
 
-    fn add_piece(&mut self, alloc: Global, piece: &str) -> Result<(), WordFault>
-        ensures ok { OnOk result (with_piece self.old piece.now ≡ Ok self.new) }
-        ensures refused { IfErr result (λ fault. fault ≢ NoMemory → with_piece self.old piece.now ≡ Err fault) }
-        ensures room { result ≡ Err NoMemory → length self.old < max_words }
-        ensures piece { result ≡ Err NoMemory → piece.now ≢ [] }
+    fn as_slice(&self) -> &[Word]
+        ensures value { result.now ≡ self.now }
+        ensures set { IsWordSet self.now }
     {
-        if self.items.len() >= MAX_WORDS {
-            return Err(WordFault::TooMany);
+        match &self.shared {
+            Some(words) => words.as_slice(),
+            None => &[],
         }
-        let word = Word::read(alloc, piece)?;
-        let Err(place) = self.items.binary_search(&word) else {
-            return Err(WordFault::Repeated);
-        };
-        if self.items.insert(place, word).is_err() {
-            return Err(WordFault::NoMemory);
-        }
-        Ok(())
     }
 
     /// How many words there are, at most 16.
@@ -74,14 +66,14 @@ impl Words {
         ensures value { result ≡ length self.now }
         ensures set { IsWordSet self.now }
     {
-        self.items.len()
+        self.as_slice().len()
     }
 
     /// Whether there is no word.
     pub fn is_empty(&self) -> bool
         ensures { IsTrue result ↔ (self.now ≡ []) }
     {
-        self.items.is_empty()
+        self.as_slice().is_empty()
     }
 
     /// The word at place `i`, from 0, in the order of bytes.
@@ -89,26 +81,26 @@ impl Words {
         requires { i < length self.now }
         ensures { slice_get self.now i ≡ Some result.now }
     {
-        &self.items[i]
+        &self.as_slice()[i]
     }
 
     /// Whether the word is in the set.
     pub fn has(&self, word: &Word) -> bool
         ensures { result ≡ has_word self.now word.now }
     {
-        self.items.contains(word)
+        self.as_slice().contains(word)
     }
 
-    /// An equal set. Its only error is want of memory.
+    /// An equal set, which shares its words with this one and takes no memory. Its only error is that a set
+    /// has more than 9,223,372,036,854,775,807 copies.
     pub fn try_clone(&self) -> Result<Words, AllocError>
         ensures { IfOk result (λ copy. copy ≡ self.now) }
     {
-        let alloc = *self.items.allocator();
-        let mut items = Vec::with_capacity(alloc, self.items.len())?;
-        for word in &self.items {
-            items.push(word.try_clone()?)?;
-        }
-        Ok(Words { items })
+        let shared = match &self.shared {
+            Some(words) => Some(Arc::try_clone(words)?),
+            None => None,
+        };
+        Ok(Words { shared })
     }
 }
 
@@ -118,10 +110,33 @@ impl PartialEq for Words {
     ghost laws = { lists_per (laws.partial_equiv_from_equiv nat_list_eq_equiv) };
 
     fn eq(&self, other: &Words) -> bool {
-        self.items == other.items
+        self.as_slice() == other.as_slice()
     }
 }
 
 impl Eq for Words {
     ghost laws = { lists_equiv nat_list_eq_equiv };
+}
+
+#[cfg(test)]
+mod tests {
+    use super::{Global, Words};
+    use std::sync::Arc;
+
+    #[test]
+    fn copies_share_their_words(rt: HostRuntime) {
+        assert!(rt; owners(rt.alloc(), "b,a") == Some(2));
+        assert!(rt; owners(rt.alloc(), "-") == Some(0));
+    }
+
+    // How many sets share the words once a copy was made of the set.
+    fn owners(alloc: Global, text: &str) -> Option<usize> {
+        let words = Words::read(alloc, text).ok()?;
+        let copy = words.try_clone().ok()?;
+        Some(
+            copy.shared
+                .as_ref()
+                .map_or(0, |words| Arc::strong_count(words)),
+        )
+    }
 }

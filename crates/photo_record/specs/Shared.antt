@@ -1,0 +1,8 @@
+-- For `Words` itself: the words behind its shared pointer. No pointer stands for no word.
+use Rattle.std.specs.Prelude.{ℕ, List, [], Option, Some, None}
+use Rattle.std.specs.Arc.{arc_value}
+use Rattle.std.specs.declared.sync.Arc.{Arc}
+
+abbrev pub shared_words : {Z : Type 0} → Option (Arc (List (List ℕ)) Z) → List (List ℕ)
+shared_words None = []
+shared_words (Some words) = arc_value words
