@@ -129,7 +129,8 @@ impl Vector {
         })
     }
 
-    fn of(alloc: Global, entries: Vec<Bound>) -> Result<Vector, AllocError>
+    /// The set of those entries, which stand in the order of authors. Its only error is want of memory.
+    pub fn of(alloc: Global, entries: Vec<Bound>) -> Result<Vector, AllocError>
         requires { is_vector entries.items ≡ true }
         ensures { IfOk result (λ r. r ≡ entries.items) }
     {
