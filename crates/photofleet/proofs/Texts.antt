@@ -46,10 +46,10 @@ front_of_all before here end script i answers a h is first part =
       front = texts ++ part.front;
       rest = part.rest ++ others;
       whole = append_assoc texts part.front (part.rest ++ others)
-        ∙ ap (λ t. texts ++ t) (sym (append_assoc part.front part.rest others) ∙ ap (λ t. t ++ others) part.whole)
-        ∙ sym (append_assoc texts (text_of script (i + 1) a) others)
-        ∙ ap (λ t. t ++ others) (sym (texts_more script i answers a h is))
-        ∙ texts_whole script (i + 1) answers;
+          ∙ ap (λ t. texts ++ t) (sym (append_assoc part.front part.rest others) ∙ ap (λ t. t ++ others) part.whole)
+          ∙ sym (append_assoc texts (text_of script (i + 1) a) others)
+          ∙ ap (λ t. t ++ others) (sym (texts_more script i answers a h is))
+          ∙ texts_whole script (i + 1) answers;
       written = Appends-trans before here end texts part.front first part.written;
     }
 
@@ -68,8 +68,8 @@ report_written before here after script n i reports r text h is number text_is f
     let texts = first_texts script i (map answer_of reports) in
     let here_is : text ≡ text_of script (i + 1) (answer_of r) = text_is ∙ ap (λ k. text_of script (k + 1) (answer_of r)) number in
     subst (Appends before after)
-      (ap (λ t. texts ++ t) here_is ∙ sym (texts_more script i (map answer_of reports) (answer_of r) (within reports i h) (answer_at reports i r h is)))
-      (Appends-trans before here after texts text first more)
+    (ap (λ t. texts ++ t) here_is ∙ sym (texts_more script i (map answer_of reports) (answer_of r) (within reports i h) (answer_at reports i r h is)))
+    (Appends-trans before here after texts text first more)
 
 -- a report's text was cut
 pub report_cut : (before here after : Option (List ℕ)) (script : Contents) (n i : ℕ) (reports : List Report) (r : Report) (text : List ℕ) → i < length reports → r ≡ get_or reports i r

@@ -12,8 +12,8 @@ pub loop-report-preserved : goal.loop-report-preserved
 loop-report-preserved g c = record {
   number = omega arith;
   written = report_written _ (g.W.Write.contents c.loop-report.writer) (g.W.Write.contents c.write_text.new.writer) c.args.script.now c.loop-report.number c.loop-report.report-index
-    c.args.reports.now c.report-item.result _ (omega arith) c.report-item.is c.loop-report.invariant.number (c.as_bytes.ensures.value ∙ c.in-Ok.ensures) c.loop-report.invariant.written
-    c.in_ok-write_text.ensures.written;
+      c.args.reports.now c.report-item.result _ (omega arith) c.report-item.is c.loop-report.invariant.number (c.as_bytes.ensures.value ∙ c.in-Ok.ensures) c.loop-report.invariant.written
+      c.in_ok-write_text.ensures.written;
 }
 
 pub returns-in_err-write_text-clause-front : goal.returns-in_err-write_text-clause-front
