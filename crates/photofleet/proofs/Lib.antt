@@ -5,3 +5,6 @@ pub mod About
 pub mod Runs
 pub mod Sources
 pub mod Texts
+pub mod CommandLines
+pub mod Statuses
+pub mod WorkedExamples

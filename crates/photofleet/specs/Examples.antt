@@ -1,16 +1,21 @@
--- Runs computed by the definitions alone: from the bytes of a script to the bytes of its reports.
-use Rattle.std.specs.Prelude.{◌≡◌, ℕ, List, [], ◌∷◌, ◌++◌, pos, refl, codes}
+-- Runs, from the bytes of a script to the bytes of its reports, and command lines.
+use Rattle.std.specs.Prelude.{◌≡◌, ℕ, List, [], ◌∷◌, ◌++◌, pos, Option, Ok, codes}
+use Rattle.std.specs.Io.KnownBytes.{Appends}
 use Rattle.photo_record.specs.declared.record.Record.TheVariants.{Picture}
-use Rattle.std.specs.Fmt.{digits}
-use Rattle.photo_record.specs.Calendar.{date_of, years_off, months_off}
 use Rattle.photo_filter_text.specs.declared.tree.Cmp.TheVariants.{AtLeast}
 use Rattle.photo_filter_text.specs.Tree.{All, Rate, Keyword}
 use Rattle.photo_script.specs.declared.command.Command.TheVariants as command
 use Rattle.photo_script.specs.Contents.{Contents, contents}
-use Rattle.photo_script.specs.Reports.{text_of}
-use Rattle.photofleet.specs.Outcomes.{output_of}
+use Rattle.photo_script.specs.Reading.{script_of}
+use Rattle.photofleet.specs.Outcomes.{output_of, WritesOutput}
+use Rattle.photofleet.specs.CommandLine.{Asks, errors_of}
+use Rattle.clap.specs.declared.error.kind.ErrorKind.TheVariants.{DisplayHelp, MissingSubcommand, UnknownArgument, InvalidSubcommand, MissingRequiredArgument}
 
--- a camera, its picture with two words, and a list
+-- the text of a script
+abbrev pub stored_text : List ℕ
+stored_text = codes "device cam all\nnew cam 7 5 2024-05-01 sun,beach\nlist cam\n"
+
+-- that script: a camera, its picture with two words, and a list
 abbrev pub stored_run : Contents
 stored_run = contents (codes "cam" ∷ []) (All ∷ [])
     (command.New 0 7 (Picture 5 (pos 19844) (codes "beach" ∷ codes "sun" ∷ [])) ∷ command.List 0 ∷ [])
@@ -42,12 +47,25 @@ printed_word = codes "1 made a:1 store\n" ++ (codes "2 list a store 1 out 0\n"
     ++ (codes "  store 1 a:1 rating 0 day 2024-02-29 words " ++ (accented ++ codes "\n")))
 
 pub record AreAsTold : Type 0 where
+  pub read : script_of stored_text ≡ Ok stored_run
   pub stored : output_of stored_run ≡ printed
+  pub bytes : (old new : Option (List ℕ)) → WritesOutput old new stored_text → Appends old new printed
   pub below : output_of below_the_filter ≡ printed_below
   pub word : output_of with_the_word ≡ printed_word
   pub empty : output_of (contents [] [] []) ≡ []
   pub silent : output_of (contents (codes "a" ∷ []) (All ∷ []) []) ≡ []
 
-pub as_told : AreAsTold
-unfolding text_of digits date_of years_off months_off
-as_told = record { stored = refl; below = refl; word = refl; empty = refl; silent = refl }
+abbrev pub words_of : List (List ℕ) → List (List ℕ)
+words_of more = codes "photofleet" ∷ more
+
+-- command lines that ask for a run, for help, and for nothing that the program does
+pub record WordsAreAsTold : Type 0 where
+  pub run : Asks (words_of (codes "plain" ∷ codes "script" ∷ [])) (codes "script")
+  pub dashed : Asks (words_of (codes "plain" ∷ codes "--" ∷ codes "--help" ∷ [])) (codes "--help")
+  pub help : errors_of (words_of (codes "--help" ∷ [])) ≡ DisplayHelp ∷ []
+  pub help_of_plain : errors_of (words_of (codes "plain" ∷ codes "--help" ∷ [])) ≡ DisplayHelp ∷ []
+  pub none : errors_of (words_of []) ≡ MissingSubcommand ∷ []
+  pub unknown : errors_of (words_of (codes "frob" ∷ [])) ≡ UnknownArgument ∷ InvalidSubcommand ∷ []
+  pub no_file : errors_of (words_of (codes "plain" ∷ [])) ≡ MissingRequiredArgument ∷ []
+  pub two_files : errors_of (words_of (codes "plain" ∷ codes "script" ∷ codes "more" ∷ [])) ≡ UnknownArgument ∷ []
+  pub flag : errors_of (words_of (codes "plain" ∷ codes "--frob" ∷ codes "script" ∷ [])) ≡ UnknownArgument ∷ []

@@ -1,3 +1,4 @@
 pub mod Outcomes
 pub mod Status
+pub mod CommandLine
 pub mod Examples

@@ -1,12 +1,12 @@
--- What a run gives and writes.
-use Rattle.std.specs.Prelude.{◌≡◌, ℕ, ◌≤◌, List, length, map, Option, Some, Ok}
+-- What a run gives, takes from its source and writes.
+use Rattle.std.specs.Prelude.{◌≡◌, ℕ, ◌≤◌, List, ◌++◌, length, map, take, Option, Some, Ok}
 use Rattle.std.specs.List.{AllZip, AllByRecursion}
-use Rattle.std.specs.Io.KnownBytes.{Appends}
+use Rattle.std.specs.Io.KnownBytes.{Appends, Consumes}
 use Rattle.photo_device.specs.Device.{Shows}
 use Rattle.photo_script.specs.Limits.{max_commands}
 use Rattle.photo_script.specs.Contents.{Contents}
 use Rattle.photo_script.specs.Reading.{script_of}
-use Rattle.photo_script.specs.Reports.{answer_of, texts_from, IsAbout}
+use Rattle.photo_script.specs.Reports.{Answer, answer_of, texts_from, IsAbout}
 use Rattle.photo_script.specs.Runs.{run, reports_of}
 use Rattle.photofleet.specs.declared.runner.outcome.Outcome.{Outcome}
 
@@ -21,8 +21,38 @@ pub record IsOutcome (script : Contents) (o : Outcome) : Type 0 where
 abbrev pub output_of : Contents → List ℕ
 output_of script = texts_from script 1 (reports_of (run script))
 
+-- of a reader's bytes so many at most have been taken, from their front
+pub record TakesAtMost (old new : Option (List ℕ)) (most : ℕ) : Type 0 where
+  pub taken : List ℕ
+  pub front : Consumes old new taken
+  pub few : length taken ≤ most
+
+-- the whole texts of some first answers, perhaps of none, have been written behind what was there, and nothing else
+pub record AppendsFirst (old new : Option (List ℕ)) (script : Contents) (answers : List Answer) : Type 0 where
+  pub count : ℕ
+  pub written : Appends old new (texts_from script 1 (take count answers))
+
+-- a front of the bytes has been written behind what was there, and nothing else
+pub record AppendsFront (old new : Option (List ℕ)) (all : List ℕ) : Type 0 where
+  pub front : List ℕ
+  pub rest : List ℕ
+  pub whole : front ++ rest ≡ all
+  pub written : Appends old new front
+
 -- the input is the text of a script, and what its run prints has been written behind what was there, and nothing else
 pub record WritesOutput (old new : Option (List ℕ)) (input : List ℕ) : Type 0 where
   pub script : Contents
   pub read : script_of input ≡ Ok script
   pub written : Appends old new (output_of script)
+
+-- the same, of the whole texts of some first reports alone
+pub record WritesFirst (old new : Option (List ℕ)) (input : List ℕ) : Type 0 where
+  pub script : Contents
+  pub read : script_of input ≡ Ok script
+  pub written : AppendsFirst old new script (reports_of (run script))
+
+-- the same, of a front of what the run prints
+pub record WritesFront (old new : Option (List ℕ)) (input : List ℕ) : Type 0 where
+  pub script : Contents
+  pub read : script_of input ≡ Ok script
+  pub written : AppendsFront old new (output_of script)

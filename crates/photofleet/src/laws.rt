@@ -1,7 +1,29 @@
 //! Laws of the definitions.
-ghost use Rattle.photofleet.specs.Examples.{AreAsTold};
+ghost use Rattle.std.specs.Prelude.{◌≡◌, IfOk};
+ghost use Rattle.photofleet.specs.Examples.{AreAsTold, WordsAreAsTold, printed};
+
+use crate::runner::{RunError, plain_stream};
+use std::alloc::Global;
 
 /// The worked examples are as they are told, by the definitions alone.
 pub fn examples()
     ensures { AreAsTold }
+{
+    photo_script::laws::examples();
+}
+
+/// What command lines ask for is as it is told, by `clap`'s definitions alone.
+pub fn words()
+    ensures { WordsAreAsTold }
 {}
+
+/// From the bytes of a script in memory to the bytes of its reports.
+pub fn first_picture(alloc: Global) -> Result<Vec<u8>, RunError>
+    ensures { IfOk result (λ output. output.items ≡ printed) }
+{
+    examples();
+    let mut source = "device cam all\nnew cam 7 5 2024-05-01 sun,beach\nlist cam\n".as_bytes();
+    let mut output = Vec::new(alloc);
+    plain_stream(alloc, &mut source, &mut output)?;
+    Ok(output)
+}

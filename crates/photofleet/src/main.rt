@@ -5,32 +5,38 @@ mod laws;
 mod runner;
 mod serve;
 
-use serve::{FileOpener, serve, without_memory};
+use serve::{FileOpener, serve, without_memory, without_words};
+use std::alloc::AllocError;
+use std::env;
+use std::io::BufWriter;
 use std::process::ExitCode;
-use std::{env, io};
 
 fn main(rt: HostRuntime) -> ExitCode {
-    let mut err = rt.stderr();
-    let status = match words_of(&rt) {
-        Ok(words) => {
-            let mut opener = FileOpener::new(&rt);
-            let mut out = rt.stdout();
-            serve(
-                rt.alloc(),
-                words.as_slice(),
-                &mut opener,
-                &mut out,
-                &mut err,
-            )
-        }
-        Err(_) => without_memory(&mut err),
-    };
-    ExitCode::from(status)
+    ExitCode::from(status(&rt))
 }
 
-// The words of the command line. Its only error is want of memory.
-fn words_of(rt: &HostRuntime) -> io::Result<Vec<String>> {
-    Ok(env::args(rt)?.collect(rt.alloc())?)
+// The exit status of the program on the words of its command line. Output is gathered before it is written.
+fn status(rt: &HostRuntime) -> u8 {
+    let mut err = rt.stderr();
+    let words = match env::args(rt) {
+        Ok(words) => words,
+        Err(error) => return without_words(rt.alloc(), error.kind(), &mut err),
+    };
+    let collected: Result<Vec<String>, AllocError> = words.collect(rt.alloc());
+    let Ok(words) = collected else {
+        return without_memory(&mut err);
+    };
+    let Ok(mut out) = BufWriter::new(rt.alloc(), rt.stdout()) else {
+        return without_memory(&mut err);
+    };
+    let mut opener = FileOpener::new(rt);
+    serve(
+        rt.alloc(),
+        words.as_slice(),
+        &mut opener,
+        &mut out,
+        &mut err,
+    )
 }
 
 #[cfg(test)]

@@ -1,16 +1,21 @@
-ghost use Rattle.std.specs.Prelude.{◌≡◌, ◌≢◌, ◌⊎◌, true, Err};
+ghost use Rattle.std.specs.Prelude.{◌≡◌, ◌≢◌, ◌⊎◌, ℕ, List, Option, Some, None, true, map, Err, OnOk, IfOk, IfErr, IfSome, option_map, option_and_then};
+ghost use Rattle.std.specs.Io.KnownBytes.{Appends};
+ghost use Rattle.std.specs.declared.io.ErrorKind.TheVariants.{OutOfMemory};
+ghost use Rattle.clap.specs.Words.{app_of, kind_of, subcommand_rows_of};
 ghost use Rattle.photo_script.specs.declared.fault.ScriptFault as script;
 ghost use Rattle.photofleet.specs.Status.{is_status, status_of};
-ghost use Rattle.photofleet.specs.declared.runner.fault.RunError.TheVariants.{Script};
+ghost use Rattle.photofleet.specs.Outcomes.{WritesOutput, WritesFirst, WritesFront};
+ghost use Rattle.photofleet.specs.CommandLine.{program, file_in, AsksForHelp, AreRefused, IsRefusal, Asks, AsksJob, OfFile};
+ghost use Rattle.photofleet.specs.declared.runner.fault.RunError.TheVariants.{NoMemory, Script, Write};
 
 use crate::runner::{RunError, plain_stream};
 use clap::error::ErrorKind;
-use clap::{Arg, ArgAction, Command};
+use clap::{Arg, ArgAction, ArgMatches, Command};
 use photo_script::ScriptFault;
 use std::alloc::{AllocError, Global};
 use std::convert::AsStr;
 use std::fs;
-use std::io::{Read, Write};
+use std::io::{self, Read, Write};
 use std::rt::Files;
 
 /// Gives the reader of a file that the command line names.
@@ -18,8 +23,12 @@ pub trait Opener {
     /// What reads the file.
     type Source: Read + Drop;
 
-    /// Opens the file, or says why it can't be read.
-    fn open(&mut self, file: &str) -> Result<Self::Source, ScriptFault>;
+    // The bytes of a file, where they are known.
+    ghost content: { Self → List ℕ → Option (List ℕ) } = { λ _ _. None };
+
+    /// Opens the file, whose reader gives its bytes, or says why it can't be read.
+    fn open(&mut self, file: &str) -> Result<Self::Source, ScriptFault>
+        ensures { IfOk result (λ source. IfSome (content self.old file.now) (λ bytes. Self.Source.remaining source ≡ Some bytes)) };
 }
 
 /// Opens the files of the system.
@@ -55,15 +64,21 @@ const NO_RUN: u8 = 4;
 const BAD_OUTPUT: u8 = 5;
 
 // What a command line asks for.
-enum Job<'a> {
+pub enum Job<'a> {
     Plain { file: &'a str },
 }
 
 /// Does what a command line asks for, and gives the exit status. `words` begins with the program's name.
 ///
-/// Reports and help go to `out`, and what went wrong to `err`: 2 for words that are refused, 3 for a script
-/// fault, 4 for want of memory, 5 for a failed write. A failed write to `err` changes no status. Where the words or
-/// the script are refused, nothing is written to `out`.
+/// - 0: the words asked for help, and some was written to `out`; or they named a file whose bytes are a script, and
+///   what its run prints was written, and nothing else.
+/// - 2: the words were refused. Nothing was written to `out`.
+/// - 3: the words named a file that can't be opened or read, or that has no script. Nothing was written to `out`.
+/// - 4: memory was refused. Nothing was written to `out`, or the whole texts of some first reports.
+/// - 5: a write failed. A front of what the run prints was written, or of help.
+///
+/// What went wrong is told to `err`; a failed write to `err` changes no status. Which words ask for help, are refused
+/// or name a file is as `clap` says of the program's command line.
 pub fn serve<S: AsStr, O: Opener, W: Write, E: Write>(
     alloc: Global,
     words: &[S],
@@ -72,7 +87,12 @@ pub fn serve<S: AsStr, O: Opener, W: Write, E: Write>(
     err: &mut E,
 ) -> u8
     ensures status { is_status result ≡ true }
+    ensures done { result ≡ 0 → (AsksForHelp (map S.text words.now) × ((help : List ℕ) × Appends (W.contents out.old) (W.contents out.new) help)) ⊎ OfFile (O.content opener.old) (map S.text words.now) (WritesOutput (W.contents out.old) (W.contents out.new)) }
+    ensures refused { result ≡ 2 → AreRefused (map S.text words.now) }
+    ensures file { result ≡ 3 → (file : List ℕ) × Asks (map S.text words.now) file }
     ensures nothing { (result ≡ 2) ⊎ (result ≡ 3) → out.new ≡ out.old }
+    ensures first { result ≡ 4 → (out.new ≡ out.old) ⊎ OfFile (O.content opener.old) (map S.text words.now) (WritesFirst (W.contents out.old) (W.contents out.new)) }
+    ensures front { result ≡ 5 → AsksForHelp (map S.text words.now) ⊎ OfFile (O.content opener.old) (map S.text words.now) (WritesFront (W.contents out.old) (W.contents out.new)) }
 {
     match job_of(alloc, words) {
         Ok(Job::Plain { file }) => {
@@ -89,6 +109,9 @@ fn plain<O: Opener, W: Write>(
     opener: &mut O,
     out: &mut W,
 ) -> Result<(), RunError>
+    ensures written { OnOk result (IfSome (O.content opener.old file.now) (WritesOutput (W.contents out.old) (W.contents out.new))) }
+    ensures first { result ≡ Err NoMemory → IfSome (O.content opener.old file.now) (WritesFirst (W.contents out.old) (W.contents out.new)) }
+    ensures front { result ≡ Err Write → IfSome (O.content opener.old file.now) (WritesFront (W.contents out.old) (W.contents out.new)) }
     ensures nothing { (fault : script.ScriptFault) → result ≡ Err (Script fault) → out.new ≡ out.old }
 {
     let mut source = opener.open(file).map_err(RunError::Script)?;
@@ -123,41 +146,90 @@ pub fn without_memory<E: Write>(err: &mut E) -> u8
     status_of(Err(RunError::NoMemory), err)
 }
 
+/// Tells why the command line gave no words, and gives the status: a word that is not UTF-8 is refused.
+pub fn without_words<E: Write>(alloc: Global, why: io::ErrorKind, err: &mut E) -> u8
+    ensures status { (result ≡ 2) ⊎ (result ≡ 4) }
+    ensures memory { why ≡ OutOfMemory → result ≡ 4 }
+{
+    if why == io::ErrorKind::OutOfMemory {
+        return without_memory(err);
+    }
+    match not_utf8(alloc) {
+        Ok(refusal) => bad_words(alloc, &refusal, err),
+        Err(_) => without_memory(err),
+    }
+}
+
+fn not_utf8(alloc: Global) -> Result<clap::Error, AllocError> {
+    command_line(alloc)?.error(
+        ErrorKind::InvalidValue,
+        "invalid UTF-8 was detected in one or more arguments",
+    )
+}
+
 // Help is asked for, or the words are refused.
 fn refused<W: Write, E: Write>(alloc: Global, refusal: &clap::Error, out: &mut W, err: &mut E) -> u8
     ensures status { is_status result ≡ true }
     ensures of_words { result ≢ 3 }
-    ensures nothing { result ≡ 2 → out.new ≡ out.old }
+    ensures help { (result ≡ 0) ⊎ (result ≡ 5) → kind_of refusal.now ≡ ErrorKind.DisplayHelp }
+    ensures done { result ≡ 0 → (help : List ℕ) × Appends (W.contents out.old) (W.contents out.new) help }
+    ensures words { result ≡ 2 → (kind_of refusal.now ≢ ErrorKind.DisplayHelp) × (kind_of refusal.now ≢ ErrorKind.OutOfMemory) }
+    ensures nothing { (result ≡ 2) ⊎ (result ≡ 4) → out.new ≡ out.old }
 {
-    if refusal.kind() == ErrorKind::OutOfMemory {
-        return without_memory(err);
+    match refusal.kind() {
+        ErrorKind::OutOfMemory => without_memory(err),
+        ErrorKind::DisplayHelp => help(alloc, refusal, out, err),
+        _ => bad_words(alloc, refusal, err),
     }
+}
+
+fn help<W: Write, E: Write>(alloc: Global, help: &clap::Error, out: &mut W, err: &mut E) -> u8
+    ensures status { (result ≡ 0) ⊎ ((result ≡ 4) ⊎ (result ≡ 5)) }
+    ensures done { result ≡ 0 → (help : List ℕ) × Appends (W.contents out.old) (W.contents out.new) help }
+    ensures nothing { result ≡ 4 → out.new ≡ out.old }
+{
+    let Ok(text) = help.to_string(alloc) else {
+        return without_memory(err);
+    };
+    if out.write_all(text.as_bytes()).is_err() || out.flush().is_err() {
+        return status_of(Err(RunError::Write), err);
+    }
+    DONE
+}
+
+// Tells why the words are refused.
+fn bad_words<E: Write>(alloc: Global, refusal: &clap::Error, err: &mut E) -> u8
+    ensures { (result ≡ 2) ⊎ (result ≡ 4) }
+{
     let Ok(text) = refusal.to_string(alloc) else {
         return without_memory(err);
     };
-    if refusal.use_stderr() {
-        let _ = err.write_all(text.as_bytes());
-        return BAD_WORDS;
-    }
-    let written = out.write_all(text.as_bytes()).and_then(|()| out.flush());
-    match written {
-        Ok(()) => DONE,
-        Err(_) => status_of(Err(RunError::Write), err),
-    }
+    let _ = err.write_all(text.as_bytes());
+    BAD_WORDS
 }
 
-fn job_of<'a, S: AsStr>(alloc: Global, words: &'a [S]) -> Result<Job<'a>, clap::Error> {
+fn job_of<'a, S: AsStr>(alloc: Global, words: &'a [S]) -> Result<Job<'a>, clap::Error>
+    ensures file { IfOk result (AsksJob (map S.text words.now)) }
+    ensures refusal { IfErr result (λ e. kind_of e ≢ ErrorKind.OutOfMemory → IsRefusal (map S.text words.now) (kind_of e)) }
+{
     let mut command = command_line(alloc)?;
     let matches = command.try_get_matches_from_mut(words)?;
-    if let Some(plain) = matches.subcommand_matches("plain") {
-        if let Some(file) = plain.get_str("FILE") {
-            return Ok(Job::Plain { file });
-        }
+    match plain_file(&matches) {
+        Some(file) => Ok(Job::Plain { file }),
+        None => Err(command.error(ErrorKind::MissingSubcommand, "a command is missing")?),
     }
-    Err(command.error(ErrorKind::MissingSubcommand, "a command is missing")?)
 }
 
-fn command_line<'a>(alloc: Global) -> Result<Command<'a>, AllocError> {
+// The file that `plain` was given.
+fn plain_file<'a>(matches: &ArgMatches<'a>) -> Option<&'a str>
+    ensures { option_map (λ file. file.now) result ≡ option_and_then file_in (subcommand_rows_of matches.now) }
+{
+    matches.subcommand_matches("plain")?.get_str("FILE")
+}
+
+fn command_line<'a>(alloc: Global) -> Result<Command<'a>, AllocError>
+    ensures { IfOk result (λ command. app_of command ≡ program) }
+{
     let file = Arg::new(alloc, "FILE")
         .help("The script")
         .required(true)

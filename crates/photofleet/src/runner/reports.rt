@@ -1,8 +1,10 @@
-ghost use Rattle.std.specs.Prelude.{◌≤◌, length, map, OnOk, IfErr};
+ghost use Rattle.std.specs.Prelude.{◌≡◌, ◌≤◌, length, map, OnOk, OnErr, IfErr, Err};
 ghost use Rattle.std.specs.List.{AllByRecursion};
 ghost use Rattle.photo_script.specs.Limits.{max_commands};
 ghost use Rattle.std.specs.Io.KnownBytes.{Appends};
 ghost use Rattle.photo_script.specs.Reports.{answer_of, texts_from, IsAbout};
+ghost use Rattle.photofleet.specs.declared.runner.fault.RunError.TheVariants.{NoMemory, Write};
+ghost use Rattle.photofleet.specs.Outcomes.{AppendsFirst, AppendsFront};
 ghost use Rattle.photofleet.specs.Status.{IsOfWriting};
 
 use super::RunError;
@@ -12,8 +14,8 @@ use std::io::Write;
 
 /// Writes the texts of the reports, numbered from 1, one after another, and flushes the writer.
 ///
-/// Want of memory leaves the whole texts of some first reports written. An error or a 0 of the writer is
-/// `Write`, and leaves a prefix of all texts written.
+/// Want of memory leaves the whole texts of some first reports written, perhaps of none. An error or a 0 of the
+/// writer is `Write`, and leaves a front of all texts written.
 pub fn write_reports<W: Write>(
     alloc: Global,
     writer: &mut W,
@@ -23,6 +25,8 @@ pub fn write_reports<W: Write>(
     requires few { length reports.now ≤ max_commands }
     requires about { AllByRecursion (IsAbout script.now) (map answer_of reports.now) }
     ensures written { OnOk result (Appends (W.contents writer.old) (W.contents writer.new) (texts_from script.now 1 (map answer_of reports.now))) }
+    ensures first { result ≡ Err NoMemory → AppendsFirst (W.contents writer.old) (W.contents writer.new) script.now (map answer_of reports.now) }
+    ensures front { result ≡ Err Write → AppendsFront (W.contents writer.old) (W.contents writer.new) (texts_from script.now 1 (map answer_of reports.now)) }
     ensures err { IfErr result IsOfWriting }
 {
     write_texts(alloc, writer, script, reports)?;
@@ -41,6 +45,8 @@ fn write_texts<W: Write>(
     requires few { length reports.now ≤ max_commands }
     requires about { AllByRecursion (IsAbout script.now) (map answer_of reports.now) }
     ensures written { OnOk result (Appends (W.contents writer.old) (W.contents writer.new) (texts_from script.now 1 (map answer_of reports.now))) }
+    ensures first { result ≡ Err NoMemory → AppendsFirst (W.contents writer.old) (W.contents writer.new) script.now (map answer_of reports.now) }
+    ensures front { result ≡ Err Write → AppendsFront (W.contents writer.old) (W.contents writer.new) (texts_from script.now 1 (map answer_of reports.now)) }
     ensures err { IfErr result IsOfWriting }
 {
     let mut number = 0;
@@ -56,7 +62,8 @@ fn write_texts<W: Write>(
 
 fn write_text<W: Write>(writer: &mut W, text: &[u8]) -> Result<(), RunError>
     ensures written { OnOk result (Appends (W.contents writer.old) (W.contents writer.new) text.now) }
-    ensures err { IfErr result IsOfWriting }
+    ensures front { OnErr result (AppendsFront (W.contents writer.old) (W.contents writer.new) text.now) }
+    ensures err { IfErr result (λ e. e ≡ Write) }
 {
     let mut rest = text;
     while !rest.is_empty() {

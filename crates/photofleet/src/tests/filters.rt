@@ -1,23 +1,9 @@
-use super::memory::{Shelf, Sink};
-use crate::serve::serve;
+use super::memory::runs;
 use std::alloc::Global;
 use std::test::Fail;
 
-// What a script gives: the status, the reports and what went wrong.
-fn ran(alloc: Global, script: &str) -> (u8, Vec<u8>, Vec<u8>) {
-    let mut shelf = Shelf {
-        script: script.as_bytes(),
-    };
-    let mut told = Sink::new(alloc);
-    let mut fault = Sink::new(alloc);
-    let words = ["photofleet", "plain", "script"];
-    let status = serve(alloc, words.as_slice(), &mut shelf, &mut told, &mut fault);
-    (status, told.taken, fault.taken)
-}
-
 #[test]
-fn places_of_new_versions(rt: HostRuntime) -> Result<(), Fail> {
-    let alloc = rt.alloc();
+fn places_of_new_versions(rt: HostRuntime) {
     for (script, reports) in [
         (
             "device frame rating >= 4\nnew frame 1 3 2024-05-01 -\nlist frame\n",
@@ -38,18 +24,13 @@ fn places_of_new_versions(rt: HostRuntime) -> Result<(), Fail> {
             "1 made a:1 out\n2 made b:1 out\n3 made c:1 store\n4 made a:2 store\n5 made c:2 out\n6 list a store 1 out 1\n  store 4 a:2 rating 2 day 2024-05-01 words -\n  out 1 a:1 rating 3 day 2024-05-01 words -\n",
         ),
     ] {
-        let (status, told, fault) = ran(alloc, script);
-        assert_eq!(rt; status, 0, "{script}");
-        assert!(rt; told.as_slice() == reports.as_bytes(), "{script}");
-        assert!(rt; fault.is_empty(), "{script}");
+        assert!(rt; runs(rt.alloc(), script, 0, reports, ""), "{script}");
     }
-    Ok(())
 }
 
 #[test]
-fn filters_that_are_refused(rt: HostRuntime) -> Result<(), Fail> {
-    let alloc = rt.alloc();
-    for (script, text) in [
+fn filters_that_are_refused(rt: HostRuntime) {
+    for (script, error) in [
         (
             "device a rating >= 6\n",
             "script fault: line 1: F15 BadFilter\n",
@@ -77,30 +58,29 @@ fn filters_that_are_refused(rt: HostRuntime) -> Result<(), Fail> {
             "script fault: line 1: F5 UnknownCommand\n",
         ),
     ] {
-        let (status, told, fault) = ran(alloc, script);
-        assert_eq!(rt; status, 3, "{script}");
-        assert!(rt; told.is_empty(), "{script}");
-        assert!(rt; fault.as_slice() == text.as_bytes(), "{script}");
+        assert!(rt; runs(rt.alloc(), script, 3, "", error), "{script}");
     }
-    Ok(())
+}
+
+// A device whose filter has so many `not` in front of `all`.
+fn high_script(alloc: Global, count: usize) -> Result<String, Fail> {
+    let mut script = String::from_str(alloc, "device a ")?;
+    for _ in 0..count {
+        script.push_str("not ")?;
+    }
+    script.push_str("all\n")?;
+    Ok(script)
 }
 
 #[test]
 fn heights_of_filters(rt: HostRuntime) -> Result<(), Fail> {
-    let alloc = rt.alloc();
-    for (count, status, text) in [
+    for (count, status, error) in [
         (31, 0, ""),
         (32, 3, "script fault: line 1: F15 BadFilter\n"),
     ] {
-        let mut script = String::from_str(alloc, "device a ")?;
-        for _ in 0..count {
-            script.push_str("not ")?;
-        }
-        script.push_str("all\n")?;
-        let (given, told, fault) = ran(alloc, script.as_str());
-        assert_eq!(rt; given, status, "{count}");
+        let script = high_script(rt.alloc(), count)?;
         assert!(rt;
-            told.is_empty() && fault.as_slice() == text.as_bytes(),
+            runs(rt.alloc(), script.as_str(), status, "", error),
             "{count}"
         );
     }
@@ -120,22 +100,27 @@ fn push_words(text: &mut String, letter: char, count: usize) -> Result<(), Fail>
     Ok(())
 }
 
+// A device whose filter has so many words by so many, and two pictures.
+fn wide_script(alloc: Global, left: usize, right: usize) -> Result<String, Fail> {
+    let mut script = String::from_str(alloc, "device a ")?;
+    push_words(&mut script, 'x', left)?;
+    script.push_str(" and ")?;
+    push_words(&mut script, 'y', right)?;
+    script.push_str("\nnew a 1 0 2024-05-01 x7,y0\nnew a 2 0 2024-05-01 x1,x2\n")?;
+    Ok(script)
+}
+
 #[test]
 fn widths_of_filters(rt: HostRuntime) -> Result<(), Fail> {
-    let alloc = rt.alloc();
-    for (left, right, status, told, fault) in [
+    for (left, right, status, output, error) in [
         (8, 8, 0, "1 made a:1 store\n2 made a:2 out\n", ""),
         (5, 13, 3, "", "script fault: line 1: F15 BadFilter\n"),
     ] {
-        let mut script = String::from_str(alloc, "device a ")?;
-        push_words(&mut script, 'x', left)?;
-        script.push_str(" and ")?;
-        push_words(&mut script, 'y', right)?;
-        script.push_str("\nnew a 1 0 2024-05-01 x7,y0\nnew a 2 0 2024-05-01 x1,x2\n")?;
-        let given = ran(alloc, script.as_str());
-        assert_eq!(rt; given.0, status, "{left} by {right}");
-        assert!(rt; given.1.as_slice() == told.as_bytes(), "{left} by {right}");
-        assert!(rt; given.2.as_slice() == fault.as_bytes(), "{left} by {right}");
+        let script = wide_script(rt.alloc(), left, right)?;
+        assert!(rt;
+            runs(rt.alloc(), script.as_str(), status, output, error),
+            "{left} by {right}"
+        );
     }
     Ok(())
 }

@@ -1,5 +1,9 @@
-//! Readers, writers and files in memory.
-use crate::serve::Opener;
+//! Readers, writers and files in memory, and the program over them.
+ghost use Rattle.std.specs.Prelude.{Some, None, codes, if◌then◌else◌};
+ghost use Rattle.std.specs.Str.{bytes_eq};
+
+use crate::runner::{RunError, plain_stream};
+use crate::serve::{Opener, serve};
 use photo_script::ScriptFault;
 use std::alloc::Global;
 use std::io::{self, ErrorKind, Read, Write};
@@ -17,6 +21,17 @@ pub struct Source<'a> {
     pub left: &'a [u8],
     pub step: usize,
     pub fails: bool,
+}
+
+impl<'a> Source<'a> {
+    /// Gives all, in pieces as large as the caller takes them.
+    pub fn new(left: &'a [u8]) -> Source<'a> {
+        Source {
+            left,
+            step: usize::MAX,
+            fails: false,
+        }
+    }
 }
 
 impl Read for Source<'_> {
@@ -67,11 +82,16 @@ pub struct Sink {
 impl Sink {
     /// A writer that takes all.
     pub fn new(alloc: Global) -> Sink {
+        Sink::of_room(alloc, usize::MAX, Full::Error)
+    }
+
+    /// A writer that takes so many bytes in all.
+    pub fn of_room(alloc: Global, room: usize, full: Full) -> Sink {
         Sink {
             taken: Vec::new(alloc),
             step: usize::MAX,
-            room: usize::MAX,
-            full: Full::Error,
+            room,
+            full,
             flush_fails: false,
         }
     }
@@ -103,16 +123,55 @@ pub struct Shelf<'a> {
 }
 
 impl<'a> Opener for Shelf<'a> {
-    type Source = Source<'a>;
+    type Source = &'a [u8];
 
-    fn open(&mut self, file: &str) -> Result<Source<'a>, ScriptFault> {
+    ghost content = { λ shelf file. if bytes_eq file (codes "script") then Some shelf.script.now else None };
+
+    fn open(&mut self, file: &str) -> Result<&'a [u8], ScriptFault> {
         if file != "script" {
             return Err(ScriptFault::Read);
         }
-        Ok(Source {
-            left: self.script,
-            step: 4096,
-            fails: false,
-        })
+        Ok(self.script)
     }
+}
+
+/// Whether the program on those words, with the script in the one file, gives a status, an output and an error's text.
+pub fn serves(
+    alloc: Global,
+    words: &[&str],
+    script: &[u8],
+    status: u8,
+    output: &[u8],
+    error: &[u8],
+) -> bool {
+    let mut shelf = Shelf { script };
+    let mut out = Sink::new(alloc);
+    let mut err = Sink::new(alloc);
+    serve(alloc, words, &mut shelf, &mut out, &mut err) == status
+        && out.taken.as_slice() == output
+        && err.taken.as_slice() == error
+}
+
+/// The same of the words that run the script.
+pub fn runs(alloc: Global, script: &str, status: u8, output: &str, error: &str) -> bool {
+    let words = ["photofleet", "plain", "script"];
+    serves(
+        alloc,
+        words.as_slice(),
+        script.as_bytes(),
+        status,
+        output.as_bytes(),
+        error.as_bytes(),
+    )
+}
+
+/// Whether a run from that reader to that writer gives an answer and leaves those bytes written.
+pub fn streams<R: Read + Drop>(
+    alloc: Global,
+    mut source: R,
+    mut sink: Sink,
+    answer: Result<(), RunError>,
+    output: &[u8],
+) -> bool {
+    plain_stream(alloc, &mut source, &mut sink) == answer && sink.taken.as_slice() == output
 }

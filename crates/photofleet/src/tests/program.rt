@@ -1,11 +1,14 @@
-use super::memory::{Full, OUTPUT, SCRIPT, Shelf, Sink};
-use crate::serve::serve;
+use super::memory::{Full, OUTPUT, SCRIPT, Shelf, Sink, runs, serves};
+use crate::laws;
+use crate::serve::{serve, without_words};
+use std::alloc::Global;
+use std::io::{self, BufWriter};
 use std::test::Fail;
 
 #[test]
-fn statuses_and_texts(rt: HostRuntime) -> Result<(), Fail> {
+fn statuses_and_texts(rt: HostRuntime) {
     let alloc = rt.alloc();
-    for (script, status, out, err) in [
+    for (script, status, output, error) in [
         (SCRIPT, 0, OUTPUT, ""),
         ("", 0, "", ""),
         ("device a all", 0, "", ""),
@@ -21,56 +24,64 @@ fn statuses_and_texts(rt: HostRuntime) -> Result<(), Fail> {
             "",
             "script fault: line 3: F5 UnknownCommand\n",
         ),
+        (
+            "device a all\nnew a 1 0 2024-05-01 x(y\n",
+            3,
+            "",
+            "script fault: line 2: F14 BadKeyword\n",
+        ),
     ] {
-        let mut shelf = Shelf {
-            script: script.as_bytes(),
-        };
-        let mut told = Sink::new(alloc);
-        let mut fault = Sink::new(alloc);
-        let words = ["photofleet", "plain", "script"];
-        let given = serve(alloc, words.as_slice(), &mut shelf, &mut told, &mut fault);
-        assert_eq!(rt; given, status, "{script}");
-        assert!(rt; told.taken.as_slice() == out.as_bytes(), "{script}");
-        assert!(rt; fault.taken.as_slice() == err.as_bytes(), "{script}");
+        assert!(rt; runs(alloc, script, status, output, error), "{script}");
     }
-    Ok(())
 }
 
 #[test]
-fn a_script_that_is_no_text(rt: HostRuntime) -> Result<(), Fail> {
+fn more_devices_than_a_script_may_have(rt: HostRuntime) -> Result<(), Fail> {
     let alloc = rt.alloc();
-    let mut shelf = Shelf { script: b"\xff" };
-    let mut told = Sink::new(alloc);
-    let mut fault = Sink::new(alloc);
-    let words = ["photofleet", "plain", "script"];
-    assert_eq!(rt;
-        serve(alloc, words.as_slice(), &mut shelf, &mut told, &mut fault),
-        3
+    let mut script = String::new(alloc);
+    for n in 0..64 {
+        writeln!(script, "device d{n} all")?;
+    }
+    assert!(rt; runs(alloc, script.as_str(), 0, "", ""));
+    script.push_str("device d64 all\n")?;
+    assert!(rt;
+        runs(
+            alloc,
+            script.as_str(),
+            3,
+            "",
+            "script fault: line 65: F17 TooMany\n"
+        )
     );
-    assert!(rt; told.taken.is_empty());
-    assert!(rt; fault.taken.as_slice() == b"script fault: F3 NotUtf8\n".as_slice());
     Ok(())
 }
 
 #[test]
-fn a_file_that_cannot_be_opened(rt: HostRuntime) -> Result<(), Fail> {
+fn files_that_give_no_text(rt: HostRuntime) {
     let alloc = rt.alloc();
-    let mut shelf = Shelf { script: b"" };
-    let mut told = Sink::new(alloc);
-    let mut fault = Sink::new(alloc);
-    let words = ["photofleet", "plain", "elsewhere"];
-    assert_eq!(rt;
-        serve(alloc, words.as_slice(), &mut shelf, &mut told, &mut fault),
-        3
-    );
-    assert!(rt; told.taken.is_empty());
-    assert!(rt; fault.taken.as_slice() == b"script fault: F1 Read\n".as_slice());
-    Ok(())
+    for (file, script, error) in [
+        ("script", b"\xff".as_slice(), "script fault: F3 NotUtf8\n"),
+        ("elsewhere", b"".as_slice(), "script fault: F1 Read\n"),
+    ] {
+        let words = ["photofleet", "plain", file];
+        assert!(rt;
+            serves(alloc, words.as_slice(), script, 3, b"", error.as_bytes()),
+            "{error}"
+        );
+    }
+}
+
+// Whether the words are refused by a text of `clap`, and nothing is written to the output.
+fn refuses(alloc: Global, words: &[&str]) -> bool {
+    let mut out = Sink::new(alloc);
+    let mut err = Sink::new(alloc);
+    serve(alloc, words, &mut Shelf { script: b"" }, &mut out, &mut err) == 2
+        && out.taken.is_empty()
+        && err.taken.as_slice().starts_with(b"error: ")
 }
 
 #[test]
-fn words_that_are_refused(rt: HostRuntime) -> Result<(), Fail> {
-    let alloc = rt.alloc();
+fn words_that_are_refused(rt: HostRuntime) {
     let lines: [&[&str]; 5] = [
         &["photofleet"],
         &["photofleet", "frob"],
@@ -79,75 +90,116 @@ fn words_that_are_refused(rt: HostRuntime) -> Result<(), Fail> {
         &["photofleet", "plain", "--frob", "script"],
     ];
     for words in lines {
-        let mut shelf = Shelf { script: b"" };
-        let mut told = Sink::new(alloc);
-        let mut fault = Sink::new(alloc);
-        assert_eq!(rt;
-            serve(alloc, words, &mut shelf, &mut told, &mut fault),
-            2,
-            "{words:?}"
-        );
-        assert!(rt; told.taken.is_empty(), "{words:?}");
-        assert!(rt; fault.taken.as_slice().starts_with(b"error: "), "{words:?}");
+        assert!(rt; refuses(rt.alloc(), words), "{words:?}");
     }
-    Ok(())
 }
 
 #[test]
-fn help(rt: HostRuntime) -> Result<(), Fail> {
+fn words_that_are_no_text(rt: HostRuntime) {
+    let mut err = Sink::new(rt.alloc());
+    assert_eq!(rt;
+        without_words(rt.alloc(), io::ErrorKind::InvalidData, &mut err),
+        2
+    );
+    assert!(rt; err.taken.as_slice().starts_with(b"error: invalid UTF-8 "));
+    let mut err = Sink::new(rt.alloc());
+    assert_eq!(rt;
+        without_words(rt.alloc(), io::ErrorKind::OutOfMemory, &mut err),
+        4
+    );
+    assert!(rt; err.taken.as_slice() == b"run error: E1 NoMemory\n".as_slice());
+}
+
+// The status of a wish for help, whose text is written to that writer, with what is told of it.
+fn helped(alloc: Global, words: &[&str], out: &mut Sink, error: &[u8]) -> Option<u8> {
+    let mut err = Sink::new(alloc);
+    let status = serve(alloc, words, &mut Shelf { script: b"" }, out, &mut err);
+    (err.taken.as_slice() == error).then_some(status)
+}
+
+#[test]
+fn help(rt: HostRuntime) {
     let alloc = rt.alloc();
     let lines: [&[&str]; 2] = [
         &["photofleet", "--help"],
         &["photofleet", "plain", "--help"],
     ];
     for words in lines {
-        let mut shelf = Shelf { script: b"" };
-        let mut told = Sink::new(alloc);
-        let mut fault = Sink::new(alloc);
-        assert_eq!(rt; serve(alloc, words, &mut shelf, &mut told, &mut fault), 0);
-        assert!(rt; !told.taken.is_empty() && fault.taken.is_empty());
-        let mut full = Sink::new(alloc);
-        full.room = 5;
-        assert_eq!(rt; serve(alloc, words, &mut shelf, &mut full, &mut fault), 5);
-        assert!(rt; fault.taken.as_slice() == b"write fault: E5 Write\n".as_slice());
+        let mut out = Sink::new(alloc);
+        assert!(rt; helped(alloc, words, &mut out, b"") == Some(0) && !out.taken.is_empty());
+        let mut full = Sink::of_room(alloc, 5, Full::Error);
+        assert!(rt; helped(alloc, words, &mut full, b"write fault: E5 Write\n") == Some(5));
     }
-    Ok(())
+}
+
+// The status of a run whose output has so much room, where it leaves a front of the output, and says so.
+fn filled(alloc: Global, room: usize, full: Full) -> bool {
+    let mut out = Sink::of_room(alloc, room, full);
+    let mut err = Sink::new(alloc);
+    let words = ["photofleet", "plain", "script"];
+    let mut shelf = Shelf {
+        script: SCRIPT.as_bytes(),
+    };
+    serve(alloc, words.as_slice(), &mut shelf, &mut out, &mut err) == 5
+        && out.taken.as_slice() == &OUTPUT.as_bytes()[..room.min(OUTPUT.len())]
+        && err.taken.as_slice() == b"write fault: E5 Write\n".as_slice()
 }
 
 #[test]
-fn an_output_that_is_full(rt: HostRuntime) -> Result<(), Fail> {
-    let alloc = rt.alloc();
+fn an_output_that_is_full(rt: HostRuntime) {
     for full in [Full::Error, Full::Zero] {
-        let mut shelf = Shelf {
-            script: SCRIPT.as_bytes(),
-        };
-        let mut told = Sink::new(alloc);
-        told.room = 30;
-        told.full = full;
-        let mut fault = Sink::new(alloc);
-        let words = ["photofleet", "plain", "script"];
-        assert_eq!(rt;
-            serve(alloc, words.as_slice(), &mut shelf, &mut told, &mut fault),
-            5
+        assert!(rt; filled(rt.alloc(), 30, full));
+    }
+}
+
+// The status of a run whose output is gathered before a writer takes it, and what the writer took.
+fn buffered(alloc: Global, room: usize) -> Result<(u8, Sink), Fail> {
+    let mut out = BufWriter::new(alloc, Sink::of_room(alloc, room, Full::Error))?;
+    let words = ["photofleet", "plain", "script"];
+    let mut shelf = Shelf {
+        script: SCRIPT.as_bytes(),
+    };
+    let status = serve(
+        alloc,
+        words.as_slice(),
+        &mut shelf,
+        &mut out,
+        &mut Sink::new(alloc),
+    );
+    let (sink, _) = out.into_parts();
+    Ok((status, sink))
+}
+
+#[test]
+fn an_output_that_is_gathered(rt: HostRuntime) -> Result<(), Fail> {
+    for (room, status) in [(100, 0), (99, 5), (0, 5)] {
+        let (given, sink) = buffered(rt.alloc(), room)?;
+        assert_eq!(rt; given, status, "room for {room}");
+        assert!(rt;
+            sink.taken.as_slice() == &OUTPUT.as_bytes()[..room],
+            "room for {room}"
         );
-        assert!(rt; told.taken.as_slice() == &OUTPUT.as_bytes()[..30]);
-        assert!(rt; fault.taken.as_slice() == b"write fault: E5 Write\n".as_slice());
     }
     Ok(())
 }
 
 #[test]
-fn errors_that_cannot_be_told(rt: HostRuntime) -> Result<(), Fail> {
+fn errors_that_cannot_be_told(rt: HostRuntime) {
     let alloc = rt.alloc();
     let mut shelf = Shelf { script: b"frob" };
-    let mut told = Sink::new(alloc);
-    let mut fault = Sink::new(alloc);
-    fault.room = 0;
+    let mut out = Sink::new(alloc);
+    let mut err = Sink::of_room(alloc, 0, Full::Error);
     let words = ["photofleet", "plain", "script"];
     assert_eq!(rt;
-        serve(alloc, words.as_slice(), &mut shelf, &mut told, &mut fault),
+        serve(alloc, words.as_slice(), &mut shelf, &mut out, &mut err),
         3
     );
-    assert!(rt; fault.taken.is_empty());
-    Ok(())
+    assert!(rt; err.taken.is_empty());
+}
+
+#[test]
+fn the_first_picture(rt: HostRuntime) {
+    assert!(rt;
+        laws::first_picture(rt.alloc()).is_ok_and(|output| output.as_slice() == OUTPUT.as_bytes())
+    );
 }

@@ -1,5 +1,5 @@
-use Rattle.photofleet.specs.Examples.{as_told}
+use Rattle.photofleet.proofs.WorkedExamples.{as_told}
 use Rattle.photofleet.proofs.laws.examples.Goals as goal
 
 pub returns : goal.returns
-returns c = as_told
+returns c = as_told c.examples.ensures.first_run.script

@@ -5,4 +5,4 @@ use Rattle.photo_device.proofs.held_set.HeldSet.has_picture.Goals as goal
 
 pub returns : goal.returns
 returns c =
-    has_range c.args.picture c.deref.result.now _ _ c.range_of-from.ensures ∙ ap (has_picture c.args.picture) (c.deref.ensures.value ∙ c.self.view_is)
+    has_range c.args.picture _ _ _ c.range_of-from.ensures ∙ ap (has_picture c.args.picture) c.self.view_is

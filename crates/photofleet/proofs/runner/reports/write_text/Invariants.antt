@@ -1,12 +1,9 @@
-use Rattle.std.proofs.Common.{List, ℕ, length}
-use Rattle.std.specs.Prelude.{Option}
-use Rattle.std.specs.Io.KnownBytes.{Appends}
+use Rattle.std.proofs.Common.{length}
+use Rattle.photofleet.proofs.Known.{IsWrittenTo}
 use Rattle.photofleet.proofs.runner.reports.write_text.Given as goal
 
--- whoever writes the rest has written the text
 abbrev pub invariant-loop-rest : goal.invariant-loop-rest
-invariant-loop-rest g l =
-    (end : Option (List ℕ)) → Appends (g.W.Write.contents l.writer) end l.rest → Appends (g.W.Write.contents l.fn.writer) end l.text
+invariant-loop-rest g l = IsWrittenTo (g.W.Write.contents l.fn.writer) (g.W.Write.contents l.writer) l.rest l.text
 
 abbrev pub decreases-loop-rest : goal.decreases-loop-rest
 decreases-loop-rest g l = length l.rest
