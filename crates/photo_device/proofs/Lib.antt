@@ -1,3 +1,5 @@
 pub mod Order
 pub mod Entries
+pub mod Found
 pub mod Shown
+pub mod Holding

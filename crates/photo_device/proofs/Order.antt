@@ -6,7 +6,8 @@ use Rattle.std.specs.List.Sorted.{IsNonDecreasingBy, IsPartitionPoint}
 use Rattle.std.proofs.lemmas.Bool.{and_parts, and_from, lt-ltb, le-ltb, ltb-true, ltb-false, eqb-false, eq-eqb, ne_eqb, cases_Bool, not-true, leb-true, leb-false, cases_lt, false≢true, cases_order}
 use Rattle.photo_device.specs.declared.held.Held.{Held}
 use Rattle.photo_device.specs.Ordered.{put}
-use Rattle.photo_device.specs.Held.{held_before, are_in_order, held_elsewhere, replaced, IsRangeOf}
+use Rattle.photo_device.specs.Entry.{is_of_other}
+use Rattle.photo_device.specs.Held.{entry_of, held_before, are_in_order, held_of_others, replaced, IsRangeOf}
 
 -- the test of the order, by the picture numbers where these differ
 
@@ -70,13 +71,13 @@ tail_above p x xs parts = record {
   above = λ k d h g. parts.above (suc k) d (omega arith) (omega arith);
 }
 
-keeps : (p : ℕ) (x : Held) (xs : List Held) → (x.picture ≡ p → ⊥) → filter (held_elsewhere p) (x ∷ xs) ≡ x ∷ filter (held_elsewhere p) xs
+keeps : (p : ℕ) (x : Held) (xs : List Held) → (x.picture ≡ p → ⊥) → held_of_others p (x ∷ xs) ≡ x ∷ held_of_others p xs
 keeps p x xs h = rw (ne_eqb x.picture p h) refl
 
-drops : (p : ℕ) (x : Held) (xs : List Held) → x.picture ≡ p → filter (held_elsewhere p) (x ∷ xs) ≡ filter (held_elsewhere p) xs
+drops : (p : ℕ) (x : Held) (xs : List Held) → x.picture ≡ p → held_of_others p (x ∷ xs) ≡ held_of_others p xs
 drops p x xs h = rw (eq-eqb x.picture p h) refl
 
-pub rest_of : (p : ℕ) (xs : List Held) (from to : ℕ) → from ≤ to → to ≤ length xs → Parts p xs from to → filter (held_elsewhere p) xs ≡ take from xs ++ drop to xs
+pub rest_of : (p : ℕ) (xs : List Held) (from to : ℕ) → from ≤ to → to ≤ length xs → Parts p xs from to → held_of_others p xs ≡ take from xs ++ drop to xs
 rest_of p [] zero zero o w parts = refl
 rest_of p [] zero (suc to) o w parts = absurd (omega arith)
 rest_of p [] (suc from) zero o w parts = absurd (omega arith)
@@ -143,7 +144,7 @@ before_all h x (y ∷ ys) l a =
     let le = held_before-le x y (and_parts _ _ a).0 in
     and_from _ _ (held_before-less h y (omega arith)) (before_all h x ys l (and_parts _ _ a).1)
 
-pub in_order-put : (h : Held) (xs : List Held) → are_in_order xs ≡ true → list_all (held_elsewhere h.picture) xs ≡ true → are_in_order (put held_before h xs) ≡ true
+pub in_order-put : (h : Held) (xs : List Held) → are_in_order xs ≡ true → list_all (λ x. is_of_other h.picture (entry_of x)) xs ≡ true → are_in_order (put held_before h xs) ≡ true
 in_order-put h [] o e = refl
 in_order-put h (x ∷ xs) o e =
     let apart = eqb-false x.picture h.picture (not-true _ (and_parts _ _ e).0) in
@@ -155,9 +156,9 @@ in_order-put h (x ∷ xs) o e =
       ]
     ]
 
-all_elsewhere : (p : ℕ) (xs : List Held) → list_all (held_elsewhere p) (filter (held_elsewhere p) xs) ≡ true
+all_elsewhere : (p : ℕ) (xs : List Held) → list_all (λ x. is_of_other p (entry_of x)) (held_of_others p xs) ≡ true
 all_elsewhere p [] = refl
-all_elsewhere p (x ∷ xs) = elim (cases_Bool (held_elsewhere p x)) [
+all_elsewhere p (x ∷ xs) = elim (cases_Bool (is_of_other p (entry_of x))) [
   | inl other ↦ rw other (and_from _ _ other (all_elsewhere p xs))
   | inr same ↦ rw same (all_elsewhere p xs)
 ]
@@ -193,7 +194,7 @@ is_range p xs from to f t less most =
     parts_at : (h : Held) → h.picture ≡ p → Parts h.picture xs from to
     parts_at h e = rw e parts
 
-    rest : (h : Held) → h.picture ≡ p → from ≤ to → filter (held_elsewhere h.picture) xs ≡ take from xs ++ drop to xs
+    rest : (h : Held) → h.picture ≡ p → from ≤ to → held_of_others h.picture xs ≡ take from xs ++ drop to xs
     rest h e order = rest_of h.picture xs from to order t (parts_at h e)
 
     some_between : to < from → from ≤ to

@@ -5,11 +5,11 @@ use Rattle.photo_filter_rules.specs.Matching.{matches}
 use Rattle.photo_device.specs.declared.held.Held.{Held}
 use Rattle.photo_device.specs.declared.place.Place.{Place}
 use Rattle.photo_device.specs.declared.place.Place.TheVariants.{Store, Out}
-use Rattle.photo_device.specs.Version.{Version, version}
+use Rattle.photo_version.specs.Version.{Version, version}
 use Rattle.photo_device.specs.Entry.{put_entry_if, others}
 use Rattle.photo_device.specs.Held.{entry_of, entries_of}
 use Rattle.photo_device.specs.Device.{ModelDevice, Kept, Shows, made, new_entry, place_for, held_at}
-use Rattle.photo_device.proofs.Entries.{entries-replaced, entries-elsewhere}
+use Rattle.photo_device.proofs.Entries.{entries-replaced, entries-others}
 
 abbrev pub held : ℕ → Version → Record → Held
 held picture v content = record { picture = picture; version = v; content = content }
@@ -17,10 +17,10 @@ held picture v content = record { picture = picture; version = v; content = cont
 -- what is held where a test of the filter says so
 store_at : (b : Bool) (d : Kept) (h : Held) → entries_of (held_at (cond b Store Out) h d).store ≡ put_entry_if b (entry_of h) (others h.picture (entries_of d.store))
 store_at true d h = entries-replaced h d.store
-store_at false d h = entries-elsewhere h.picture d.store
+store_at false d h = entries-others h.picture d.store
 
 out_at : (b : Bool) (d : Kept) (h : Held) → entries_of (held_at (cond b Store Out) h d).out ≡ put_entry_if (not b) (entry_of h) (others h.picture (entries_of d.out))
-out_at true d h = entries-elsewhere h.picture d.out
+out_at true d h = entries-others h.picture d.out
 out_at false d h = entries-replaced h d.out
 
 same_at : (b : Bool) (d : Kept) (h : Held) → (held_at (cond b Store Out) h d).author ≡ d.author

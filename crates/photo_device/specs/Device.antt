@@ -1,19 +1,21 @@
 -- Devices as sets, and what making a version does to one.
-use Rattle.std.specs.Prelude.{◌≡◌, ℕ, ◌+◌, not, if◌then◌else◌, List, [], filter}
+use Rattle.std.specs.Prelude.{◌≡◌, ℕ, ◌+◌, Bool, not, ◌==◌, if◌then◌else◌, List, [], ◌++◌}
+use Rattle.std.specs.List.{list_any}
 use Rattle.photo_record.specs.declared.record.Record.{Record}
 use Rattle.photo_filter_text.specs.Tree.{Tree}
 use Rattle.photo_filter_rules.specs.Matching.{matches}
 use Rattle.photo_device.specs.declared.place.Place.{Place}
 use Rattle.photo_device.specs.declared.place.Place.TheVariants.{Store, Out}
 use Rattle.photo_device.specs.declared.held.Held.{Held}
-use Rattle.photo_device.specs.Version.{Version, version}
+use Rattle.photo_version.specs.Author.{Author}
+use Rattle.photo_version.specs.Version.{Version, version}
 use Rattle.photo_device.specs.Entry.{Entry, others, put_entry_if}
-use Rattle.photo_device.specs.Held.{entries_of, held_elsewhere, replaced}
+use Rattle.photo_device.specs.Held.{entries_of, held_of_others, replaced}
 
 -- a model device: who it is, the tree of its filter, how many versions it has made, and what it holds.
 -- Store and out list their entries in order
 pub record ModelDevice : Type 0 where
-  pub author : ℕ
+  pub author : Author
   pub tree : Tree
   pub counter : ℕ
   pub store : List Entry
@@ -21,7 +23,7 @@ pub record ModelDevice : Type 0 where
 
 -- what a device of the program keeps
 pub record Kept : Type 0 where
-  pub author : ℕ
+  pub author : Author
   pub tree : Tree
   pub counter : ℕ
   pub store : List Held
@@ -29,8 +31,8 @@ pub record Kept : Type 0 where
 
 -- a version is held at a place, and nothing else of its picture
 abbrev pub held_at : Place → Held → Kept → Kept
-held_at Store held d = record d { store = replaced held d.store; out = filter (held_elsewhere held.picture) d.out }
-held_at Out held d = record d { store = filter (held_elsewhere held.picture) d.store; out = replaced held d.out }
+held_at Store held d = record d { store = replaced held d.store; out = held_of_others held.picture d.out }
+held_at Out held d = record d { store = held_of_others held.picture d.store; out = replaced held d.out }
 
 -- the device shows the model device
 pub record Shows (d : Kept) (m : ModelDevice) : Type 0 where
@@ -41,7 +43,7 @@ pub record Shows (d : Kept) (m : ModelDevice) : Type 0 where
   pub out : entries_of d.out ≡ m.out
 
 -- a device that has made and holds nothing
-abbrev pub opening : ℕ → Tree → ModelDevice
+abbrev pub opening : Author → Tree → ModelDevice
 opening author tree = record { author = author; tree = tree; counter = 0; store = []; out = [] }
 
 -- Making a version of a picture: the device's next version
@@ -66,3 +68,7 @@ made m picture content = record m {
   store = put_entry_if (matches m.tree content) (new_entry m picture content) (others picture m.store);
   out = put_entry_if (not (matches m.tree content)) (new_entry m picture content) (others picture m.out);
 }
+
+-- a version of the picture is held, in the store or in the out. One that removes the picture counts
+abbrev pub is_held : ModelDevice → ℕ → Bool
+is_held m picture = list_any (λ e. e.picture == picture) (m.store ++ m.out)

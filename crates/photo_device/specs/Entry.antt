@@ -1,7 +1,7 @@
 -- Versions of pictures with what they say.
 use Rattle.std.specs.Prelude.{ℕ, Bool, true, false, not, ◌&&◌, ◌||◌, ◌==◌, nat_lt, List, filter}
 use Rattle.photo_record.specs.declared.record.Record.{Record}
-use Rattle.photo_device.specs.Version.{Version, version_before}
+use Rattle.photo_version.specs.Version.{Version, version_before}
 use Rattle.photo_device.specs.Ordered.{put}
 
 -- a version of a picture, and the record that it gives the picture
@@ -14,6 +14,7 @@ pub record Entry : Type 0 where
 abbrev pub entry_before : Entry → Entry → Bool
 entry_before a b = nat_lt a.picture b.picture || ((a.picture == b.picture) && version_before a.version b.version)
 
+-- whether it is a version of another picture
 abbrev pub is_of_other : ℕ → Entry → Bool
 is_of_other picture e = not (e.picture == picture)
 

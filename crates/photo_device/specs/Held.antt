@@ -1,10 +1,10 @@
 -- Held versions, and the entries that they show.
-use Rattle.std.specs.Prelude.{◌≡◌, ℕ, ◌≤◌, Bool, not, ◌==◌, List, ◌∷◌, ◌++◌, length, map, filter, take, drop, Option}
-use Rattle.std.specs.List.{find}
+use Rattle.std.specs.Prelude.{◌≡◌, ℕ, ◌≤◌, Bool, ◌==◌, List, ◌∷◌, ◌++◌, length, map, filter, take, drop, Option}
+use Rattle.std.specs.List.{find, list_any}
 use Rattle.photo_device.specs.declared.held.Held.{Held}
-use Rattle.photo_device.specs.Version.{Version, same_version}
+use Rattle.photo_version.specs.Version.{Version, same_version}
 use Rattle.photo_device.specs.Ordered.{put, in_order}
-use Rattle.photo_device.specs.Entry.{Entry, entry_before}
+use Rattle.photo_device.specs.Entry.{Entry, entry_before, is_of_other}
 
 abbrev pub entry_of : Held → Entry
 entry_of held = record { picture = held.picture; version = held.version; content = held.content }
@@ -19,12 +19,13 @@ held_before a b = entry_before (entry_of a) (entry_of b)
 abbrev pub are_in_order : List Held → Bool
 are_in_order helds = in_order held_before helds
 
-abbrev pub held_elsewhere : ℕ → Held → Bool
-held_elsewhere picture held = not (held.picture == picture)
+-- the held versions of all other pictures
+abbrev pub held_of_others : ℕ → List Held → List Held
+held_of_others picture helds = filter (λ held. is_of_other picture (entry_of held)) helds
 
 -- one held version in the place of all of its picture
 abbrev pub replaced : Held → List Held → List Held
-replaced held helds = put held_before held (filter (held_elsewhere held.picture) helds)
+replaced held helds = put held_before held (held_of_others held.picture helds)
 
 -- the one of that version
 abbrev pub find_version : Version → List Held → Option Held
@@ -34,5 +35,9 @@ find_version v helds = find (λ h. same_version h.version v) helds
 pub record IsRangeOf (picture : ℕ) (helds : List Held) (from to : ℕ) : Type 0 where
   pub order : from ≤ to
   pub within : to ≤ length helds
-  pub rest : filter (held_elsewhere picture) helds ≡ take from helds ++ drop to helds
+  pub rest : held_of_others picture helds ≡ take from helds ++ drop to helds
   pub place : (held : Held) → held.picture ≡ picture → replaced held helds ≡ take from helds ++ held ∷ drop to helds
+
+-- a version of the picture is among them
+abbrev pub has_picture : ℕ → List Held → Bool
+has_picture picture helds = list_any (λ h. h.picture == picture) helds

@@ -1,4 +1,3 @@
-pub mod Version
 pub mod Ordered
 pub mod Entry
 pub mod Held

@@ -1,7 +1,7 @@
 ghost use Rattle.std.specs.Prelude.{◌≡◌, IfOk};
 
-use crate::Version;
 use photo_record::{PicNo, Record};
+use photo_version::Version;
 use std::alloc::AllocError;
 
 /// A version of a picture that a device holds, with the record that it gives the picture.

@@ -1,13 +1,21 @@
+ghost use Rattle.std.specs.Prelude.{◌≡◌};
+ghost use Rattle.std.specs.Option.{option_copied};
+ghost use Rattle.photo_device.specs.Held.{find_version};
+
 use crate::range::range_of;
-use crate::{Held, HeldList, Version};
+use crate::{Held, HeldList};
+use block_list::BlockList;
 use photo_record::PicNo;
+use photo_version::Version;
 use std::alloc::{AllocError, Global};
 use std::marker::Model;
 
 /// A set of held versions, seen as the list of them by picture, then version. Each version stands in it once.
+///
+/// It is kept in blocks, so that a version is put in or given up at little cost whatever its picture.
 #[derive(Debug, Drop)]
 pub struct HeldSet {
-    items: Vec<Held>,
+    items: BlockList<Held>,
 }
 
 impl Model for HeldSet {
@@ -17,21 +25,21 @@ impl Model for HeldSet {
 
     ghost Value = { List spec.Held };
 
-    ghost view = { λ s. s.items.items };
+    ghost view = { λ s. s.items };
 
-    ghost invariant = { λ s. are_in_order s.items.items ≡ true };
+    ghost invariant = { λ s. are_in_order s.items ≡ true };
 }
 
 impl HeldSet {
-    ghost use Rattle.std.specs.Prelude.{◌≡◌, ◌<◌, ◌==◌, true, [], length, filter, slice_get, Some, IfOk, OnOk, OnErr};
+    ghost use Rattle.std.specs.Prelude.{◌≡◌, ◌<◌, ◌==◌, true, [], length, slice_get, Some, IfOk, OnOk, OnErr};
     ghost use Rattle.std.specs.Option.{option_copied};
-    ghost use Rattle.photo_device.specs.Held.{are_in_order, held_elsewhere, replaced, find_version};
+    ghost use Rattle.photo_device.specs.Held.{are_in_order, held_of_others, has_picture, replaced, find_version};
 
     pub(crate) fn new(alloc: Global) -> HeldSet
         ensures { result ≡ [] }
     {
         HeldSet {
-            items: Vec::new(alloc),
+            items: BlockList::new(alloc),
         }
     }
 
@@ -55,7 +63,7 @@ impl HeldSet {
         ensures item { slice_get self.now i ≡ Some result.now }
         ensures ordered { are_in_order self.now ≡ true }
     {
-        &self.items[i]
+        self.items.get(i)
     }
 
     /// The held versions as a list. Its only error is want of memory.
@@ -63,16 +71,24 @@ impl HeldSet {
         ensures { IfOk result (λ list. list ≡ self.now) }
     {
         let mut items = Vec::with_capacity(alloc, self.items.len())?;
-        for held in &self.items {
-            items.push(held.try_clone()?)?;
+        for block in self.items.as_blocks() {
+            for held in block {
+                items.push(held.try_clone()?)?;
+            }
         }
         Ok(HeldList::new(items))
     }
 
+    /// The one of that version. It looks through all of them, since they are in the order of their pictures.
     pub(crate) fn find(&self, version: Version) -> Option<&Held>
         ensures { option_copied result ≡ find_version version self.now }
     {
-        self.items.iter().find(|held| held.version == version)
+        for block in self.items.as_blocks() {
+            if let Some(held) = find_in(block, version) {
+                return Some(held);
+            }
+        }
+        None
     }
 
     /// Puts a version in the place of all of its picture. An error leaves the set as it was.
@@ -84,17 +100,32 @@ impl HeldSet {
         if from == to {
             self.items.insert(from, held)?;
         } else {
-            self.items[from] = held;
-            self.items.drain(from + 1..to);
+            self.items.set(from, held);
+            self.items.remove_range(from + 1, to);
         }
         Ok(())
     }
 
     /// Gives up all versions of a picture.
     pub(crate) fn drop_picture(&mut self, picture: PicNo)
-        ensures { self.new ≡ filter (held_elsewhere picture) self.old }
+        ensures { self.new ≡ held_of_others picture self.old }
     {
         let (from, to) = range_of(&self.items, picture);
-        self.items.drain(from..to);
+        self.items.remove_range(from, to);
     }
+
+    /// Whether it has a version of a picture.
+    pub(crate) fn has_picture(&self, picture: PicNo) -> bool
+        ensures { result ≡ has_picture picture self.now }
+    {
+        let (from, to) = range_of(&self.items, picture);
+        from < to
+    }
+}
+
+/// The one of that version in a part of a set.
+fn find_in(items: &[Held], version: Version) -> Option<&Held>
+    ensures { option_copied result ≡ find_version version items.now }
+{
+    items.iter().find(|held| held.version == version)
 }

@@ -5,7 +5,8 @@ use Rattle.photo_record.specs.declared.record.Record.TheVariants as content
 use Rattle.photo_filter_text.specs.declared.tree.Cmp.TheVariants.{AtLeast}
 use Rattle.photo_filter_text.specs.Tree.{All, Rate, Not, Keyword, Both}
 use Rattle.photo_device.specs.Entry.{Entry}
-use Rattle.photo_device.specs.Version.{version}
+use Rattle.photo_version.specs.Author.{author}
+use Rattle.photo_version.specs.Version.{version}
 use Rattle.photo_device.specs.declared.place.Place.TheVariants as place
 use Rattle.photo_script.specs.Contents.{Contents, contents}
 use Rattle.photo_script.specs.Reading.{script_of}
@@ -23,11 +24,11 @@ abbrev pub camera : Contents
 camera = contents (codes "cam" ∷ []) (All ∷ []) (command.New 0 7 beach ∷ command.List 0 ∷ [])
 
 abbrev pub beach_entry : Entry
-beach_entry = record { picture = 7; version = version 0 1; content = beach }
+beach_entry = record { picture = 7; version = version (author 0) 1; content = beach }
 
 pub record FirstRun : Type 0 where
   pub script : script_of (codes "device cam all\nnew cam 7 5 2024-05-01 sun,beach\nlist cam\n") ≡ Ok camera
-  pub made : text_of camera 1 (Made (version 0 1) place.Store) ≡ codes "1 made cam:1 store\n"
+  pub made : text_of camera 1 (Made (version (author 0) 1) place.Store) ≡ codes "1 made cam:1 store\n"
   pub listed : text_of camera 2 (Listed 0 (beach_entry ∷ []) []) ≡ codes "2 list cam store 1 out 0\n  store 7 cam:1 rating 5 day 2024-05-01 words beach,sun\n"
 
 pub record SingleFaults : Type 0 where

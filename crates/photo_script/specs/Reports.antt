@@ -7,7 +7,8 @@ use Rattle.photo_record.specs.declared.record.Record.{Record}
 use Rattle.photo_record.specs.declared.record.Record.TheVariants as content
 use Rattle.photo_device.specs.Entry.{Entry}
 use Rattle.photo_device.specs.Held.{entries_of}
-use Rattle.photo_device.specs.Version.{Version}
+use Rattle.photo_version.specs.Author.{device_of_author}
+use Rattle.photo_version.specs.Version.{Version}
 use Rattle.photo_device.specs.declared.place.Place.{Place}
 use Rattle.photo_device.specs.declared.place.Place.TheVariants as place
 use Rattle.photo_script.specs.Contents.{Contents}
@@ -26,7 +27,7 @@ answer_of (report.Listed n store out) = Listed n (entries_of store) (entries_of 
 
 -- the version is of a device of the script
 abbrev pub IsOfScript : Contents → Version → Type 0
-IsOfScript script v = v.author < length script.names
+IsOfScript script v = device_of_author v.author < length script.names
 
 abbrev pub AreOfScript : Contents → List Entry → Type 0
 AreOfScript script entries = AllByRecursion (λ e. IsOfScript script e.version) entries
@@ -42,7 +43,7 @@ name_of script device = slice_index_or script.names device []
 
 -- the name of the author, a colon and the number
 abbrev pub version_text : Contents → Version → List ℕ
-version_text script v = name_of script v.author ++ codes ":" ++ decimal v.number
+version_text script v = name_of script (device_of_author v.author) ++ codes ":" ++ decimal v.number
 
 abbrev pub place_text : Place → List ℕ
 place_text place.Store = codes "store"

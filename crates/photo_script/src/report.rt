@@ -1,8 +1,9 @@
 ghost use Rattle.std.specs.Prelude.{◌≡◌, ◌<◌, ◌++◌, length, string_bytes, IfOk, OnOk};
 
 use crate::Script;
-use photo_device::{Held, HeldList, Place, Version};
+use photo_device::{Held, HeldList, Place};
 use photo_record::{Day, Record, Words};
+use photo_version::Version;
 use std::alloc::{AllocError, Global};
 
 /// The answer to a command.

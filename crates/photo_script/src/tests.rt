@@ -1,6 +1,7 @@
 use super::*;
-use photo_device::{Author, Held, HeldList, Place, Version};
+use photo_device::{Held, HeldList, Place};
 use photo_record::{Day, PicNo, Rating, Record, Words};
+use photo_version::{Author, Version};
 use std::alloc::{AllocError, Global};
 use std::process::Abort;
 use std::test::Fail;

@@ -6,6 +6,7 @@ use Rattle.std.proofs.lemmas.List.{take_more, take_all, length-take-le}
 use Rattle.std.proofs.lemmas.Option.{slice_get_within, get_or_from_slice_get}
 use Rattle.photofleet.proofs.Zipped.{zip_push}
 use Rattle.photo_filter_text.specs.Tree.{Tree}
+use Rattle.photo_version.specs.Author.{author}
 use Rattle.photo_device.specs.Held.{entries_of}
 use Rattle.photo_device.specs.Device.{Kept, ModelDevice, Shows, opening}
 use Rattle.photo_script.specs.Runs.{opening_from}
@@ -17,21 +18,21 @@ model_of d = record { author = d.author; tree = d.tree; counter = d.counter; sto
 pub shows_model : (d : Kept) → Shows d (model_of d)
 shows_model d = record { author = refl; tree = refl; counter = refl; store = refl; out = refl }
 
-pub opening_from-push : (n : ℕ) (filters : List Tree) (filter : Tree) → opening_from n (filters ++ filter ∷ []) ≡ opening_from n filters ++ opening (n + length filters) filter ∷ []
+pub opening_from-push : (n : ℕ) (filters : List Tree) (filter : Tree) → opening_from n (filters ++ filter ∷ []) ≡ opening_from n filters ++ opening (author (n + length filters)) filter ∷ []
 opening_from-push n [] filter = rw add-zero refl
 opening_from-push n (x ∷ xs) filter =
-    ap (λ l. opening n x ∷ l) (opening_from-push (n + 1) xs filter ∙ ap (λ k. opening_from (n + 1) xs ++ opening k filter ∷ []) (omega arith))
+    ap (λ l. opening (author n) x ∷ l) (opening_from-push (n + 1) xs filter ∙ ap (λ k. opening_from (n + 1) xs ++ opening (author k) filter ∷ []) (omega arith))
 
 -- one device more
-pub opening_more : (filters : List Tree) (n : ℕ) (devices : List Kept) (d : Kept) (filter : Tree) → slice_get filters n ≡ Some filter → AllZip Shows devices (opening_from 0 (take n filters)) → Shows d (opening n filter) → AllZip Shows (devices ++ d ∷ []) (opening_from 0 (take (n + 1) filters))
+pub opening_more : (filters : List Tree) (n : ℕ) (devices : List Kept) (d : Kept) (filter : Tree) → slice_get filters n ≡ Some filter → AllZip Shows devices (opening_from 0 (take n filters)) → Shows d (opening (author n) filter) → AllZip Shows (devices ++ d ∷ []) (opening_from 0 (take (n + 1) filters))
 opening_more filters n devices d filter is all here =
     let within = slice_get_within filters n filter is in
     let grown : take (n + 1) filters ≡ take n filters ++ filter ∷ [] =
     take_more filters n filter within ∙ ap (λ x. take n filters ++ x ∷ []) (get_or_from_slice_get filters n filter filter is) in
     let long = length-take-le n filters (omega arith) in
-    let opened : opening_from 0 (take (n + 1) filters) ≡ opening_from 0 (take n filters) ++ opening n filter ∷ [] =
-    ap (opening_from 0) grown ∙ opening_from-push 0 (take n filters) filter ∙ ap (λ k. opening_from 0 (take n filters) ++ opening k filter ∷ []) (zero-add _ ∙ long) in
-    subst (λ ms. AllZip Shows (devices ++ d ∷ []) ms) (sym opened) (zip_push Shows devices _ d (opening n filter) all here)
+    let opened : opening_from 0 (take (n + 1) filters) ≡ opening_from 0 (take n filters) ++ opening (author n) filter ∷ [] =
+    ap (opening_from 0) grown ∙ opening_from-push 0 (take n filters) filter ∙ ap (λ k. opening_from 0 (take n filters) ++ opening (author k) filter ∷ []) (zero-add _ ∙ long) in
+    subst (λ ms. AllZip Shows (devices ++ d ∷ []) ms) (sym opened) (zip_push Shows devices _ d (opening (author n) filter) all here)
 
 -- all devices
 pub opening_all : (filters : List Tree) (n : ℕ) (devices : List Kept) → length filters ≤ n → AllZip Shows devices (opening_from 0 (take n filters)) → AllZip Shows devices (opening_from 0 filters)

@@ -2,7 +2,7 @@ use Rattle.std.proofs.Common.{sym, ap, ◌∙◌}
 use Rattle.std.specs.Option.{option_or}
 use Rattle.std.proofs.lemmas.List.Folds.{find-append}
 use Rattle.photo_device.specs.declared.held.Held.{Held}
-use Rattle.photo_device.specs.Version.{same_version}
+use Rattle.photo_version.specs.Version.{same_version}
 use Rattle.photo_device.specs.Held.{find_version}
 use Rattle.photo_device.specs.Device.{Kept}
 use Rattle.photo_device.proofs.device.Device.held.Goals as goal

@@ -1,5 +1,6 @@
 use Rattle.std.proofs.Common.{◌≤◌, length, arith, subst, ◌∙◌}
 use Rattle.photo_filter_text.specs.Tree.{Tree}
+use Rattle.photo_version.specs.Author.{author}
 use Rattle.photo_device.specs.Device.{Shows, opening}
 use Rattle.photofleet.proofs.Shown.{opening_more, opening_all, opening_long}
 use Rattle.photofleet.proofs.runner.plain.opening_devices.Goals as goal
@@ -10,7 +11,7 @@ loop-place-preserved c =
     let device = c.new.result in
     let filter = c.filter.result.now in
     let copied : Shows device (opening c.new-author.result filter) = subst (λ (t : Tree). Shows device (opening c.new-author.result t)) c.in_ok-filter.ensures c.new.ensures in
-    let here : Shows device (opening place filter) = subst (λ n. Shows device (opening n filter)) c.new-author.ensures copied in
+    let here : Shows device (opening (author place) filter) = subst (λ a. Shows device (opening a filter)) c.new-author.ensures copied in
     rw c.in_ok-push.ensures.items (opening_more c.args.script.now.filters place _ _ filter c.filter.ensures c.loop-place.invariant here)
 
 pub returns-clause-long : goal.returns-clause-long

@@ -1,0 +1,10 @@
+use Rattle.std.proofs.Common.{arith}
+use Rattle.std.proofs.lemmas.Grind.{common_steps}
+use Rattle.block_list.proofs.Joined.{joined-drain, joined-drain_all}
+use Rattle.block_list.proofs.blocks.remove_some.Goals as goal
+
+pub returns-then-is_empty-clause-rest : goal.returns-then-is_empty-clause-rest
+returns-then-is_empty-clause-rest g c = grind (arith, common_steps, joined-drain_all)
+
+pub returns-else-is_empty-clause-rest : goal.returns-else-is_empty-clause-rest
+returns-else-is_empty-clause-rest g c = grind (arith, common_steps, joined-drain)

@@ -1,0 +1,140 @@
+use crate::blocks::{element_at, insert_at, pop_last, remove_between, set_at};
+use crate::search::first_failing;
+use std::alloc::{AllocError, Global};
+use std::marker::Model;
+
+/// A list in blocks. It is seen as the list that its blocks are, one after another.
+///
+/// An element's place is found by a walk over the lengths of the blocks. Only an insertion takes memory; it halves
+/// a block that has grown long, where there is memory for that.
+#[derive(Debug, Drop)]
+pub struct BlockList<T> {
+    blocks: Vec<Vec<T>>,
+    len: usize,
+}
+
+impl<T> Model for BlockList<T> {
+    ghost use Rattle.std.specs.Prelude.{List};
+    ghost use Rattle.block_list.specs.Blocks.{joined, IsKept};
+
+    ghost Value = { List T };
+
+    ghost view = { λ l. joined l.blocks.items };
+
+    ghost invariant = { λ l. IsKept l.blocks.items l.len };
+}
+
+impl<T> BlockList<T> {
+    ghost use Rattle.std.specs.Prelude.{◌≡◌, ◌<◌, ◌≤◌, ◌==◌, Bool, true, false, [], length, slice_get, Some};
+    ghost use Rattle.std.specs.List.Sorted.{IsPartitionedBy, IsPartitionPoint};
+    ghost use Rattle.std.specs.Fn.{ComputesKey};
+    ghost use Rattle.block_list.specs.Blocks.{joined, IsKept};
+
+    /// The list of no element. It takes no memory.
+    pub fn new(alloc: Global) -> BlockList<T>
+        ensures { result ≡ [] }
+    {
+        BlockList {
+            blocks: Vec::new(alloc),
+            len: 0,
+        }
+    }
+
+    /// The list that those blocks are. None of them is empty, and together they have `len` elements.
+    pub(crate) fn from_blocks(blocks: Vec<Vec<T>>, len: usize) -> BlockList<T>
+        requires { IsKept blocks.items len }
+        ensures { result ≡ joined blocks.items }
+    {
+        BlockList { blocks, len }
+    }
+
+    /// How many elements it has.
+    pub fn len(&self) -> usize
+        ensures { result ≡ length self.now }
+    {
+        self.len
+    }
+
+    /// Whether it has none.
+    pub fn is_empty(&self) -> bool
+        ensures { result ≡ (length self.now == 0) }
+    {
+        self.len == 0
+    }
+
+    /// The element at place `i`, from 0. To go over all of them, take `as_blocks`.
+    pub fn get(&self, i: usize) -> &T
+        requires { i < length self.now }
+        ensures { slice_get self.now i ≡ Some result.now }
+    {
+        let (block, place) = element_at(&self.blocks, i);
+        &self.blocks[block][place]
+    }
+
+    /// The blocks, which one after another are the list.
+    pub fn as_blocks(&self) -> &[Vec<T>]
+        ensures { joined result.now ≡ self.now }
+    {
+        self.blocks.as_slice()
+    }
+
+    /// How many elements pass the test, in a list where those that pass stand before those that fail.
+    pub fn partition_point<P: Fn(&T) -> bool>(&self, pred: P) -> usize
+        requires { P.IsAlwaysCallable pred }
+        ensures bound { result ≤ length self.now }
+        ensures partitioned { (p : T → Bool) → ComputesKey P.FnMut p pred → IsPartitionedBy p self.now → IsPartitionPoint (λ y. p y ≡ true) (λ y. p y ≡ false) self.now result }
+    {
+        let _len = self.len;
+        first_failing(&self.blocks, pred)
+    }
+}
+
+impl<T: Drop> BlockList<T> {
+    ghost use Rattle.std.specs.Prelude.{◌≡◌, ◌<◌, ◌≤◌, ◌++◌, length, take, drop, slice_set, [], ◌∷◌, IfNone, IfSome, OnOk, OnErr};
+    ghost use Rattle.std.specs.List.{insert};
+
+    /// Puts an element before element `i`, or behind the last.
+    ///
+    /// The only error is want of memory, also for a list of `usize::MAX` elements. It leaves the list as it was.
+    pub fn insert(&mut self, i: usize, item: T) -> Result<(), AllocError>
+        requires { i ≤ length self.old }
+        ensures ok { OnOk result (self.new ≡ insert self.old i item) }
+        ensures err { OnErr result (self.new ≡ self.old) }
+    {
+        if self.len == usize::MAX {
+            return Err(AllocError);
+        }
+        insert_at(&mut self.blocks, i, item)?;
+        self.len += 1;
+        Ok(())
+    }
+
+    /// Puts an element in the place of element `i`. It takes no memory.
+    pub fn set(&mut self, i: usize, item: T)
+        requires { i < length self.old }
+        ensures { self.new ≡ slice_set self.old i item }
+    {
+        set_at(&mut self.blocks, i, item);
+    }
+
+    /// Gives up the elements from place `from` up to before place `to`. It takes no memory.
+    pub fn remove_range(&mut self, from: usize, to: usize)
+        requires order { from ≤ to }
+        requires in_range { to ≤ length self.old }
+        ensures { self.new ≡ take from self.old ++ drop to self.old }
+    {
+        remove_between(&mut self.blocks, from, to);
+        self.len -= to - from;
+    }
+
+    /// Takes the last element out of the list, if there is one. It takes no memory.
+    pub fn pop(&mut self) -> Option<T>
+        ensures none { IfNone result (self.new ≡ self.old) }
+        ensures empty { IfNone result (self.old ≡ []) }
+        ensures some { IfSome result (λ x. self.old ≡ self.new ++ x ∷ []) }
+    {
+        let last = pop_last(&mut self.blocks)?;
+        self.len -= 1;
+        Some(last)
+    }
+}

@@ -1,0 +1,157 @@
+//! The work on the blocks of a list. None of them is empty.
+ghost use Rattle.std.specs.Prelude.{◌≡◌, ◌+◌, ◌<◌, ◌≤◌, [], ◌∷◌, ◌++◌, length, take, drop, slice_set, OnOk, OnErr, IfNone, IfSome};
+ghost use Rattle.std.specs.List.{insert};
+ghost use Rattle.block_list.specs.Blocks.{joined, AreFilled, IsPlace, IsElement};
+
+use std::alloc::AllocError;
+
+/// A block that has so many elements after an insertion is cut in two.
+const LONG: usize = 512;
+
+/// Where element `i` stands: its block, and its place there.
+pub fn element_at<T>(blocks: &[Vec<T>], i: usize) -> (usize, usize)
+    requires { i < length (joined blocks.now) }
+    ensures { IsElement blocks.now i result.0 result.1 }
+{
+    let mut block = 0;
+    let mut place = i;
+    while blocks[block].len() <= place {
+        place -= blocks[block].len();
+        block += 1;
+    }
+    (block, place)
+}
+
+/// The place before element `i`, or behind the last: its block, and the place there.
+fn place_of<T>(blocks: &[Vec<T>], i: usize) -> (usize, usize)
+    requires some { 0 < length blocks.now }
+    requires in_range { i ≤ length (joined blocks.now) }
+    ensures { IsPlace blocks.now i result.0 result.1 }
+{
+    let mut block = 0;
+    let mut place = i;
+    while blocks[block].len() < place {
+        place -= blocks[block].len();
+        block += 1;
+    }
+    (block, place)
+}
+
+/// Cuts a block in two where it is long and memory allows it. The list stays.
+///
+/// It is cut in the middle, but a list that grows at its end gets full blocks.
+fn cut_long<T>(blocks: &mut Vec<Vec<T>>, block: usize, inserted: usize)
+    requires filled { AreFilled blocks.old.items }
+    requires in_range { block < length blocks.old.items }
+    ensures same { joined blocks.new.items ≡ joined blocks.old.items }
+    ensures filled { AreFilled blocks.new.items }
+{
+    let len = blocks[block].len();
+    if len < LONG {
+        return;
+    }
+    let at_end = block == blocks.len() - 1 && inserted == len - 1;
+    let front = if at_end { len - 1 } else { len / 2 };
+    if blocks.reserve(1).is_err() {
+        return;
+    }
+    let Ok(back) = blocks[block].split_off(front) else {
+        return;
+    };
+    match blocks.insert(block + 1, back) {
+        Ok(()) => {}
+        Err(_) => unreachable!(),
+    }
+}
+
+/// Puts an element before element `i`, or behind the last. An error leaves the list as it was.
+pub fn insert_at<T: Drop>(blocks: &mut Vec<Vec<T>>, i: usize, item: T) -> Result<(), AllocError>
+    requires filled { AreFilled blocks.old.items }
+    requires in_range { i ≤ length (joined blocks.old.items) }
+    ensures ok { OnOk result (joined blocks.new.items ≡ insert (joined blocks.old.items) i item) }
+    ensures err { OnErr result (joined blocks.new.items ≡ joined blocks.old.items) }
+    ensures filled { AreFilled blocks.new.items }
+{
+    if blocks.is_empty() {
+        let mut block = Vec::new(*blocks.allocator());
+        block.push(item)?;
+        blocks.push(block)?;
+        return Ok(());
+    }
+    let (block, place) = place_of(blocks, i);
+    blocks[block].insert(place, item)?;
+    cut_long(blocks, block, place);
+    Ok(())
+}
+
+/// Puts an element in the place of element `i`.
+pub fn set_at<T: Drop>(blocks: &mut Vec<Vec<T>>, i: usize, item: T)
+    requires filled { AreFilled blocks.old.items }
+    requires in_range { i < length (joined blocks.old.items) }
+    ensures set { joined blocks.new.items ≡ slice_set (joined blocks.old.items) i item }
+    ensures filled { AreFilled blocks.new.items }
+{
+    let (block, place) = element_at(blocks, i);
+    blocks[block][place] = item;
+}
+
+/// Gives up the elements of a block from place `from` up to before place `to`.
+fn remove_part<T: Drop>(block: &mut Vec<T>, from: usize, to: usize)
+    requires order { from ≤ to }
+    requires in_range { to ≤ length block.old.items }
+    ensures { block.new.items ≡ take from block.old.items ++ drop to block.old.items }
+{
+    block.drain(from..to);
+}
+
+/// Gives up elements from element `i` on, at most `count` of them: those that stand in its block. Says how many.
+fn remove_some<T: Drop>(blocks: &mut Vec<Vec<T>>, i: usize, count: usize) -> usize
+    requires filled { AreFilled blocks.old.items }
+    requires some { 0 < count }
+    requires in_range { i + count ≤ length (joined blocks.old.items) }
+    ensures some { 0 < result }
+    ensures bound { result ≤ count }
+    ensures rest { joined blocks.new.items ≡ take i (joined blocks.old.items) ++ drop (i + result) (joined blocks.old.items) }
+    ensures filled { AreFilled blocks.new.items }
+{
+    let (block, place) = element_at(blocks, i);
+    let gone = count.min(blocks[block].len() - place);
+    remove_part(&mut blocks[block], place, place + gone);
+    if blocks[block].is_empty() {
+        blocks.remove(block);
+    }
+    gone
+}
+
+/// Gives up the elements from place `from` up to before place `to`, block by block.
+pub fn remove_between<T: Drop>(blocks: &mut Vec<Vec<T>>, from: usize, to: usize)
+    requires filled { AreFilled blocks.old.items }
+    requires order { from ≤ to }
+    requires in_range { to ≤ length (joined blocks.old.items) }
+    ensures rest { joined blocks.new.items ≡ take from (joined blocks.old.items) ++ drop to (joined blocks.old.items) }
+    ensures filled { AreFilled blocks.new.items }
+{
+    let mut left = to - from;
+    while left > 0 {
+        left -= remove_some(blocks, from, left);
+    }
+}
+
+/// Takes out the last element, if there is one.
+pub fn pop_last<T: Drop>(blocks: &mut Vec<Vec<T>>) -> Option<T>
+    requires { AreFilled blocks.old.items }
+    ensures none { IfNone result (blocks.new.items ≡ blocks.old.items) }
+    ensures empty { IfNone result (joined blocks.old.items ≡ []) }
+    ensures some { IfSome result (λ x. joined blocks.old.items ≡ joined blocks.new.items ++ x ∷ []) }
+    ensures filled { AreFilled blocks.new.items }
+{
+    let mut block = blocks.pop()?;
+    let last = block.pop();
+    if !block.is_empty() {
+        match blocks.push(block) {
+            Ok(()) => {}
+            Err(_) => unreachable!(),
+        }
+    }
+    last
+}

@@ -1,0 +1,13 @@
+//! A list that is kept in blocks, so that an insertion or a removal moves few elements.
+#![tactic(auto)]
+
+mod block_list;
+mod blocks;
+mod room;
+mod search;
+
+pub use block_list::BlockList;
+pub use room::Room;
+
+#[cfg(test)]
+mod tests;

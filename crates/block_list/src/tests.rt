@@ -1,0 +1,151 @@
+use crate::{BlockList, Room};
+use std::alloc::{AllocError, Global};
+use std::test::Fail;
+
+/// 0, 1, 2 .. n - 1, each put before the others.
+fn falling(alloc: Global, n: u32) -> Result<BlockList<u32>, AllocError> {
+    let mut list = BlockList::new(alloc);
+    for i in 0..n {
+        list.insert(0, n - 1 - i)?;
+    }
+    Ok(list)
+}
+
+/// 0, 1, 2 .. n - 1, each put behind the others.
+fn rising(alloc: Global, n: u32) -> Result<BlockList<u32>, AllocError> {
+    let mut list = BlockList::new(alloc);
+    for i in 0..n {
+        let end = list.len();
+        list.insert(end, i)?;
+    }
+    Ok(list)
+}
+
+/// 0, 1, 2 .. n - 1, in room that is taken first.
+fn roomy(alloc: Global, n: u32) -> Result<BlockList<u32>, AllocError> {
+    let mut room = Room::new(alloc, n as usize)?;
+    for i in 0..n {
+        room.put_first(n - 1 - i);
+    }
+    Ok(room.into_list())
+}
+
+/// How many blocks there are, and how long the first is.
+fn shape(list: &BlockList<u32>) -> (usize, usize) {
+    let blocks = list.as_blocks();
+    (blocks.len(), blocks.first().map_or(0, |block| block.len()))
+}
+
+/// Whether the list is 0, 1, 2 .. without the numbers from `from` up to before `to`.
+fn counts_without(list: &BlockList<u32>, from: u32, to: u32) -> bool {
+    let mut next = if from == 0 { to } else { 0 };
+    for block in list.as_blocks() {
+        for item in block {
+            if *item != next {
+                return false;
+            }
+            next = next.wrapping_add(1);
+            if next == from {
+                next = to;
+            }
+        }
+    }
+    true
+}
+
+#[test]
+fn a_list_that_grows_at_its_front_is_halved(rt: HostRuntime) -> Result<(), Fail> {
+    for (n, wanted) in [
+        (0, (0, 0)),
+        (511, (1, 511)),
+        (512, (2, 256)),
+        (513, (2, 257)),
+        (768, (3, 256)),
+    ] {
+        let list = falling(rt.alloc(), n)?;
+        assert_eq!(rt; list.len(), n as usize);
+        assert!(rt; counts_without(&list, 0, 0), "of {n}");
+        assert_eq!(rt; shape(&list), wanted, "of {n}");
+    }
+    Ok(())
+}
+
+#[test]
+fn a_list_that_grows_at_its_end_has_full_blocks(rt: HostRuntime) -> Result<(), Fail> {
+    for (n, wanted) in [(511, 1), (512, 2), (1_022, 2), (1_023, 3)] {
+        let list = rising(rt.alloc(), n)?;
+        assert_eq!(rt; list.len(), n as usize);
+        assert!(rt; counts_without(&list, 0, 0), "of {n}");
+        assert_eq!(rt; shape(&list), (wanted, 511), "of {n}");
+    }
+    Ok(())
+}
+
+#[test]
+fn ranges_are_removed_over_blocks(rt: HostRuntime) -> Result<(), Fail> {
+    for (from, to, wanted) in [
+        (5, 5, (3, 511)),
+        (0, 1, (3, 510)),
+        (510, 512, (3, 510)),
+        (100, 1_050, (2, 100)),
+        (0, 511, (2, 511)),
+        (511, 1_022, (2, 511)),
+        (511, 1_100, (1, 511)),
+        (0, 1_100, (0, 0)),
+    ] {
+        let mut list = rising(rt.alloc(), 1_100)?;
+        assert!(rt; from <= to && to <= 1_100 && list.len() == 1_100);
+        list.remove_range(from as usize, to as usize);
+        assert_eq!(rt; list.len(), (1_100 - (to - from)) as usize);
+        assert!(rt; counts_without(&list, from, to), "{from} to {to}");
+        assert_eq!(rt; shape(&list), wanted, "{from} to {to}");
+    }
+    Ok(())
+}
+
+#[test]
+fn a_list_shrinks_through_the_block_length(rt: HostRuntime) -> Result<(), Fail> {
+    let mut list = rising(rt.alloc(), 513)?;
+    for (left, wanted) in [(512, (2, 510)), (511, (2, 509)), (2, (1, 2)), (1, (1, 1))] {
+        for _ in left..list.len() {
+            assert!(rt; !list.is_empty());
+            list.remove_range(0, 1);
+        }
+        assert_eq!(rt; shape(&list), wanted, "{left} left");
+    }
+    assert_eq!(rt; list.pop(), Some(512));
+    assert!(rt; list.pop().is_none() && list.is_empty());
+    Ok(())
+}
+
+#[test]
+fn a_long_block_is_halved_where_it_grows(rt: HostRuntime) -> Result<(), Fail> {
+    let mut list = roomy(rt.alloc(), 2_000)?;
+    assert_eq!(rt; shape(&list), (1, 2_000));
+    assert!(rt; list.len() == 2_000 && counts_without(&list, 0, 0));
+    list.remove_range(1_000, 1_001);
+    assert_eq!(rt; shape(&list), (1, 1_999));
+    assert_eq!(rt; list.len(), 1_999);
+    list.insert(1_000, 1_000)?;
+    assert_eq!(rt; shape(&list), (2, 1_000));
+    assert!(rt; list.len() == 2_000 && counts_without(&list, 0, 0));
+    list.remove_range(999, 1_001);
+    assert!(rt; counts_without(&list, 999, 1_001));
+    assert_eq!(rt; shape(&roomy(rt.alloc(), 0)?), (0, 0));
+    Ok(())
+}
+
+#[test]
+fn places_are_found_in_each_block(rt: HostRuntime) -> Result<(), Fail> {
+    let mut list = rising(rt.alloc(), 1_100)?;
+    assert_eq!(rt; list.len(), 1_100);
+    for i in [0, 510, 511, 512, 1_021, 1_022, 1_099] {
+        assert!(rt; i < list.len());
+        assert_eq!(rt; *list.get(i) as usize, i);
+        assert_eq!(rt; list.partition_point(|item| (*item as usize) < i), i);
+    }
+    assert_eq!(rt; list.partition_point(|_| true), 1_100);
+    list.set(511, 7);
+    assert_eq!(rt; *list.get(511), 7);
+    Ok(())
+}

@@ -1,0 +1,4 @@
+pub mod AuthorLemmas
+pub mod VectorLemmas
+pub mod JoinLemmas
+pub mod SearchLemmas

@@ -1,0 +1,32 @@
+-- The definitions at some vectors.
+use Rattle.std.specs.Prelude.{◌≡◌, ℕ, true, false, List, [], ◌∷◌}
+use Rattle.photo_version.specs.Author.{author}
+use Rattle.photo_version.specs.Version.{Version, version}
+use Rattle.photo_version.specs.Vector.{Bound, denotes, is_vector, raised, joined, is_within}
+
+-- the bound n of the author of device a
+abbrev pub bound : ℕ → ℕ → Bound
+bound a n = (author a, n)
+
+abbrev pub two_of_the_first : List Bound
+two_of_the_first = bound 0 2 ∷ []
+
+abbrev pub of_both : List Bound
+of_both = bound 0 1 ∷ bound 1 3 ∷ []
+
+pub record TheVectors : Type 0 where
+  pub union : joined two_of_the_first of_both ≡ bound 0 2 ∷ bound 1 3 ∷ []
+  pub other_way : joined of_both two_of_the_first ≡ bound 0 2 ∷ bound 1 3 ∷ []
+  pub with_an_earlier : raised (bound 0 1) two_of_the_first ≡ two_of_the_first
+  pub with_a_later : raised (bound 0 4) of_both ≡ bound 0 4 ∷ bound 1 3 ∷ []
+  pub with_another : raised (bound 1 1) two_of_the_first ≡ bound 0 2 ∷ bound 1 1 ∷ []
+  pub last : denotes two_of_the_first (version (author 0) 2) ≡ true
+  pub later : denotes two_of_the_first (version (author 0) 3) ≡ false
+  pub of_another : denotes two_of_the_first (version (author 1) 1) ≡ false
+  pub within : is_within (bound 0 1 ∷ []) of_both ≡ true
+  pub number_missing : is_within two_of_the_first of_both ≡ false
+  pub author_missing : is_within of_both two_of_the_first ≡ false
+  pub vector : is_vector of_both ≡ true
+  pub out_of_order : is_vector (bound 1 3 ∷ bound 0 1 ∷ []) ≡ false
+  pub twice : is_vector (bound 0 1 ∷ bound 0 2 ∷ []) ≡ false
+  pub bound_zero : is_vector (bound 0 0 ∷ []) ≡ false

@@ -1,0 +1,5 @@
+pub mod Author
+pub mod Version
+pub mod Vector
+pub mod Shared
+pub mod Examples

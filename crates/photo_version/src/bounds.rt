@@ -1,0 +1,94 @@
+// Vectors as slices of their bounds, in the order of their authors.
+ghost use Rattle.std.specs.Prelude.{◌≡◌, ◌++◌, true, ◌<◌, drop, IfOk, OnOk};
+ghost use Rattle.photo_version.specs.Version.{Version};
+ghost use Rattle.photo_version.specs.Vector as spec;
+
+use crate::{Author, Version};
+use std::alloc::{AllocError, Global};
+
+/// The last version of an author that is in a vector, by its number.
+pub type Bound = (Author, u32);
+
+/// Whether the version is among those that the bounds denote.
+pub fn has(bounds: &[Bound], version: Version) -> bool
+    requires { spec.is_vector bounds.now ≡ true }
+    ensures { result ≡ spec.denotes bounds.now version }
+{
+    let author = version.author();
+    let place = bounds.partition_point(|b| b.0 < author);
+    if place == bounds.len() {
+        return false;
+    }
+    let bound = bounds[place];
+    bound.0 == author && version.n() <= bound.1
+}
+
+/// Whether what the bounds denote is denoted by the others.
+pub fn is_within(bounds: &[Bound], others: &[Bound]) -> bool
+    requires left { spec.is_vector bounds.now ≡ true }
+    requires right { spec.is_vector others.now ≡ true }
+    ensures { result ≡ spec.is_within bounds.now others.now }
+{
+    let mut i = 0;
+    let mut j = 0;
+    while i < bounds.len() {
+        if j == others.len() {
+            return false;
+        }
+        let x = bounds[i];
+        let y = others[j];
+        if y.0 < x.0 {
+            j += 1;
+            continue;
+        }
+        if x.0 < y.0 {
+            return false;
+        }
+        if y.1 < x.1 {
+            return false;
+        }
+        i += 1;
+        j += 1;
+    }
+    true
+}
+
+/// Of each author the greater bound.
+pub fn joined(alloc: Global, bounds: &[Bound], others: &[Bound]) -> Result<Vec<Bound>, AllocError>
+    requires left { spec.is_vector bounds.now ≡ true }
+    requires right { spec.is_vector others.now ≡ true }
+    ensures { IfOk result (λ r. r.items ≡ spec.joined bounds.now others.now) }
+{
+    let mut all = Vec::new(alloc);
+    let mut i = 0;
+    let mut j = 0;
+    while i < bounds.len() && j < others.len() {
+        let x = bounds[i];
+        let y = others[j];
+        if x.0 < y.0 {
+            all.push(x)?;
+            i += 1;
+            continue;
+        }
+        if y.0 < x.0 {
+            all.push(y)?;
+            j += 1;
+            continue;
+        }
+        all.push((x.0, x.1.max(y.1)))?;
+        i += 1;
+        j += 1;
+    }
+    push_all(&mut all, &bounds[i..])?;
+    push_all(&mut all, &others[j..])?;
+    Ok(all)
+}
+
+fn push_all(all: &mut Vec<Bound>, bounds: &[Bound]) -> Result<(), AllocError>
+    ensures { OnOk result (all.new.items ≡ all.old.items ++ bounds.now) }
+{
+    for bound in bounds {
+        all.push(*bound)?;
+    }
+    Ok(())
+}

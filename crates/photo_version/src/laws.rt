@@ -1,0 +1,39 @@
+//! Laws of authors, versions and vectors. Each function's contract is a law, and its body does nothing.
+ghost use Rattle.std.specs.Prelude.{◌≡◌, true, ◌==◌, ◌↔◌, nat_lt, List};
+ghost use Rattle.std.specs.Ordering.{is_lt};
+ghost use Rattle.photo_version.specs.Author.{Author, same_author, author_before, author_word, author_of_word};
+ghost use Rattle.photo_version.specs.Version.{Version, same_version, version_before};
+ghost use Rattle.photo_version.specs.Vector.{Bound, denotes, is_vector};
+ghost use Rattle.photo_version.specs.Examples.{TheVectors};
+
+/// `==` and the order of authors are those of the definitions.
+pub fn authors_compare()
+    ensures equality { (a b : Author) → ⟦<crate::Author as PartialEq>⟧.eq a b ≡ same_author a b }
+    ensures order { (a b : Author) → is_lt (⟦<crate::Author as Ord>⟧.cmp a b) ≡ author_before a b }
+    ensures same { (a b : Author) → (same_author a b ≡ true) ↔ (a ≡ b) }
+{}
+
+/// `==` and the order of versions are those of the definitions: by author, then number.
+pub fn versions_compare()
+    ensures equality { (v w : Version) → ⟦<crate::Version as PartialEq>⟧.eq v w ≡ same_version v w }
+    ensures order { (v w : Version) → is_lt (⟦<crate::Version as Ord>⟧.cmp v w) ≡ version_before v w }
+    ensures same { (v w : Version) → (same_version v w ≡ true) ↔ (v ≡ w) }
+{}
+
+/// Words of authors are in the order of authors and tell them apart, and each gives its author back.
+pub fn words_tell_authors_apart()
+    ensures order { (a b : Author) → nat_lt (author_word a) (author_word b) ≡ author_before a b }
+    ensures equality { (a b : Author) → (author_word a == author_word b) ≡ same_author a b }
+    ensures back { (a : Author) → author_of_word (author_word a) ≡ a }
+{}
+
+/// Two vectors that denote the same versions are equal, and `==` says whether they are.
+pub fn vectors_are_one()
+    ensures one { (bounds others : List Bound) → is_vector bounds ≡ true → is_vector others ≡ true → ((v : Version) → denotes bounds v ≡ denotes others v) → bounds ≡ others }
+    ensures equality { (bounds others : List Bound) → (⟦<crate::Vector as PartialEq>⟧.eq bounds others ≡ true) ↔ (bounds ≡ others) }
+{}
+
+/// The definitions at some vectors.
+pub fn examples()
+    ensures { TheVectors }
+{}

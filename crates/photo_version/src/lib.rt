@@ -1,0 +1,15 @@
+//! Versions of pictures, their authors, and sets of versions.
+#![tactic(auto)]
+
+mod author;
+mod bounds;
+pub mod laws;
+mod vector;
+mod version;
+
+pub use author::Author;
+pub use vector::Vector;
+pub use version::Version;
+
+#[cfg(test)]
+mod tests;
