@@ -15,7 +15,8 @@ pub enum Record {
 }
 
 impl Record {
-    /// An equal record. Its only error is want of memory.
+    /// An equal record, which shares its words with this one and takes no memory. Its only error is that of
+    /// [`Words::try_clone`].
     pub fn try_clone(&self) -> Result<Record, AllocError>
         ensures { IfOk result (λ copy. copy ≡ self.now) }
     {

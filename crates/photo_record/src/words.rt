@@ -91,8 +91,8 @@ impl Words {
         self.as_slice().contains(word)
     }
 
-    /// An equal set, which shares its words with this one and takes no memory. Its only error is that a set
-    /// has more than 9,223,372,036,854,775,807 copies.
+    /// An equal set, which shares its words with this one and takes no memory. Its only error is that over
+    /// 9,223,372,036,854,775,807 sets would share them.
     pub fn try_clone(&self) -> Result<Words, AllocError>
         ensures { IfOk result (λ copy. copy ≡ self.now) }
     {
