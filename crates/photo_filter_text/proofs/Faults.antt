@@ -13,7 +13,7 @@ use Rattle.photo_filter_text.specs.declared.symbol.Symbol.TheVariants.{Open, Clo
 use Rattle.photo_filter_text.specs.Tree.{Tree, All, Rate, On, Keyword, Either}
 use Rattle.photo_filter_text.specs.Tokens.{Token}
 use Rattle.photo_filter_text.specs.Grammar.{all, rating, day, keyword, IsFactor, brackets, test, factor, term, cmp_of, is_bracket}
-use Rattle.photo_filter_text.specs.Fault.{Begins, StopsAt, WantsWord, IsWordAt}
+use Rattle.photo_filter_text.specs.Fronts.{Begins, StopsAt, WantsWord, IsWordAt}
 use Rattle.photo_filter_text.specs.Steps.{Place, AtFactor, AtOperator, AtValue, AtWord, After, Level, State, state_with, start, joined, at_factor, after_term, closed, test_of, at_operator, at_word, step_at, step, symbol_of, go_on, run}
 use Rattle.photo_record.specs.declared.fault.WordFault.{WordFault}
 use Rattle.photo_filter_text.proofs.Samples.{some-date, some-word}

@@ -5,9 +5,12 @@ ghost use Rattle.std.specs.List.{list_any};
 ghost use Rattle.photo_filter_text.specs.Tree.{Tree, height};
 ghost use Rattle.photo_filter_text.specs.Tokens.{Token, tokens_of};
 ghost use Rattle.photo_filter_text.specs.Grammar.{IsExpr};
-ghost use Rattle.photo_filter_text.specs.Fault.{IsFilter, IsFault, Begins, MayWantMemory, is_keeper, max_tokens, max_height};
+ghost use Rattle.photo_filter_text.specs.Limits.{max_tokens, max_height};
+ghost use Rattle.photo_filter_text.specs.Fronts.{Begins};
+ghost use Rattle.photo_filter_text.specs.Memory.{MayWantMemory, is_keeper};
+ghost use Rattle.photo_filter_text.specs.Fault.{IsFilter, IsFault};
 ghost use Rattle.photo_filter_text.specs.Printed.{text_of, IsSound};
-ghost use Rattle.photo_filter_text.specs.Examples.{TheTokens, TheTrees, TheTexts};
+ghost use Rattle.photo_filter_text.specs.Examples.{TheTokens, TheTrees, TheTexts, TheFaults, TheFilters};
 ghost use Rattle.photo_filter_text.specs.declared.fault.FilterFault.{FilterFault};
 ghost use Rattle.photo_filter_text.specs.declared.fault.FilterFault.TheVariants.{NoMemory};
 
@@ -38,4 +41,6 @@ pub fn examples()
     ensures tokens { TheTokens }
     ensures trees { TheTrees }
     ensures texts { TheTexts }
+    ensures faults { TheFaults }
+    ensures filters { TheFilters }
 {}
