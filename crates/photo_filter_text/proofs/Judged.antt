@@ -1,10 +1,10 @@
 -- A verdict on tokens that computes, and that it is what the grammar says of them.
-use Rattle.std.proofs.Common.{◌≡◌, ℕ, ◌+◌, Bool, true, false, cond, leb, if◌then◌else◌, List, [], ◌∷◌, length, take, drop, Option, Some, None, Result, Ok, Err, refl, sym, ap, subst, ◌∙◌}
-use Rattle.std.proofs.lemmas.Bool.{leb-true, leb-false}
+use Rattle.std.proofs.Common.{◌≡◌, ◌≢◌, ◌⊎◌, inl, inr, ℕ, ◌+◌, Bool, true, false, cond, leb, if◌then◌else◌, List, [], ◌∷◌, length, take, drop, Option, Some, None, Result, Ok, Err, refl, sym, ap, subst, ◌∙◌}
+use Rattle.std.proofs.lemmas.Bool.{leb-true, leb-false, false≢true}
 use Rattle.photo_filter_text.specs.declared.reader.Refusal.{Refusal}
 use Rattle.photo_filter_text.specs.declared.reader.Refusal.TheVariants as refusal
 use Rattle.photo_filter_text.specs.declared.fault.FilterFault.{FilterFault}
-use Rattle.photo_filter_text.specs.declared.fault.FilterFault.TheVariants.{Empty, Unexpected, EndsEarly, TooDeep, TooManyTokens, BadWord}
+use Rattle.photo_filter_text.specs.declared.fault.FilterFault.TheVariants.{Empty, Unexpected, EndsEarly, TooDeep, TooManyTokens, BadWord, NoMemory}
 use Rattle.photo_filter_text.specs.Limits.{max_tokens, max_height}
 use Rattle.photo_filter_text.specs.Tree.{Tree, height}
 use Rattle.photo_filter_text.specs.Tokens.{Token, tokens_of}
@@ -14,7 +14,7 @@ use Rattle.photo_filter_text.specs.Examples.{HasFault}
 use Rattle.photo_filter_text.specs.Steps.{State, start, step, run, finish}
 use Rattle.photo_filter_text.proofs.Complete.{expr-read, tree_read}
 use Rattle.photo_filter_text.proofs.Sound.{read-expr}
-use Rattle.photo_filter_text.proofs.Faults.{run-begins, run-next, next-is, stops-at, no-word-at, bad-word-at}
+use Rattle.photo_filter_text.proofs.Faults.{refused-as, run-begins, run-next, next-is, stops-at, no-word-at, bad-word-at}
 use Rattle.photo_filter_text.proofs.Verdict.{all-taken}
 
 -- a tree or a fault; none where a step asks for memory, which none does
@@ -76,6 +76,60 @@ judged (t ∷ ts) = by_length (leb (length (t ∷ ts)) max_tokens) refl
     by_length : (short : Bool) → leb (length (t ∷ ts)) max_tokens ≡ short → IsAnswer (t ∷ ts) (cond short (verdict_from 0 start (t ∷ ts)) (Some (Err TooManyTokens)))
     by_length true h = rest-judged (t ∷ ts) 0 start (t ∷ ts) (λ e. cc, leb-true _ _ h) refl refl
     by_length false h = leb-false _ _ h
+
+no-memory-wanted : (s : State) (x : Token) → step s x ≡ Err refusal.NoMemory → ⊥
+no-memory-wanted s x h =
+    elim (refused-as s.place s.level s.outer x refusal.NoMemory h) [
+      | inl unexpected ↦ cc
+      | inr bad ↦ let e = bad.0 in cc
+    ]
+
+-- a tree, or a fault other than want of memory
+abbrev is_told : Answer → Bool
+is_told None = false
+is_told (Some (Ok tree)) = true
+is_told (Some (Err NoMemory)) = false
+is_told (Some (Err Empty)) = true
+is_told (Some (Err (Unexpected k))) = true
+is_told (Some (Err EndsEarly)) = true
+is_told (Some (Err TooDeep)) = true
+is_told (Some (Err TooManyTokens)) = true
+is_told (Some (Err BadWord)) = true
+
+end-told : (found : Option Tree) → is_told (at_end found) ≡ true
+end-told None = refl
+end-told (Some tree) = by_height (leb (height tree) max_height)
+  where
+    by_height : (low : Bool) → is_told (Some (cond low (Ok tree) (Err TooDeep))) ≡ true
+    by_height true = refl
+    by_height false = refl
+
+rest-told : (n : ℕ) (s : State) (rest : List Token) → is_told (verdict_from n s rest) ≡ true
+rest-told n s [] = end-told (finish s)
+rest-told n s (x ∷ rest) = by_step (step s x) refl (λ q. rest-told (n + 1) q rest)
+  where
+    by_step : (o : Result State Refusal) → step s x ≡ o → ((q : State) → is_told (verdict_from (n + 1) q rest) ≡ true) → is_told (after_step n (λ q. verdict_from (n + 1) q rest) o) ≡ true
+    by_step (Ok q) h more = more q
+    by_step (Err refusal.Unexpected) h more = refl
+    by_step (Err refusal.BadWord) h more = refl
+    by_step (Err refusal.NoMemory) h more = absurd (no-memory-wanted s x h)
+
+told : (ts : List Token) → is_told (verdict ts) ≡ true
+told [] = refl
+told (t ∷ ts) = by_length (leb (length (t ∷ ts)) max_tokens)
+  where
+    by_length : (short : Bool) → is_told (cond short (verdict_from 0 start (t ∷ ts)) (Some (Err TooManyTokens))) ≡ true
+    by_length true = rest-told 0 start (t ∷ ts)
+    by_length false = refl
+
+-- tokens are a filter, or they have a fault
+pub filter-or-fault : (ts : List Token) → ((tree : Tree) × IsFilter ts tree) ⊎ ((fault : FilterFault) × (fault ≢ NoMemory) × IsFault ts fault)
+filter-or-fault ts = by_answer (verdict ts) (told ts) (judged ts)
+  where
+    by_answer : (a : Answer) → is_told a ≡ true → IsAnswer ts a → ((tree : Tree) × IsFilter ts tree) ⊎ ((fault : FilterFault) × (fault ≢ NoMemory) × IsFault ts fault)
+    by_answer None h j = absurd (false≢true h)
+    by_answer (Some (Ok tree)) h j = inl (tree, j)
+    by_answer (Some (Err fault)) h j = inr (fault, λ e. false≢true (sym (ap (λ f. is_told (Some (Err f))) e) ∙ h), j)
 
 pub fault-of : (text : List ℕ) (fault : FilterFault) → verdict (tokens_of text) ≡ Some (Err fault) → HasFault text fault
 fault-of text fault h = record { is = subst (IsAnswer (tokens_of text)) h (judged (tokens_of text)) }
