@@ -61,7 +61,11 @@ impl Choice {
     }
 
     /// The alternative that asks for the word, or that forbids it. Its only error is want of memory.
-    pub fn with_keyword(alloc: Global, polarity: Polarity, word: &Word) -> Result<Choice, AllocError>
+    pub fn with_keyword(
+        alloc: Global,
+        polarity: Polarity,
+        word: &Word,
+    ) -> Result<Choice, AllocError>
         ensures { IfOk result (λ choice. choice ≡ with_keyword polarity word.now) }
     {
         let mut choice = Choice::anything(alloc);
