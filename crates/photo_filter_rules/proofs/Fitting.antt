@@ -14,7 +14,8 @@ use Rattle.photo_filter_rules.specs.declared.span.Span.{Span}
 use Rattle.photo_filter_rules.specs.declared.polarity.Polarity.{Polarity}
 use Rattle.photo_filter_rules.specs.declared.polarity.Polarity.TheVariants.{Plain, Negated}
 use Rattle.photo_filter_rules.specs.Matching.{Content, content, matches, matches_picture, compares}
-use Rattle.photo_filter_rules.specs.Alternatives.{Alternative, is_within, all_ratings, all_days, fits, is_possible, both_of, possible, with_ratings, with_days, spans_of, pairs, either_list, opposite, alternatives_of, all_or_none, with_word}
+use Rattle.photo_filter_rules.specs.Limits.{all_ratings, all_days}
+use Rattle.photo_filter_rules.specs.Alternatives.{Alternative, is_within, fits, is_possible, both_of, possible, with_ratings, with_days, spans_of, pairs, either_list, opposite, alternatives_of, all_or_none, with_keyword}
 use Rattle.photo_filter_rules.specs.Laws.{IsContent, FitsWhereMatched}
 use Rattle.photo_filter_rules.proofs.Bools.{and_pairs, not-and, not-or}
 use Rattle.photo_filter_rules.proofs.Sets.{all-both_sets, none-both_sets, not-list_any, no_common}
@@ -131,9 +132,9 @@ fits-nothing : (c : Content) → IsContent c → (polarity : Polarity) → list_
 fits-nothing c is Plain = refl
 fits-nothing c is Negated = rw (rating_within c is, day_within c is) refl
 
-fits-with_word : (c : Content) → IsContent c → (polarity : Polarity) (word : List ℕ) → list_any (fits c) (with_word polarity word ∷ []) ≡ toward polarity (has_word c.words word)
-fits-with_word c is Plain word = rw (rating_within c is, day_within c is) (plain_word (has_word c.words word))
-fits-with_word c is Negated word = rw (rating_within c is, day_within c is) (negated_word (has_word c.words word))
+fits-with_keyword : (c : Content) → IsContent c → (polarity : Polarity) (word : List ℕ) → list_any (fits c) (with_keyword polarity word ∷ []) ≡ toward polarity (has_word c.words word)
+fits-with_keyword c is Plain word = rw (rating_within c is, day_within c is) (plain_word (has_word c.words word))
+fits-with_keyword c is Negated word = rw (rating_within c is, day_within c is) (negated_word (has_word c.words word))
 
 toward-opposite : (polarity : Polarity) (b : Bool) → toward (opposite polarity) b ≡ toward polarity (not b)
 toward-opposite Plain b = refl
@@ -157,7 +158,7 @@ fits-alternatives_of c is All polarity = fits-all_or_none c is polarity
 fits-alternatives_of c is Nothing polarity = fits-nothing c is polarity
 fits-alternatives_of c is (Rate cmp rating) polarity = fits-rate c is polarity cmp rating
 fits-alternatives_of c is (On cmp day) polarity = fits-on c is polarity cmp day
-fits-alternatives_of c is (Keyword word) polarity = fits-with_word c is polarity word
+fits-alternatives_of c is (Keyword word) polarity = fits-with_keyword c is polarity word
 fits-alternatives_of c is (Not part) polarity =
     fits-alternatives_of c is part (opposite polarity) ∙ toward-opposite polarity (matches_picture part c)
 fits-alternatives_of c is (Both left right) polarity =

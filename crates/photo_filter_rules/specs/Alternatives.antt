@@ -2,7 +2,6 @@
 use Rattle.std.specs.Prelude.{ℕ, ℤ, Bool, not, ◌&&◌, ◌||◌, pos, ◌+ℤ◌, ◌-ℤ◌, int_le, nat_lt, List, [], ◌∷◌, ◌++◌, map, length}
 use Rattle.std.specs.Int.{int_max, int_min}
 use Rattle.std.specs.List.{list_any, list_all, filter, flat_map}
-use Rattle.photo_record.specs.Limits.{max_rating, first_day, last_day}
 use Rattle.photo_record.specs.Word.{has_word}
 use Rattle.photo_filter_text.specs.declared.tree.Cmp.{Cmp}
 use Rattle.photo_filter_text.specs.declared.tree.Cmp.TheVariants.{AtLeast, AtMost, Equal}
@@ -10,7 +9,7 @@ use Rattle.photo_filter_text.specs.Tree.{Tree, All, Nothing, Rate, On, Keyword, 
 use Rattle.photo_filter_rules.specs.declared.span.Span.{Span}
 use Rattle.photo_filter_rules.specs.declared.polarity.Polarity.{Polarity}
 use Rattle.photo_filter_rules.specs.declared.polarity.Polarity.TheVariants.{Plain, Negated}
-use Rattle.photo_filter_rules.specs.Limits.{max_alternatives}
+use Rattle.photo_filter_rules.specs.Limits.{all_ratings, all_days, max_alternatives}
 use Rattle.photo_filter_rules.specs.Matching.{Content}
 
 -- the numbers from the first to the last, both counted in: none where the last is below the first
@@ -23,12 +22,6 @@ is_within s number = int_le s.first number && int_le number s.last
 -- the numbers that stand in both
 abbrev pub both_spans : Span → Span → Span
 both_spans s t = span (int_max s.first t.first) (int_min s.last t.last)
-
-abbrev pub all_ratings : Span
-all_ratings = span (pos 0) (pos max_rating)
-
-abbrev pub all_days : Span
-all_days = span first_day last_day
 
 -- Sets of words stand as lists. The union has the words of the first, and then those of the second that are new.
 abbrev pub both_sets : List (List ℕ) → List (List ℕ) → List (List ℕ)
@@ -76,9 +69,9 @@ with_ratings s = record anything { ratings = s }
 abbrev pub with_days : Span → Alternative
 with_days s = record anything { days = s }
 
-abbrev pub with_word : Polarity → List ℕ → Alternative
-with_word Plain word = record anything { required = word ∷ [] }
-with_word Negated word = record anything { forbidden = word ∷ [] }
+abbrev pub with_keyword : Polarity → List ℕ → Alternative
+with_keyword Plain word = record anything { required = word ∷ [] }
+with_keyword Negated word = record anything { forbidden = word ∷ [] }
 
 abbrev pub opposite : Polarity → Polarity
 opposite Plain = Negated
@@ -112,7 +105,7 @@ alternatives_of All polarity = all_or_none polarity
 alternatives_of Nothing polarity = all_or_none (opposite polarity)
 alternatives_of (Rate cmp rating) polarity = possible (map with_ratings (spans_of all_ratings polarity cmp (pos rating)))
 alternatives_of (On cmp day) polarity = possible (map with_days (spans_of all_days polarity cmp day))
-alternatives_of (Keyword word) polarity = with_word polarity word ∷ []
+alternatives_of (Keyword word) polarity = with_keyword polarity word ∷ []
 alternatives_of (Not part) polarity = alternatives_of part (opposite polarity)
 alternatives_of (Both left right) polarity =
     either_list (opposite polarity) (alternatives_of left polarity) (alternatives_of right polarity)

@@ -1,4 +1,5 @@
--- A tree as a list of marks, each part before what it is a part of, and back: by this a proof tells trees apart.
+-- No definition of the language, but the machinery of its proofs: a tree as a list of marks, each part before what it
+-- is a part of, and back. By this a proof tells trees apart.
 use Rattle.std.specs.Prelude.{◌≡◌, ℕ, ℤ, pos, refl, List, [], ◌∷◌, ◌++◌, if◌then◌else◌, ◌==◌}
 use Rattle.std.specs.Coded.{Coded, code_by, coded×, coded_ℕ, coded_ℤ, coded_list}
 use Rattle.std.proofs.Common.{◌∙◌, ap, sym, append_assoc, append-nil}
@@ -34,14 +35,14 @@ marks_of (Both left right) = marks_of left ++ (marks_of right ++ (bare 10 ∷ []
 marks_of (Either left right) = marks_of left ++ (marks_of right ++ (bare 11 ∷ []))
 
 -- the parts read so far, the last one first
-abbrev pub negated : List Tree → List Tree
-negated [] = []
-negated (part ∷ parts) = Not part ∷ parts
+abbrev pub with_not : List Tree → List Tree
+with_not [] = []
+with_not (part ∷ parts) = Not part ∷ parts
 
-abbrev pub joined : (Tree → Tree → Tree) → List Tree → List Tree
-joined f [] = []
-joined f (right ∷ []) = []
-joined f (right ∷ left ∷ parts) = f left right ∷ parts
+abbrev pub with_joint : (Tree → Tree → Tree) → List Tree → List Tree
+with_joint f [] = []
+with_joint f (right ∷ []) = []
+with_joint f (right ∷ left ∷ parts) = f left right ∷ parts
 
 abbrev pub with_mark : Mark → List Tree → List Tree
 with_mark m parts =
@@ -54,9 +55,9 @@ with_mark m parts =
     else (if m.0 == 6 then On AtMost m.1.1.0 ∷ parts
     else (if m.0 == 7 then On Equal m.1.1.0 ∷ parts
     else (if m.0 == 8 then Keyword m.1.1.1 ∷ parts
-    else (if m.0 == 9 then negated parts
-    else (if m.0 == 10 then joined Both parts
-    else joined Either parts))))))))))
+    else (if m.0 == 9 then with_not parts
+    else (if m.0 == 10 then with_joint Both parts
+    else with_joint Either parts))))))))))
 
 abbrev pub with_marks : List Mark → List Tree → List Tree
 with_marks [] parts = parts

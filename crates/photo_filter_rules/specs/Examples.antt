@@ -4,10 +4,11 @@ use Rattle.photo_record.specs.Limits.{first_day}
 use Rattle.photo_record.specs.declared.record.Record.TheVariants.{Removed}
 use Rattle.photo_filter_text.specs.declared.tree.Cmp.TheVariants.{AtLeast, AtMost, Equal}
 use Rattle.photo_filter_text.specs.Tree.{Tree, All, Nothing, Rate, On, Keyword, Not, Both, Either}
+use Rattle.photo_filter_text.specs.Examples.{repeated}
 use Rattle.photo_filter_rules.specs.declared.polarity.Polarity.TheVariants.{Plain}
 use Rattle.photo_filter_rules.specs.Matching.{matches}
 use Rattle.photo_filter_rules.specs.Filters.{filter_of}
-use Rattle.photo_filter_rules.specs.Alternatives.{span, anything, with_ratings, with_word, alternatives_of, is_too_wide}
+use Rattle.photo_filter_rules.specs.Alternatives.{span, anything, with_ratings, with_keyword, alternatives_of, is_too_wide}
 
 abbrev pub word : List ℕ
 word = codes "x"
@@ -17,26 +18,21 @@ abbrev pub one_of_words : ℕ → ℕ → Tree
 one_of_words first zero = Keyword (first ∷ [])
 one_of_words first (suc more) = Either (one_of_words first more) (Keyword ((first + suc more) ∷ []))
 
--- a text several times
-abbrev pub repeated : ℕ → List ℕ → List ℕ
-repeated zero text = []
-repeated (suc more) text = text ++ repeated more text
-
 pub record TheLists : Type 0 where
   pub not_or : alternatives_of (Not (Either (Rate Equal 0) (Keyword word))) Plain
       ≡ record anything { ratings = span (pos 1) (pos 5); forbidden = word ∷ [] } ∷ []
   pub unequal : alternatives_of (Not (Rate Equal 3)) Plain
       ≡ with_ratings (span (pos 0) (pos 2)) ∷ with_ratings (span (pos 4) (pos 5)) ∷ []
-  pub word_and_all : alternatives_of (Both (Keyword (codes "and")) All) Plain ≡ with_word Plain (codes "and") ∷ []
+  pub word_and_all : alternatives_of (Both (Keyword (codes "and")) All) Plain ≡ with_keyword Plain (codes "and") ∷ []
   pub all_or_none_and_all : alternatives_of (Either All (Both Nothing All)) Plain ≡ anything ∷ []
   pub no_day : alternatives_of (Not (On AtLeast first_day)) Plain ≡ []
   pub no_range : alternatives_of (Both (Rate AtLeast 4) (Rate AtMost 3)) Plain ≡ []
   pub one_rating : alternatives_of (Both (Rate AtLeast 3) (Rate AtMost 3)) Plain ≡ with_ratings (span (pos 3) (pos 3)) ∷ []
   pub asked_and_forbidden : alternatives_of (Both (Keyword word) (Not (Keyword word))) Plain ≡ []
   -- nothing is merged
-  pub twice : alternatives_of (Either (Keyword word) (Keyword word)) Plain ≡ with_word Plain word ∷ with_word Plain word ∷ []
+  pub twice : alternatives_of (Either (Keyword word) (Keyword word)) Plain ≡ with_keyword Plain word ∷ with_keyword Plain word ∷ []
   -- the word stands once in the union
-  pub once : alternatives_of (Both (Keyword word) (Keyword word)) Plain ≡ with_word Plain word ∷ []
+  pub once : alternatives_of (Both (Keyword word) (Keyword word)) Plain ≡ with_keyword Plain word ∷ []
 
 -- eight words by `or` and eight others; five and thirteen; these as a part of a tree whose own list is empty
 pub record TheWidths : Type 0 where

@@ -1,9 +1,10 @@
 ghost use Rattle.std.specs.Prelude.{◌≡◌, IfOk};
 ghost use Rattle.photo_filter_rules.specs.Matching.{content};
-ghost use Rattle.photo_filter_rules.specs.Alternatives.{anything, with_ratings, with_days, with_word, fits, is_possible, both_of};
+ghost use Rattle.photo_filter_rules.specs.Alternatives.{anything, with_ratings, with_days, with_keyword, fits, is_possible, both_of};
 
+use crate::copies::{TryClone, copied};
 use crate::polarity::Polarity;
-use crate::span::{DAYS, RATINGS, Span};
+use crate::span::{ALL_DAYS, ALL_RATINGS, Span};
 use crate::words;
 use photo_record::{Word, Words};
 use std::alloc::{AllocError, Global};
@@ -32,8 +33,8 @@ impl Choice {
         ensures { result ≡ anything }
     {
         Choice {
-            ratings: RATINGS,
-            days: DAYS,
+            ratings: ALL_RATINGS,
+            days: ALL_DAYS,
             required: Vec::new(alloc),
             forbidden: Vec::new(alloc),
         }
@@ -60,8 +61,12 @@ impl Choice {
     }
 
     /// The alternative that asks for the word, or that forbids it. Its only error is want of memory.
-    pub fn with_word(alloc: Global, polarity: Polarity, word: &Word) -> Result<Choice, AllocError>
-        ensures { IfOk result (λ choice. choice ≡ with_word polarity word.now) }
+    pub fn with_keyword(
+        alloc: Global,
+        polarity: Polarity,
+        word: &Word,
+    ) -> Result<Choice, AllocError>
+        ensures { IfOk result (λ choice. choice ≡ with_keyword polarity word.now) }
     {
         let mut choice = Choice::anything(alloc);
         match polarity {
@@ -101,16 +106,15 @@ impl Choice {
             forbidden: words::both_sets(&self.forbidden, &other.forbidden)?,
         })
     }
+}
 
-    /// An equal alternative. Its only error is want of memory.
-    pub fn try_clone(&self) -> Result<Choice, AllocError>
-        ensures { IfOk result (λ copy. copy ≡ self.now) }
-    {
+impl TryClone for Choice {
+    fn try_clone(&self) -> Result<Choice, AllocError> {
         Ok(Choice {
             ratings: self.ratings,
             days: self.days,
-            required: words::copied(&self.required)?,
-            forbidden: words::copied(&self.forbidden)?,
+            required: copied(&self.required)?,
+            forbidden: copied(&self.forbidden)?,
         })
     }
 }

@@ -5,6 +5,7 @@ ghost use Rattle.photo_filter_rules.specs.Matching.{matches};
 ghost use Rattle.photo_filter_rules.specs.Alternatives.{alternatives_of, is_too_wide};
 
 use crate::choice::Choice;
+use crate::copies::copied;
 use crate::polarity::Polarity;
 use crate::{BuildFault, list};
 use photo_filter_text::FilterTree;
@@ -82,7 +83,7 @@ impl Filter {
     {
         Ok(Filter {
             tree: self.tree.try_clone()?,
-            alternatives: list::copied(&self.alternatives)?,
+            alternatives: copied(&self.alternatives)?,
         })
     }
 }

@@ -2,6 +2,7 @@
 #![tactic(auto)]
 
 mod choice;
+mod copies;
 mod fault;
 mod filter;
 pub mod laws;

@@ -2,12 +2,13 @@ ghost use Rattle.std.specs.Prelude.{◌≡◌, ◌++◌, ◌<ℤ◌, ◌∷◌, 
 ghost use Rattle.photo_filter_text.specs.Tree.{tree_of};
 ghost use Rattle.std.specs.List.{list_any};
 ghost use Rattle.photo_filter_rules.specs.Matching.{content};
-ghost use Rattle.photo_filter_rules.specs.Alternatives.{fits, all_ratings, all_days, spans_of, possible, with_ratings, with_days, with_word, all_or_none, both_of, pairs, either_list, alternatives_of, is_long, is_too_wide};
+ghost use Rattle.photo_filter_rules.specs.Limits.{all_ratings, all_days};
+ghost use Rattle.photo_filter_rules.specs.Alternatives.{fits, spans_of, possible, with_ratings, with_days, with_keyword, all_or_none, both_of, pairs, either_list, alternatives_of, is_long, is_too_wide};
 
 use crate::BuildFault;
 use crate::choice::Choice;
 use crate::polarity::Polarity;
-use crate::span::{DAYS, RATINGS, Span};
+use crate::span::{ALL_DAYS, ALL_RATINGS, Span};
 use photo_filter_text::{Cmp, FilterTree};
 use photo_record::{Day, Rating, Word, Words};
 use std::alloc::{AllocError, Global};
@@ -67,7 +68,7 @@ fn ratings_list(
     ensures { IfOk result
         (λ list. list.items ≡ possible (map with_ratings (spans_of all_ratings polarity cmp (pos rating)))) }
 {
-    let spans = spans_of(alloc, RATINGS, polarity, cmp, i32::from(rating.value()))?;
+    let spans = spans_of(alloc, ALL_RATINGS, polarity, cmp, i32::from(rating.value()))?;
     spans
         .iter()
         .map(|ratings| Choice::with_ratings(alloc, *ratings))
@@ -83,7 +84,7 @@ fn days_list(
 ) -> Result<Vec<Choice>, AllocError>
     ensures { IfOk result (λ list. list.items ≡ possible (map with_days (spans_of all_days polarity cmp day))) }
 {
-    let spans = spans_of(alloc, DAYS, polarity, cmp, day.number())?;
+    let spans = spans_of(alloc, ALL_DAYS, polarity, cmp, day.number())?;
     spans
         .iter()
         .map(|days| Choice::with_days(alloc, *days))
@@ -92,10 +93,10 @@ fn days_list(
 }
 
 fn word_list(alloc: Global, polarity: Polarity, word: &Word) -> Result<Vec<Choice>, AllocError>
-    ensures { IfOk result (λ list. list.items ≡ with_word polarity word.now ∷ []) }
+    ensures { IfOk result (λ list. list.items ≡ with_keyword polarity word.now ∷ []) }
 {
     let mut list = Vec::new(alloc);
-    list.push(Choice::with_word(alloc, polarity, word)?)?;
+    list.push(Choice::with_keyword(alloc, polarity, word)?)?;
     Ok(list)
 }
 
@@ -197,18 +198,6 @@ fn pair_with(choice: &Choice, others: &[Choice], list: &mut Vec<Choice>) -> Resu
         }
     }
     Ok(())
-}
-
-/// Equal alternatives in the same order. Its only error is want of memory.
-pub fn copied(list: &Vec<Choice>) -> Result<Vec<Choice>, AllocError>
-    ensures { IfOk result (λ copy. copy.items ≡ list.now.items) }
-{
-    let alloc = *list.allocator();
-    let mut copy = Vec::with_capacity(alloc, list.len())?;
-    for choice in list {
-        copy.push(choice.try_clone()?)?;
-    }
-    Ok(copy)
 }
 
 /// Whether a picture of that rating, day number and words fits one of the alternatives. It takes no memory.

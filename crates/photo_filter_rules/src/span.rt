@@ -8,10 +8,10 @@ pub struct Span {
 }
 
 /// The values of a rating.
-pub const RATINGS: Span = Span { first: 0, last: 5 };
+pub const ALL_RATINGS: Span = Span { first: 0, last: 5 };
 
 /// The numbers of the days of the calendar.
-pub const DAYS: Span = Span {
+pub const ALL_DAYS: Span = Span {
     first: -719_528,
     last: 2_932_896,
 };

@@ -3,20 +3,9 @@ ghost use Rattle.std.specs.List.{list_all, list_any};
 ghost use Rattle.photo_record.specs.Word.{has_word};
 ghost use Rattle.photo_filter_rules.specs.Alternatives.{both_sets};
 
+use crate::copies::copied;
 use photo_record::{Word, Words};
 use std::alloc::AllocError;
-
-/// Equal words in the same order. Its only error is want of memory.
-pub fn copied(words: &Vec<Word>) -> Result<Vec<Word>, AllocError>
-    ensures { IfOk result (λ copy. copy.items ≡ words.now.items) }
-{
-    let alloc = *words.allocator();
-    let mut copy = Vec::with_capacity(alloc, words.len())?;
-    for word in words {
-        copy.push(word.try_clone()?)?;
-    }
-    Ok(copy)
-}
 
 /// The union of two sets of words: the first, and then the new ones of the second. Its only error is want of memory.
 pub fn both_sets(words: &Vec<Word>, others: &Vec<Word>) -> Result<Vec<Word>, AllocError>

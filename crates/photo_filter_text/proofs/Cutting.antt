@@ -10,10 +10,10 @@ use Rattle.std.proofs.lemmas.List.Concat.{flat_map-append}
 use Rattle.std.proofs.lemmas.List.Elements.{filter-append}
 use Rattle.std.proofs.lemmas.Bool.{false≢true, not-false, not-true, ltb-false, ltb-true}
 use Rattle.std.proofs.lemmas.Bool.Decides.{Decides-eqb}
-use Rattle.photo_filter_text.specs.Tokens.{is_space, is_parenthesis, with_room, is_filled, tokens_of}
+use Rattle.photo_filter_text.specs.Tokens.{is_space, is_bracket_byte, with_room, is_filled, tokens_of}
 use Rattle.photo_filter_text.specs.Cuts.{ends_token, starts_token}
 
--- what stands between spaces, once parentheses have room
+-- what stands between spaces, once brackets have room
 abbrev pub parts : List ℕ → List (List ℕ)
 parts bs = slice_split is_space (flat_map with_room bs)
 
@@ -61,15 +61,15 @@ front (b ∷ bs) = go (ends_token b) refl (front bs)
         let n : cut_at (b ∷ bs) ≡ suc (cut_at bs) = ap (λ x. cond (not x) (1 + cut_at bs) 0) h ∙ one-add (cut_at bs) in
         record { rest = f.rest; whole = rw n (parts-more b bs h ∙ ap (onto_first b) f.whole); behind = rw n f.behind }
 
--- a parenthesis is a token
-tokens-parenthesis : (b : ℕ) (bs : List ℕ) → is_parenthesis b ≡ true → tokens_of (b ∷ bs) ≡ (b ∷ []) ∷ tokens_of bs
-tokens-parenthesis b bs h = go (eqb b 40) refl
+-- a bracket is a token
+tokens-bracket : (b : ℕ) (bs : List ℕ) → is_bracket_byte b ≡ true → tokens_of (b ∷ bs) ≡ (b ∷ []) ∷ tokens_of bs
+tokens-bracket b bs h = go (eqb b 40) refl
   where
     go : (o : Bool) → eqb b 40 ≡ o → tokens_of (b ∷ bs) ≡ (b ∷ []) ∷ tokens_of bs
     go true eo = rw ((Decides-eqb b 40).0 eo) refl
     go false eo = rw ((Decides-eqb b 41).0 (sym (ap (λ x. x || eqb b 41) eo) ∙ h)) refl
 
--- a token that is no parenthesis goes up to the first byte that ends it
+-- a token that is no bracket goes up to the first byte that ends it
 tokens-word : (b : ℕ) (bs : List ℕ) → ends_token b ≡ false → tokens_of (b ∷ bs) ≡ (b ∷ take (cut_at bs) bs) ∷ tokens_of (drop (cut_at bs) bs)
 tokens-word b bs h =
     let f = front bs in
@@ -78,16 +78,16 @@ tokens-word b bs h =
 
 -- the token at the front of a text that begins with one
 pub tokens-first : (b : ℕ) (bs : List ℕ) (n : ℕ) → is_space b ≡ false → n ≡ max 1 (position_or_len ends_token (b ∷ bs)) → tokens_of (b ∷ bs) ≡ take n (b ∷ bs) ∷ tokens_of (drop n (b ∷ bs))
-tokens-first b bs n s m = go (is_parenthesis b) refl
+tokens-first b bs n s m = go (is_bracket_byte b) refl
   where
-    go : (p : Bool) → is_parenthesis b ≡ p → tokens_of (b ∷ bs) ≡ take n (b ∷ bs) ∷ tokens_of (drop n (b ∷ bs))
+    go : (p : Bool) → is_bracket_byte b ≡ p → tokens_of (b ∷ bs) ≡ take n (b ∷ bs) ∷ tokens_of (drop n (b ∷ bs))
     go true h =
-        let e : ends_token b ≡ true = ap (λ x. x || is_parenthesis b) s ∙ h in
+        let e : ends_token b ≡ true = ap (λ x. x || is_bracket_byte b) s ∙ h in
         let k : position_or_len ends_token (b ∷ bs) ≡ 0 = ap (λ x. cond (not x) (1 + cut_at bs) 0) e in
         let l : n ≡ 1 = m ∙ ap (max 1) k in
-        rw l (tokens-parenthesis b bs h)
+        rw l (tokens-bracket b bs h)
     go false h =
-        let e : ends_token b ≡ false = ap (λ x. x || is_parenthesis b) s ∙ h in
+        let e : ends_token b ≡ false = ap (λ x. x || is_bracket_byte b) s ∙ h in
         let k : position_or_len ends_token (b ∷ bs) ≡ suc (cut_at bs) = ap (λ x. cond (not x) (1 + cut_at bs) 0) e ∙ one-add (cut_at bs) in
         let l : n ≡ suc (cut_at bs) = omega arith in
         rw l (tokens-word b bs e)
@@ -173,7 +173,7 @@ starts-plain [] p h = refl
 starts-plain (b ∷ bs) p h = go (is_space b) refl (h 0 (omega arith))
   where
     go : (s : Bool) → is_space b ≡ s → ends_token b ≡ false → not (is_space b) ≡ true
-    go true e f = absurd (false≢true (sym f ∙ ap (λ x. x || is_parenthesis b) e))
+    go true e f = absurd (false≢true (sym f ∙ ap (λ x. x || is_bracket_byte b) e))
     go false e f = ap not e
 
 -- a split has a first part

@@ -5,7 +5,8 @@ use Rattle.photo_filter_text.specs.declared.reader.Refusal.{Refusal}
 use Rattle.photo_filter_text.specs.Tree.{Tree, height}
 use Rattle.photo_filter_text.specs.Tokens.{Token}
 use Rattle.photo_filter_text.specs.Grammar.{IsExpr}
-use Rattle.photo_filter_text.specs.Fault.{IsFilter, max_tokens, max_height}
+use Rattle.photo_filter_text.specs.Limits.{max_tokens, max_height}
+use Rattle.photo_filter_text.specs.Fault.{IsFilter}
 use Rattle.photo_filter_text.specs.Steps.{State, start, run, finish}
 use Rattle.photo_filter_text.proofs.Complete.{expr-read, tree_read, one-tree}
 use Rattle.photo_filter_text.proofs.Sound.{read-expr}

@@ -1,5 +1,5 @@
 -- Where the tokens stop being the beginning of a filter.
-use Rattle.std.proofs.Common.{◌≡◌, ℕ, suc, zero, ◌+◌, ◌<◌, ◌≤◌, Bool, true, false, List, [], ◌∷◌, ◌++◌, length, take, drop, get_or, Option, Some, None, Result, Ok, Err, refl, sym, ap, subst, ◌∙◌, cond, add-one, append_assoc, append-nil, length-append, ℤ, arith}
+use Rattle.std.proofs.Common.{◌≡◌, ◌⊎◌, inl, inr, ℕ, suc, zero, ◌+◌, ◌<◌, ◌≤◌, Bool, true, false, List, [], ◌∷◌, ◌++◌, length, take, drop, get_or, Option, Some, None, Result, Ok, Err, refl, sym, ap, subst, ◌∙◌, cond, add-one, append_assoc, append-nil, length-append, arith}
 use Rattle.std.specs.Prelude.{codes}
 use Rattle.photo_record.specs.Reading.{rating_of_text, day_of_text, word_of_text}
 use Rattle.std.proofs.lemmas.Bool.{false≢true}
@@ -7,13 +7,14 @@ use Rattle.photo_filter_text.specs.declared.tree.Cmp.{Cmp}
 use Rattle.photo_filter_text.specs.declared.tree.Cmp.TheVariants.{AtLeast}
 use Rattle.photo_filter_text.specs.declared.reader.Refusal.{Refusal}
 use Rattle.photo_filter_text.specs.declared.reader.Refusal.TheVariants.{Unexpected, BadWord}
+use Rattle.photo_filter_text.specs.declared.reader.Field.{Field}
 use Rattle.photo_filter_text.specs.declared.reader.Field.TheVariants.{RatingField, DayField}
 use Rattle.photo_filter_text.specs.declared.symbol.Symbol.{Symbol}
 use Rattle.photo_filter_text.specs.declared.symbol.Symbol.TheVariants.{Open, Close, OrWord, AndWord, NotWord, AllWord, NoneWord, RatingWord, DayWord, KeywordWord, Other}
 use Rattle.photo_filter_text.specs.Tree.{Tree, All, Rate, On, Keyword, Either}
 use Rattle.photo_filter_text.specs.Tokens.{Token}
 use Rattle.photo_filter_text.specs.Grammar.{all, rating, day, keyword, IsFactor, brackets, test, factor, term, cmp_of, is_bracket}
-use Rattle.photo_filter_text.specs.Fault.{Begins, StopsAt, WantsWord, IsWordAt}
+use Rattle.photo_filter_text.specs.Fronts.{Begins, StopsAt, WantsWord, IsWordAt}
 use Rattle.photo_filter_text.specs.Steps.{Place, AtFactor, AtOperator, AtValue, AtWord, After, Level, State, state_with, start, joined, at_factor, after_term, closed, test_of, at_operator, at_word, step_at, step, symbol_of, go_on, run}
 use Rattle.photo_record.specs.declared.fault.WordFault.{WordFault}
 use Rattle.photo_filter_text.proofs.Samples.{some-date, some-word}
@@ -151,61 +152,66 @@ stops-at ts n x rest s f e h r = record {
 }
 
 -- which refusal comes where
-factor-not-bad : (l : Level) (outer : List Level) (s : Symbol) → at_factor l outer s ≡ Err BadWord → ⊥
+factor-refuses : (l : Level) (outer : List Level) (s : Symbol) (f : Refusal) → at_factor l outer s ≡ Err f → f ≡ Unexpected
 unfolding at_factor
-factor-not-bad l outer Open h = cc
-factor-not-bad l outer NotWord h = cc
-factor-not-bad l outer AllWord h = cc
-factor-not-bad l outer NoneWord h = cc
-factor-not-bad l outer RatingWord h = cc
-factor-not-bad l outer DayWord h = cc
-factor-not-bad l outer KeywordWord h = cc
-factor-not-bad l outer Close h = cc
-factor-not-bad l outer OrWord h = cc
-factor-not-bad l outer AndWord h = cc
-factor-not-bad l outer Other h = cc
+factor-refuses l outer Open f h = cc
+factor-refuses l outer NotWord f h = cc
+factor-refuses l outer AllWord f h = cc
+factor-refuses l outer NoneWord f h = cc
+factor-refuses l outer RatingWord f h = cc
+factor-refuses l outer DayWord f h = cc
+factor-refuses l outer KeywordWord f h = cc
+factor-refuses l outer Close f h = cc
+factor-refuses l outer OrWord f h = cc
+factor-refuses l outer AndWord f h = cc
+factor-refuses l outer Other f h = cc
 
-closed-not-bad : (u : Tree) (ls : List Level) → closed u ls ≡ Err BadWord → ⊥
-closed-not-bad u [] h = cc
-closed-not-bad u (m ∷ ls) h = cc
+closed-refuses : (u : Tree) (ls : List Level) (f : Refusal) → closed u ls ≡ Err f → f ≡ Unexpected
+closed-refuses u [] f h = cc
+closed-refuses u (m ∷ ls) f h = cc
 
-term-not-bad : (l : Level) (outer : List Level) (t : Tree) (s : Symbol) → after_term l outer t s ≡ Err BadWord → ⊥
+term-refuses : (l : Level) (outer : List Level) (t : Tree) (s : Symbol) (f : Refusal) → after_term l outer t s ≡ Err f → f ≡ Unexpected
 unfolding after_term
-term-not-bad l outer t AndWord h = cc
-term-not-bad l outer t OrWord h = cc
-term-not-bad l outer t Open h = cc
-term-not-bad l outer t NotWord h = cc
-term-not-bad l outer t AllWord h = cc
-term-not-bad l outer t NoneWord h = cc
-term-not-bad l outer t RatingWord h = cc
-term-not-bad l outer t DayWord h = cc
-term-not-bad l outer t KeywordWord h = cc
-term-not-bad l outer t Other h = cc
-term-not-bad l outer t Close h = closed-not-bad (joined Either l.either t) outer h
+term-refuses l outer t AndWord f h = cc
+term-refuses l outer t OrWord f h = cc
+term-refuses l outer t Open f h = cc
+term-refuses l outer t NotWord f h = cc
+term-refuses l outer t AllWord f h = cc
+term-refuses l outer t NoneWord f h = cc
+term-refuses l outer t RatingWord f h = cc
+term-refuses l outer t DayWord f h = cc
+term-refuses l outer t KeywordWord f h = cc
+term-refuses l outer t Other f h = cc
+term-refuses l outer t Close f h = closed-refuses (joined Either l.either t) outer f h
+
+operator-refuses : (l : Level) (outer : List Level) (field : Field) (c : Option Cmp) (f : Refusal) → at_operator l outer field c ≡ Err f → f ≡ Unexpected
+operator-refuses l outer field None f h = cc
+operator-refuses l outer field (Some c) f h = cc
+
+test-refuses : {A : Type 0} → (l : Level) (outer : List Level) (g : A → Tree) (r : Option A) (f : Refusal) → test_of l outer g r ≡ Err f → f ≡ Unexpected
+test-refuses l outer g None f h = cc
+test-refuses l outer g (Some x) f h = cc
+
+-- what is refused is unexpected, or a bad word in the place of one
+pub refused-as : (p : Place) (l : Level) (outer : List Level) (x : Token) (f : Refusal) → step_at p l outer x ≡ Err f → (f ≡ Unexpected) ⊎ ((f ≡ BadWord) × (p ≡ AtWord) × (is_bracket x ≡ false))
+refused-as AtFactor l outer x f e = inl (factor-refuses l outer (symbol_of x) f e)
+refused-as (AtOperator field) l outer x f e = inl (operator-refuses l outer field (cmp_of x) f e)
+refused-as (AtValue RatingField cmp) l outer x f e = inl (test-refuses l outer (Rate cmp) (rating_of_text x) f e)
+refused-as (AtValue DayField cmp) l outer x f e = inl (test-refuses l outer (On cmp) (day_of_text x) f e)
+refused-as AtWord l outer x f e = go (is_bracket x) (word_of_text x) e
+  where
+    go : (b : Bool) (r : Result (List ℕ) WordFault) → cond b (Err Unexpected) (at_word l outer r) ≡ Err f → (f ≡ Unexpected) ⊎ ((f ≡ BadWord) × (AtWord ≡ AtWord) × (b ≡ false))
+    go true r h = let unexpected : f ≡ Unexpected = cc in inl unexpected
+    go false (Ok w) h = let never : ⊥ = cc in absurd never
+    go false (Err w) h = let bad : f ≡ BadWord = cc in inr (bad, refl, refl)
+refused-as (After t) l outer x f e = inl (term-refuses l outer t (symbol_of x) f e)
 
 bad-word-place : (p : Place) (l : Level) (outer : List Level) (x : Token) → step_at p l outer x ≡ Err BadWord → (p ≡ AtWord) × (is_bracket x ≡ false)
-bad-word-place AtFactor l outer x e = absurd (factor-not-bad l outer (symbol_of x) e)
-bad-word-place (AtOperator field) l outer x e = absurd (go (cmp_of x) e)
-  where
-    go : (c : Option Cmp) → at_operator l outer field c ≡ Err BadWord → ⊥
-    go None h = cc
-    go (Some c) h = cc
-bad-word-place (AtValue RatingField cmp) l outer x e = absurd (go (rating_of_text x) e)
-  where
-    go : (c : Option ℕ) → test_of l outer (Rate cmp) c ≡ Err BadWord → ⊥
-    go None h = cc
-    go (Some c) h = cc
-bad-word-place (AtValue DayField cmp) l outer x e = absurd (go (day_of_text x) e)
-  where
-    go : (c : Option ℤ) → test_of l outer (On cmp) c ≡ Err BadWord → ⊥
-    go None h = cc
-    go (Some c) h = cc
-bad-word-place AtWord l outer x e = (refl, go (is_bracket x) e)
-  where
-    go : (b : Bool) → cond b (Err Unexpected) (at_word l outer (word_of_text x)) ≡ Err BadWord → b ≡ false
-    go true h = cc
-    go false h = refl
-bad-word-place (After t) l outer x e = absurd (term-not-bad l outer t (symbol_of x) e)
+bad-word-place p l outer x e =
+    elim (refused-as p l outer x BadWord e) [
+      | inl unexpected ↦ let never : ⊥ = cc in absurd never
+      | inr bad ↦ (bad.1, bad.2)
+    ]
 
 unexpected-place : (p : Place) (l : Level) (outer : List Level) (x : Token) → step_at p l outer x ≡ Err Unexpected → p ≡ AtWord → is_bracket x ≡ true
 unexpected-place AtWord l outer x e q = go (is_bracket x) (word_of_text x) e

@@ -14,3 +14,4 @@ pub mod Worked
 pub mod OneFault
 pub mod Decided
 pub mod WantedAt
+pub mod Judged

@@ -11,8 +11,8 @@ use Rattle.photo_filter_text.specs.declared.symbol.Symbol.TheVariants.{Open, Clo
 use Rattle.photo_filter_text.specs.Tree.{Tree, All, Nothing, Rate, On, Either}
 use Rattle.photo_filter_text.specs.Tokens.{Token}
 use Rattle.photo_filter_text.specs.Grammar.{all, none, rating, day, IsFactor, brackets, test, IsExpr, cmp_of, is_bracket}
-use Rattle.photo_filter_text.specs.Fault.{IsKept, MayWantMemory, at_token, at_word, at_end}
-use Rattle.photo_filter_text.specs.Fault as kept
+use Rattle.photo_filter_text.specs.Memory.{IsKept, MayWantMemory, at_token, at_word, at_end}
+use Rattle.photo_filter_text.specs.Memory as kept
 use Rattle.photo_filter_text.specs.Steps.{Place, AtFactor, AtOperator, AtValue, AtWord, After, Level, State, start, joined, at_factor, after_term, closed, test_of, step_at, step, finished, symbol_of, run, keeps_factor, keeps_at_factor, keeps_closed, keeps_after_term, keeps_at, keeps, keeps_finished, keeps_at_end}
 use Rattle.photo_filter_text.proofs.Sound.{IsSpelled, symbol_spelled, AndAt, nots, nots-factor, LevelAt, TermAt, OpenAt, PlaceAt, expr-from_term, push-two, push-three, regroup, state-at, read-expr}
 use Rattle.photo_filter_text.proofs.Faults.{run-begins, word-wanted, run-next, NextIs, next-is}

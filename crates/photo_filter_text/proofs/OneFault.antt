@@ -7,7 +7,9 @@ use Rattle.photo_filter_text.specs.declared.fault.FilterFault.TheVariants.{Empty
 use Rattle.photo_filter_text.specs.Tree.{Tree}
 use Rattle.photo_filter_text.specs.Tokens.{Token}
 use Rattle.photo_filter_text.specs.Grammar.{IsExpr}
-use Rattle.photo_filter_text.specs.Fault.{IsFault, IsRoomy, IsWordAt, Begins, StopsAt, max_tokens}
+use Rattle.photo_filter_text.specs.Limits.{max_tokens}
+use Rattle.photo_filter_text.specs.Fronts.{IsWordAt, Begins, StopsAt}
+use Rattle.photo_filter_text.specs.Fault.{IsFault, IsRoomy}
 use Rattle.photo_filter_text.proofs.Sound.{begins-front}
 
 -- a front of what begins a filter begins one

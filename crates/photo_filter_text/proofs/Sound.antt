@@ -13,7 +13,7 @@ use Rattle.photo_filter_text.specs.declared.symbol.Symbol.TheVariants.{Open, Clo
 use Rattle.photo_filter_text.specs.Tree.{Tree, All, Nothing, Rate, On, Keyword, Both, Either}
 use Rattle.photo_filter_text.specs.Tokens.{Token}
 use Rattle.photo_filter_text.specs.Grammar.{all, none, rating, day, keyword, IsFactor, negation, brackets, test, IsTerm, factor, conjunction, IsExpr, term, disjunction, cmp_of, is_bracket}
-use Rattle.photo_filter_text.specs.Fault.{Begins}
+use Rattle.photo_filter_text.specs.Fronts.{Begins}
 use Rattle.photo_filter_text.specs.Steps.{Place, AtFactor, AtOperator, AtValue, AtWord, After, Level, State, level_with, fresh, start, joined, negated, after_factor, at_factor, after_term, closed, test_of, at_operator, at_word, step_at, step, finished, finish, symbol_of, go_on, run}
 
 -- the token of a symbol

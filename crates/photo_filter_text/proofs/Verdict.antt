@@ -7,7 +7,8 @@ use Rattle.photo_filter_text.specs.declared.tree.FilterTree.{FilterTree}
 use Rattle.photo_filter_text.specs.Tree.{Tree, tree_of, height}
 use Rattle.photo_filter_text.specs.Tokens.{Token}
 use Rattle.photo_filter_text.specs.Grammar.{IsExpr}
-use Rattle.photo_filter_text.specs.Fault.{IsFilter, IsFault, Begins}
+use Rattle.photo_filter_text.specs.Fronts.{Begins}
+use Rattle.photo_filter_text.specs.Fault.{IsFilter, IsFault}
 use Rattle.photo_filter_text.specs.Steps.{start, run}
 use Rattle.photo_filter_text.proofs.Complete.{expr-read, tree_read, one-tree}
 

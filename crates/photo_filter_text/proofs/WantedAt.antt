@@ -6,8 +6,9 @@ use Rattle.std.proofs.lemmas.Bool.{false≢true, or_left, or_right}
 use Rattle.std.proofs.lemmas.List.{take_all}
 use Rattle.std.proofs.lemmas.List.Folds.{list_any_kept}
 use Rattle.photo_filter_text.specs.Tokens.{Token}
-use Rattle.photo_filter_text.specs.Fault.{Begins, IsWordAt, IsKept, MayWantMemory, at_token, at_word, at_end, is_keeper}
-use Rattle.photo_filter_text.specs.Fault as kept
+use Rattle.photo_filter_text.specs.Fronts.{Begins}
+use Rattle.photo_filter_text.specs.Memory.{IsKept, MayWantMemory, at_token, at_word, at_end, is_keeper}
+use Rattle.photo_filter_text.specs.Memory as kept
 use Rattle.photo_filter_text.proofs.Faults.{word-begins}
 use Rattle.photo_filter_text.proofs.OneFault.{begins-take, tree-begins}
 

@@ -1,10 +1,18 @@
 -- The definitions at some texts.
-use Rattle.std.specs.Prelude.{◌≡◌, [], ◌∷◌, pos, codes}
+use Rattle.std.specs.Prelude.{◌≡◌, ℕ, zero, suc, List, [], ◌∷◌, ◌++◌, pos, codes}
 use Rattle.photo_filter_text.specs.declared.tree.Cmp.TheVariants.{AtLeast, AtMost, Equal}
-use Rattle.photo_filter_text.specs.Tree.{All, Nothing, Rate, On, Keyword, Not, Both, Either, height}
+use Rattle.photo_filter_text.specs.declared.fault.FilterFault.{FilterFault}
+use Rattle.photo_filter_text.specs.declared.fault.FilterFault.TheVariants as faults
+use Rattle.photo_filter_text.specs.Tree.{Tree, All, Nothing, Rate, On, Keyword, Not, Both, Either, height}
 use Rattle.photo_filter_text.specs.Tokens.{tokens_of}
 use Rattle.photo_filter_text.specs.Grammar.{IsExpr}
+use Rattle.photo_filter_text.specs.Fault.{IsFilter, IsFault}
 use Rattle.photo_filter_text.specs.Printed.{text_of}
+
+-- a text several times
+abbrev pub repeated : ℕ → List ℕ → List ℕ
+repeated zero text = []
+repeated (suc more) text = text ++ repeated more text
 
 pub record TheTokens : Type 0 where
   pub brackets : tokens_of (codes "not (rating = 0 or all)") ≡ codes "not" ∷ codes "(" ∷ codes "rating" ∷ codes "=" ∷ codes "0" ∷ codes "or" ∷ codes "all" ∷ codes ")" ∷ []
@@ -28,3 +36,33 @@ pub record TheTexts : Type 0 where
   pub negation : text_of (Not (Rate AtMost 3)) ≡ codes "not rating <= 3"
   pub keyword : text_of (Keyword (codes "sun")) ≡ codes "keyword sun"
   pub low : height (Not (Both All (Not All))) ≡ 4
+
+-- the text is refused with this fault
+pub record HasFault (text : List ℕ) (fault : FilterFault) : Type 0 where
+  pub is : IsFault (tokens_of text) fault
+
+-- the first fault of each of these texts
+pub record TheFaults : Type 0 where
+  pub nothing : HasFault [] faults.Empty
+  pub spaces : HasFault (codes "   ") faults.Empty
+  pub first : HasFault (codes "ALL") (faults.Unexpected 1)
+  pub second : HasFault (codes "all all") (faults.Unexpected 2)
+  pub no_space : HasFault (codes "rating >=4") (faults.Unexpected 2)
+  pub bracket_for_word : HasFault (codes "keyword (") (faults.Unexpected 2)
+  pub no_rating : HasFault (codes "rating >= 6") (faults.Unexpected 3)
+  pub no_date : HasFault (codes "day = 2023-02-29") (faults.Unexpected 3)
+  pub comma : HasFault (codes "keyword a,b") faults.BadWord
+  pub not_closed : HasFault (codes "( all") faults.EndsEarly
+  pub no_word : HasFault (codes "keyword") faults.EndsEarly
+  pub deep : HasFault (repeated 32 (codes "not ") ++ codes "all") faults.TooDeep
+  pub long : HasFault (repeated 128 (codes "(") ++ (codes "all" ++ repeated 128 (codes ")"))) faults.TooManyTokens
+
+-- a tree under so many `not`
+abbrev pub under_nots : ℕ → Tree → Tree
+under_nots zero tree = tree
+under_nots (suc more) tree = Not (under_nots more tree)
+
+-- texts just within the limits: a tree of the height 32, and 256 tokens
+pub record TheFilters : Type 0 where
+  pub low : IsFilter (tokens_of (repeated 31 (codes "not ") ++ codes "all")) (under_nots 31 All)
+  pub short : IsFilter (tokens_of (repeated 127 (codes "(") ++ (codes "not all" ++ repeated 127 (codes ")")))) (Not All)

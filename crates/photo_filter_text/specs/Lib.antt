@@ -1,6 +1,9 @@
+pub mod Limits
 pub mod Tree
 pub mod Tokens
 pub mod Grammar
+pub mod Fronts
+pub mod Memory
 pub mod Fault
 pub mod Steps
 pub mod Cuts

@@ -1,4 +1,5 @@
--- The reader's steps, a token at a time: what each token makes of what has been read before it.
+-- No definition of the language, but the machinery of its proofs: the reader's steps, a token at a time. Only private
+-- contracts cite them, and `Grammar`, `Fronts` and `Fault` say what a filter is and what its fault is.
 use Rattle.std.specs.Prelude.{ℕ, suc, zero, ◌+◌, Bool, true, false, not, ◌||◌, ◌&&◌, nat_lt, if◌then◌else◌, List, [], ◌∷◌, map, reverse, Option, Some, None, is_some, option_map, Result, Ok, Err, codes}
 use Rattle.std.specs.Str.{bytes_eq}
 use Rattle.photo_record.specs.Reading.{rating_of_text, day_of_text, word_of_text}

@@ -1,4 +1,4 @@
--- The tokens of a text: cut at spaces, with each parenthesis a token of its own.
+-- The tokens of a text: cut at spaces, with each bracket a token of its own.
 use Rattle.std.specs.Prelude.{ℕ, Bool, true, false, ◌||◌, ◌==◌, if◌then◌else◌, List, [], ◌∷◌, filter}
 use Rattle.std.specs.List.{slice_split, flat_map}
 
@@ -9,12 +9,12 @@ Token = List ℕ
 abbrev pub is_space : ℕ → Bool
 is_space b = b == 32
 
-abbrev pub is_parenthesis : ℕ → Bool
-is_parenthesis b = (b == 40) || (b == 41)
+abbrev pub is_bracket_byte : ℕ → Bool
+is_bracket_byte b = (b == 40) || (b == 41)
 
--- a parenthesis gets a space on either side
+-- a bracket gets a space on either side
 abbrev pub with_room : ℕ → List ℕ
-with_room b = if is_parenthesis b then 32 ∷ b ∷ 32 ∷ [] else b ∷ []
+with_room b = if is_bracket_byte b then 32 ∷ b ∷ 32 ∷ [] else b ∷ []
 
 abbrev pub is_filled : Token → Bool
 is_filled [] = false

@@ -18,7 +18,7 @@ pub enum FilterFault {
     /// There are over 256 tokens.
     #[error("TooManyTokens")]
     TooManyTokens,
-    /// A token that stands in the place of a word, and is no parenthesis, is no word.
+    /// A token that stands in the place of a word, and is no bracket, is no word.
     #[error("BadWord")]
     BadWord,
     /// Memory was refused.

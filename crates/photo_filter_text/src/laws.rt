@@ -1,13 +1,16 @@
 //! Laws of the filter language. Each function's contract is a law, and its body does nothing.
 
-ghost use Rattle.std.specs.Prelude.{◌≡◌, ◌≢◌, ℕ, ◌+◌, ◌≤◌, true, List, length, take};
+ghost use Rattle.std.specs.Prelude.{◌≡◌, ◌≢◌, ◌⊎◌, ℕ, ◌+◌, ◌≤◌, true, List, length, take};
 ghost use Rattle.std.specs.List.{list_any};
 ghost use Rattle.photo_filter_text.specs.Tree.{Tree, height};
 ghost use Rattle.photo_filter_text.specs.Tokens.{Token, tokens_of};
 ghost use Rattle.photo_filter_text.specs.Grammar.{IsExpr};
-ghost use Rattle.photo_filter_text.specs.Fault.{IsFilter, IsFault, Begins, MayWantMemory, is_keeper, max_tokens, max_height};
+ghost use Rattle.photo_filter_text.specs.Limits.{max_tokens, max_height};
+ghost use Rattle.photo_filter_text.specs.Fronts.{Begins};
+ghost use Rattle.photo_filter_text.specs.Memory.{MayWantMemory, is_keeper};
+ghost use Rattle.photo_filter_text.specs.Fault.{IsFilter, IsFault};
 ghost use Rattle.photo_filter_text.specs.Printed.{text_of, IsSound};
-ghost use Rattle.photo_filter_text.specs.Examples.{TheTokens, TheTrees, TheTexts};
+ghost use Rattle.photo_filter_text.specs.Examples.{TheTokens, TheTrees, TheTexts, TheFaults, TheFilters};
 ghost use Rattle.photo_filter_text.specs.declared.fault.FilterFault.{FilterFault};
 ghost use Rattle.photo_filter_text.specs.declared.fault.FilterFault.TheVariants.{NoMemory};
 
@@ -22,6 +25,11 @@ pub fn one_fault()
     ensures one { (tokens : List Token) (fault other : FilterFault) → fault ≢ NoMemory → other ≢ NoMemory → IsFault tokens fault → IsFault tokens other → fault ≡ other }
 {}
 
+/// Tokens are a filter within the limits, or they have a fault that is no want of memory.
+pub fn filter_or_fault()
+    ensures { (tokens : List Token) → ((tree : Tree) × IsFilter tokens tree) ⊎ ((fault : FilterFault) × (fault ≢ NoMemory) × IsFault tokens fault) }
+{}
+
 /// Want of memory stands in place of no earlier fault, and only where reading keeps something: a filter begins with the
 /// tokens before some place, and up to and with that place stands `(`, `not`, `and`, `or` or `keyword`.
 pub fn memory_wanted()
@@ -33,9 +41,11 @@ pub fn printed_again()
     ensures { (tree : Tree) → IsSound tree → length (tokens_of (text_of tree)) ≤ max_tokens → height tree ≤ max_height → IsFilter (tokens_of (text_of tree)) tree }
 {}
 
-/// The definitions at some texts.
+/// The definitions at some texts: their tokens, trees, printed forms and faults, and filters just within the limits.
 pub fn examples()
     ensures tokens { TheTokens }
     ensures trees { TheTrees }
     ensures texts { TheTexts }
+    ensures faults { TheFaults }
+    ensures filters { TheFilters }
 {}

@@ -32,12 +32,12 @@ fn push_tree(text: &mut String, tree: &FilterTree) -> Result<(), AllocError>
         FilterTree::Nothing => text.push_str("none"),
         FilterTree::Rate(cmp, rating) => {
             text.push_str("rating ")?;
-            text.push_str(symbol_of(*cmp))?;
+            text.push_str(cmp_text(*cmp))?;
             push_rating(text, *rating)
         }
         FilterTree::On(cmp, day) => {
             text.push_str("day ")?;
-            text.push_str(symbol_of(*cmp))?;
+            text.push_str(cmp_text(*cmp))?;
             text.push_str(" ")?;
             push_date(text, *day)
         }
@@ -66,7 +66,7 @@ fn push_tree(text: &mut String, tree: &FilterTree) -> Result<(), AllocError>
     }
 }
 
-fn symbol_of(cmp: Cmp) -> &'static str
+fn cmp_text(cmp: Cmp) -> &'static str
     ensures { result.now ≡ cmp_text cmp }
 {
     match cmp {

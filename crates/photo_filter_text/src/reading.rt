@@ -16,7 +16,7 @@ const MAX_HEIGHT: u32 = 32;
 
 /// Reads a filter.
 ///
-/// The text is cut into tokens at its spaces, each parenthesis being a token of its own. `Ok` has the tree that the
+/// The text is cut into tokens at its spaces, each bracket being a token of its own. `Ok` has the tree that the
 /// grammar gives the tokens. Otherwise the fault is the first that holds of them, in this order: `Empty`;
 /// `TooManyTokens`; `Unexpected` or `BadWord` at the first token up to which they begin no filter; `EndsEarly`;
 /// `TooDeep`. `NoMemory` comes only where the first two don't hold and reading asks for memory: at a token that opens a
@@ -37,7 +37,7 @@ pub fn read(alloc: Global, text: &str) -> Result<FilterTree, FilterFault>
         return Err(FilterFault::TooManyTokens);
     }
     let tree = read_tree(alloc, text)?;
-    if !tree.is_within(MAX_HEIGHT) {
+    if !tree.height_is_at_most(MAX_HEIGHT) {
         return Err(FilterFault::TooDeep);
     }
     Ok(tree)

@@ -12,13 +12,30 @@ fn read_again(alloc: Global, text: &str) -> Result<String, AllocError> {
     }
 }
 
-fn repeated(alloc: Global, piece: &str, times: usize, rest: &str) -> Result<String, AllocError> {
+// A text with one of its pieces several times.
+fn repeated(
+    alloc: Global,
+    front: &str,
+    piece: &str,
+    times: usize,
+    rest: &str,
+) -> Result<String, AllocError> {
     let mut text = String::new(alloc);
+    text.push_str(front)?;
     for _ in 0..times {
         text.push_str(piece)?;
     }
     text.push_str(rest)?;
     Ok(text)
+}
+
+// A text in so many brackets.
+fn bracketed(alloc: Global, times: usize, text: &str) -> Result<String, AllocError> {
+    let mut bracketed = repeated(alloc, "", "(", times, text)?;
+    for _ in 0..times {
+        bracketed.push(')')?;
+    }
+    Ok(bracketed)
 }
 
 #[test]
@@ -40,6 +57,17 @@ fn texts_are_read_and_printed(rt: HostRuntime) -> Result<(), Fail> {
         ("day <= 9999-12-31", "day <= 9999-12-31"),
         ("keyword e\u{301}", "keyword \u{e9}"),
         ("keyword \u{e9}", "keyword \u{e9}"),
+    ] {
+        let got = read_again(alloc, text)?;
+        assert!(rt; got.as_str() == want, "{text}: {got}");
+    }
+    Ok(())
+}
+
+#[test]
+fn texts_are_refused(rt: HostRuntime) -> Result<(), Fail> {
+    let alloc = rt.alloc();
+    for (text, want) in [
         ("", "Empty"),
         ("   ", "Empty"),
         ("all all", "Unexpected(2)"),
@@ -96,52 +124,107 @@ fn each_front_ends_early_or_is_a_filter(rt: HostRuntime) -> Result<(), Fail> {
 #[test]
 fn limits_are_kept(rt: HostRuntime) -> Result<(), Fail> {
     let alloc = rt.alloc();
-    let deep = repeated(alloc, "not ", 31, "all")?;
-    assert!(rt; read_again(alloc, &deep)? == deep);
-    let deeper = repeated(alloc, "not ", 32, "all")?;
-    assert!(rt; read_again(alloc, &deeper)?.as_str() == "TooDeep");
-    let closed = repeated(alloc, ")", 127, "")?;
-    let full = repeated(alloc, "(", 127, "not all")?;
-    let full = format!(in alloc; "{full}{closed}")?;
-    assert!(rt; read_again(alloc, &full)?.as_str() == "not all");
-    let over = format!(in alloc; "({full})")?;
-    assert!(rt; read_again(alloc, &over)?.as_str() == "TooManyTokens");
-    let most = repeated(alloc, "( ", 256, "")?;
-    assert!(rt; read_again(alloc, &most)?.as_str() == "EndsEarly");
-    let wrong = repeated(alloc, "( ", 255, "or")?;
-    assert!(rt; read_again(alloc, &wrong)?.as_str() == "Unexpected(256)");
-    let more = repeated(alloc, ") ", 257, "")?;
-    assert!(rt; read_again(alloc, &more)?.as_str() == "TooManyTokens");
+
+    // `None` where the text is printed as it was read.
+    for (front, piece, times, rest, fault) in [
+        ("", "not ", 31, "all", None),
+        ("", "not ", 32, "all", Some("TooDeep")),
+        ("", "( ", 256, "", Some("EndsEarly")),
+        ("", "( ", 255, "or", Some("Unexpected(256)")),
+        ("", ") ", 257, "", Some("TooManyTokens")),
+        ("keyword ", "x", 64, "", None),
+        ("keyword ", "x", 65, "", Some("BadWord")),
+    ] {
+        let text = repeated(alloc, front, piece, times, rest)?;
+        let got = read_again(alloc, &text)?;
+        assert!(rt; got.as_str() == fault.unwrap_or(&text), "{text}: {got}");
+    }
     Ok(())
 }
 
 #[test]
-fn trees_made_by_hand_are_printed_and_copied(rt: HostRuntime) -> Result<(), Fail> {
+fn brackets_are_tokens(rt: HostRuntime) -> Result<(), Fail> {
     let alloc = rt.alloc();
-    let day = Day::read("0007-01-31").expect(&rt, "a date");
-    let rating = Rating::new(5).expect(&rt, "a rating");
-    let tests = FilterTree::Both(
-        Box::new(alloc, FilterTree::On(Cmp::AtMost, day))?,
-        Box::new(alloc, FilterTree::Rate(Cmp::Equal, rating))?,
-    );
-    let word = FilterTree::Keyword(Word::read(alloc, "sun")?);
-    let tree = FilterTree::Not(Box::new(
-        alloc,
-        FilterTree::Either(Box::new(alloc, tests)?, Box::new(alloc, word)?),
-    )?);
-    let text = print(alloc, &tree)?;
-    assert!(rt;
-        text.as_str() == "not ( ( day <= 0007-01-31 and rating = 5 ) or keyword sun )",
-        "{text}"
-    );
+    for (times, inside, want) in [
+        (127, "not all", "not all"),
+        (128, "all", "TooManyTokens"),
+        (128, "not all", "TooManyTokens"),
+    ] {
+        let text = bracketed(alloc, times, inside)?;
+        let got = read_again(alloc, &text)?;
+        assert!(rt; got.as_str() == want, "{times}: {got}");
+    }
+    Ok(())
+}
+
+// Each constructor and each comparison.
+#[test]
+fn trees_are_copied_and_printed(rt: HostRuntime) -> Result<(), Fail> {
+    let alloc = rt.alloc();
+    for text in [
+        "( ( all or none ) and not keyword sun )",
+        "( ( rating >= 1 or rating <= 4 ) or rating = 0 )",
+        "( ( day >= 0007-01-31 and day <= 9999-12-31 ) and day = 2024-02-29 )",
+    ] {
+        let tree = read(alloc, text)?;
+        let copy = tree.try_clone()?;
+        let printed = print(alloc, &copy)?;
+        assert!(rt; printed.as_str() == text, "{text}: {printed}");
+        assert!(rt; copy == tree, "{text}");
+    }
+    Ok(())
+}
+
+fn until(date: &str) -> Result<FilterTree, Fail> {
+    Ok(FilterTree::On(Cmp::AtMost, Day::read(date).ok_or("no date")?))
+}
+
+fn rated(rating: u8) -> Result<FilterTree, Fail> {
+    Ok(FilterTree::Rate(Cmp::Equal, Rating::new(rating).ok_or("no rating")?))
+}
+
+fn with_keyword(alloc: Global, word: &str) -> Result<FilterTree, Fail> {
+    Ok(FilterTree::Keyword(Word::read(alloc, word)?))
+}
+
+fn both(alloc: Global, left: FilterTree, right: FilterTree) -> Result<FilterTree, Fail> {
+    Ok(FilterTree::Both(Box::new(alloc, left)?, Box::new(alloc, right)?))
+}
+
+fn neither(alloc: Global, left: FilterTree, right: FilterTree) -> Result<FilterTree, Fail> {
+    let either = FilterTree::Either(Box::new(alloc, left)?, Box::new(alloc, right)?);
+    Ok(FilterTree::Not(Box::new(alloc, either)?))
+}
+
+// not (day <= 0007-01-31 and rating = 5 or keyword sun)
+fn made_by_hand(alloc: Global) -> Result<FilterTree, Fail> {
+    let tests = both(alloc, until("0007-01-31")?, rated(5)?)?;
+    neither(alloc, tests, with_keyword(alloc, "sun")?)
+}
+
+#[test]
+fn a_tree_made_by_hand_is_printed_and_copied(rt: HostRuntime) -> Result<(), Fail> {
+    let alloc = rt.alloc();
+    let tree = made_by_hand(alloc)?;
     let copy = tree.try_clone()?;
-    assert!(rt; print(alloc, &copy)? == text);
     assert!(rt; copy == tree);
     assert!(rt; copy != FilterTree::Nothing);
+    for printed in [&tree, &copy] {
+        let text = print(alloc, printed)?;
+        assert!(rt;
+            text.as_str() == "not ( ( day <= 0007-01-31 and rating = 5 ) or keyword sun )",
+            "{text}"
+        );
+    }
+    Ok(())
+}
+
+#[test]
+fn laws_can_be_called(_rt: HostRuntime) {
     laws::one_tree();
     laws::one_fault();
+    laws::filter_or_fault();
     laws::memory_wanted();
     laws::printed_again();
     laws::examples();
-    Ok(())
 }

@@ -1,7 +1,7 @@
 ghost use Rattle.std.specs.Prelude.{◌≡◌, ◌+◌, ◌<◌, ◌≤◌, true, [], ◌∷◌, length, MatchOption, IfSome, min, max};
 ghost use Rattle.std.specs.List.{position_or_len, position};
 ghost use Rattle.photo_filter_text.specs.Tokens.{tokens_of};
-ghost use Rattle.photo_filter_text.specs.Fault.{max_tokens};
+ghost use Rattle.photo_filter_text.specs.Limits.{max_tokens};
 ghost use Rattle.photo_filter_text.specs.Cuts.{ends_token, starts_token};
 
 /// The most tokens of a filter.
@@ -31,7 +31,7 @@ fn without_spaces(text: &str) -> &str
     rest
 }
 
-// How many bytes the token has that the text begins with: one parenthesis, or all up to a space or a parenthesis.
+// How many bytes the token has that the text begins with: one bracket, or all up to a space or a bracket.
 fn token_len(text: &str) -> usize
     ensures { result ≡ max 1 (position_or_len ends_token text.now) }
 {

@@ -68,16 +68,16 @@ impl FilterTree {
     }
 
     /// Whether the height is at most the limit.
-    pub(crate) fn is_within(&self, limit: u32) -> bool
+    pub(crate) fn height_is_at_most(&self, limit: u32) -> bool
         ensures { IsTrue result ↔ (height (tree_of self.now) ≤ limit) }
     {
         if limit == 0 {
             return false;
         }
         match self {
-            FilterTree::Not(part) => part.is_within(limit - 1),
+            FilterTree::Not(part) => part.height_is_at_most(limit - 1),
             FilterTree::Both(left, right) | FilterTree::Either(left, right) => {
-                left.is_within(limit - 1) && right.is_within(limit - 1)
+                left.height_is_at_most(limit - 1) && right.height_is_at_most(limit - 1)
             }
             _ => true,
         }

@@ -13,8 +13,8 @@ returns-then-count-eq0-clause-accepted c =
 pub returns-in_err-tree-clause-accepted : goal.returns-in_err-tree-clause-accepted
 returns-in_err-tree-clause-accepted c = accepted (tokens_of c.args.text.now) _ (search rules) (search rules)
 
-pub returns-then-not-is_within-clause-accepted : goal.returns-then-not-is_within-clause-accepted
-returns-then-not-is_within-clause-accepted c = λ tree f. no-fault (tokens_of c.args.text.now) tree _ f (search rules)
+pub returns-then-not-height_is_at_most-clause-accepted : goal.returns-then-not-height_is_at_most-clause-accepted
+returns-then-not-height_is_at_most-clause-accepted c = λ tree f. no-fault (tokens_of c.args.text.now) tree _ f (search rules)
 
 pub returns-clause-accepted : goal.returns-clause-accepted
 returns-clause-accepted c = λ tree f. one-tree (tokens_of c.args.text.now) (tree_of c.in_ok-tree.tree) tree c.in_ok-tree.ensures.tree f.grammar
