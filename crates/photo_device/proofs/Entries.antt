@@ -1,6 +1,5 @@
 -- Entries of held versions.
 use Rattle.std.proofs.Common.{◌≡◌, ℕ, true, false, cond, List, [], ◌∷◌, refl, ap, ◌∙◌}
-use Rattle.std.specs.Prelude.{filter}
 use Rattle.photo_device.specs.declared.held.Held.{Held}
 use Rattle.photo_device.specs.Ordered.{put}
 use Rattle.photo_device.specs.Entry.{is_of_other, others, put_entry}

@@ -2,3 +2,4 @@ pub mod Order
 pub mod Entries
 pub mod Found
 pub mod Shown
+pub mod Holding

@@ -1,5 +1,6 @@
 -- Devices as sets, and what making a version does to one.
-use Rattle.std.specs.Prelude.{◌≡◌, ℕ, ◌+◌, not, if◌then◌else◌, List, []}
+use Rattle.std.specs.Prelude.{◌≡◌, ℕ, ◌+◌, Bool, not, ◌==◌, if◌then◌else◌, List, [], ◌++◌}
+use Rattle.std.specs.List.{list_any}
 use Rattle.photo_record.specs.declared.record.Record.{Record}
 use Rattle.photo_filter_text.specs.Tree.{Tree}
 use Rattle.photo_filter_rules.specs.Matching.{matches}
@@ -67,3 +68,7 @@ made m picture content = record m {
   store = put_entry_if (matches m.tree content) (new_entry m picture content) (others picture m.store);
   out = put_entry_if (not (matches m.tree content)) (new_entry m picture content) (others picture m.out);
 }
+
+-- a version of the picture is held, in the store or in the out. One that removes the picture counts
+abbrev pub is_held : ModelDevice → ℕ → Bool
+is_held m picture = list_any (λ e. e.picture == picture) (m.store ++ m.out)

@@ -1,6 +1,6 @@
 -- Held versions, and the entries that they show.
-use Rattle.std.specs.Prelude.{◌≡◌, ℕ, ◌≤◌, Bool, List, ◌∷◌, ◌++◌, length, map, filter, take, drop, Option}
-use Rattle.std.specs.List.{find}
+use Rattle.std.specs.Prelude.{◌≡◌, ℕ, ◌≤◌, Bool, ◌==◌, List, ◌∷◌, ◌++◌, length, map, filter, take, drop, Option}
+use Rattle.std.specs.List.{find, list_any}
 use Rattle.photo_device.specs.declared.held.Held.{Held}
 use Rattle.photo_version.specs.Version.{Version, same_version}
 use Rattle.photo_device.specs.Ordered.{put, in_order}
@@ -37,3 +37,7 @@ pub record IsRangeOf (picture : ℕ) (helds : List Held) (from to : ℕ) : Type 
   pub within : to ≤ length helds
   pub rest : held_of_others picture helds ≡ take from helds ++ drop to helds
   pub place : (held : Held) → held.picture ≡ picture → replaced held helds ≡ take from helds ++ held ∷ drop to helds
+
+-- a version of the picture is among them
+abbrev pub has_picture : ℕ → List Held → Bool
+has_picture picture helds = list_any (λ h. h.picture == picture) helds

@@ -1,4 +1,4 @@
-use crate::{Held, HeldSet, Place};
+use crate::{ChangeFault, Held, HeldSet, Place};
 use photo_filter_rules::Filter;
 use photo_record::{PicNo, Record};
 use photo_version::{Author, Version};
@@ -27,10 +27,12 @@ impl Model for Device {
 }
 
 impl Device {
-    ghost use Rattle.std.specs.Prelude.{◌≡◌, ℕ, ◌+◌, ◌<◌, ◌++◌, IfOk, OnOk, OnErr};
+    ghost use Rattle.std.specs.Prelude.{◌≡◌, ◌≢◌, ℕ, ◌+◌, ◌<◌, ◌||◌, ◌++◌, true, false, Err, IfOk, OnOk, OnErr};
     ghost use Rattle.std.specs.Option.{option_copied};
-    ghost use Rattle.photo_device.specs.Held.{find_version};
-    ghost use Rattle.photo_device.specs.Device.{ModelDevice, Shows, opening, made, next_version, new_place, held_at};
+    ghost use Rattle.photo_device.specs.Held.{find_version, has_picture};
+    ghost use Rattle.photo_device.specs.Device.{ModelDevice, Shows, opening, made, next_version, new_place, held_at, is_held};
+    ghost use Rattle.photo_record.specs.declared.record.Record.TheVariants.{Removed};
+    ghost use Rattle.photo_device.specs.declared.fault.ChangeFault.TheVariants.{NotHeld};
 
     /// A device that has made and holds nothing, and is to keep what the filter matches. It takes no memory.
     pub fn new(alloc: Global, author: Author, filter: Filter) -> Device
@@ -131,5 +133,50 @@ impl Device {
             Some(held) => Some(held),
             None => self.out.find(version),
         }
+    }
+
+    /// Makes the device's next version of a picture of which it holds one, in the store or in the out. A held version
+    /// that removes the picture counts.
+    ///
+    /// `NotHeld` comes exactly where nothing of the picture is held. Else it does what `make` does. An error leaves the
+    /// device as it was.
+    pub fn edit(
+        &mut self,
+        picture: PicNo,
+        content: &Record,
+    ) -> Result<(Version, Place), ChangeFault>
+        requires { self.old.counter < 4_294_967_295 }
+        ensures shows { IfOk result (λ answer. (m : ModelDevice) → Shows self.old m → Shows self.new (made m picture content.now)) }
+        ensures version { IfOk result (λ answer. (m : ModelDevice) → Shows self.old m → answer.0 ≡ next_version m) }
+        ensures place { IfOk result (λ answer. (m : ModelDevice) → Shows self.old m → answer.1 ≡ new_place m content.now) }
+        ensures held { result ≢ Err NotHeld → (m : ModelDevice) → Shows self.old m → is_held m picture ≡ true }
+        ensures not_held { result ≡ Err NotHeld → (m : ModelDevice) → Shows self.old m → is_held m picture ≡ false }
+        ensures err { OnErr result (self.new ≡ self.old) }
+    {
+        if !self.holds(picture) {
+            return Err(ChangeFault::NotHeld);
+        }
+        Ok(self.make(picture, content)?)
+    }
+
+    /// Makes a version that removes a picture of which a version is held, as `edit` does. An error leaves the device as
+    /// it was.
+    pub fn remove(&mut self, picture: PicNo) -> Result<(Version, Place), ChangeFault>
+        requires { self.old.counter < 4_294_967_295 }
+        ensures shows { IfOk result (λ answer. (m : ModelDevice) → Shows self.old m → Shows self.new (made m picture Removed)) }
+        ensures version { IfOk result (λ answer. (m : ModelDevice) → Shows self.old m → answer.0 ≡ next_version m) }
+        ensures place { IfOk result (λ answer. (m : ModelDevice) → Shows self.old m → answer.1 ≡ new_place m Removed) }
+        ensures held { result ≢ Err NotHeld → (m : ModelDevice) → Shows self.old m → is_held m picture ≡ true }
+        ensures not_held { result ≡ Err NotHeld → (m : ModelDevice) → Shows self.old m → is_held m picture ≡ false }
+        ensures err { OnErr result (self.new ≡ self.old) }
+    {
+        self.edit(picture, &Record::Removed)
+    }
+
+    // Whether a version of a picture is held, in the store or in the out.
+    fn holds(&self, picture: PicNo) -> bool
+        ensures { result ≡ (has_picture picture self.now.store || has_picture picture self.now.out) }
+    {
+        self.store.has_picture(picture) || self.out.has_picture(picture)
     }
 }

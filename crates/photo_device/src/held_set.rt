@@ -33,7 +33,7 @@ impl Model for HeldSet {
 impl HeldSet {
     ghost use Rattle.std.specs.Prelude.{◌≡◌, ◌<◌, ◌==◌, true, [], length, slice_get, Some, IfOk, OnOk, OnErr};
     ghost use Rattle.std.specs.Option.{option_copied};
-    ghost use Rattle.photo_device.specs.Held.{are_in_order, held_of_others, replaced, find_version};
+    ghost use Rattle.photo_device.specs.Held.{are_in_order, held_of_others, has_picture, replaced, find_version};
 
     pub(crate) fn new(alloc: Global) -> HeldSet
         ensures { result ≡ [] }
@@ -112,6 +112,14 @@ impl HeldSet {
     {
         let (from, to) = range_of(&self.items, picture);
         self.items.remove_range(from, to);
+    }
+
+    /// Whether it has a version of a picture.
+    pub(crate) fn has_picture(&self, picture: PicNo) -> bool
+        ensures { result ≡ has_picture picture self.now }
+    {
+        let (from, to) = range_of(&self.items, picture);
+        from < to
     }
 }
 

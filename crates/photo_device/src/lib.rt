@@ -2,6 +2,7 @@
 #![tactic(auto)]
 
 mod device;
+mod fault;
 mod held;
 mod held_list;
 mod held_set;
@@ -9,6 +10,7 @@ mod place;
 mod range;
 
 pub use device::Device;
+pub use fault::ChangeFault;
 pub use held::Held;
 pub use held_list::HeldList;
 pub use held_set::HeldSet;

@@ -5,7 +5,8 @@ use Rattle.std.specs.Cmp.Lexicographic.{same_text}
 use Rattle.std.proofs.lemmas.Bool.{false≢true, cases_Bool, and_parts}
 use Rattle.std.proofs.lemmas.List.Folds.{list_all-append}
 use Rattle.std.proofs.lemmas.List.Elements.{filter_more}
-use Rattle.photo_record.specs.Word.{has_word, same_word}
+use Rattle.std.specs.Str.{bytes_eq}
+use Rattle.photo_record.specs.Word.{has_word}
 use Rattle.photo_filter_rules.specs.Alternatives.{both_sets}
 use Rattle.photo_filter_rules.proofs.Bools.{not-or}
 
@@ -14,7 +15,7 @@ pub has_word_all : (p : List ℕ → Bool) (ws : List (List ℕ)) (v : List ℕ)
 has_word_all p [] v h e = absurd (false≢true e)
 has_word_all p (w ∷ ws) v h e =
     let hs = and_parts (p w) (list_all p ws) h in
-    elim (cases_Bool (same_word w v)) [
+    elim (cases_Bool (bytes_eq w v)) [
       | inl s ↦ ap p (sym (same_text w v (sym s))) ∙ hs.0
       | inr s ↦ has_word_all p ws v hs.1 (sym (ap (λ b. b || has_word ws v) s) ∙ e)
     ]

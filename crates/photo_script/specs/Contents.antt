@@ -1,5 +1,5 @@
 -- What a script has: its devices' names and filters in order of declaration, and its commands in order.
-use Rattle.std.specs.Prelude.{◌≡◌, ℕ, ◌<◌, ◌≤◌, List, length}
+use Rattle.std.specs.Prelude.{◌≡◌, ℕ, zero, suc, ◌<◌, ◌≤◌, List, length, Option, None, IfSome, slice_get}
 use Rattle.std.specs.List.{AllByRecursion}
 use Rattle.photo_filter_text.specs.Tree.{Tree}
 use Rattle.photo_script.specs.Limits.{max_devices, max_commands}
@@ -14,14 +14,23 @@ pub record Contents : Type 0 where
 abbrev pub contents : List (List ℕ) → List Tree → List Command → Contents
 contents names filters commands = record { names = names; filters = filters; commands = commands }
 
--- the device that a command names, by its place among the names
-abbrev pub device_of : Command → ℕ
-device_of (command.New device picture record_) = device
-device_of (command.List device) = device
+-- the command of that number, from 1
+abbrev pub command_of : Contents → ℕ → Option Command
+command_of c zero = None
+command_of c (suc n) = slice_get c.commands n
 
--- each command names a declared device
+-- the devices that a command works on, by their places among the names: one, and perhaps a second
+abbrev pub devices_of : Command → ℕ × Option ℕ
+devices_of (command.New device picture record_) = (device, None)
+devices_of (command.List device) = (device, None)
+
+-- the devices of a command are among the first so many
+abbrev pub IsWithin : ℕ → Command → Type 0
+IsWithin count x = ((devices_of x).0 < count) × IfSome (devices_of x).1 (λ second. second < count)
+
+-- each command works on declared devices
 abbrev pub NamesDevices : Contents → Type 0
-NamesDevices c = AllByRecursion (λ x. device_of x < length c.names) c.commands
+NamesDevices c = AllByRecursion (IsWithin (length c.names)) c.commands
 
 -- what is true of every script
 pub record IsScript (c : Contents) : Type 0 where

@@ -1,46 +1,76 @@
 -- What commands do to devices, and what a run of them gives.
-use Rattle.std.specs.Prelude.{ℕ, ◌+◌, List, [], ◌∷◌, ◌++◌, slice_index_or, slice_set, fold}
+use Rattle.std.specs.Prelude.{ℕ, zero, suc, ◌+◌, ◌-◌, List, [], ◌∷◌, ◌++◌, length, replicate, slice_index_or, slice_set, fold, Option, Some, None}
+use Rattle.std.specs.List.{flat_map}
+use Rattle.std.specs.Option.{option_map, option_to_list}
+use Rattle.photo_record.specs.declared.record.Record.{Record}
 use Rattle.photo_filter_text.specs.Tree.{Tree, All}
 use Rattle.photo_version.specs.Author.{author}
 use Rattle.photo_device.specs.Entry.{Entry}
 use Rattle.photo_device.specs.Device.{ModelDevice, opening, made, new_entry, next_version, new_place}
-use Rattle.photo_script.specs.Contents.{Contents, device_of}
+use Rattle.photo_script.specs.Contents.{Contents, command_of, devices_of}
 use Rattle.photo_script.specs.Reports.{Answer, Made, Listed}
 use Rattle.photo_script.specs.declared.command.Command.{Command}
 use Rattle.photo_script.specs.declared.command.Command.TheVariants as command
 
--- what a command does to the device that it names: the device after it, the report on it, and what the log gains
+-- what a command does to the devices that it works on: these devices after it, the report, and what the log gains
 pub record Effect : Type 0 where
-  pub device : ModelDevice
+  pub first : ModelDevice
+  pub second : Option ModelDevice
   pub report : Answer
   pub entries : List Entry
 
-abbrev pub effect : Command → ModelDevice → Effect
-effect (command.New n picture content) d = record {
-  device = made d picture content;
+-- the first device makes a version of a picture
+abbrev pub making : ModelDevice → Option ModelDevice → ℕ → Record → Effect
+making d other picture content = record {
+  first = made d picture content;
+  second = other;
   report = Made (next_version d) (new_place d content);
   entries = new_entry d picture content ∷ [];
 }
-effect (command.List n) d = record { device = d; report = Listed n d.store d.out; entries = [] }
 
--- all devices in order of declaration, the reports so far in order of the commands, and the log, oldest first
+-- nothing but a report
+abbrev pub telling : ModelDevice → Option ModelDevice → Answer → Effect
+telling d other answer = record { first = d; second = other; report = answer; entries = [] }
+
+abbrev pub effect : Command → ModelDevice → Option ModelDevice → Effect
+effect (command.New n picture content) d other = making d other picture content
+effect (command.List n) d other = telling d other (Listed n d.store d.out)
+
+-- all devices in order of declaration; the report on each command that has run, at the place of its number; and the
+-- log, oldest first
 pub record Fleet : Type 0 where
   pub devices : List ModelDevice
-  pub reports : List Answer
+  pub reports : List (Option Answer)
   pub log : List Entry
 
 -- the device at a place in order of declaration
 abbrev pub device_at : List ModelDevice → ℕ → ModelDevice
 device_at devices n = slice_index_or devices n (opening (author n) All)
 
-abbrev pub step : Fleet → Command → Fleet
-step fleet c =
-    let after = effect c (device_at fleet.devices (device_of c)) in
+-- devices with one more exchanged, if there is a second
+abbrev pub with_second : Option ℕ → Option ModelDevice → List ModelDevice → List ModelDevice
+with_second (Some place) (Some d) devices = slice_set devices place d
+with_second (Some place) None devices = devices
+with_second None second devices = devices
+
+-- a command of that number runs on the devices that it works on
+abbrev pub after_command : Fleet → ℕ → Command → Fleet
+after_command fleet number c =
+    let places = devices_of c in
+    let done = effect c (device_at fleet.devices places.0) (option_map (device_at fleet.devices) places.1) in
     record {
-      devices = slice_set fleet.devices (device_of c) after.device;
-      reports = fleet.reports ++ after.report ∷ [];
-      log = fleet.log ++ after.entries;
+      devices = with_second places.1 done.second (slice_set fleet.devices places.0 done.first);
+      reports = slice_set fleet.reports (number - 1) (Some done.report);
+      log = fleet.log ++ done.entries;
     }
+
+-- the command of that number runs, if there is one
+abbrev pub step : Contents → Fleet → ℕ → Fleet
+step script fleet number = by_cases (command_of script number)
+  where
+    by_cases : Option Command → Fleet
+    by_cases None = fleet
+    by_cases (Some c) = after_command fleet number c
 
 -- a device for each filter, from a number on, none of which has made or holds anything
 abbrev pub opening_from : ℕ → List Tree → List ModelDevice
@@ -48,8 +78,25 @@ opening_from n [] = []
 opening_from n (filter ∷ filters) = opening (author n) filter ∷ opening_from (n + 1) filters
 
 abbrev pub opening_fleet : Contents → Fleet
-opening_fleet script = record { devices = opening_from 0 script.filters; reports = []; log = [] }
+opening_fleet script = record {
+  devices = opening_from 0 script.filters;
+  reports = replicate (length script.commands) None;
+  log = [];
+}
+
+-- the fleet after the commands of those numbers, in that order
+abbrev pub run_in_order : Contents → List ℕ → Fleet
+run_in_order script numbers = fold (step script) (opening_fleet script) numbers
+
+-- the numbers from 1 to n
+abbrev pub numbers_to : ℕ → List ℕ
+numbers_to zero = []
+numbers_to (suc n) = numbers_to n ++ suc n ∷ []
 
 -- the fleet after all commands, in the order of their numbers
 abbrev pub run : Contents → Fleet
-run script = fold step (opening_fleet script) script.commands
+run script = run_in_order script (numbers_to (length script.commands))
+
+-- the reports that there are, in the order of their commands' numbers
+abbrev pub reports_of : Fleet → List Answer
+reports_of fleet = flat_map option_to_list fleet.reports

@@ -1,4 +1,10 @@
+ghost use Rattle.std.specs.Prelude.{◌≡◌};
+ghost use Rattle.std.specs.Option.{option_map};
+ghost use Rattle.photo_version.specs.Author.{author};
+ghost use Rattle.photo_script.specs.Contents.{devices_of};
+
 use photo_record::{PicNo, Record};
+use photo_version::Author;
 
 /// A command of a script. Devices are given by their places in order of declaration, from 0.
 #[derive(Debug, PartialEq, Eq, Drop)]
@@ -13,4 +19,14 @@ pub enum Command {
     List {
         device: u16,
     },
+}
+
+/// The devices that a command works on, as authors: one, and perhaps a second.
+pub fn devices_of(command: &Command) -> (Author, Option<Author>)
+    ensures first { result.0 ≡ author (devices_of command.now).0 }
+    ensures second { result.1 ≡ option_map author (devices_of command.now).1 }
+{
+    match command {
+        Command::New { device, .. } | Command::List { device } => (Author::new(*device), None),
+    }
 }

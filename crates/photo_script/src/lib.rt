@@ -13,7 +13,7 @@ mod refusal;
 mod report;
 mod script;
 
-pub use command::Command;
+pub use command::{Command, devices_of};
 pub use fault::{LineFault, ScriptFault};
 pub use limits::{MAX_COMMANDS, MAX_DEVICES, MAX_TEXT_BYTES};
 pub use reader::read_script;

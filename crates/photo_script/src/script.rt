@@ -30,7 +30,7 @@ impl Model for Script {
 }
 
 impl Script {
-    ghost use Rattle.photo_script.specs.Contents.{contents, device_of, NamesDevices};
+    ghost use Rattle.photo_script.specs.Contents.{contents, IsWithin, NamesDevices};
 
     /// A script with no devices and no commands.
     pub(crate) fn new(alloc: Global) -> Script
@@ -77,12 +77,12 @@ impl Script {
         self.commands.len()
     }
 
-    /// The command of that number, from 1. Its device is a device of the script.
+    /// The command of that number, from 1. It works on devices of the script.
     pub fn command(&self, number: u32) -> &Command
         requires first { 0 < number }
         requires within { number ≤ length self.now.commands }
         ensures command { slice_get self.now.commands (number - 1) ≡ Some result.now }
-        ensures known { device_of result.now < length self.now.names }
+        ensures known { IsWithin (length self.now.names) result.now }
     {
         &self.commands[number as usize - 1]
     }
@@ -114,7 +114,7 @@ impl Script {
     /// Puts one command more behind the others.
     pub(crate) fn push(&mut self, command: Command) -> Result<(), AllocError>
         requires room { length self.old.commands < max_commands }
-        requires known { device_of command < length self.old.names }
+        requires known { IsWithin (length self.old.names) command }
         ensures ok { OnOk result (self.new ≡ contents self.old.names self.old.filters (self.old.commands ++ command ∷ [])) }
         ensures err { OnErr result (self.new ≡ self.old) }
     {

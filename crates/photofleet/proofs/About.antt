@@ -1,16 +1,17 @@
 -- The answers of a run speak of devices of its script.
 use Rattle.std.proofs.Common.{ℕ, zero, suc, ◌+◌, ◌<◌, ◌≤◌, Bool, true, false, not, cond, List, [], ◌∷◌, ◌++◌, length, get_or, set, arith}
-use Rattle.std.specs.Prelude.{filter}
+use Rattle.std.specs.Prelude.{filter, Option}
+use Rattle.photo_record.specs.declared.record.Record.{Record}
 use Rattle.std.specs.List.{AllByRecursion}
 use Rattle.photo_filter_text.specs.Tree.{Tree}
 use Rattle.photo_filter_rules.specs.Matching.{matches}
 use Rattle.photo_version.specs.Author.{device_of_author}
 use Rattle.photo_device.specs.Ordered.{put}
 use Rattle.photo_device.specs.Entry.{Entry, entry_before, others, put_entry_if, is_of_other}
-use Rattle.photo_device.specs.Device.{ModelDevice, new_entry}
+use Rattle.photo_device.specs.Device.{ModelDevice, new_entry, made}
 use Rattle.photo_script.specs.declared.command.Command.{Command}
 use Rattle.photo_script.specs.declared.command.Command.TheVariants as command
-use Rattle.photo_script.specs.Contents.{Contents, device_of}
+use Rattle.photo_script.specs.Contents.{Contents, devices_of}
 use Rattle.photo_script.specs.Reports.{IsOfScript, AreOfScript, IsAbout}
 use Rattle.photo_script.specs.Runs.{effect, opening_from}
 
@@ -63,15 +64,19 @@ opening_of_fleet script n (x ∷ xs) h = (record { author = omega arith; store =
 pub opening_known : (script : Contents) → length script.filters ≤ length script.names → AllByRecursion (IsOfFleet script) (opening_from 0 script.filters)
 opening_known script h = opening_of_fleet script 0 script.filters (omega arith)
 
--- a command keeps this, and its answer is about the script
-pub effect_known : (script : Contents) (c : Command) (d : ModelDevice) → device_of c < length script.names → IsOfFleet script d → IsOfFleet script (effect c d).device
-effect_known script (command.New n picture content) d h of = record {
+-- a device that makes a version stays of the script
+made_known : (script : Contents) (d : ModelDevice) (picture : ℕ) (content : Record) → IsOfFleet script d → IsOfFleet script (made d picture content)
+made_known script d picture content of = record {
   author = of.author;
   store = all_made (λ e. IsOfScript script e.version) (matches d.tree content) (new_entry d picture content) picture d.store of.author of.store;
   out = all_made (λ e. IsOfScript script e.version) (not (matches d.tree content)) (new_entry d picture content) picture d.out of.author of.out;
 }
-effect_known script (command.List n) d h of = of
 
-pub effect_about : (script : Contents) (c : Command) (d : ModelDevice) → device_of c < length script.names → IsOfFleet script d → IsAbout script (effect c d).report
-effect_about script (command.New n picture content) d h of = of.author
-effect_about script (command.List n) d h of = (h, of.store, of.out)
+-- a command keeps this, and its answer is about the script
+pub effect_known : (script : Contents) (c : Command) (d : ModelDevice) (other : Option ModelDevice) → IsOfFleet script d → IsOfFleet script (effect c d other).first
+effect_known script (command.New n picture content) d other of = made_known script d picture content of
+effect_known script (command.List n) d other of = of
+
+pub effect_about : (script : Contents) (c : Command) (d : ModelDevice) (other : Option ModelDevice) → (devices_of c).0 < length script.names → IsOfFleet script d → IsAbout script (effect c d other).report
+effect_about script (command.New n picture content) d other h of = of.author
+effect_about script (command.List n) d other h of = (h, of.store, of.out)

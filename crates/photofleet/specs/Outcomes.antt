@@ -1,5 +1,5 @@
 -- What a run gives and writes.
-use Rattle.std.specs.Prelude.{◌≡◌, ℕ, ◌≤◌, List, length, map, Option, Ok}
+use Rattle.std.specs.Prelude.{◌≡◌, ℕ, ◌≤◌, List, length, map, Option, Some, Ok}
 use Rattle.std.specs.List.{AllZip, AllByRecursion}
 use Rattle.std.specs.Io.KnownBytes.{Appends}
 use Rattle.photo_device.specs.Device.{Shows}
@@ -7,19 +7,19 @@ use Rattle.photo_script.specs.Limits.{max_commands}
 use Rattle.photo_script.specs.Contents.{Contents}
 use Rattle.photo_script.specs.Reading.{script_of}
 use Rattle.photo_script.specs.Reports.{answer_of, texts_from, IsAbout}
-use Rattle.photo_script.specs.Runs.{run}
+use Rattle.photo_script.specs.Runs.{run, reports_of}
 use Rattle.photofleet.specs.declared.runner.outcome.Outcome.{Outcome}
 
--- the devices show those of the script's run, and the reports give its answers
+-- the devices show those of the script's run, and the report at each place gives the answer to the command of its number
 pub record IsOutcome (script : Contents) (o : Outcome) : Type 0 where
   pub devices : AllZip Shows o.devices.items (run script).devices
-  pub reports : map answer_of o.reports.items ≡ (run script).reports
-  pub about : AllByRecursion (IsAbout script) (run script).reports
+  pub reports : map (λ r. Some (answer_of r)) o.reports.items ≡ (run script).reports
+  pub about : AllByRecursion (IsAbout script) (map answer_of o.reports.items)
   pub few : length o.reports.items ≤ max_commands
 
 -- what a script's run prints
 abbrev pub output_of : Contents → List ℕ
-output_of script = texts_from script 1 (run script).reports
+output_of script = texts_from script 1 (reports_of (run script))
 
 -- the input is the text of a script, and what its run prints has been written behind what was there, and nothing else
 pub record WritesOutput (old new : Option (List ℕ)) (input : List ℕ) : Type 0 where

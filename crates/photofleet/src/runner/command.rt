@@ -1,6 +1,5 @@
-ghost use Rattle.std.specs.Prelude.{◌≡◌, ◌+◌, ◌<◌, ◌≤◌, IfOk, OnOk, OnErr};
+ghost use Rattle.std.specs.Prelude.{◌≡◌, ◌+◌, ◌<◌, ◌≤◌, None, IfOk, OnOk, OnErr};
 ghost use Rattle.photo_device.specs.Device.{ModelDevice, Shows};
-ghost use Rattle.photo_script.specs.Contents.{device_of};
 ghost use Rattle.photo_script.specs.Reports.{answer_of};
 ghost use Rattle.photo_script.specs.Runs.{effect};
 
@@ -8,15 +7,15 @@ use photo_device::Device;
 use photo_script::{Command, Report};
 use std::alloc::{AllocError, Global};
 
-/// Runs one command on the device that it names, and gives the report. After want of memory the device is as it was.
+/// Runs one command on the device that it works on, and gives the report. After want of memory the device is as it was.
 pub fn run_command(
     alloc: Global,
     command: &Command,
     device: &mut Device,
 ) -> Result<Report, AllocError>
     requires { device.old.counter < 4_294_967_295 }
-    ensures device { OnOk result ((m : ModelDevice) → Shows device.old m → Shows device.new (effect command.now m).device) }
-    ensures report { IfOk result (λ report. (m : ModelDevice) → Shows device.old m → answer_of report ≡ (effect command.now m).report) }
+    ensures device { OnOk result ((m : ModelDevice) → Shows device.old m → Shows device.new (effect command.now m None).first) }
+    ensures report { IfOk result (λ report. (m : ModelDevice) → Shows device.old m → answer_of report ≡ (effect command.now m None).report) }
     ensures counter { OnOk result (device.new.counter ≤ device.old.counter + 1) }
     ensures err { OnErr result (device.new ≡ device.old) }
 {
@@ -38,14 +37,5 @@ pub fn run_command(
                 out,
             })
         }
-    }
-}
-
-/// The place of the device that a command names.
-pub fn device_of(command: &Command) -> u16
-    ensures { result ≡ device_of command.now }
-{
-    match command {
-        Command::New { device, .. } | Command::List { device } => *device,
     }
 }

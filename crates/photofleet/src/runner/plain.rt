@@ -7,10 +7,10 @@ ghost use Rattle.photofleet.specs.Outcomes.{IsOutcome};
 ghost use Rattle.photofleet.specs.declared.runner.fault.RunError.TheVariants.{NoMemory};
 
 use super::RunError;
-use super::command::{device_of, run_command};
+use super::command::run_command;
 use super::outcome::Outcome;
 use photo_device::Device;
-use photo_script::Script;
+use photo_script::{Script, devices_of};
 use photo_version::Author;
 use std::alloc::{AllocError, Global};
 
@@ -32,7 +32,8 @@ fn run(alloc: Global, script: &Script) -> Result<Outcome, AllocError>
     let mut reports = Vec::new(alloc);
     for place in 0..script.commands() {
         let command = script.command(place as u32 + 1);
-        let device = &mut devices[usize::from(device_of(command))];
+        let (author, _) = devices_of(command);
+        let device = &mut devices[usize::from(author.value())];
         reports.push(run_command(alloc, command, device)?)?;
     }
     Ok(Outcome { devices, reports })

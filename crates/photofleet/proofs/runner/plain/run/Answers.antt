@@ -1,10 +1,9 @@
-use Rattle.std.proofs.Common.{◌≡◌, ◌∙◌, subst, ap, arith}
+use Rattle.std.proofs.Common.{◌≡◌, ◌∙◌, length, subst, ap, arith}
 use Rattle.std.specs.Prelude.{slice_get, Some}
-use Rattle.std.specs.List.{AllZip, AllByRecursion}
+use Rattle.std.specs.List.{AllZip}
+use Rattle.photo_version.specs.Author.{device_of_author}
 use Rattle.photo_device.specs.Device.{Shows}
-use Rattle.photo_script.specs.Reports.{IsAbout}
-use Rattle.photo_script.specs.Runs.{Fleet}
-use Rattle.photofleet.proofs.Runs.{runs_none, runs_on, runs_all}
+use Rattle.photofleet.proofs.Runs.{fleet_after, runs_none, runs_on, runs_all}
 use Rattle.photofleet.proofs.runner.plain.run.Goals as goal
 
 pub loop-place-init : goal.loop-place-init
@@ -13,14 +12,15 @@ loop-place-init c = runs_none _ _ _ c.in_ok-devices.ensures.shown c.in_ok-device
 pub loop-place-preserved : goal.loop-place-preserved
 loop-place-preserved c =
     let here = subst (λ k. slice_get c.args.script.now.commands k ≡ Some c.command-command.result.now) (omega arith) c.command-command.ensures.command in
-    rw c.in_ok-push.ensures.items (runs_on _ c.loop-place.place _ _ c.command-command.result.now _ c.index_mut-device.result.now _ _ c.loop-place.invariant here c.command-command.ensures.known (c.from.ensures ∙ c.device_of.ensures) c.index_mut-device.ensures.value c.in_ok-run_command.ensures.device c.in_ok-run_command.ensures.report c.in_ok-run_command.ensures.counter)
+    rw c.in_ok-push.ensures.items (runs_on _ c.loop-place.place _ _ c.command-command.result.now _ c.index_mut-device.result.now _ _ c.loop-place.invariant here c.command-command.ensures.known (c.from.ensures ∙ c.value.ensures ∙ ap device_of_author c.devices_of-author.ensures.first) c.index_mut-device.ensures.value c.in_ok-run_command.ensures.device c.in_ok-run_command.ensures.report c.in_ok-run_command.ensures.counter)
 
 pub returns : goal.returns
 returns c =
-    let done = runs_all c.args.script.now c.loop-place.place (omega arith) in
+    let script = c.args.script.now in
+    let all : c.loop-place.place ≡ length script.commands = omega arith in
     record {
-      devices = subst (λ (f : Fleet). AllZip Shows c.loop-place.devices.items f.devices) done c.loop-place.invariant.shown;
-      about = subst (λ (f : Fleet). AllByRecursion (IsAbout c.args.script.now) f.reports) done c.loop-place.invariant.about;
+      devices = subst (λ n. AllZip Shows c.loop-place.devices.items (fleet_after script n).devices) all c.loop-place.invariant.shown;
+      about = c.loop-place.invariant.about;
       few = omega arith;
-      reports = c.loop-place.invariant.told ∙ ap (λ (f : Fleet). f.reports) done;
+      reports = runs_all script c.loop-place.place _ _ c.loop-place.invariant all;
     }

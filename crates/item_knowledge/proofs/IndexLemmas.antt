@@ -1,0 +1,145 @@
+-- The index that is made beside the groups.
+use Rattle.std.proofs.Common.{◌≡◌, ℕ, zero, suc, ◌<◌, ◌≤◌, Bool, true, false, ltb, List, [], ◌∷◌, length, refl, sym, subst, ap, ◌∙◌, inl, inr, arith, Option, None, Some}
+use Rattle.std.specs.List.{list_all}
+use Rattle.std.proofs.lemmas.Bool.{and_parts, and_from, lt-ltb, eq-eqb, ne_eqb, cases_Bool, cases_eq}
+use Rattle.item_knowledge.specs.Tables.{keys_pass, in_order, at}
+use Rattle.item_knowledge.specs.Entries.{Entry, same_entries}
+use Rattle.item_knowledge.specs.Fragments.{Fragment, entries_at}
+use Rattle.item_knowledge.specs.Gathering.{add, add_unless, gathered, indexed, number, place}
+use Rattle.item_knowledge.proofs.FragmentLemmas.{entries_decide}
+use Rattle.item_knowledge.proofs.AddLemmas.{add_here, add_later}
+use Rattle.item_knowledge.proofs.GatherLemmas.{unless_same, unless_other, row_vector, row_none}
+use Rattle.item_knowledge.proofs.PlaceLemmas.{place_below, place_grown, place_of_added, place_here, place_later, inner, some_inj}
+
+indexed_same : (star : List Entry) (f : ℕ × ℕ → List Entry) (r : ℕ × (ℕ × ℕ)) (rs : List (ℕ × (ℕ × ℕ))) (gs : List Fragment) → same_entries star (f r.1) ≡ true → indexed star f (r ∷ rs) gs ≡ indexed star f rs gs
+indexed_same star f r rs gs h = rw h refl
+
+indexed_other : (star : List Entry) (f : ℕ × ℕ → List Entry) (r : ℕ × (ℕ × ℕ)) (rs : List (ℕ × (ℕ × ℕ))) (gs : List Fragment) → same_entries star (f r.1) ≡ false → indexed star f (r ∷ rs) gs ≡ (r.0, number (place (add r.0 (f r.1) gs) (f r.1))) ∷ indexed star f rs (add r.0 (f r.1) gs)
+indexed_other star f r rs gs h = rw h refl
+
+pub indexed_pass : (test : ℕ → Bool) (star : List Entry) (f : ℕ × ℕ → List Entry) (rs : List (ℕ × (ℕ × ℕ))) (gs : List Fragment) → keys_pass test rs ≡ true → keys_pass test (indexed star f rs gs) ≡ true
+indexed_pass test star f [] gs h = refl
+indexed_pass test star f (r ∷ rs) gs h =
+    let a = and_parts (test r.0) (keys_pass test rs) h in
+    elim (cases_Bool (same_entries star (f r.1))) [
+      | inl same ↦ rw (indexed_same star f r rs gs same) (indexed_pass test star f rs gs a.1)
+      | inr other ↦ rw (indexed_other star f r rs gs other) (and_from _ _ a.0 (indexed_pass test star f rs (add r.0 (f r.1) gs) a.1))
+    ]
+
+pub indexed_order : (star : List Entry) (f : ℕ × ℕ → List Entry) (rs : List (ℕ × (ℕ × ℕ))) (gs : List Fragment) → in_order rs ≡ true → in_order (indexed star f rs gs) ≡ true
+indexed_order star f [] gs h = refl
+indexed_order star f (r ∷ rs) gs h =
+    let a = and_parts (keys_pass (λ k. ltb r.0 k) rs) (in_order rs) h in
+    elim (cases_Bool (same_entries star (f r.1))) [
+      | inl same ↦ rw (indexed_same star f r rs gs same) (indexed_order star f rs gs a.1)
+      | inr other ↦ rw (indexed_other star f r rs gs other) (and_from _ _ (indexed_pass (λ k. ltb r.0 k) star f rs (add r.0 (f r.1) gs) a.0) (indexed_order star f rs (add r.0 (f r.1) gs) a.1))
+    ]
+
+-- the vectors of groups stay at their places
+
+length_add : (p : ℕ) (v : List Entry) (gs : List Fragment) → length gs ≤ length (add p v gs)
+length_add p v [] = omega arith
+length_add p v (g ∷ gs) = elim (cases_Bool (same_entries g.entries v)) [
+  | inl same ↦ rw (add_here p v g gs same) (omega arith)
+  | inr other ↦ let rest = length_add p v gs in rw (add_later p v g gs other) (omega arith)
+]
+
+entries_add : (p : ℕ) (v : List Entry) (gs : List Fragment) (k : ℕ) → k < length gs → entries_at (add p v gs) k ≡ entries_at gs k
+entries_add p v [] k l = absurd (omega arith)
+entries_add p v (g ∷ gs) zero l = elim (cases_Bool (same_entries g.entries v)) [
+  | inl same ↦ ap (λ hs. entries_at hs 0) (add_here p v g gs same)
+  | inr other ↦ ap (λ hs. entries_at hs 0) (add_later p v g gs other)
+]
+entries_add p v (g ∷ gs) (suc k) l = elim (cases_Bool (same_entries g.entries v)) [
+  | inl same ↦ ap (λ hs. entries_at hs (suc k)) (add_here p v g gs same)
+  | inr other ↦ ap (λ hs. entries_at hs (suc k)) (add_later p v g gs other) ∙ entries_add p v gs k (omega arith)
+]
+
+length_unless : (star : List Entry) (p : ℕ) (v : List Entry) (gs : List Fragment) → length gs ≤ length (add_unless star p v gs)
+length_unless star p v gs = elim (cases_Bool (same_entries star v)) [
+  | inl same ↦ rw (unless_same star p v gs same) (omega arith)
+  | inr other ↦ let more = length_add p v gs in rw (unless_other star p v gs other) (omega arith)
+]
+
+entries_unless : (star : List Entry) (p : ℕ) (v : List Entry) (gs : List Fragment) (k : ℕ) → k < length gs → entries_at (add_unless star p v gs) k ≡ entries_at gs k
+entries_unless star p v gs k l = elim (cases_Bool (same_entries star v)) [
+  | inl same ↦ ap (λ hs. entries_at hs k) (unless_same star p v gs same)
+  | inr other ↦ ap (λ hs. entries_at hs k) (unless_other star p v gs other) ∙ entries_add p v gs k l
+]
+
+length_gathered : (star : List Entry) (f : ℕ × ℕ → List Entry) (rs : List (ℕ × (ℕ × ℕ))) (gs : List Fragment) → length gs ≤ length (gathered star f rs gs)
+length_gathered star f [] gs = omega arith
+length_gathered star f (r ∷ rs) gs =
+    let more = length_unless star r.0 (f r.1) gs in
+    let rest = length_gathered star f rs (add_unless star r.0 (f r.1) gs) in
+    omega arith
+
+entries_gathered : (star : List Entry) (f : ℕ × ℕ → List Entry) (rs : List (ℕ × (ℕ × ℕ))) (gs : List Fragment) (k : ℕ) → k < length gs → entries_at (gathered star f rs gs) k ≡ entries_at gs k
+entries_gathered star f [] gs k l = refl
+entries_gathered star f (r ∷ rs) gs k l =
+    let more = length_unless star r.0 (f r.1) gs in
+    entries_gathered star f rs (add_unless star r.0 (f r.1) gs) k (omega arith) ∙ entries_unless star r.0 (f r.1) gs k l
+
+-- where a vector has its place
+
+place_entries : (gs : List Fragment) (v : List Entry) (k : ℕ) → place gs v ≡ Some k → entries_at gs k ≡ v
+place_entries [] v k h = absurd (cc)
+place_entries (g ∷ gs) v k h = elim (cases_Bool (same_entries g.entries v)) [
+  | inl same ↦
+      let e = some_inj 0 k (sym (place_here g gs v same) ∙ h) in
+      subst (λ n. entries_at (g ∷ gs) n ≡ v) e ((entries_decide g.entries v).0 same)
+  | inr other ↦
+      let i = inner (place gs v) k (sym (place_later g gs v other) ∙ h) in
+      subst (λ n. entries_at (g ∷ gs) n ≡ v) (sym i.2) (place_entries gs v i.0 i.1)
+]
+
+-- a vector that was added has a place
+pub has_place : (p : ℕ) (v : List Entry) (gs : List Fragment) → (k : ℕ) × (place (add p v gs) v ≡ Some k)
+has_place p v gs = by (place gs v) refl where
+  by : (o : Option ℕ) → place gs v ≡ o → (k : ℕ) × (place (add p v gs) v ≡ Some k)
+  by None h = (length gs, place_of_added p v gs h)
+  by (Some k) h = (k, place_grown p v v gs k h ∙ h)
+
+pub indexed_range : (star : List Entry) (f : ℕ × ℕ → List Entry) (rs : List (ℕ × (ℕ × ℕ))) (gs : List Fragment) (n : ℕ) → length (gathered star f rs gs) < n → list_all (λ r. ltb r.1 n) (indexed star f rs gs) ≡ true
+indexed_range star f [] gs n l = refl
+indexed_range star f (r ∷ rs) gs n l = elim (cases_Bool (same_entries star (f r.1))) [
+  | inl same ↦
+      let e = ap (λ hs. length (gathered star f rs hs)) (unless_same star r.0 (f r.1) gs same) in
+      rw (indexed_same star f r rs gs same) (indexed_range star f rs gs n (omega arith))
+  | inr other ↦
+      let e = ap (λ hs. length (gathered star f rs hs)) (unless_other star r.0 (f r.1) gs other) in
+      let here = has_place r.0 (f r.1) gs in
+      let less = place_below (add r.0 (f r.1) gs) (f r.1) here.0 here.1 in
+      let more = length_gathered star f rs (add r.0 (f r.1) gs) in
+      let fits : ltb (number (place (add r.0 (f r.1) gs) (f r.1))) n ≡ true = rw here.1 (lt-ltb (suc here.0) n (omega arith)) in
+      rw (indexed_other star f r rs gs other) (and_from _ _ fits (indexed_range star f rs (add r.0 (f r.1) gs) n (omega arith)))
+]
+
+-- the vectors that the index leads to are those of the table
+pub indexed_vectors : (star : List Entry) (f : ℕ × ℕ → List Entry) (rs : List (ℕ × (ℕ × ℕ))) (gs : List Fragment) (q : ℕ) → in_order rs ≡ true → entries_at (record { pictures = []; entries = star } ∷ gathered star f rs gs) (at 0 (indexed star f rs gs) q) ≡ row_vector f rs q star
+indexed_vectors star f [] gs q o = refl
+indexed_vectors star f (r ∷ rs) gs q o =
+    let a = and_parts (keys_pass (λ k. ltb r.0 k) rs) (in_order rs) o in
+    elim (cases_Bool (same_entries star (f r.1))) [
+      | inl same ↦
+          let end = ap (λ hs. gathered star f rs hs) (unless_same star r.0 (f r.1) gs same) in
+          (λ i. entries_at (record { pictures = []; entries = star } ∷ end i) (at 0 (indexed_same star f r rs gs same i) q))
+          ∙ (indexed_vectors star f rs gs q a.1
+          ∙ elim (cases_eq r.0 q) [
+            | inl here ↦
+                row_none f rs q star (subst (λ n. keys_pass (λ k. ltb n k) rs ≡ true) here a.0)
+                ∙ ((entries_decide star (f r.1)).0 same ∙ sym (rw (eq-eqb r.0 q here) refl))
+            | inr away ↦ rw (ne_eqb r.0 q away) refl
+          ])
+      | inr other ↦
+          let new = add r.0 (f r.1) gs in
+          let end = ap (λ hs. gathered star f rs hs) (unless_other star r.0 (f r.1) gs other) in
+          let place_is = has_place r.0 (f r.1) gs in
+          let less = place_below new (f r.1) place_is.0 place_is.1 in
+          (λ i. entries_at (record { pictures = []; entries = star } ∷ end i) (at 0 (indexed_other star f r rs gs other i) q))
+          ∙ elim (cases_eq r.0 q) [
+            | inl here ↦
+                rw (eq-eqb r.0 q here, place_is.1) (entries_gathered star f rs new place_is.0 less ∙ place_entries new (f r.1) place_is.0 place_is.1)
+            | inr away ↦ rw (ne_eqb r.0 q away) (indexed_vectors star f rs new q a.1)
+          ]
+    ]

@@ -1,0 +1,135 @@
+-- What is kept denotes what is known.
+use Rattle.std.proofs.Common.{◌≡◌, ℕ, ◌+◌, ◌<◌, ◌≤◌, Bool, true, false, leb, ltb, eqb, max, cond, ◌&&◌, ◌||◌, ◌↔◌, List, [], ◌∷◌, length, get_or, refl, sym, subst, ap, ◌∙◌, inl, inr, arith}
+use Rattle.std.specs.List.{list_all}
+use Rattle.std.proofs.lemmas.Bool.{and_parts, and_from, eq-eqb, ne_eqb, cases_Bool, cases_eq, true≢false, false≢true}
+use Rattle.std.proofs.lemmas.Bool.Decides.{nat_tests}
+use Rattle.photo_version.specs.Author.{Author, same_author, author_word}
+use Rattle.photo_version.specs.Version.{Version, same_version}
+use Rattle.item_knowledge.specs.Tables.{at}
+use Rattle.item_knowledge.specs.Entries.{Entry, denotes, is_entry, is_vector, bound, leq}
+use Rattle.item_knowledge.specs.Fragments.{Fragment, knows, is_normal, known, nothing, entries_at}
+use Rattle.item_knowledge.specs.Rows.{AreRows, fragments_of, rows_of}
+use Rattle.item_knowledge.specs.Gathering.{vector_of, IsSide, IsIndex, IsUnion}
+use Rattle.item_knowledge.specs.Kept.{IsKept, is_side_within, star_bound}
+use Rattle.item_knowledge.proofs.EntryLemmas.{denotes-bound}
+use Rattle.item_knowledge.proofs.FragmentLemmas.{normal_parts, one_normal, leq_at, leq_denotes, star_of_every}
+use Rattle.item_knowledge.proofs.JoinLemmas.{leq_from, leq_self}
+use Rattle.item_knowledge.proofs.UnionLemmas.{above, at_number, side_vector, normal_side, knows_vector}
+
+pub kept_side : (rows : List (List ℕ)) (xs : List (ℕ × ℕ)) → IsKept rows xs → IsSide (fragments_of rows) xs
+kept_side rows xs h = normal_side (fragments_of rows) xs h.normal h.index
+
+pub number_below : (fs : List Fragment) (xs : List (ℕ × ℕ)) (p : ℕ) → IsSide fs xs → at 0 xs p < length fs
+number_below fs xs p h = at_number xs (length fs) p h.star h.range
+
+pub kept_knows : (rows : List (List ℕ)) (xs : List (ℕ × ℕ)) (p : ℕ) (v : Version) → IsKept rows xs → knows (fragments_of rows) p v ≡ denotes (vector_of (fragments_of rows) xs p) v
+kept_knows rows xs p v h = knows_vector (fragments_of rows) p v h.normal ∙ ap (λ es. denotes es v) (sym (h.index.vectors p))
+
+pub kept_bound : (rows : List (List ℕ)) (xs : List (ℕ × ℕ)) (p : ℕ) (v : Version) → IsKept rows xs → 0 < v.number → knows (fragments_of rows) p v ≡ leb v.number (bound (vector_of (fragments_of rows) xs p) (author_word v.author))
+kept_bound rows xs p v h z =
+    kept_knows rows xs p v h
+    ∙ (denotes-bound (vector_of (fragments_of rows) xs p) v (side_vector (fragments_of rows) xs p (kept_side rows xs h))
+    ∙ positive v.number (bound (vector_of (fragments_of rows) xs p) (author_word v.author)) z)
+  where
+    positive : (n b : ℕ) → 0 < n → (leb 1 n && leb n b) ≡ leb n b
+    positive n b z = grind (arith, nat_tests)
+
+-- the vector of a fragment
+pub kept_vector : (rows : List (List ℕ)) (xs : List (ℕ × ℕ)) (k : ℕ) → IsKept rows xs → k < length (fragments_of rows) → is_vector (entries_at (fragments_of rows) k) ≡ true
+kept_vector rows xs k h l = (above (fragments_of rows) xs k (kept_side rows xs h) l).vector
+
+-- what is known after a union
+pub learned : (rows : List (List ℕ)) (xs : List (ℕ × ℕ)) (gs us : List Fragment) (ys zs : List (ℕ × ℕ)) → IsKept rows xs → IsUnion (fragments_of rows) xs gs ys us zs → (p : ℕ) (v : Version) → 0 < p → knows us p v ≡ (knows (fragments_of rows) p v || denotes (vector_of gs ys p) v)
+learned rows xs gs us ys zs h u p v z = u.pairs p v z ∙ ap (λ b. b || denotes (vector_of gs ys p) v) (sym (kept_knows rows xs p v h))
+
+-- rows are equal where their pairs are
+pub same_pairs : (rows others : List (List ℕ)) (xs ys : List (ℕ × ℕ)) → IsKept rows xs → IsKept others ys → (rows ≡ others) ↔ ((p : ℕ) (v : Version) → 0 < p → knows (fragments_of rows) p v ≡ knows (fragments_of others) p v)
+same_pairs rows others xs ys h g =
+    (
+      λ e p v z. ap (λ rs. knows (fragments_of rs) p v) e,
+      λ all. sym h.rows ∙ (ap rows_of (one_normal (fragments_of rows) (fragments_of others) h.normal g.normal all) ∙ g.rows)
+    )
+
+pub same_fragments : (rows others : List (List ℕ)) (xs ys : List (ℕ × ℕ)) → IsKept rows xs → IsKept others ys → (rows ≡ others) ↔ (fragments_of rows ≡ fragments_of others)
+same_fragments rows others xs ys h g = (λ e. ap fragments_of e, λ e. sym h.rows ∙ (ap rows_of e ∙ g.rows))
+
+-- Inclusion
+
+leq_trans : (xs ys zs : List Entry) → is_vector xs ≡ true → leq xs ys ≡ true → leq ys zs ≡ true → leq xs zs ≡ true
+leq_trans xs ys zs h l m = leq_from xs zs h (λ a.
+    let p = leq_at xs ys a l in
+    let q = leq_at ys zs a m in
+    omega arith)
+
+leq_along : (fs gs : List Fragment) (ys : List (ℕ × ℕ)) (p : ℕ) (xs : List (ℕ × ℕ)) → list_all (λ r. leq (entries_at fs r.1) (vector_of gs ys r.0)) xs ≡ true → leq (entries_at fs 0) (vector_of gs ys p) ≡ true → leq (entries_at fs (at 0 xs p)) (vector_of gs ys p) ≡ true
+leq_along fs gs ys p [] h s = s
+leq_along fs gs ys p (x ∷ xs) h s =
+    let a = and_parts (leq (entries_at fs x.1) (vector_of gs ys x.0)) (list_all (λ r. leq (entries_at fs r.1) (vector_of gs ys r.0)) xs) h in
+    elim (cases_eq x.0 p) [
+      | inl same ↦ rw (eq-eqb x.0 p same) (subst (λ n. leq (entries_at fs x.1) (vector_of gs ys n) ≡ true) same a.0)
+      | inr other ↦ rw (ne_eqb x.0 p other) (leq_along fs gs ys p xs a.1 s)
+    ]
+
+pub within_leq : (fs gs : List Fragment) (xs ys : List (ℕ × ℕ)) (p : ℕ) → IsSide fs xs → IsSide gs ys → is_side_within fs xs gs ys ≡ true → leq (vector_of fs xs p) (vector_of gs ys p) ≡ true
+within_leq fs gs xs ys p h g w =
+    let a = and_parts (leq (entries_at fs 0) (entries_at gs 0)) (list_all (λ r. leq (entries_at fs r.1) (vector_of gs ys r.0)) xs) w in
+    leq_along fs gs ys p xs a.1
+    (leq_trans (entries_at fs 0) (entries_at gs 0) (vector_of gs ys p) (above fs xs 0 h h.star).vector a.0 (above gs ys (at 0 ys p) g (number_below gs ys p g)).above)
+
+-- what is known already adds nothing
+pub within_knows : (rows others : List (List ℕ)) (xs ys : List (ℕ × ℕ)) → IsKept rows xs → IsKept others ys → is_side_within (fragments_of others) ys (fragments_of rows) xs ≡ true → (p : ℕ) (v : Version) → knows (fragments_of rows) p v ≡ (knows (fragments_of rows) p v || knows (fragments_of others) p v)
+within_knows rows others xs ys h g w p v =
+    let fs = fragments_of rows in
+    let gs = fragments_of others in
+    let s = kept_side rows xs h in
+    let t = kept_side others ys g in
+    let e = leq_denotes (vector_of gs ys p) (vector_of fs xs p) v (side_vector gs ys p t) (side_vector fs xs p s) (within_leq gs fs ys xs p t s w) in
+    let both : (knows fs p v || knows gs p v) ≡ (denotes (vector_of fs xs p) v || denotes (vector_of gs ys p) v) = (λ i. kept_knows rows xs p v h i || kept_knows others ys p v g i) in
+    kept_knows rows xs p v h ∙ (sym e ∙ (or_swap (denotes (vector_of gs ys p) v) (denotes (vector_of fs xs p) v) ∙ sym both))
+  where
+    or_swap : (a b : Bool) → (a || b) ≡ (b || a)
+    or_swap true true = refl
+    or_swap true false = refl
+    or_swap false true = refl
+    or_swap false false = refl
+
+-- The star's next version
+
+next_one : (n m b : ℕ) → m ≡ b + 1 → (leb 1 n && leb n b) ≡ false → ((leb 1 n && leb n m) || false) ≡ eqb m n
+next_one n m b e h = grind (arith, nat_tests)
+
+star_vector : (fs : List Fragment) → is_normal fs ≡ true → is_vector (entries_at fs 0) ≡ true
+star_vector [] h = absurd (false≢true h)
+star_vector (s ∷ gs) h = (normal_parts s gs h).vector
+
+-- an author's versions up to the next one are those that the star has, and the next one
+pub next_known : (fs : List Fragment) (w : Version) (p : ℕ) (v : Version) → is_normal fs ≡ true → 0 < p → w.number ≡ star_bound fs w.author + 1 → (knows fs p v || denotes ((author_word w.author, w.number) ∷ []) v) ≡ (knows fs p v || same_version w v)
+next_known fs w p v h z e = by (knows fs p v) refl
+  where
+    by : (b : Bool) → knows fs p v ≡ b → (b || denotes ((author_word w.author, w.number) ∷ []) v) ≡ (b || same_version w v)
+    by true k = refl
+    by false k =
+        let none : denotes (entries_at fs 0) v ≡ false = elim (cases_Bool (denotes (entries_at fs 0) v)) [
+          | inl d ↦ absurd (false≢true (sym k ∙ (star_of_every fs h v).0 d p z))
+          | inr n ↦ n
+        ] in
+        let bounds : (leb 1 v.number && leb v.number (bound (entries_at fs 0) (author_word v.author))) ≡ false = sym (denotes-bound (entries_at fs 0) v (star_vector fs h)) ∙ none in
+        elim (cases_eq (author_word w.author) (author_word v.author)) [
+          | inl same ↦ rw (eq-eqb (author_word w.author) (author_word v.author) same) (next_one v.number w.number (bound (entries_at fs 0) (author_word v.author)) (e ∙ ap (λ a. bound (entries_at fs 0) a + 1) same) bounds)
+          | inr other ↦ rw (ne_eqb (author_word w.author) (author_word v.author) other) refl
+        ]
+
+-- The star's bounds
+
+pub star_within : (fs gs : List Fragment) (xs ys : List (ℕ × ℕ)) (a : Author) → is_side_within fs xs gs ys ≡ true → star_bound gs a ≡ max (star_bound gs a) (star_bound fs a)
+star_within fs gs xs ys a w =
+    let le = leq_at (entries_at fs 0) (entries_at gs 0) (author_word a) (and_parts (leq (entries_at fs 0) (entries_at gs 0)) (list_all (λ r. leq (entries_at fs r.1) (vector_of gs ys r.0)) xs) w).0 in
+    omega arith
+
+pub star_next : (fs : List Fragment) (w a : Author) (n : ℕ) → n ≡ star_bound fs w + 1 → max (star_bound fs a) (bound ((author_word w, n) ∷ []) (author_word a)) ≡ cond (same_author w a) n (star_bound fs a)
+star_next fs w a n e = elim (cases_eq (author_word w) (author_word a)) [
+  | inl same ↦
+      let here : star_bound fs w ≡ star_bound fs a = ap (λ k. bound (entries_at fs 0) k) same in
+      rw (eq-eqb (author_word w) (author_word a) same) (omega arith)
+  | inr other ↦ rw (ne_eqb (author_word w) (author_word a) other) (omega arith)
+]

@@ -1,0 +1,15 @@
+pub mod EntryLemmas
+pub mod PictureLemmas
+pub mod FragmentLemmas
+pub mod TableLemmas
+pub mod MergeLemmas
+pub mod JoinLemmas
+pub mod RowLemmas
+pub mod AddLemmas
+pub mod GatherLemmas
+pub mod PlaceLemmas
+pub mod IndexLemmas
+pub mod UnionLemmas
+pub mod SearchLemmas
+pub mod KeptLemmas
+pub mod ToldLemmas

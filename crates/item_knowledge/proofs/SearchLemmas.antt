@@ -1,0 +1,51 @@
+-- Searches in tables.
+use Rattle.std.proofs.Common.{rules, ◌≡◌, ℕ, zero, suc, ◌+◌, ◌<◌, ◌≤◌, Bool, true, false, ltb, List, [], ◌∷◌, length, get_or, drop, refl, sym, subst, ap, ◌∙◌, inl, inr, arith}
+use Rattle.std.specs.List.Sorted.{IsNonDecreasingBy, IsPartitionPoint}
+use Rattle.std.proofs.lemmas.Bool.{and_parts, ltb-true, ltb-false, eq-eqb, ne_eqb, cases_eq}
+use Rattle.item_knowledge.specs.Tables.{keys_pass, in_order, at}
+use Rattle.item_knowledge.proofs.TableLemmas.{at_above, above_all}
+
+-- along a table in order the numbers don't fall
+
+first_below : (k : ℕ) (xs : List (ℕ × ℕ)) (j : ℕ) (d : ℕ × ℕ) → keys_pass (λ n. ltb k n) xs ≡ true → j < length xs → k < (get_or xs j d).0
+first_below k [] j d h l = absurd (omega arith)
+first_below k (x ∷ xs) zero d h l = ltb-true k x.0 (and_parts (ltb k x.0) (keys_pass (λ n. ltb k n) xs) h).0
+first_below k (x ∷ xs) (suc j) d h l = first_below k xs j d (and_parts (ltb k x.0) (keys_pass (λ n. ltb k n) xs) h).1 (omega arith)
+
+pub no_fall : (xs : List (ℕ × ℕ)) → in_order xs ≡ true → IsNonDecreasingBy (λ r. r.0) xs
+no_fall [] h i j d le l = absurd (omega arith)
+no_fall (x ∷ xs) h zero zero d le l = omega arith
+no_fall (x ∷ xs) h zero (suc j) d le l =
+    let less = first_below x.0 xs j d (and_parts (keys_pass (λ n. ltb x.0 n) xs) (in_order xs) h).0 (omega arith) in
+    omega arith
+no_fall (x ∷ xs) h (suc i) zero d le l = absurd (omega arith)
+no_fall (x ∷ xs) h (suc i) (suc j) d le l = no_fall xs (and_parts (keys_pass (λ n. ltb x.0 n) xs) (in_order xs) h).1 i j d (omega arith) (omega arith)
+
+-- a place with smaller numbers before it, and none behind it
+pub record IsPlace (p : ℕ) (xs : List (ℕ × ℕ)) (i : ℕ) : Type 0 where
+  pub below : (k : ℕ) (d : ℕ × ℕ) → k < i → (get_or xs k d).0 < p
+  pub from : (k : ℕ) (d : ℕ × ℕ) → i ≤ k → k < length xs → p ≤ (get_or xs k d).0
+
+pub found_at : (xs : List (ℕ × ℕ)) (p i : ℕ) (e : ℕ × ℕ) → IsPlace p xs i → i < length xs → (get_or xs i e).0 ≡ p → at 0 xs p ≡ (get_or xs i e).1
+found_at [] p i e h l s = absurd (omega arith)
+found_at (x ∷ xs) p zero e h l s = rw (eq-eqb x.0 p s) refl
+found_at (x ∷ xs) p (suc i) e h l s =
+    let less = h.below 0 e (omega arith) in
+    rw (ne_eqb x.0 p (λ same. absurd (omega arith))) (found_at xs p i e (record { below = λ k d g. h.below (suc k) d (omega arith); from = λ k d g m. h.from (suc k) d (omega arith) (omega arith) }) (omega arith) s)
+
+pub absent_at : (xs : List (ℕ × ℕ)) (p i : ℕ) (e : ℕ × ℕ) → in_order xs ≡ true → IsPlace p xs i → (i < length xs → (get_or xs i e).0 ≡ p → ⊥) → at 0 xs p ≡ 0
+absent_at [] p i e o h n = refl
+absent_at (x ∷ xs) p zero e o h n =
+    let a = and_parts (keys_pass (λ k. ltb x.0 k) xs) (in_order xs) o in
+    let le = h.from 0 e (omega arith) (omega arith) in
+    rw (ne_eqb x.0 p (n (omega arith))) (at_above 0 xs p (above_all p x.0 xs le a.0))
+absent_at (x ∷ xs) p (suc i) e o h n =
+    let a = and_parts (keys_pass (λ k. ltb x.0 k) xs) (in_order xs) o in
+    let less = h.below 0 e (omega arith) in
+    rw (ne_eqb x.0 p (λ same. absurd (omega arith))) (absent_at xs p i e a.1 (record { below = λ k d g. h.below (suc k) d (omega arith); from = λ k d g m. h.from (suc k) d (omega arith) (omega arith) }) (λ l. n (omega arith)))
+
+pub is_place : (p : ℕ) (xs : List (ℕ × ℕ)) (i : ℕ) → IsPartitionPoint (λ r. ltb r.0 p ≡ true) (λ r. ltb r.0 p ≡ false) xs i → IsPlace p xs i
+is_place p xs i h = record {
+  below = λ k d l. ltb-true (get_or xs k d).0 p (search (rules, h.0));
+  from = λ k d l m. ltb-false (get_or xs k d).0 p (search (rules, h.1));
+}

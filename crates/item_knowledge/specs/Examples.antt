@@ -1,0 +1,50 @@
+-- The definitions at some fragments.
+use Rattle.std.specs.Prelude.{◌≡◌, ℕ, true, false, List, [], ◌∷◌}
+use Rattle.photo_version.specs.Version.{Version}
+use Rattle.item_knowledge.specs.Entries.{Entry, joined}
+use Rattle.item_knowledge.specs.Fragments.{Fragment, knows, is_normal, known}
+
+abbrev of : List ℕ → List Entry → Fragment
+of pictures entries = record { pictures = pictures; entries = entries }
+
+-- the number-th version of the device of that number
+abbrev version_of : ℕ → ℕ → Version
+version_of device number = record { author = record { device = device }; number = number }
+
+abbrev none : List Fragment
+none = of [] [] ∷ []
+
+-- of pictures 7 and 9 the first version of device 0
+abbrev of_two : List Fragment
+of_two = of [] [] ∷ of (7 ∷ 9 ∷ []) ((0, 1) ∷ []) ∷ []
+
+-- of every picture the first version of device 0
+abbrev of_every : List Fragment
+of_every = of [] ((0, 1) ∷ []) ∷ []
+
+pub record TheLibrary : Type 0 where
+  pub nothing_yet : is_normal none ≡ true
+  pub two : is_normal of_two ≡ true
+  pub of_nine : known of_two 9 ≡ (0, 1) ∷ []
+  pub of_eight : known of_two 8 ≡ []
+  pub knows_seven : knows of_two 7 (version_of 0 1) ≡ true
+  pub not_eight : knows of_two 8 (version_of 0 1) ≡ false
+  pub not_second : knows of_two 7 (version_of 0 2) ≡ false
+  pub every : is_normal of_every ≡ true
+  pub knows_eight : knows of_every 8 (version_of 0 1) ≡ true
+
+-- what the normal form rules out, and what it allows
+pub record TheNormalForms : Type 0 where
+  pub no_star : is_normal [] ≡ false
+  pub left_apart : is_normal (of [] [] ∷ of (7 ∷ []) ((0, 1) ∷ []) ∷ of (9 ∷ []) ((0, 1) ∷ []) ∷ []) ≡ false
+  pub like_the_star : is_normal (of [] ((0, 1) ∷ []) ∷ of (7 ∷ 9 ∷ []) ((0, 1) ∷ []) ∷ []) ≡ false
+  pub below_the_star : is_normal (of [] ((0, 1) ∷ (1, 1) ∷ []) ∷ of (7 ∷ []) ((0, 2) ∷ []) ∷ []) ≡ false
+  pub by_vector : is_normal (of [] [] ∷ of (9 ∷ []) ((0, 1) ∷ []) ∷ of (7 ∷ []) ((0, 2) ∷ []) ∷ []) ≡ false
+  pub by_first_picture : is_normal (of [] [] ∷ of (7 ∷ 10 ∷ []) ((0, 2) ∷ []) ∷ of (9 ∷ []) ((0, 1) ∷ []) ∷ []) ≡ true
+  pub twice : is_normal (of [] [] ∷ of (7 ∷ 9 ∷ []) ((0, 2) ∷ []) ∷ of (9 ∷ []) ((0, 1) ∷ []) ∷ []) ≡ false
+  pub no_picture : is_normal (of [] [] ∷ of [] ((0, 2) ∷ []) ∷ []) ≡ false
+  pub no_bound : is_normal (of [] ((0, 0) ∷ []) ∷ []) ≡ false
+  pub unsorted : is_normal (of [] ((1, 1) ∷ (0, 1) ∷ []) ∷ []) ≡ false
+
+pub record TheVectors : Type 0 where
+  pub join : joined ((0, 2) ∷ []) ((0, 1) ∷ (1, 3) ∷ []) ≡ (0, 2) ∷ (1, 3) ∷ []

@@ -1,0 +1,11 @@
+pub mod Tables
+pub mod Entries
+pub mod Fragments
+pub mod Rows
+pub mod Gathering
+pub mod Places
+pub mod Coding
+pub mod Kept
+pub mod Told
+pub mod Laws
+pub mod Examples

@@ -1,0 +1,30 @@
+-- Rows of words: of each fragment its pictures, then its entries with two words each, author and number.
+use Rattle.std.specs.Prelude.{◌≡◌, ℕ, List, [], ◌∷◌}
+use Rattle.item_knowledge.specs.Entries.{Entry}
+use Rattle.item_knowledge.specs.Fragments.{Fragment}
+
+abbrev pub pairs : List ℕ → List Entry
+pairs [] = []
+pairs (a ∷ []) = []
+pairs (a ∷ n ∷ ws) = (a, n) ∷ pairs ws
+
+abbrev pub flat : List Entry → List ℕ
+flat [] = []
+flat (e ∷ es) = e.0 ∷ e.1 ∷ flat es
+
+-- the words are those of whole entries
+abbrev pub IsRow : List ℕ → Type 0
+IsRow ws = flat (pairs ws) ≡ ws
+
+abbrev pub fragments_of : List (List ℕ) → List Fragment
+fragments_of [] = []
+fragments_of (ps ∷ []) = []
+fragments_of (ps ∷ ws ∷ rows) = record { pictures = ps; entries = pairs ws } ∷ fragments_of rows
+
+abbrev pub rows_of : List Fragment → List (List ℕ)
+rows_of [] = []
+rows_of (f ∷ fs) = f.pictures ∷ flat f.entries ∷ rows_of fs
+
+-- the rows are those of whole fragments
+abbrev pub AreRows : List (List ℕ) → Type 0
+AreRows rows = rows_of (fragments_of rows) ≡ rows

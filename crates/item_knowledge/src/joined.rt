@@ -1,0 +1,53 @@
+ghost use Rattle.std.specs.Prelude.{◌≡◌, true, IfOk};
+ghost use Rattle.item_knowledge.specs.Tables.{in_order};
+ghost use Rattle.item_knowledge.specs.Entries as spec;
+ghost use Rattle.item_knowledge.specs.Rows.{pairs, IsRow};
+
+use std::alloc::{AllocError, Global};
+
+/// The row of the join of two vectors: of each author the greater bound.
+#[tactic(auto, using(crate::proofs::RowLemmas::row_step))]
+pub(crate) fn joined(alloc: Global, xs: &[u64], ys: &[u64]) -> Result<Vec<u64>, AllocError>
+    requires left_row { IsRow xs.now }
+    requires right_row { IsRow ys.now }
+    requires left { in_order (pairs xs.now) ≡ true }
+    requires right { in_order (pairs ys.now) ≡ true }
+    ensures row { IfOk result (λ row. IsRow row.items) }
+    ensures entries { IfOk result (λ row. pairs row.items ≡ spec.joined (pairs xs.now) (pairs ys.now)) }
+{
+    let mut out = Vec::new(alloc);
+    let mut i = 0;
+    let mut j = 0;
+    while i < xs.len() && j < ys.len() {
+        let a = xs[i];
+        let b = ys[j];
+        if a < b {
+            out.push(a)?;
+            out.push(xs[i + 1])?;
+            i += 2;
+            continue;
+        }
+        if b < a {
+            out.push(b)?;
+            out.push(ys[j + 1])?;
+            j += 2;
+            continue;
+        }
+        let n = xs[i + 1].max(ys[j + 1]);
+        out.push(a)?;
+        out.push(n)?;
+        i += 2;
+        j += 2;
+    }
+    while i < xs.len() {
+        out.push(xs[i])?;
+        out.push(xs[i + 1])?;
+        i += 2;
+    }
+    while j < ys.len() {
+        out.push(ys[j])?;
+        out.push(ys[j + 1])?;
+        j += 2;
+    }
+    Ok(out)
+}

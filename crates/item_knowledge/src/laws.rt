@@ -1,0 +1,25 @@
+//! Laws of what fragments denote. Each function's contract is a law, and its body does nothing.
+ghost use Rattle.item_knowledge.specs.Laws.{VectorsAreOne, NormalFormsAreOne, StarIsOfEvery};
+ghost use Rattle.item_knowledge.specs.Examples.{TheLibrary, TheNormalForms, TheVectors};
+
+/// A vector is determined by the versions that it denotes.
+pub fn vectors_are_one()
+    ensures { VectorsAreOne }
+{}
+
+/// A normal form is determined by the pairs that it denotes.
+pub fn normal_forms_are_one()
+    ensures { NormalFormsAreOne }
+{}
+
+/// The star is what is known of every picture.
+pub fn star_is_of_every()
+    ensures { StarIsOfEvery }
+{}
+
+/// The definitions at some fragments.
+pub fn examples()
+    ensures library { TheLibrary }
+    ensures normal_forms { TheNormalForms }
+    ensures vectors { TheVectors }
+{}

@@ -1,0 +1,17 @@
+//! What a device knows: of which picture which versions.
+#![tactic(auto)]
+
+mod fragment;
+mod gather;
+mod group;
+mod joined;
+mod knowledge;
+pub mod laws;
+mod paired;
+mod rows;
+mod search;
+mod told;
+mod union;
+
+pub use fragment::Fragment;
+pub use knowledge::Knowledge;

@@ -1,0 +1,63 @@
+ghost use Rattle.std.specs.Prelude.{◌≡◌, ◌<◌, true, length, get_or};
+ghost use Rattle.item_knowledge.specs.Tables.{in_order, at};
+ghost use Rattle.item_knowledge.specs.Entries.{bound, leq};
+ghost use Rattle.item_knowledge.specs.Rows.{pairs, IsRow};
+
+/// The number of the fragment to which an index leads from a picture, 0 for the star.
+pub(crate) fn number_at(index: &[(u64, usize)], picture: u64) -> usize
+    requires { in_order index.now ≡ true }
+    ensures { result ≡ at 0 index.now picture }
+{
+    let place = index.partition_point(|row| row.0 < picture);
+    if place == index.len() {
+        return 0;
+    }
+    let row = index[place];
+    if row.0 != picture {
+        return 0;
+    }
+    row.1
+}
+
+/// The entry at place `i` of a row: the author's word, and the bound.
+pub(crate) fn entry_at(row: &[u64], i: usize) -> (u64, u64)
+    requires row { IsRow row.now }
+    requires place { i < length (pairs row.now) }
+    ensures { result ≡ get_or (pairs row.now) i (0, 0) }
+{
+    let _count = row.len();
+    (row[2 * i], row[2 * i + 1])
+}
+
+/// The bound of an author in a row of entries, 0 where it has none.
+#[tactic(auto, using(crate::proofs::RowLemmas::row_step))]
+pub(crate) fn bound_at(row: &[u64], author: u64) -> u64
+    requires { IsRow row.now }
+    ensures { result ≡ bound (pairs row.now) author }
+{
+    let mut i = 0;
+    while i < row.len() {
+        if row[i] == author {
+            return row[i + 1];
+        }
+        i += 2;
+    }
+    0
+}
+
+/// Whether each bound of the one row is at most the other's.
+#[tactic(auto, using(crate::proofs::RowLemmas::row_step))]
+pub(crate) fn is_leq(row: &[u64], other: &[u64]) -> bool
+    requires left { IsRow row.now }
+    requires right { IsRow other.now }
+    ensures { result ≡ leq (pairs row.now) (pairs other.now) }
+{
+    let mut i = 0;
+    while i < row.len() {
+        if bound_at(other, row[i]) < row[i + 1] {
+            return false;
+        }
+        i += 2;
+    }
+    true
+}

@@ -1,0 +1,65 @@
+ghost use Rattle.std.specs.Prelude.{◌≡◌, true, nat_lt, IfOk};
+ghost use Rattle.std.specs.List.{list_all};
+ghost use Rattle.item_knowledge.specs.Tables.{keys_pass};
+ghost use Rattle.item_knowledge.specs.Entries.{is_vector};
+ghost use Rattle.item_knowledge.specs.Rows.{pairs, IsRow, rows_of};
+ghost use Rattle.item_knowledge.specs.Told as spec;
+
+use crate::rows::Rows;
+use crate::search::entry_at;
+use photo_record::PicNo;
+use photo_version::{Author, Vector};
+use std::alloc::{AllocError, Global};
+
+/// The entries of a vector as a row of words.
+pub(crate) fn row_of(alloc: Global, vector: &Vector) -> Result<Vec<u64>, AllocError>
+    ensures row { IfOk result (λ row. IsRow row.items) }
+    ensures entries { IfOk result (λ row. pairs row.items ≡ spec.entries_of vector.now) }
+    ensures vector { IfOk result (λ row. is_vector (spec.entries_of vector.now) ≡ true) }
+{
+    let mut row = Vec::new(alloc);
+    for i in 0..vector.len() {
+        let (author, n) = vector.entry(i);
+        row.push(author.word())?;
+        row.push(u64::from(n))?;
+    }
+    Ok(row)
+}
+
+/// The vector of the entries of a row.
+pub(crate) fn vector_of(alloc: Global, row: &[u64]) -> Result<Vector, AllocError>
+    requires row { IsRow row.now }
+    requires vector { is_vector (pairs row.now) ≡ true }
+    ensures { IfOk result (λ vector. vector ≡ spec.bounds_of (pairs row.now)) }
+{
+    let mut bounds = Vec::new(alloc);
+    for i in 0..row.len() / 2 {
+        let (word, n) = entry_at(row, i);
+        bounds.push((Author::of_word(word), n as u32))?;
+    }
+    Vector::from_entries(alloc, bounds)
+}
+
+/// The rows of what is told of pictures, with their index.
+pub(crate) fn told(
+    alloc: Global,
+    table: &[(PicNo, Vector)],
+) -> Result<(Rows, Vec<(u64, usize)>), AllocError>
+    ensures rows { IfOk result (λ all. all.0 ≡ rows_of (spec.told table.now)) }
+    ensures index { IfOk result (λ all. all.1.items ≡ spec.numbered 1 table.now) }
+    ensures positive { IfOk result (λ all. keys_pass (λ p. nat_lt 0 p) table.now ≡ true) }
+    ensures vectors { IfOk result (λ all. list_all (λ t. is_vector (spec.entries_of t.1)) table.now ≡ true) }
+{
+    let mut rows = Rows::new(alloc);
+    let mut index = Vec::new(alloc);
+    rows.place(&[])?;
+    rows.place(&[])?;
+    for i in 0..table.len() {
+        let row = row_of(alloc, &table[i].1)?;
+        let picture = u64::from(table[i].0.value());
+        rows.place(&[picture])?;
+        rows.place(&row)?;
+        index.push((picture, i + 1))?;
+    }
+    Ok((rows, index))
+}

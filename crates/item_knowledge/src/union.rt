@@ -1,0 +1,144 @@
+ghost use Rattle.std.specs.Prelude.{◌≡◌, ◌<◌, [], true, length, IfOk, OnOk};
+ghost use Rattle.item_knowledge.specs.Fragments.{entries_at};
+ghost use Rattle.item_knowledge.specs.Gathering.{IsSide, IsUnion, pair_vector, groups_of, index_of, star_first};
+ghost use Rattle.item_knowledge.specs.Kept.{is_side_within};
+ghost use Rattle.item_knowledge.specs.Rows.{pairs, IsRow, AreRows, fragments_of, rows_of};
+
+use crate::gather::{add, same_row};
+use crate::group::Group;
+use crate::joined::joined;
+use crate::paired::paired as paired_numbers;
+use crate::rows::Rows;
+use crate::search::{is_leq, number_at};
+use std::alloc::{AllocError, Global};
+use std::collections::BTreeMap;
+
+/// The entries of the fragment of a number, as a row of words.
+pub(crate) fn entries(rows: &Rows, number: usize) -> &[u64]
+    requires rows { AreRows rows.now }
+    requires number { number < length (fragments_of rows.now) }
+    ensures row { IsRow result.now }
+    ensures entries { pairs result.now ≡ entries_at (fragments_of rows.now) number }
+{
+    let _count = rows.rows();
+    rows.row(2 * number + 1)
+}
+
+/// What two fragments of the two sides give together, as a row of words.
+fn pair(
+    alloc: Global,
+    left: &Rows,
+    left_index: &[(u64, usize)],
+    right: &Rows,
+    right_index: &[(u64, usize)],
+    a: usize,
+    b: usize,
+) -> Result<Vec<u64>, AllocError>
+    requires left_rows { AreRows left.now }
+    requires right_rows { AreRows right.now }
+    requires left { IsSide (fragments_of left.now) left_index.now }
+    requires right { IsSide (fragments_of right.now) right_index.now }
+    requires a { a < length (fragments_of left.now) }
+    requires b { b < length (fragments_of right.now) }
+    ensures row { IfOk result (λ row. IsRow row.items) }
+    ensures entries { IfOk result (λ row. pairs row.items ≡ pair_vector (fragments_of left.now) (fragments_of right.now) (a, b)) }
+{
+    joined(alloc, entries(left, a), entries(right, b))
+}
+
+/// The rows of a star and of groups, in place of those that were there.
+fn write(star: &[u64], groups: &[Group], out: &mut Rows) -> Result<(), AllocError>
+    requires { IsRow star.now }
+    ensures { OnOk result (out.new ≡ rows_of (star_first (pairs star.now) groups.now)) }
+{
+    out.clear();
+    out.place(&[])?;
+    out.place(star)?;
+    for group in groups {
+        out.place(group.pictures())?;
+        out.place(group.row())?;
+    }
+    Ok(())
+}
+
+/// The groups of the union of two sides, whose star is given, and their index.
+fn groups(
+    alloc: Global,
+    left: &Rows,
+    left_index: &[(u64, usize)],
+    right: &Rows,
+    right_index: &[(u64, usize)],
+    star: &[u64],
+) -> Result<(Vec<Group>, Vec<(u64, usize)>), AllocError>
+    requires left_rows { AreRows left.now }
+    requires right_rows { AreRows right.now }
+    requires left { IsSide (fragments_of left.now) left_index.now }
+    requires right { IsSide (fragments_of right.now) right_index.now }
+    requires star_row { IsRow star.now }
+    requires star { pairs star.now ≡ pair_vector (fragments_of left.now) (fragments_of right.now) (0, 0) }
+    ensures groups { IfOk result (λ all. all.0.items ≡ groups_of (fragments_of left.now) (fragments_of right.now) left_index.now right_index.now) }
+    ensures index { IfOk result (λ all. all.1.items ≡ index_of (fragments_of left.now) (fragments_of right.now) left_index.now right_index.now) }
+{
+    let table = paired_numbers(alloc, left_index, right_index)?;
+    let mut groups = Vec::new(alloc);
+    let mut places = BTreeMap::new(alloc);
+    let mut index = Vec::new(alloc);
+    for i in 0..table.len() {
+        let (picture, (a, b)) = table[i];
+        let row = pair(alloc, left, left_index, right, right_index, a, b)?;
+        if same_row(star, &row) {
+            continue;
+        }
+        let k = add(alloc, &mut groups, &mut places, picture, row)?;
+        index.push((picture, k + 1))?;
+    }
+    Ok((groups, index))
+}
+
+/// Writes the normal form of what either side denotes, and gives its index.
+pub(crate) fn union(
+    alloc: Global,
+    left: &Rows,
+    left_index: &[(u64, usize)],
+    right: &Rows,
+    right_index: &[(u64, usize)],
+    out: &mut Rows,
+) -> Result<Vec<(u64, usize)>, AllocError>
+    requires left_rows { AreRows left.now }
+    requires right_rows { AreRows right.now }
+    requires left { IsSide (fragments_of left.now) left_index.now }
+    requires right { IsSide (fragments_of right.now) right_index.now }
+    ensures rows { OnOk result (AreRows out.new) }
+    ensures union { IfOk result (λ index. IsUnion (fragments_of left.now) left_index.now (fragments_of right.now) right_index.now (fragments_of out.new) index.items) }
+{
+    let star = pair(alloc, left, left_index, right, right_index, 0, 0)?;
+    let (listed, index) = groups(alloc, left, left_index, right, right_index, &star)?;
+    write(&star, &listed, out)?;
+    Ok(index)
+}
+
+/// Whether each vector of the one side is at most the other's at the same picture. Takes no memory.
+pub(crate) fn is_within(
+    rows: &Rows,
+    index: &[(u64, usize)],
+    others: &Rows,
+    others_index: &[(u64, usize)],
+) -> bool
+    requires rows { AreRows rows.now }
+    requires others { AreRows others.now }
+    requires left { IsSide (fragments_of rows.now) index.now }
+    requires right { IsSide (fragments_of others.now) others_index.now }
+    ensures { result ≡ is_side_within (fragments_of rows.now) index.now (fragments_of others.now) others_index.now }
+{
+    if !is_leq(entries(rows, 0), entries(others, 0)) {
+        return false;
+    }
+    for i in 0..index.len() {
+        let (picture, number) = index[i];
+        let other = number_at(others_index, picture);
+        if !is_leq(entries(rows, number), entries(others, other)) {
+            return false;
+        }
+    }
+    true
+}

@@ -1,0 +1,24 @@
+ghost use Rattle.std.specs.Prelude.{◌≡◌};
+ghost use Rattle.photo_device.specs.declared.fault.ChangeFault.TheVariants.{NoMemory};
+
+use std::alloc::AllocError;
+use thiserror::Error;
+
+/// Why a device did not change.
+#[derive(Clone, Copy, Debug, PartialEq, Eq, Drop, Error)]
+pub enum ChangeFault {
+    /// Nothing of the picture is held.
+    #[error("C1 NotHeld")]
+    NotHeld,
+    /// Memory was refused.
+    #[error("NoMemory")]
+    NoMemory,
+}
+
+impl From<AllocError> for ChangeFault {
+    ghost from_gives = { λ _ e. e ≡ NoMemory };
+
+    fn from(_: AllocError) -> ChangeFault {
+        ChangeFault::NoMemory
+    }
+}
