@@ -2,10 +2,10 @@
 use Rattle.std.proofs.Common.{◌≡◌, ℕ, zero, suc, ◌+◌, ◌<◌, ◌≤◌, Bool, true, false, leb, max, ◌&&◌, ◌||◌, List, [], ◌∷◌, ◌++◌, length, get_or, take, drop, ◌-◌, refl, sym, subst, ap, ◌∙◌, ◌⊎◌, inl, inr, arith, append_assoc}
 use Rattle.std.proofs.lemmas.Bool.{and_parts, and_from, and_right, lt-leb, le-leb, cases_lt}
 use Rattle.std.proofs.lemmas.List.{drop_more, take_all}
-use Rattle.photo_version.specs.Author.{Author, author, same_author, author_before}
+use Rattle.photo_version.specs.Author.{Author, author, author_before}
 use Rattle.photo_version.specs.Version.{version}
 use Rattle.photo_version.specs.Vector.{Bound, denotes, is_vector, raised, joined, is_within}
-use Rattle.photo_version.proofs.AuthorLemmas.{Before, before_from, same_from, same_between}
+use Rattle.photo_version.proofs.AuthorLemmas.{before_from, same_from, same_between}
 use Rattle.photo_version.proofs.VectorLemmas.{is_above, VectorParts, vector_parts, above_all, denotes-above, raised_same, raised_more, raised_first, joined_above}
 
 -- The first of a union
@@ -48,7 +48,7 @@ before_left : (a : Author) (xs : List Bound) (i : ℕ) (x : Bound) → i < lengt
 before_left a xs i x l e h p =
     let parts = left_parts xs i x l e h in
     subst (λ zs. is_above a zs ≡ true) (sym (drop_from xs i x l e))
-      (and_from (author_before a x.0) (is_above a (drop (i + 1) xs)) p (above_all a x.0 (drop (i + 1) xs) p parts.above))
+    (and_from (author_before a x.0) (is_above a (drop (i + 1) xs)) p (above_all a x.0 (drop (i + 1) xs) p parts.above))
 
 length_left : (xs : List Bound) (i : ℕ) → length (drop i xs) ≤ length xs - i
 length_left [] zero = omega arith
@@ -192,9 +192,9 @@ pass_both xs ys i j x y m l k ex ey p q u =
     let same = same_between x.0 y.0 p q in
     let positive = lefts.positive in
     let here : denotes (y ∷ drop (j + 1) ys) (version x.0 x.1) ≡ true =
-        up_to x y (drop (j + 1) ys) same rights.above ∙ and_from (leb 1 x.1) (leb x.1 y.1) (le-leb 1 x.1 (omega arith)) (le-leb x.1 y.1 u) in
+    up_to x y (drop (j + 1) ys) same rights.above ∙ and_from (leb 1 x.1) (leb x.1 y.1) (le-leb 1 x.1 (omega arith)) (le-leb x.1 y.1 u) in
     let step : is_within (x ∷ drop (i + 1) xs) (y ∷ drop (j + 1) ys) ≡ is_within (drop (i + 1) xs) (drop (j + 1) ys) =
-        rw here (within_after (drop (i + 1) xs) y (drop (j + 1) ys) (subst (λ a. is_above a (drop (i + 1) xs) ≡ true) same lefts.above)) in
+    rw here (within_after (drop (i + 1) xs) y (drop (j + 1) ys) (subst (λ a. is_above a (drop (i + 1) xs) ≡ true) same lefts.above)) in
     record {
       all = sym step
           ∙ (sym (ap (λ zs. is_within (x ∷ drop (i + 1) xs) zs) (drop_from ys j y k ey))
@@ -226,7 +226,7 @@ pub missing_number : (xs ys : List Bound) (i j : ℕ) (x y : Bound) → IsCompar
 missing_number xs ys i j x y m l k ex ey p q u =
     let rights = left_parts ys j y k ey m.right in
     let none : denotes (y ∷ drop (j + 1) ys) (version x.0 x.1) ≡ false =
-        up_to x y (drop (j + 1) ys) (same_between x.0 y.0 p q) rights.above ∙ and_right (leb 1 x.1) (leb x.1 y.1) (lt-leb x.1 y.1 u) in
+    up_to x y (drop (j + 1) ys) (same_between x.0 y.0 p q) rights.above ∙ and_right (leb 1 x.1) (leb x.1 y.1) (lt-leb x.1 y.1 u) in
     missing xs ys i j x m l ex (ap (λ zs. denotes zs (version x.0 x.1)) (drop_from ys j y k ey) ∙ none)
 
 pub all_compared : (xs ys : List Bound) (i j : ℕ) → IsComparing xs ys i j → length xs ≤ i → is_within xs ys ≡ true

@@ -1,12 +1,12 @@
 -- What a vector denotes, read off at the place of an author.
-use Rattle.std.proofs.Common.{◌≡◌, ℕ, zero, suc, ◌+◌, ◌<◌, ◌≤◌, Bool, true, false, leb, ◌&&◌, ◌||◌, List, [], ◌∷◌, length, get_or, drop, refl, sym, subst, ap, ◌∙◌, inl, inr, arith}
+use Rattle.std.proofs.Common.{◌≡◌, ℕ, zero, suc, ◌+◌, ◌<◌, ◌≤◌, Bool, true, false, leb, ◌||◌, List, [], ◌∷◌, length, get_or, drop, refl, sym, subst, ap, ◌∙◌, inl, inr, arith}
 use Rattle.std.specs.List.Sorted.{IsPartitionedBy, IsPartitionPoint}
-use Rattle.std.proofs.lemmas.Bool.{and_parts, and_from, le-leb, cases_Bool, false≢true}
+use Rattle.std.proofs.lemmas.Bool.{and_parts, and_from, le-leb, false≢true}
 use Rattle.std.proofs.lemmas.List.{drop_more}
 use Rattle.photo_version.specs.Author.{Author, same_author, author_before}
 use Rattle.photo_version.specs.Version.{Version}
-use Rattle.photo_version.specs.Vector.{Bound, reaches, denotes, is_vector}
-use Rattle.photo_version.proofs.AuthorLemmas.{before_from, before_trans, cases_author, same_is, same_from, not_before_same}
+use Rattle.photo_version.specs.Vector.{Bound, denotes, is_vector}
+use Rattle.photo_version.proofs.AuthorLemmas.{before_from, before_trans, cases_author, same_is, same_from}
 use Rattle.photo_version.proofs.VectorLemmas.{is_above, vector_parts, denotes-above, above_all}
 
 abbrev pub stands_before : Author → Bound → Bool
@@ -91,4 +91,4 @@ none_here bs n d v p l s =
     ] in
     denotes-from bs n v p.within p.before
     ∙ denotes-above (drop n bs) v (subst (λ zs. is_above v.author zs ≡ true) (sym (drop_more bs n d l))
-        (and_from (author_before v.author b.0) (is_above v.author (drop (n + 1) bs)) after (above_all v.author b.0 (drop (n + 1) bs) after parts.above)))
+    (and_from (author_before v.author b.0) (is_above v.author (drop (n + 1) bs)) after (above_all v.author b.0 (drop (n + 1) bs) after parts.above)))

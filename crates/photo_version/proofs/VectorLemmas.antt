@@ -1,7 +1,7 @@
 -- Vectors and what they denote.
-use Rattle.std.proofs.Common.{◌≡◌, ℕ, zero, suc, ◌<◌, ◌≤◌, length, get_or, Bool, true, false, leb, ltb, cond, max, ◌&&◌, ◌||◌, List, [], ◌∷◌, refl, sym, subst, ap, ◌∙◌, ◌⊎◌, ◌↔◌, inl, inr, arith}
+use Rattle.std.proofs.Common.{◌≡◌, ℕ, zero, suc, ◌<◌, ◌≤◌, length, get_or, Bool, true, false, leb, ltb, cond, max, ◌&&◌, ◌||◌, List, [], ◌∷◌, refl, sym, subst, ap, ◌∙◌, ◌↔◌, inl, inr, arith}
 use Rattle.std.specs.List.{list_all}
-use Rattle.std.proofs.lemmas.Bool.{and_parts, and_from, lt-ltb, ltb-true, le-leb, leb-true, cases_lt, or_cases, or_left, or_right, false≢true}
+use Rattle.std.proofs.lemmas.Bool.{and_parts, and_from, lt-ltb, ltb-true, le-leb, leb-true, or_cases, or_left, or_right, false≢true}
 use Rattle.std.specs.Bool.{Decides}
 use Rattle.std.proofs.lemmas.Bool.Decides.{nat_tests, Decides-and, Decides-eqb, Decides-like}
 use Rattle.std.proofs.lemmas.Slice.Eq.{slice_eq-Decides}
@@ -285,8 +285,8 @@ within_from (b ∷ bs) cs h f =
     let p = vector_parts b bs h in
     let here = reaches_from b (version b.0 b.1) refl p.positive (omega arith) in
     and_from (denotes cs (version b.0 b.1)) (is_within bs cs)
-      (f (version b.0 b.1) (or_left (reaches b (version b.0 b.1)) (denotes bs (version b.0 b.1)) here))
-      (within_from bs cs p.rest (λ v d. f v (or_right (reaches b v) (denotes bs v) d)))
+    (f (version b.0 b.1) (or_left (reaches b (version b.0 b.1)) (denotes bs (version b.0 b.1)) here))
+    (within_from bs cs p.rest (λ v d. f v (or_right (reaches b v) (denotes bs v) d)))
 
 pub within_inclusion : (bs cs : List Bound) → is_vector bs ≡ true → (is_within bs cs ≡ true) ↔ ((v : Version) → denotes bs v ≡ true → denotes cs v ≡ true)
 within_inclusion bs cs h = (within_denotes bs cs, within_from bs cs h)
@@ -322,7 +322,7 @@ raised_denoted v bs h d =
 same_bound-Decides : (b c : Bound) → Decides (same_bound b c) (b ≡ c)
 same_bound-Decides b c =
     Decides-like _ (λ (h : (b.0 ≡ c.0) × (b.1 ≡ c.1)) i. (h.0 i, h.1 i)) (λ e. (ap (λ (x : Bound). x.0) e, ap (λ (x : Bound). x.1) e))
-      (Decides-and _ _ (same_is b.0 c.0, same_from b.0 c.0) (Decides-eqb b.1 c.1))
+    (Decides-and _ _ (same_is b.0 c.0, same_from b.0 c.0) (Decides-eqb b.1 c.1))
 
 pub same_bounds-Decides : (bs cs : List Bound) → Decides (same_bounds bs cs) (bs ≡ cs)
 same_bounds-Decides bs cs = slice_eq-Decides {A = Bound} same_bound-Decides bs cs (same_bounds bs cs) refl

@@ -1,7 +1,7 @@
 -- The definitions at some vectors.
 use Rattle.std.specs.Prelude.{◌≡◌, ℕ, true, false, List, [], ◌∷◌}
 use Rattle.photo_version.specs.Author.{author}
-use Rattle.photo_version.specs.Version.{Version, version}
+use Rattle.photo_version.specs.Version.{version}
 use Rattle.photo_version.specs.Vector.{Bound, denotes, is_vector, raised, joined, is_within}
 
 -- the bound n of the author of device a

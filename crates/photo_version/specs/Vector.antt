@@ -3,7 +3,7 @@ use Rattle.std.specs.Prelude.{ℕ, Bool, true, ◌&&◌, ◌==◌, if◌then◌e
 use Rattle.std.specs.List.{list_any, list_all}
 use Rattle.std.specs.Cmp.Lexicographic.{pointwise}
 use Rattle.photo_version.specs.Author.{Author, same_author, author_before}
-use Rattle.photo_version.specs.Version.{Version, version}
+use Rattle.photo_version.specs.Version.{Version, version, Versions}
 
 -- the last version of an author that is in a set, by its number
 abbrev pub Bound : Type 0
@@ -14,8 +14,8 @@ abbrev pub reaches : Bound → Version → Bool
 reaches bound v = same_author bound.0 v.author && (nat_le 1 v.number && nat_le v.number bound.1)
 
 -- the set of versions that a list of bounds stands for
-abbrev pub denotes : List Bound → Version → Bool
-denotes bounds v = list_any (λ b. reaches b v) bounds
+abbrev pub denotes : List Bound → Versions
+denotes bounds = λ v. list_any (λ b. reaches b v) bounds
 
 -- each bound is above 0, and stands before those of all later authors
 abbrev pub is_vector : List Bound → Bool

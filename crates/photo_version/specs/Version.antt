@@ -17,3 +17,7 @@ same_version v w = same_author v.author w.author && (v.number == w.number)
 abbrev pub version_before : Version → Version → Bool
 version_before v w =
     author_before v.author w.author || (same_author v.author w.author && nat_lt v.number w.number)
+
+-- a set of versions, as the test of its members
+abbrev pub Versions : Type 0
+Versions = Version → Bool

@@ -34,7 +34,7 @@ impl Vector {
     ghost use Rattle.photo_version.specs.Version.{Version};
     ghost use Rattle.photo_version.specs.Vector.{denotes, is_vector, raised, joined, is_within};
 
-    /// The empty set. It takes no memory; what is made of it is kept in that of `alloc`.
+    /// The empty set. It takes no memory; `alloc` serves what is made of it.
     pub fn new(alloc: Global) -> Vector
         ensures { result ≡ [] }
     {
@@ -42,6 +42,21 @@ impl Vector {
             entries: None,
             alloc,
         }
+    }
+
+    /// The set with those entries, which stand in the order of their authors, each above 0. Its only error is want of
+    /// memory.
+    pub fn from_entries(alloc: Global, entries: Vec<(Author, u32)>) -> Result<Vector, AllocError>
+        requires { is_vector entries.items ≡ true }
+        ensures { IfOk result (λ r. r ≡ entries.items) }
+    {
+        if entries.is_empty() {
+            return Ok(Vector::new(alloc));
+        }
+        Ok(Vector {
+            entries: Some(Arc::new(alloc, entries)?),
+            alloc,
+        })
     }
 
     /// Whether the version is in the set.
@@ -97,7 +112,7 @@ impl Vector {
         if bounds::is_within(entries, others) {
             return other.try_clone();
         }
-        Vector::of(self.alloc, bounds::joined(self.alloc, entries, others)?)
+        Vector::from_entries(self.alloc, bounds::joined(self.alloc, entries, others)?)
     }
 
     /// The set with the version and all earlier ones of its author. Its only error is want of memory.
@@ -111,7 +126,7 @@ impl Vector {
             return self.try_clone();
         }
         let bound = (version.author(), version.n());
-        Vector::of(self.alloc, bounds::joined(self.alloc, &[bound], entries)?)
+        Vector::from_entries(self.alloc, bounds::joined(self.alloc, &[bound], entries)?)
     }
 
     /// An equal set, which shares the entries. It takes no memory, and fails only where they have too many owners to
@@ -126,17 +141,6 @@ impl Vector {
         Ok(Vector {
             entries,
             alloc: self.alloc,
-        })
-    }
-
-    /// The set of those entries, which stand in the order of authors. Its only error is want of memory.
-    pub fn of(alloc: Global, entries: Vec<Bound>) -> Result<Vector, AllocError>
-        requires { is_vector entries.items ≡ true }
-        ensures { IfOk result (λ r. r ≡ entries.items) }
-    {
-        Ok(Vector {
-            entries: Some(Arc::new(alloc, entries)?),
-            alloc,
         })
     }
 

@@ -1,4 +1,4 @@
-use Rattle.std.proofs.Common.{rules, ◌≡◌, ◌≤◌, ◌<◌, true, false, sym, arith}
+use Rattle.std.proofs.Common.{rules, ◌≡◌, true, false, sym, arith}
 use Rattle.photo_version.specs.Author.{author_before}
 use Rattle.photo_version.proofs.JoinLemmas.{pass_right, pass_both, missing_end, missing_author, missing_number}
 use Rattle.photo_version.proofs.bounds.is_within.Goals as goal

@@ -39,5 +39,5 @@ returns c =
       | else-loop-i-test w ↦ omega arith
     ] in
     all_joined xs ys c.loop-i.all.items c.push_all.new.all.items _ c.loop-i.i c.loop-i.j c.loop-i.invariant over
-      (c.in_ok-push_all.ensures ∙ ap (λ zs. c.loop-i.all.items ++ zs) (all_left xs c.loop-i.i))
-      (c.in_ok-push_all-2.ensures ∙ ap (λ zs. c.push_all.new.all.items ++ zs) (all_left ys c.loop-i.j))
+    (c.in_ok-push_all.ensures ∙ ap (λ zs. c.loop-i.all.items ++ zs) (all_left xs c.loop-i.i))
+    (c.in_ok-push_all-2.ensures ∙ ap (λ zs. c.push_all.new.all.items ++ zs) (all_left ys c.loop-i.j))

@@ -1,4 +1,4 @@
-use Rattle.std.proofs.Common.{rules, ◌≡◌, ◌<◌, true, get_or, arith}
+use Rattle.std.proofs.Common.{rules}
 use Rattle.photo_version.proofs.VectorLemmas.{positive_at}
 use Rattle.photo_version.proofs.vector.Vector.entry.Goals as goal
 

@@ -1,4 +1,4 @@
-use Rattle.std.proofs.Common.{◌≡◌, ◌∙◌, true, List, sym, ap, subst}
+use Rattle.std.proofs.Common.{◌≡◌, ◌∙◌, true, sym, ap, subst}
 use Rattle.std.proofs.lemmas.Result.{IfOk-weaker}
 use Rattle.photo_version.specs.Vector.{denotes, is_vector, joined, is_within}
 use Rattle.photo_version.proofs.VectorLemmas.{denotes-joined, joined_vector, joined_within, within_joined}
@@ -30,12 +30,12 @@ pub returns-then-is_within-2-clause-union : goal.returns-then-is_within-2-clause
 returns-then-is_within-2-clause-union c =
     IfOk-weaker c.try_clone-then-is_within-2.result (λ r. r ≡ joined c.args.self.now c.args.other.now) _ (λ r e v. ap (λ zs. denotes zs v) e ∙ denotes-joined c.args.self.now c.args.other.now v) (returns-then-is_within-2-clause-value c)
 
-pub of-requires : goal.of-requires
-of-requires c =
+pub from_entries-requires : goal.from_entries-requires
+from_entries-requires c =
     subst (λ zs. is_vector zs ≡ true) (sym c.in_ok-joined.ensures)
-      (joined_vector c.entries-entries.result.now c.entries-others.result.now c.entries-entries.ensures.vector c.entries-others.ensures.vector)
+    (joined_vector c.entries-entries.result.now c.entries-others.result.now c.entries-entries.ensures.vector c.entries-others.ensures.vector)
 
 pub returns-clause-union : goal.returns-clause-union
 returns-clause-union c =
     let is = c.in_ok-joined.ensures ∙ (λ i. joined (c.entries-entries.ensures.value i) (c.entries-others.ensures.value i)) in
-    IfOk-weaker c.of.result (λ r. r ≡ c.in_ok-joined.field-0.items) _ (λ r e v. ap (λ zs. denotes zs v) (e ∙ is) ∙ denotes-joined c.args.self.now c.args.other.now v) c.of.ensures
+    IfOk-weaker c.from_entries.result (λ r. r ≡ c.in_ok-joined.field-0.items) _ (λ r e v. ap (λ zs. denotes zs v) (e ∙ is) ∙ denotes-joined c.args.self.now c.args.other.now v) c.from_entries.ensures

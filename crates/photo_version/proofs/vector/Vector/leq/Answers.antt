@@ -1,4 +1,4 @@
-use Rattle.std.proofs.Common.{◌≡◌, ◌∙◌, ap, sym, subst, true}
+use Rattle.std.proofs.Common.{◌≡◌, ◌∙◌, subst, true}
 use Rattle.photo_version.specs.Vector.{is_vector, is_within}
 use Rattle.photo_version.proofs.VectorLemmas.{within_inclusion}
 use Rattle.photo_version.proofs.vector.Vector.leq.Goals as goal

@@ -19,8 +19,8 @@ returns-then-has-clause-union c =
     let b : Bound = (c.args.version.author, c.args.version.number) in
     IfOk-weaker c.try_clone.result (λ r. r ≡ raised b c.args.self.now) _ (λ r e w. ap (λ zs. denotes zs w) e ∙ denotes-joined (b ∷ []) c.args.self.now w) (returns-then-has-clause-value c)
 
-pub of-requires : goal.of-requires
-of-requires c =
+pub from_entries-requires : goal.from_entries-requires
+from_entries-requires c =
     let b : Bound = (c.args.version.author, c.args.version.number) in
     let xs = c.entries-entries.result.now in
     let is : c.in_ok-joined.field-0.items ≡ raised b xs = search rules in
@@ -30,5 +30,5 @@ of-requires c =
 pub returns-clause-union : goal.returns-clause-union
 returns-clause-union c =
     let b : Bound = (c.args.version.author, c.args.version.number) in
-    let value : IfOk c.of.result (λ r. r ≡ raised b c.args.self.now) = search rules in
-    IfOk-weaker c.of.result (λ r. r ≡ raised b c.args.self.now) _ (λ r e w. ap (λ zs. denotes zs w) e ∙ denotes-joined (b ∷ []) c.args.self.now w) value
+    let value : IfOk c.from_entries.result (λ r. r ≡ raised b c.args.self.now) = search rules in
+    IfOk-weaker c.from_entries.result (λ r. r ≡ raised b c.args.self.now) _ (λ r e w. ap (λ zs. denotes zs w) e ∙ denotes-joined (b ∷ []) c.args.self.now w) value
