@@ -5,7 +5,6 @@ mod Gathered
 mod Joined
 pub mod Listing
 mod Numbers
-mod Padded
 mod Places
 mod Returns
 mod Spaces

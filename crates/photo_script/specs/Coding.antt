@@ -1,4 +1,4 @@
--- What a script has, as the tuple of its parts: by this a proof tells two of them apart.
+-- Machinery of the proofs: a script as the tuple of its parts, by which a proof tells two of them apart.
 use Rattle.std.specs.Prelude.{ℕ, List, refl}
 use Rattle.std.specs.Coded.{Coded, code_by, coded×, coded_ℕ, coded_list}
 use Rattle.photo_filter_text.specs.Tree.{Tree}

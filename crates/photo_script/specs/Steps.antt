@@ -1,4 +1,5 @@
--- How what a reader does is tied to what lines say, where memory may be refused instead.
+-- Machinery of the proofs, which only contracts of private functions cite: how what a reader does is tied to what lines
+-- say, where memory may be refused instead.
 use Rattle.std.specs.Prelude.{◌≡◌, ℕ, ◌||◌, ◌==◌, if◌then◌else◌, List, ◌++◌, length, map, Option, option_to_list, Result, Ok, Err}
 use Rattle.std.specs.Borrow.{Bor}
 use Rattle.std.specs.BTreeSet.{contains}

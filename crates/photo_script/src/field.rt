@@ -1,4 +1,4 @@
-ghost use Rattle.std.specs.Prelude.{◌≡◌, map, IfOk};
+ghost use Rattle.std.specs.Prelude.{◌≡◌, map, OnOk};
 ghost use Rattle.photo_script.specs.Lines.{fields_of, without_spaces, behind_field, third_field_on};
 ghost use Rattle.photo_script.specs.Fields.{is_name, picture_of};
 ghost use Rattle.photo_script.specs.Saying.{filter_said};
@@ -12,13 +12,17 @@ use photo_filter_text::FilterFault;
 use photo_record::PicNo;
 use std::alloc::{AllocError, Global};
 
-/// The fields of a line: what stands between runs of spaces.
-pub fn fields_of(alloc: Global, line: &str) -> Result<Vec<&str>, AllocError>
-    ensures { IfOk result (λ v. map (λ f. f.now) v.items ≡ fields_of line.now) }
+/// Puts the fields of a line, what stands between runs of spaces, in place of those that the list has.
+pub fn put_fields<'a>(fields: &mut Vec<&'a str>, line: &'a str) -> Result<(), AllocError>
+    ensures { OnOk result (map (λ f. f.now) fields.new.items ≡ fields_of line.now) }
 {
-    line.split(' ')
-        .filter(|piece| !piece.is_empty())
-        .collect(alloc)
+    fields.clear();
+    for piece in line.split(' ') {
+        if !piece.is_empty() {
+            fields.push(piece)?;
+        }
+    }
+    Ok(())
 }
 
 /// The text of a line from its third field on.

@@ -17,7 +17,7 @@ pub use command::{Command, devices_of};
 pub use fault::{LineFault, ScriptFault};
 pub use limits::{MAX_COMMANDS, MAX_DEVICES, MAX_TEXT_BYTES};
 pub use reader::read_script;
-pub use report::{Report, report_text};
+pub use report::{Report, push_report, report_text};
 pub use script::Script;
 
 #[cfg(test)]

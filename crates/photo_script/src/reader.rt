@@ -7,7 +7,7 @@ ghost use Rattle.photo_script.specs.Saying.{device_said, new_picture_said, recor
 ghost use Rattle.photo_script.specs.Reading.{script_of, script_of_lines, MayWantMemory};
 ghost use Rattle.photo_script.specs.declared.fault.ScriptFault.TheVariants.{NoMemory, Read};
 
-use crate::field::{fields_of, filter_of, is_name, picture_of, third_field_on};
+use crate::field::{filter_of, is_name, picture_of, put_fields, third_field_on};
 use crate::limits::{MAX_COMMANDS, MAX_DEVICES, MAX_LINE_BYTES, MAX_TEXT_BYTES};
 use crate::refusal::Refusal;
 use crate::{Command, LineFault, Script, ScriptFault};
@@ -48,10 +48,11 @@ fn read_lines(alloc: Global, text: &str) -> Result<Script, ScriptFault>
         script: Script::new(alloc),
         pictures: BTreeSet::new(alloc),
     };
+    let mut fields = Vec::new(alloc);
     let mut number = 0;
     for piece in text.split('\n') {
         number += 1;
-        if let Err(refusal) = reader.read_line(without_return(piece)) {
+        if let Err(refusal) = reader.read_line(without_return(piece), &mut fields) {
             return Err(refusal.in_line(number));
         }
     }
@@ -78,14 +79,14 @@ impl Reader {
     ghost use Rattle.photo_script.specs.declared.refusal.Refusal.TheVariants.{Memory};
 
     #[tactic(auto, unfolding(crate::specs::Saying::said))]
-    fn read_line(&mut self, line: &str) -> Result<(), Refusal>
+    fn read_line<'a>(&mut self, line: &'a str, fields: &mut Vec<&'a str>) -> Result<(), Refusal>
         ensures reads { Reads self.old (fields_of line.now) (third_field_on line.now) (said (seen self.old) line.now) result self.new }
         ensures memory { result ≡ Err Memory → length line.now ≤ max_line_bytes }
     {
         if line.len() > MAX_LINE_BYTES {
             return Err(Refusal::Fault(LineFault::LineTooLong));
         }
-        let fields = fields_of(self.alloc, line)?;
+        put_fields(fields, line)?;
         self.read_fields(line, fields.as_slice())
     }
 

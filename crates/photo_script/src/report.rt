@@ -1,6 +1,7 @@
 ghost use Rattle.std.specs.Prelude.{◌≡◌, ◌<◌, ◌++◌, length, string_bytes, IfOk, OnOk};
 
 use crate::Script;
+use itoa::Buffer;
 use photo_device::{Held, HeldList, Place};
 use photo_record::{Day, Record, Words};
 use photo_version::Version;
@@ -23,11 +24,11 @@ pub enum Report {
 }
 
 ghost use Rattle.photo_device.specs.Held.{entry_of, entries_of};
-ghost use Rattle.photo_script.specs.Reports.{IsAbout, IsOfScript, AreOfScript, answer_of, text_of, version_text, place_text, day_text, words_text, record_text, entry_text, entries_text, made_text, heading_text, listed_text};
+ghost use Rattle.std.specs.Fmt.{decimal};
+ghost use Rattle.photo_script.specs.Reports.{IsAbout, IsOfScript, AreOfScript, answer_of, text_of, version_text, place_text, padded_decimal, day_text, words_text, record_text, entry_text, entries_text, made_text, heading_text, listed_text};
 
 /// The text of a report on the command of that number: a line, and for a list a line more for each held version.
 /// Each line ends with LF. Its only error is want of memory.
-#[tactic(auto, unfolding(crate::specs::Reports::text_of))]
 pub fn report_text(
     alloc: Global,
     script: &Script,
@@ -38,13 +39,29 @@ pub fn report_text(
     ensures { IfOk result (λ text. string_bytes text ≡ text_of script.now number (answer_of report.now)) }
 {
     let mut text = String::new(alloc);
+    push_report(&mut text, script, number, report)?;
+    Ok(text)
+}
+
+/// Puts the text of a report on the command of that number behind a text, so that one buffer serves for many reports.
+/// Its only error is want of memory, which leaves some of the report's first bytes behind the text.
+#[tactic(auto, unfolding(crate::specs::Reports::text_of))]
+pub fn push_report(
+    text: &mut String,
+    script: &Script,
+    number: u32,
+    report: &Report,
+) -> Result<(), AllocError>
+    requires { IsAbout script.now (answer_of report.now) }
+    ensures { OnOk result (string_bytes text.new ≡ string_bytes text.old ++ text_of script.now number (answer_of report.now)) }
+{
     match report {
-        Report::Made { version, place } => push_made(&mut text, script, number, *version, *place)?,
+        Report::Made { version, place } => push_made(text, script, number, *version, *place)?,
         Report::Listed { device, store, out } => {
-            push_listed(&mut text, script, number, *device, store, out)?
+            push_listed(text, script, number, *device, store, out)?
         }
     }
-    Ok(text)
+    Ok(())
 }
 
 fn push_made(
@@ -57,10 +74,12 @@ fn push_made(
     requires { IsOfScript script.now version }
     ensures { OnOk result (string_bytes text.new ≡ string_bytes text.old ++ made_text script.now number version place) }
 {
-    write!(text, "{number} made ")?;
+    push_decimal(text, number)?;
+    text.push_str(" made ")?;
     push_version(text, script, version)?;
-    let word = place_word(place);
-    writeln!(text, " {word}")?;
+    text.push_str(" ")?;
+    text.push_str(place_word(place))?;
+    text.push_str("\n")?;
     Ok(())
 }
 
@@ -123,9 +142,11 @@ fn push_held(
     requires { IsOfScript script.now held.now.version }
     ensures { OnOk result (string_bytes text.new ≡ string_bytes text.old ++ entry_text script.now place (entry_of held.now)) }
 {
-    let word = place_word(place);
-    let picture = held.picture.value();
-    write!(text, "  {word} {picture} ")?;
+    text.push_str("  ")?;
+    text.push_str(place_word(place))?;
+    text.push_str(" ")?;
+    push_decimal(text, held.picture.value())?;
+    text.push_str(" ")?;
     push_version(text, script, held.version)?;
     text.push_str(" ")?;
     push_record(text, &held.content)?;
@@ -137,9 +158,9 @@ fn push_version(text: &mut String, script: &Script, version: Version) -> Result<
     requires { IsOfScript script.now version }
     ensures { OnOk result (string_bytes text.new ≡ string_bytes text.old ++ version_text script.now version) }
 {
-    let name = script.name(version.author().value());
-    let n = version.n();
-    write!(text, "{name}:{n}")?;
+    text.push_str(script.name(version.author().value()))?;
+    text.push_str(":")?;
+    push_decimal(text, version.n())?;
     Ok(())
 }
 
@@ -148,8 +169,9 @@ fn push_record(text: &mut String, record: &Record) -> Result<(), AllocError>
 {
     match record {
         Record::Picture { rating, day, words } => {
-            let stars = rating.value();
-            write!(text, "rating {stars} day ")?;
+            text.push_str("rating ")?;
+            push_decimal(text, u32::from(rating.value()))?;
+            text.push_str(" day ")?;
             push_day(text, *day)?;
             text.push_str(" words ")?;
             push_words(text, words)?;
@@ -162,10 +184,32 @@ fn push_record(text: &mut String, record: &Record) -> Result<(), AllocError>
 fn push_day(text: &mut String, day: Day) -> Result<(), AllocError>
     ensures { OnOk result (string_bytes text.new ≡ string_bytes text.old ++ day_text day) }
 {
-    let year = day.year();
-    let month = day.month();
-    let day = day.day();
-    write!(text, "{year:04}-{month:02}-{day:02}")?;
+    push_padded(text, 4, u32::from(day.year()))?;
+    text.push_str("-")?;
+    push_padded(text, 2, u32::from(day.month()))?;
+    text.push_str("-")?;
+    push_padded(text, 2, u32::from(day.day()))?;
+    Ok(())
+}
+
+// Decimal, with zeros in front up to the width.
+fn push_padded(text: &mut String, width: usize, number: u32) -> Result<(), AllocError>
+    ensures { OnOk result (string_bytes text.new ≡ string_bytes text.old ++ padded_decimal width number) }
+{
+    let mut buffer = Buffer::new();
+    let digits = buffer.format(number);
+    for _ in 0..width.saturating_sub(digits.len()) {
+        text.push_str("0")?;
+    }
+    text.push_str(digits)?;
+    Ok(())
+}
+
+fn push_decimal(text: &mut String, number: u32) -> Result<(), AllocError>
+    ensures { OnOk result (string_bytes text.new ≡ string_bytes text.old ++ decimal number) }
+{
+    let mut buffer = Buffer::new();
+    text.push_str(buffer.format(number))?;
     Ok(())
 }
 

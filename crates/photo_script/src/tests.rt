@@ -1,10 +1,12 @@
+ghost use Rattle.std.specs.Prelude.{◌≡◌, ◌<◌, ◌≤◌, length, IfSome};
+ghost use Rattle.photo_version.specs.Author.{author};
+
 use super::*;
 use photo_device::{Held, HeldList, Place};
-use photo_record::{Day, PicNo, Rating, Record, Words};
+use photo_record::Record;
 use photo_version::{Author, Version};
 use std::alloc::{AllocError, Global};
 use std::process::Abort;
-use std::test::Fail;
 
 // What a text is answered: `read`, or its fault.
 fn answer(alloc: Global, text: &[u8]) -> Result<String, AllocError> {
@@ -14,14 +16,36 @@ fn answer(alloc: Global, text: &[u8]) -> Result<String, AllocError> {
     }
 }
 
-fn expect(rt: &impl Abort, alloc: Global, text: &str, wanted: &str) -> Result<(), Fail> {
-    let got = answer(alloc, text.as_bytes())?;
+fn expect_answer(rt: &impl Abort, alloc: Global, text: &str, wanted: &str) {
+    let got = answer(alloc, text.as_bytes()).expect(rt, "memory");
     assert_eq!(rt; got.as_str(), wanted, "of {text:?}");
-    Ok(())
+}
+
+// The same for a text with one more behind it.
+fn expect_answer_behind(rt: &impl Abort, alloc: Global, text: &str, more: &str, wanted: &str) {
+    let whole = format!(in alloc; "{text}{more}").expect(rt, "memory");
+    let got = answer(alloc, whole.as_bytes()).expect(rt, "memory");
+    assert_eq!(rt; got.as_str(), wanted, "behind {more:?}");
+}
+
+// So many times a text, between two others.
+fn repeated(
+    alloc: Global,
+    front: &str,
+    count: u32,
+    text: &str,
+    end: &str,
+) -> Result<String, AllocError> {
+    let mut whole = String::from_str(alloc, front)?;
+    for _ in 0..count {
+        whole.push_str(text)?;
+    }
+    whole.push_str(end)?;
+    Ok(whole)
 }
 
 #[test]
-fn single_faults(rt: HostRuntime) -> Result<(), Fail> {
+fn single_faults(rt: HostRuntime) {
     for (text, wanted) in [
         ("", "read"),
         ("device a all", "read"),
@@ -79,14 +103,14 @@ fn single_faults(rt: HostRuntime) -> Result<(), Fail> {
             "line 3: F16 RepeatedPicture",
         ),
     ] {
-        expect(&rt, rt.alloc(), text, wanted)?;
+        expect_answer(&rt, rt.alloc(), text, wanted);
     }
-    assert_eq!(&rt; answer(rt.alloc(), &[0xff])?.as_str(), "F3 NotUtf8");
-    Ok(())
+    let got = answer(rt.alloc(), &[0xff]).expect(&rt, "memory");
+    assert_eq!(&rt; got.as_str(), "F3 NotUtf8");
 }
 
 #[test]
-fn lines_and_fields(rt: HostRuntime) -> Result<(), Fail> {
+fn lines_and_fields(rt: HostRuntime) {
     for (text, wanted) in [
         ("\n\n  \n# device A\ndevice a all\n#\n", "read"),
         ("  device   a  all  \n   list a", "read"),
@@ -117,13 +141,12 @@ fn lines_and_fields(rt: HostRuntime) -> Result<(), Fail> {
         ("device a all\nLIST a", "line 2: F5 UnknownCommand"),
         ("device a all\nlist A-B", "line 2: F8 UnknownDevice"),
     ] {
-        expect(&rt, rt.alloc(), text, wanted)?;
+        expect_answer(&rt, rt.alloc(), text, wanted);
     }
-    Ok(())
 }
 
 #[test]
-fn first_of_two_faults(rt: HostRuntime) -> Result<(), Fail> {
+fn first_of_two_faults(rt: HostRuntime) {
     for (text, wanted) in [
         ("device a all\nlist a\ndevice b", "line 3: F10 LateDevice"),
         (
@@ -154,13 +177,12 @@ fn first_of_two_faults(rt: HostRuntime) -> Result<(), Fail> {
         ("device a all\ndevice a none", "line 2: F9 RepeatedDevice"),
         ("frob\nlist", "line 1: F5 UnknownCommand"),
     ] {
-        expect(&rt, rt.alloc(), text, wanted)?;
+        expect_answer(&rt, rt.alloc(), text, wanted);
     }
-    Ok(())
 }
 
 #[test]
-fn filters(rt: HostRuntime) -> Result<(), Fail> {
+fn filters(rt: HostRuntime) {
     for (text, wanted) in [
         ("device a not(rating = 0 or keyword x)", "read"),
         ("  device  a   keyword   and and all  ", "read"),
@@ -188,36 +210,27 @@ fn filters(rt: HostRuntime) -> Result<(), Fail> {
             "line 2: F15 BadFilter",
         ),
     ] {
-        expect(&rt, rt.alloc(), text, wanted)?;
+        expect_answer(&rt, rt.alloc(), text, wanted);
     }
-    Ok(())
 }
 
 #[test]
-fn deep_filters(rt: HostRuntime) -> Result<(), Fail> {
-    let alloc = rt.alloc();
+fn deep_filters(rt: HostRuntime) {
     for (count, front, end, wanted) in [
         (31, "not ", "", "read"),
         (32, "not ", "", "line 1: F15 BadFilter"),
         (127, "(", ")", "read"),
         (128, "(", ")", "line 1: F15 BadFilter"),
     ] {
-        let mut text = String::from_str(alloc, "device a ")?;
-        for _ in 0..count {
-            text.push_str(front)?;
-        }
-        text.push_str("all")?;
-        for _ in 0..count {
-            text.push_str(end)?;
-        }
-        expect(&rt, alloc, text.as_str(), wanted)?;
+        let text = repeated(rt.alloc(), "device a ", count, front, "all").expect(&rt, "memory");
+        let ends = repeated(rt.alloc(), "", count, end, "").expect(&rt, "memory");
+        expect_answer_behind(&rt, rt.alloc(), text.as_str(), ends.as_str(), wanted);
     }
-    Ok(())
 }
 
-// Puts a bracket with so many words behind a text, joined by `or`.
-fn push_words(text: &mut String, letter: char, count: usize) -> Result<(), Fail> {
-    text.push('(')?;
+// So many words joined by `or`, in parentheses.
+fn either_of(alloc: Global, letter: char, count: usize) -> Result<String, AllocError> {
+    let mut text = String::from_str(alloc, "(")?;
     for i in 0..count {
         if i > 0 {
             text.push_str(" or ")?;
@@ -225,52 +238,76 @@ fn push_words(text: &mut String, letter: char, count: usize) -> Result<(), Fail>
         write!(text, "keyword {letter}{i}")?;
     }
     text.push(')')?;
-    Ok(())
+    Ok(text)
 }
 
 #[test]
-fn wide_filters(rt: HostRuntime) -> Result<(), Fail> {
-    let alloc = rt.alloc();
+fn wide_filters(rt: HostRuntime) {
     for (left, right, wanted) in [
         (8, 8, "read"),
         (5, 13, "line 1: F15 BadFilter"),
         (13, 5, "line 1: F15 BadFilter"),
         (16, 4, "read"),
     ] {
-        let mut text = String::from_str(alloc, "device a ")?;
-        push_words(&mut text, 'x', left)?;
-        text.push_str(" and ")?;
-        push_words(&mut text, 'y', right)?;
-        expect(&rt, alloc, text.as_str(), wanted)?;
+        let one = either_of(rt.alloc(), 'x', left).expect(&rt, "memory");
+        let other = either_of(rt.alloc(), 'y', right).expect(&rt, "memory");
+        let text = format!(in rt.alloc(); "device a {one} and {other}").expect(&rt, "memory");
+        expect_answer(&rt, rt.alloc(), text.as_str(), wanted);
     }
-    Ok(())
 }
 
+// Whether a device's filter matches the picture that a command makes.
+fn is_kept(script: &Script, device: u16, number: u32) -> bool
+    requires device { device < length script.now.names }
+    requires first { 0 < number }
+    requires within { number ≤ length script.now.commands }
+{
+    match script.command(number) {
+        Command::New { record, .. } => script.filter(device).matches(record),
+        Command::List { .. } => false,
+    }
+}
+
+// The same of the pictures that the first three commands make.
+fn are_kept(script: &Script, device: u16) -> (bool, bool, bool)
+    requires device { device < length script.now.names }
+    requires long { 3 ≤ length script.now.commands }
+{
+    (
+        is_kept(script, device, 1),
+        is_kept(script, device, 2),
+        is_kept(script, device, 3),
+    )
+}
+
+const THREE_FILTERS: &str = "device a all
+ device  b  not rating = 3 \r
+device c none
+new a 1 2 2024-05-01 -
+new a 2 3 2024-05-01 -
+new a 3 4 2024-05-01 -";
+
 #[test]
-fn filters_of_a_script(rt: HostRuntime) -> Result<(), Fail> {
-    let alloc = rt.alloc();
-    let text = "device a all\n device  b  not rating = 3 \r\ndevice c none\nlist b";
-    let script = read_script(alloc, text.as_bytes())?;
+fn alternatives_of_filters(rt: HostRuntime) {
+    let script = read_script(rt.alloc(), THREE_FILTERS.as_bytes()).expect(&rt, "a script");
     assert_eq!(&rt; script.devices(), 3);
     assert_eq!(&rt; script.filter(0).alternatives(), 1);
     assert_eq!(&rt; script.filter(1).alternatives(), 2);
     assert_eq!(&rt; script.filter(2).alternatives(), 0);
-    for (rating, wanted) in [(2, true), (3, false), (4, true)] {
-        let record = Record::Picture {
-            rating: Rating::new(rating).expect(&rt, "a rating"),
-            day: Day::read("2024-05-01").expect(&rt, "a day"),
-            words: Words::read(alloc, "-")?,
-        };
-        assert_eq!(&rt; script.filter(0).matches(&record), true);
-        assert_eq!(&rt; script.filter(1).matches(&record), wanted, "at {rating}");
-        assert_eq!(&rt; script.filter(2).matches(&record), false);
-    }
-    Ok(())
 }
 
 #[test]
-fn long_lines(rt: HostRuntime) -> Result<(), Fail> {
-    let alloc = rt.alloc();
+fn pictures_of_filters(rt: HostRuntime) {
+    let script = read_script(rt.alloc(), THREE_FILTERS.as_bytes()).expect(&rt, "a script");
+    assert_eq!(&rt; script.devices(), 3);
+    assert_eq!(&rt; script.commands(), 3);
+    assert_eq!(&rt; are_kept(&script, 0), (true, true, true));
+    assert_eq!(&rt; are_kept(&script, 1), (true, false, true));
+    assert_eq!(&rt; are_kept(&script, 2), (false, false, false));
+}
+
+#[test]
+fn long_lines(rt: HostRuntime) {
     for (count, end, wanted) in [
         (1023, "", "read"),
         (1023, "\r\n", "read"),
@@ -278,155 +315,160 @@ fn long_lines(rt: HostRuntime) -> Result<(), Fail> {
         (1024, "\r\n", "line 1: F4 LineTooLong"),
         (1023, "\r\r\n", "line 1: F4 LineTooLong"),
     ] {
-        let mut text = String::from_str(alloc, "#")?;
-        for _ in 0..count {
-            text.push_str("x")?;
-        }
-        text.push_str(end)?;
-        assert_eq!(&rt;
-            answer(alloc, text.as_bytes())?.as_str(),
-            wanted,
-            "at {count}"
-        );
+        let text = repeated(rt.alloc(), "#", count, "x", end).expect(&rt, "memory");
+        expect_answer(&rt, rt.alloc(), text.as_str(), wanted);
     }
-    Ok(())
 }
 
-#[test]
-fn many_devices(rt: HostRuntime) -> Result<(), Fail> {
-    let alloc = rt.alloc();
+// The declarations of 64 devices.
+fn declarations(alloc: Global) -> Result<String, AllocError> {
     let mut text = String::new(alloc);
     for i in 0..64u8 {
         writeln!(text, "device d{i} all")?;
     }
-    assert_eq!(&rt; answer(alloc, text.as_bytes())?.as_str(), "read");
-    for line in [
-        "device e all",
-        "device E all",
-        "device d0 all",
-        "device e none",
+    Ok(text)
+}
+
+#[test]
+fn many_devices(rt: HostRuntime) {
+    let text = declarations(rt.alloc()).expect(&rt, "memory");
+    for (line, wanted) in [
+        ("", "read"),
+        ("device e all", "line 65: F17 TooMany"),
+        ("device E all", "line 65: F17 TooMany"),
+        ("device d0 all", "line 65: F17 TooMany"),
+        ("device e none", "line 65: F17 TooMany"),
+        ("device e", "line 65: F6 WrongFields"),
     ] {
-        let mut more = text.clone()?;
-        more.push_str(line)?;
-        assert_eq!(&rt;
-            answer(alloc, more.as_bytes())?.as_str(),
-            "line 65: F17 TooMany",
-            "{line}"
-        );
+        expect_answer_behind(&rt, rt.alloc(), text.as_str(), line, wanted);
     }
-    text.push_str("device e")?;
-    assert_eq!(&rt;
-        answer(alloc, text.as_bytes())?.as_str(),
-        "line 65: F6 WrongFields"
-    );
-    Ok(())
 }
 
 #[test]
-fn many_commands(rt: HostRuntime) -> Result<(), Fail> {
-    let alloc = rt.alloc();
-    let mut text = String::from_str(alloc, "device a all\n")?;
-    for _ in 0..100_000u32 {
-        text.push_str("list a\n")?;
-    }
-    let script = read_script(alloc, text.as_bytes())?;
+fn many_commands(rt: HostRuntime) {
+    let text = repeated(rt.alloc(), "device a all\n", 100_000, "list a\n", "").expect(
+        &rt, "memory",
+    );
+    let script = read_script(rt.alloc(), text.as_bytes()).expect(&rt, "a script");
     assert_eq!(&rt; script.commands(), 100_000);
-    text.push_str("list b\n")?;
-    assert_eq!(&rt;
-        answer(alloc, text.as_bytes())?.as_str(),
-        "line 100002: F17 TooMany"
+    expect_answer_behind(
+        &rt,
+        rt.alloc(),
+        text.as_str(),
+        "list b\n",
+        "line 100002: F17 TooMany",
     );
-    Ok(())
 }
 
 #[test]
-fn large_texts(rt: HostRuntime) -> Result<(), Fail> {
-    let alloc = rt.alloc();
-    let mut text = vec![in alloc; b'\n'; 8_388_608]?;
-    assert_eq!(&rt; answer(alloc, text.as_slice())?.as_str(), "read");
-    text.push(b'\n')?;
-    assert_eq!(&rt; answer(alloc, text.as_slice())?.as_str(), "F2 TooLarge");
-    Ok(())
+fn large_texts(rt: HostRuntime) {
+    for (len, wanted) in [(8_388_608, "read"), (8_388_609, "F2 TooLarge")] {
+        let text = vec![in rt.alloc(); b'\n'; len].expect(&rt, "memory");
+        let got = answer(rt.alloc(), text.as_slice()).expect(&rt, "memory");
+        assert_eq!(&rt; got.as_str(), wanted);
+    }
 }
 
 #[test]
-fn a_first_run(rt: HostRuntime) -> Result<(), Fail> {
-    let alloc = rt.alloc();
-    let text = "device cam all\nnew cam 7 5 2024-05-01 sun,beach\nlist cam\n";
-    let script = read_script(alloc, text.as_bytes())?;
+fn devices_and_commands(rt: HostRuntime) {
+    let text = b"device cam all\nnew cam 7 5 2024-05-01 sun,beach\nlist cam\n";
+    let script = read_script(rt.alloc(), text).expect(&rt, "a script");
     assert_eq!(&rt; script.devices(), 1);
     assert_eq!(&rt; script.name(0), "cam");
     assert_eq!(&rt; script.commands(), 2);
-    let Command::New {
-        device: 0,
-        picture,
-        record,
-    } = script.command(1)
-    else {
-        rt.panic("no new");
+    let Command::New { device: 0, .. } = script.command(1) else {
+        rt.panic("no new")
     };
     assert_eq!(&rt; script.command(2), &Command::List { device: 0 });
-    let version = Version::new(Author::new(0), 1).expect(&rt, "a version");
-    let made = Report::Made {
-        version,
-        place: Place::Store,
+}
+
+// The version that the device at a place makes as its `n`th.
+fn version(device: u16, n: u32) -> Option<Version>
+    ensures { IfSome result (λ v. v.author ≡ author device) }
+{
+    Version::new(Author::new(device), n)
+}
+
+// A version of the picture that a command makes.
+fn held(script: &Script, number: u32, version: Version) -> Option<Held>
+    requires first { 0 < number }
+    requires within { number ≤ length script.now.commands }
+    ensures { IfSome result (λ held. held.version ≡ version) }
+{
+    let Command::New {
+        picture,
+        record,
+        ..
+    } = script.command(number)
+    else {
+        return None;
     };
-    let first = report_text(alloc, &script, 1, &made)?;
-    assert_eq!(&rt; first.as_str(), "1 made cam:1 store\n");
-    let held = Held {
+    Some(Held {
         picture: *picture,
         version,
-        content: record.try_clone()?,
-    };
-    let listed = Report::Listed {
-        device: 0,
-        store: HeldList::new(vec![in alloc; held]?),
-        out: HeldList::new(Vec::new(alloc)),
-    };
-    let second = report_text(alloc, &script, 2, &listed)?;
-    assert_eq!(&rt;
-        second.as_str(),
-        "2 list cam store 1 out 0\n  store 7 cam:1 rating 5 day 2024-05-01 words beach,sun\n"
-    );
-    Ok(())
+        content: record.try_clone().ok()?,
+    })
 }
 
 #[test]
-fn held_records(rt: HostRuntime) -> Result<(), Fail> {
-    let alloc = rt.alloc();
-    let script = read_script(alloc, b"device a all\ndevice b all")?;
+fn texts_of_new(rt: HostRuntime) {
+    let script = read_script(rt.alloc(), b"device cam all\ndevice b all").expect(&rt, "a script");
     assert_eq!(&rt; script.devices(), 2);
-    let version = Version::new(Author::new(1), 100_000).expect(&rt, "a version");
-    let picture = PicNo::new(999_999_999).expect(&rt, "a number");
+    for (device, n, place, wanted) in [
+        (0, 1, Place::Store, "1 made cam:1 store\n"),
+        (1, 100_000, Place::Out, "1 made b:100000 out\n"),
+    ] {
+        assert!(&rt; device < 2);
+        let version = version(device, n).expect(&rt, "a version");
+        let made = Report::Made { version, place };
+        let text = report_text(rt.alloc(), &script, 1, &made).expect(&rt, "memory");
+        assert_eq!(&rt; text.as_str(), wanted);
+    }
+}
+
+#[test]
+fn text_of_a_store(rt: HostRuntime) {
+    let alloc = rt.alloc();
+    let text = b"device cam all\nnew cam 7 5 2024-05-01 sun,beach";
+    let script = read_script(alloc, text).expect(&rt, "a script");
+    assert_eq!(&rt; script.devices(), 1);
+    assert_eq!(&rt; script.commands(), 1);
+    let version = version(0, 1).expect(&rt, "a version");
+    let beach = held(&script, 1, version).expect(&rt, "a held version");
+    let listed = Report::Listed {
+        device: 0,
+        store: HeldList::new(vec![in alloc; beach].expect(&rt, "memory")),
+        out: HeldList::new(Vec::new(alloc)),
+    };
+    let text = report_text(alloc, &script, 2, &listed).expect(&rt, "memory");
+    assert_eq!(&rt;
+        text.as_str(),
+        "2 list cam store 1 out 0\n  store 7 cam:1 rating 5 day 2024-05-01 words beach,sun\n"
+    );
+}
+
+#[test]
+fn text_of_an_out(rt: HostRuntime) {
+    let alloc = rt.alloc();
+    let text = b"device a all\ndevice b all\nnew b 999999999 0 0007-11-09 -";
+    let script = read_script(alloc, text).expect(&rt, "a script");
+    assert_eq!(&rt; script.devices(), 2);
+    assert_eq!(&rt; script.commands(), 1);
+    let version = version(1, 100_000).expect(&rt, "a version");
+    let old = held(&script, 1, version).expect(&rt, "a held version");
     let removed = Held {
-        picture,
+        picture: old.picture,
         version,
         content: Record::Removed,
-    };
-    let old = Held {
-        picture,
-        version,
-        content: Record::Picture {
-            rating: Rating::new(0).expect(&rt, "a rating"),
-            day: Day::read("0007-11-09").expect(&rt, "a day"),
-            words: Words::read(alloc, "-")?,
-        },
     };
     let listed = Report::Listed {
         device: 1,
         store: HeldList::new(Vec::new(alloc)),
-        out: HeldList::new(vec![in alloc; removed, old]?),
+        out: HeldList::new(vec![in alloc; removed, old].expect(&rt, "memory")),
     };
-    let text = report_text(alloc, &script, 4_294_967_295, &listed)?;
+    let text = report_text(alloc, &script, 4_294_967_295, &listed).expect(&rt, "memory");
     assert_eq!(&rt;
         text.as_str(),
         "4294967295 list b store 0 out 2\n  out 999999999 b:100000 removed\n  out 999999999 b:100000 rating 0 day 0007-11-09 words -\n"
     );
-    let made = Report::Made {
-        version,
-        place: Place::Out,
-    };
-    let text = report_text(alloc, &script, 1, &made)?;
-    assert_eq!(&rt; text.as_str(), "1 made b:100000 out\n");
-    Ok(())
 }
