@@ -12,7 +12,7 @@ use Rattle.clap.specs.declared.parser.matches.SubCommand.{SubCommand}
 use Rattle.clap.specs.declared.parser.matches.ArgMatches.TheViews.{out-ArgMatches, out-SubCommand}
 use Rattle.clap.proofs.OnLiterals.{clap_on_literals}
 use Rattle.clap.proofs.WalkLemmas.{first_value-rows}
-use Rattle.photofleet.specs.CommandLine.{program, file_in, file_of, errors_of, Asks, IsRefusal}
+use Rattle.photofleet.specs.CommandLine.{program, file_in, errors_of, Asks, IsRefusal}
 
 program_is_simple : is_simple program ≡ true
 unfolding clap_on_literals

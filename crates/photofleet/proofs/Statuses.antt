@@ -1,7 +1,6 @@
 -- From the status of a run to what it came to.
 use Rattle.std.proofs.Common.{◌≡◌, Result, Ok, Err, refl, arith}
 use Rattle.std.specs.Prelude.{OnOk}
-use Rattle.photo_script.specs.declared.fault.ScriptFault.{ScriptFault}
 use Rattle.photofleet.specs.declared.runner.fault.RunError.{RunError}
 use Rattle.photofleet.specs.declared.runner.fault.RunError.TheVariants.{NoMemory, Script, Write}
 use Rattle.photofleet.specs.Status.{status_of}

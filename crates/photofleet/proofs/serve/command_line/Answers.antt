@@ -2,7 +2,7 @@ use Rattle.std.proofs.Common.{◌≡◌, ◌∙◌, ap, ap₂, rules, codes, tru
 use Rattle.std.proofs.lemmas.Result.{IfOk-weaker}
 use Rattle.clap.specs.Words.{App, app_of, rule_of, new_app, with_rule, with_subcommand}
 use Rattle.clap.specs.Simple.{app_of_fields}
-use Rattle.photofleet.specs.CommandLine.{program, plain_command, file_argument}
+use Rattle.photofleet.specs.CommandLine.{plain_command, file_argument}
 use Rattle.photofleet.proofs.serve.command_line.Goals as goal
 
 abbrev requiring : App → App
