@@ -37,7 +37,7 @@ pub(crate) fn vector_of(alloc: Global, row: &[u64]) -> Result<Vector, AllocError
         let (word, n) = entry_at(row, i);
         bounds.push((Author::of_word(word), n as u32))?;
     }
-    Vector::of(alloc, bounds)
+    Vector::from_entries(alloc, bounds)
 }
 
 /// The rows of what is told of pictures, with their index.

@@ -34,8 +34,8 @@ loop-i-preserved c =
           (omega arith) c.entry_at-word.ensures (λ j. (c.of_word.ensures j, c.entry_at-word.result.1)) is c.loop-i.invariant.rest;
     }
 
-pub of-requires : goal.of-requires
-of-requires c =
+pub from_entries-requires : goal.from_entries-requires
+from_entries-requires c =
     let rows = row_length c.args.row.now c.requires.row in
     let all = bounds_done (pairs c.args.row.now) c.loop-i.bounds.items c.loop-i.i (omega arith) c.loop-i.invariant.rest in
     subst (λ bs. versions.is_vector bs ≡ true) (sym all) (bounds_vector (pairs c.args.row.now) c.requires.vector)
@@ -44,4 +44,4 @@ pub returns : goal.returns
 returns c =
     let rows = row_length c.args.row.now c.requires.row in
     let all = bounds_done (pairs c.args.row.now) c.loop-i.bounds.items c.loop-i.i (omega arith) c.loop-i.invariant.rest in
-    subst (λ bs. IfOk c.of.result (λ vector. vector ≡ bs)) all c.of.ensures
+    subst (λ bs. IfOk c.from_entries.result (λ vector. vector ≡ bs)) all c.from_entries.ensures
