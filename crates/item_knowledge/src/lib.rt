@@ -15,3 +15,6 @@ mod union;
 
 pub use fragment::Fragment;
 pub use knowledge::Knowledge;
+
+#[cfg(test)]
+mod tests;

@@ -1,0 +1,218 @@
+use crate::Knowledge;
+use photo_record::PicNo;
+use photo_version::{Author, Vector, Version};
+use std::alloc::Global;
+use std::collections::BTreeSet;
+use std::test::Fail;
+
+ghost use Rattle.std.specs.Prelude.{◌≡◌, ◌<◌};
+ghost use Rattle.photo_version.specs.Author.{author};
+ghost use Rattle.photo_version.specs.Version as versions;
+
+/// The `n`th version of a device.
+fn version(device: u16, n: u32) -> Version
+    requires { 0 < n }
+    ensures { result ≡ versions.version (author device) n }
+{
+    Version::new(Author::new(device), n).unwrap()
+}
+
+fn picture(number: u32) -> Result<PicNo, Fail> {
+    Ok(PicNo::new(number).ok_or("a picture's number")?)
+}
+
+/// The first versions of a device, up to the `n`th.
+fn up_to(alloc: Global, device: u16, n: u32) -> Result<Vector, Fail>
+    requires { 0 < n }
+{
+    Ok(Vector::new(alloc).with(version(device, n))?)
+}
+
+/// What `learn_own` alone tells of one version.
+fn own(alloc: Global) -> Result<Knowledge, Fail> {
+    let mut knowledge = Knowledge::new(alloc)?;
+    knowledge.learn_own(version(0, 1))?;
+    Ok(knowledge)
+}
+
+/// Two pictures of which the same version is known.
+fn of_two(alloc: Global) -> Result<Knowledge, Fail> {
+    let mut knowledge = Knowledge::new(alloc)?;
+    knowledge.learn(picture(7)?, &up_to(alloc, 0, 1)?)?;
+    knowledge.learn(picture(9)?, &up_to(alloc, 0, 1)?)?;
+    Ok(knowledge)
+}
+
+#[test]
+fn pictures_known_alike_are_one_fragment(rt: HostRuntime) -> Result<(), Fail> {
+    let alloc = rt.alloc();
+    let knowledge = of_two(alloc)?;
+    assert!(rt; knowledge.fragments() == 2);
+    let of_nine = knowledge.of(picture(9)?)?;
+    assert!(rt; of_nine.len() == 1 && of_nine.has(version(0, 1)) && !of_nine.has(version(0, 2)));
+    assert!(rt; knowledge.knows(picture(7)?, version(0, 1)) && !knowledge.knows(picture(8)?, version(0, 1)));
+    Ok(())
+}
+
+#[test]
+fn fragments_are_lent(rt: HostRuntime) -> Result<(), Fail> {
+    let alloc = rt.alloc();
+    let knowledge = of_two(alloc)?;
+    if knowledge.fragments() == 2 {
+        let star = knowledge.fragment(0);
+        assert!(rt; star.star() && star.pictures().is_empty() && star.len() == 0);
+        let both = knowledge.fragment(1);
+        assert!(rt; !both.star() && both.pictures() == [7, 9].as_slice() && both.len() == 1);
+        if both.len() == 1 {
+            assert!(rt; both.entry(0) == (Author::new(0), 1));
+        }
+    }
+    Ok(())
+}
+
+#[test]
+fn what_is_known_of_every_picture_is_the_star(rt: HostRuntime) -> Result<(), Fail> {
+    let alloc = rt.alloc();
+    let mut knowledge = of_two(alloc)?;
+    let star = own(alloc)?;
+    assert!(rt; !knowledge.same(&star));
+    knowledge.learn_all(&star)?;
+    assert!(rt; knowledge.fragments() == 1 && knowledge.same(&star));
+    knowledge.learn_all(&star)?;
+    assert!(rt; knowledge.same(&star));
+    Ok(())
+}
+
+#[test]
+fn a_copy_is_the_same(rt: HostRuntime) -> Result<(), Fail> {
+    let alloc = rt.alloc();
+    let knowledge = of_two(alloc)?;
+    let copy = knowledge.try_clone()?;
+    assert!(rt; copy.same(&knowledge) && copy.fragments() == 2);
+    Ok(())
+}
+
+#[test]
+fn own_versions_come_to_the_star(rt: HostRuntime) -> Result<(), Fail> {
+    let alloc = rt.alloc();
+    let knowledge = own(alloc)?;
+    assert!(rt; knowledge.fragments() == 1 && knowledge.knows(picture(5)?, version(0, 1)));
+    assert!(rt; !knowledge.knows(picture(5)?, version(0, 2)) && !knowledge.knows(picture(5)?, version(1, 1)));
+    Ok(())
+}
+
+/// A number of a fixed sequence.
+fn next(seed: &mut u64) -> u64 {
+    *seed = seed.wrapping_mul(6364136223846793005).wrapping_add(1442695040888963407);
+    *seed >> 33
+}
+
+/// A knowledge, and beside it the plain set of its pairs at the pictures 1 to 4, of which 4 is told nothing by itself.
+#[derive(Drop)]
+struct Case {
+    knowledge: Knowledge,
+    pairs: BTreeSet<(u32, (u16, u32))>,
+}
+
+/// Tells a case some versions of a picture.
+fn tell(alloc: Global, case: &mut Case, seed: &mut u64) -> Result<(), Fail> {
+    let number = 1 + (next(seed) % 3) as u32;
+    let device = (next(seed) % 3) as u16;
+    let n = 1 + (next(seed) % 3) as u32;
+    case.knowledge.learn(picture(number)?, &up_to(alloc, device, n)?)?;
+    for k in 1..4u32 {
+        if k <= n {
+            case.pairs.insert((number, (device, k)))?;
+        }
+    }
+    Ok(())
+}
+
+/// A case that was told a few things, and of every picture the first version of one device or none.
+fn some_case(alloc: Global, seed: &mut u64) -> Result<Case, Fail> {
+    let mut case = Case {
+        knowledge: Knowledge::new(alloc)?,
+        pairs: BTreeSet::new(alloc),
+    };
+    let device = (next(seed) % 4) as u16;
+    if device < 3 {
+        case.knowledge.learn_own(version(device, 1))?;
+        for number in 1..5u32 {
+            case.pairs.insert((number, (device, 1)))?;
+        }
+    }
+    for _ in 0..next(seed) % 6 {
+        tell(alloc, &mut case, seed)?;
+    }
+    Ok(case)
+}
+
+/// Whether a case knows just the pairs of its set.
+fn agrees(case: &Case) -> Result<bool, Fail> {
+    for number in 1..5u32 {
+        for device in 0..3u16 {
+            for k in 1..5u32 {
+                let known = case.knowledge.knows(picture(number)?, version(device, k));
+                if known != case.pairs.contains(&(number, (device, k))) {
+                    return Ok(false);
+                }
+            }
+        }
+    }
+    Ok(true)
+}
+
+/// Whether the vectors of a case's pictures have just the pairs of its set.
+fn vectors_agree(case: &Case) -> Result<bool, Fail> {
+    for number in 1..5u32 {
+        let vector = case.knowledge.of(picture(number)?)?;
+        for device in 0..3u16 {
+            for k in 1..5u32 {
+                if vector.has(version(device, k)) != case.pairs.contains(&(number, (device, k))) {
+                    return Ok(false);
+                }
+            }
+        }
+    }
+    Ok(true)
+}
+
+#[test]
+fn learning_all_is_the_union_of_the_pairs(rt: HostRuntime) -> Result<(), Fail> {
+    let alloc = rt.alloc();
+    let mut seed = 1;
+    for _ in 0..300 {
+        let mut one = some_case(alloc, &mut seed)?;
+        let other = some_case(alloc, &mut seed)?;
+        one.knowledge.learn_all(&other.knowledge)?;
+        for pair in &other.pairs {
+            one.pairs.insert(*pair)?;
+        }
+        assert!(rt; agrees(&one)? && vectors_agree(&other)?);
+    }
+    Ok(())
+}
+
+#[test]
+fn the_same_pairs_are_the_same_knowledge(rt: HostRuntime) -> Result<(), Fail> {
+    let alloc = rt.alloc();
+    let mut seed = 7;
+    for _ in 0..300 {
+        let one = some_case(alloc, &mut seed)?;
+        let other = some_case(alloc, &mut seed)?;
+        assert!(rt; one.knowledge.same(&other.knowledge) == (one.pairs == other.pairs));
+    }
+    Ok(())
+}
+
+#[test]
+fn a_table_is_learned_at_once(rt: HostRuntime) -> Result<(), Fail> {
+    let alloc = rt.alloc();
+    let mut knowledge = Knowledge::new(alloc)?;
+    let table = vec![in alloc; (picture(7)?, up_to(alloc, 0, 1)?), (picture(9)?, up_to(alloc, 0, 1)?)]?;
+    if table[0].0.value() < table[1].0.value() {
+        knowledge.learn_table(&table)?;
+    }
+    assert!(rt; knowledge.fragments() == 2 && knowledge.knows(picture(9)?, version(0, 1)));
+    Ok(())
+}
