@@ -5,6 +5,7 @@ mod block_list;
 mod blocks;
 mod room;
 mod search;
+mod spare;
 
 pub use block_list::BlockList;
 pub use room::Room;

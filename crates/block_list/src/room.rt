@@ -1,4 +1,5 @@
 use crate::BlockList;
+use crate::spare::{BLOCK_ROOM, next_block, push_within, spare_blocks, turn_round};
 use std::alloc::{AllocError, Global};
 use std::marker::Model;
 
@@ -7,44 +8,57 @@ use std::marker::Model;
 /// It is seen as the elements so far, and how many more there is room for.
 #[derive(Debug, Drop)]
 pub struct Room<T> {
-    blocks: Vec<Vec<T>>,
-    items: Vec<T>,
+    full: Vec<Vec<T>>,
+    current: Vec<T>,
+    spare: Vec<Vec<T>>,
+    len: usize,
+    left: usize,
 }
 
 impl<T> Model for Room<T> {
-    ghost use Rattle.std.specs.Prelude.{◌≡◌, ◌-◌, ◌<◌, ℕ, List, [], reverse, vec_len, vec_capacity};
+    ghost use Rattle.std.specs.Prelude.{ℕ, List, reverse};
+    ghost use Rattle.block_list.specs.Room.{arrived, IsRoom};
 
     ghost Value = { List T × ℕ };
 
-    ghost view = { λ r. (reverse r.items.items, vec_capacity r.items - vec_len r.items) };
+    ghost view = { λ r. (reverse (arrived r.full.items r.current), r.left) };
 
-    ghost invariant = { λ r. (r.blocks.items ≡ []) × (vec_len r.blocks < vec_capacity r.blocks) };
+    ghost invariant = { λ r. IsRoom r.full r.current r.spare r.len r.left };
 }
 
 impl<T: Drop> Room<T> {
-    ghost use Rattle.std.specs.Prelude.{◌≡◌, ◌+◌, ◌≤◌, ◌<◌, [], ◌∷◌, IfOk};
+    ghost use Rattle.std.specs.Prelude.{◌≡◌, ◌+◌, ◌<◌, [], ◌∷◌, IfOk};
 
     /// Room for `len` elements. The only error is want of memory.
     pub fn new(alloc: Global, len: usize) -> Result<Room<T>, AllocError>
         ensures empty { IfOk result (λ room. room.0 ≡ []) }
-        ensures room { IfOk result (λ room. len ≤ room.1) }
+        ensures room { IfOk result (λ room. room.1 ≡ len) }
     {
+        let count = len / BLOCK_ROOM;
         Ok(Room {
-            blocks: Vec::with_capacity(alloc, 1)?,
-            items: Vec::with_capacity(alloc, len)?,
+            full: Vec::with_capacity(alloc, count + 1)?,
+            current: Vec::with_capacity(alloc, len % BLOCK_ROOM)?,
+            spare: spare_blocks(alloc, count)?,
+            len: 0,
+            left: len,
         })
     }
 
-    /// Puts an element before the others.
+    /// Puts an element before the others. It takes no memory.
     pub fn put_first(&mut self, item: T)
         requires { 0 < self.old.1 }
         ensures items { self.new.0 ≡ item ∷ self.old.0 }
-        ensures room { self.old.1 ≤ self.new.1 + 1 }
+        ensures room { self.new.1 + 1 ≡ self.old.1 }
     {
-        match self.items.push(item) {
+        if self.current.len() >= self.current.capacity() {
+            next_block(&mut self.full, &mut self.current, &mut self.spare);
+        }
+        match self.current.push(item) {
             Ok(()) => {}
             Err(_) => unreachable!(),
         }
+        self.len += 1;
+        self.left -= 1;
     }
 
     /// The elements as a list. It takes no memory.
@@ -52,17 +66,17 @@ impl<T: Drop> Room<T> {
         ensures { result ≡ self.0 }
     {
         let Room {
-            mut blocks,
-            mut items,
+            mut full,
+            current,
+            mut spare,
+            len,
+            left: _,
         } = self;
-        items.reverse();
-        let len = items.len();
-        if len > 0 {
-            match blocks.push(items) {
-                Ok(()) => {}
-                Err(_) => unreachable!(),
-            }
+        if !current.is_empty() {
+            push_within(&mut full, current);
         }
-        BlockList::from_blocks(blocks, len)
+        spare.clear();
+        turn_round(full, &mut spare);
+        BlockList::from_blocks(spare, len)
     }
 }

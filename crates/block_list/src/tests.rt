@@ -119,19 +119,34 @@ fn a_list_shrinks_through_the_block_length(rt: HostRuntime) -> Result<(), Fail> 
 }
 
 #[test]
-fn a_long_block_is_halved_where_it_grows(rt: HostRuntime) -> Result<(), Fail> {
-    let mut list = roomy(rt.alloc(), 2_000)?;
-    assert_eq!(rt; shape(&list), (1, 2_000));
-    assert!(rt; list.len() == 2_000 && counts_without(&list, 0, 0));
-    list.remove_range(1_000, 1_001);
-    assert_eq!(rt; shape(&list), (1, 1_999));
-    assert_eq!(rt; list.len(), 1_999);
-    list.insert(1_000, 1_000)?;
-    assert_eq!(rt; shape(&list), (2, 1_000));
-    assert!(rt; list.len() == 2_000 && counts_without(&list, 0, 0));
-    list.remove_range(999, 1_001);
-    assert!(rt; counts_without(&list, 999, 1_001));
-    assert_eq!(rt; shape(&roomy(rt.alloc(), 0)?), (0, 0));
+fn a_room_becomes_a_list_of_short_blocks(rt: HostRuntime) -> Result<(), Fail> {
+    for (n, wanted) in [
+        (0, (0, 0)),
+        (1, (1, 1)),
+        (256, (1, 256)),
+        (257, (2, 256)),
+        (2_000, (8, 256)),
+    ] {
+        let list = roomy(rt.alloc(), n)?;
+        assert_eq!(rt; list.len(), n as usize);
+        assert!(rt; counts_without(&list, 0, 0), "of {n}");
+        assert_eq!(rt; shape(&list), wanted, "of {n}");
+    }
+    Ok(())
+}
+
+#[test]
+fn a_list_from_a_room_changes_like_another(rt: HostRuntime) -> Result<(), Fail> {
+    let mut list = roomy(rt.alloc(), 1_000)?;
+    assert_eq!(rt; list.len(), 1_000);
+    list.remove_range(200, 800);
+    assert!(rt; list.len() == 400 && counts_without(&list, 200, 800));
+    for i in 200..800 {
+        assert!(rt; list.len() >= i as usize);
+        list.insert(i as usize, i)?;
+    }
+    assert!(rt; counts_without(&list, 0, 0));
+    assert_eq!(rt; shape(&list), (4, 256));
     Ok(())
 }
 
