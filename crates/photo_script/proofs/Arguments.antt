@@ -22,3 +22,9 @@ texts-five (a ∷ b ∷ c ∷ []) h = absurd (omega arith)
 texts-five (a ∷ b ∷ c ∷ d ∷ []) h = absurd (omega arith)
 texts-five (a ∷ b ∷ c ∷ d ∷ e ∷ []) h = refl
 texts-five (a ∷ b ∷ c ∷ d ∷ e ∷ f ∷ xs) h = absurd (omega arith)
+
+pub texts-two : (xs : List (Bor (List ℕ))) → length xs ≡ 2 → texts xs ≡ field xs 0 ∷ field xs 1 ∷ []
+texts-two [] h = absurd (omega arith)
+texts-two (a ∷ []) h = absurd (omega arith)
+texts-two (a ∷ b ∷ []) h = refl
+texts-two (a ∷ b ∷ c ∷ xs) h = absurd (omega arith)

@@ -1,5 +1,6 @@
 mod Arguments
 mod WorkedExamples
+mod Changing
 mod FilterTexts
 mod Gathered
 mod Joined

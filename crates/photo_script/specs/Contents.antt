@@ -22,6 +22,8 @@ command_of c (suc n) = slice_get c.commands n
 -- the devices that a command works on, by their places among the names: one, and perhaps a second
 abbrev pub devices_of : Command → ℕ × Option ℕ
 devices_of (command.New device picture record_) = (device, None)
+devices_of (command.Edit device picture record_) = (device, None)
+devices_of (command.Remove device picture) = (device, None)
 devices_of (command.List device) = (device, None)
 
 -- the devices of a command are among the first so many

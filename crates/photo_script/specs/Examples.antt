@@ -10,7 +10,7 @@ use Rattle.photo_version.specs.Version.{version}
 use Rattle.photo_device.specs.declared.place.Place.TheVariants as place
 use Rattle.photo_script.specs.Contents.{Contents, contents}
 use Rattle.photo_script.specs.Reading.{script_of}
-use Rattle.photo_script.specs.Reports.{Made, Listed, text_of}
+use Rattle.photo_script.specs.Reports.{Made, NotHeld, Listed, text_of}
 use Rattle.photo_script.specs.declared.command.Command.TheVariants as command
 use Rattle.photo_script.specs.declared.fault.LineFault.TheVariants as fault
 use Rattle.photo_script.specs.declared.fault.ScriptFault.TheVariants.{Line, NotUtf8}
@@ -70,3 +70,16 @@ pub record Filters : Type 0 where
   pub bracket : script_of (codes "device a (") ≡ Err (Line 1 fault.BadFilter)
   pub name : script_of (codes "device A rating >= 6") ≡ Err (Line 1 fault.BadName)
   pub repeated : script_of (codes "device a all\ndevice a rating >= 6") ≡ Err (Line 2 fault.RepeatedDevice)
+
+-- later versions of a picture: an `edit` says what it is, and a `remove` that it is gone. Only `new` is refused for a picture that is made
+pub record Changes : Type 0 where
+  pub edit : script_of (codes "device a all\nedit a 7 5 2024-01-01 x\nnew a 7 5 2024-01-01 x\nedit a 7 4 2024-01-01 -\nremove a 7\nremove a 7")
+      ≡ Ok (contents (codes "a" ∷ []) (All ∷ [])
+          (command.Edit 0 7 (content.Picture 5 (pos 19_723) (codes "x" ∷ [])) ∷ command.New 0 7 (content.Picture 5 (pos 19_723) (codes "x" ∷ []))
+          ∷ command.Edit 0 7 (content.Picture 4 (pos 19_723) []) ∷ command.Remove 0 7 ∷ command.Remove 0 7 ∷ []))
+  pub few : script_of (codes "device a all\nedit a 7 5 2024-01-01") ≡ Err (Line 2 fault.WrongFields)
+  pub many : script_of (codes "device a all\nremove a 7 5") ≡ Err (Line 2 fault.WrongFields)
+  pub device : script_of (codes "device a all\nedit b 0 6 x x") ≡ Err (Line 2 fault.UnknownDevice)
+  pub number : script_of (codes "device a all\nremove a 07") ≡ Err (Line 2 fault.BadNumber)
+  pub rating : script_of (codes "device a all\nedit a 7 6 x x,x") ≡ Err (Line 2 fault.BadRating)
+  pub refused : text_of camera 5 NotHeld ≡ codes "5 refused C1 NotHeld\n"

@@ -18,11 +18,13 @@ use Rattle.photo_script.specs.declared.report.Report.TheVariants as report
 -- the answer to a command
 pub data Answer : Type 0 where
   Made : Version → Place → Answer
+  NotHeld : Answer
   Listed : ℕ → List Entry → List Entry → Answer
 
 -- the answer that a report of the program gives
 abbrev pub answer_of : Report → Answer
 answer_of (report.Made v p) = Made v p
+answer_of report.NotHeld = NotHeld
 answer_of (report.Listed n store out) = Listed n (entries_of store) (entries_of out)
 
 -- the version is of a device of the script
@@ -35,6 +37,7 @@ AreOfScript script entries = AllByRecursion (λ e. IsOfScript script e.version) 
 -- each author and each device of the answer is a device of the script
 abbrev pub IsAbout : Contents → Answer → Type 0
 IsAbout script (Made v p) = IsOfScript script v
+IsAbout script NotHeld = Unit {0}
 IsAbout script (Listed n store out) = (n < length script.names) × AreOfScript script store × AreOfScript script out
 
 -- the name of a device, by its place among the names
@@ -82,6 +85,9 @@ abbrev pub made_text : Contents → ℕ → Version → Place → List ℕ
 made_text script number v where_ =
     decimal number ++ codes " made " ++ version_text script v ++ codes " " ++ place_text where_ ++ codes "\n"
 
+abbrev pub not_held_text : ℕ → List ℕ
+not_held_text number = decimal number ++ codes " refused C1 NotHeld\n"
+
 -- the first line of a list: how many versions are stored, and how many wait for other devices
 abbrev pub heading_text : Contents → ℕ → ℕ → ℕ → ℕ → List ℕ
 heading_text script number device stored waiting =
@@ -95,6 +101,7 @@ listed_text script number device store out =
 -- the text of an answer to the command of that number
 unfoldable pub text_of : Contents → ℕ → Answer → List ℕ
 text_of script number (Made v where_) = made_text script number v where_
+text_of script number NotHeld = not_held_text number
 text_of script number (Listed n store out) = listed_text script number n store out
 
 -- the texts of answers, numbered from a number on

@@ -1,14 +1,15 @@
 -- What commands do to devices, and what a run of them gives.
-use Rattle.std.specs.Prelude.{ℕ, zero, suc, ◌+◌, ◌-◌, List, [], ◌∷◌, ◌++◌, length, replicate, slice_index_or, slice_set, fold, Option, Some, None}
+use Rattle.std.specs.Prelude.{ℕ, zero, suc, ◌+◌, ◌-◌, List, [], ◌∷◌, ◌++◌, length, replicate, slice_index_or, slice_set, fold, if◌then◌else◌, Option, Some, None}
 use Rattle.std.specs.List.{flat_map}
 use Rattle.std.specs.Option.{option_map, option_to_list}
 use Rattle.photo_record.specs.declared.record.Record.{Record}
+use Rattle.photo_record.specs.declared.record.Record.TheVariants.{Removed}
 use Rattle.photo_filter_text.specs.Tree.{Tree, All}
 use Rattle.photo_version.specs.Author.{author}
 use Rattle.photo_device.specs.Entry.{Entry}
-use Rattle.photo_device.specs.Device.{ModelDevice, opening, made, new_entry, next_version, new_place}
+use Rattle.photo_device.specs.Device.{ModelDevice, opening, made, new_entry, next_version, new_place, is_held}
 use Rattle.photo_script.specs.Contents.{Contents, command_of, devices_of}
-use Rattle.photo_script.specs.Reports.{Answer, Made, Listed}
+use Rattle.photo_script.specs.Reports.{Answer, Made, NotHeld, Listed}
 use Rattle.photo_script.specs.declared.command.Command.{Command}
 use Rattle.photo_script.specs.declared.command.Command.TheVariants as command
 
@@ -32,8 +33,14 @@ making d other picture content = record {
 abbrev pub telling : ModelDevice → Option ModelDevice → Answer → Effect
 telling d other answer = record { first = d; second = other; report = answer; entries = [] }
 
+-- the first device makes one where it holds a version of the picture, and nothing happens where it holds none
+abbrev pub changing : ModelDevice → Option ModelDevice → ℕ → Record → Effect
+changing d other picture content = if is_held d picture then making d other picture content else telling d other NotHeld
+
 abbrev pub effect : Command → ModelDevice → Option ModelDevice → Effect
 effect (command.New n picture content) d other = making d other picture content
+effect (command.Edit n picture content) d other = changing d other picture content
+effect (command.Remove n picture) d other = changing d other picture Removed
 effect (command.List n) d other = telling d other (Listed n d.store d.out)
 
 -- all devices in order of declaration; the report on each command that has run, at the place of its number; and the

@@ -84,6 +84,33 @@ unfoldable pub new_line_said : Earlier → List (List ℕ) → Result (Option Co
 new_line_said before (name ∷ picture ∷ rating ∷ date ∷ words ∷ []) = command_said before (creation_said before name picture (record_said rating date words))
 new_line_said before arguments = Err fault.WrongFields
 
+-- a picture, also one that no line makes
+unfoldable pub picture_said : List ℕ → Result ℕ LineFault
+picture_said text = or_fault (picture_of text) fault.BadNumber
+
+unfoldable pub edition_said : Earlier → List ℕ → List ℕ → Result Record LineFault → Result Command LineFault
+edition_said before name picture rest = do
+  device ← device_said before name
+  number ← picture_said picture
+  record_ ← rest
+  Ok (command.Edit device number record_)
+
+-- `edit DEV PIC RATING DATE WORDS`
+unfoldable pub edit_line_said : Earlier → List (List ℕ) → Result (Option Command) LineFault
+edit_line_said before (name ∷ picture ∷ rating ∷ date ∷ words ∷ []) = command_said before (edition_said before name picture (record_said rating date words))
+edit_line_said before arguments = Err fault.WrongFields
+
+unfoldable pub removal_said : Earlier → List ℕ → List ℕ → Result Command LineFault
+removal_said before name picture = do
+  device ← device_said before name
+  number ← picture_said picture
+  Ok (command.Remove device number)
+
+-- `remove DEV PIC`
+unfoldable pub remove_line_said : Earlier → List (List ℕ) → Result (Option Command) LineFault
+remove_line_said before (name ∷ picture ∷ []) = command_said before (removal_said before name picture)
+remove_line_said before arguments = Err fault.WrongFields
+
 -- `list DEV`
 unfoldable pub list_line_said : Earlier → List (List ℕ) → Result (Option Command) LineFault
 list_line_said before (name ∷ []) = command_said before (device_said before name >>= λ device. Ok (command.List device))
@@ -96,8 +123,10 @@ fields_said before (word ∷ arguments) filter =
     if is_comment word then Ok None
     else (if is_word word (codes "device") then device_line_said before arguments filter
     else (if is_word word (codes "new") then new_line_said before arguments
+    else (if is_word word (codes "edit") then edit_line_said before arguments
+    else (if is_word word (codes "remove") then remove_line_said before arguments
     else (if is_word word (codes "list") then list_line_said before arguments
-    else Err fault.UnknownCommand)))
+    else Err fault.UnknownCommand)))))
 
 unfoldable pub said : Earlier → List ℕ → Result (Option Command) LineFault
 said before line = if nat_lt max_line_bytes (length line) then Err fault.LineTooLong else fields_said before (fields_of line) (third_field_on line)

@@ -15,6 +15,17 @@ pub enum Command {
         picture: PicNo,
         record: Record,
     },
+    /// `edit`: the device makes a new version of a picture of which it holds one.
+    Edit {
+        device: u16,
+        picture: PicNo,
+        record: Record,
+    },
+    /// `remove`: the device makes a version that removes a picture of which it holds one.
+    Remove {
+        device: u16,
+        picture: PicNo,
+    },
     /// `list`: a report on all that the device holds.
     List {
         device: u16,
@@ -27,6 +38,9 @@ pub fn devices_of(command: &Command) -> (Author, Option<Author>)
     ensures second { result.1 ≡ option_map author (devices_of command.now).1 }
 {
     match command {
-        Command::New { device, .. } | Command::List { device } => (Author::new(*device), None),
+        Command::New { device, .. }
+        | Command::Edit { device, .. }
+        | Command::Remove { device, .. }
+        | Command::List { device } => (Author::new(*device), None),
     }
 }

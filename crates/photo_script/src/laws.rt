@@ -1,12 +1,13 @@
 //! Laws of the definitions. Each function's contract is a law, and its body does nothing.
-ghost use Rattle.photo_script.specs.Examples.{FirstRun, SingleFaults, TwoFaults, LinesAndFields, Filters};
+ghost use Rattle.photo_script.specs.Examples.{FirstRun, SingleFaults, TwoFaults, LinesAndFields, Filters, Changes};
 
 /// The definitions at some texts: a camera that makes a picture and lists it, with the texts of its reports; scripts
-/// of one fault each and of two; ends of lines and spaces; filters.
+/// of one fault each and of two; ends of lines and spaces; filters; later versions of a picture.
 pub fn examples()
     ensures first_run { FirstRun }
     ensures single_faults { SingleFaults }
     ensures two_faults { TwoFaults }
     ensures lines_and_fields { LinesAndFields }
     ensures filters { Filters }
+    ensures changes { Changes }
 {}

@@ -3,7 +3,7 @@ ghost use Rattle.photo_script.specs.Lines.{fields_of, lines_of, third_field_on};
 ghost use Rattle.photo_script.specs.Limits.{max_text_bytes, max_line_bytes};
 ghost use Rattle.std.specs.Str.Lines.{strip_carriage_return};
 ghost use Rattle.photo_script.specs.Steps.{Gives};
-ghost use Rattle.photo_script.specs.Saying.{device_said, new_picture_said, record_said, device_line_said, declaration_said, new_line_said, list_line_said, fields_said, said};
+ghost use Rattle.photo_script.specs.Saying.{device_said, new_picture_said, record_said, device_line_said, declaration_said, new_line_said, picture_said, edit_line_said, remove_line_said, list_line_said, fields_said, said};
 ghost use Rattle.photo_script.specs.Reading.{script_of, script_of_lines, MayWantMemory};
 ghost use Rattle.photo_script.specs.declared.fault.ScriptFault.TheVariants.{NoMemory, Read};
 
@@ -103,6 +103,8 @@ impl Reader {
         match *word {
             "device" => self.read_device(arguments, third_field_on(line)),
             "new" => self.read_new(arguments),
+            "edit" => self.read_edit(arguments),
+            "remove" => self.read_remove(arguments),
             "list" => self.read_list(arguments),
             _ => Err(Refusal::Fault(LineFault::UnknownCommand)),
         }
@@ -166,6 +168,45 @@ impl Reader {
         Ok(())
     }
 
+    // `edit DEV PIC RATING DATE WORDS`
+    #[tactic(auto, unfolding(crate::specs::Saying::edit_line_said, crate::specs::Saying::command_said, crate::specs::Saying::edition_said))]
+    fn read_edit(&mut self, arguments: &[&str]) -> Result<(), Refusal>
+        ensures { Reads self.old (codes "edit" ∷ texts arguments.now) [] (edit_line_said (seen self.old) (texts arguments.now)) result self.new }
+    {
+        let [name, picture, rating, date, words] = arguments else {
+            return Err(Refusal::Fault(LineFault::WrongFields));
+        };
+        if self.script.commands() >= MAX_COMMANDS {
+            return Err(Refusal::Fault(LineFault::TooMany));
+        }
+        let device = self.device(name)?;
+        let picture = any_picture(picture)?;
+        let record = record_of(self.alloc, rating, date, words)?;
+        self.script.push(Command::Edit {
+            device,
+            picture,
+            record,
+        })?;
+        Ok(())
+    }
+
+    // `remove DEV PIC`
+    #[tactic(auto, unfolding(crate::specs::Saying::remove_line_said, crate::specs::Saying::command_said, crate::specs::Saying::removal_said))]
+    fn read_remove(&mut self, arguments: &[&str]) -> Result<(), Refusal>
+        ensures { Reads self.old (codes "remove" ∷ texts arguments.now) [] (remove_line_said (seen self.old) (texts arguments.now)) result self.new }
+    {
+        let [name, picture] = arguments else {
+            return Err(Refusal::Fault(LineFault::WrongFields));
+        };
+        if self.script.commands() >= MAX_COMMANDS {
+            return Err(Refusal::Fault(LineFault::TooMany));
+        }
+        let device = self.device(name)?;
+        let picture = any_picture(picture)?;
+        self.script.push(Command::Remove { device, picture })?;
+        Ok(())
+    }
+
     // `list DEV`
     #[tactic(auto, unfolding(crate::specs::Saying::list_line_said, crate::specs::Saying::command_said))]
     fn read_list(&mut self, arguments: &[&str]) -> Result<(), Refusal>
@@ -202,6 +243,14 @@ impl Reader {
         }
         Ok(picture)
     }
+}
+
+// A picture number, also one that no line makes.
+#[tactic(auto, unfolding(crate::specs::Saying::picture_said))]
+fn any_picture(text: &str) -> Result<PicNo, LineFault>
+    ensures { result ≡ picture_said text.now }
+{
+    picture_of(text).ok_or(LineFault::BadNumber)
 }
 
 // The record of those fields.

@@ -15,6 +15,8 @@ pub enum Report {
         version: Version,
         place: Place,
     },
+    /// The command was refused, since nothing of its picture is held.
+    NotHeld,
     /// What a device holds, in order. The device is given by its place in order of declaration, from 0.
     Listed {
         device: u16,
@@ -25,7 +27,7 @@ pub enum Report {
 
 ghost use Rattle.photo_device.specs.Held.{entry_of, entries_of};
 ghost use Rattle.std.specs.Fmt.{decimal};
-ghost use Rattle.photo_script.specs.Reports.{IsAbout, IsOfScript, AreOfScript, answer_of, text_of, version_text, place_text, padded_decimal, day_text, words_text, record_text, entry_text, entries_text, made_text, heading_text, listed_text};
+ghost use Rattle.photo_script.specs.Reports.{IsAbout, IsOfScript, AreOfScript, answer_of, text_of, version_text, place_text, padded_decimal, day_text, words_text, record_text, entry_text, entries_text, made_text, not_held_text, heading_text, listed_text};
 
 /// The text of a report on the command of that number: a line, and for a list a line more for each held version.
 /// Each line ends with LF. Its only error is want of memory.
@@ -57,6 +59,7 @@ pub fn push_report(
 {
     match report {
         Report::Made { version, place } => push_made(text, script, number, *version, *place)?,
+        Report::NotHeld => push_not_held(text, number)?,
         Report::Listed { device, store, out } => {
             push_listed(text, script, number, *device, store, out)?
         }
@@ -80,6 +83,13 @@ fn push_made(
     text.push_str(" ")?;
     text.push_str(place_word(place))?;
     text.push_str("\n")?;
+    Ok(())
+}
+
+fn push_not_held(text: &mut String, number: u32) -> Result<(), AllocError>
+    ensures { OnOk result (string_bytes text.new ≡ string_bytes text.old ++ not_held_text number) }
+{
+    writeln!(text, "{number} refused C1 NotHeld")?;
     Ok(())
 }
 

@@ -2,18 +2,19 @@
 use Rattle.std.proofs.Common.{ℕ, zero, suc, ◌+◌, ◌<◌, ◌≤◌, Bool, true, false, not, cond, List, [], ◌∷◌, ◌++◌, length, get_or, set, arith}
 use Rattle.std.specs.Prelude.{filter, Option}
 use Rattle.photo_record.specs.declared.record.Record.{Record}
+use Rattle.photo_record.specs.declared.record.Record.TheVariants.{Removed}
 use Rattle.std.specs.List.{AllByRecursion}
 use Rattle.photo_filter_text.specs.Tree.{Tree}
 use Rattle.photo_filter_rules.specs.Matching.{matches}
 use Rattle.photo_version.specs.Author.{device_of_author}
 use Rattle.photo_device.specs.Ordered.{put}
 use Rattle.photo_device.specs.Entry.{Entry, entry_before, others, put_entry_if, is_of_other}
-use Rattle.photo_device.specs.Device.{ModelDevice, new_entry, made}
+use Rattle.photo_device.specs.Device.{ModelDevice, new_entry, made, is_held}
 use Rattle.photo_script.specs.declared.command.Command.{Command}
 use Rattle.photo_script.specs.declared.command.Command.TheVariants as command
 use Rattle.photo_script.specs.Contents.{Contents, devices_of}
-use Rattle.photo_script.specs.Reports.{IsOfScript, AreOfScript, IsAbout}
-use Rattle.photo_script.specs.Runs.{effect, opening_from}
+use Rattle.photo_script.specs.Reports.{IsOfScript, AreOfScript, IsAbout, NotHeld}
+use Rattle.photo_script.specs.Runs.{effect, making, telling, changing, opening_from}
 
 -- the device is of the script, and so is all that it holds
 pub record IsOfFleet (script : Contents) (d : ModelDevice) : Type 0 where
@@ -72,11 +73,30 @@ made_known script d picture content of = record {
   out = all_made (λ e. IsOfScript script e.version) (not (matches d.tree content)) (new_entry d picture content) picture d.out of.author of.out;
 }
 
+-- and so does one that makes it only where it holds the picture
+changing_known : (script : Contents) (d : ModelDevice) (other : Option ModelDevice) (picture : ℕ) (content : Record) → IsOfFleet script d → IsOfFleet script (changing d other picture content).first
+changing_known script d other picture content of =
+    elim (is_held d picture) as (λ b. IsOfFleet script (cond b (making d other picture content) (telling d other NotHeld)).first) [
+      | true ↦ made_known script d picture content of
+      | false ↦ of
+    ]
+
+changing_about : (script : Contents) (d : ModelDevice) (other : Option ModelDevice) (picture : ℕ) (content : Record) → IsOfFleet script d → IsAbout script (changing d other picture content).report
+changing_about script d other picture content of =
+    elim (is_held d picture) as (λ b. IsAbout script (cond b (making d other picture content) (telling d other NotHeld)).report) [
+      | true ↦ of.author
+      | false ↦ tt
+    ]
+
 -- a command keeps this, and its answer is about the script
 pub effect_known : (script : Contents) (c : Command) (d : ModelDevice) (other : Option ModelDevice) → IsOfFleet script d → IsOfFleet script (effect c d other).first
 effect_known script (command.New n picture content) d other of = made_known script d picture content of
+effect_known script (command.Edit n picture content) d other of = changing_known script d other picture content of
+effect_known script (command.Remove n picture) d other of = changing_known script d other picture Removed of
 effect_known script (command.List n) d other of = of
 
 pub effect_about : (script : Contents) (c : Command) (d : ModelDevice) (other : Option ModelDevice) → (devices_of c).0 < length script.names → IsOfFleet script d → IsAbout script (effect c d other).report
 effect_about script (command.New n picture content) d other h of = of.author
+effect_about script (command.Edit n picture content) d other h of = changing_about script d other picture content of
+effect_about script (command.Remove n picture) d other h of = changing_about script d other picture Removed of
 effect_about script (command.List n) d other h of = (h, of.store, of.out)

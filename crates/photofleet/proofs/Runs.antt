@@ -30,6 +30,8 @@ told r = Some (answer_of r)
 -- each command works on one device
 alone : (c : Command) → (devices_of c).1 ≡ None
 alone (command.New device picture content) = refl
+alone (command.Edit device picture content) = refl
+alone (command.Remove device picture) = refl
 alone (command.List device) = refl
 
 -- what a command on one device does to a fleet
@@ -132,16 +134,16 @@ runs_none script devices reports all long none =
       counted = opening_counts script.filters 0 devices all;
     }
 
--- all commands
-pub runs_all : (script : Contents) (n : ℕ) (devices : List Kept) (reports : List Report) → RunsTo script n devices reports → n ≡ length script.commands → map told reports ≡ (run script).reports
-runs_all script n devices reports to all =
-    let none : length script.commands - n ≡ 0 = omega arith in
-    sym (ap (λ k. (fleet_after script k).reports) (sym all) ∙ to.told ∙ ap (λ k. map told reports ++ replicate k None) none ∙ append-nil (map told reports))
-
 -- the reports of a run that gave them all
 told_again : (reports : List Report) → flat_map option_to_list (map told reports) ≡ map answer_of reports
 told_again [] = refl
 told_again (r ∷ rs) = ap (λ l. answer_of r ∷ l) (told_again rs)
 
-pub told_all : (script : Contents) (reports : List Report) → map told reports ≡ (run script).reports → map answer_of reports ≡ reports_of (run script)
-told_all script reports all = sym (told_again reports) ∙ ap (flat_map option_to_list) all
+-- all commands
+runs_whole : (script : Contents) (n : ℕ) (devices : List Kept) (reports : List Report) → RunsTo script n devices reports → n ≡ length script.commands → map told reports ≡ (run script).reports
+runs_whole script n devices reports to all =
+    let none : length script.commands - n ≡ 0 = omega arith in
+    sym (ap (λ k. (fleet_after script k).reports) (sym all) ∙ to.told ∙ ap (λ k. map told reports ++ replicate k None) none ∙ append-nil (map told reports))
+
+pub runs_all : (script : Contents) (n : ℕ) (devices : List Kept) (reports : List Report) → RunsTo script n devices reports → n ≡ length script.commands → map answer_of reports ≡ reports_of (run script)
+runs_all script n devices reports to all = sym (told_again reports) ∙ ap (flat_map option_to_list) (runs_whole script n devices reports to all)

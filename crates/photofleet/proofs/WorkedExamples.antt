@@ -23,7 +23,7 @@ stored_bytes read old new h =
 
 pub as_told : script_of stored_text ≡ Ok stored_run → AreAsTold
 unfolding text_of digits date_of years_off months_off
-as_told read = record { read = read; stored = stored_printed; bytes = stored_bytes read; below = refl; word = refl; empty = refl; silent = refl }
+as_told read = record { read = read; stored = stored_printed; bytes = stored_bytes read; below = refl; word = refl; changed = refl; empty = refl; silent = refl }
 
 pub words_as_told : WordsAreAsTold
 unfolding clap_on_literals

@@ -33,6 +33,18 @@ abbrev pub printed_below : List ℕ
 printed_below = codes "1 made frame:1 out\n" ++ (codes "2 list frame store 0 out 1\n"
     ++ codes "  out 1 frame:1 rating 3 day 2024-05-01 words -\n")
 
+-- versions of one picture: rated up and down across the device's filter, removed and brought back; and the removal of a
+-- picture of which nothing is held
+abbrev pub changes : Contents
+changes = contents (codes "a" ∷ []) (Rate AtLeast 2 ∷ [])
+    (command.New 0 7 (Picture 5 (pos 19723) []) ∷ command.Edit 0 7 (Picture 1 (pos 19723) []) ∷ command.Remove 0 7
+    ∷ command.Edit 0 7 (Picture 4 (pos 19723) []) ∷ command.Remove 0 9 ∷ command.List 0 ∷ [])
+
+abbrev pub printed_changes : List ℕ
+printed_changes = codes "1 made a:1 store\n" ++ (codes "2 made a:2 out\n" ++ (codes "3 made a:3 out\n" ++ (codes "4 made a:4 store\n"
+    ++ (codes "5 refused C1 NotHeld\n" ++ (codes "6 list a store 1 out 0\n"
+    ++ codes "  store 7 a:4 rating 4 day 2024-01-01 words -\n")))))
+
 -- a letter with an accent, in form C
 abbrev pub accented : List ℕ
 accented = 0xc3 ∷ 0xa9 ∷ []
@@ -52,6 +64,7 @@ pub record AreAsTold : Type 0 where
   pub bytes : (old new : Option (List ℕ)) → WritesOutput old new stored_text → Appends old new printed
   pub below : output_of below_the_filter ≡ printed_below
   pub word : output_of with_the_word ≡ printed_word
+  pub changed : output_of changes ≡ printed_changes
   pub empty : output_of (contents [] [] []) ≡ []
   pub silent : output_of (contents (codes "a" ∷ []) (All ∷ []) []) ≡ []
 

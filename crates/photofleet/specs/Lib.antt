@@ -1,3 +1,4 @@
+pub mod Changes
 pub mod Outcomes
 pub mod Status
 pub mod CommandLine

@@ -1,5 +1,5 @@
 -- What a run gives, takes from its source and writes.
-use Rattle.std.specs.Prelude.{◌≡◌, ℕ, ◌≤◌, List, ◌++◌, length, map, take, Option, Some, Ok}
+use Rattle.std.specs.Prelude.{◌≡◌, ℕ, ◌≤◌, List, ◌++◌, length, map, take, Option, Ok}
 use Rattle.std.specs.List.{AllZip, AllByRecursion}
 use Rattle.std.specs.Io.KnownBytes.{Appends, Consumes}
 use Rattle.photo_device.specs.Device.{Shows}
@@ -10,11 +10,13 @@ use Rattle.photo_script.specs.Reports.{Answer, answer_of, texts_from, IsAbout}
 use Rattle.photo_script.specs.Runs.{run, reports_of}
 use Rattle.photofleet.specs.declared.runner.outcome.Outcome.{Outcome}
 
--- the devices show those of the script's run, and the report at each place gives the answer to the command of its number
+-- the devices show those of the script's run, and the reports give its answers, one for each command, in the order of
+-- their numbers
 pub record IsOutcome (script : Contents) (o : Outcome) : Type 0 where
   pub devices : AllZip Shows o.devices.items (run script).devices
-  pub reports : map (λ r. Some (answer_of r)) o.reports.items ≡ (run script).reports
-  pub about : AllByRecursion (IsAbout script) (map answer_of o.reports.items)
+  pub reports : map answer_of o.reports.items ≡ reports_of (run script)
+  pub each : length o.reports.items ≡ length script.commands
+  pub about : AllByRecursion (IsAbout script) (reports_of (run script))
   pub few : length o.reports.items ≤ max_commands
 
 -- what a script's run prints

@@ -1,3 +1,4 @@
+mod changes;
 mod filters;
 mod memory;
 mod program;

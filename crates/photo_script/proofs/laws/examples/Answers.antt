@@ -1,4 +1,4 @@
-use Rattle.photo_script.proofs.WorkedExamples.{first_run, single_faults, two_faults, lines_and_fields, filters}
+use Rattle.photo_script.proofs.WorkedExamples.{first_run, single_faults, two_faults, lines_and_fields, filters, changes}
 use Rattle.photo_script.proofs.laws.examples.Goals as goal
 
 pub returns-clause-first_run : goal.returns-clause-first_run
@@ -15,3 +15,6 @@ returns-clause-lines_and_fields c = lines_and_fields
 
 pub returns-clause-filters : goal.returns-clause-filters
 returns-clause-filters c = filters
+
+pub returns-clause-changes : goal.returns-clause-changes
+returns-clause-changes c = changes

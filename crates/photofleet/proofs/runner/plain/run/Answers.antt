@@ -1,8 +1,9 @@
 use Rattle.std.proofs.Common.{◌≡◌, ◌∙◌, length, subst, ap, arith}
 use Rattle.std.specs.Prelude.{slice_get, Some}
-use Rattle.std.specs.List.{AllZip}
+use Rattle.std.specs.List.{AllZip, AllByRecursion}
 use Rattle.photo_version.specs.Author.{device_of_author}
 use Rattle.photo_device.specs.Device.{Shows}
+use Rattle.photo_script.specs.Reports.{IsAbout}
 use Rattle.photofleet.proofs.Runs.{fleet_after, runs_none, runs_on, runs_all}
 use Rattle.photofleet.proofs.runner.plain.run.Goals as goal
 
@@ -18,9 +19,11 @@ pub returns : goal.returns
 returns c =
     let script = c.args.script.now in
     let all : c.loop-place.place ≡ length script.commands = omega arith in
+    let told = runs_all script c.loop-place.place _ _ c.loop-place.invariant all in
     record {
       devices = subst (λ n. AllZip Shows c.loop-place.devices.items (fleet_after script n).devices) all c.loop-place.invariant.shown;
-      about = c.loop-place.invariant.about;
+      reports = told;
+      each = c.loop-place.invariant.count ∙ all;
+      about = subst (AllByRecursion (IsAbout script)) told c.loop-place.invariant.about;
       few = omega arith;
-      reports = runs_all script c.loop-place.place _ _ c.loop-place.invariant all;
     }
