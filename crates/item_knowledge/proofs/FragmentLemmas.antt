@@ -333,8 +333,7 @@ known_far s gs = ap (or_star s.entries) (find_beyond gs (beyond_all gs + 1) (ome
 pub star_of_every : (fs : List Fragment) → is_normal fs ≡ true → (v : Version) → (denotes (entries_at fs 0) v ≡ true → (p : ℕ) → 0 < p → knows fs p v ≡ true) × (((p : ℕ) → 0 < p → knows fs p v ≡ true) → denotes (entries_at fs 0) v ≡ true)
 star_of_every [] h v = absurd (false≢true h)
 star_of_every (s ∷ gs) h v =
-    let k = normal_parts s gs h in
-    (
+    let k = normal_parts s gs h in (
       λ d p z. star_known s gs p v k.star d,
-      λ all. ap (λ es. denotes es v) (sym (known_far s gs)) ∙ (sym (knows_known s gs (beyond_all gs + 1) v k) ∙ all (beyond_all gs + 1) (omega arith))
+      λ all. ap (λ es. denotes es v) (sym (known_far s gs)) ∙ (sym (knows_known s gs (beyond_all gs + 1) v k) ∙ all (beyond_all gs + 1) (omega arith)),
     )

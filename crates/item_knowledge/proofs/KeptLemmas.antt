@@ -1,19 +1,19 @@
 -- What is kept denotes what is known.
-use Rattle.std.proofs.Common.{◌≡◌, ℕ, ◌+◌, ◌<◌, ◌≤◌, Bool, true, false, leb, ltb, eqb, max, cond, ◌&&◌, ◌||◌, ◌↔◌, List, [], ◌∷◌, length, get_or, refl, sym, subst, ap, ◌∙◌, inl, inr, arith}
+use Rattle.std.proofs.Common.{◌≡◌, ℕ, ◌+◌, ◌<◌, Bool, true, false, leb, eqb, max, cond, ◌&&◌, ◌||◌, ◌↔◌, List, [], ◌∷◌, length, refl, sym, subst, ap, ◌∙◌, inl, inr, arith}
 use Rattle.std.specs.List.{list_all}
-use Rattle.std.proofs.lemmas.Bool.{and_parts, and_from, eq-eqb, ne_eqb, cases_Bool, cases_eq, true≢false, false≢true}
+use Rattle.std.proofs.lemmas.Bool.{and_parts, eq-eqb, ne_eqb, cases_Bool, cases_eq, false≢true}
 use Rattle.std.proofs.lemmas.Bool.Decides.{nat_tests}
 use Rattle.photo_version.specs.Author.{Author, same_author, author_word}
 use Rattle.photo_version.specs.Version.{Version, same_version}
 use Rattle.item_knowledge.specs.Tables.{at}
-use Rattle.item_knowledge.specs.Entries.{Entry, denotes, is_entry, is_vector, bound, leq}
-use Rattle.item_knowledge.specs.Fragments.{Fragment, knows, is_normal, known, nothing, entries_at}
-use Rattle.item_knowledge.specs.Rows.{AreRows, fragments_of, rows_of}
-use Rattle.item_knowledge.specs.Gathering.{vector_of, IsSide, IsIndex, IsUnion}
+use Rattle.item_knowledge.specs.Entries.{Entry, denotes, is_vector, bound, leq}
+use Rattle.item_knowledge.specs.Fragments.{Fragment, knows, is_normal, entries_at}
+use Rattle.item_knowledge.specs.Rows.{fragments_of, rows_of}
+use Rattle.item_knowledge.specs.Gathering.{vector_of, IsSide, IsUnion}
 use Rattle.item_knowledge.specs.Kept.{IsKept, is_side_within, star_bound}
 use Rattle.item_knowledge.proofs.EntryLemmas.{denotes-bound}
 use Rattle.item_knowledge.proofs.FragmentLemmas.{normal_parts, one_normal, leq_at, leq_denotes, star_of_every}
-use Rattle.item_knowledge.proofs.JoinLemmas.{leq_from, leq_self}
+use Rattle.item_knowledge.proofs.JoinLemmas.{leq_from}
 use Rattle.item_knowledge.proofs.UnionLemmas.{above, at_number, side_vector, normal_side, knows_vector}
 
 pub kept_side : (rows : List (List ℕ)) (xs : List (ℕ × ℕ)) → IsKept rows xs → IsSide (fragments_of rows) xs
@@ -44,11 +44,10 @@ learned rows xs gs us ys zs h u p v z = u.pairs p v z ∙ ap (λ b. b || denotes
 
 -- rows are equal where their pairs are
 pub same_pairs : (rows others : List (List ℕ)) (xs ys : List (ℕ × ℕ)) → IsKept rows xs → IsKept others ys → (rows ≡ others) ↔ ((p : ℕ) (v : Version) → 0 < p → knows (fragments_of rows) p v ≡ knows (fragments_of others) p v)
-same_pairs rows others xs ys h g =
-    (
-      λ e p v z. ap (λ rs. knows (fragments_of rs) p v) e,
-      λ all. sym h.rows ∙ (ap rows_of (one_normal (fragments_of rows) (fragments_of others) h.normal g.normal all) ∙ g.rows)
-    )
+same_pairs rows others xs ys h g = (
+  λ e p v z. ap (λ rs. knows (fragments_of rs) p v) e,
+  λ all. sym h.rows ∙ (ap rows_of (one_normal (fragments_of rows) (fragments_of others) h.normal g.normal all) ∙ g.rows),
+)
 
 pub same_fragments : (rows others : List (List ℕ)) (xs ys : List (ℕ × ℕ)) → IsKept rows xs → IsKept others ys → (rows ≡ others) ↔ (fragments_of rows ≡ fragments_of others)
 same_fragments rows others xs ys h g = (λ e. ap fragments_of e, λ e. sym h.rows ∙ (ap rows_of e ∙ g.rows))

@@ -200,7 +200,6 @@ both_taken xs ys out new i j n m l k e greater is =
 pub same_lists : (xs ys : List (List ℕ)) → Decides (pointwise (λ x y. pointwise (λ a b. eqb a b) x y) xs ys) (xs ≡ ys)
 same_lists xs ys = slice_eq-Decides {A = List ℕ} (λ x y. slice_eq-Decides {A = ℕ} (λ a b. Decides-eqb a b) x y (pointwise (λ a b. eqb a b) x y) refl) xs ys (pointwise (λ x y. pointwise (λ a b. eqb a b) x y) xs ys) refl
 
-
 -- A search along a row
 
 pub record EntryStep (xs : List ℕ) (i : ℕ) : Type 0 where

@@ -1,6 +1,6 @@
 -- What is told of pictures, as rows.
-use Rattle.std.proofs.Common.{◌≡◌, ℕ, zero, suc, ◌+◌, ◌<◌, ◌≤◌, Bool, true, false, leb, ltb, eqb, cond, ◌&&◌, ◌||◌, List, [], ◌∷◌, ◌++◌, map, length, get_or, drop, refl, sym, subst, ap, ◌∙◌, inl, inr, arith, append_assoc, Option, None, Some}
-use Rattle.std.specs.List.{list_any, list_all, slice_get}
+use Rattle.std.proofs.Common.{◌≡◌, ℕ, zero, suc, ◌+◌, ◌<◌, ◌≤◌, Bool, true, false, ltb, eqb, cond, ◌&&◌, ◌||◌, List, [], ◌∷◌, ◌++◌, map, length, get_or, drop, refl, sym, subst, ap, ◌∙◌, inl, inr, arith, append_assoc, Some}
+use Rattle.std.specs.List.{list_all, slice_get}
 use Rattle.std.proofs.Math.ListN.{get_or-append}
 use Rattle.std.proofs.Math.Seq.{get_or-append_seam}
 use Rattle.std.proofs.lemmas.Bool.{and_parts, and_from, lt-ltb, le-leb, ltb-true, eq-eqb, ne_eqb, cases_eq}
@@ -15,8 +15,7 @@ use Rattle.item_knowledge.specs.Rows.{pairs, flat, fragments_of}
 use Rattle.item_knowledge.specs.Gathering.{is_above, vector_of, IsSide}
 use Rattle.item_knowledge.specs.Told.{entries_of, bounds_of, told_one, told, numbered}
 use Rattle.item_knowledge.proofs.MergeLemmas.{append_nil, drop_none, drop_next}
-use Rattle.item_knowledge.proofs.EntryLemmas.{vector_parts, entry_parts}
-use Rattle.item_knowledge.proofs.RowLemmas.{flat_row, pairs_flat}
+use Rattle.item_knowledge.proofs.EntryLemmas.{vector_parts}
 
 some_same : {X : Type 0} (y z : X) → Some y ≡ Some z → y ≡ z
 some_same y z e = cc

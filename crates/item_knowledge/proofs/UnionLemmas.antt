@@ -1,14 +1,13 @@
 -- What is gathered from the merged tables of two sides is their union.
-use Rattle.std.proofs.Common.{◌≡◌, ℕ, zero, suc, ◌<◌, ◌≤◌, Bool, true, false, ltb, eqb, cond, ◌&&◌, ◌||◌, List, [], ◌∷◌, ◌++◌, length, get_or, drop, refl, sym, subst, ap, ◌∙◌, inl, inr, arith}
+use Rattle.std.proofs.Common.{◌≡◌, ℕ, zero, suc, ◌<◌, Bool, true, false, ltb, eqb, cond, ◌&&◌, List, [], ◌∷◌, length, get_or, refl, sym, subst, ap, ◌∙◌, inl, inr, arith}
 use Rattle.std.specs.List.{list_all}
 use Rattle.std.proofs.lemmas.Bool.{and_parts, and_from, lt-ltb, ltb-true, eq-eqb, ne_eqb, cases_eq, false≢true}
 use Rattle.photo_version.specs.Version.{Version}
 use Rattle.item_knowledge.specs.Tables.{keys_pass, in_order, at, put}
 use Rattle.item_knowledge.specs.Entries.{Entry, denotes, is_entry, is_vector, leq, joined}
-use Rattle.item_knowledge.specs.Fragments.{Fragment, knows, are_groups, is_normal, known, nothing, entries_at}
-use Rattle.item_knowledge.specs.Gathering.{vector_of, is_above, IsSide, IsIndex, paired, pair_vector, gathered, indexed, star_first, groups_of, index_of, IsUnion}
+use Rattle.item_knowledge.specs.Fragments.{Fragment, knows, are_groups, is_normal, known, entries_at}
+use Rattle.item_knowledge.specs.Gathering.{vector_of, is_above, IsSide, IsIndex, paired, pair_vector, gathered, star_first, index_of, IsUnion}
 use Rattle.item_knowledge.proofs.TableLemmas.{merge_at, merge_order, merge_pass}
-use Rattle.item_knowledge.proofs.MergeLemmas.{drop_none, append_nil}
 use Rattle.item_knowledge.proofs.JoinLemmas.{joined_bound, joined_vector, joined_leq, joined_denotes, leq_self}
 use Rattle.item_knowledge.proofs.FragmentLemmas.{normal_parts, knows_known, groups_parts}
 use Rattle.item_knowledge.proofs.GatherLemmas.{good, Ready, gathered_groups, gathered_find, row_vector_at}

@@ -4,7 +4,7 @@ use Rattle.std.specs.List.{list_all}
 use Rattle.photo_version.specs.Version.{Version}
 use Rattle.item_knowledge.specs.Tables.{merge, at, in_order, keys_pass}
 use Rattle.item_knowledge.specs.Entries.{Entry, denotes, is_vector, bound, leq, same_entries, joined}
-use Rattle.item_knowledge.specs.Fragments.{Fragment, lists, knows, is_normal, known, entries_at}
+use Rattle.item_knowledge.specs.Fragments.{Fragment, knows, is_normal, known, entries_at}
 
 -- the vector to which an index leads, the star's where it leads nowhere
 abbrev pub vector_of : List Fragment → List (ℕ × ℕ) → ℕ → List Entry

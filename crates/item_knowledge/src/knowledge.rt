@@ -115,7 +115,14 @@ impl Knowledge {
         ensures learned { OnOk result ((p : ℕ) (v : versions.Version) → 0 < p → spec.knows self.new p v ≡ (spec.knows self.old p v || denotes (vector_of (fragments_of rows.now) index.now p) v)) }
         ensures refused { OnErr result (self.new ≡ self.old) }
     {
-        let index = union(self.alloc, &self.live, &self.index, rows, index, &mut self.spare)?;
+        let index = union(
+            self.alloc,
+            &self.live,
+            &self.index,
+            rows,
+            index,
+            &mut self.spare,
+        )?;
         swap(&mut self.live, &mut self.spare);
         self.index = index;
         Ok(())

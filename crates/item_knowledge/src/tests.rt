@@ -1,13 +1,13 @@
+ghost use Rattle.std.specs.Prelude.{◌≡◌, ◌<◌};
+ghost use Rattle.photo_version.specs.Author.{author};
+ghost use Rattle.photo_version.specs.Version as versions;
+
 use crate::Knowledge;
 use photo_record::PicNo;
 use photo_version::{Author, Vector, Version};
 use std::alloc::Global;
 use std::collections::BTreeSet;
 use std::test::Fail;
-
-ghost use Rattle.std.specs.Prelude.{◌≡◌, ◌<◌};
-ghost use Rattle.photo_version.specs.Author.{author};
-ghost use Rattle.photo_version.specs.Version as versions;
 
 /// The `n`th version of a device.
 fn version(device: u16, n: u32) -> Version
@@ -50,7 +50,9 @@ fn pictures_known_alike_are_one_fragment(rt: HostRuntime) -> Result<(), Fail> {
     assert!(rt; knowledge.fragments() == 2);
     let of_nine = knowledge.of(picture(9)?)?;
     assert!(rt; of_nine.len() == 1 && of_nine.has(version(0, 1)) && !of_nine.has(version(0, 2)));
-    assert!(rt; knowledge.knows(picture(7)?, version(0, 1)) && !knowledge.knows(picture(8)?, version(0, 1)));
+    assert!(rt;
+        knowledge.knows(picture(7)?, version(0, 1)) && !knowledge.knows(picture(8)?, version(0, 1))
+    );
     Ok(())
 }
 
@@ -97,13 +99,17 @@ fn own_versions_come_to_the_star(rt: HostRuntime) -> Result<(), Fail> {
     let alloc = rt.alloc();
     let knowledge = own(alloc)?;
     assert!(rt; knowledge.fragments() == 1 && knowledge.knows(picture(5)?, version(0, 1)));
-    assert!(rt; !knowledge.knows(picture(5)?, version(0, 2)) && !knowledge.knows(picture(5)?, version(1, 1)));
+    assert!(rt;
+        !knowledge.knows(picture(5)?, version(0, 2)) && !knowledge.knows(picture(5)?, version(1, 1))
+    );
     Ok(())
 }
 
 /// A number of a fixed sequence.
 fn next(seed: &mut u64) -> u64 {
-    *seed = seed.wrapping_mul(6364136223846793005).wrapping_add(1442695040888963407);
+    *seed = seed
+        .wrapping_mul(6364136223846793005)
+        .wrapping_add(1442695040888963407);
     *seed >> 33
 }
 
@@ -119,7 +125,8 @@ fn tell(alloc: Global, case: &mut Case, seed: &mut u64) -> Result<(), Fail> {
     let number = 1 + (next(seed) % 3) as u32;
     let device = (next(seed) % 3) as u16;
     let n = 1 + (next(seed) % 3) as u32;
-    case.knowledge.learn(picture(number)?, &up_to(alloc, device, n)?)?;
+    case.knowledge
+        .learn(picture(number)?, &up_to(alloc, device, n)?)?;
     for k in 1..4u32 {
         if k <= n {
             case.pairs.insert((number, (device, k)))?;
@@ -209,7 +216,10 @@ fn the_same_pairs_are_the_same_knowledge(rt: HostRuntime) -> Result<(), Fail> {
 fn a_table_is_learned_at_once(rt: HostRuntime) -> Result<(), Fail> {
     let alloc = rt.alloc();
     let mut knowledge = Knowledge::new(alloc)?;
-    let table = vec![in alloc; (picture(7)?, up_to(alloc, 0, 1)?), (picture(9)?, up_to(alloc, 0, 1)?)]?;
+    let table = vec![in alloc;
+        (picture(7)?, up_to(alloc, 0, 1)?),
+        (picture(9)?, up_to(alloc, 0, 1)?),
+    ]?;
     if table[0].0.value() < table[1].0.value() {
         knowledge.learn_table(&table)?;
     }

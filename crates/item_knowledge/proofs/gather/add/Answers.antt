@@ -47,7 +47,7 @@ returns-clause-placed c key row =
     let p : c.push-2.new.self.items ≡ c.args.groups.now.items ++ of_one c.args.picture (pairs c.args.row.items) ∷ [] = search rules in
     let l : c.len-k.result ≡ length c.args.groups.now.items = search rules in
     placed_more c.args.groups.now.items c.args.picture c.len-k.result (pairs c.args.row.items) key.items c.in_ok-key.key.items (tree.get key_cmp c.args.places.now key) (tree.get key_cmp c.insert.new.self key)
-        (subst IsRow (sym k) c.requires.row) (ap pairs k) row l n (c.requires.placed key row) (c.in_ok-insert.ensures.updates.0 key)
+    (subst IsRow (sym k) c.requires.row) (ap pairs k) row l n (c.requires.placed key row) (c.in_ok-insert.ensures.updates.0 key)
     ∙ ap (λ gs. spec.place gs (pairs key.items)) (sym (p ∙ add_absent c.args.picture (pairs c.args.row.items) c.args.groups.now.items n))
 
 pub returns-clause-place : goal.returns-clause-place

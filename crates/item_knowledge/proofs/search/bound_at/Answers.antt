@@ -1,4 +1,4 @@
-use Rattle.std.proofs.Common.{rules, ◌≡◌, sym, ◌∙◌, arith}
+use Rattle.std.proofs.Common.{rules, sym, ◌∙◌, arith}
 use Rattle.item_knowledge.proofs.RowLemmas.{entry_step, bound_here, bound_later}
 use Rattle.item_knowledge.proofs.search.bound_at.Goals as goal
 

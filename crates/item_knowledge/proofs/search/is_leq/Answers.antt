@@ -1,4 +1,4 @@
-use Rattle.std.proofs.Common.{rules, ◌≡◌, sym, ◌∙◌, arith}
+use Rattle.std.proofs.Common.{sym, ◌∙◌, arith}
 use Rattle.item_knowledge.specs.Rows.{pairs}
 use Rattle.item_knowledge.proofs.RowLemmas.{entry_step, leq_more, leq_none}
 use Rattle.item_knowledge.proofs.search.is_leq.Goals as goal

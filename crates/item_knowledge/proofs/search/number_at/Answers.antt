@@ -1,6 +1,6 @@
-use Rattle.std.proofs.Common.{ltb, rules, ℕ, ◌≡◌, ◌<◌, length, sym, ◌∙◌, arith}
+use Rattle.std.proofs.Common.{ltb, rules, ℕ, sym, arith}
 use Rattle.std.proofs.lemmas.List.Sorted.{IsPartitionedBy-ltb, IsPartitionPoint-from_clause}
-use Rattle.item_knowledge.proofs.SearchLemmas.{IsPlace, no_fall, is_place, found_at, absent_at}
+use Rattle.item_knowledge.proofs.SearchLemmas.{no_fall, is_place, found_at, absent_at}
 use Rattle.item_knowledge.proofs.search.number_at.Goals as goal
 
 pub returns-then-place-index : goal.returns-then-place-index

@@ -1,8 +1,7 @@
-use Rattle.std.proofs.Common.{rules, ◌≡◌, ◌<◌, ◌≤◌, ◌++◌, ◌∷◌, [], length, arith, sym, subst, ap, ◌∙◌, true, Some}
+use Rattle.std.proofs.Common.{rules, ◌≡◌, ◌<◌, ◌++◌, ◌∷◌, [], arith, sym, subst, ap, ◌∙◌, true, Some}
 use Rattle.std.specs.List.{slice_get}
 use Rattle.photo_version.specs.Author.{author_word, is_author_word}
-use Rattle.item_knowledge.specs.Entries.{is_entry}
-use Rattle.item_knowledge.specs.Rows.{pairs, flat, IsRow}
+use Rattle.item_knowledge.specs.Rows.{pairs, IsRow}
 use Rattle.item_knowledge.specs.Told.{entries_of}
 use Rattle.item_knowledge.proofs.RowLemmas.{flat_row, pairs_flat}
 use Rattle.item_knowledge.proofs.ToldLemmas.{row_done, entries_done, row_more, entries_more, got_positive, got_entry, entries_vector}

@@ -1,4 +1,4 @@
-use Rattle.std.proofs.Common.{◌≡◌, ◌++◌, drop, List, ℕ}
+use Rattle.std.proofs.Common.{◌≡◌, ◌++◌, drop}
 use Rattle.std.specs.List.{list_all}
 use Rattle.item_knowledge.specs.Entries.{Entry, is_entry}
 use Rattle.item_knowledge.specs.Rows.{flat}

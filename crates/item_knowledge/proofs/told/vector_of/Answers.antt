@@ -1,8 +1,7 @@
-use Rattle.std.proofs.Common.{rules, ◌≡◌, ◌<◌, ◌≤◌, ◌++◌, ◌∷◌, [], length, arith, sym, subst, ap, ◌∙◌, true, get_or, drop}
+use Rattle.std.proofs.Common.{◌≡◌, ◌++◌, ◌∷◌, [], arith, sym, subst, true}
 use Rattle.std.specs.Result.{IfOk}
 use Rattle.photo_version.specs.Vector as versions
 use Rattle.item_knowledge.specs.Rows.{pairs}
-use Rattle.item_knowledge.specs.Told.{bounds_of}
 use Rattle.item_knowledge.proofs.EntryLemmas.{entry_of, EntryParts}
 use Rattle.item_knowledge.proofs.RowLemmas.{row_length}
 use Rattle.item_knowledge.proofs.ToldLemmas.{bounds_vector, bounds_done, bounds_more}

@@ -1,4 +1,4 @@
-use Rattle.std.proofs.Common.{rules, ◌≡◌, ◌+◌, ◌*◌, ◌<◌, ◌∙◌, [], length, arith, get_or, sym, subst, ap}
+use Rattle.std.proofs.Common.{rules, ◌≡◌, ◌+◌, ◌*◌, ◌∙◌, [], arith, get_or, sym, subst, ap}
 use Rattle.item_knowledge.specs.Fragments.{entries_at}
 use Rattle.item_knowledge.specs.Rows.{pairs, IsRow, fragments_of}
 use Rattle.item_knowledge.proofs.RowLemmas.{rows_read, entries_read, flat_row, pairs_flat}

@@ -1,5 +1,5 @@
-use Rattle.std.proofs.Common.{rules, ◌≡◌, ◌<◌, ◌≤◌, length, arith}
-use Rattle.item_knowledge.specs.Gathering.{pair_vector, paired}
+use Rattle.std.proofs.Common.{rules, ◌≡◌, ◌<◌, length, arith}
+use Rattle.item_knowledge.specs.Gathering.{paired}
 use Rattle.item_knowledge.specs.Rows.{fragments_of}
 use Rattle.item_knowledge.proofs.UnionLemmas.{row_range}
 use Rattle.item_knowledge.proofs.union.groups.Goals as goal

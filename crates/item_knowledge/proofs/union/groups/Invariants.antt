@@ -1,4 +1,4 @@
-use Rattle.std.proofs.Common.{◌≡◌, drop, [], ◌++◌}
+use Rattle.std.proofs.Common.{◌≡◌, drop, ◌++◌}
 use Rattle.item_knowledge.specs.Gathering.{gathered, indexed, groups_of, index_of, pair_vector}
 use Rattle.item_knowledge.specs.Places.{Placed}
 use Rattle.item_knowledge.specs.Rows.{fragments_of}

@@ -1,4 +1,4 @@
-use Rattle.std.proofs.Common.{◌≡◌, ◌<◌, length, get_or, sym, subst}
+use Rattle.std.proofs.Common.{◌<◌, length, get_or, sym, subst}
 use Rattle.item_knowledge.specs.Rows.{fragments_of}
 use Rattle.item_knowledge.proofs.KeptLemmas.{number_below}
 use Rattle.item_knowledge.proofs.union.is_within.Goals as goal

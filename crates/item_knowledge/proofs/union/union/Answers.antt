@@ -17,5 +17,5 @@ returns-clause-union c =
     let groups : c.in_ok-listed.listed.items ≡ groups_of (fragments_of c.args.left.now) (fragments_of c.args.right.now) c.args.left_index.now c.args.right_index.now = search rules in
     let index : c.in_ok-listed.index.items ≡ index_of (fragments_of c.args.left.now) (fragments_of c.args.right.now) c.args.left_index.now c.args.right_index.now = search rules in
     union_made (fragments_of c.args.left.now) (fragments_of c.args.right.now) (fragments_of c.write.new.out) c.args.left_index.now c.args.right_index.now c.in_ok-listed.index.items
-        c.requires.left c.requires.right
-        (ap fragments_of written ∙ (fragments_rows (star_first (pairs c.in_ok-star.star.items) c.in_ok-listed.listed.items) ∙ (λ i. star_first (star i) (groups i)))) index
+    c.requires.left c.requires.right
+    (ap fragments_of written ∙ (fragments_rows (star_first (pairs c.in_ok-star.star.items) c.in_ok-listed.listed.items) ∙ (λ i. star_first (star i) (groups i)))) index

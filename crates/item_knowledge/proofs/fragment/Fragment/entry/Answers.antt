@@ -1,6 +1,4 @@
-use Rattle.std.proofs.Common.{rules, ◌≡◌, ◌<◌, ◌≤◌, true, length, get_or, arith, ap, sym, subst, ◌∙◌}
-use Rattle.photo_version.specs.Author.{is_author_word}
-use Rattle.item_knowledge.specs.Entries.{Entry}
+use Rattle.std.proofs.Common.{◌<◌, length, arith, sym, subst}
 use Rattle.item_knowledge.specs.Fragments.{Fragment}
 use Rattle.item_knowledge.specs.Rows.{pairs}
 use Rattle.item_knowledge.proofs.EntryLemmas.{entry_of, EntryParts}

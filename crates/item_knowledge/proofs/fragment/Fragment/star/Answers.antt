@@ -1,4 +1,4 @@
-use Rattle.std.proofs.Common.{◌≡◌, ap, ◌∙◌}
+use Rattle.std.proofs.Common.{ap, ◌∙◌}
 use Rattle.item_knowledge.specs.Fragments.{is_empty, Fragment}
 use Rattle.item_knowledge.proofs.PictureLemmas.{empty_length}
 use Rattle.item_knowledge.proofs.fragment.Fragment.star.Goals as goal

@@ -1,6 +1,6 @@
-use Rattle.std.proofs.Common.{rules, ◌≡◌, ◌<◌, ◌*◌, length, get_or, true, arith, sym, subst, ap, ◌∙◌}
+use Rattle.std.proofs.Common.{◌≡◌, ◌<◌, length, get_or, true, arith, sym, subst, ap, ◌∙◌}
 use Rattle.item_knowledge.specs.Entries.{is_vector}
-use Rattle.item_knowledge.specs.Fragments.{Fragment, nothing}
+use Rattle.item_knowledge.specs.Fragments.{nothing}
 use Rattle.item_knowledge.specs.Rows.{fragments_of}
 use Rattle.item_knowledge.proofs.RowLemmas.{rows_read, pictures_read}
 use Rattle.item_knowledge.proofs.KeptLemmas.{kept_vector}

@@ -1,4 +1,4 @@
-use Rattle.std.proofs.Common.{rules, ◌≡◌, ◌||◌, max, ◌&&◌, ℕ, List, [], ◌∷◌, eqb, sym, ap, ◌∙◌}
+use Rattle.std.proofs.Common.{rules, ◌≡◌, ◌||◌, max, ◌&&◌, [], ◌∷◌, eqb, ap, ◌∙◌}
 use Rattle.std.proofs.Math.Nat.{max-zero}
 use Rattle.photo_version.specs.Author.{author_word}
 use Rattle.photo_version.specs.Vector as vectors
@@ -21,7 +21,7 @@ returns-clause-learned c p v z =
     l
     ∙ (ap (λ rs. knows c.args.self.now p v || denotes (vector_of (fragments_of rs) ((q, 1) ∷ []) p) v) rows
     ∙ ap (λ b. knows c.args.self.now p v || b)
-        (one_knows q c.in_ok-row.row.items c.args.vector.now p v entries ∙ ap (λ n. eqb n p && vectors.denotes c.args.vector.now v) same))
+    (one_knows q c.in_ok-row.row.items c.args.vector.now p v entries ∙ ap (λ n. eqb n p && vectors.denotes c.args.vector.now v) same))
 
 pub returns-clause-star : goal.returns-clause-star
 returns-clause-star c a =

@@ -1,4 +1,4 @@
-use Rattle.std.proofs.Common.{rules, ◌≡◌, ◌||◌, max, true, Bool, ℕ, ◌<◌, List, sym, subst, ap, ◌∙◌}
+use Rattle.std.proofs.Common.{◌≡◌, ◌||◌, max, true, Bool, ℕ, ◌<◌, sym, subst, ap, ◌∙◌}
 use Rattle.std.specs.Result.{OnOk}
 use Rattle.photo_version.specs.Author.{Author}
 use Rattle.photo_version.specs.Version.{Version}
@@ -22,8 +22,8 @@ take_union-requires-clause-side c = subst (IsSide (fragments_of c.other.inside.l
 pub returns-then-is_within-clause-learned : goal.returns-then-is_within-clause-learned
 returns-then-is_within-clause-learned c p v z =
     let within : is_side_within (fragments_of c.other.inside.live) c.other.inside.index.items (fragments_of c.self.inside.live) c.self.inside.index.items ≡ true =
-        (λ i. is_side_within (fragments_of c.other.inside.live) (sym c.deref.ensures.value i) (fragments_of c.self.inside.live) (sym c.deref-2.ensures.value i))
-        ∙ (sym c.is_within.ensures ∙ c.if-is_within.true) in
+    (λ i. is_side_within (fragments_of c.other.inside.live) (sym c.deref.ensures.value i) (fragments_of c.self.inside.live) (sym c.deref-2.ensures.value i))
+    ∙ (sym c.is_within.ensures ∙ c.if-is_within.true) in
     sym (ap (λ fs. knows fs p v) c.self.view_is)
     ∙ (within_knows c.self.inside.live c.other.inside.live c.self.inside.index.items c.other.inside.index.items c.self.invariant c.other.invariant within p v
     ∙ (λ i. knows (c.self.view_is i) p v || knows (c.other.view_is i) p v))
@@ -31,8 +31,8 @@ returns-then-is_within-clause-learned c p v z =
 pub returns-clause-learned : goal.returns-clause-learned
 returns-clause-learned c =
     let denoted : (p : ℕ) (v : Version) → denotes (vector_of (fragments_of c.other.inside.live) c.deref-3.result.now p) v ≡ knows c.args.other.now p v =
-        λ p v. ap (λ xs. denotes (vector_of (fragments_of c.other.inside.live) xs p) v) c.deref-3.ensures.value
-            ∙ (sym (kept_knows c.other.inside.live c.other.inside.index.items p v c.other.invariant) ∙ ap (λ fs. knows fs p v) c.other.view_is) in
+    λ p v. ap (λ xs. denotes (vector_of (fragments_of c.other.inside.live) xs p) v) c.deref-3.ensures.value
+    ∙ (sym (kept_knows c.other.inside.live c.other.inside.index.items p v c.other.invariant) ∙ ap (λ fs. knows fs p v) c.other.view_is) in
     subst (λ (k : ℕ → Version → Bool). OnOk c.take_union.result ((p : ℕ) (v : Version) → 0 < p → knows c.take_union.new.self p v ≡ (knows c.args.self.now p v || k p v))) (λ i p v. denoted p v i) c.take_union.ensures.learned
 
 pub returns-then-is_within-clause-star : goal.returns-then-is_within-clause-star

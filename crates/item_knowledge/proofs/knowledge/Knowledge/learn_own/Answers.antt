@@ -1,6 +1,6 @@
-use Rattle.std.proofs.Common.{rules, ◌≡◌, ◌||◌, max, Bool, ℕ, ◌<◌, ◌+◌, List, [], ◌∷◌, sym, subst, ap, ◌∙◌}
+use Rattle.std.proofs.Common.{rules, ◌≡◌, ◌||◌, max, ◌+◌, [], ◌∷◌, sym, subst, ap, ◌∙◌}
 use Rattle.photo_version.specs.Author.{author_word}
-use Rattle.photo_version.specs.Version.{Version, same_version}
+use Rattle.photo_version.specs.Version.{same_version}
 use Rattle.item_knowledge.specs.Entries.{denotes, bound}
 use Rattle.item_knowledge.specs.Fragments.{knows, entries_at}
 use Rattle.item_knowledge.specs.Rows.{fragments_of}

@@ -1,10 +1,10 @@
-use Rattle.std.proofs.Common.{rules, ◌≡◌, ◌||◌, max, ℕ, List, [], true, ltb, sym, subst, ap, ◌∙◌}
+use Rattle.std.proofs.Common.{rules, ◌≡◌, ◌||◌, max, ℕ, List, true, ltb, sym, subst, ap, ◌∙◌}
 use Rattle.std.specs.List.{list_all}
 use Rattle.std.proofs.Math.Nat.{max-zero}
 use Rattle.photo_version.specs.Author.{author_word}
 use Rattle.photo_version.specs.Vector as vectors
 use Rattle.item_knowledge.specs.Kept.{star_bound}
-use Rattle.item_knowledge.specs.Tables.{keys_pass, at}
+use Rattle.item_knowledge.specs.Tables.{keys_pass}
 use Rattle.item_knowledge.specs.Entries.{denotes, is_vector, bound}
 use Rattle.item_knowledge.specs.Fragments.{knows, entries_at}
 use Rattle.item_knowledge.specs.Rows.{fragments_of, rows_of, AreRows}

@@ -1,6 +1,4 @@
 use Rattle.std.proofs.Common.{rules, ◌≡◌, ◌<◌, true, length, sym, subst, ap, ◌∙◌}
-use Rattle.std.specs.Result.{IfOk}
-use Rattle.photo_version.specs.Version.{Version}
 use Rattle.photo_version.specs.Vector as vectors
 use Rattle.item_knowledge.specs.Tables.{at}
 use Rattle.item_knowledge.specs.Entries.{denotes, is_vector}

@@ -1,4 +1,4 @@
-use Rattle.std.proofs.Common.{rules, ◌≡◌, ◌||◌, max, sym, subst, ap, ◌∙◌}
+use Rattle.std.proofs.Common.{rules, ◌||◌, max, sym, subst, ap, ◌∙◌}
 use Rattle.photo_version.specs.Author.{author_word}
 use Rattle.item_knowledge.specs.Kept.{star_bound}
 use Rattle.item_knowledge.specs.Entries.{denotes, bound}
