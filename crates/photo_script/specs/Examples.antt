@@ -75,8 +75,8 @@ pub record Filters : Type 0 where
 pub record Changes : Type 0 where
   pub edit : script_of (codes "device a all\nedit a 7 5 2024-01-01 x\nnew a 7 5 2024-01-01 x\nedit a 7 4 2024-01-01 -\nremove a 7\nremove a 7")
       ≡ Ok (contents (codes "a" ∷ []) (All ∷ [])
-          (command.Edit 0 7 (content.Picture 5 (pos 19_723) (codes "x" ∷ [])) ∷ command.New 0 7 (content.Picture 5 (pos 19_723) (codes "x" ∷ []))
-          ∷ command.Edit 0 7 (content.Picture 4 (pos 19_723) []) ∷ command.Remove 0 7 ∷ command.Remove 0 7 ∷ []))
+      (command.Edit 0 7 (content.Picture 5 (pos 19_723) (codes "x" ∷ [])) ∷ command.New 0 7 (content.Picture 5 (pos 19_723) (codes "x" ∷ []))
+      ∷ command.Edit 0 7 (content.Picture 4 (pos 19_723) []) ∷ command.Remove 0 7 ∷ command.Remove 0 7 ∷ []))
   pub few : script_of (codes "device a all\nedit a 7 5 2024-01-01") ≡ Err (Line 2 fault.WrongFields)
   pub many : script_of (codes "device a all\nremove a 7 5") ≡ Err (Line 2 fault.WrongFields)
   pub device : script_of (codes "device a all\nedit b 0 6 x x") ≡ Err (Line 2 fault.UnknownDevice)

@@ -84,7 +84,7 @@ put_report reports n (suc left) a r long is some =
     let size : length before ≡ n = length-map reports told ∙ long in
     let less : suc left - 1 ≡ left = omega arith in
     let whole : map told (reports ++ r ∷ []) ++ replicate (suc left - 1) None ≡ before ++ Some a ∷ replicate left None =
-        ap (λ l. l ++ replicate (suc left - 1) None) (map-append told reports (r ∷ [])) ∙ append_assoc before (told r ∷ []) _ ∙ (λ i. before ++ Some (is i) ∷ replicate (less i) None) in
+    ap (λ l. l ++ replicate (suc left - 1) None) (map-append told reports (r ∷ [])) ∙ append_assoc before (told r ∷ []) _ ∙ (λ i. before ++ Some (is i) ∷ replicate (less i) None) in
     ap (λ k. set (before ++ None ∷ replicate left None) k (Some a)) (sym size) ∙ set-append_seam before None (replicate left None) (Some a) ∙ sym whole
 
 -- one command more

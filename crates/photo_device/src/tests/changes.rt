@@ -43,6 +43,9 @@ fn removals(rt: HostRuntime) -> Result<(), Fail> {
     assert!(rt; device.counter() < 4);
     assert!(rt; told(device.remove(picture(9)?))?.is_none());
     assert!(rt; device.store().is_empty() && device.out().len() == 1);
-    assert_eq!(rt; ChangeFault::NotHeld.to_string(alloc)?.as_str(), "C1 NotHeld");
+    assert_eq!(rt;
+        ChangeFault::NotHeld.to_string(alloc)?.as_str(),
+        "C1 NotHeld"
+    );
     Ok(())
 }

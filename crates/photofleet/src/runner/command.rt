@@ -52,11 +52,7 @@ pub fn run_command(
 }
 
 #[tactic(auto, using(crate::proofs::Changed::change_device, crate::proofs::Changed::change_report, crate::proofs::Changed::change_counter, crate::proofs::Changed::change_err))]
-fn run_edit(
-    device: &mut Device,
-    picture: PicNo,
-    content: &Record,
-) -> Result<Report, AllocError>
+fn run_edit(device: &mut Device, picture: PicNo, content: &Record) -> Result<Report, AllocError>
     requires { device.old.counter < 4_294_967_295 }
     ensures device { OnOk result ((m : ModelDevice) → Shows device.old m → Shows device.new (changing m None picture content.now).first) }
     ensures report { IfOk result (λ report. (m : ModelDevice) → Shows device.old m → answer_of report ≡ (changing m None picture content.now).report) }

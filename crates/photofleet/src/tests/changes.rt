@@ -51,17 +51,32 @@ fn lines_that_are_refused(rt: HostRuntime) -> Result<(), Fail> {
         ("edit a 7 5 2024-01-01 - -", "line 1: F6 WrongFields"),
         ("edit b 0 6 x ,", "line 1: F8 UnknownDevice"),
         ("device a all\nedit a 0 6 x ,", "line 2: F11 BadNumber"),
-        ("device a all\nedit a 07 5 2024-01-01 -", "line 2: F11 BadNumber"),
+        (
+            "device a all\nedit a 07 5 2024-01-01 -",
+            "line 2: F11 BadNumber",
+        ),
         ("device a all\nedit a 7 6 x ,", "line 2: F12 BadRating"),
-        ("device a all\nedit a 7 5 2023-02-29 ,", "line 2: F13 BadDate"),
-        ("device a all\nedit a 7 5 2024-01-01 x,x", "line 2: F14 BadKeyword"),
+        (
+            "device a all\nedit a 7 5 2023-02-29 ,",
+            "line 2: F13 BadDate",
+        ),
+        (
+            "device a all\nedit a 7 5 2024-01-01 x,x",
+            "line 2: F14 BadKeyword",
+        ),
         ("remove a", "line 1: F6 WrongFields"),
         ("remove a 7 -", "line 1: F6 WrongFields"),
         ("remove b 0", "line 1: F8 UnknownDevice"),
         ("device a all\nremove a 0", "line 2: F11 BadNumber"),
         ("device a all\nremove a 1000000000", "line 2: F11 BadNumber"),
-        ("device a all\nremove a 7\ndevice b all", "line 3: F10 LateDevice"),
-        ("device a all\nEdit a 7 5 2024-01-01 -", "line 2: F5 UnknownCommand"),
+        (
+            "device a all\nremove a 7\ndevice b all",
+            "line 3: F10 LateDevice",
+        ),
+        (
+            "device a all\nEdit a 7 5 2024-01-01 -",
+            "line 2: F5 UnknownCommand",
+        ),
     ] {
         let (status, told, fault) = ran(alloc, script);
         assert_eq!(rt; status, 3, "{script}");
