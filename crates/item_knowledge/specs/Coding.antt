@@ -1,4 +1,4 @@
--- Fragments as the pairs of their parts: by this a proof tells two of them apart.
+-- Machinery of the proofs: fragments as the pairs of their parts, by which a proof tells two of them apart.
 use Rattle.std.specs.Prelude.{ℕ, List, refl}
 use Rattle.std.specs.Coded.{Coded, code_by, coded×, coded_ℕ, coded_list}
 use Rattle.item_knowledge.specs.Fragments.{Fragment}

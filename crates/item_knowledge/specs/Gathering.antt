@@ -1,4 +1,4 @@
--- The union of two lists of fragments, picture by picture.
+-- Machinery of the proofs: the union of two lists of fragments, picture by picture, as the code gathers it.
 use Rattle.std.specs.Prelude.{◌≡◌, ℕ, Bool, suc, ◌<◌, true, ◌&&◌, ◌||◌, max, nat_lt, if◌then◌else◌, List, [], ◌∷◌, ◌++◌, length, Option, None, Some}
 use Rattle.std.specs.List.{list_all}
 use Rattle.photo_version.specs.Version.{Version}

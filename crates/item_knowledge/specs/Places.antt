@@ -1,4 +1,4 @@
--- Which group has a vector, kept in a map from rows of words.
+-- Machinery of the proofs: which group has a vector, kept in a map from rows of words.
 use Rattle.std.specs.Prelude.{◌≡◌, ℕ, List}
 use Rattle.std.specs.Global.{Vec}
 use Rattle.std.specs.Ordering.{nat_cmp}

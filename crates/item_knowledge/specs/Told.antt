@@ -1,4 +1,4 @@
--- What is told of pictures: their vectors, as those of versions have them.
+-- Machinery of the proofs: what is told of pictures, with their vectors as those of versions have them.
 use Rattle.std.specs.Prelude.{ℕ, ◌+◌, List, [], ◌∷◌, map}
 use Rattle.photo_version.specs.Author.{author_word, author_of_word}
 use Rattle.photo_version.specs.Vector.{Bound}

@@ -264,7 +264,7 @@ fn is_kept(script: &Script, device: u16, number: u32) -> bool
 {
     match script.command(number) {
         Command::New { record, .. } => script.filter(device).matches(record),
-        Command::List { .. } => false,
+        _ => false,
     }
 }
 

@@ -1,23 +1,7 @@
-use super::memory::{Shelf, Sink};
-use crate::serve::serve;
-use std::alloc::Global;
-use std::test::Fail;
-
-// What a script gives: the status, the reports and what went wrong.
-fn ran(alloc: Global, script: &str) -> (u8, Vec<u8>, Vec<u8>) {
-    let mut shelf = Shelf {
-        script: script.as_bytes(),
-    };
-    let mut told = Sink::new(alloc);
-    let mut fault = Sink::new(alloc);
-    let words = ["photofleet", "plain", "script"];
-    let status = serve(alloc, words.as_slice(), &mut shelf, &mut told, &mut fault);
-    (status, told.taken, fault.taken)
-}
+use super::memory::runs;
 
 #[test]
-fn versions_of_a_picture(rt: HostRuntime) -> Result<(), Fail> {
-    let alloc = rt.alloc();
+fn versions_of_a_picture(rt: HostRuntime) {
     for (script, reports) in [
         (
             "device a rating >= 2\nnew a 7 5 2024-01-01 -\nedit a 7 1 2024-01-01 -\nremove a 7\nedit a 7 4 2024-01-01 -\nremove a 9\nlist a\n",
@@ -34,55 +18,63 @@ fn versions_of_a_picture(rt: HostRuntime) -> Result<(), Fail> {
             "1 made a:1 store\n2 made a:2 out\n3 made a:3 out\n4 list a store 0 out 1\n  out 7 a:3 removed\n",
         ),
     ] {
-        let (status, told, fault) = ran(alloc, script);
-        assert_eq!(rt; status, 0, "{script}");
-        assert!(rt; told.as_slice() == reports.as_bytes(), "{script}");
-        assert!(rt; fault.is_empty(), "{script}");
+        assert!(rt; runs(rt.alloc(), script, 0, reports, ""), "{script}");
     }
-    Ok(())
 }
 
 #[test]
-fn lines_that_are_refused(rt: HostRuntime) -> Result<(), Fail> {
-    let alloc = rt.alloc();
-    for (script, text) in [
-        ("edit", "line 1: F6 WrongFields"),
-        ("edit a 7 5 2024-01-01", "line 1: F6 WrongFields"),
-        ("edit a 7 5 2024-01-01 - -", "line 1: F6 WrongFields"),
-        ("edit b 0 6 x ,", "line 1: F8 UnknownDevice"),
-        ("device a all\nedit a 0 6 x ,", "line 2: F11 BadNumber"),
+fn lines_that_are_refused(rt: HostRuntime) {
+    for (script, error) in [
+        ("edit", "script fault: line 1: F6 WrongFields\n"),
+        (
+            "edit a 7 5 2024-01-01",
+            "script fault: line 1: F6 WrongFields\n",
+        ),
+        (
+            "edit a 7 5 2024-01-01 - -",
+            "script fault: line 1: F6 WrongFields\n",
+        ),
+        ("edit b 0 6 x ,", "script fault: line 1: F8 UnknownDevice\n"),
+        (
+            "device a all\nedit a 0 6 x ,",
+            "script fault: line 2: F11 BadNumber\n",
+        ),
         (
             "device a all\nedit a 07 5 2024-01-01 -",
-            "line 2: F11 BadNumber",
+            "script fault: line 2: F11 BadNumber\n",
         ),
-        ("device a all\nedit a 7 6 x ,", "line 2: F12 BadRating"),
+        (
+            "device a all\nedit a 7 6 x ,",
+            "script fault: line 2: F12 BadRating\n",
+        ),
         (
             "device a all\nedit a 7 5 2023-02-29 ,",
-            "line 2: F13 BadDate",
+            "script fault: line 2: F13 BadDate\n",
         ),
         (
             "device a all\nedit a 7 5 2024-01-01 x,x",
-            "line 2: F14 BadKeyword",
+            "script fault: line 2: F14 BadKeyword\n",
         ),
-        ("remove a", "line 1: F6 WrongFields"),
-        ("remove a 7 -", "line 1: F6 WrongFields"),
-        ("remove b 0", "line 1: F8 UnknownDevice"),
-        ("device a all\nremove a 0", "line 2: F11 BadNumber"),
-        ("device a all\nremove a 1000000000", "line 2: F11 BadNumber"),
+        ("remove a", "script fault: line 1: F6 WrongFields\n"),
+        ("remove a 7 -", "script fault: line 1: F6 WrongFields\n"),
+        ("remove b 0", "script fault: line 1: F8 UnknownDevice\n"),
+        (
+            "device a all\nremove a 0",
+            "script fault: line 2: F11 BadNumber\n",
+        ),
+        (
+            "device a all\nremove a 1000000000",
+            "script fault: line 2: F11 BadNumber\n",
+        ),
         (
             "device a all\nremove a 7\ndevice b all",
-            "line 3: F10 LateDevice",
+            "script fault: line 3: F10 LateDevice\n",
         ),
         (
             "device a all\nEdit a 7 5 2024-01-01 -",
-            "line 2: F5 UnknownCommand",
+            "script fault: line 2: F5 UnknownCommand\n",
         ),
     ] {
-        let (status, told, fault) = ran(alloc, script);
-        assert_eq!(rt; status, 3, "{script}");
-        assert!(rt; told.is_empty(), "{script}");
-        let wanted = format!(in alloc; "script fault: {text}\n")?;
-        assert!(rt; fault.as_slice() == wanted.as_bytes(), "{script}");
+        assert!(rt; runs(rt.alloc(), script, 3, "", error), "{script}");
     }
-    Ok(())
 }
