@@ -7,6 +7,8 @@ use Rattle.photo_filter_rules.specs.Coding.{tree_code}
 use Rattle.photo_version.specs.Author.{Author, author}
 use Rattle.photo_device.specs.declared.held.Held.{Held}
 use Rattle.photo_device.specs.contracts.held.Held as held
+use Rattle.item_knowledge.specs.Fragments.{Fragment}
+use Rattle.item_knowledge.specs.Coding.{fragments_code}
 use Rattle.photo_device.specs.Device.{Kept}
 
 abbrev pub helds_code : Coded (List Held)
@@ -17,8 +19,8 @@ author_code = code_by ℕ coded_ℕ (λ a. a.device) author (λ _. refl)
 
 abbrev pub kept_code : Coded Kept
 kept_code =
-    code_by (Author × (Tree × (ℕ × (List Held × List Held))))
-    (coded× author_code (coded× tree_code (coded× coded_ℕ (coded× helds_code helds_code))))
-    (λ d. (d.author, (d.tree, (d.counter, (d.store, d.out)))))
-    (λ p. record { author = p.0; tree = p.1.0; counter = p.1.1.0; store = p.1.1.1.0; out = p.1.1.1.1 })
+    code_by (Author × (Tree × (ℕ × (List Held × (List Held × List Fragment)))))
+    (coded× author_code (coded× tree_code (coded× coded_ℕ (coded× helds_code (coded× helds_code fragments_code)))))
+    (λ d. (d.author, (d.tree, (d.counter, (d.store, (d.out, d.knowledge))))))
+    (λ p. record { author = p.0; tree = p.1.0; counter = p.1.1.0; store = p.1.1.1.0; out = p.1.1.1.1.0; knowledge = p.1.1.1.1.1 })
     (λ _. refl)

@@ -1,5 +1,5 @@
 -- Devices as sets, and what making a version does to one.
-use Rattle.std.specs.Prelude.{◌≡◌, ℕ, ◌+◌, Bool, not, ◌==◌, if◌then◌else◌, List, [], ◌++◌}
+use Rattle.std.specs.Prelude.{◌≡◌, ℕ, ◌+◌, ◌<◌, Bool, false, not, ◌||◌, ◌==◌, if◌then◌else◌, List, [], ◌++◌}
 use Rattle.std.specs.List.{list_any}
 use Rattle.photo_record.specs.declared.record.Record.{Record}
 use Rattle.photo_filter_text.specs.Tree.{Tree}
@@ -8,18 +8,25 @@ use Rattle.photo_device.specs.declared.place.Place.{Place}
 use Rattle.photo_device.specs.declared.place.Place.TheVariants.{Store, Out}
 use Rattle.photo_device.specs.declared.held.Held.{Held}
 use Rattle.photo_version.specs.Author.{Author}
-use Rattle.photo_version.specs.Version.{Version, version}
+use Rattle.photo_version.specs.Version.{Version, Versions, version, same_version}
+use Rattle.item_knowledge.specs.Fragments.{Fragment, knows}
 use Rattle.photo_device.specs.Entry.{Entry, others, put_entry_if}
 use Rattle.photo_device.specs.Held.{entries_of, held_of_others, replaced}
 
--- a model device: who it is, the tree of its filter, how many versions it has made, and what it holds.
--- Store and out list their entries in order
+-- a model device: who it is, the tree of its filter, how many versions it has made, what it holds, and what it knows:
+-- some versions of every picture, and some of single pictures. Store and out list their entries in order
 pub record ModelDevice : Type 0 where
   pub author : Author
   pub tree : Tree
   pub counter : ℕ
   pub store : List Entry
   pub out : List Entry
+  pub every : Versions
+  pub of : ℕ → Versions
+
+-- which versions are known of a picture
+abbrev pub known : ModelDevice → ℕ → Versions
+known m picture = λ v. m.every v || m.of picture v
 
 -- what a device of the program keeps
 pub record Kept : Type 0 where
@@ -28,23 +35,33 @@ pub record Kept : Type 0 where
   pub counter : ℕ
   pub store : List Held
   pub out : List Held
+  pub knowledge : List Fragment
 
 -- a version is held at a place, and nothing else of its picture
 abbrev pub held_at : Place → Held → Kept → Kept
 held_at Store held d = record d { store = replaced held d.store; out = held_of_others held.picture d.out }
 held_at Out held d = record d { store = held_of_others held.picture d.store; out = replaced held d.out }
 
--- the device shows the model device
+-- the device shows the model device: what it knows of a picture is all that counts of its knowledge
 pub record Shows (d : Kept) (m : ModelDevice) : Type 0 where
   pub author : d.author ≡ m.author
   pub tree : d.tree ≡ m.tree
   pub counter : d.counter ≡ m.counter
   pub store : entries_of d.store ≡ m.store
   pub out : entries_of d.out ≡ m.out
+  pub known : (picture : ℕ) → 0 < picture → (v : Version) → knows d.knowledge picture v ≡ known m picture v
 
--- a device that has made and holds nothing
+-- a device that has made, holds and knows nothing
 abbrev pub opening : Author → Tree → ModelDevice
-opening author tree = record { author = author; tree = tree; counter = 0; store = []; out = [] }
+opening author tree = record {
+  author = author;
+  tree = tree;
+  counter = 0;
+  store = [];
+  out = [];
+  every = λ v. false;
+  of = λ picture v. false;
+}
 
 -- Making a version of a picture: the device's next version
 
@@ -52,7 +69,12 @@ abbrev pub next_version : ModelDevice → Version
 next_version m = version m.author (m.counter + 1)
 
 abbrev pub new_entry : ModelDevice → ℕ → Record → Entry
-new_entry m picture content = record { picture = picture; version = next_version m; content = content }
+new_entry m picture content = record {
+  picture = picture;
+  version = next_version m;
+  history = known m picture;
+  content = content;
+}
 
 -- where a record goes under a tree: into the store where the tree matches it, into the out otherwise
 abbrev pub place_for : Tree → Record → Place
@@ -61,12 +83,13 @@ place_for tree content = if matches tree content then Store else Out
 abbrev pub new_place : ModelDevice → Record → Place
 new_place m content = place_for m.tree content
 
--- all that was held of the picture leaves, and the new entry comes into its place
+-- all that was held of the picture leaves, the new entry comes into its place, and its version is known of every picture
 abbrev pub made : ModelDevice → ℕ → Record → ModelDevice
 made m picture content = record m {
   counter = m.counter + 1;
   store = put_entry_if (matches m.tree content) (new_entry m picture content) (others picture m.store);
   out = put_entry_if (not (matches m.tree content)) (new_entry m picture content) (others picture m.out);
+  every = λ v. m.every v || same_version (next_version m) v;
 }
 
 -- a version of the picture is held, in the store or in the out. One that removes the picture counts

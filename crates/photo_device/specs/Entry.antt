@@ -1,13 +1,15 @@
 -- Versions of pictures with what they say.
 use Rattle.std.specs.Prelude.{ℕ, Bool, true, false, not, ◌&&◌, ◌||◌, ◌==◌, nat_lt, List, filter}
 use Rattle.photo_record.specs.declared.record.Record.{Record}
-use Rattle.photo_version.specs.Version.{Version, version_before}
+use Rattle.photo_version.specs.Version.{Version, Versions, version_before}
 use Rattle.photo_device.specs.Ordered.{put}
 
--- a version of a picture, and the record that it gives the picture
+-- a version of a picture, the versions that were known of the picture when it was made, and the record that it gives
+-- the picture
 pub record Entry : Type 0 where
   pub picture : ℕ
   pub version : Version
+  pub history : Versions
   pub content : Record
 
 -- by picture, then version

@@ -3,11 +3,17 @@ use Rattle.std.specs.Prelude.{◌≡◌, ℕ, ◌≤◌, Bool, ◌==◌, List, �
 use Rattle.std.specs.List.{find, list_any}
 use Rattle.photo_device.specs.declared.held.Held.{Held}
 use Rattle.photo_version.specs.Version.{Version, same_version}
+use Rattle.photo_version.specs.Vector.{denotes}
 use Rattle.photo_device.specs.Ordered.{put, in_order}
 use Rattle.photo_device.specs.Entry.{Entry, entry_before, is_of_other}
 
 abbrev pub entry_of : Held → Entry
-entry_of held = record { picture = held.picture; version = held.version; content = held.content }
+entry_of held = record {
+  picture = held.picture;
+  version = held.version;
+  history = denotes held.made_with;
+  content = held.content;
+}
 
 abbrev pub entries_of : List Held → List Entry
 entries_of helds = map entry_of helds

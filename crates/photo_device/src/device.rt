@@ -1,11 +1,13 @@
 use crate::{ChangeFault, Held, HeldSet, Place};
+use item_knowledge::Knowledge;
 use photo_filter_rules::Filter;
 use photo_record::{PicNo, Record};
 use photo_version::{Author, Version};
 use std::alloc::{AllocError, Global};
 use std::marker::Model;
 
-/// A device: who it is, which versions it is to keep, how many it has made, and those that it holds.
+/// A device: who it is, which versions it is to keep, how many it has made, those that it holds, and of which picture
+/// which versions it knows.
 #[derive(Debug, Drop)]
 pub struct Device {
     author: Author,
@@ -13,41 +15,58 @@ pub struct Device {
     counter: u32,
     store: HeldSet,
     out: HeldSet,
+    knowledge: Knowledge,
 }
 
 impl Model for Device {
     ghost use Rattle.photo_device.specs.Device.{Kept};
     ghost use Rattle.photo_device.specs.Coding.{kept_code};
+    ghost use Rattle.photo_device.specs.Own.{IsDevice};
 
     ghost Value = { Kept };
 
     ghost coded = { kept_code };
 
-    ghost view = { λ d. record { author = d.author; tree = d.filter; counter = d.counter; store = d.store; out = d.out } };
+    ghost view = { λ d. record { author = d.author; tree = d.filter; counter = d.counter; store = d.store; out = d.out; knowledge = d.knowledge } };
+
+    ghost invariant = { λ d. IsDevice (record { author = d.author; tree = d.filter; counter = d.counter; store = d.store; out = d.out; knowledge = d.knowledge }) };
 }
 
 impl Device {
-    ghost use Rattle.std.specs.Prelude.{◌≡◌, ◌≢◌, ℕ, ◌+◌, ◌<◌, ◌||◌, ◌++◌, true, false, Err, IfOk, OnOk, OnErr};
+    ghost use Rattle.std.specs.Prelude.{◌≡◌, ◌≢◌, ℕ, ◌+◌, ◌<◌, ◌||◌, ◌++◌, true, false, Err, IfOk, IfErr, OnOk, OnErr};
+    ghost use Rattle.std.specs.List.{AllByRecursion};
     ghost use Rattle.std.specs.Option.{option_copied};
     ghost use Rattle.photo_device.specs.Held.{find_version, has_picture};
+    ghost use Rattle.photo_device.specs.Own.{HasEarlier, KnowsItsOwn};
     ghost use Rattle.photo_device.specs.Device.{ModelDevice, Shows, opening, made, next_version, new_place, held_at, is_held};
     ghost use Rattle.photo_record.specs.declared.record.Record.TheVariants.{Removed};
     ghost use Rattle.photo_device.specs.declared.fault.ChangeFault.TheVariants.{NotHeld};
 
-    /// A device that has made and holds nothing, and is to keep what the filter matches. It takes no memory.
-    pub fn new(alloc: Global, author: Author, filter: Filter) -> Device
-        ensures { Shows result (opening author filter) }
+    /// A device that has made, holds and knows nothing, and is to keep what the filter matches. Its only error is want
+    /// of memory, which gives the filter back.
+    pub fn new(
+        alloc: Global,
+        author: Author,
+        filter: Filter,
+    ) -> Result<Device, (Filter, AllocError)>
+        ensures ok { IfOk result (λ device. Shows device (opening author filter)) }
+        ensures err { IfErr result (λ refused. refused.0 ≡ filter) }
     {
-        Device {
-            author,
-            filter,
-            counter: 0,
-            store: HeldSet::new(alloc),
-            out: HeldSet::new(alloc),
+        match Knowledge::new(alloc) {
+            Ok(knowledge) => Ok(Device {
+                author,
+                filter,
+                counter: 0,
+                store: HeldSet::new(alloc),
+                out: HeldSet::new(alloc),
+                knowledge,
+            }),
+            Err(refused) => Err((filter, refused)),
         }
     }
 
-    /// Makes the device's next version of a picture, in the place of all that it held of that picture.
+    /// Makes the device's next version of a picture, in the place of all that it held of that picture. Its history is
+    /// what the device knew of the picture, and from then on the device knows it of every picture.
     ///
     /// It goes into the store where the filter matches its record, and into the out otherwise. Gives the version
     /// and where it went. After want of memory the device is as it was.
@@ -63,16 +82,21 @@ impl Device {
         let held = Held {
             picture,
             version,
+            made_with: self.knowledge.of(picture)?,
             content: content.try_clone()?,
         };
+        let mut knowledge = self.knowledge.try_clone()?;
+        knowledge.learn_own(version)?;
         let place = Place::of(&self.filter, content);
         self.hold(place, held)?;
+        self.knowledge = knowledge;
         self.counter = number;
         Ok((version, place))
     }
 
     /// Holds a version at a place, and nothing else of its picture. An error leaves the device as it was.
     fn hold(&mut self, place: Place, held: Held) -> Result<(), AllocError>
+        requires { HasEarlier held }
         ensures ok { OnOk result (self.new ≡ held_at place held self.old) }
         ensures err { OnErr result (self.new ≡ self.old) }
     {
@@ -113,16 +137,26 @@ impl Device {
 
     /// The versions that it keeps.
     pub fn store(&self) -> &HeldSet
-        ensures { result.now ≡ self.now.store }
+        ensures value { result.now ≡ self.now.store }
+        ensures earlier { AllByRecursion HasEarlier self.now.store }
     {
         &self.store
     }
 
     /// The versions that it holds for another device to take.
     pub fn out(&self) -> &HeldSet
-        ensures { result.now ≡ self.now.out }
+        ensures value { result.now ≡ self.now.out }
+        ensures earlier { AllByRecursion HasEarlier self.now.out }
     {
         &self.out
+    }
+
+    /// Of which picture which versions it knows.
+    pub fn knowledge(&self) -> &Knowledge
+        ensures value { result.now ≡ self.now.knowledge }
+        ensures own { KnowsItsOwn self.now.author self.now.counter self.now.knowledge }
+    {
+        &self.knowledge
     }
 
     /// What it holds of a version, in the store or in the out.

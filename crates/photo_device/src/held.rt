@@ -1,14 +1,16 @@
 ghost use Rattle.std.specs.Prelude.{◌≡◌, IfOk};
 
 use photo_record::{PicNo, Record};
-use photo_version::Version;
+use photo_version::{Vector, Version};
 use std::alloc::AllocError;
 
-/// A version of a picture that a device holds, with the record that it gives the picture.
+/// A version of a picture that a device holds: with its history, which is what was known of the picture when it was made,
+/// and the record that it gives the picture.
 #[derive(Debug, PartialEq, Eq, Drop)]
 pub struct Held {
     pub picture: PicNo,
     pub version: Version,
+    pub made_with: Vector,
     pub content: Record,
 }
 
@@ -20,6 +22,7 @@ impl Held {
         Ok(Held {
             picture: self.picture,
             version: self.version,
+            made_with: self.made_with.try_clone()?,
             content: self.content.try_clone()?,
         })
     }

@@ -30,7 +30,7 @@ fn filter(alloc: Global, text: &str) -> Result<Filter, Fail> {
 
 /// A new device, by its number and its filter's text.
 fn opened(alloc: Global, device: u16, text: &str) -> Result<Device, Fail> {
-    Ok(Device::new(alloc, Author::new(device), filter(alloc, text)?))
+    Ok(Device::new(alloc, Author::new(device), filter(alloc, text)?).map_err(|e| e.1)?)
 }
 
 /// Makes a version of a picture with that record.

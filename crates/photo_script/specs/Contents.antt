@@ -25,6 +25,8 @@ devices_of (command.New device picture record_) = (device, None)
 devices_of (command.Edit device picture record_) = (device, None)
 devices_of (command.Remove device picture) = (device, None)
 devices_of (command.List device) = (device, None)
+devices_of (command.Knowledge device) = (device, None)
+devices_of (command.Knows device picture v) = (device, None)
 
 -- the devices of a command are among the first so many
 abbrev pub IsWithin : ℕ → Command → Type 0

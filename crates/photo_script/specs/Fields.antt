@@ -1,11 +1,11 @@
 -- What single fields denote.
 use Rattle.std.specs.Prelude.{ℕ, Bool, false, not, ◌&&◌, ◌||◌, nat_le, nat_lt, ◌==◌, if◌then◌else◌, List, [], ◌∷◌, length, Option, Some, None, position}
-use Rattle.std.specs.List.{list_all}
+use Rattle.std.specs.List.{list_all, list_any, before_first, after_first}
 use Rattle.std.specs.Char.{is_ascii_lowercase, is_ascii_digit}
 use Rattle.std.specs.Str.{bytes_eq, all_ascii_digits}
 use Rattle.std.specs.Str.Parse.{digits_value}
 use Rattle.photo_record.specs.Limits.{max_picture}
-use Rattle.photo_script.specs.Limits.{max_name_characters}
+use Rattle.photo_script.specs.Limits.{max_version, max_name_characters}
 
 abbrev pub is_word : List ℕ → List ℕ → Bool
 is_word field word = bytes_eq field word
@@ -23,6 +23,13 @@ is_name (c ∷ cs) = is_ascii_lowercase c && (nat_lt (length cs) max_name_charac
 abbrev pub place_of : List (List ℕ) → List ℕ → Option ℕ
 place_of names name = position (bytes_eq name) names
 
+abbrev pub is_colon : ℕ → Bool
+is_colon c = c == 58
+
+-- what stands before the first colon of a text and what stands behind it, where it has one
+abbrev pub cut_at_colon : List ℕ → Option (List ℕ × List ℕ)
+cut_at_colon text = if list_any is_colon text then Some (before_first is_colon text, after_first is_colon text) else None
+
 -- decimal digits without a leading zero
 abbrev pub is_decimal : List ℕ → Bool
 is_decimal [] = false
@@ -37,3 +44,10 @@ is_picture n = nat_le 1 n && nat_le n max_picture
 
 abbrev pub picture_of : List ℕ → Option ℕ
 picture_of text = if is_decimal text && is_picture (number_of text) then Some (number_of text) else None
+
+abbrev pub is_version_number : ℕ → Bool
+is_version_number n = nat_le 1 n && nat_le n max_version
+
+-- the number of a version
+abbrev pub version_number_of : List ℕ → Option ℕ
+version_number_of text = if is_decimal text && is_version_number (number_of text) then Some (number_of text) else None

@@ -9,4 +9,5 @@ pub mod Reading
 pub mod Steps
 pub mod Reports
 pub mod Runs
+pub mod Laws
 pub mod Examples

@@ -17,6 +17,10 @@ max_devices = 64
 abbrev pub max_commands : ℕ
 max_commands = 100_000
 
+-- the number of a version in a script
+abbrev pub max_version : ℕ
+max_version = 100_000
+
 -- characters of a device's name
 abbrev pub max_name_characters : ℕ
 max_name_characters = 16

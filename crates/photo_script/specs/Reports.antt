@@ -1,5 +1,5 @@
 -- Reports, and their texts.
-use Rattle.std.specs.Prelude.{ℕ, ◌+◌, ◌-◌, ◌<◌, ℤ, List, [], ◌∷◌, ◌++◌, length, codes, replicate, slice_index_or}
+use Rattle.std.specs.Prelude.{◌≡◌, ℕ, ◌+◌, ◌-◌, ◌<◌, Bool, true, if◌then◌else◌, ℤ, List, [], ◌∷◌, ◌++◌, length, map, codes, replicate, slice_index_or}
 use Rattle.std.specs.Fmt.{decimal}
 use Rattle.std.specs.List.{AllByRecursion, flat_map, join_with_byte}
 use Rattle.photo_record.specs.Calendar.{date_of}
@@ -7,25 +7,48 @@ use Rattle.photo_record.specs.declared.record.Record.{Record}
 use Rattle.photo_record.specs.declared.record.Record.TheVariants as content
 use Rattle.photo_device.specs.Entry.{Entry}
 use Rattle.photo_device.specs.Held.{entries_of}
-use Rattle.photo_version.specs.Author.{device_of_author}
-use Rattle.photo_version.specs.Version.{Version}
+use Rattle.photo_version.specs.Author.{device_of_author, author_of_word}
+use Rattle.photo_version.specs.Version.{Version, Versions, version}
+use Rattle.item_knowledge.specs.Entries as knowledge
+use Rattle.item_knowledge.specs.Fragments.{Fragment, knows, is_normal}
 use Rattle.photo_device.specs.declared.place.Place.{Place}
 use Rattle.photo_device.specs.declared.place.Place.TheVariants as place
 use Rattle.photo_script.specs.Contents.{Contents}
 use Rattle.photo_script.specs.declared.report.Report.{Report}
 use Rattle.photo_script.specs.declared.report.Report.TheVariants as report
 
--- the answer to a command
+-- the answer to a command. Knowledge is given by its fragments
 pub data Answer : Type 0 where
   Made : Version → Place → Answer
   NotHeld : Answer
   Listed : ℕ → List Entry → List Entry → Answer
+  KnowledgeOf : ℕ → List Fragment → Answer
+  Knows : Bool → Answer
 
 -- the answer that a report of the program gives
 abbrev pub answer_of : Report → Answer
 answer_of (report.Made v p) = Made v p
 answer_of report.NotHeld = NotHeld
 answer_of (report.Listed n store out) = Listed n (entries_of store) (entries_of out)
+answer_of (report.KnowledgeOf n knowledge) = KnowledgeOf n knowledge
+answer_of (report.Knows yes) = Knows yes
+
+-- what the answer to a command has to be: one answer, or the knowledge of a device, as the test of a picture and a version
+pub data ModelReport : Type 0 where
+  Exactly : Answer → ModelReport
+  KnowledgeIs : ℕ → (ℕ → Versions) → ModelReport
+
+-- the answer gives the knowledge in normal form
+pub record TellsKnowledge (answer : Answer) (device : ℕ) (known : ℕ → Versions) : Type 0 where
+  pub fragments : List Fragment
+  pub given : answer ≡ KnowledgeOf device fragments
+  pub normal : is_normal fragments ≡ true
+  pub denoted : (picture : ℕ) → 0 < picture → (v : Version) → knows fragments picture v ≡ known picture v
+
+-- the answer is the right one. There is at most one right answer
+abbrev pub Tells : Answer → ModelReport → Type 0
+Tells answer (Exactly right) = answer ≡ right
+Tells answer (KnowledgeIs device known) = TellsKnowledge answer device known
 
 -- the version is of a device of the script
 abbrev pub IsOfScript : Contents → Version → Type 0
@@ -34,11 +57,17 @@ IsOfScript script v = device_of_author v.author < length script.names
 abbrev pub AreOfScript : Contents → List Entry → Type 0
 AreOfScript script entries = AllByRecursion (λ e. IsOfScript script e.version) entries
 
+-- the author of each bound is a device of the script
+abbrev pub IsFragmentOfScript : Contents → Fragment → Type 0
+IsFragmentOfScript script f = AllByRecursion (λ e. device_of_author (author_of_word e.0) < length script.names) f.entries
+
 -- each author and each device of the answer is a device of the script
 abbrev pub IsAbout : Contents → Answer → Type 0
 IsAbout script (Made v p) = IsOfScript script v
 IsAbout script NotHeld = Unit {0}
 IsAbout script (Listed n store out) = (n < length script.names) × AreOfScript script store × AreOfScript script out
+IsAbout script (KnowledgeOf n fragments) = (n < length script.names) × AllByRecursion (IsFragmentOfScript script) fragments
+IsAbout script (Knows yes) = Unit {0}
 
 -- the name of a device, by its place among the names
 abbrev pub name_of : Contents → ℕ → List ℕ
@@ -98,11 +127,42 @@ listed_text script number device store out =
     heading_text script number device (length store) (length out)
     ++ entries_text script place.Store store ++ entries_text script place.Out out
 
+-- the pictures of a fragment: those that it lists, with commas between them, or all
+abbrev pub pictures_text : List ℕ → List ℕ
+pictures_text [] = codes "*"
+pictures_text (p ∷ ps) = join_with_byte 44 (map decimal (p ∷ ps))
+
+-- the last version that is known of an author
+abbrev pub bound_text : Contents → knowledge.Entry → List ℕ
+bound_text script e = version_text script (version (author_of_word e.0) e.1)
+
+-- the bounds with spaces between them
+abbrev pub bounds_text : Contents → List knowledge.Entry → List ℕ
+bounds_text script [] = codes "-"
+bounds_text script (e ∷ es) = join_with_byte 32 (map (bound_text script) (e ∷ es))
+
+-- the line of a fragment
+abbrev pub fragment_text : Contents → Fragment → List ℕ
+fragment_text script f = codes "  " ++ pictures_text f.pictures ++ codes " " ++ bounds_text script f.entries ++ codes "\n"
+
+abbrev pub knowledge_text : Contents → ℕ → ℕ → List Fragment → List ℕ
+knowledge_text script number device fragments =
+    decimal number ++ codes " knowledge " ++ name_of script device ++ codes " " ++ decimal (length fragments) ++ codes "\n"
+    ++ flat_map (fragment_text script) fragments
+
+abbrev pub yes_or_no : Bool → List ℕ
+yes_or_no yes = if yes then codes "yes" else codes "no"
+
+abbrev pub knows_text : ℕ → Bool → List ℕ
+knows_text number yes = decimal number ++ codes " knows " ++ yes_or_no yes ++ codes "\n"
+
 -- the text of an answer to the command of that number
 unfoldable pub text_of : Contents → ℕ → Answer → List ℕ
 text_of script number (Made v where_) = made_text script number v where_
 text_of script number NotHeld = not_held_text number
 text_of script number (Listed n store out) = listed_text script number n store out
+text_of script number (KnowledgeOf n fragments) = knowledge_text script number n fragments
+text_of script number (Knows yes) = knows_text number yes
 
 -- the texts of answers, numbered from a number on
 abbrev pub texts_from : Contents → ℕ → List Answer → List ℕ

@@ -7,9 +7,9 @@ use Rattle.photo_record.specs.declared.record.Record.TheVariants.{Removed}
 use Rattle.photo_filter_text.specs.Tree.{Tree, All}
 use Rattle.photo_version.specs.Author.{author}
 use Rattle.photo_device.specs.Entry.{Entry}
-use Rattle.photo_device.specs.Device.{ModelDevice, opening, made, new_entry, next_version, new_place, is_held}
+use Rattle.photo_device.specs.Device.{ModelDevice, known, opening, made, new_entry, next_version, new_place, is_held}
 use Rattle.photo_script.specs.Contents.{Contents, command_of, devices_of}
-use Rattle.photo_script.specs.Reports.{Answer, Made, NotHeld, Listed}
+use Rattle.photo_script.specs.Reports.{Made, NotHeld, Listed, Knows, ModelReport, Exactly, KnowledgeIs}
 use Rattle.photo_script.specs.declared.command.Command.{Command}
 use Rattle.photo_script.specs.declared.command.Command.TheVariants as command
 
@@ -17,7 +17,7 @@ use Rattle.photo_script.specs.declared.command.Command.TheVariants as command
 pub record Effect : Type 0 where
   pub first : ModelDevice
   pub second : Option ModelDevice
-  pub report : Answer
+  pub report : ModelReport
   pub entries : List Entry
 
 -- the first device makes a version of a picture
@@ -25,29 +25,31 @@ abbrev pub making : ModelDevice → Option ModelDevice → ℕ → Record → Ef
 making d other picture content = record {
   first = made d picture content;
   second = other;
-  report = Made (next_version d) (new_place d content);
+  report = Exactly (Made (next_version d) (new_place d content));
   entries = new_entry d picture content ∷ [];
 }
 
 -- nothing but a report
-abbrev pub telling : ModelDevice → Option ModelDevice → Answer → Effect
-telling d other answer = record { first = d; second = other; report = answer; entries = [] }
+abbrev pub telling : ModelDevice → Option ModelDevice → ModelReport → Effect
+telling d other report = record { first = d; second = other; report = report; entries = [] }
 
 -- the first device makes one where it holds a version of the picture, and nothing happens where it holds none
 abbrev pub changing : ModelDevice → Option ModelDevice → ℕ → Record → Effect
-changing d other picture content = if is_held d picture then making d other picture content else telling d other NotHeld
+changing d other picture content = if is_held d picture then making d other picture content else telling d other (Exactly NotHeld)
 
 abbrev pub effect : Command → ModelDevice → Option ModelDevice → Effect
 effect (command.New n picture content) d other = making d other picture content
 effect (command.Edit n picture content) d other = changing d other picture content
 effect (command.Remove n picture) d other = changing d other picture Removed
-effect (command.List n) d other = telling d other (Listed n d.store d.out)
+effect (command.List n) d other = telling d other (Exactly (Listed n d.store d.out))
+effect (command.Knowledge n) d other = telling d other (KnowledgeIs n (known d))
+effect (command.Knows n picture v) d other = telling d other (Exactly (Knows (known d picture v)))
 
 -- all devices in order of declaration; the report on each command that has run, at the place of its number; and the
 -- log, oldest first
 pub record Fleet : Type 0 where
   pub devices : List ModelDevice
-  pub reports : List (Option Answer)
+  pub reports : List (Option ModelReport)
   pub log : List Entry
 
 -- the device at a place in order of declaration
@@ -105,5 +107,5 @@ abbrev pub run : Contents → Fleet
 run script = run_in_order script (numbers_to (length script.commands))
 
 -- the reports that there are, in the order of their commands' numbers
-abbrev pub reports_of : Fleet → List Answer
+abbrev pub reports_of : Fleet → List ModelReport
 reports_of fleet = flat_map option_to_list fleet.reports

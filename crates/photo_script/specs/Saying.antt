@@ -7,8 +7,10 @@ use Rattle.photo_record.specs.declared.fault.WordFault.{WordFault}
 use Rattle.photo_script.specs.Limits.{max_line_bytes, max_devices, max_commands}
 use Rattle.photo_filter_text.specs.Tree.{Tree}
 use Rattle.photo_filter_rules.specs.Filters.{filter_of}
+use Rattle.photo_version.specs.Author.{author}
+use Rattle.photo_version.specs.Version.{Version, version}
 use Rattle.photo_script.specs.Lines.{fields_of, third_field_on}
-use Rattle.photo_script.specs.Fields.{is_word, is_name, place_of, picture_of}
+use Rattle.photo_script.specs.Fields.{is_word, is_name, place_of, picture_of, cut_at_colon, version_number_of}
 use Rattle.photo_script.specs.Earlier.{Earlier, is_comment}
 use Rattle.photo_script.specs.declared.command.Command.{Command}
 use Rattle.photo_script.specs.declared.command.Command.TheVariants as command
@@ -116,6 +118,31 @@ unfoldable pub list_line_said : Earlier → List (List ℕ) → Result (Option C
 list_line_said before (name ∷ []) = command_said before (device_said before name >>= λ device. Ok (command.List device))
 list_line_said before arguments = Err fault.WrongFields
 
+-- `NAME:N`, cut at its first colon: a version of a declared device, also one that is never made
+unfoldable pub version_said : Earlier → List ℕ → Result Version LineFault
+version_said before text = do
+  parts ← or_fault (cut_at_colon text) fault.BadNumber
+  device ← device_said before parts.0
+  number ← or_fault (version_number_of parts.1) fault.BadNumber
+  Ok (version (author device) number)
+
+-- `knowledge DEV`
+unfoldable pub knowledge_line_said : Earlier → List (List ℕ) → Result (Option Command) LineFault
+knowledge_line_said before (name ∷ []) = command_said before (device_said before name >>= λ device. Ok (command.Knowledge device))
+knowledge_line_said before arguments = Err fault.WrongFields
+
+unfoldable pub question_said : Earlier → List ℕ → List ℕ → List ℕ → Result Command LineFault
+question_said before name picture text = do
+  device ← device_said before name
+  number ← picture_said picture
+  v ← version_said before text
+  Ok (command.Knows device number v)
+
+-- `knows DEV PIC VERSION`
+unfoldable pub knows_line_said : Earlier → List (List ℕ) → Result (Option Command) LineFault
+knows_line_said before (name ∷ picture ∷ text ∷ []) = command_said before (question_said before name picture text)
+knows_line_said before arguments = Err fault.WrongFields
+
 -- a line of these fields, and its text from the third on: empty lines and comments say nothing
 unfoldable pub fields_said : Earlier → List (List ℕ) → List ℕ → Result (Option Command) LineFault
 fields_said before [] filter = Ok None
@@ -126,7 +153,9 @@ fields_said before (word ∷ arguments) filter =
     else (if is_word word (codes "edit") then edit_line_said before arguments
     else (if is_word word (codes "remove") then remove_line_said before arguments
     else (if is_word word (codes "list") then list_line_said before arguments
-    else Err fault.UnknownCommand)))))
+    else (if is_word word (codes "knowledge") then knowledge_line_said before arguments
+    else (if is_word word (codes "knows") then knows_line_said before arguments
+    else Err fault.UnknownCommand)))))))
 
 unfoldable pub said : Earlier → List ℕ → Result (Option Command) LineFault
 said before line = if nat_lt max_line_bytes (length line) then Err fault.LineTooLong else fields_said before (fields_of line) (third_field_on line)

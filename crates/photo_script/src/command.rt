@@ -4,7 +4,7 @@ ghost use Rattle.photo_version.specs.Author.{author};
 ghost use Rattle.photo_script.specs.Contents.{devices_of};
 
 use photo_record::{PicNo, Record};
-use photo_version::Author;
+use photo_version::{Author, Version};
 
 /// A command of a script. Devices are given by their places in order of declaration, from 0.
 #[derive(Debug, PartialEq, Eq, Drop)]
@@ -30,6 +30,16 @@ pub enum Command {
     List {
         device: u16,
     },
+    /// `knowledge`: a report on all that the device knows.
+    Knowledge {
+        device: u16,
+    },
+    /// `knows`: whether the device knows a version of a picture. The version may be one that is never made.
+    Knows {
+        device: u16,
+        picture: PicNo,
+        version: Version,
+    },
 }
 
 /// The devices that a command works on, as authors: one, and perhaps a second.
@@ -41,6 +51,8 @@ pub fn devices_of(command: &Command) -> (Author, Option<Author>)
         Command::New { device, .. }
         | Command::Edit { device, .. }
         | Command::Remove { device, .. }
-        | Command::List { device } => (Author::new(*device), None),
+        | Command::List { device }
+        | Command::Knowledge { device }
+        | Command::Knows { device, .. } => (Author::new(*device), None),
     }
 }

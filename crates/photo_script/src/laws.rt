@@ -1,5 +1,11 @@
 //! Laws of the definitions. Each function's contract is a law, and its body does nothing.
+ghost use Rattle.photo_script.specs.Laws.{AnswersAreOne};
 ghost use Rattle.photo_script.specs.Examples.{FirstRun, SingleFaults, TwoFaults, LinesAndFields, Filters, Changes};
+
+/// Of each model report at most one answer is the right one, also where it gives a knowledge.
+pub fn answers_are_one()
+    ensures { AnswersAreOne }
+{}
 
 /// The definitions at some texts: a camera that makes a picture and lists it, with the texts of its reports; scripts
 /// of one fault each and of two; ends of lines and spaces; filters; later versions of a picture.

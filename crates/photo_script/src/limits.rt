@@ -10,5 +10,8 @@ pub const MAX_DEVICES: usize = 64;
 /// The most commands of a script.
 pub const MAX_COMMANDS: usize = 100_000;
 
+/// The greatest number of a version that a script names.
+pub const MAX_VERSION: u32 = 100_000;
+
 /// The most characters of a device's name.
 pub const MAX_NAME_CHARACTERS: usize = 16;

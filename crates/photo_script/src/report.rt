@@ -1,6 +1,7 @@
 ghost use Rattle.std.specs.Prelude.{◌≡◌, ◌<◌, ◌++◌, length, string_bytes, IfOk, OnOk};
 
 use crate::Script;
+use item_knowledge::Knowledge;
 use itoa::Buffer;
 use photo_device::{Held, HeldList, Place};
 use photo_record::{Day, Record, Words};
@@ -23,6 +24,13 @@ pub enum Report {
         store: HeldList,
         out: HeldList,
     },
+    /// What a device knows. The device is given by its place in order of declaration, from 0.
+    KnowledgeOf {
+        device: u16,
+        knowledge: Knowledge,
+    },
+    /// Whether a device knows a version of a picture.
+    Knows(bool),
 }
 
 ghost use Rattle.photo_device.specs.Held.{entry_of, entries_of};

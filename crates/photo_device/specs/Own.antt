@@ -1,0 +1,26 @@
+-- What a device knows of its own versions, and a held version of those that its author made before it: just what there
+-- is. So a bound for each author stands for a plain set of versions.
+use Rattle.std.specs.Prelude.{◌≡◌, ℕ, ◌<◌, ◌&&◌, nat_le, nat_lt, List}
+use Rattle.std.specs.List.{AllByRecursion}
+use Rattle.photo_version.specs.Author.{Author}
+use Rattle.photo_version.specs.Version.{version}
+use Rattle.photo_version.specs.Vector.{denotes}
+use Rattle.item_knowledge.specs.Fragments.{Fragment, knows}
+use Rattle.item_knowledge.specs.Kept.{star_bound}
+use Rattle.photo_device.specs.declared.held.Held.{Held}
+use Rattle.photo_device.specs.Device.{Kept}
+
+-- of its own author, the history has just the versions before this one
+pub record HasEarlier (held : Held) : Type 0 where
+  pub own : (n : ℕ) → denotes held.made_with (version held.version.author n) ≡ (nat_le 1 n && nat_lt n held.version.number)
+
+-- of the author, just the versions from 1 to the counter are known, and they are known of every picture
+pub record KnowsItsOwn (author : Author) (counter : ℕ) (knowledge : List Fragment) : Type 0 where
+  pub star : star_bound knowledge author ≡ counter
+  pub own : (picture n : ℕ) → 0 < picture → knows knowledge picture (version author n) ≡ (nat_le 1 n && nat_le n counter)
+
+-- what is true of every device
+pub record IsDevice (d : Kept) : Type 0 where
+  pub knows : KnowsItsOwn d.author d.counter d.knowledge
+  pub store : AllByRecursion HasEarlier d.store
+  pub out : AllByRecursion HasEarlier d.out
