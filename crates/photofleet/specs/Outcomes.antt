@@ -6,22 +6,28 @@ use Rattle.photo_device.specs.Device.{Shows}
 use Rattle.photo_script.specs.Limits.{max_commands}
 use Rattle.photo_script.specs.Contents.{Contents}
 use Rattle.photo_script.specs.Reading.{script_of}
-use Rattle.photo_script.specs.Reports.{Answer, answer_of, texts_from, IsAbout}
+use Rattle.photo_script.specs.Reports.{Answer, Tells, answer_of, texts_from, IsAbout}
 use Rattle.photo_script.specs.Runs.{run, reports_of}
 use Rattle.photofleet.specs.declared.runner.outcome.Outcome.{Outcome}
 
--- the devices show those of the script's run, and the reports give its answers, one for each command, in the order of
--- their numbers
+-- the answers are the right ones to a script's commands, in the order of their numbers
+abbrev pub AreRight : Contents → List Answer → Type 0
+AreRight script answers = AllZip Tells answers (reports_of (run script))
+
+-- the devices show those of the script's run, and the reports give the right answers, one for each command, in the
+-- order of their numbers
 pub record IsOutcome (script : Contents) (o : Outcome) : Type 0 where
   pub devices : AllZip Shows o.devices.items (run script).devices
-  pub reports : map answer_of o.reports.items ≡ reports_of (run script)
+  pub reports : AreRight script (map answer_of o.reports.items)
   pub each : length o.reports.items ≡ length script.commands
-  pub about : AllByRecursion (IsAbout script) (reports_of (run script))
+  pub about : AllByRecursion (IsAbout script) (map answer_of o.reports.items)
   pub few : length o.reports.items ≤ max_commands
 
--- what a script's run prints
-abbrev pub output_of : Contents → List ℕ
-output_of script = texts_from script 1 (reports_of (run script))
+-- what a script's run prints: the texts of the right answers. There is just one such output
+pub record IsOutput (script : Contents) (output : List ℕ) : Type 0 where
+  pub answers : List Answer
+  pub right : AreRight script answers
+  pub texts : output ≡ texts_from script 1 answers
 
 -- of a reader's bytes so many at most have been taken, from their front
 pub record TakesAtMost (old new : Option (List ℕ)) (most : ℕ) : Type 0 where
@@ -45,16 +51,22 @@ pub record AppendsFront (old new : Option (List ℕ)) (all : List ℕ) : Type 0 
 pub record WritesOutput (old new : Option (List ℕ)) (input : List ℕ) : Type 0 where
   pub script : Contents
   pub read : script_of input ≡ Ok script
-  pub written : Appends old new (output_of script)
+  pub output : List ℕ
+  pub printed : IsOutput script output
+  pub written : Appends old new output
 
 -- the same, of the whole texts of some first reports alone
 pub record WritesFirst (old new : Option (List ℕ)) (input : List ℕ) : Type 0 where
   pub script : Contents
   pub read : script_of input ≡ Ok script
-  pub written : AppendsFirst old new script (reports_of (run script))
+  pub answers : List Answer
+  pub right : AreRight script answers
+  pub written : AppendsFirst old new script answers
 
 -- the same, of a front of what the run prints
 pub record WritesFront (old new : Option (List ℕ)) (input : List ℕ) : Type 0 where
   pub script : Contents
   pub read : script_of input ≡ Ok script
-  pub written : AppendsFront old new (output_of script)
+  pub output : List ℕ
+  pub printed : IsOutput script output
+  pub written : AppendsFront old new output
