@@ -50,7 +50,7 @@ author_at Store h d = refl
 author_at Out h d = refl
 
 -- the numbers from 1 to k, with k + 1
-one_more : (n k : ℕ) → ((leb 1 n && leb n k) || eqb (k + 1) n) ≡ (leb 1 n && leb n (k + 1))
+pub one_more : (n k : ℕ) → ((leb 1 n && leb n k) || eqb (k + 1) n) ≡ (leb 1 n && leb n (k + 1))
 one_more n k =
     elim (cases_lt n 1) [
       | inl none ↦ rw (lt-leb 1 n none, ne_eqb (k + 1) n (λ e. omega arith)) refl
@@ -100,13 +100,11 @@ has_earlier a k p v history content fragments v_is above history_is own = record
       ∙ ap (λ (x : Version). leb 1 n && ltb n x.number) (sym v_is);
 }
 
--- nothing is known
-pub nothing_own : (a : Author) (fragments : List Fragment) → star_bound fragments a ≡ 0 → ((p : ℕ) (v : Version) → knows fragments p v ≡ false) → KnowsItsOwn a 0 fragments
-nothing_own a fragments star none = record { star = star; own = λ p n above. none p (version a n) ∙ none_up_to n }
-  where
-    none_up_to : (n : ℕ) → false ≡ (leb 1 n && leb n 0)
-    none_up_to n =
-        elim (cases_lt n 1) [
-          | inl none ↦ rw (lt-leb 1 n none) refl
-          | inr some ↦ rw (le-leb 1 n some, lt-leb n 0 (omega arith)) refl
-        ]
+-- there is no number from 1 to 0
+pub none_up_to : (n : ℕ) → false ≡ (leb 1 n && leb n 0)
+none_up_to n =
+    elim (cases_lt n 1) [
+      | inl none ↦ rw (lt-leb 1 n none) refl
+      | inr some ↦ rw (le-leb 1 n some, lt-leb n 0 (omega arith)) refl
+    ]
+

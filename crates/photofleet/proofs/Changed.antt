@@ -8,7 +8,7 @@ use Rattle.photo_device.specs.declared.fault.ChangeFault.{ChangeFault}
 use Rattle.photo_device.specs.declared.fault.ChangeFault.TheVariants as change
 use Rattle.photo_device.specs.Device.{Kept, ModelDevice, Shows, made, next_version, new_place, is_held}
 use Rattle.photo_script.specs.declared.report.Report.{Report}
-use Rattle.photo_script.specs.Reports.{Answer, Made, NotHeld, answer_of}
+use Rattle.photo_script.specs.Reports.{Answer, Made, NotHeld, Tells, answer_of}
 use Rattle.photo_script.specs.Runs.{changing}
 use Rattle.photofleet.specs.Changes.{told_of}
 use Rattle.photofleet.proofs.Shown.{model_of, shows_model}
@@ -29,7 +29,7 @@ shows_change (Err change.NotHeld) old new p content is a told m s = rw (is.not_h
 shows_change (Err change.NoMemory) old new p content is a told m s = cc
 
 tells_change : (done : Result (Version × Place) ChangeFault) (old new : Kept) (p : ℕ) (content : Record) → IsChanged done old new p content
-    → (a : Answer) → told_of done ≡ Some a → (m : ModelDevice) → Shows old m → a ≡ (changing m None p content).report
+    → (a : Answer) → told_of done ≡ Some a → (m : ModelDevice) → Shows old m → Tells a (changing m None p content).report
 tells_change (Ok made') old new p content is a told m s =
     let same : a ≡ Made made'.0 made'.1 = cc in
     rw (is.held (λ e. cc) m s) (same ∙ (λ i. Made (is.version m s i) (is.place m s i)))
@@ -60,7 +60,7 @@ pub change_report : {E : Type 0} (r : Result Report E) (done : Result (Version �
     → (done ≡ Err change.NotHeld → (m : ModelDevice) → Shows old m → is_held m p ≡ false)
     → OnErr done (new ≡ old)
     → IfOk r (λ report. told_of done ≡ Some (answer_of report))
-    → IfOk r (λ report. (m : ModelDevice) → Shows old m → answer_of report ≡ (changing m None p content).report)
+    → IfOk r (λ report. (m : ModelDevice) → Shows old m → Tells (answer_of report) (changing m None p content).report)
 change_report (Ok report) done old new p content shows version place held not_held err told = tells_change done old new p content (record { shows = shows; version = version; place = place; held = held; not_held = not_held; err = err }) (answer_of report) told
 change_report (Err e) done old new p content shows version place held not_held err told = tt
 

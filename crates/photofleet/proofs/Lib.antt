@@ -1,6 +1,7 @@
 pub mod Known
 pub mod Zipped
 pub mod Shown
+pub mod KnownLemmas
 pub mod About
 pub mod Changed
 pub mod Runs
@@ -8,4 +9,6 @@ pub mod Sources
 pub mod Texts
 pub mod CommandLines
 pub mod Statuses
+pub mod Streams
+pub mod Outputs
 pub mod WorkedExamples

@@ -15,17 +15,14 @@ use Rattle.photo_script.specs.declared.command.Command.{Command}
 use Rattle.photo_script.specs.declared.command.Command.TheVariants as command
 use Rattle.photo_script.specs.declared.report.Report.{Report}
 use Rattle.photo_script.specs.Contents.{Contents, devices_of, IsWithin}
-use Rattle.photo_script.specs.Reports.{Answer, answer_of, IsAbout}
+use Rattle.photo_script.specs.Reports.{ModelReport, Tells, answer_of, IsAbout}
 use Rattle.photo_script.specs.Runs.{Fleet, opening_from, after_command, step, effect, opening_fleet, run_in_order, numbers_to, run, device_at, with_second, reports_of}
-use Rattle.photofleet.proofs.Zipped.{zip_at, zip_set, zip_long}
+use Rattle.photofleet.proofs.Zipped.{zip_at, zip_set, zip_push, zip_long}
 use Rattle.photofleet.proofs.About.{IsOfFleet, all_push, all_set, all_at, opening_known, effect_known, effect_about}
 use Rattle.photofleet.proofs.Shown.{opening_counts, opening_long}
 
 abbrev pub fleet_after : Contents → ℕ → Fleet
 fleet_after script n = run_in_order script (numbers_to n)
-
-abbrev pub told : Report → Option Answer
-told r = Some (answer_of r)
 
 -- each command works on one device
 alone : (c : Command) → (devices_of c).1 ≡ None
@@ -33,6 +30,8 @@ alone (command.New device picture content) = refl
 alone (command.Edit device picture content) = refl
 alone (command.Remove device picture) = refl
 alone (command.List device) = refl
+alone (command.Knowledge device) = refl
+alone (command.Knows device picture v) = refl
 
 -- what a command on one device does to a fleet
 abbrev after_one : Fleet → ℕ → Command → Fleet
@@ -70,25 +69,27 @@ pub record RunsTo (script : Contents) (n : ℕ) (devices : List Kept) (reports :
   pub long : length devices ≡ length script.names
   pub count : length reports ≡ n
   pub shown : AllZip Shows devices (fleet_after script n).devices
-  pub told : (fleet_after script n).reports ≡ map told reports ++ replicate (length script.commands - n) None
+  pub models : List ModelReport
+  pub told : (fleet_after script n).reports ≡ map Some models ++ replicate (length script.commands - n) None
+  pub right : AllZip Tells (map answer_of reports) models
   pub known : AllByRecursion (IsOfFleet script) (fleet_after script n).devices
   pub about : AllByRecursion (IsAbout script) (map answer_of reports)
   pub counted : (k : ℕ) (d : Kept) → k < length devices → (get_or devices k d).counter ≤ n
 
 -- the next report comes to its place
-put_report : (reports : List Report) (n left : ℕ) (a : Answer) (r : Report) → length reports ≡ n → answer_of r ≡ a → 0 < left
-    → set (map told reports ++ replicate left None) n (Some a) ≡ map told (reports ++ r ∷ []) ++ replicate (left - 1) None
-put_report reports n zero a r long is some = absurd (omega arith)
-put_report reports n (suc left) a r long is some =
-    let before = map told reports in
-    let size : length before ≡ n = length-map reports told ∙ long in
+put_report : (models : List ModelReport) (n left : ℕ) (a : ModelReport) → length models ≡ n → 0 < left
+    → set (map Some models ++ replicate left None) n (Some a) ≡ map Some (models ++ a ∷ []) ++ replicate (left - 1) None
+put_report models n zero a long some = absurd (omega arith)
+put_report models n (suc left) a long some =
+    let before : List (Option ModelReport) = map Some models in
+    let size : length before ≡ n = length-map models Some ∙ long in
     let less : suc left - 1 ≡ left = omega arith in
-    let whole : map told (reports ++ r ∷ []) ++ replicate (suc left - 1) None ≡ before ++ Some a ∷ replicate left None =
-    ap (λ l. l ++ replicate (suc left - 1) None) (map-append told reports (r ∷ [])) ∙ append_assoc before (told r ∷ []) _ ∙ (λ i. before ++ Some (is i) ∷ replicate (less i) None) in
+    let whole : map Some (models ++ a ∷ []) ++ replicate (suc left - 1) None ≡ before ++ Some a ∷ replicate left None =
+    ap (λ l. l ++ replicate (suc left - 1) None) (map-append Some models (a ∷ [])) ∙ append_assoc before (Some a ∷ []) _ ∙ (λ i. before ++ Some a ∷ replicate (less i) None) in
     ap (λ k. set (before ++ None ∷ replicate left None) k (Some a)) (sym size) ∙ set-append_seam before None (replicate left None) (Some a) ∙ sym whole
 
 -- one command more
-pub runs_more : (script : Contents) (n : ℕ) (devices : List Kept) (reports : List Report) (c : Command) (d new : Kept) (report : Report) → RunsTo script n devices reports → slice_get script.commands n ≡ Some c → IsWithin (length script.names) c → ((m : ModelDevice) → Shows (get_or devices (devices_of c).0 d) m → Shows new (effect c m None).first) → ((m : ModelDevice) → Shows (get_or devices (devices_of c).0 d) m → answer_of report ≡ (effect c m None).report) → new.counter ≤ (get_or devices (devices_of c).0 d).counter + 1 → RunsTo script (n + 1) (set devices (devices_of c).0 new) (reports ++ report ∷ [])
+pub runs_more : (script : Contents) (n : ℕ) (devices : List Kept) (reports : List Report) (c : Command) (d new : Kept) (report : Report) → RunsTo script n devices reports → slice_get script.commands n ≡ Some c → IsWithin (length script.names) c → ((m : ModelDevice) → Shows (get_or devices (devices_of c).0 d) m → Shows new (effect c m None).first) → ((m : ModelDevice) → Shows (get_or devices (devices_of c).0 d) m → Tells (answer_of report) (effect c m None).report) → new.counter ≤ (get_or devices (devices_of c).0 d).counter + 1 → RunsTo script (n + 1) (set devices (devices_of c).0 new) (reports ++ report ∷ [])
 runs_more script n devices reports c d new report so_far here declared shows tells counts =
     let k = (devices_of c).0 in
     let known : k < length script.names = declared.0 in
@@ -100,13 +101,17 @@ runs_more script n devices reports c d new report so_far here declared shows tel
     let answer = (effect c (device_at fleet.devices k) None).report in
     let left : length script.commands - n - 1 ≡ length script.commands - (n + 1) = omega arith in
     let place : (n + 1) - 1 ≡ n = omega arith in
+    let models = so_far.models ++ answer ∷ [] in
+    let long : length so_far.models ≡ n = sym (zip_long Tells (map answer_of reports) so_far.models so_far.right) ∙ length-map reports answer_of ∙ so_far.count in
     record {
       long = length-set devices k new ∙ so_far.long;
       count = length-append reports (report ∷ []) ∙ ap (λ x. x + 1) so_far.count;
       shown = subst (λ (f : Fleet). AllZip Shows (set devices k new) f.devices) (sym more) (zip_set Shows devices fleet.devices k new _ so_far.shown (shows _ old));
-      told = ap (λ (f : Fleet). f.reports) more ∙ (λ i. set (so_far.told i) (place i) (Some answer)) ∙ put_report reports n _ answer report so_far.count (tells _ old) (omega arith) ∙ ap (λ x. map told (reports ++ report ∷ []) ++ replicate x None) left;
+      models = models;
+      told = ap (λ (f : Fleet). f.reports) more ∙ (λ i. set (so_far.told i) (place i) (Some answer)) ∙ put_report so_far.models n _ answer long (omega arith) ∙ ap (λ x. map Some models ++ replicate x None) left;
+      right = subst (λ l. AllZip Tells l models) (sym (map-append answer_of reports (report ∷ []))) (zip_push Tells (map answer_of reports) so_far.models (answer_of report) answer so_far.right (tells _ old));
       known = subst (λ (f : Fleet). AllByRecursion (IsOfFleet script) f.devices) (sym more) (all_set (IsOfFleet script) fleet.devices k _ so_far.known (effect_known script c _ None of_fleet));
-      about = subst (AllByRecursion (IsAbout script)) (sym (map-append answer_of reports (report ∷ []))) (all_push (IsAbout script) (map answer_of reports) _ so_far.about (subst (IsAbout script) (sym (tells _ old)) (effect_about script c _ None known of_fleet)));
+      about = subst (AllByRecursion (IsAbout script)) (sym (map-append answer_of reports (report ∷ []))) (all_push (IsAbout script) (map answer_of reports) _ so_far.about (effect_about script c _ None known of_fleet (answer_of report) (tells _ old)));
       counted = λ j e h. elim (cases_eq j k) [
         | inl same ↦ rw (same, get_or-set_same devices k new e (omega (arith, so_far.long))) (let bound = so_far.counted k d (omega (arith, so_far.long)) in omega arith)
         | inr other ↦ rw (get_or-set_other devices k j new e other) (let bound = so_far.counted j e (rw (length-set devices k new) at h) in omega arith)
@@ -114,7 +119,7 @@ runs_more script n devices reports c d new report so_far here declared shows tel
     }
 
 -- the same, where the device stands at a place of that number
-pub runs_on : (script : Contents) (n : ℕ) (devices : List Kept) (reports : List Report) (c : Command) (at : ℕ) (old new : Kept) (report : Report) → RunsTo script n devices reports → slice_get script.commands n ≡ Some c → IsWithin (length script.names) c → at ≡ (devices_of c).0 → old ≡ get_or devices at old → ((m : ModelDevice) → Shows old m → Shows new (effect c m None).first) → ((m : ModelDevice) → Shows old m → answer_of report ≡ (effect c m None).report) → new.counter ≤ old.counter + 1 → RunsTo script (n + 1) (set devices at new) (reports ++ report ∷ [])
+pub runs_on : (script : Contents) (n : ℕ) (devices : List Kept) (reports : List Report) (c : Command) (at : ℕ) (old new : Kept) (report : Report) → RunsTo script n devices reports → slice_get script.commands n ≡ Some c → IsWithin (length script.names) c → at ≡ (devices_of c).0 → old ≡ get_or devices at old → ((m : ModelDevice) → Shows old m → Shows new (effect c m None).first) → ((m : ModelDevice) → Shows old m → Tells (answer_of report) (effect c m None).report) → new.counter ≤ old.counter + 1 → RunsTo script (n + 1) (set devices at new) (reports ++ report ∷ [])
 runs_on script n devices reports c at old new report so_far here known at_is old_is shows tells counts =
     let is : old ≡ get_or devices (devices_of c).0 old = old_is ∙ ap (λ k. get_or devices k old) at_is in
     let done = runs_more script n devices reports c old new report so_far here known (λ m s. shows m (subst (λ (d : Kept). Shows d m) (sym is) s)) (λ m s. tells m (subst (λ (d : Kept). Shows d m) (sym is) s)) (subst (λ (d : Kept). new.counter ≤ d.counter + 1) is counts) in
@@ -128,22 +133,25 @@ runs_none script devices reports all long none =
       long = long;
       count = ap length none;
       shown = all;
-      told = λ i. map told (sym none i) ++ replicate (sym whole i) None;
+      models = [];
+      told = ap (λ k. replicate k None) (sym whole);
+      right = subst (λ l. AllZip Tells (map answer_of l) []) (sym none) tt;
       known = opening_known script (let same = opening_long script.filters 0 devices all in omega (arith, long));
       about = subst (λ l. AllByRecursion (IsAbout script) (map answer_of l)) (sym none) tt;
       counted = opening_counts script.filters 0 devices all;
     }
 
 -- the reports of a run that gave them all
-told_again : (reports : List Report) → flat_map option_to_list (map told reports) ≡ map answer_of reports
+told_again : (models : List ModelReport) → flat_map option_to_list (map Some models) ≡ models
 told_again [] = refl
-told_again (r ∷ rs) = ap (λ l. answer_of r ∷ l) (told_again rs)
+told_again (r ∷ rs) = ap (λ l. r ∷ l) (told_again rs)
 
 -- all commands
-runs_whole : (script : Contents) (n : ℕ) (devices : List Kept) (reports : List Report) → RunsTo script n devices reports → n ≡ length script.commands → map told reports ≡ (run script).reports
+runs_whole : (script : Contents) (n : ℕ) (devices : List Kept) (reports : List Report) → (to : RunsTo script n devices reports) → n ≡ length script.commands → map Some to.models ≡ (run script).reports
 runs_whole script n devices reports to all =
     let none : length script.commands - n ≡ 0 = omega arith in
-    sym (ap (λ k. (fleet_after script k).reports) (sym all) ∙ to.told ∙ ap (λ k. map told reports ++ replicate k None) none ∙ append-nil (map told reports))
+    sym (ap (λ k. (fleet_after script k).reports) (sym all) ∙ to.told ∙ ap (λ k. map Some to.models ++ replicate k None) none ∙ append-nil (map Some to.models))
 
-pub runs_all : (script : Contents) (n : ℕ) (devices : List Kept) (reports : List Report) → RunsTo script n devices reports → n ≡ length script.commands → map answer_of reports ≡ reports_of (run script)
-runs_all script n devices reports to all = sym (told_again reports) ∙ ap (flat_map option_to_list) (runs_whole script n devices reports to all)
+pub runs_all : (script : Contents) (n : ℕ) (devices : List Kept) (reports : List Report) → RunsTo script n devices reports → n ≡ length script.commands → AllZip Tells (map answer_of reports) (reports_of (run script))
+runs_all script n devices reports to all =
+    subst (AllZip Tells (map answer_of reports)) (sym (told_again to.models) ∙ ap (flat_map option_to_list) (runs_whole script n devices reports to all)) to.right

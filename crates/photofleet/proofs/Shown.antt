@@ -1,5 +1,5 @@
 -- Devices of the program and the model devices that they show.
-use Rattle.std.proofs.Common.{◌≡◌, ℕ, ◌+◌, ◌<◌, ◌≤◌, zero, suc, List, [], ◌∷◌, ◌++◌, length, get_or, take, refl, sym, ap, ◌∙◌, subst, arith, zero-add, add-zero}
+use Rattle.std.proofs.Common.{◌≡◌, ℕ, ◌+◌, ◌<◌, ◌≤◌, zero, suc, false, List, [], ◌∷◌, ◌++◌, length, get_or, take, refl, sym, ap, ◌∙◌, subst, arith, zero-add, add-zero}
 use Rattle.std.specs.Prelude.{Some, slice_get}
 use Rattle.std.specs.List.{AllZip}
 use Rattle.std.proofs.lemmas.List.{take_more, take_all, length-take-le}
@@ -7,16 +7,25 @@ use Rattle.std.proofs.lemmas.Option.{slice_get_within, get_or_from_slice_get}
 use Rattle.photofleet.proofs.Zipped.{zip_push}
 use Rattle.photo_filter_text.specs.Tree.{Tree}
 use Rattle.photo_version.specs.Author.{author}
+use Rattle.item_knowledge.specs.Fragments.{knows}
 use Rattle.photo_device.specs.Held.{entries_of}
 use Rattle.photo_device.specs.Device.{Kept, ModelDevice, Shows, opening}
 use Rattle.photo_script.specs.Runs.{opening_from}
 
--- the model device that a device shows
+-- a model device that a device shows: what it knows of a picture is known of that picture alone
 abbrev pub model_of : Kept → ModelDevice
-model_of d = record { author = d.author; tree = d.tree; counter = d.counter; store = entries_of d.store; out = entries_of d.out }
+model_of d = record {
+  author = d.author;
+  tree = d.tree;
+  counter = d.counter;
+  store = entries_of d.store;
+  out = entries_of d.out;
+  every = λ v. false;
+  of = λ picture v. knows d.knowledge picture v;
+}
 
 pub shows_model : (d : Kept) → Shows d (model_of d)
-shows_model d = record { author = refl; tree = refl; counter = refl; store = refl; out = refl }
+shows_model d = record { author = refl; tree = refl; counter = refl; store = refl; out = refl; known = λ p above v. refl }
 
 pub opening_from-push : (n : ℕ) (filters : List Tree) (filter : Tree) → opening_from n (filters ++ filter ∷ []) ≡ opening_from n filters ++ opening (author (n + length filters)) filter ∷ []
 opening_from-push n [] filter = rw add-zero refl

@@ -4,10 +4,12 @@ use Rattle.std.specs.Io.KnownBytes.{Appends}
 use Rattle.photo_record.specs.declared.record.Record.TheVariants.{Picture}
 use Rattle.photo_filter_text.specs.declared.tree.Cmp.TheVariants.{AtLeast}
 use Rattle.photo_filter_text.specs.Tree.{All, Rate, Keyword}
+use Rattle.photo_version.specs.Author.{author}
+use Rattle.photo_version.specs.Version.{version}
 use Rattle.photo_script.specs.declared.command.Command.TheVariants as command
 use Rattle.photo_script.specs.Contents.{Contents, contents}
 use Rattle.photo_script.specs.Reading.{script_of}
-use Rattle.photofleet.specs.Outcomes.{output_of, WritesOutput}
+use Rattle.photofleet.specs.Outcomes.{IsOutput, WritesOutput}
 use Rattle.photofleet.specs.CommandLine.{Asks, errors_of}
 use Rattle.clap.specs.declared.error.kind.ErrorKind.TheVariants.{DisplayHelp, MissingSubcommand, UnknownArgument, InvalidSubcommand, MissingRequiredArgument}
 
@@ -24,26 +26,32 @@ abbrev pub printed : List ℕ
 printed = codes "1 made cam:1 store\n" ++ (codes "2 list cam store 1 out 0\n"
     ++ codes "  store 7 cam:1 rating 5 day 2024-05-01 words beach,sun\n")
 
--- a frame that is to keep what is rated 4 or more makes a picture that is rated 3
+-- a frame that is to keep what is rated 4 or more makes a picture that is rated 3, and knows its version
 abbrev pub below_the_filter : Contents
 below_the_filter = contents (codes "frame" ∷ []) (Rate AtLeast 4 ∷ [])
-    (command.New 0 1 (Picture 3 (pos 19844) []) ∷ command.List 0 ∷ [])
+    (command.New 0 1 (Picture 3 (pos 19844) []) ∷ command.List 0 ∷ command.Knowledge 0 ∷ [])
 
 abbrev pub printed_below : List ℕ
 printed_below = codes "1 made frame:1 out\n" ++ (codes "2 list frame store 0 out 1\n"
-    ++ codes "  out 1 frame:1 rating 3 day 2024-05-01 words -\n")
+    ++ (codes "  out 1 frame:1 rating 3 day 2024-05-01 words -\n" ++ (codes "3 knowledge frame 1\n" ++ codes "  * frame:1\n")))
 
 -- versions of one picture: rated up and down across the device's filter, removed and brought back; and the removal of a
--- picture of which nothing is held
+-- picture of which nothing is held. All versions made are known of every picture, and no later one is
 abbrev pub changes : Contents
 changes = contents (codes "a" ∷ []) (Rate AtLeast 2 ∷ [])
     (command.New 0 7 (Picture 5 (pos 19723) []) ∷ command.Edit 0 7 (Picture 1 (pos 19723) []) ∷ command.Remove 0 7
-    ∷ command.Edit 0 7 (Picture 4 (pos 19723) []) ∷ command.Remove 0 9 ∷ command.List 0 ∷ [])
+    ∷ command.Edit 0 7 (Picture 4 (pos 19723) []) ∷ command.Remove 0 9 ∷ command.List 0
+    ∷ command.Knowledge 0 ∷ command.Knows 0 9 (version (author 0) 4) ∷ command.Knows 0 7 (version (author 0) 5) ∷ [])
 
 abbrev pub printed_changes : List ℕ
 printed_changes = codes "1 made a:1 store\n" ++ (codes "2 made a:2 out\n" ++ (codes "3 made a:3 out\n" ++ (codes "4 made a:4 store\n"
     ++ (codes "5 refused C1 NotHeld\n" ++ (codes "6 list a store 1 out 0\n"
-    ++ codes "  store 7 a:4 rating 4 day 2024-01-01 words -\n")))))
+    ++ (codes "  store 7 a:4 rating 4 day 2024-01-01 words -\n" ++ (codes "7 knowledge a 1\n" ++ (codes "  * a:4\n"
+    ++ (codes "8 knows yes\n" ++ codes "9 knows no\n")))))))))
+
+-- a version that is never made isn't known
+abbrev pub never_made : Contents
+never_made = contents (codes "cam" ∷ codes "b" ∷ []) (All ∷ All ∷ []) (command.Knows 1 7 (version (author 0) 100000) ∷ [])
 
 -- a letter with an accent, in form C
 abbrev pub accented : List ℕ
@@ -60,13 +68,14 @@ printed_word = codes "1 made a:1 store\n" ++ (codes "2 list a store 1 out 0\n"
 
 pub record AreAsTold : Type 0 where
   pub read : script_of stored_text ≡ Ok stored_run
-  pub stored : output_of stored_run ≡ printed
+  pub stored : IsOutput stored_run printed
   pub bytes : (old new : Option (List ℕ)) → WritesOutput old new stored_text → Appends old new printed
-  pub below : output_of below_the_filter ≡ printed_below
-  pub word : output_of with_the_word ≡ printed_word
-  pub changed : output_of changes ≡ printed_changes
-  pub empty : output_of (contents [] [] []) ≡ []
-  pub silent : output_of (contents (codes "a" ∷ []) (All ∷ []) []) ≡ []
+  pub below : IsOutput below_the_filter printed_below
+  pub word : IsOutput with_the_word printed_word
+  pub changed : IsOutput changes printed_changes
+  pub unknown : IsOutput never_made (codes "1 knows no\n")
+  pub empty : IsOutput (contents [] [] []) []
+  pub silent : IsOutput (contents (codes "a" ∷ []) (All ∷ []) []) []
 
 abbrev pub words_of : List (List ℕ) → List (List ℕ)
 words_of more = codes "photofleet" ∷ more

@@ -23,7 +23,7 @@ pub record IsOutcome (script : Contents) (o : Outcome) : Type 0 where
   pub about : AllByRecursion (IsAbout script) (map answer_of o.reports.items)
   pub few : length o.reports.items ≤ max_commands
 
--- what a script's run prints: the texts of the right answers. There is just one such output
+-- what a script's run prints: the texts of the right answers. There is at most one such output
 pub record IsOutput (script : Contents) (output : List ℕ) : Type 0 where
   pub answers : List Answer
   pub right : AreRight script answers
@@ -55,13 +55,13 @@ pub record WritesOutput (old new : Option (List ℕ)) (input : List ℕ) : Type 
   pub printed : IsOutput script output
   pub written : Appends old new output
 
--- the same, of the whole texts of some first reports alone
+-- the same, of the whole texts of some first reports alone, perhaps of none
 pub record WritesFirst (old new : Option (List ℕ)) (input : List ℕ) : Type 0 where
   pub script : Contents
   pub read : script_of input ≡ Ok script
   pub answers : List Answer
-  pub right : AreRight script answers
-  pub written : AppendsFirst old new script answers
+  pub right : AllZip Tells answers (take (length answers) (reports_of (run script)))
+  pub written : Appends old new (texts_from script 1 answers)
 
 -- the same, of a front of what the run prints
 pub record WritesFront (old new : Option (List ℕ)) (input : List ℕ) : Type 0 where

@@ -1,5 +1,6 @@
 //! Laws of the definitions.
 ghost use Rattle.std.specs.Prelude.{◌≡◌, IfOk};
+ghost use Rattle.photofleet.specs.Laws.{OutputsAreOne};
 ghost use Rattle.photofleet.specs.Examples.{AreAsTold, WordsAreAsTold, printed};
 
 use crate::runner::{RunError, plain_stream};
@@ -10,6 +11,14 @@ pub fn examples()
     ensures { AreAsTold }
 {
     photo_script::laws::examples();
+    photo_script::laws::answers_are_one();
+}
+
+/// A script's run has at most one output, whatever its reports of knowledge.
+pub fn outputs_are_one()
+    ensures { OutputsAreOne }
+{
+    photo_script::laws::answers_are_one();
 }
 
 /// What command lines ask for is as it is told, by `clap`'s definitions alone.

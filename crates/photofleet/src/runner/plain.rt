@@ -48,7 +48,10 @@ fn opening_devices(alloc: Global, script: &Script) -> Result<Vec<Device>, AllocE
     for place in 0..script.devices() {
         let author = Author::new(place as u16);
         let filter = script.filter(place as u16).try_clone()?;
-        devices.push(Device::new(alloc, author, filter))?;
+        let Ok(device) = Device::new(alloc, author, filter) else {
+            return Err(AllocError);
+        };
+        devices.push(device)?;
     }
     Ok(devices)
 }

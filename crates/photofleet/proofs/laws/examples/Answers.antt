@@ -2,4 +2,4 @@ use Rattle.photofleet.proofs.WorkedExamples.{as_told}
 use Rattle.photofleet.proofs.laws.examples.Goals as goal
 
 pub returns : goal.returns
-returns c = as_told c.examples.ensures.first_run.script
+returns c = as_told c.answers_are_one.ensures c.examples.ensures.first_run.script

@@ -1,5 +1,6 @@
-use Rattle.std.proofs.Common.{arith}
-use Rattle.photo_script.specs.Reports.{Made}
+use Rattle.std.proofs.Common.{List, ap, ◌∙◌, arith}
+use Rattle.item_knowledge.specs.Fragments.{Fragment, knows}
+use Rattle.photo_script.specs.Reports.{Made, Knows}
 use Rattle.photofleet.proofs.Shown.{model_of, shows_model}
 use Rattle.photofleet.proofs.runner.command.run_command.Goals as goal
 
@@ -15,3 +16,11 @@ returns-in_ok-version-in-New-clause-counter c =
     let old = c.args.device.now in
     let counted = (c.in_ok-version-in-New.ensures.shows (model_of old) (shows_model old)).counter in
     omega arith
+
+pub returns-in-Knows-clause-report : goal.returns-in-Knows-clause-report
+returns-in-Knows-clause-report c =
+    λ m shows.
+    let p = c.in-Knows.picture in
+    let v = c.in-Knows.version in
+    let known = ap (λ (fs : List Fragment). knows fs p v) c.knowledge-in-Knows.ensures.value ∙ shows.known p c.knows_of.ensures.above_zero v in
+    rw c.in-Knows.is (c.knows_of.ensures.given ∙ ap Knows known)

@@ -8,9 +8,9 @@ use Rattle.photofleet.proofs.runner.plain.opening_devices.Goals as goal
 pub loop-place-preserved : goal.loop-place-preserved
 loop-place-preserved c =
     let place = c.loop-place.place in
-    let device = c.new.result in
+    let device = c.in-Ok.device in
     let filter = c.filter.result.now in
-    let copied : Shows device (opening c.new-author.result filter) = subst (λ (t : Tree). Shows device (opening c.new-author.result t)) c.in_ok-filter.ensures c.new.ensures in
+    let copied : Shows device (opening c.new-author.result filter) = subst (λ (t : Tree). Shows device (opening c.new-author.result t)) c.in_ok-filter.ensures c.in-Ok.ensures.ok in
     let here : Shows device (opening (author place) filter) = subst (λ a. Shows device (opening a filter)) c.new-author.ensures copied in
     rw c.in_ok-push.ensures.items (opening_more c.args.script.now.filters place _ _ filter c.filter.ensures c.loop-place.invariant here)
 

@@ -19,11 +19,10 @@ pub returns : goal.returns
 returns c =
     let script = c.args.script.now in
     let all : c.loop-place.place ≡ length script.commands = omega arith in
-    let told = runs_all script c.loop-place.place _ _ c.loop-place.invariant all in
     record {
       devices = subst (λ n. AllZip Shows c.loop-place.devices.items (fleet_after script n).devices) all c.loop-place.invariant.shown;
-      reports = told;
+      reports = runs_all script c.loop-place.place _ _ c.loop-place.invariant all;
       each = c.loop-place.invariant.count ∙ all;
-      about = subst (AllByRecursion (IsAbout script)) told c.loop-place.invariant.about;
+      about = c.loop-place.invariant.about;
       few = omega arith;
     }

@@ -1,0 +1,8 @@
+-- What holds of all outputs.
+use Rattle.std.specs.Prelude.{◌≡◌, ℕ, List}
+use Rattle.photo_script.specs.Contents.{Contents}
+use Rattle.photofleet.specs.Outcomes.{IsOutput}
+
+-- a script's run has at most one output
+abbrev pub OutputsAreOne : Type 0
+OutputsAreOne = (script : Contents) (first second : List ℕ) → IsOutput script first → IsOutput script second → first ≡ second
