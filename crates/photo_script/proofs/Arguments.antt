@@ -28,3 +28,10 @@ texts-two [] h = absurd (omega arith)
 texts-two (a ∷ []) h = absurd (omega arith)
 texts-two (a ∷ b ∷ []) h = refl
 texts-two (a ∷ b ∷ c ∷ xs) h = absurd (omega arith)
+
+pub texts-three : (xs : List (Bor (List ℕ))) → length xs ≡ 3 → texts xs ≡ field xs 0 ∷ field xs 1 ∷ field xs 2 ∷ []
+texts-three [] h = absurd (omega arith)
+texts-three (a ∷ []) h = absurd (omega arith)
+texts-three (a ∷ b ∷ []) h = absurd (omega arith)
+texts-three (a ∷ b ∷ c ∷ []) h = refl
+texts-three (a ∷ b ∷ c ∷ d ∷ xs) h = absurd (omega arith)

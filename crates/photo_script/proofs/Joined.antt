@@ -1,9 +1,13 @@
--- Words with commas between them, one more at a time.
-use Rattle.std.proofs.Common.{◌≡◌, ◌≢◌, ◌<◌, ◌≤◌, ◌+◌, ◌∷◌, ◌++◌, ℕ, List, [], length, take, slice_get, Some, refl, sym, ap, ◌∙◌, append_assoc, arith}
+-- Words with commas between them, and items in the same way, one more at a time.
+use Rattle.std.proofs.Common.{◌≡◌, ◌≢◌, ◌<◌, ◌≤◌, ◌+◌, ◌∷◌, ◌++◌, ℕ, List, [], length, take, map, get_or, slice_get, Some, refl, sym, ap, ◌∙◌, append_assoc, arith}
 use Rattle.std.specs.List.{join_with_byte}
-use Rattle.std.proofs.lemmas.List.{take_more, length-take-le, take_all}
+use Rattle.std.proofs.lemmas.List.{take_more, length-take-le, take_all, map-append}
 use Rattle.std.proofs.lemmas.Option.{get_or_from_slice_get, slice_get_within}
-use Rattle.photo_script.specs.Reports.{words_text}
+use Rattle.std.specs.Fmt.{decimal}
+use Rattle.item_knowledge.specs.Entries.{Entry}
+use Rattle.photo_script.specs.Contents.{Contents}
+use Rattle.photo_script.specs.Reports.{words_text, pictures_text, bound_text, bounds_text}
+use Rattle.photo_script.proofs.Places.{length-map}
 
 join-push : (c : ℕ) (xs : List (List ℕ)) (y : List ℕ) → 1 ≤ length xs → join_with_byte c (xs ++ y ∷ []) ≡ join_with_byte c xs ++ (c ∷ y)
 join-push c [] y some = absurd (omega arith)
@@ -27,3 +31,34 @@ join-first (v ∷ vs) w at = cc
 pub join-all : (ws : List (List ℕ)) (n : ℕ) → ws ≢ [] → length ws ≤ n → join_with_byte 44 (take n ws) ≡ words_text ws
 join-all [] n some whole = absurd (some refl)
 join-all (w ∷ ws) n some whole = ap (join_with_byte 44) (take_all n (w ∷ ws) whole)
+
+-- what is written of the first items
+abbrev pub joined_to : {X : Type 0} → ℕ → (X → List ℕ) → List X → ℕ → List ℕ
+joined_to c text xs i = join_with_byte c (map text (take i xs))
+
+module _ {X : Type 0} (c : ℕ) (text : X → List ℕ) (xs : List X) where
+  -- one item more behind some
+  pub joined_to-more : (i : ℕ) (d : X) → 1 ≤ i → i < length xs → joined_to c text xs (i + 1) ≡ joined_to c text xs i ++ (c ∷ text (get_or xs i d))
+  joined_to-more i d some within =
+      let front : length (map text (take i xs)) ≡ i = length-map text (take i xs) ∙ length-take-le i xs (omega arith) in
+      let more = ap (map text) (take_more xs i d within) ∙ map-append text (take i xs) (get_or xs i d ∷ []) in
+      ap (join_with_byte c) more ∙ join-push c (map text (take i xs)) (text (get_or xs i d)) (omega arith)
+
+  pub joined_to-turn : (old now : List ℕ) (i : ℕ) (d : X) → 1 ≤ i → i < length xs → now ≡ ((old ++ joined_to c text xs i) ++ (c ∷ [])) ++ text (get_or xs i d)
+      → now ≡ old ++ joined_to c text xs (i + 1)
+  joined_to-turn old now i d some within written =
+      let front = joined_to c text xs i in
+      let item = text (get_or xs i d) in
+      let regrouped : ((old ++ front) ++ (c ∷ [])) ++ item ≡ old ++ (front ++ (c ∷ item)) = simp append_assoc in
+      written ∙ regrouped ∙ ap (λ t. old ++ t) (sym (joined_to-more i d some within))
+
+  pub joined_to-all : (n : ℕ) → length xs ≤ n → joined_to c text xs n ≡ join_with_byte c (map text xs)
+  joined_to-all n whole = ap (λ ys. join_with_byte c (map text ys)) (take_all n xs whole)
+
+pub pictures-all : (ps : List ℕ) (n : ℕ) → 0 < length ps → length ps ≤ n → joined_to 44 decimal ps n ≡ pictures_text ps
+pictures-all [] n some whole = absurd (omega arith)
+pictures-all (p ∷ ps) n some whole = joined_to-all 44 decimal (p ∷ ps) n whole
+
+pub bounds-all : (script : Contents) (es : List Entry) (n : ℕ) → 0 < length es → length es ≤ n → joined_to 32 (bound_text script) es n ≡ bounds_text script es
+bounds-all script [] n some whole = absurd (omega arith)
+bounds-all script (e ∷ es) n some whole = joined_to-all 32 (bound_text script) (e ∷ es) n whole

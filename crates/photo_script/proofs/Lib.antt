@@ -1,11 +1,14 @@
 mod Arguments
 mod WorkedExamples
 mod Changing
+mod Cuts
 mod FilterTexts
 mod Gathered
 mod Joined
+mod Knowing
 pub mod Listing
 mod Numbers
+mod OneAnswer
 mod Places
 mod Returns
 mod Spaces

@@ -9,10 +9,10 @@ use Rattle.photo_filter_text.specs.Steps.{symbol_of, at_factor, after_term, afte
 use Rattle.photo_filter_rules.specs.Filters.{filter_of}
 use Rattle.photo_record.specs.Calendar.{date_of, years_off, months_off}
 use Rattle.photo_record.specs.Reading.{day_of_text, words_of_text, word_of_text}
-use Rattle.photo_script.specs.Saying.{said, fields_said, device_line_said, filter_said, declaration_said, new_line_said, creation_said, command_said, device_said, new_picture_said, record_said, list_line_said, picture_said, edition_said, edit_line_said, removal_said, remove_line_said}
+use Rattle.photo_script.specs.Saying.{said, fields_said, device_line_said, filter_said, declaration_said, new_line_said, creation_said, command_said, device_said, new_picture_said, record_said, list_line_said, picture_said, edition_said, edit_line_said, removal_said, remove_line_said, knowledge_line_said, knows_line_said, question_said, version_said}
 use Rattle.photo_script.specs.Reading.{script_of}
 use Rattle.photo_script.specs.Reports.{text_of}
-use Rattle.photo_script.specs.Examples.{FirstRun, SingleFaults, TwoFaults, LinesAndFields, Filters, Changes}
+use Rattle.photo_script.specs.Examples.{FirstRun, SingleFaults, TwoFaults, LinesAndFields, Filters, Changes, Questions, KnownTexts}
 
 pub first_run : FirstRun
 unfolding chars is_utf8 digits encode days_from_civil day_count days_of_years days_of_months unicode_normalization date_of years_off months_off day_of_text words_of_text word_of_text said fields_said device_line_said filter_said symbol_of at_factor after_term after_factor filter_of declaration_said new_line_said creation_said command_said device_said new_picture_said record_said list_line_said script_of text_of
@@ -52,3 +52,27 @@ filters = record { rating = refl; brackets = refl; two = refl; more = refl; brac
 pub changes : Changes
 unfolding chars is_utf8 digits encode days_from_civil day_count days_of_years days_of_months unicode_normalization date_of years_off months_off day_of_text words_of_text word_of_text said fields_said device_line_said filter_said symbol_of at_factor after_term after_factor filter_of declaration_said new_line_said creation_said command_said device_said new_picture_said record_said list_line_said picture_said edition_said edit_line_said removal_said remove_line_said script_of text_of
 changes = record { edit = refl; few = refl; many = refl; device = refl; number = refl; rating = refl; refused = refl }
+
+pub questions : Questions
+unfolding chars is_utf8 encode said fields_said device_line_said filter_said symbol_of at_factor after_term after_factor filter_of declaration_said command_said device_said picture_said knowledge_line_said knows_line_said question_said version_said script_of
+questions = record {
+  asked = refl;
+  number = refl;
+  zero = refl;
+  leading_zero = refl;
+  two_colons = refl;
+  no_colon = refl;
+  name_first = refl;
+  no_name = refl;
+  device_first = refl;
+  picture_second = refl;
+  few = refl;
+  many = refl;
+  whose = refl;
+  none = refl;
+  both = refl;
+}
+
+pub known_texts : KnownTexts
+unfolding chars digits encode text_of
+known_texts = record { nothing = refl; star = refl; groups = refl; known = refl; unknown = refl }

@@ -1,16 +1,19 @@
 -- Scripts and reports, worked.
-use Rattle.std.specs.Prelude.{◌≡◌, pos, [], ◌∷◌, Ok, Err, codes}
+use Rattle.std.specs.Prelude.{◌≡◌, ℕ, true, false, pos, List, [], ◌∷◌, Ok, Err, codes}
 use Rattle.photo_record.specs.declared.record.Record.{Record}
 use Rattle.photo_record.specs.declared.record.Record.TheVariants as content
 use Rattle.photo_filter_text.specs.declared.tree.Cmp.TheVariants.{AtLeast}
 use Rattle.photo_filter_text.specs.Tree.{All, Rate, Not, Keyword, Both}
+use Rattle.item_knowledge.specs.Entries as knowledge
 use Rattle.photo_device.specs.Entry.{Entry}
 use Rattle.photo_version.specs.Author.{author}
 use Rattle.photo_version.specs.Version.{version}
 use Rattle.photo_device.specs.declared.place.Place.TheVariants as place
 use Rattle.photo_script.specs.Contents.{Contents, contents}
 use Rattle.photo_script.specs.Reading.{script_of}
-use Rattle.photo_script.specs.Reports.{Made, NotHeld, Listed, text_of}
+use Rattle.item_knowledge.specs.Fragments.{Fragment}
+use Rattle.photo_script.specs.Reports.{Made, NotHeld, Listed, KnowledgeOf, Knows, text_of}
+use Rattle.photo_script.specs.declared.command.Command.{Command}
 use Rattle.photo_script.specs.declared.command.Command.TheVariants as command
 use Rattle.photo_script.specs.declared.fault.LineFault.TheVariants as fault
 use Rattle.photo_script.specs.declared.fault.ScriptFault.TheVariants.{Line, NotUtf8}
@@ -24,7 +27,7 @@ abbrev pub camera : Contents
 camera = contents (codes "cam" ∷ []) (All ∷ []) (command.New 0 7 beach ∷ command.List 0 ∷ [])
 
 abbrev pub beach_entry : Entry
-beach_entry = record { picture = 7; version = version (author 0) 1; content = beach }
+beach_entry = record { picture = 7; version = version (author 0) 1; history = λ v. false; content = beach }
 
 pub record FirstRun : Type 0 where
   pub script : script_of (codes "device cam all\nnew cam 7 5 2024-05-01 sun,beach\nlist cam\n") ≡ Ok camera
@@ -83,3 +86,38 @@ pub record Changes : Type 0 where
   pub number : script_of (codes "device a all\nremove a 07") ≡ Err (Line 2 fault.BadNumber)
   pub rating : script_of (codes "device a all\nedit a 7 6 x x,x") ≡ Err (Line 2 fault.BadRating)
   pub refused : text_of camera 5 NotHeld ≡ codes "5 refused C1 NotHeld\n"
+
+-- two devices with no filter
+abbrev pub pair : List Command → Contents
+pair commands = contents (codes "a" ∷ codes "b" ∷ []) (All ∷ All ∷ []) commands
+
+-- a picture and a version in a question need not be made by any line
+pub record Questions : Type 0 where
+  pub asked : script_of (codes "device a all\ndevice b all\nknowledge b\nknows a 7 b:100000\nknows b 999999999 a:1")
+      ≡ Ok (pair (command.Knowledge 1 ∷ command.Knows 0 7 (version (author 1) 100_000) ∷ command.Knows 1 999_999_999 (version (author 0) 1) ∷ []))
+  pub number : script_of (codes "device a all\nknows a 7 a:100001") ≡ Err (Line 2 fault.BadNumber)
+  pub zero : script_of (codes "device a all\nknows a 7 a:0") ≡ Err (Line 2 fault.BadNumber)
+  pub leading_zero : script_of (codes "device a all\nknows a 7 a:01") ≡ Err (Line 2 fault.BadNumber)
+  pub two_colons : script_of (codes "device a all\nknows a 7 a:1:1") ≡ Err (Line 2 fault.BadNumber)
+  pub no_colon : script_of (codes "device a all\nknows a 7 a1") ≡ Err (Line 2 fault.BadNumber)
+  pub name_first : script_of (codes "device a all\nknows a 7 b:x") ≡ Err (Line 2 fault.UnknownDevice)
+  pub no_name : script_of (codes "device a all\nknows a 7 :1") ≡ Err (Line 2 fault.UnknownDevice)
+  pub device_first : script_of (codes "device a all\nknows b 0 a:0") ≡ Err (Line 2 fault.UnknownDevice)
+  pub picture_second : script_of (codes "device a all\nknows a 0 b") ≡ Err (Line 2 fault.BadNumber)
+  pub few : script_of (codes "device a all\nknows a 7") ≡ Err (Line 2 fault.WrongFields)
+  pub many : script_of (codes "device a all\nknows a 7 a:1 a:2") ≡ Err (Line 2 fault.WrongFields)
+  pub whose : script_of (codes "device a all\nknowledge b") ≡ Err (Line 2 fault.UnknownDevice)
+  pub none : script_of (codes "device a all\nknowledge") ≡ Err (Line 2 fault.WrongFields)
+  pub both : script_of (codes "device a all\nknowledge a a") ≡ Err (Line 2 fault.WrongFields)
+
+abbrev pub fragment : List ℕ → List knowledge.Entry → Fragment
+fragment pictures entries = record { pictures = pictures; entries = entries }
+
+-- what devices know, a line a fragment: nothing; four versions of every picture; more of two pictures and of a third
+pub record KnownTexts : Type 0 where
+  pub nothing : text_of (pair []) 1 (KnowledgeOf 0 (fragment [] [] ∷ [])) ≡ codes "1 knowledge a 1\n  * -\n"
+  pub star : text_of (pair []) 7 (KnowledgeOf 0 (fragment [] ((0, 4) ∷ []) ∷ [])) ≡ codes "7 knowledge a 1\n  * a:4\n"
+  pub groups : text_of (pair []) 5 (KnowledgeOf 1 (fragment [] ((0, 1) ∷ []) ∷ fragment (7 ∷ 9 ∷ []) ((0, 2) ∷ (1, 1) ∷ []) ∷ fragment (8 ∷ []) ((0, 3) ∷ []) ∷ []))
+      ≡ codes "5 knowledge b 3\n  * a:1\n  7,9 a:2 b:1\n  8 a:3\n"
+  pub known : text_of (pair []) 8 (Knows true) ≡ codes "8 knows yes\n"
+  pub unknown : text_of (pair []) 8 (Knows false) ≡ codes "8 knows no\n"

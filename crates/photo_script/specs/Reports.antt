@@ -31,7 +31,7 @@ answer_of (report.Made v p) = Made v p
 answer_of report.NotHeld = NotHeld
 answer_of (report.Listed n store out) = Listed n (entries_of store) (entries_of out)
 answer_of (report.KnowledgeOf n knowledge) = KnowledgeOf n knowledge
-answer_of (report.Knows yes) = Knows yes
+answer_of (report.Knows known) = Knows known
 
 -- what the answer to a command has to be: one answer, or the knowledge of a device, as the test of a picture and a version
 pub data ModelReport : Type 0 where
@@ -67,7 +67,7 @@ IsAbout script (Made v p) = IsOfScript script v
 IsAbout script NotHeld = Unit {0}
 IsAbout script (Listed n store out) = (n < length script.names) × AreOfScript script store × AreOfScript script out
 IsAbout script (KnowledgeOf n fragments) = (n < length script.names) × AllByRecursion (IsFragmentOfScript script) fragments
-IsAbout script (Knows yes) = Unit {0}
+IsAbout script (Knows known) = Unit {0}
 
 -- the name of a device, by its place among the names
 abbrev pub name_of : Contents → ℕ → List ℕ
@@ -145,16 +145,20 @@ bounds_text script (e ∷ es) = join_with_byte 32 (map (bound_text script) (e �
 abbrev pub fragment_text : Contents → Fragment → List ℕ
 fragment_text script f = codes "  " ++ pictures_text f.pictures ++ codes " " ++ bounds_text script f.entries ++ codes "\n"
 
+-- the first line of what a device knows: how many fragments follow
+abbrev pub known_heading_text : Contents → ℕ → ℕ → ℕ → List ℕ
+known_heading_text script number device count =
+    decimal number ++ codes " knowledge " ++ name_of script device ++ codes " " ++ decimal count ++ codes "\n"
+
 abbrev pub knowledge_text : Contents → ℕ → ℕ → List Fragment → List ℕ
 knowledge_text script number device fragments =
-    decimal number ++ codes " knowledge " ++ name_of script device ++ codes " " ++ decimal (length fragments) ++ codes "\n"
-    ++ flat_map (fragment_text script) fragments
+    known_heading_text script number device (length fragments) ++ flat_map (fragment_text script) fragments
 
 abbrev pub yes_or_no : Bool → List ℕ
-yes_or_no yes = if yes then codes "yes" else codes "no"
+yes_or_no known = if known then codes "yes" else codes "no"
 
 abbrev pub knows_text : ℕ → Bool → List ℕ
-knows_text number yes = decimal number ++ codes " knows " ++ yes_or_no yes ++ codes "\n"
+knows_text number known = decimal number ++ codes " knows " ++ yes_or_no known ++ codes "\n"
 
 -- the text of an answer to the command of that number
 unfoldable pub text_of : Contents → ℕ → Answer → List ℕ
@@ -162,7 +166,7 @@ text_of script number (Made v where_) = made_text script number v where_
 text_of script number NotHeld = not_held_text number
 text_of script number (Listed n store out) = listed_text script number n store out
 text_of script number (KnowledgeOf n fragments) = knowledge_text script number n fragments
-text_of script number (Knows yes) = knows_text number yes
+text_of script number (Knows known) = knows_text number known
 
 -- the texts of answers, numbered from a number on
 abbrev pub texts_from : Contents → ℕ → List Answer → List ℕ

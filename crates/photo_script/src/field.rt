@@ -1,11 +1,11 @@
-ghost use Rattle.std.specs.Prelude.{◌≡◌, map, OnOk};
+ghost use Rattle.std.specs.Prelude.{◌≡◌, ◌<◌, ◌^◌, true, None, Some, IfSome, SomeIff, MatchOption, map, OnOk};
 ghost use Rattle.photo_script.specs.Lines.{fields_of, without_spaces, behind_field, third_field_on};
-ghost use Rattle.photo_script.specs.Fields.{is_name, picture_of};
+ghost use Rattle.photo_script.specs.Fields.{is_name, cut_at_colon, is_decimal, number_of, picture_of, version_number_of};
 ghost use Rattle.photo_script.specs.Saying.{filter_said};
 ghost use Rattle.photo_script.specs.Steps.{Gives};
 
 use crate::LineFault;
-use crate::limits::MAX_NAME_CHARACTERS;
+use crate::limits::{MAX_NAME_CHARACTERS, MAX_VERSION};
 use crate::refusal::Refusal;
 use photo_filter_rules::{BuildFault, Filter};
 use photo_filter_text::FilterFault;
@@ -67,15 +67,41 @@ pub fn is_name(text: &str) -> bool
         .all(|b| b.is_ascii_lowercase() || b.is_ascii_digit())
 }
 
-/// The picture number that a field denotes: decimal without a leading zero.
-pub fn picture_of(text: &str) -> Option<PicNo>
-    ensures { result ≡ picture_of text.now }
+/// What stands before the first colon of a text and behind it.
+pub fn cut_at_colon(text: &str) -> Option<(&str, &str)>
+    ensures { MatchOption result (cut_at_colon text.now ≡ None) (λ parts. cut_at_colon text.now ≡ Some (parts.0.now, parts.1.now)) }
+{
+    text.split_once(':')
+}
+
+// What decimal digits without a leading zero stand for, if it has at most 32 bits.
+fn number_of(text: &str) -> Option<u32>
+    ensures { SomeIff result ((is_decimal text.now ≡ true) × (number_of text.now < 2 ^ 32)) (number_of text.now) }
 {
     let first = *text.as_bytes().first()?;
     if first < b'1' || first > b'9' {
         return None;
     }
-    PicNo::new(text.parse().ok()?)
+    text.parse().ok()
+}
+
+/// The picture number that a field denotes: decimal without a leading zero.
+pub fn picture_of(text: &str) -> Option<PicNo>
+    ensures { result ≡ picture_of text.now }
+{
+    PicNo::new(number_of(text)?)
+}
+
+/// The number of a version that a text denotes, in the same way.
+pub fn version_number_of(text: &str) -> Option<u32>
+    ensures number { result ≡ version_number_of text.now }
+    ensures above_zero { IfSome result (λ n. 0 < n) }
+{
+    let number = number_of(text)?;
+    if number == 0 || number > MAX_VERSION {
+        return None;
+    }
+    Some(number)
 }
 
 /// The filter that a text is.

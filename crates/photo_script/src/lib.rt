@@ -5,6 +5,7 @@
 mod command;
 mod fault;
 mod field;
+mod known_report;
 pub mod laws;
 mod limits;
 mod names;

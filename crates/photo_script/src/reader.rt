@@ -3,15 +3,18 @@ ghost use Rattle.photo_script.specs.Lines.{fields_of, lines_of, third_field_on};
 ghost use Rattle.photo_script.specs.Limits.{max_text_bytes, max_line_bytes};
 ghost use Rattle.std.specs.Str.Lines.{strip_carriage_return};
 ghost use Rattle.photo_script.specs.Steps.{Gives};
-ghost use Rattle.photo_script.specs.Saying.{device_said, new_picture_said, record_said, device_line_said, declaration_said, new_line_said, picture_said, edit_line_said, remove_line_said, list_line_said, fields_said, said};
+ghost use Rattle.photo_script.specs.Saying.{device_said, new_picture_said, record_said, device_line_said, declaration_said, new_line_said, picture_said, edit_line_said, remove_line_said, list_line_said, knowledge_line_said, knows_line_said, version_said, fields_said, said};
 ghost use Rattle.photo_script.specs.Reading.{script_of, script_of_lines, MayWantMemory};
 ghost use Rattle.photo_script.specs.declared.fault.ScriptFault.TheVariants.{NoMemory, Read};
 
-use crate::field::{filter_of, is_name, picture_of, put_fields, third_field_on};
+use crate::field::{
+    cut_at_colon, filter_of, is_name, picture_of, put_fields, third_field_on, version_number_of,
+};
 use crate::limits::{MAX_COMMANDS, MAX_DEVICES, MAX_LINE_BYTES, MAX_TEXT_BYTES};
 use crate::refusal::Refusal;
 use crate::{Command, LineFault, Script, ScriptFault};
 use photo_record::{Day, PicNo, Rating, Record, WordFault, Words};
+use photo_version::{Author, Version};
 use std::alloc::Global;
 use std::collections::BTreeSet;
 use std::str;
@@ -106,6 +109,8 @@ impl Reader {
             "edit" => self.read_edit(arguments),
             "remove" => self.read_remove(arguments),
             "list" => self.read_list(arguments),
+            "knowledge" => self.read_knowledge(arguments),
+            "knows" => self.read_knows(arguments),
             _ => Err(Refusal::Fault(LineFault::UnknownCommand)),
         }
     }
@@ -221,6 +226,57 @@ impl Reader {
         let device = self.device(name)?;
         self.script.push(Command::List { device })?;
         Ok(())
+    }
+
+    // `knowledge DEV`
+    #[tactic(auto, unfolding(crate::specs::Saying::knowledge_line_said, crate::specs::Saying::command_said))]
+    fn read_knowledge(&mut self, arguments: &[&str]) -> Result<(), Refusal>
+        ensures { Reads self.old (codes "knowledge" ∷ texts arguments.now) [] (knowledge_line_said (seen self.old) (texts arguments.now)) result self.new }
+    {
+        let [name] = arguments else {
+            return Err(Refusal::Fault(LineFault::WrongFields));
+        };
+        if self.script.commands() >= MAX_COMMANDS {
+            return Err(Refusal::Fault(LineFault::TooMany));
+        }
+        let device = self.device(name)?;
+        self.script.push(Command::Knowledge { device })?;
+        Ok(())
+    }
+
+    // `knows DEV PIC VERSION`
+    #[tactic(auto, unfolding(crate::specs::Saying::knows_line_said, crate::specs::Saying::command_said, crate::specs::Saying::question_said))]
+    fn read_knows(&mut self, arguments: &[&str]) -> Result<(), Refusal>
+        ensures { Reads self.old (codes "knows" ∷ texts arguments.now) [] (knows_line_said (seen self.old) (texts arguments.now)) result self.new }
+    {
+        let [name, picture, version] = arguments else {
+            return Err(Refusal::Fault(LineFault::WrongFields));
+        };
+        if self.script.commands() >= MAX_COMMANDS {
+            return Err(Refusal::Fault(LineFault::TooMany));
+        }
+        let device = self.device(name)?;
+        let picture = any_picture(picture)?;
+        let version = self.version(version)?;
+        self.script.push(Command::Knows {
+            device,
+            picture,
+            version,
+        })?;
+        Ok(())
+    }
+
+    // `NAME:N`, a version of a declared device.
+    #[tactic(auto, unfolding(crate::specs::Saying::version_said))]
+    fn version(&self, text: &str) -> Result<Version, LineFault>
+        ensures { result ≡ version_said (seen self.now) text.now }
+    {
+        let Some((name, number)) = cut_at_colon(text) else {
+            return Err(LineFault::BadNumber);
+        };
+        let device = self.device(name)?;
+        let number = version_number_of(number).ok_or(LineFault::BadNumber)?;
+        Version::new(Author::new(device), number).ok_or(LineFault::BadNumber)
     }
 
     // The device of that name.

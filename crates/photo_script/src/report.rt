@@ -1,11 +1,12 @@
 ghost use Rattle.std.specs.Prelude.{◌≡◌, ◌<◌, ◌++◌, length, string_bytes, IfOk, OnOk};
 
 use crate::Script;
+use crate::known_report::push_knowledge;
 use item_knowledge::Knowledge;
 use itoa::Buffer;
 use photo_device::{Held, HeldList, Place};
 use photo_record::{Day, Record, Words};
-use photo_version::Version;
+use photo_version::{Author, Version};
 use std::alloc::{AllocError, Global};
 
 /// The answer to a command.
@@ -35,9 +36,12 @@ pub enum Report {
 
 ghost use Rattle.photo_device.specs.Held.{entry_of, entries_of};
 ghost use Rattle.std.specs.Fmt.{decimal};
-ghost use Rattle.photo_script.specs.Reports.{IsAbout, IsOfScript, AreOfScript, answer_of, text_of, version_text, place_text, padded_decimal, day_text, words_text, record_text, entry_text, entries_text, made_text, not_held_text, heading_text, listed_text};
+ghost use Rattle.photo_version.specs.Author.{device_of_author};
+ghost use Rattle.photo_version.specs.Version.{version};
+ghost use Rattle.photo_script.specs.Reports.{IsAbout, IsOfScript, AreOfScript, answer_of, text_of, version_text, place_text, padded_decimal, day_text, words_text, record_text, entry_text, entries_text, made_text, not_held_text, heading_text, listed_text, yes_or_no, knows_text};
 
-/// The text of a report on the command of that number: a line, and for a list a line more for each held version.
+/// The text of a report on the command of that number: a line, and for a list a line more for each held version, and
+/// for what a device knows one for each fragment.
 /// Each line ends with LF. Its only error is want of memory.
 pub fn report_text(
     alloc: Global,
@@ -71,6 +75,10 @@ pub fn push_report(
         Report::Listed { device, store, out } => {
             push_listed(text, script, number, *device, store, out)?
         }
+        Report::KnowledgeOf { device, knowledge } => {
+            push_knowledge(text, script, number, *device, knowledge)?
+        }
+        Report::Knows(known) => push_knows(text, number, *known)?,
     }
     Ok(())
 }
@@ -98,6 +106,14 @@ fn push_not_held(text: &mut String, number: u32) -> Result<(), AllocError>
     ensures { OnOk result (string_bytes text.new ≡ string_bytes text.old ++ not_held_text number) }
 {
     writeln!(text, "{number} refused C1 NotHeld")?;
+    Ok(())
+}
+
+fn push_knows(text: &mut String, number: u32, known: bool) -> Result<(), AllocError>
+    ensures { OnOk result (string_bytes text.new ≡ string_bytes text.old ++ knows_text number known) }
+{
+    let word = yes_or_no(known);
+    writeln!(text, "{number} knows {word}")?;
     Ok(())
 }
 
@@ -176,9 +192,22 @@ fn push_version(text: &mut String, script: &Script, version: Version) -> Result<
     requires { IsOfScript script.now version }
     ensures { OnOk result (string_bytes text.new ≡ string_bytes text.old ++ version_text script.now version) }
 {
-    text.push_str(script.name(version.author().value()))?;
+    push_version_of(text, script, version.author(), version.n())
+}
+
+// The author's version of that number.
+pub(crate) fn push_version_of(
+    text: &mut String,
+    script: &Script,
+    author: Author,
+    number: u32,
+) -> Result<(), AllocError>
+    requires { device_of_author author < length script.now.names }
+    ensures { OnOk result (string_bytes text.new ≡ string_bytes text.old ++ version_text script.now (version author number)) }
+{
+    text.push_str(script.name(author.value()))?;
     text.push_str(":")?;
-    push_decimal(text, version.n())?;
+    push_decimal(text, number)?;
     Ok(())
 }
 
@@ -253,4 +282,10 @@ fn place_word(place: Place) -> &'static str
         Place::Store => "store",
         Place::Out => "out",
     }
+}
+
+fn yes_or_no(known: bool) -> &'static str
+    ensures { result.now ≡ yes_or_no known }
+{
+    if known { "yes" } else { "no" }
 }

@@ -1,4 +1,4 @@
-use Rattle.photo_script.proofs.WorkedExamples.{first_run, single_faults, two_faults, lines_and_fields, filters, changes}
+use Rattle.photo_script.proofs.WorkedExamples.{first_run, single_faults, two_faults, lines_and_fields, filters, changes, questions, known_texts}
 use Rattle.photo_script.proofs.laws.examples.Goals as goal
 
 pub returns-clause-first_run : goal.returns-clause-first_run
@@ -18,3 +18,9 @@ returns-clause-filters c = filters
 
 pub returns-clause-changes : goal.returns-clause-changes
 returns-clause-changes c = changes
+
+pub returns-clause-questions : goal.returns-clause-questions
+returns-clause-questions c = questions
+
+pub returns-clause-known_texts : goal.returns-clause-known_texts
+returns-clause-known_texts c = known_texts

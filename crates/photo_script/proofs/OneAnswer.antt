@@ -1,0 +1,11 @@
+-- A knowledge has one normal form, and so one right answer.
+use Rattle.std.proofs.Common.{sym, ap, ◌∙◌}
+use Rattle.item_knowledge.proofs.FragmentLemmas.{one_normal}
+use Rattle.photo_script.specs.Laws.{AnswersAreOne}
+use Rattle.photo_script.specs.Reports.{KnowledgeOf, Exactly, KnowledgeIs}
+
+pub one_answer : AnswersAreOne
+one_answer a b (Exactly right) p q = p ∙ sym q
+one_answer a b (KnowledgeIs device known) p q =
+    let same = one_normal p.fragments q.fragments p.normal q.normal (λ picture v above. p.denoted picture above v ∙ sym (q.denoted picture above v)) in
+    p.given ∙ ap (KnowledgeOf device) same ∙ sym q.given

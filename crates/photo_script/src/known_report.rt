@@ -1,0 +1,129 @@
+ghost use Rattle.std.specs.Prelude.{◌≡◌, ◌<◌, ◌++◌, length, get_or, string_bytes, OnOk};
+ghost use Rattle.std.specs.List.{AllByRecursion, flat_map};
+ghost use Rattle.std.specs.Fmt.{decimal};
+ghost use Rattle.photo_script.specs.Reports.{IsFragmentOfScript, pictures_text, bound_text, bounds_text, fragment_text, known_heading_text, knowledge_text};
+
+use crate::Script;
+use crate::report::push_version_of;
+use item_knowledge::{Fragment, Knowledge};
+use itoa::Buffer;
+use std::alloc::AllocError;
+
+/// Puts what a device knows behind a text: a line, and a line more for each fragment.
+pub fn push_knowledge(
+    text: &mut String,
+    script: &Script,
+    number: u32,
+    device: u16,
+    knowledge: &Knowledge,
+) -> Result<(), AllocError>
+    requires device { device < length script.now.names }
+    requires authors { AllByRecursion (IsFragmentOfScript script.now) knowledge.now }
+    ensures { OnOk result (string_bytes text.new ≡ string_bytes text.old ++ knowledge_text script.now number device knowledge.now) }
+{
+    push_known_heading(text, script, number, device, knowledge.fragments())?;
+    push_fragments(text, script, knowledge)?;
+    Ok(())
+}
+
+fn push_known_heading(
+    text: &mut String,
+    script: &Script,
+    number: u32,
+    device: u16,
+    count: usize,
+) -> Result<(), AllocError>
+    requires { device < length script.now.names }
+    ensures { OnOk result (string_bytes text.new ≡ string_bytes text.old ++ known_heading_text script.now number device count) }
+{
+    let name = script.name(device);
+    writeln!(text, "{number} knowledge {name} {count}")?;
+    Ok(())
+}
+
+fn push_fragments(
+    text: &mut String,
+    script: &Script,
+    knowledge: &Knowledge,
+) -> Result<(), AllocError>
+    requires { AllByRecursion (IsFragmentOfScript script.now) knowledge.now }
+    ensures { OnOk result (string_bytes text.new ≡ string_bytes text.old ++ flat_map (fragment_text script.now) knowledge.now) }
+{
+    for k in 0..knowledge.fragments() {
+        push_fragment(text, script, &knowledge.fragment(k))?;
+    }
+    Ok(())
+}
+
+fn push_fragment(
+    text: &mut String,
+    script: &Script,
+    fragment: &Fragment<'_>,
+) -> Result<(), AllocError>
+    requires { IsFragmentOfScript script.now fragment.now }
+    ensures { OnOk result (string_bytes text.new ≡ string_bytes text.old ++ fragment_text script.now fragment.now) }
+{
+    text.push_str("  ")?;
+    push_pictures(text, fragment.pictures())?;
+    text.push_str(" ")?;
+    push_bounds(text, script, fragment)?;
+    text.push_str("\n")?;
+    Ok(())
+}
+
+fn push_pictures(text: &mut String, pictures: &[u64]) -> Result<(), AllocError>
+    ensures { OnOk result (string_bytes text.new ≡ string_bytes text.old ++ pictures_text pictures.now) }
+{
+    if pictures.is_empty() {
+        text.push_str("*")?;
+        return Ok(());
+    }
+    push_picture(text, pictures[0])?;
+    for i in 1..pictures.len() {
+        text.push_str(",")?;
+        push_picture(text, pictures[i])?;
+    }
+    Ok(())
+}
+
+fn push_picture(text: &mut String, picture: u64) -> Result<(), AllocError>
+    ensures { OnOk result (string_bytes text.new ≡ string_bytes text.old ++ decimal picture) }
+{
+    let mut buffer = Buffer::new();
+    text.push_str(buffer.format(picture))?;
+    Ok(())
+}
+
+fn push_bounds(
+    text: &mut String,
+    script: &Script,
+    fragment: &Fragment<'_>,
+) -> Result<(), AllocError>
+    requires { IsFragmentOfScript script.now fragment.now }
+    ensures { OnOk result (string_bytes text.new ≡ string_bytes text.old ++ bounds_text script.now fragment.now.entries) }
+{
+    if fragment.len() == 0 {
+        text.push_str("-")?;
+        return Ok(());
+    }
+    push_bound(text, script, fragment, 0)?;
+    for i in 1..fragment.len() {
+        text.push_str(" ")?;
+        push_bound(text, script, fragment, i)?;
+    }
+    Ok(())
+}
+
+fn push_bound(
+    text: &mut String,
+    script: &Script,
+    fragment: &Fragment<'_>,
+    i: usize,
+) -> Result<(), AllocError>
+    requires within { i < length fragment.now.entries }
+    requires authors { IsFragmentOfScript script.now fragment.now }
+    ensures { OnOk result (string_bytes text.new ≡ string_bytes text.old ++ bound_text script.now (get_or fragment.now.entries i (0, 0))) }
+{
+    let (author, number) = fragment.entry(i);
+    push_version_of(text, script, author, number)
+}
