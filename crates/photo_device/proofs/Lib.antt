@@ -3,3 +3,4 @@ pub mod Entries
 pub mod Found
 pub mod Shown
 pub mod Holding
+pub mod Replacing

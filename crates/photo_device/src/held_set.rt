@@ -96,13 +96,12 @@ impl HeldSet {
         ensures ok { OnOk result (self.new ≡ replaced held self.old) }
         ensures err { OnErr result (self.new ≡ self.old) }
     {
-        let (from, to) = range_of(&self.items, held.picture);
-        if from == to {
-            self.items.insert(from, held)?;
-        } else {
-            self.items.set(from, held);
-            self.items.remove_range(from + 1, to);
-        }
+        let picture = held.picture;
+        self.items.replace_between(
+            |other| other.picture < picture,
+            |other| other.picture <= picture,
+            held,
+        )?;
         Ok(())
     }
 
