@@ -28,7 +28,7 @@ impl<T> BlockList<T> {
     ghost use Rattle.std.specs.Prelude.{◌≡◌, ◌<◌, ◌≤◌, ◌==◌, Bool, true, false, [], length, slice_get, Some};
     ghost use Rattle.std.specs.List.Sorted.{IsPartitionedBy, IsPartitionPoint};
     ghost use Rattle.std.specs.Fn.{ComputesKey};
-    ghost use Rattle.block_list.specs.Blocks.{joined, IsKept};
+    ghost use Rattle.block_list.specs.Blocks.{joined, IsKept, TellsBetween};
 
     /// The list of no element. It takes no memory.
     pub fn new(alloc: Global) -> BlockList<T>
@@ -86,6 +86,20 @@ impl<T> BlockList<T> {
     {
         let _len = self.len;
         first_failing(&self.blocks, pred)
+    }
+
+    /// Whether there are elements that fail the first test and pass the second, in a list where those that pass a test
+    /// stand before those that fail it, and what passes the first test passes the second. It counts no blocks.
+    pub fn any_between<P: Fn(&T) -> bool, Q: Fn(&T) -> bool>(&self, before: P, through: Q) -> bool
+        requires before { P.IsAlwaysCallable before }
+        requires through { Q.IsAlwaysCallable through }
+        ensures { (p q : T → Bool) → ComputesKey P.FnMut p before → ComputesKey Q.FnMut q through → IsPartitionedBy p self.now → IsPartitionedBy q self.now → ((y : T) → p y ≡ true → q y ≡ true) → TellsBetween p q self.now result }
+    {
+        if self.blocks.is_empty() {
+            return false;
+        }
+        let (block, place) = spot_of(&self.blocks, before);
+        passes_behind(&self.blocks, block, place, &through)
     }
 }
 

@@ -5,8 +5,9 @@ ghost use Rattle.block_list.specs.Blocks.{joined, AreFilled, start_of, IsPlace, 
 
 use std::alloc::AllocError;
 
-/// A block that has so many elements after an insertion is cut in two.
-const LONG: usize = 512;
+/// A block that has so many elements after an insertion is cut in two. An insertion moves the elements behind it in its
+/// block, and a cut the blocks behind it: at 100,000 elements this is about where both together cost least.
+const LONG: usize = 128;
 
 /// Where element `i` stands: its block, and its place there.
 pub fn element_at<T>(blocks: &[Vec<T>], i: usize) -> (usize, usize)

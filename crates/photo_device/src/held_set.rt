@@ -109,6 +109,9 @@ impl HeldSet {
     pub(crate) fn drop_picture(&mut self, picture: PicNo)
         ensures { self.new ≡ held_of_others picture self.old }
     {
+        if !self.has_picture(picture) {
+            return;
+        }
         let (from, to) = range_of(&self.items, picture);
         self.items.remove_range(from, to);
     }
@@ -117,8 +120,10 @@ impl HeldSet {
     pub(crate) fn has_picture(&self, picture: PicNo) -> bool
         ensures { result ≡ has_picture picture self.now }
     {
-        let (from, to) = range_of(&self.items, picture);
-        from < to
+        self.items.any_between(
+            |held| held.picture < picture,
+            |held| held.picture <= picture,
+        )
     }
 }
 
