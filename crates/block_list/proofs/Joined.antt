@@ -122,3 +122,10 @@ module _ {T : Type 0} where
       slice_get_read (joined blocks) (length (joined blocks)) i x refl
       (omega (arith, length-flat_map-take (λ block. block.items) blocks b v place.block))
       (item ∙ (λ j. get_or (read j).items k x) ∙ sym (get_or-flat_map (λ block. block.items) blocks b k v x place.block inner) ∙ ap (λ n. get_or (joined blocks) n x) (sym i_is))
+
+  -- a place in a block is within the list
+  pub start_within : (blocks : List (Vec T Global)) (b k : ℕ) → IsPlace blocks (start_of blocks b + k) b k → start_of blocks b + k ≤ length (joined blocks)
+  start_within [] b k place = let inside = place.block in absurd (omega arith)
+  start_within (d ∷ ds) b k place =
+      let within = place.within d in
+      omega (arith, (start_more (d ∷ ds) b d place.block).1)

@@ -1,6 +1,7 @@
 -- Lists that are kept in blocks.
-use Rattle.std.specs.Prelude.{◌≡◌, ℕ, ◌+◌, ◌-◌, ◌<◌, ◌≤◌, Bool, true, false, List, length, take, slice_index_or, Vec}
+use Rattle.std.specs.Prelude.{◌≡◌, ℕ, ◌+◌, ◌-◌, ◌<◌, ◌≤◌, Bool, true, false, List, ◌∷◌, ◌++◌, length, take, drop, slice_index_or, nat_lt, Vec}
 use Rattle.std.specs.List.{flat_map, All}
+use Rattle.std.specs.List.Sorted.{IsPartitionPoint}
 use Rattle.std.specs.declared.alloc.Global.{Global}
 
 module _ {T : Type 0} where
@@ -40,3 +41,24 @@ module _ {T : Type 0} where
   pub record IsTurn (p : T → Bool) (blocks : List (Vec T Global)) (low high : ℕ) : Type 0 where
     pub last : (d : Vec T Global) (x : T) → 0 < low → p (slice_index_or (slice_index_or blocks (low - 1) d).items 0 x) ≡ true
     pub next : (d : Vec T Global) (x : T) → high < length blocks → p (slice_index_or (slice_index_or blocks high d).items 0 x) ≡ false
+
+  -- the elements that fail p and pass q stand from the first place up to before the second
+  pub record AreBetween (p q : T → Bool) (xs : List T) (from to : ℕ) : Type 0 where
+    pub order : from ≤ to
+    pub within : to ≤ length xs
+    pub first : IsPartitionPoint (λ y. p y ≡ true) (λ y. p y ≡ false) xs from
+    pub last : IsPartitionPoint (λ y. q y ≡ true) (λ y. q y ≡ false) xs to
+
+  -- x stands in place of the elements that fail p and pass q
+  pub record IsReplaced (p q : T → Bool) (old : List T) (x : T) (new : List T) : Type 0 where
+    pub from : ℕ
+    pub to : ℕ
+    pub between : AreBetween p q old from to
+    pub list : new ≡ take from old ++ x ∷ drop to old
+
+  -- whether there are elements that fail p and pass q
+  pub record TellsBetween (p q : T → Bool) (xs : List T) (answer : Bool) : Type 0 where
+    pub from : ℕ
+    pub to : ℕ
+    pub between : AreBetween p q xs from to
+    pub answer_is : answer ≡ (nat_lt from to)

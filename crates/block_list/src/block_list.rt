@@ -1,5 +1,5 @@
-use crate::blocks::{element_at, insert_at, pop_last, remove_between, set_at};
-use crate::search::first_failing;
+use crate::blocks::{element_at, insert_at, insert_in, pop_last, remove_between, set_at};
+use crate::search::{first_failing, index_of, passes_behind, spot_of};
 use std::alloc::{AllocError, Global};
 use std::marker::Model;
 
@@ -28,7 +28,7 @@ impl<T> BlockList<T> {
     ghost use Rattle.std.specs.Prelude.{◌≡◌, ◌<◌, ◌≤◌, ◌==◌, Bool, true, false, [], length, slice_get, Some};
     ghost use Rattle.std.specs.List.Sorted.{IsPartitionedBy, IsPartitionPoint};
     ghost use Rattle.std.specs.Fn.{ComputesKey};
-    ghost use Rattle.block_list.specs.Blocks.{joined, IsKept};
+    ghost use Rattle.block_list.specs.Blocks.{joined, IsKept, TellsBetween};
 
     /// The list of no element. It takes no memory.
     pub fn new(alloc: Global) -> BlockList<T>
@@ -87,11 +87,28 @@ impl<T> BlockList<T> {
         let _len = self.len;
         first_failing(&self.blocks, pred)
     }
+
+    /// Whether there are elements that fail the first test and pass the second, in a list where those that pass a test
+    /// stand before those that fail it, and what passes the first test passes the second. It counts no blocks.
+    pub fn any_between<P: Fn(&T) -> bool, Q: Fn(&T) -> bool>(&self, before: P, through: Q) -> bool
+        requires before { P.IsAlwaysCallable before }
+        requires through { Q.IsAlwaysCallable through }
+        ensures { (p q : T → Bool) → ComputesKey P.FnMut p before → ComputesKey Q.FnMut q through → IsPartitionedBy p self.now → IsPartitionedBy q self.now → ((y : T) → p y ≡ true → q y ≡ true) → TellsBetween p q self.now result }
+    {
+        if self.blocks.is_empty() {
+            return false;
+        }
+        let (block, place) = spot_of(&self.blocks, before);
+        passes_behind(&self.blocks, block, place, &through)
+    }
 }
 
 impl<T: Drop> BlockList<T> {
-    ghost use Rattle.std.specs.Prelude.{◌≡◌, ◌<◌, ◌≤◌, ◌++◌, length, take, drop, slice_set, [], ◌∷◌, IfNone, IfSome, OnOk, OnErr};
+    ghost use Rattle.std.specs.Prelude.{◌≡◌, ◌<◌, ◌≤◌, ◌++◌, Bool, true, length, take, drop, slice_set, [], ◌∷◌, IfNone, IfSome, OnOk, OnErr};
     ghost use Rattle.std.specs.List.{insert};
+    ghost use Rattle.std.specs.List.Sorted.{IsPartitionedBy};
+    ghost use Rattle.std.specs.Fn.{ComputesKey};
+    ghost use Rattle.block_list.specs.Blocks.{IsReplaced};
 
     /// Puts an element before element `i`, or behind the last.
     ///
@@ -105,6 +122,44 @@ impl<T: Drop> BlockList<T> {
             return Err(AllocError);
         }
         insert_at(&mut self.blocks, i, item)?;
+        self.len += 1;
+        Ok(())
+    }
+
+    /// Puts an element in the place of those that fail the first test and pass the second, or where they would stand.
+    ///
+    /// The list is one where those that pass a test stand before those that fail it, and what passes the first test
+    /// passes the second. Where there is none to replace, this counts no blocks. The only error is want of memory, also
+    /// for a list of `usize::MAX` elements. It leaves the list as it was.
+    pub fn replace_between<P: Fn(&T) -> bool, Q: Fn(&T) -> bool>(
+        &mut self,
+        before: P,
+        through: Q,
+        item: T,
+    ) -> Result<(), AllocError>
+        requires before { P.IsAlwaysCallable before }
+        requires through { Q.IsAlwaysCallable through }
+        ensures ok { OnOk result ((p q : T → Bool) → ComputesKey P.FnMut p before → ComputesKey Q.FnMut q through → IsPartitionedBy p self.old → IsPartitionedBy q self.old → ((y : T) → p y ≡ true → q y ≡ true) → IsReplaced p q self.old item self.new) }
+        ensures err { OnErr result (self.new ≡ self.old) }
+    {
+        if self.blocks.is_empty() {
+            self.insert(0, item)?;
+            return Ok(());
+        }
+        let (block, place) = spot_of(&self.blocks, before);
+        if passes_behind(&self.blocks, block, place, &through) {
+            let from = index_of(&self.blocks, block, place);
+            let to = first_failing(&self.blocks, through);
+            self.set(from, item);
+            if from < to {
+                self.remove_range(from + 1, to);
+            }
+            return Ok(());
+        }
+        if self.len == usize::MAX {
+            return Err(AllocError);
+        }
+        insert_in(&mut self.blocks, block, place, item)?;
         self.len += 1;
         Ok(())
     }

@@ -1,12 +1,13 @@
 //! The work on the blocks of a list. None of them is empty.
 ghost use Rattle.std.specs.Prelude.{◌≡◌, ◌+◌, ◌<◌, ◌≤◌, [], ◌∷◌, ◌++◌, length, take, drop, slice_set, OnOk, OnErr, IfNone, IfSome};
 ghost use Rattle.std.specs.List.{insert};
-ghost use Rattle.block_list.specs.Blocks.{joined, AreFilled, IsPlace, IsElement};
+ghost use Rattle.block_list.specs.Blocks.{joined, AreFilled, start_of, IsPlace, IsElement};
 
 use std::alloc::AllocError;
 
-/// A block that has so many elements after an insertion is cut in two.
-const LONG: usize = 512;
+/// A block that has so many elements after an insertion is cut in two. An insertion moves the elements behind it in its
+/// block, and a cut the blocks behind it: at 100,000 elements this is about where both together cost least.
+const LONG: usize = 128;
 
 /// Where element `i` stands: its block, and its place there.
 pub fn element_at<T>(blocks: &[Vec<T>], i: usize) -> (usize, usize)
@@ -79,6 +80,23 @@ pub fn insert_at<T: Drop>(blocks: &mut Vec<Vec<T>>, i: usize, item: T) -> Result
         return Ok(());
     }
     let (block, place) = place_of(blocks, i);
+    insert_in(blocks, block, place, item)?;
+    Ok(())
+}
+
+/// Puts an element before a place in a block, or behind its last. An error leaves the list as it was.
+pub fn insert_in<T: Drop>(
+    blocks: &mut Vec<Vec<T>>,
+    block: usize,
+    place: usize,
+    item: T,
+) -> Result<(), AllocError>
+    requires filled { AreFilled blocks.old.items }
+    requires place { IsPlace blocks.old.items (start_of blocks.old.items block + place) block place }
+    ensures ok { OnOk result (joined blocks.new.items ≡ insert (joined blocks.old.items) (start_of blocks.old.items block + place) item) }
+    ensures err { OnErr result (joined blocks.new.items ≡ joined blocks.old.items) }
+    ensures filled { AreFilled blocks.new.items }
+{
     blocks[block].insert(place, item)?;
     cut_long(blocks, block, place);
     Ok(())

@@ -1,8 +1,9 @@
 //! The binary search over the blocks of a list.
-ghost use Rattle.std.specs.Prelude.{◌≡◌, ◌^◌, ◌<◌, ◌≤◌, Bool, true, false, length};
+ghost use Rattle.std.specs.Prelude.{◌≡◌, ◌+◌, ◌^◌, ◌<◌, ◌≤◌, Bool, true, false, length, slice_get, Some};
+ghost use Rattle.std.specs.Option.{option_copied};
 ghost use Rattle.std.specs.List.Sorted.{IsPartitionedBy, IsPartitionPoint};
 ghost use Rattle.std.specs.Fn.{ComputesKey};
-ghost use Rattle.block_list.specs.Blocks.{joined, AreFilled, start_of, IsTurn};
+ghost use Rattle.block_list.specs.Blocks.{joined, AreFilled, start_of, IsPlace, IsTurn};
 
 /// How many elements stand before block `block`.
 #[tactic(auto, using(crate::proofs::Joined::start_more))]
@@ -38,6 +39,22 @@ fn turn_of<T, P: Fn(&T) -> bool>(blocks: &[Vec<T>], pred: &P) -> usize
     low
 }
 
+/// Where the first element that fails the test stands, in a list where those that pass stand before it: a block, and a
+/// place there or behind its last. None of the blocks is counted.
+pub fn spot_of<T, P: Fn(&T) -> bool>(blocks: &[Vec<T>], pred: P) -> (usize, usize)
+    requires callable { P.IsAlwaysCallable pred }
+    requires filled { AreFilled blocks.now }
+    requires some { 0 < length blocks.now }
+    ensures place { IsPlace blocks.now (start_of blocks.now result.0 + result.1) result.0 result.1 }
+    ensures partitioned { (p : T → Bool) → ComputesKey P.FnMut p pred → IsPartitionedBy p (joined blocks.now) → IsPartitionPoint (λ y. p y ≡ true) (λ y. p y ≡ false) (joined blocks.now) (start_of blocks.now result.0 + result.1) }
+{
+    let turn = turn_of(blocks, &pred);
+    if turn == 0 {
+        return (0, 0);
+    }
+    (turn - 1, blocks[turn - 1].partition_point(pred))
+}
+
 /// The place of the first element that fails the test, in a list where those that pass stand before it.
 pub fn first_failing<T, P: Fn(&T) -> bool>(blocks: &[Vec<T>], pred: P) -> usize
     requires callable { P.IsAlwaysCallable pred }
@@ -46,9 +63,54 @@ pub fn first_failing<T, P: Fn(&T) -> bool>(blocks: &[Vec<T>], pred: P) -> usize
     ensures bound { result ≤ length (joined blocks.now) }
     ensures partitioned { (p : T → Bool) → ComputesKey P.FnMut p pred → IsPartitionedBy p (joined blocks.now) → IsPartitionPoint (λ y. p y ≡ true) (λ y. p y ≡ false) (joined blocks.now) result }
 {
-    let turn = turn_of(blocks, &pred);
-    if turn == 0 {
+    if blocks.is_empty() {
         return 0;
     }
-    count_before(blocks, turn - 1) + blocks[turn - 1].partition_point(pred)
+    let (block, place) = spot_of(blocks, pred);
+    index_of(blocks, block, place)
+}
+
+/// The place in the list of a place in a block.
+pub fn index_of<T>(blocks: &[Vec<T>], block: usize, place: usize) -> usize
+    requires place { IsPlace blocks.now (start_of blocks.now block + place) block place }
+    requires fits { length (joined blocks.now) < 2 ^ 64 }
+    ensures value { result ≡ start_of blocks.now block + place }
+    ensures bound { result ≤ length (joined blocks.now) }
+{
+    count_before(blocks, block) + place
+}
+
+/// The element at a place in a block, or behind its last the first of the next one.
+fn element_behind<T>(blocks: &[Vec<T>], block: usize, place: usize) -> Option<&T>
+    requires filled { AreFilled blocks.now }
+    requires place { IsPlace blocks.now (start_of blocks.now block + place) block place }
+    ensures { option_copied result ≡ slice_get (joined blocks.now) (start_of blocks.now block + place) }
+{
+    let here = &blocks[block];
+    if place < here.len() {
+        return Some(&here[place]);
+    }
+    if block + 1 < blocks.len() {
+        return Some(&blocks[block + 1][0]);
+    }
+    None
+}
+
+/// Whether there is an element behind a place in a block, and it passes the test.
+pub fn passes_behind<T, P: Fn(&T) -> bool>(
+    blocks: &[Vec<T>],
+    block: usize,
+    place: usize,
+    pred: &P,
+) -> bool
+    requires callable { P.IsAlwaysCallable pred.now }
+    requires filled { AreFilled blocks.now }
+    requires place { IsPlace blocks.now (start_of blocks.now block + place) block place }
+    ensures some { result ≡ true → start_of blocks.now block + place < length (joined blocks.now) }
+    ensures passes { (p : T → Bool) → ComputesKey P.FnMut p pred.now → (x : T) → slice_get (joined blocks.now) (start_of blocks.now block + place) ≡ Some x → p x ≡ result }
+{
+    match element_behind(blocks, block, place) {
+        Some(item) => pred(item),
+        None => false,
+    }
 }

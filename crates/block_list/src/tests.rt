@@ -57,10 +57,10 @@ fn counts_without(list: &BlockList<u32>, from: u32, to: u32) -> bool {
 fn a_list_that_grows_at_its_front_is_halved(rt: HostRuntime) -> Result<(), Fail> {
     for (n, wanted) in [
         (0, (0, 0)),
-        (511, (1, 511)),
-        (512, (2, 256)),
-        (513, (2, 257)),
-        (768, (3, 256)),
+        (127, (1, 127)),
+        (128, (2, 64)),
+        (129, (2, 65)),
+        (192, (3, 64)),
     ] {
         let list = falling(rt.alloc(), n)?;
         assert_eq!(rt; list.len(), n as usize);
@@ -72,11 +72,11 @@ fn a_list_that_grows_at_its_front_is_halved(rt: HostRuntime) -> Result<(), Fail>
 
 #[test]
 fn a_list_that_grows_at_its_end_has_full_blocks(rt: HostRuntime) -> Result<(), Fail> {
-    for (n, wanted) in [(511, 1), (512, 2), (1_022, 2), (1_023, 3)] {
+    for (n, wanted) in [(127, 1), (128, 2), (254, 2), (255, 3)] {
         let list = rising(rt.alloc(), n)?;
         assert_eq!(rt; list.len(), n as usize);
         assert!(rt; counts_without(&list, 0, 0), "of {n}");
-        assert_eq!(rt; shape(&list), (wanted, 511), "of {n}");
+        assert_eq!(rt; shape(&list), (wanted, 127), "of {n}");
     }
     Ok(())
 }
@@ -84,19 +84,19 @@ fn a_list_that_grows_at_its_end_has_full_blocks(rt: HostRuntime) -> Result<(), F
 #[test]
 fn ranges_are_removed_over_blocks(rt: HostRuntime) -> Result<(), Fail> {
     for (from, to, wanted) in [
-        (5, 5, (3, 511)),
-        (0, 1, (3, 510)),
-        (510, 512, (3, 510)),
-        (100, 1_050, (2, 100)),
-        (0, 511, (2, 511)),
-        (511, 1_022, (2, 511)),
-        (511, 1_100, (1, 511)),
-        (0, 1_100, (0, 0)),
+        (5, 5, (3, 127)),
+        (0, 1, (3, 126)),
+        (126, 128, (3, 126)),
+        (100, 260, (2, 100)),
+        (0, 127, (2, 127)),
+        (127, 254, (2, 127)),
+        (127, 275, (1, 127)),
+        (0, 275, (0, 0)),
     ] {
-        let mut list = rising(rt.alloc(), 1_100)?;
-        assert!(rt; from <= to && to <= 1_100 && list.len() == 1_100);
+        let mut list = rising(rt.alloc(), 275)?;
+        assert!(rt; from <= to && to <= 275 && list.len() == 275);
         list.remove_range(from as usize, to as usize);
-        assert_eq!(rt; list.len(), (1_100 - (to - from)) as usize);
+        assert_eq!(rt; list.len(), (275 - (to - from)) as usize);
         assert!(rt; counts_without(&list, from, to), "{from} to {to}");
         assert_eq!(rt; shape(&list), wanted, "{from} to {to}");
     }
@@ -105,15 +105,15 @@ fn ranges_are_removed_over_blocks(rt: HostRuntime) -> Result<(), Fail> {
 
 #[test]
 fn a_list_shrinks_through_the_block_length(rt: HostRuntime) -> Result<(), Fail> {
-    let mut list = rising(rt.alloc(), 513)?;
-    for (left, wanted) in [(512, (2, 510)), (511, (2, 509)), (2, (1, 2)), (1, (1, 1))] {
+    let mut list = rising(rt.alloc(), 129)?;
+    for (left, wanted) in [(128, (2, 126)), (127, (2, 125)), (2, (1, 2)), (1, (1, 1))] {
         for _ in left..list.len() {
             assert!(rt; !list.is_empty());
             list.remove_range(0, 1);
         }
         assert_eq!(rt; shape(&list), wanted, "{left} left");
     }
-    assert_eq!(rt; list.pop(), Some(512));
+    assert_eq!(rt; list.pop(), Some(128));
     assert!(rt; list.pop().is_none() && list.is_empty());
     Ok(())
 }
@@ -146,21 +146,47 @@ fn a_list_from_a_room_changes_like_another(rt: HostRuntime) -> Result<(), Fail> 
         list.insert(i as usize, i)?;
     }
     assert!(rt; counts_without(&list, 0, 0));
-    assert_eq!(rt; shape(&list), (4, 256));
+    assert_eq!(rt; shape(&list), (12, 100));
     Ok(())
 }
 
 #[test]
 fn places_are_found_in_each_block(rt: HostRuntime) -> Result<(), Fail> {
-    let mut list = rising(rt.alloc(), 1_100)?;
-    assert_eq!(rt; list.len(), 1_100);
-    for i in [0, 510, 511, 512, 1_021, 1_022, 1_099] {
+    let mut list = rising(rt.alloc(), 275)?;
+    assert_eq!(rt; list.len(), 275);
+    for i in [0, 126, 127, 128, 253, 254, 274] {
         assert!(rt; i < list.len());
         assert_eq!(rt; *list.get(i) as usize, i);
         assert_eq!(rt; list.partition_point(|item| (*item as usize) < i), i);
     }
-    assert_eq!(rt; list.partition_point(|_| true), 1_100);
-    list.set(511, 7);
-    assert_eq!(rt; *list.get(511), 7);
+    assert_eq!(rt; list.partition_point(|_| true), 275);
+    list.set(127, 7);
+    assert_eq!(rt; *list.get(127), 7);
+    Ok(())
+}
+
+#[test]
+fn an_element_takes_the_place_of_those_between(rt: HostRuntime) -> Result<(), Fail> {
+    for (from, to, len) in [
+        (0, 0, 276),
+        (127, 127, 276),
+        (275, 275, 276),
+        (0, 1, 275),
+        (126, 128, 274),
+        (127, 128, 275),
+        (0, 275, 1),
+    ] {
+        let mut list = rising(rt.alloc(), 275)?;
+        assert_eq!(rt;
+            list.any_between(|item| *item < from, |item| *item < to),
+            from < to
+        );
+        list.replace_between(|item| *item < from, |item| *item < to, 1_000)?;
+        assert!(rt;
+            list.len() == len && (from as usize) < list.len(),
+            "{from} to {to}"
+        );
+        assert_eq!(rt; *list.get(from as usize), 1_000, "{from} to {to}");
+    }
     Ok(())
 }

@@ -4,3 +4,4 @@ pub mod Found
 pub mod Shown
 pub mod Holding
 pub mod OwnLemmas
+pub mod Replacing

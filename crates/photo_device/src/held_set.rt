@@ -96,13 +96,12 @@ impl HeldSet {
         ensures ok { OnOk result (self.new ≡ replaced held self.old) }
         ensures err { OnErr result (self.new ≡ self.old) }
     {
-        let (from, to) = range_of(&self.items, held.picture);
-        if from == to {
-            self.items.insert(from, held)?;
-        } else {
-            self.items.set(from, held);
-            self.items.remove_range(from + 1, to);
-        }
+        let picture = held.picture;
+        self.items.replace_between(
+            |other| other.picture < picture,
+            |other| other.picture <= picture,
+            held,
+        )?;
         Ok(())
     }
 
@@ -110,6 +109,9 @@ impl HeldSet {
     pub(crate) fn drop_picture(&mut self, picture: PicNo)
         ensures { self.new ≡ held_of_others picture self.old }
     {
+        if !self.has_picture(picture) {
+            return;
+        }
         let (from, to) = range_of(&self.items, picture);
         self.items.remove_range(from, to);
     }
@@ -118,8 +120,10 @@ impl HeldSet {
     pub(crate) fn has_picture(&self, picture: PicNo) -> bool
         ensures { result ≡ has_picture picture self.now }
     {
-        let (from, to) = range_of(&self.items, picture);
-        from < to
+        self.items.any_between(
+            |held| held.picture < picture,
+            |held| held.picture <= picture,
+        )
     }
 }
 

@@ -1,0 +1,153 @@
+-- One element in the place of those between the turns of two tests.
+use Rattle.std.proofs.Common.{◌≡◌, ℕ, zero, suc, ◌+◌, ◌<◌, ◌≤◌, Bool, true, false, List, [], ◌∷◌, ◌++◌, length, get_or, take, drop, Vec, Some, None, slice_get, refl, subst, sym, ap, ◌∙◌, inl, inr, arith}
+use Rattle.std.specs.List.{insert}
+use Rattle.std.specs.List.Sorted.{IsPartitionedBy, IsPartitionPoint}
+use Rattle.std.specs.declared.alloc.Global.{Global}
+use Rattle.std.proofs.lemmas.Bool.{cases_Bool, cases_lt, lt-ltb, le-ltb, false≢true}
+use Rattle.std.proofs.lemmas.List.{get_or_default, take_all}
+use Rattle.std.proofs.lemmas.Option.{slice_get-get_or, slice_get_past}
+use Rattle.block_list.specs.Blocks.{joined, AreFilled, start_of, IsPlace, IsReplaced, TellsBetween}
+use Rattle.block_list.proofs.Joined.{start_more, start_within, read_at}
+
+module _ {T : Type 0} where
+  -- what stands behind a place in a block
+
+  pub behind_here : (blocks : List (Vec T Global)) (b k : ℕ) (v : Vec T Global) (x : T) → b < length blocks → v ≡ get_or blocks b v → k < length v.items → x ≡ get_or v.items k x → Some x ≡ slice_get (joined blocks) (start_of blocks b + k)
+  behind_here blocks b k v x inside is within item =
+      sym (read_at blocks (start_of blocks b + k) b k v x (record {
+        block = inside;
+        start = refl;
+        within = λ d. omega (arith, ap (λ (w : Vec T Global). length w.items) (get_or_default blocks b d v inside ∙ sym is));
+      }) is item)
+
+  pub behind_next : (blocks : List (Vec T Global)) (b k : ℕ) (v w : Vec T Global) (x : T) → IsPlace blocks (start_of blocks b + k) b k → v ≡ get_or blocks b v → length v.items ≤ k → b + 1 < length blocks → w ≡ get_or blocks (b + 1) w → AreFilled blocks → x ≡ get_or w.items 0 x → Some x ≡ slice_get (joined blocks) (start_of blocks b + k)
+  behind_next blocks b k v w x place is all inside next filled item =
+      let within = place.within v in
+      let end : k ≡ length (get_or blocks b v).items = omega (arith, ap (λ (w : Vec T Global). length w.items) is) in
+      let at : start_of blocks (b + 1) + 0 ≡ start_of blocks b + k = omega (arith, (start_more blocks b v place.block).0) in
+      behind_here blocks (b + 1) 0 w x inside next (subst (λ (w : Vec T Global). 0 < length w.items) (sym next) (filled (b + 1) w inside)) item ∙ ap (λ n. slice_get (joined blocks) n) at
+
+  pub behind_last : (blocks : List (Vec T Global)) (b k : ℕ) (v : Vec T Global) → IsPlace blocks (start_of blocks b + k) b k → v ≡ get_or blocks b v → length v.items ≤ k → length blocks ≤ b + 1 → None ≡ slice_get (joined blocks) (start_of blocks b + k)
+  behind_last blocks b k v place is all last =
+      let more = (start_more blocks b v place.block).0 in
+      let items : length v.items ≡ length (get_or blocks b v).items = ap (λ (w : Vec T Global). length w.items) is in
+      let whole : start_of blocks (b + 1) ≡ length (joined blocks) = ap (λ l. length (joined l)) (take_all (b + 1) blocks last) in
+      sym (slice_get_past (joined blocks) (start_of blocks b + k) (omega arith))
+
+  -- what a test answers of an element that is known
+  pub answer_at : (p : T → Bool) (a x : T) (answer : Bool) → Some a ≡ Some x → answer ≡ p a → p x ≡ answer
+  answer_at p a x answer e is = cc
+
+  -- the element there is not to be replaced
+
+  last_at : (p q : T → Bool) (old : List T) (i : ℕ) → IsPartitionPoint (λ y. p y ≡ true) (λ y. p y ≡ false) old i → IsPartitionedBy q old → ((y : T) → p y ≡ true → q y ≡ true) → ((y : T) → slice_get old i ≡ Some y → q y ≡ false) → IsPartitionPoint (λ y. q y ≡ true) (λ y. q y ≡ false) old i
+  last_at p q old i point parts wider fails = (
+    λ j d z l. wider _ (point.0 j d z l),
+    λ j d l u. elim (cases_Bool (q (get_or old j d))) [
+      | inl passes ↦ absurd (false≢true (sym (fails _ (slice_get-get_or old i d (omega arith))) ∙ parts i j d l u passes))
+      | inr fail ↦ fail
+    ],
+  )
+
+  pub put_alone : (p q : T → Bool) (old new : List T) (blocks at behind : List (Vec T Global)) (b k : ℕ) (x : T) (found : Bool) → at ≡ blocks → behind ≡ blocks → joined blocks ≡ old → IsPlace at (start_of at b + k) b k → (IsPartitionedBy p (joined at) → IsPartitionPoint (λ y. p y ≡ true) (λ y. p y ≡ false) (joined at) (start_of at b + k)) → ((y : T) → slice_get (joined behind) (start_of behind b + k) ≡ Some y → q y ≡ found) → found ≡ false → IsPartitionedBy p old → IsPartitionedBy q old → ((y : T) → p y ≡ true → q y ≡ true) → new ≡ insert (joined blocks) (start_of blocks b + k) x → IsReplaced p q old x new
+  put_alone p q old new blocks at behind b k x found at_is behind_is old_is place first passes not_found parts_p parts_q wider is =
+      let point = (rw old_is at (rw at_is at first)) parts_p in
+      let fails : (y : T) → slice_get old (start_of blocks b + k) ≡ Some y → q y ≡ false = λ y e. (rw old_is at (rw behind_is at passes)) y e ∙ not_found in
+      record {
+        from = start_of blocks b + k;
+        to = start_of blocks b + k;
+        between = record {
+          order = omega arith;
+          within = rw old_is at (start_within blocks b k (rw at_is at place));
+          first = point;
+          last = last_at p q old (start_of blocks b + k) point parts_q wider fails;
+        };
+        list = rw old_is at is;
+      }
+
+  -- the element there is one of those that are to be replaced
+
+  some_between : (q : T → Bool) (old : List T) (from to : ℕ) (x : T) → from < length old → IsPartitionPoint (λ y. q y ≡ true) (λ y. q y ≡ false) old to → ((y : T) → slice_get old from ≡ Some y → q y ≡ true) → from < to
+  some_between q old from to x inside last passes = elim (cases_lt from to) [
+    | inl less ↦ less
+    | inr back ↦ absurd (false≢true (sym (last.1 from x back inside) ∙ passes _ (slice_get-get_or old from x inside)))
+  ]
+
+  pub put_over : (p q : T → Bool) (old new : List T) (blocks at behind counted searched : List (Vec T Global)) (b k from to : ℕ) (x : T) (found : Bool) → at ≡ blocks → behind ≡ blocks → counted ≡ blocks → searched ≡ blocks → joined blocks ≡ old → (IsPartitionedBy p (joined at) → IsPartitionPoint (λ y. p y ≡ true) (λ y. p y ≡ false) (joined at) (start_of at b + k)) → ((y : T) → slice_get (joined behind) (start_of behind b + k) ≡ Some y → q y ≡ found) → (found ≡ true → start_of behind b + k < length (joined behind)) → found ≡ true → from ≡ start_of counted b + k → (IsPartitionedBy q (joined searched) → IsPartitionPoint (λ y. q y ≡ true) (λ y. q y ≡ false) (joined searched) to) → to ≤ length (joined searched) → IsPartitionedBy p old → IsPartitionedBy q old → (from < to → new ≡ take from old ++ x ∷ drop to old) → IsReplaced p q old x new
+  put_over p q old new blocks at behind counted searched b k from to x found at_is behind_is counted_is searched_is old_is first passes some is_found from_is last within parts_p parts_q is =
+      let start : start_of blocks b + k ≡ from = sym (rw counted_is at from_is) in
+      let point = (rw start at (rw old_is at (rw at_is at first))) parts_p in
+      let last_point = (rw old_is at (rw searched_is at last)) parts_q in
+      let inside = (rw start at (rw old_is at (rw behind_is at some))) is_found in
+      let passed : (y : T) → slice_get old from ≡ Some y → q y ≡ true = λ y e. (rw start at (rw old_is at (rw behind_is at passes))) y e ∙ is_found in
+      let less = some_between q old from to x inside last_point passed in
+      record {
+        from = from;
+        to = to;
+        between = record {
+          order = omega arith;
+          within = rw old_is at (rw searched_is at within);
+          first = point;
+          last = last_point;
+        };
+        list = is less;
+      }
+
+  -- whether there is one
+
+  -- where a test turns, there is a place for that
+  point_of : (q : T → Bool) (xs : List T) → IsPartitionedBy q xs → (n : ℕ) × (n ≤ length xs) × IsPartitionPoint (λ y. q y ≡ true) (λ y. q y ≡ false) xs n
+  point_of q [] parts = (0, omega arith, (λ j d z l. absurd (omega arith), λ j d l u. absurd (omega arith)))
+  point_of q (x ∷ xs) parts = elim (cases_Bool (q x)) [
+    | inl passes ↦ further passes (point_of q xs (λ i j d l u. parts (suc i) (suc j) d (omega arith) (omega arith)))
+    | inr fails ↦ (0, omega arith, (λ j d z l. absurd (omega arith), λ j d l u. fails_from fails j d u))
+  ]
+    where
+      fails_from : q x ≡ false → (j : ℕ) (d : T) → j < length (x ∷ xs) → q (get_or (x ∷ xs) j d) ≡ false
+      fails_from fails j d u = elim (cases_Bool (q (get_or (x ∷ xs) j d))) [
+        | inl later ↦ absurd (false≢true (sym fails ∙ parts 0 j d (omega arith) u later))
+        | inr fail ↦ fail
+      ]
+
+      further : q x ≡ true → (n : ℕ) × (n ≤ length xs) × IsPartitionPoint (λ y. q y ≡ true) (λ y. q y ≡ false) xs n → (n : ℕ) × (n ≤ length (x ∷ xs)) × IsPartitionPoint (λ y. q y ≡ true) (λ y. q y ≡ false) (x ∷ xs) n
+      further passes (n, within, point) = (suc n, omega arith, (below, above))
+        where
+          below : (j : ℕ) (d : T) → 0 ≤ j → j < suc n → q (get_or (x ∷ xs) j d) ≡ true
+          below zero d z l = passes
+          below (suc j) d z l = point.0 j d (omega arith) (omega arith)
+
+          above : (j : ℕ) (d : T) → suc n ≤ j → j < length (x ∷ xs) → q (get_or (x ∷ xs) j d) ≡ false
+          above zero d l u = absurd (omega arith)
+          above (suc j) d l u = point.1 j d (omega arith) (omega arith)
+
+  tells : (p q : T → Bool) (xs : List T) (i : ℕ) (found : Bool) → i ≤ length xs → IsPartitionPoint (λ y. p y ≡ true) (λ y. p y ≡ false) xs i → IsPartitionedBy q xs → ((y : T) → p y ≡ true → q y ≡ true) → ((y : T) → slice_get xs i ≡ Some y → q y ≡ found) → (found ≡ true → i < length xs) → TellsBetween p q xs found
+  tells p q [] i found within point parts wider passes some = elim (cases_Bool found) [
+    | inl yes_found ↦ let inside = some yes_found in absurd (omega arith)
+    | inr no_found ↦ record {
+      from = i;
+      to = i;
+      between = record { order = omega arith; within = within; first = point; last = last_at p q [] i point parts wider (λ y e. passes y e ∙ no_found) };
+      answer_is = no_found ∙ sym (le-ltb i i (omega arith));
+    }
+  ]
+  tells p q (x ∷ xs) i found within point parts wider passes some = elim (cases_Bool found) [
+    | inl yes_found ↦
+        let turn = point_of q (x ∷ xs) parts in
+        let less = some_between q (x ∷ xs) i turn.0 x (some yes_found) turn.2 (λ y e. passes y e ∙ yes_found) in
+        record {
+          from = i;
+          to = turn.0;
+          between = record { order = omega arith; within = turn.1; first = point; last = turn.2 };
+          answer_is = yes_found ∙ sym (lt-ltb i turn.0 less);
+        }
+    | inr no_found ↦ record {
+      from = i;
+      to = i;
+      between = record { order = omega arith; within = within; first = point; last = last_at p q (x ∷ xs) i point parts wider (λ y e. passes y e ∙ no_found) };
+      answer_is = no_found ∙ sym (le-ltb i i (omega arith));
+    }
+  ]
+
+  pub tells_in_blocks : (p q : T → Bool) (xs : List T) (blocks at behind : List (Vec T Global)) (b k : ℕ) (found : Bool) → at ≡ blocks → behind ≡ blocks → joined blocks ≡ xs → IsPlace at (start_of at b + k) b k → (IsPartitionedBy p (joined at) → IsPartitionPoint (λ y. p y ≡ true) (λ y. p y ≡ false) (joined at) (start_of at b + k)) → ((y : T) → slice_get (joined behind) (start_of behind b + k) ≡ Some y → q y ≡ found) → (found ≡ true → start_of behind b + k < length (joined behind)) → IsPartitionedBy p xs → IsPartitionedBy q xs → ((y : T) → p y ≡ true → q y ≡ true) → TellsBetween p q xs found
+  tells_in_blocks p q xs blocks at behind b k found at_is behind_is xs_is place first passes some parts_p parts_q wider =
+      tells p q xs (start_of blocks b + k) found (rw xs_is at (start_within blocks b k (rw at_is at place))) ((rw xs_is at (rw at_is at first)) parts_p) parts_q wider (rw xs_is at (rw behind_is at passes)) (rw xs_is at (rw behind_is at some))

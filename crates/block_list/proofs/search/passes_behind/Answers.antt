@@ -1,0 +1,9 @@
+use Rattle.std.proofs.Common.{◌∷◌, [], ◌∙◌}
+use Rattle.block_list.proofs.Replaced.{answer_at}
+use Rattle.block_list.proofs.search.passes_behind.Goals as goal
+
+pub returns-in-Some-clause-passes : goal.returns-in-Some-clause-passes
+returns-in-Some-clause-passes g c = λ p h x at.
+    let w = (g.met.P.FnMut.1.post_iff _ _ _).0 c.pred.ensures in
+    let answer = (h.at ((c.in-Some.item, tt) ∷ []) _ _ w.1).0 in
+    answer_at p c.in-Some.item.now x c.pred.result (c.in-Some.ensures ∙ at) answer
