@@ -1,10 +1,12 @@
 mod changes;
 
-use crate::{Device, HeldList, HeldSet, Place};
+use crate::{Device, Held, HeldList, HeldSet, Place};
 use photo_filter_rules::Filter;
 use photo_record::{Day, PicNo, Rating, Record, Words};
 use photo_version::{Author, Version};
 use std::alloc::Global;
+
+// A value that is owned has its own function here, with no `?` behind it and no `rt` beside it: so its proof is short.
 
 /// A new device, by its number and its filter's text.
 fn opened(alloc: Global, author: u16, text: &str) -> Option<Device> {
@@ -36,13 +38,14 @@ fn made(alloc: Global, device: &mut Device, number: u32, rating: u8) -> Option<(
     made_of(device, number, &content)
 }
 
-/// A device with that filter that has made versions of those pictures with those ratings.
-fn with_pictures(alloc: Global, author: u16, text: &str, pictures: &[(u32, u8)]) -> Option<Device> {
-    let mut device = opened(alloc, author, text)?;
+/// Makes versions of those pictures with those ratings.
+fn made_all(alloc: Global, device: &mut Device, pictures: &[(u32, u8)]) -> bool {
     for (number, rating) in pictures {
-        made(alloc, &mut device, *number, *rating)?;
+        if made(alloc, device, *number, *rating).is_none() {
+            return false;
+        }
     }
-    Some(device)
+    true
 }
 
 /// Whether a set has just the versions with those pictures and those numbers of their author.
@@ -52,188 +55,270 @@ fn lists(set: &HeldSet, wanted: &[(u32, u32)]) -> bool {
     }
     for i in 0..set.len() {
         let held = set.get(i);
-        if (held.picture.value(), held.version.n()) != wanted[i] {
+        if held.picture.value() != wanted[i].0 || held.version.n() != wanted[i].1 {
             return false;
         }
     }
     true
 }
 
-/// Whether a device holds its version of that number.
-fn has(device: &Device, n: u32) -> bool {
-    match Version::new(device.author(), n) {
-        Some(version) => device.held(version).is_some(),
+/// What a device holds of its version of that number.
+fn held(device: &Device, n: u32) -> Option<&Held> {
+    device.held(Version::new(device.author(), n)?)
+}
+
+/// Whether a device holds its version of that number, of that picture and with that record.
+fn has(device: &Device, n: u32, number: u32, content: &Record) -> bool {
+    match held(device, n) {
+        Some(held) => held.picture.value() == number && held.content == *content,
         None => false,
     }
 }
 
 /// Whether a device holds its version of that number, of that picture and with that rating.
-fn has_rated(alloc: Global, device: &Device, n: u32, number: u32, rating: u8) -> Option<bool> {
-    let content = rated(alloc, rating)?;
-    let held = device.held(Version::new(device.author(), n)?)?;
-    Some(held.picture.value() == number && held.content == content)
+fn has_rated(alloc: Global, device: &Device, n: u32, number: u32, rating: u8) -> bool {
+    match rated(alloc, rating) {
+        Some(content) => has(device, n, number, &content),
+        None => false,
+    }
 }
 
-/// Whether the device's next version of a picture has that number, goes to that place and is then held with its rating.
-fn makes(
-    alloc: Global,
-    device: &mut Device,
-    n: u32,
-    (number, rating, place): (u32, u8, Place),
-) -> Option<bool> {
-    let made = made(alloc, device, number, rating)?;
-    Some(
-        made == (Version::new(device.author(), n)?, place)
-            && device.counter() == n
-            && has_rated(alloc, device, n, number, rating)?,
-    )
+/// A version that is to be made: its number, its picture, its rating and its place.
+type Step = (u32, u32, u8, Place);
+
+/// Whether the device's next version of a picture is as the step says, and is then held with its rating.
+fn makes(alloc: Global, device: &mut Device, step: Step) -> bool {
+    let (n, number, rating, place) = step;
+    match made(alloc, device, number, rating) {
+        Some((version, to)) => {
+            Version::new(device.author(), n) == Some(version)
+                && to == place
+                && device.counter() == n
+                && has_rated(alloc, device, n, number, rating)
+        }
+        None => false,
+    }
 }
 
-fn matches(alloc: Global, device: &Device, rating: u8) -> Option<bool> {
+/// Whether the device makes those versions one after another.
+fn makes_all(alloc: Global, device: &mut Device, steps: &[Step]) -> bool {
+    for step in steps {
+        if !makes(alloc, device, *step) {
+            return false;
+        }
+    }
+    true
+}
+
+/// Whether the device's filter matches a record of that rating.
+fn is_matched(alloc: Global, device: &Device, rating: u8) -> Option<bool> {
     let record = rated(alloc, rating)?;
     Some(device.filter().matches(&record))
 }
 
+fn is_new(device: &Device, author: u16) -> bool {
+    device.author() == Author::new(author)
+        && device.counter() == 0
+        && device.store().is_empty()
+        && device.out().is_empty()
+}
+
+fn opens(alloc: Global) -> bool {
+    match opened(alloc, 2, "rating >= 3") {
+        Some(device) => {
+            is_new(&device, 2)
+                && is_matched(alloc, &device, 2) == Some(false)
+                && is_matched(alloc, &device, 3) == Some(true)
+        }
+        None => false,
+    }
+}
+
 #[test]
 fn a_new_device_holds_nothing(rt: HostRuntime) {
-    let device = opened(rt.alloc(), 2, "rating >= 3").expect(&rt, "a device");
-    assert!(rt; device.author() == Author::new(2) && device.counter() == 0);
-    assert!(rt; device.store().is_empty() && device.out().is_empty());
-    assert!(rt; matches(rt.alloc(), &device, 2) == Some(false));
-    assert!(rt; matches(rt.alloc(), &device, 3) == Some(true));
+    assert!(rt; opens(rt.alloc()));
+}
+
+fn numbers_versions(alloc: Global) -> bool {
+    match opened(alloc, 2, "all") {
+        Some(mut device) => {
+            makes_all(
+                alloc,
+                &mut device,
+                &[
+                    (1, 7, 5, Place::Store),
+                    (2, 3, 5, Place::Store),
+                    (3, 999_999_999, 5, Place::Store),
+                    (4, 5, 5, Place::Store),
+                ],
+            ) && device.author() == Author::new(2)
+        }
+        None => false,
+    }
 }
 
 #[test]
 fn versions_are_numbered(rt: HostRuntime) {
-    let mut device = opened(rt.alloc(), 2, "all").expect(&rt, "a device");
-    for (number, n) in [(7, 1), (3, 2), (999_999_999, 3), (5, 4)] {
-        assert!(rt;
-            makes(rt.alloc(), &mut device, n, (number, 5, Place::Store)) == Some(true),
-            "picture {number}"
-        );
-    }
-    assert!(rt; device.author() == Author::new(2));
+    assert!(rt; numbers_versions(rt.alloc()));
 }
 
-/// A device that keeps all, with four versions of four pictures.
-fn of_four_pictures(alloc: Global) -> Option<Device> {
-    with_pictures(alloc, 2, "all", &[(7, 5), (3, 5), (999_999_999, 5), (5, 5)])
+// A device that keeps all, with four versions of four pictures.
+const FOUR_PICTURES: &[(u32, u8)] = &[(7, 5), (3, 5), (999_999_999, 5), (5, 5)];
+
+fn lists_by_picture(alloc: Global) -> bool {
+    match opened(alloc, 2, "all") {
+        Some(mut device) => {
+            made_all(alloc, &mut device, FOUR_PICTURES)
+                && lists(device.store(), &[(3, 2), (5, 4), (7, 1), (999_999_999, 3)])
+                && lists(device.out(), &[])
+        }
+        None => false,
+    }
 }
 
 #[test]
 fn versions_are_listed_by_picture(rt: HostRuntime) {
-    let device = of_four_pictures(rt.alloc()).expect(&rt, "a device");
-    assert!(rt; lists(device.store(), &[(3, 2), (5, 4), (7, 1), (999_999_999, 3)]));
-    assert!(rt; lists(device.out(), &[]));
+    assert!(rt; lists_by_picture(rt.alloc()));
 }
 
-/// Whether a set's list has copies of what it has, in the same order.
-fn is_copied(alloc: Global, set: &HeldSet) -> Option<bool> {
-    let list = set.to_list(alloc).ok()?;
-    if list.len() != set.len() || list.as_slice().len() != set.len() {
-        return Some(false);
+/// Whether a list has what a set has, in the same order.
+fn is_like(list: &HeldList, set: &HeldSet) -> bool {
+    if list.len() != set.len() || list.is_empty() != set.is_empty() {
+        return false;
     }
     for i in 0..set.len() {
-        if list.get(i) != set.get(i) || list.as_slice()[i] != *set.get(i) {
-            return Some(false);
+        if list.get(i) != set.get(i) {
+            return false;
         }
     }
-    Some(list.is_empty() == set.is_empty())
+    true
+}
+
+/// Whether a set's list has that many copies of what it has, also as a list that is made of its vector.
+fn is_copied(alloc: Global, set: &HeldSet, length: usize) -> bool {
+    match set.to_list(alloc) {
+        Ok(list) => {
+            let is_copy = list.as_slice().len() == length && is_like(&list, set);
+            let again = HeldList::new(list.into_vec());
+            is_copy && is_like(&again, set)
+        }
+        Err(_) => false,
+    }
+}
+
+fn copies(alloc: Global) -> bool {
+    match opened(alloc, 2, "all") {
+        Some(mut device) => {
+            made_all(alloc, &mut device, FOUR_PICTURES)
+                && is_copied(alloc, device.store(), 4)
+                && is_copied(alloc, device.out(), 0)
+        }
+        None => false,
+    }
 }
 
 #[test]
 fn a_list_has_copies(rt: HostRuntime) {
-    let device = of_four_pictures(rt.alloc()).expect(&rt, "a device");
-    assert!(rt; device.store().len() == 4);
-    assert!(rt; is_copied(rt.alloc(), device.store()) == Some(true));
-    assert!(rt; is_copied(rt.alloc(), device.out()) == Some(true));
+    assert!(rt; copies(rt.alloc()));
+}
+
+fn replaces(alloc: Global) -> bool {
+    match opened(alloc, 0, "all") {
+        Some(mut device) => {
+            made_all(alloc, &mut device, &[(7, 3), (8, 4), (7, 1)])
+                && lists(device.store(), &[(7, 3), (8, 2)])
+                && device.out().is_empty()
+                && held(&device, 1).is_none()
+                && has_rated(alloc, &device, 3, 7, 1)
+        }
+        None => false,
+    }
 }
 
 #[test]
 fn a_version_takes_the_place_of_the_one_before(rt: HostRuntime) {
-    let device = with_pictures(rt.alloc(), 0, "all", &[(7, 3), (8, 4), (7, 1)]).expect(
-        &rt, "a device",
-    );
-    assert!(rt; lists(device.store(), &[(7, 3), (8, 2)]));
-    assert!(rt; device.out().is_empty() && !has(&device, 1));
-    assert!(rt; has_rated(rt.alloc(), &device, 3, 7, 1) == Some(true));
+    assert!(rt; replaces(rt.alloc()));
+}
+
+fn keeps_what_matches(alloc: Global) -> bool {
+    match opened(alloc, 1, "rating >= 3") {
+        Some(mut device) => {
+            makes_all(
+                alloc,
+                &mut device,
+                &[
+                    (1, 8, 2, Place::Out),
+                    (2, 7, 3, Place::Store),
+                    (3, 6, 0, Place::Out),
+                    (4, 9, 5, Place::Store),
+                ],
+            ) && lists(device.store(), &[(7, 2), (9, 4)])
+                && lists(device.out(), &[(6, 3), (8, 1)])
+        }
+        None => false,
+    }
 }
 
 #[test]
 fn a_version_below_the_filter_goes_to_the_out(rt: HostRuntime) {
-    let mut device = opened(rt.alloc(), 1, "rating >= 3").expect(&rt, "a device");
-    for (n, made) in [
-        (1, (8, 2, Place::Out)),
-        (2, (7, 3, Place::Store)),
-        (3, (6, 0, Place::Out)),
-        (4, (9, 5, Place::Store)),
-    ] {
-        assert!(rt;
-            makes(rt.alloc(), &mut device, n, made) == Some(true),
-            "version {n}"
-        );
-    }
-    assert!(rt; lists(device.store(), &[(7, 2), (9, 4)]));
-    assert!(rt; lists(device.out(), &[(6, 3), (8, 1)]));
+    assert!(rt; keeps_what_matches(rt.alloc()));
 }
 
-/// Whether the next version of picture 7 goes to that place, and is all that is then held.
-fn makes_alone(
-    alloc: Global,
-    device: &mut Device,
-    n: u32,
-    rating: u8,
-    place: Place,
-) -> Option<bool> {
-    let is_made = makes(alloc, device, n, (7, rating, place))?;
+/// Whether the device's next version of a picture is as the step says, and is all that is then held.
+fn makes_alone(alloc: Global, device: &mut Device, step: Step) -> bool {
+    let (n, _, _, place) = step;
     let (stored, waiting) = match place {
         Place::Store => (1, 0),
         Place::Out => (0, 1),
     };
-    let is_alone = device.store().len() == stored && device.out().len() == waiting;
-    Some(is_made && is_alone && !has(device, n.saturating_sub(1)))
+    makes(alloc, device, step)
+        && device.store().len() == stored
+        && device.out().len() == waiting
+        && held(device, n.saturating_sub(1)).is_none()
+}
+
+fn holds_in_one_place(alloc: Global) -> bool {
+    match opened(alloc, 0, "not rating <= 2") {
+        Some(mut device) => {
+            makes_alone(alloc, &mut device, (1, 7, 4, Place::Store))
+                && makes_alone(alloc, &mut device, (2, 7, 1, Place::Out))
+                && makes_alone(alloc, &mut device, (3, 7, 2, Place::Out))
+                && makes_alone(alloc, &mut device, (4, 7, 3, Place::Store))
+                && makes_alone(alloc, &mut device, (5, 7, 5, Place::Store))
+        }
+        None => false,
+    }
 }
 
 #[test]
 fn a_picture_is_held_in_one_place(rt: HostRuntime) {
-    let mut device = opened(rt.alloc(), 0, "not rating <= 2").expect(&rt, "a device");
-    for (n, rating, place) in [
-        (1, 4, Place::Store),
-        (2, 1, Place::Out),
-        (3, 2, Place::Out),
-        (4, 3, Place::Store),
-        (5, 5, Place::Store),
-    ] {
-        assert!(rt;
-            makes_alone(rt.alloc(), &mut device, n, rating, place) == Some(true),
-            "rating {rating}"
-        );
+    assert!(rt; holds_in_one_place(rt.alloc()));
+}
+
+/// Whether a removed picture goes to the device's out, and nowhere else.
+fn removes(device: &mut Device) -> bool {
+    match made_of(device, 7, &Record::Removed) {
+        Some((version, place)) => {
+            place == Place::Out
+                && version.n() == 1
+                && device.store().is_empty()
+                && device.out().len() == 1
+                && has(device, 1, 7, &Record::Removed)
+        }
+        None => false,
     }
 }
 
-/// Whether a removed picture goes to the out of a device with that filter, and nowhere else.
-fn removed_goes_to_the_out(alloc: Global, text: &str) -> Option<bool> {
-    let mut device = opened(alloc, 0, text)?;
-    let (version, place) = made_of(&mut device, 7, &Record::Removed)?;
-    let is_removed = device.held(version)?.content == Record::Removed;
-    Some(is_removed && place == Place::Out && device.store().is_empty() && device.out().len() == 1)
+fn removes_under(alloc: Global, text: &str) -> bool {
+    match opened(alloc, 0, text) {
+        Some(mut device) => removes(&mut device),
+        None => false,
+    }
 }
 
 #[test]
 fn a_removed_picture_goes_to_the_out(rt: HostRuntime) {
     for text in ["all", "not none", "not all", "rating >= 0"] {
-        assert!(rt;
-            removed_goes_to_the_out(rt.alloc(), text) == Some(true),
-            "{text}"
-        );
+        assert!(rt; removes_under(rt.alloc(), text), "{text}");
     }
-}
-
-#[test]
-fn lists_are_made_from_vectors(rt: HostRuntime) {
-    let device = with_pictures(rt.alloc(), 0, "all", &[(7, 5)]).expect(&rt, "a device");
-    let list = device.store().to_list(rt.alloc()).expect(&rt, "a list");
-    let again = HeldList::new(list.into_vec());
-    assert!(rt; !again.is_empty() && again.as_slice().len() == 1);
-    assert_eq!(rt; again.into_vec().len(), 1);
 }

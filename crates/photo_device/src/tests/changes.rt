@@ -1,6 +1,6 @@
 use super::{made, opened, rated};
 use crate::{ChangeFault, Device, Place};
-use photo_record::PicNo;
+use photo_record::{PicNo, Record};
 use photo_version::Version;
 use std::alloc::Global;
 
@@ -13,80 +13,104 @@ fn told(change: Result<(Version, Place), ChangeFault>) -> Option<Option<(u32, Pl
     }
 }
 
-/// Edits a picture to that rating.
-fn edited(
-    alloc: Global,
-    device: &mut Device,
-    number: u32,
-    rating: u8,
-) -> Option<Option<(u32, Place)>> {
-    let content = rated(alloc, rating)?;
+/// Edits a picture to that record.
+fn edited_to(device: &mut Device, number: u32, content: &Record) -> Option<Option<(u32, Place)>> {
     let picture = PicNo::new(number)?;
     if device.counter() == u32::MAX {
         return None;
     }
-    told(device.edit(picture, &content))
+    told(device.edit(picture, content))
 }
 
-/// Removes a picture.
-fn removed(device: &mut Device, number: u32) -> Option<Option<(u32, Place)>> {
-    let picture = PicNo::new(number)?;
+/// Edits picture 7 to that rating.
+fn edited(alloc: Global, device: &mut Device, rating: u8) -> Option<Option<(u32, Place)>> {
+    let content = rated(alloc, rating)?;
+    edited_to(device, 7, &content)
+}
+
+/// Removes picture 7.
+fn removed(device: &mut Device) -> Option<Option<(u32, Place)>> {
+    let picture = PicNo::new(7)?;
     if device.counter() == u32::MAX {
         return None;
     }
     told(device.remove(picture))
 }
 
-/// A device with that filter that has made a version of that picture, of rating 5.
-fn with_one(alloc: Global, text: &str, number: u32) -> Option<Device> {
-    let mut device = opened(alloc, 0, text)?;
-    made(alloc, &mut device, number, 5)?;
-    Some(device)
+/// Whether an edit of picture 7 to that rating makes the version of that number, in that place.
+fn edits(alloc: Global, device: &mut Device, rating: u8, made: (u32, Place)) -> bool {
+    edited(alloc, device, rating) == Some(Some(made))
+}
+
+/// Whether a removal of picture 7 makes the version of that number, in the out.
+fn removes(device: &mut Device, number: u32) -> bool {
+    removed(device) == Some(Some((number, Place::Out)))
+}
+
+fn edits_to_places(alloc: Global) -> bool {
+    match opened(alloc, 0, "rating >= 2") {
+        Some(mut device) => {
+            made(alloc, &mut device, 7, 5).is_some()
+                && edits(alloc, &mut device, 1, (2, Place::Out))
+                && edits(alloc, &mut device, 0, (3, Place::Out))
+                && edits(alloc, &mut device, 4, (4, Place::Store))
+                && device.store().len() == 1
+                && device.out().is_empty()
+        }
+        None => false,
+    }
 }
 
 #[test]
 fn an_edit_goes_where_its_record_belongs(rt: HostRuntime) {
-    let mut device = with_one(rt.alloc(), "rating >= 2", 7).expect(&rt, "a device");
-    for (rating, number, place) in [
-        (1, 2u32, Place::Out),
-        (0, 3, Place::Out),
-        (4, 4, Place::Store),
-    ] {
-        let change = edited(rt.alloc(), &mut device, 7, rating);
-        assert!(rt; change == Some(Some((number, place))), "version {number}");
+    assert!(rt; edits_to_places(rt.alloc()));
+}
+
+fn removes_twice(alloc: Global) -> bool {
+    match opened(alloc, 0, "all") {
+        Some(mut device) => {
+            made(alloc, &mut device, 7, 5).is_some()
+                && removes(&mut device, 2)
+                && removes(&mut device, 3)
+                && device.store().is_empty()
+                && device.out().len() == 1
+        }
+        None => false,
     }
-    assert!(rt; device.store().len() == 1 && device.out().is_empty());
 }
 
 #[test]
 fn a_removed_version_is_held(rt: HostRuntime) {
-    let mut device = with_one(rt.alloc(), "all", 7).expect(&rt, "a device");
-    for number in [2u32, 3] {
-        let change = removed(&mut device, 7);
-        assert!(rt;
-            change == Some(Some((number, Place::Out))),
-            "version {number}"
-        );
+    assert!(rt; removes_twice(rt.alloc()));
+}
+
+fn leaves_others(alloc: Global) -> bool {
+    match opened(alloc, 0, "all") {
+        Some(mut device) => {
+            made(alloc, &mut device, 8, 5).is_some()
+                && edited(alloc, &mut device, 5) == Some(None)
+                && removed(&mut device) == Some(None)
+                && device.counter() == 1
+                && device.store().len() == 1
+        }
+        None => false,
     }
-    assert!(rt; device.store().is_empty() && device.out().len() == 1);
 }
 
 #[test]
 fn what_is_not_held_stays_so(rt: HostRuntime) {
-    let mut device = with_one(rt.alloc(), "all", 8).expect(&rt, "a device");
-    let edit = edited(rt.alloc(), &mut device, 7, 5);
-    let removal = removed(&mut device, 7);
-    assert!(rt; edit == Some(None) && removal == Some(None));
-    assert!(rt; device.counter() == 1 && device.store().len() == 1);
+    assert!(rt; leaves_others(rt.alloc()));
 }
 
 /// Whether that is the text of a fault.
-fn is_shown(alloc: Global, fault: ChangeFault, wanted: &str) -> Option<bool> {
-    let text = fault.to_string(alloc).ok()?;
-    Some(text.as_str() == wanted)
+fn is_shown(alloc: Global, fault: ChangeFault, wanted: &str) -> bool {
+    match fault.to_string(alloc) {
+        Ok(text) => text.as_str() == wanted,
+        Err(_) => false,
+    }
 }
 
 #[test]
 fn a_refusal_is_shown(rt: HostRuntime) {
-    assert!(rt; is_shown(rt.alloc(), ChangeFault::NotHeld, "C1 NotHeld") == Some(true));
+    assert!(rt; is_shown(rt.alloc(), ChangeFault::NotHeld, "C1 NotHeld"));
 }
