@@ -5,6 +5,7 @@ pub mod TableLemmas
 pub mod MergeLemmas
 pub mod JoinLemmas
 pub mod RowLemmas
+pub mod SpanLemmas
 pub mod AddLemmas
 pub mod GatherLemmas
 pub mod PlaceLemmas

@@ -2,6 +2,7 @@ pub mod Tables
 pub mod Entries
 pub mod Fragments
 pub mod Rows
+pub mod Spans
 pub mod Gathering
 pub mod Places
 pub mod Coding
