@@ -11,6 +11,7 @@ pub mod GatherLemmas
 pub mod PlaceLemmas
 pub mod IndexLemmas
 pub mod UnionLemmas
+pub mod RaiseLemmas
 pub mod SearchLemmas
 pub mod KeptLemmas
 pub mod ToldLemmas

@@ -4,6 +4,7 @@ pub mod Fragments
 pub mod Rows
 pub mod Spans
 pub mod Gathering
+pub mod Raising
 pub mod Places
 pub mod Coding
 pub mod Kept
