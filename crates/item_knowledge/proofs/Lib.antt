@@ -5,11 +5,13 @@ pub mod TableLemmas
 pub mod MergeLemmas
 pub mod JoinLemmas
 pub mod RowLemmas
+pub mod SpanLemmas
 pub mod AddLemmas
 pub mod GatherLemmas
 pub mod PlaceLemmas
 pub mod IndexLemmas
 pub mod UnionLemmas
+pub mod RaiseLemmas
 pub mod SearchLemmas
 pub mod KeptLemmas
 pub mod ToldLemmas

@@ -8,6 +8,7 @@ mod joined;
 mod knowledge;
 pub mod laws;
 mod paired;
+mod raised;
 mod rows;
 mod search;
 mod told;

@@ -1,22 +1,26 @@
 use std::alloc::{AllocError, Global};
 use std::marker::Model;
 
-/// Rows of words, each at its place from 0.
+/// Rows of words, each at its place from 0. All words stand in one list, out of which each row is cut.
 #[derive(Debug, Drop)]
 pub(crate) struct Rows {
     alloc: Global,
-    rows: Vec<Vec<u64>>,
+    words: Vec<u64>,
+    spans: Vec<(usize, usize)>,
 }
 
 impl Model for Rows {
-    ghost use Rattle.std.specs.Prelude.{ℕ, List, map};
+    ghost use Rattle.std.specs.Prelude.{◌≡◌, true, ℕ, List};
     ghost use Rattle.std.specs.Coded.{coded_ℕ, coded_list};
+    ghost use Rattle.item_knowledge.specs.Spans.{cuts, are_spans};
 
     ghost Value = { List (List ℕ) };
 
     ghost coded = { coded_list (coded_list coded_ℕ) };
 
-    ghost view = { λ r. map (λ row. row.items) r.rows.items };
+    ghost view = { λ r. cuts r.words.items r.spans.items };
+
+    ghost invariant = { λ r. are_spans r.words.items r.spans.items ≡ true };
 }
 
 impl Rows {
@@ -28,7 +32,8 @@ impl Rows {
     {
         Rows {
             alloc,
-            rows: Vec::new(alloc),
+            words: Vec::new(alloc),
+            spans: Vec::new(alloc),
         }
     }
 
@@ -38,9 +43,11 @@ impl Rows {
         ensures placed { OnOk result (self.new ≡ self.old ++ words.now ∷ []) }
         ensures refused { OnErr result (self.new ≡ self.old) }
     {
-        let place = self.rows.len();
-        let row = words.to_vec(self.alloc)?;
-        self.rows.push(row)?;
+        let place = self.spans.len();
+        let start = self.words.len();
+        self.words.extend_from_slice(words)?;
+        let end = self.words.len();
+        self.spans.push((start, end))?;
         Ok(place)
     }
 
@@ -49,38 +56,48 @@ impl Rows {
         requires { place < length self.now }
         ensures { result.now ≡ get_or self.now place [] }
     {
-        self.rows[place].as_slice()
+        let (start, end) = self.spans[place];
+        &self.words[start..end]
     }
 
     /// The number of rows.
     pub(crate) fn rows(&self) -> usize
         ensures { result ≡ length self.now }
     {
-        self.rows.len()
+        self.spans.len()
     }
 
-    /// No rows any more.
+    /// No rows any more. The room stays.
     pub(crate) fn clear(&mut self)
         ensures { self.new ≡ [] }
     {
-        self.rows.clear();
+        self.spans.clear();
+        self.words.clear();
     }
 
     /// Whether both have the same rows.
     pub(crate) fn same(&self, other: &Rows) -> bool
         ensures { IsTrue result ↔ (self.now ≡ other.now) }
     {
-        self.rows == other.rows
+        if self.rows() != other.rows() {
+            return false;
+        }
+        for i in 0..self.rows() {
+            if self.row(i) != other.row(i) {
+                return false;
+            }
+        }
+        true
     }
 
     /// An equal list of rows.
     pub(crate) fn try_clone(&self) -> Result<Rows, AllocError>
         ensures { IfOk result (λ copy. copy ≡ self.now) }
     {
-        let mut copy = Rows::new(self.alloc);
-        for row in &self.rows {
-            copy.place(row)?;
-        }
-        Ok(copy)
+        Ok(Rows {
+            alloc: self.alloc,
+            words: self.words.to_vec(self.alloc)?,
+            spans: self.spans.to_vec(self.alloc)?,
+        })
     }
 }

@@ -1,14 +1,10 @@
-use Rattle.std.proofs.Common.{◌≡◌, ◌∙◌, eqb, ℕ, sym, Vec, Global}
-use Rattle.std.specs.Cmp.Lexicographic.{pointwise}
-use Rattle.std.specs.Cmp.Derive.Mapped.{pointwise-map}
+use Rattle.std.proofs.Common.{◌≡◌, ◌∙◌, true, refl, sym, arith}
 use Rattle.item_knowledge.proofs.RowLemmas.{same_lists}
+use Rattle.item_knowledge.proofs.SpanLemmas.{same_rows, rows_end}
 use Rattle.item_knowledge.proofs.rows.Rows.same.Goals as goal
 
 pub returns : goal.returns
 returns c =
-    let is : c.eq.result ≡ pointwise (λ x y. pointwise (λ a b. eqb a b) x y) c.args.self.now c.args.other.now =
-    c.eq.ensures
-    ∙ (sym (pointwise-map (λ (row : Vec ℕ Global). row.items) (λ x y. pointwise (λ a b. eqb a b) x y) c.self.inside.rows.items c.other.inside.rows.items)
-    ∙ (λ i. pointwise (λ x y. pointwise (λ a b. eqb a b) x y) (c.self.view_is i) (c.other.view_is i))) in
+    let is : same_rows c.args.self.now c.args.other.now ≡ true = sym c.loop-i.invariant.rest ∙ rows_end c.args.self.now c.args.other.now c.loop-i.i (omega arith) (omega arith) in
     let d = same_lists c.args.self.now c.args.other.now in
-    (λ h. d.0 (sym is ∙ h), λ e. is ∙ d.1 e)
+    (λ h. d.0 is, λ e. refl)

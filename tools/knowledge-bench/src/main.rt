@@ -1,0 +1,17 @@
+//! Works a knowledge of many pictures, to be measured: reads a line such as `learn_all 1000 5`, a kind of work, a number
+//! of pictures and how often, and does it. `tools/measure-knowledge` builds and runs it.
+#![tactic(auto)]
+
+mod table;
+mod work;
+
+use std::io;
+
+fn main(rt: HostRuntime) -> io::Result<()> {
+    for line in rt.lines(rt.alloc()) {
+        let line = line?;
+        let done = work::of_line(rt.alloc(), line.as_str())?;
+        println!(rt; "{done}")?;
+    }
+    Ok(())
+}
