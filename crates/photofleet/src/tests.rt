@@ -1,5 +1,6 @@
 mod changes;
 mod filters;
+mod knowing;
 mod memory;
 mod program;
 mod streams;
