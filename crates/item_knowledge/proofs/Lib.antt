@@ -15,3 +15,5 @@ pub mod RaiseLemmas
 pub mod SearchLemmas
 pub mod KeptLemmas
 pub mod ToldLemmas
+pub mod PutLemmas
+pub mod NextLemmas
