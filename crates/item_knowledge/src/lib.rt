@@ -18,4 +18,6 @@ pub use fragment::Fragment;
 pub use knowledge::Knowledge;
 
 #[cfg(test)]
+mod own_tests;
+#[cfg(test)]
 mod tests;
