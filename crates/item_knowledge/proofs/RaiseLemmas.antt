@@ -1,19 +1,18 @@
 -- Where no fragment has an author above the star, raising the author's bound in each of them keeps the normal form.
-use Rattle.std.proofs.Common.{◌≡◌, ℕ, zero, suc, ◌+◌, ◌-◌, ◌<◌, ◌≤◌, Bool, true, false, not, leb, ltb, cond, max, ◌&&◌, ◌||◌, List, [], ◌∷◌, ◌++◌, length, get_or, drop, map, refl, sym, subst, ap, ◌∙◌, inl, inr, arith, append_assoc, Option, None, Some}
+use Rattle.std.proofs.Common.{◌≡◌, ℕ, zero, suc, ◌+◌, ◌-◌, ◌<◌, Bool, true, false, not, leb, ltb, cond, ◌&&◌, List, [], ◌∷◌, length, drop, refl, sym, subst, ap, ◌∙◌, inl, inr, arith, Option, None, Some}
 use Rattle.std.specs.List.{list_all}
-use Rattle.std.proofs.lemmas.Bool.{and_parts, and_from, lt-ltb, ltb-true, leb-true, ne_eqb, cases_Bool, cases_eq, false≢true}
-use Rattle.photo_version.specs.Version.{Version}
-use Rattle.item_knowledge.specs.Tables.{at, in_order}
-use Rattle.item_knowledge.specs.Entries.{Entry, denotes, is_entry, is_vector, bound, leq, same_entries, joined}
-use Rattle.item_knowledge.specs.Fragments.{Fragment, lists, knows, is_group, goes_before, are_groups, is_normal, find, or_star, known, nothing, entries_at}
-use Rattle.item_knowledge.specs.Rows.{pairs, flat, IsRow, rows_of, fragments_of}
-use Rattle.item_knowledge.specs.Gathering.{vector_of, is_above, IsIndex, IsUnion}
+use Rattle.std.proofs.lemmas.Bool.{and_parts, and_from, leb-true, ne_eqb, cases_Bool, cases_eq, false≢true}
+use Rattle.item_knowledge.specs.Tables.{at}
+use Rattle.item_knowledge.specs.Entries.{Entry, denotes, is_entry, is_vector, bound, same_entries, joined}
+use Rattle.item_knowledge.specs.Fragments.{Fragment, lists, is_group, goes_before, are_groups, is_normal, find, or_star, known, nothing, entries_at}
+use Rattle.item_knowledge.specs.Rows.{rows_of, fragments_of}
+use Rattle.item_knowledge.specs.Gathering.{vector_of, IsIndex, IsUnion}
 use Rattle.item_knowledge.specs.Kept.{IsKept}
 use Rattle.item_knowledge.specs.Raising.{are_level, raised, all_raised, star_of_one}
 use Rattle.item_knowledge.proofs.EntryLemmas.{one_by_bounds}
 use Rattle.item_knowledge.proofs.FragmentLemmas.{entries_decide, GroupParts, groups_parts, before_parts, normal_parts, leq_at}
 use Rattle.item_knowledge.proofs.JoinLemmas.{joined_bound, joined_vector, joined_leq, joined_denotes, leq_self}
-use Rattle.item_knowledge.proofs.MergeLemmas.{drop_next, drop_none, append_nil}
+use Rattle.item_knowledge.proofs.MergeLemmas.{drop_next}
 use Rattle.item_knowledge.proofs.RowLemmas.{fragments_rows, rows_rows}
 use Rattle.item_knowledge.proofs.UnionLemmas.{at_number, knows_vector, normal_side, side_vector}
 
@@ -166,42 +165,10 @@ raised_union e fs xs h i n =
           ∙ joined_denotes (vector_of fs xs p) (e ∷ []) v (side_vector fs xs p side) one);
     }
 
--- The rows of raised fragments, one after another
-
-pub raised_more : (e : Entry) (fs : List Fragment) (k : ℕ) (out new whole : List (List ℕ)) (ps row : List ℕ) → k < length fs → ps ≡ (get_or fs k nothing).pictures → row ≡ flat (joined (entries_at fs k) (e ∷ [])) → new ≡ (out ++ ps ∷ []) ++ row ∷ [] → out ++ rows_of (all_raised e (drop k fs)) ≡ whole → new ++ rows_of (all_raised e (drop (k + 1) fs)) ≡ whole
-raised_more e fs k out new whole ps row l is also pushed h =
-    let rest : List (List ℕ) = rows_of (all_raised e (drop (k + 1) fs)) in
-    ap (λ rows. rows ++ rest) pushed
-    ∙ (append_assoc (out ++ ps ∷ []) (row ∷ []) rest
-    ∙ (append_assoc out (ps ∷ []) (row ∷ rest)
-    ∙ ((λ j. out ++ is j ∷ also j ∷ rest)
-    ∙ (ap (λ gs. out ++ rows_of (all_raised e gs)) (sym (drop_next fs k nothing l)) ∙ h))))
-
-pub raised_done : (e : Entry) (fs : List Fragment) (k : ℕ) (out whole : List (List ℕ)) → length fs ≤ k → out ++ rows_of (all_raised e (drop k fs)) ≡ whole → out ≡ whole
-raised_done e fs k out whole l h = sym (append_nil out) ∙ (ap (λ gs. out ++ rows_of (all_raised e gs)) (sym (drop_none fs k l)) ∙ h)
-
-pub joined_row : (es : List Entry) (row : List ℕ) → IsRow row → pairs row ≡ es → row ≡ flat es
-joined_row es row h e = sym h ∙ ap flat e
-
 -- Whether all are level, one after another
 
 pub level_step : (fs : List Fragment) (k a b : ℕ) → k < length fs → are_level (drop k fs) a b ≡ (leb (bound (entries_at fs k) a) b && are_level (drop (k + 1) fs) a b)
 level_step fs k a b l = ap (λ gs. are_level gs a b) (drop_next fs k nothing l)
-
-pub order_at : (fs : List Fragment) (k : ℕ) → list_all (λ (f : Fragment). in_order f.entries) fs ≡ true → k < length fs → in_order (entries_at fs k) ≡ true
-order_at [] k h l = absurd (omega arith)
-order_at (f ∷ fs) zero h l = (and_parts (in_order f.entries) (list_all (λ (g : Fragment). in_order g.entries) fs) h).0
-order_at (f ∷ fs) (suc k) h l = order_at fs k (and_parts (in_order f.entries) (list_all (λ (g : Fragment). in_order g.entries) fs) h).1 (omega arith)
-
-all_order : (star : List Entry) (fs : List Fragment) → list_all (λ (f : Fragment). is_above star f) fs ≡ true → list_all (λ (f : Fragment). in_order f.entries) fs ≡ true
-all_order star [] h = refl
-all_order star (f ∷ fs) h =
-    let a = and_parts (is_above star f) (list_all (λ (g : Fragment). is_above star g) fs) h in
-    let b = and_parts (is_vector f.entries) (leq star f.entries) a.0 in
-    and_from _ _ (and_parts (in_order f.entries) (list_all (λ (e : Entry). is_entry e) f.entries) b.0).0 (all_order star fs a.1)
-
-pub kept_order : (rows : List (List ℕ)) (xs : List (ℕ × ℕ)) → IsKept rows xs → list_all (λ (f : Fragment). in_order f.entries) (fragments_of rows) ≡ true
-kept_order rows xs h = all_order (entries_at (fragments_of rows) 0) (fragments_of rows) (normal_side (fragments_of rows) xs h.normal h.index).above
 
 -- what is kept once it was raised
 pub record Raised (e : Entry) (rows : List (List ℕ)) (xs : List (ℕ × ℕ)) (out : List (List ℕ)) : Type 0 where

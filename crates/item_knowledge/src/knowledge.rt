@@ -1,5 +1,5 @@
 use crate::Fragment;
-use crate::raised::{is_level, raise, raise_all};
+use crate::raised::{is_level, raise};
 use crate::rows::Rows;
 use crate::search::{bound_at, number_at};
 use crate::told::{row_of, told, vector_of as vector_of_row};
@@ -43,7 +43,7 @@ impl Knowledge {
     ghost use Rattle.photo_version.specs.Version as versions;
     ghost use Rattle.photo_version.specs.Vector as vectors;
     ghost use Rattle.item_knowledge.specs.Tables.{in_order, at};
-    ghost use Rattle.item_knowledge.specs.Entries.{denotes, bound, is_entry};
+    ghost use Rattle.item_knowledge.specs.Entries.{denotes, bound};
     ghost use Rattle.item_knowledge.specs.Raising.{are_level};
     ghost use Rattle.item_knowledge.specs.Fragments as spec;
     ghost use Rattle.item_knowledge.specs.Rows.{AreRows, fragments_of};
@@ -130,22 +130,6 @@ impl Knowledge {
         Ok(())
     }
 
-    /// Learns of every picture an author's versions up to the `n`th, where the star has those before it, and no fragment
-    /// has more.
-    fn take_raise(&mut self, author: u64, n: u64) -> Result<(), AllocError>
-        requires entry { is_entry (author, n) ≡ true }
-        requires next { n ≡ bound (spec.entries_at self.old 0) author + 1 }
-        requires level { are_level self.old author (n - 1) ≡ true }
-        ensures star { OnOk result ((a : Author) → star_bound self.new a ≡ max (star_bound self.old a) (bound ((author, n) ∷ []) (author_word a))) }
-        ensures learned { OnOk result ((p : ℕ) (v : versions.Version) → 0 < p → spec.knows self.new p v ≡ (spec.knows self.old p v || denotes ((author, n) ∷ []) v)) }
-        ensures refused { OnErr result (self.new ≡ self.old) }
-    {
-        let _index = &self.index;
-        raise(self.alloc, &self.live, author, n, &mut self.spare)?;
-        swap(&mut self.live, &mut self.spare);
-        Ok(())
-    }
-
     /// Learns of every picture an author's next version, where no fragment has more than the star. Takes no memory.
     fn take_next(&mut self, version: Version)
         requires first { 0 < star_bound self.old version.author }
@@ -157,7 +141,7 @@ impl Knowledge {
         let _index = &self.index;
         let author = version.author().word();
         let n = u64::from(version.n());
-        raise_all(&mut self.live, author, n);
+        raise(&mut self.live, author, n);
     }
 
     /// Learns of the picture all versions of the vector. Its only error is want of memory, which changes nothing.
@@ -212,8 +196,8 @@ impl Knowledge {
     {
         let author = version.author().word();
         let n = u64::from(version.n());
-        if is_level(&self.live, author, n - 1) {
-            self.take_raise(author, n)?;
+        if n > 1 && is_level(&self.live, author, n - 1) {
+            self.take_next(version);
             return Ok(());
         }
         let star = [author, n];

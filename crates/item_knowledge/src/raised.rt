@@ -1,14 +1,10 @@
-ghost use Rattle.std.specs.Prelude.{◌≡◌, true, OnOk};
-ghost use Rattle.std.specs.List.{list_all};
-ghost use Rattle.item_knowledge.specs.Tables.{in_order};
+ghost use Rattle.std.specs.Prelude.{◌≡◌, true};
 ghost use Rattle.item_knowledge.specs.Raising.{are_level, all_raised, are_risen};
 ghost use Rattle.item_knowledge.specs.Rows.{AreRows, fragments_of, rows_of};
 
-use crate::joined::joined;
 use crate::rows::Rows;
 use crate::search::{bound_at, place_of};
 use crate::union::entries;
-use std::alloc::{AllocError, Global};
 
 /// Whether no fragment has a version of the author above the bound. Takes no memory.
 pub(crate) fn is_level(rows: &Rows, author: u64, bound: u64) -> bool
@@ -23,30 +19,8 @@ pub(crate) fn is_level(rows: &Rows, author: u64, bound: u64) -> bool
     true
 }
 
-/// Writes each fragment with the author's bound raised to `n`, in place of what was there.
-pub(crate) fn raise(
-    alloc: Global,
-    rows: &Rows,
-    author: u64,
-    n: u64,
-    out: &mut Rows,
-) -> Result<(), AllocError>
-    requires rows { AreRows rows.now }
-    requires order { list_all (λ f. in_order f.entries) (fragments_of rows.now) ≡ true }
-    ensures { OnOk result (out.new ≡ rows_of (all_raised (author, n) (fragments_of rows.now))) }
-{
-    out.clear();
-    let entry = [author, n];
-    for k in 0..rows.rows() / 2 {
-        let row = joined(alloc, entries(rows, k), &entry)?;
-        out.place(rows.row(2 * k))?;
-        out.place(&row)?;
-    }
-    Ok(())
-}
-
 /// Raises the author's bound to `n` in each fragment, where each has one. Takes no memory.
-pub(crate) fn raise_all(rows: &mut Rows, author: u64, n: u64)
+pub(crate) fn raise(rows: &mut Rows, author: u64, n: u64)
     requires rows { AreRows rows.old }
     requires risen { are_risen (author, n) (fragments_of rows.old) ≡ true }
     ensures { rows.new ≡ rows_of (all_raised (author, n) (fragments_of rows.old)) }

@@ -1,38 +1,62 @@
-use Rattle.std.proofs.Common.{rules, ◌≡◌, ◌++◌, ◌∷◌, [], get_or, length, ◌<◌, ◌*◌, sym, subst, ap, ◌∙◌, true, arith}
-use Rattle.item_knowledge.specs.Tables.{in_order}
-use Rattle.item_knowledge.specs.Entries.{joined}
-use Rattle.item_knowledge.specs.Fragments.{nothing, entries_at}
-use Rattle.item_knowledge.specs.Raising.{all_raised}
-use Rattle.item_knowledge.specs.Rows.{pairs, fragments_of, rows_of}
-use Rattle.item_knowledge.proofs.RowLemmas.{rows_read, pictures_read}
-use Rattle.item_knowledge.proofs.RaiseLemmas.{raised_more, raised_done, joined_row, order_at}
+use Rattle.std.proofs.Common.{◌<◌, length, sym, subst, ap, ◌∙◌, arith}
+use Rattle.item_knowledge.specs.Entries.{bound}
+use Rattle.item_knowledge.specs.Rows.{fragments_of, rows_of}
+use Rattle.item_knowledge.proofs.PutLemmas.{so_far, risen_at, raised_next, raised_end, word_inside}
+use Rattle.item_knowledge.proofs.RowLemmas.{rows_read, row_length}
 use Rattle.item_knowledge.proofs.raised.raise.Goals as goal
 
-pub entries-requires-clause-number : goal.entries-requires-clause-number
-entries-requires-clause-number c =
+pub entries-row-requires-clause-rows : goal.entries-row-requires-clause-rows
+entries-row-requires-clause-rows c = (so_far (c.args.author, c.args.n) c.loop-k.k (fragments_of c.args.rows.now) c.loop-k.rows c.loop-k.invariant.rows).are_rows
+
+pub entries-row-requires-clause-number : goal.entries-row-requires-clause-number
+entries-row-requires-clause-number c =
     let rows = rows_read c.args.rows.now c.requires.rows in
+    let count = (so_far (c.args.author, c.args.n) c.loop-k.k (fragments_of c.args.rows.now) c.loop-k.rows c.loop-k.invariant.rows).count in
     omega arith
 
-pub joined-requires-clause-left : goal.joined-requires-clause-left
-joined-requires-clause-left c =
+pub place_of-place-requires-clause-author : goal.place_of-place-requires-clause-author
+place_of-place-requires-clause-author c =
     let rows = rows_read c.args.rows.now c.requires.rows in
-    subst (λ es. in_order es ≡ true) (sym c.entries.ensures.entries) (order_at (fragments_of c.args.rows.now) c.loop-k.k c.requires.order (omega arith))
+    let less : c.loop-k.k < length (fragments_of c.args.rows.now) = omega arith in
+    let r = so_far (c.args.author, c.args.n) c.loop-k.k (fragments_of c.args.rows.now) c.loop-k.rows c.loop-k.invariant.rows in
+    subst (λ es. 0 < bound es c.args.author) (sym (c.entries-row.ensures.entries ∙ r.entries)) (risen_at (c.args.author, c.args.n) (fragments_of c.args.rows.now) c.loop-k.k c.requires.risen less).some
+
+pub overflow_mul-place : goal.overflow_mul-place
+overflow_mul-place c =
+    let size = row_length c.entries-row.result.now c.entries-row.ensures.row in
+    omega arith
+
+pub overflow_add-place : goal.overflow_add-place
+overflow_add-place c =
+    let size = row_length c.entries-row.result.now c.entries-row.ensures.row in
+    omega arith
+
+pub put-requires-clause-row : goal.put-requires-clause-row
+put-requires-clause-row c =
+    let rows = rows_read c.args.rows.now c.requires.rows in
+    let size = (so_far (c.args.author, c.args.n) c.loop-k.k (fragments_of c.args.rows.now) c.loop-k.rows c.loop-k.invariant.rows).size in
+    omega arith
+
+pub put-requires-clause-inside : goal.put-requires-clause-inside
+put-requires-clause-inside c =
+    let rows = rows_read c.args.rows.now c.requires.rows in
+    let less : c.loop-k.k < length (fragments_of c.args.rows.now) = omega arith in
+    let r = so_far (c.args.author, c.args.n) c.loop-k.k (fragments_of c.args.rows.now) c.loop-k.rows c.loop-k.invariant.rows in
+    word_inside (c.args.author, c.args.n) c.loop-k.k (fragments_of c.args.rows.now) c.loop-k.rows c.entries-row.result.now c.place_of-place.result r less
+    (record { entries = c.entries-row.ensures.entries ∙ r.entries; inside = c.place_of-place.ensures.place; author = c.place_of-place.ensures.author })
 
 pub loop-k-preserved : goal.loop-k-preserved
 loop-k-preserved c =
-    let fs = fragments_of c.args.rows.now in
     let rows = rows_read c.args.rows.now c.requires.rows in
     let less : c.loop-k.k < length (fragments_of c.args.rows.now) = omega arith in
-    let pictures : c.row.result.now ≡ get_or c.args.rows.now (2 * c.loop-k.k) [] = search rules in
-    let entries : pairs c.in_ok-row.row.items ≡ joined (pairs c.entries.result.now) ((c.args.author, c.args.n) ∷ []) = search rules in
-    let row = joined_row (joined (entries_at fs c.loop-k.k) ((c.args.author, c.args.n) ∷ [])) c.in_ok-row.row.items (c.in_ok-row.ensures.row) (entries ∙ ap (λ es. joined es ((c.args.author, c.args.n) ∷ [])) c.entries.ensures.entries) in
-    let pushed : c.place-in-loop-k.new.self ≡ (c.loop-k.out ++ c.row.result.now ∷ []) ++ c.in_ok-row.row.items ∷ [] = search rules in
+    let r = so_far (c.args.author, c.args.n) c.loop-k.k (fragments_of c.args.rows.now) c.loop-k.rows c.loop-k.invariant.rows in
     record {
-      rest = raised_more (c.args.author, c.args.n) fs c.loop-k.k c.loop-k.out c.place-in-loop-k.new.self (rows_of (all_raised (c.args.author, c.args.n) fs)) c.row.result.now c.in_ok-row.row.items
-          less (pictures ∙ pictures_read c.args.rows.now c.loop-k.k c.requires.rows less) row pushed c.loop-k.invariant.rest;
+      rows = raised_next (c.args.author, c.args.n) c.loop-k.k (fragments_of c.args.rows.now) c.loop-k.rows c.put.new.self c.entries-row.result.now c.place_of-place.result c.requires.risen c.loop-k.invariant.rows less
+          (record { entries = c.entries-row.ensures.entries ∙ r.entries; inside = c.place_of-place.ensures.place; author = c.place_of-place.ensures.author })
+          c.put.ensures;
     }
 
 pub returns : goal.returns
 returns c =
     let rows = rows_read c.args.rows.now c.requires.rows in
-    raised_done (c.args.author, c.args.n) (fragments_of c.args.rows.now) c.loop-k.k c.loop-k.out (rows_of (all_raised (c.args.author, c.args.n) (fragments_of c.args.rows.now))) (omega arith) c.loop-k.invariant.rest
+    c.loop-k.invariant.rows ∙ ap rows_of (raised_end (c.args.author, c.args.n) c.loop-k.k (fragments_of c.args.rows.now) (omega arith))

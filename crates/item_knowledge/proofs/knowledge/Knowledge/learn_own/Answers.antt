@@ -12,16 +12,16 @@ use Rattle.item_knowledge.proofs.knowledge.Knowledge.learn_own.Goals as goal
 pub returns-clause-learned : goal.returns-clause-learned
 returns-clause-learned c p v z =
     let w = c.args.version in
-    let e : w.number ≡ star_bound (fragments_of c.self.inside.live) w.author + 1 = subst (λ fs. w.number ≡ star_bound fs w.author + 1) (sym c.self.view_is) c.requires in
+    let e : w.number ≡ star_bound (fragments_of c.self-2.inside.live) w.author + 1 = subst (λ fs. w.number ≡ star_bound fs w.author + 1) (sym c.self-2.view_is) c.requires in
     let l : knows c.take_union.new.self p v ≡ (knows c.args.self.now p v || denotes (vector_of (fragments_of c.place-2.new.self) [] p) v) = c.in_ok-take_union.ensures.learned p v z in
     let word : c.word-author.result ≡ author_word w.author = search rules in
     let n : c.from-n.result ≡ w.number = search rules in
     let rows : c.place-2.new.self ≡ [] ∷ (c.word-author.result ∷ c.from-n.result ∷ []) ∷ [] = search rules in
     l
     ∙ (ap (λ rs. knows c.args.self.now p v || denotes (vector_of (fragments_of rs) [] p) v) rows
-    ∙ ((λ i. knows (sym c.self.view_is i) p v || denotes ((word i, n i) ∷ []) v)
-    ∙ (next_known (fragments_of c.self.inside.live) w p v c.self.invariant.normal z e
-    ∙ ap (λ fs. knows fs p v || same_version w v) c.self.view_is)))
+    ∙ ((λ i. knows (sym c.self-2.view_is i) p v || denotes ((word i, n i) ∷ []) v)
+    ∙ (next_known (fragments_of c.self-2.inside.live) w p v c.self-2.invariant.normal z e
+    ∙ ap (λ fs. knows fs p v || same_version w v) c.self-2.view_is)))
 
 pub returns-clause-star : goal.returns-clause-star
 returns-clause-star c a =
@@ -34,15 +34,3 @@ returns-clause-star c a =
     ∙ (ap (λ rs. max (star_bound c.args.self.now a) (bound (entries_at (fragments_of rs) 0) (author_word a))) rows
     ∙ ((λ i. max (star_bound c.args.self.now a) (bound ((word i, n i) ∷ []) (author_word a)))
     ∙ star_next c.args.self.now w.author a w.number c.requires))
-
-pub returns-then-is_level-clause-learned : goal.returns-then-is_level-clause-learned
-returns-then-is_level-clause-learned c p v z =
-    let w = c.args.version in
-    let e : w.number ≡ star_bound (fragments_of c.self.inside.live) w.author + 1 = subst (λ fs. w.number ≡ star_bound fs w.author + 1) (sym c.self.view_is) c.requires in
-    let word : c.word-author.result ≡ author_word w.author = search rules in
-    let n : c.from-n.result ≡ w.number = search rules in
-    let l : knows c.take_raise.new.self p v ≡ (knows c.args.self.now p v || denotes ((c.word-author.result, c.from-n.result) ∷ []) v) = c.in_ok-take_raise.ensures.learned p v z in
-    l
-    ∙ ((λ i. knows (sym c.self.view_is i) p v || denotes ((word i, n i) ∷ []) v)
-    ∙ (next_known (fragments_of c.self.inside.live) w p v c.self.invariant.normal z e
-    ∙ ap (λ fs. knows fs p v || same_version w v) c.self.view_is))

@@ -9,8 +9,8 @@ use Rattle.item_knowledge.specs.Kept.{star_bound}
 use Rattle.item_knowledge.proofs.NextLemmas.{own_from, own_risen, owned}
 use Rattle.item_knowledge.proofs.knowledge.Knowledge.take_next.Goals as goal
 
-pub raise_all-requires-clause-risen : goal.raise_all-requires-clause-risen
-raise_all-requires-clause-risen c =
+pub raise-requires-clause-risen : goal.raise-requires-clause-risen
+raise-requires-clause-risen c =
     let w = c.args.version in
     let word : c.word-author.result ≡ author_word w.author = search rules in
     let n : c.from-n.result ≡ w.number = search rules in
@@ -27,7 +27,7 @@ invariant_of-self c =
     let above : 0 < c.from-n.result = omega arith in
     let fits : c.from-n.result ≤ most_number = omega arith in
     let own = own_from w c.self.inside.live c.self.inside.index.items c.args.self.now c.word-author.result c.from-n.result c.self.invariant c.self.view_is word n c.word-author.ensures.of_author above fits c.requires.first c.requires.next c.requires.level in
-    (owned w c.self.inside.live c.self.inside.index.items c.raise_all.new.rows own (c.raise_all.ensures ∙ (λ j. rows_of (all_raised (word j, n j) (fragments_of c.self.inside.live))))).kept
+    (owned w c.self.inside.live c.self.inside.index.items c.raise.new.rows own (c.raise.ensures ∙ (λ j. rows_of (all_raised (word j, n j) (fragments_of c.self.inside.live))))).kept
 
 pub returns-clause-star : goal.returns-clause-star
 returns-clause-star c a =
@@ -37,7 +37,7 @@ returns-clause-star c a =
     let above : 0 < c.from-n.result = omega arith in
     let fits : c.from-n.result ≤ most_number = omega arith in
     let own = own_from w c.self.inside.live c.self.inside.index.items c.args.self.now c.word-author.result c.from-n.result c.self.invariant c.self.view_is word n c.word-author.ensures.of_author above fits c.requires.first c.requires.next c.requires.level in
-    (owned w c.self.inside.live c.self.inside.index.items c.raise_all.new.rows own (c.raise_all.ensures ∙ (λ j. rows_of (all_raised (word j, n j) (fragments_of c.self.inside.live))))).star a
+    (owned w c.self.inside.live c.self.inside.index.items c.raise.new.rows own (c.raise.ensures ∙ (λ j. rows_of (all_raised (word j, n j) (fragments_of c.self.inside.live))))).star a
     ∙ ap (λ fs. cond (same_author w.author a) w.number (star_bound fs a)) c.self.view_is
 
 pub returns-clause-learned : goal.returns-clause-learned
@@ -48,5 +48,5 @@ returns-clause-learned c p v z =
     let above : 0 < c.from-n.result = omega arith in
     let fits : c.from-n.result ≤ most_number = omega arith in
     let own = own_from w c.self.inside.live c.self.inside.index.items c.args.self.now c.word-author.result c.from-n.result c.self.invariant c.self.view_is word n c.word-author.ensures.of_author above fits c.requires.first c.requires.next c.requires.level in
-    (owned w c.self.inside.live c.self.inside.index.items c.raise_all.new.rows own (c.raise_all.ensures ∙ (λ j. rows_of (all_raised (word j, n j) (fragments_of c.self.inside.live))))).learned p v z
+    (owned w c.self.inside.live c.self.inside.index.items c.raise.new.rows own (c.raise.ensures ∙ (λ j. rows_of (all_raised (word j, n j) (fragments_of c.self.inside.live))))).learned p v z
     ∙ ap (λ fs. knows fs p v || same_version w v) c.self.view_is
