@@ -41,7 +41,7 @@ pub loop-i-preserved : goal.loop-i-preserved
 loop-i-preserved c =
     let less : c.loop-i.i < length c.args.index.now = omega arith in
     let is : leq (entries_at (fragments_of c.args.rows.now) (get_or c.args.index.now c.loop-i.i (0, 0)).1) (entries_at (fragments_of c.args.others.now) c.number_from-other.result.0) ≡ true =
-        (λ i. leq (sym c.entries-in-loop-i.ensures.entries i) (sym c.entries-in-loop-i-2.ensures.entries i)) ∙ (sym c.is_leq-in-loop-i.ensures ∙ search rules) in
+    (λ i. leq (sym c.entries-in-loop-i.ensures.entries i) (sym c.entries-in-loop-i-2.ensures.entries i)) ∙ (sym c.is_leq-in-loop-i.ensures ∙ search rules) in
     record {
       along = turn_along (fragments_of c.args.rows.now) (fragments_of c.args.others.now) c.args.index.now c.args.others_index.now c.loop-i.i c.loop-i.j c.number_from-other.result.1 c.number_from-other.result.0
           c.loop-i.invariant.along c.requires.left.order less c.number_from-other.ensures.number c.number_from-other.ensures.rest is;
@@ -51,6 +51,6 @@ pub returns-then-not-is_leq-2 : goal.returns-then-not-is_leq-2
 returns-then-not-is_leq-2 c =
     let less : c.loop-i.i < length c.args.index.now = omega arith in
     let is : leq (entries_at (fragments_of c.args.rows.now) (get_or c.args.index.now c.loop-i.i (0, 0)).1) (entries_at (fragments_of c.args.others.now) c.number_from-other.result.0) ≡ false =
-        (λ i. leq (sym c.entries-in-loop-i.ensures.entries i) (sym c.entries-in-loop-i-2.ensures.entries i)) ∙ (sym c.is_leq-in-loop-i.ensures ∙ search rules) in
+    (λ i. leq (sym c.entries-in-loop-i.ensures.entries i) (sym c.entries-in-loop-i-2.ensures.entries i)) ∙ (sym c.is_leq-in-loop-i.ensures ∙ search rules) in
     sym (not_within (fragments_of c.args.rows.now) (fragments_of c.args.others.now) c.args.index.now c.args.others_index.now
     (stop_along (fragments_of c.args.rows.now) (fragments_of c.args.others.now) c.args.index.now c.args.others_index.now c.loop-i.i c.loop-i.j c.number_from-other.result.0 c.loop-i.invariant.along less c.number_from-other.ensures.number is))
