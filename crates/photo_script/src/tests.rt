@@ -1,10 +1,12 @@
 ghost use Rattle.std.specs.Prelude.{◌≡◌, ◌<◌, ◌≤◌, length, IfSome};
 ghost use Rattle.photo_version.specs.Author.{author};
 
+mod knowing;
+
 use super::*;
 use photo_device::{Held, HeldList, Place};
 use photo_record::Record;
-use photo_version::{Author, Version};
+use photo_version::{Author, Vector, Version};
 use std::alloc::{AllocError, Global};
 use std::process::Abort;
 
@@ -390,7 +392,7 @@ fn version(device: u16, n: u32) -> Option<Version>
 }
 
 // A version of the picture that a command makes.
-fn held(script: &Script, number: u32, version: Version) -> Option<Held>
+fn held(alloc: Global, script: &Script, number: u32, version: Version) -> Option<Held>
     requires first { 0 < number }
     requires within { number ≤ length script.now.commands }
     ensures { IfSome result (λ held. held.version ≡ version) }
@@ -406,6 +408,7 @@ fn held(script: &Script, number: u32, version: Version) -> Option<Held>
     Some(Held {
         picture: *picture,
         version,
+        made_with: Vector::new(alloc),
         content: record.try_clone().ok()?,
     })
 }
@@ -434,7 +437,7 @@ fn text_of_a_store(rt: HostRuntime) {
     assert_eq!(&rt; script.devices(), 1);
     assert_eq!(&rt; script.commands(), 1);
     let version = version(0, 1).expect(&rt, "a version");
-    let beach = held(&script, 1, version).expect(&rt, "a held version");
+    let beach = held(alloc, &script, 1, version).expect(&rt, "a held version");
     let listed = Report::Listed {
         device: 0,
         store: HeldList::new(vec![in alloc; beach].expect(&rt, "memory")),
@@ -455,10 +458,11 @@ fn text_of_an_out(rt: HostRuntime) {
     assert_eq!(&rt; script.devices(), 2);
     assert_eq!(&rt; script.commands(), 1);
     let version = version(1, 100_000).expect(&rt, "a version");
-    let old = held(&script, 1, version).expect(&rt, "a held version");
+    let old = held(alloc, &script, 1, version).expect(&rt, "a held version");
     let removed = Held {
         picture: old.picture,
         version,
+        made_with: Vector::new(alloc),
         content: Record::Removed,
     };
     let listed = Report::Listed {
