@@ -5,7 +5,7 @@ ghost use Rattle.photo_version.specs.Author.{author};
 ghost use Rattle.photo_version.specs.Version as versions;
 ghost use Rattle.photo_script.specs.Reports.{IsFragmentOfScript};
 
-use super::expect_answer_behind;
+use super::is_answered_behind;
 use crate::{Command, Report, Script, read_script, report_text};
 use item_knowledge::{Fragment, Knowledge};
 use photo_record::PicNo;
@@ -29,7 +29,10 @@ fn questions(rt: HostRuntime) {
         ("knows a 7", "line 2: F6 WrongFields"),
         ("knowledge a a", "line 2: F6 WrongFields"),
     ] {
-        expect_answer_behind(&rt, rt.alloc(), "device a all\n", line, wanted);
+        assert!(rt;
+            is_answered_behind(rt.alloc(), "device a all\n", line, wanted),
+            "{line}"
+        );
     }
 }
 
