@@ -13,5 +13,6 @@ pub mod IndexLemmas
 pub mod UnionLemmas
 pub mod RaiseLemmas
 pub mod SearchLemmas
+pub mod AlongLemmas
 pub mod KeptLemmas
 pub mod ToldLemmas

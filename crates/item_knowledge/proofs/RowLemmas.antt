@@ -171,10 +171,32 @@ word_both xs ys out i j n m l k e is =
       right_row = t.rest;
     }
 
-pub rows_merged : (xs ys out : List ℕ) (i j : ℕ) → Rows xs ys out i j → length xs ≤ i → length ys ≤ j → out ≡ flat (joined (pairs xs) (pairs ys))
-rows_merged xs ys out i j m l k =
-    let none : joined (pairs (drop i xs)) (pairs (drop j ys)) ≡ [] = (λ z. joined (pairs (drop_none xs i l z)) (pairs (drop_none ys j k z))) in
-    sym (append_nil out) ∙ (ap (λ es. out ++ flat es) (sym none) ∙ m.done)
+joined_none : (ys : List Entry) → joined [] ys ≡ ys
+joined_none [] = refl
+joined_none (y ∷ ys) = ap (λ zs. y ∷ zs) (joined_none ys)
+
+joined_with_none : (xs : List Entry) → in_order xs ≡ true → joined xs [] ≡ xs
+joined_with_none [] h = refl
+joined_with_none (x ∷ xs) h =
+    let a = and_parts (keys_pass (λ k. ltb x.0 k) xs) (in_order xs) h in
+    merge_left (λ a. a) (λ a b. max a b) (λ b. b) x xs [] a.0 refl ∙ ap (λ zs. x ∷ zs) (joined_with_none xs a.1)
+
+-- the rest of the row that is left
+pub rows_merged : (xs ys out new : List ℕ) (i j : ℕ) → Rows xs ys out i j → (i < length xs → length ys ≤ j) → new ≡ (out ++ drop i xs) ++ drop j ys → new ≡ flat (joined (pairs xs) (pairs ys))
+rows_merged xs ys out new i j m over is = is ∙ elim (cases_lt i (length xs)) [
+  | inl more ↦
+      let none = drop_none ys j (over more) in
+      let left : joined (pairs (drop i xs)) (pairs (drop j ys)) ≡ pairs (drop i xs) = ap (λ ws. joined (pairs (drop i xs)) (pairs ws)) none ∙ joined_with_none (pairs (drop i xs)) m.left in
+      ap (λ ws. (out ++ drop i xs) ++ ws) none
+      ∙ (append_nil (out ++ drop i xs)
+      ∙ (ap (λ ws. out ++ ws) (sym (ap flat left ∙ m.left_row)) ∙ m.done))
+  | inr end ↦
+      let none = drop_none xs i end in
+      let right : joined (pairs (drop i xs)) (pairs (drop j ys)) ≡ pairs (drop j ys) = ap (λ ws. joined (pairs ws) (pairs (drop j ys))) none ∙ joined_none (pairs (drop j ys)) in
+      ap (λ ws. (out ++ ws) ++ drop j ys) none
+      ∙ (ap (λ ws. ws ++ drop j ys) (append_nil out)
+      ∙ (ap (λ ws. out ++ ws) (sym (ap flat right ∙ m.right_row)) ∙ m.done))
+]
 
 -- the same, at what the code holds after the step
 

@@ -15,7 +15,7 @@ pub(crate) fn joined(alloc: Global, xs: &[u64], ys: &[u64]) -> Result<Vec<u64>, 
     ensures row { IfOk result (λ row. IsRow row.items) }
     ensures entries { IfOk result (λ row. pairs row.items ≡ spec.joined (pairs xs.now) (pairs ys.now)) }
 {
-    let mut out = Vec::new(alloc);
+    let mut out = Vec::with_capacity(alloc, xs.len().saturating_add(ys.len()))?;
     let mut i = 0;
     let mut j = 0;
     while i < xs.len() && j < ys.len() {
@@ -39,15 +39,7 @@ pub(crate) fn joined(alloc: Global, xs: &[u64], ys: &[u64]) -> Result<Vec<u64>, 
         i += 2;
         j += 2;
     }
-    while i < xs.len() {
-        out.push(xs[i])?;
-        out.push(xs[i + 1])?;
-        i += 2;
-    }
-    while j < ys.len() {
-        out.push(ys[j])?;
-        out.push(ys[j + 1])?;
-        j += 2;
-    }
+    out.extend_from_slice(&xs[i..])?;
+    out.extend_from_slice(&ys[j..])?;
     Ok(out)
 }

@@ -1,6 +1,6 @@
-ghost use Rattle.std.specs.Prelude.{◌≡◌, ◌<◌, true, length, get_or};
+ghost use Rattle.std.specs.Prelude.{◌≡◌, ℕ, ◌<◌, ◌≤◌, true, length, get_or, drop};
 ghost use Rattle.item_knowledge.specs.Tables.{in_order, at};
-ghost use Rattle.item_knowledge.specs.Entries.{bound, leq};
+ghost use Rattle.item_knowledge.specs.Entries.{bound, leq, is_vector};
 ghost use Rattle.item_knowledge.specs.Rows.{pairs, IsRow};
 
 /// The number of the fragment to which an index leads from a picture, 0 for the star.
@@ -48,16 +48,53 @@ pub(crate) fn bound_at(row: &[u64], author: u64) -> u64
 /// Whether each bound of the one row is at most the other's.
 #[tactic(auto, using(crate::proofs::RowLemmas::row_step))]
 pub(crate) fn is_leq(row: &[u64], other: &[u64]) -> bool
-    requires left { IsRow row.now }
-    requires right { IsRow other.now }
+    requires left_row { IsRow row.now }
+    requires right_row { IsRow other.now }
+    requires left { is_vector (pairs row.now) ≡ true }
+    requires right { in_order (pairs other.now) ≡ true }
     ensures { result ≡ leq (pairs row.now) (pairs other.now) }
 {
     let mut i = 0;
+    let mut j = 0;
     while i < row.len() {
-        if bound_at(other, row[i]) < row[i + 1] {
+        if j >= other.len() {
+            return false;
+        }
+        let a = row[i];
+        let b = other[j];
+        if a < b {
+            return false;
+        }
+        if b < a {
+            j += 2;
+            continue;
+        }
+        if other[j + 1] < row[i + 1] {
             return false;
         }
         i += 2;
+        j += 2;
     }
     true
+}
+
+/// The number of the fragment to which an index leads from a picture, 0 for the star, where it is looked for from a
+/// place on; and the place from which one looks for a later picture.
+pub(crate) fn number_from(index: &[(u64, usize)], from: usize, picture: u64) -> (usize, usize)
+    requires { in_order index.now ≡ true }
+    ensures number { result.0 ≡ at 0 (drop from index.now) picture }
+    ensures rest { (q : ℕ) → picture ≤ q → at 0 (drop result.1 index.now) q ≡ at 0 (drop from index.now) q }
+{
+    let mut place = from;
+    while place < index.len() {
+        let row = index[place];
+        if picture < row.0 {
+            return (0, place);
+        }
+        if row.0 == picture {
+            return (row.1, place);
+        }
+        place += 1;
+    }
+    (0, place)
 }

@@ -1,6 +1,9 @@
-ghost use Rattle.std.specs.Prelude.{◌≡◌, ◌<◌};
-ghost use Rattle.photo_version.specs.Author.{author};
+ghost use Rattle.std.specs.Prelude.{◌≡◌, ◌<◌, true, IfOk};
+ghost use Rattle.photo_record.specs.Limits.{IsPicNo};
+ghost use Rattle.photo_version.specs.Author.{Author, author};
 ghost use Rattle.photo_version.specs.Version as versions;
+ghost use Rattle.item_knowledge.specs.Kept.{star_bound};
+ghost use Rattle.item_knowledge.specs.Tables.{in_order};
 
 use crate::Knowledge;
 use photo_record::PicNo;
@@ -17,8 +20,11 @@ fn version(device: u16, n: u32) -> Version
     Version::new(Author::new(device), n).unwrap()
 }
 
-fn picture(number: u32) -> Result<PicNo, Fail> {
-    Ok(PicNo::new(number).ok_or("a picture's number")?)
+fn picture(number: u32) -> PicNo
+    requires { IsPicNo number }
+    ensures { result ≡ number }
+{
+    PicNo::new(number).unwrap()
 }
 
 /// The first versions of a device, up to the `n`th.
@@ -36,10 +42,12 @@ fn own(alloc: Global) -> Result<Knowledge, Fail> {
 }
 
 /// Two pictures of which the same version is known.
-fn of_two(alloc: Global) -> Result<Knowledge, Fail> {
+fn of_two(alloc: Global) -> Result<Knowledge, Fail>
+    ensures { IfOk result (λ knowledge. (a : Author) → star_bound knowledge a ≡ 0) }
+{
     let mut knowledge = Knowledge::new(alloc)?;
-    knowledge.learn(picture(7)?, &up_to(alloc, 0, 1)?)?;
-    knowledge.learn(picture(9)?, &up_to(alloc, 0, 1)?)?;
+    knowledge.learn(picture(7), &up_to(alloc, 0, 1)?)?;
+    knowledge.learn(picture(9), &up_to(alloc, 0, 1)?)?;
     Ok(knowledge)
 }
 
@@ -48,11 +56,17 @@ fn pictures_known_alike_are_one_fragment(rt: HostRuntime) -> Result<(), Fail> {
     let alloc = rt.alloc();
     let knowledge = of_two(alloc)?;
     assert!(rt; knowledge.fragments() == 2);
-    let of_nine = knowledge.of(picture(9)?)?;
-    assert!(rt; of_nine.len() == 1 && of_nine.has(version(0, 1)) && !of_nine.has(version(0, 2)));
     assert!(rt;
-        knowledge.knows(picture(7)?, version(0, 1)) && !knowledge.knows(picture(8)?, version(0, 1))
+        knowledge.knows(picture(7), version(0, 1)) && !knowledge.knows(picture(8), version(0, 1))
     );
+    Ok(())
+}
+
+#[test]
+fn what_is_known_of_a_picture(rt: HostRuntime) -> Result<(), Fail> {
+    let alloc = rt.alloc();
+    let of_nine = of_two(alloc)?.of(picture(9))?;
+    assert!(rt; of_nine.len() == 1 && of_nine.has(version(0, 1)) && !of_nine.has(version(0, 2)));
     Ok(())
 }
 
@@ -98,19 +112,17 @@ fn a_copy_is_the_same(rt: HostRuntime) -> Result<(), Fail> {
 fn own_versions_come_to_the_star(rt: HostRuntime) -> Result<(), Fail> {
     let alloc = rt.alloc();
     let knowledge = own(alloc)?;
-    assert!(rt; knowledge.fragments() == 1 && knowledge.knows(picture(5)?, version(0, 1)));
+    assert!(rt; knowledge.fragments() == 1 && knowledge.knows(picture(5), version(0, 1)));
     assert!(rt;
-        !knowledge.knows(picture(5)?, version(0, 2)) && !knowledge.knows(picture(5)?, version(1, 1))
+        !knowledge.knows(picture(5), version(0, 2)) && !knowledge.knows(picture(5), version(1, 1))
     );
     Ok(())
 }
 
 /// A number of a fixed sequence.
-fn next(seed: &mut u64) -> u64 {
-    *seed = seed
-        .wrapping_mul(6364136223846793005)
-        .wrapping_add(1442695040888963407);
-    *seed >> 33
+fn next(seed: &mut u32) -> u64 {
+    *seed = seed.wrapping_mul(1_664_525).wrapping_add(1_013_904_223);
+    u64::from(*seed >> 16)
 }
 
 /// A knowledge, and beside it the plain set of its pairs at the pictures 1 to 4, of which 4 is told nothing by itself.
@@ -121,12 +133,12 @@ struct Case {
 }
 
 /// Tells a case some versions of a picture.
-fn tell(alloc: Global, case: &mut Case, seed: &mut u64) -> Result<(), Fail> {
+fn tell(alloc: Global, case: &mut Case, seed: &mut u32) -> Result<(), Fail> {
     let number = 1 + (next(seed) % 3) as u32;
     let device = (next(seed) % 3) as u16;
     let n = 1 + (next(seed) % 3) as u32;
     case.knowledge
-        .learn(picture(number)?, &up_to(alloc, device, n)?)?;
+        .learn(picture(number), &up_to(alloc, device, n)?)?;
     for k in 1..4u32 {
         if k <= n {
             case.pairs.insert((number, (device, k)))?;
@@ -136,7 +148,7 @@ fn tell(alloc: Global, case: &mut Case, seed: &mut u64) -> Result<(), Fail> {
 }
 
 /// A case that was told a few things, and of every picture the first version of one device or none.
-fn some_case(alloc: Global, seed: &mut u64) -> Result<Case, Fail> {
+fn some_case(alloc: Global, seed: &mut u32) -> Result<Case, Fail> {
     let mut case = Case {
         knowledge: Knowledge::new(alloc)?,
         pairs: BTreeSet::new(alloc),
@@ -155,24 +167,24 @@ fn some_case(alloc: Global, seed: &mut u64) -> Result<Case, Fail> {
 }
 
 /// Whether a case knows just the pairs of its set.
-fn agrees(case: &Case) -> Result<bool, Fail> {
+fn agrees(case: &Case) -> bool {
     for number in 1..5u32 {
         for device in 0..3u16 {
             for k in 1..5u32 {
-                let known = case.knowledge.knows(picture(number)?, version(device, k));
+                let known = case.knowledge.knows(picture(number), version(device, k));
                 if known != case.pairs.contains(&(number, (device, k))) {
-                    return Ok(false);
+                    return false;
                 }
             }
         }
     }
-    Ok(true)
+    true
 }
 
 /// Whether the vectors of a case's pictures have just the pairs of its set.
 fn vectors_agree(case: &Case) -> Result<bool, Fail> {
     for number in 1..5u32 {
-        let vector = case.knowledge.of(picture(number)?)?;
+        let vector = case.knowledge.of(picture(number))?;
         for device in 0..3u16 {
             for k in 1..5u32 {
                 if vector.has(version(device, k)) != case.pairs.contains(&(number, (device, k))) {
@@ -195,7 +207,7 @@ fn learning_all_is_the_union_of_the_pairs(rt: HostRuntime) -> Result<(), Fail> {
         for pair in &other.pairs {
             one.pairs.insert(*pair)?;
         }
-        assert!(rt; agrees(&one)? && vectors_agree(&other)?);
+        assert!(rt; agrees(&one) && vectors_agree(&other)?);
     }
     Ok(())
 }
@@ -212,17 +224,44 @@ fn the_same_pairs_are_the_same_knowledge(rt: HostRuntime) -> Result<(), Fail> {
     Ok(())
 }
 
+/// Two pictures, of both of which the same version is told.
+fn table(alloc: Global) -> Result<Vec<(PicNo, Vector)>, Fail>
+    ensures { IfOk result (λ table. in_order table.items ≡ true) }
+{
+    let mut table = Vec::new(alloc);
+    let vector = up_to(alloc, 0, 1)?;
+    table.push((picture(7), vector.try_clone()?))?;
+    table.push((picture(9), vector))?;
+    Ok(table)
+}
+
 #[test]
 fn a_table_is_learned_at_once(rt: HostRuntime) -> Result<(), Fail> {
     let alloc = rt.alloc();
     let mut knowledge = Knowledge::new(alloc)?;
-    let table = vec![in alloc;
-        (picture(7)?, up_to(alloc, 0, 1)?),
-        (picture(9)?, up_to(alloc, 0, 1)?),
-    ]?;
-    if table[0].0.value() < table[1].0.value() {
-        knowledge.learn_table(&table)?;
-    }
-    assert!(rt; knowledge.fragments() == 2 && knowledge.knows(picture(9)?, version(0, 1)));
+    let table = table(alloc)?;
+    knowledge.learn_table(&table)?;
+    assert!(rt; knowledge.fragments() == 2 && knowledge.knows(picture(9), version(0, 1)));
+    Ok(())
+}
+
+#[test]
+fn own_versions_come_to_each_fragment(rt: HostRuntime) -> Result<(), Fail> {
+    let alloc = rt.alloc();
+    let mut knowledge = of_two(alloc)?;
+    knowledge.learn_own(version(1, 1))?;
+    assert!(rt; knowledge.fragments() == 2 && knowledge.knows(picture(8), version(1, 1)));
+    assert!(rt;
+        knowledge.knows(picture(9), version(1, 1)) && knowledge.knows(picture(9), version(0, 1))
+    );
+    Ok(())
+}
+
+#[test]
+fn an_own_version_that_a_fragment_had(rt: HostRuntime) -> Result<(), Fail> {
+    let alloc = rt.alloc();
+    let mut knowledge = of_two(alloc)?;
+    knowledge.learn_own(version(0, 1))?;
+    assert!(rt; knowledge.fragments() == 1 && knowledge.knows(picture(8), version(0, 1)));
     Ok(())
 }

@@ -1,8 +1,8 @@
-ghost use Rattle.std.specs.Prelude.{◌≡◌, true, nat_lt, IfOk};
+ghost use Rattle.std.specs.Prelude.{◌≡◌, [], ◌∷◌, ◌++◌, true, nat_lt, IfOk, OnOk};
 ghost use Rattle.std.specs.List.{list_all};
 ghost use Rattle.item_knowledge.specs.Tables.{keys_pass};
 ghost use Rattle.item_knowledge.specs.Entries.{is_vector};
-ghost use Rattle.item_knowledge.specs.Rows.{pairs, IsRow, rows_of};
+ghost use Rattle.item_knowledge.specs.Rows.{pairs, flat, IsRow, rows_of};
 ghost use Rattle.item_knowledge.specs.Told as spec;
 
 use crate::rows::Rows;
@@ -40,6 +40,22 @@ pub(crate) fn vector_of(alloc: Global, row: &[u64]) -> Result<Vector, AllocError
     Vector::from_entries(alloc, bounds)
 }
 
+/// A fragment of one picture with the entries of a vector, at the end.
+fn place_told(
+    alloc: Global,
+    rows: &mut Rows,
+    picture: u64,
+    vector: &Vector,
+) -> Result<(), AllocError>
+    ensures rows { OnOk result (rows.new ≡ rows.old ++ (picture ∷ []) ∷ flat (spec.entries_of vector.now) ∷ []) }
+    ensures vector { OnOk result (is_vector (spec.entries_of vector.now) ≡ true) }
+{
+    let row = row_of(alloc, vector)?;
+    rows.place(&[picture])?;
+    rows.place(&row)?;
+    Ok(())
+}
+
 /// The rows of what is told of pictures, with their index.
 pub(crate) fn told(
     alloc: Global,
@@ -55,10 +71,8 @@ pub(crate) fn told(
     rows.place(&[])?;
     rows.place(&[])?;
     for i in 0..table.len() {
-        let row = row_of(alloc, &table[i].1)?;
         let picture = u64::from(table[i].0.value());
-        rows.place(&[picture])?;
-        rows.place(&row)?;
+        place_told(alloc, &mut rows, picture, &table[i].1)?;
         index.push((picture, i + 1))?;
     }
     Ok((rows, index))

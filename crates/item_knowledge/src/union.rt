@@ -9,7 +9,7 @@ use crate::group::Group;
 use crate::joined::joined;
 use crate::paired::paired as paired_numbers;
 use crate::rows::Rows;
-use crate::search::{is_leq, number_at};
+use crate::search::{is_leq, number_from};
 use std::alloc::{AllocError, Global};
 use std::collections::BTreeMap;
 
@@ -133,9 +133,11 @@ pub(crate) fn is_within(
     if !is_leq(entries(rows, 0), entries(others, 0)) {
         return false;
     }
+    let mut j = 0;
     for i in 0..index.len() {
         let (picture, number) = index[i];
-        let other = number_at(others_index, picture);
+        let (other, next) = number_from(others_index, j, picture);
+        j = next;
         if !is_leq(entries(rows, number), entries(others, other)) {
             return false;
         }

@@ -1,7 +1,8 @@
-use Rattle.std.proofs.Common.{rules, ◌≡◌, ◌+◌, ◌++◌, ◌∷◌, [], max, get_or, arith, sym, subst, ap, ◌∙◌}
+use Rattle.std.proofs.Common.{rules, ◌≡◌, ◌+◌, ◌++◌, ◌∷◌, [], max, get_or, length, take, drop, ◌-◌, arith, sym, subst, ap, ◌∙◌}
+use Rattle.std.proofs.lemmas.List.{take_rest}
 use Rattle.item_knowledge.specs.Entries.{joined}
 use Rattle.item_knowledge.specs.Rows.{pairs, IsRow}
-use Rattle.item_knowledge.proofs.RowLemmas.{left_taken, right_taken, both_taken, rows_merged, flat_row, pairs_flat}
+use Rattle.item_knowledge.proofs.RowLemmas.{row_step, left_taken, right_taken, both_taken, rows_merged, flat_row, pairs_flat}
 use Rattle.item_knowledge.proofs.joined.joined.Goals as goal
 
 pub loop-i-preserved-then-a-b : goal.loop-i-preserved-then-a-b
@@ -9,6 +10,8 @@ loop-i-preserved-then-a-b c =
     let is : c.push-then-a-b.new.self.items ≡ (c.loop-i.out.items ++ get_or c.args.xs.now c.loop-i.i 0 ∷ []) ++ get_or c.args.xs.now (c.loop-i.i + 1) 0 ∷ [] = search rules in
     record {
       rows = left_taken c.args.xs.now c.args.ys.now c.loop-i.out.items c.push-then-a-b.new.self.items c.loop-i.i c.loop-i.j c.loop-i.invariant.rows (omega arith) (λ h. omega arith) is;
+      left = (let more = (row_step c.args.xs.now c.loop-i.i (omega arith) c.loop-i.invariant.rows.left_row).more in omega arith);
+      right = c.loop-i.invariant.right;
     }
 
 pub loop-i-preserved-then-b-a : goal.loop-i-preserved-then-b-a
@@ -16,6 +19,8 @@ loop-i-preserved-then-b-a c =
     let is : c.push-then-b-a-2.new.self.items ≡ (c.loop-i.out.items ++ get_or c.args.ys.now c.loop-i.j 0 ∷ []) ++ get_or c.args.ys.now (c.loop-i.j + 1) 0 ∷ [] = search rules in
     record {
       rows = right_taken c.args.xs.now c.args.ys.now c.loop-i.out.items c.push-then-b-a-2.new.self.items c.loop-i.i c.loop-i.j c.loop-i.invariant.rows (omega arith) (λ h. omega arith) is;
+      left = c.loop-i.invariant.left;
+      right = (let more = (row_step c.args.ys.now c.loop-i.j (omega arith) c.loop-i.invariant.rows.right_row).more in omega arith);
     }
 
 pub loop-i-preserved : goal.loop-i-preserved
@@ -24,30 +29,22 @@ loop-i-preserved c =
     let is : c.push-in-loop-i-2.new.self.items ≡ (c.loop-i.out.items ++ get_or c.args.xs.now c.loop-i.i 0 ∷ []) ++ c.max-n.result ∷ [] = search rules in
     record {
       rows = both_taken c.args.xs.now c.args.ys.now c.loop-i.out.items c.push-in-loop-i-2.new.self.items c.loop-i.i c.loop-i.j c.max-n.result c.loop-i.invariant.rows (omega arith) (omega arith) (omega arith) greater is;
-    }
-
-pub loop-i-2-preserved : goal.loop-i-2-preserved
-loop-i-2-preserved c =
-    let is : c.push-in-loop-i-2-3.new.self.items ≡ (c.loop-i-2.out.items ++ get_or c.args.xs.now c.loop-i-2.i 0 ∷ []) ++ get_or c.args.xs.now (c.loop-i-2.i + 1) 0 ∷ [] = search rules in
-    record {
-      rows = left_taken c.args.xs.now c.args.ys.now c.loop-i-2.out.items c.push-in-loop-i-2-3.new.self.items c.loop-i-2.i c.loop-i.j c.loop-i-2.invariant.rows (omega arith) (λ h. absurd (omega arith)) is;
-      over = λ h. omega arith;
-    }
-
-pub loop-j-preserved : goal.loop-j-preserved
-loop-j-preserved c =
-    let is : c.push-in-loop-j-2.new.self.items ≡ (c.loop-j.out.items ++ get_or c.args.ys.now c.loop-j.j 0 ∷ []) ++ get_or c.args.ys.now (c.loop-j.j + 1) 0 ∷ [] = search rules in
-    record {
-      rows = right_taken c.args.xs.now c.args.ys.now c.loop-j.out.items c.push-in-loop-j-2.new.self.items c.loop-i-2.i c.loop-j.j c.loop-j.invariant.rows (omega arith) (λ h. absurd (omega arith)) is;
-      over = omega arith;
+      left = (let more = (row_step c.args.xs.now c.loop-i.i (omega arith) c.loop-i.invariant.rows.left_row).more in omega arith);
+      right = (let more = (row_step c.args.ys.now c.loop-i.j (omega arith) c.loop-i.invariant.rows.right_row).more in omega arith);
     }
 
 pub returns-clause-row : goal.returns-clause-row
 returns-clause-row c =
-    let all = rows_merged c.args.xs.now c.args.ys.now c.loop-j.out.items c.loop-i-2.i c.loop-j.j c.loop-j.invariant.rows (omega arith) (omega arith) in
+    let left : c.extend_from_slice.new.self.items ≡ c.loop-i.out.items ++ take (length c.args.xs.now - c.loop-i.i) (drop c.loop-i.i c.args.xs.now) = search rules in
+    let both : c.extend_from_slice-2.new.self.items ≡ c.extend_from_slice.new.self.items ++ take (length c.args.ys.now - c.loop-i.j) (drop c.loop-i.j c.args.ys.now) = search rules in
+    let is = both ∙ (λ k. (left ∙ ap (λ ws. c.loop-i.out.items ++ ws) (take_rest c.args.xs.now c.loop-i.i)) k ++ take_rest c.args.ys.now c.loop-i.j k) in
+    let all = rows_merged c.args.xs.now c.args.ys.now c.loop-i.out.items c.extend_from_slice-2.new.self.items c.loop-i.i c.loop-i.j c.loop-i.invariant.rows (λ h. omega arith) is in
     subst IsRow (sym all) (flat_row (joined (pairs c.args.xs.now) (pairs c.args.ys.now)))
 
 pub returns-clause-entries : goal.returns-clause-entries
 returns-clause-entries c =
-    let all = rows_merged c.args.xs.now c.args.ys.now c.loop-j.out.items c.loop-i-2.i c.loop-j.j c.loop-j.invariant.rows (omega arith) (omega arith) in
+    let left : c.extend_from_slice.new.self.items ≡ c.loop-i.out.items ++ take (length c.args.xs.now - c.loop-i.i) (drop c.loop-i.i c.args.xs.now) = search rules in
+    let both : c.extend_from_slice-2.new.self.items ≡ c.extend_from_slice.new.self.items ++ take (length c.args.ys.now - c.loop-i.j) (drop c.loop-i.j c.args.ys.now) = search rules in
+    let is = both ∙ (λ k. (left ∙ ap (λ ws. c.loop-i.out.items ++ ws) (take_rest c.args.xs.now c.loop-i.i)) k ++ take_rest c.args.ys.now c.loop-i.j k) in
+    let all = rows_merged c.args.xs.now c.args.ys.now c.loop-i.out.items c.extend_from_slice-2.new.self.items c.loop-i.i c.loop-i.j c.loop-i.invariant.rows (λ h. omega arith) is in
     ap pairs all ∙ pairs_flat (joined (pairs c.args.xs.now) (pairs c.args.ys.now))

@@ -1,13 +1,6 @@
-use Rattle.std.proofs.Common.{◌≡◌, drop}
-use Rattle.std.specs.List.{list_all}
-use Rattle.item_knowledge.specs.Entries.{leq}
-use Rattle.item_knowledge.specs.Fragments.{entries_at}
-use Rattle.item_knowledge.specs.Gathering.{vector_of}
 use Rattle.item_knowledge.specs.Rows.{fragments_of}
+use Rattle.item_knowledge.proofs.AlongLemmas.{IsAlong}
 use Rattle.item_knowledge.proofs.union.is_within.Given as goal
 
 abbrev pub invariant-loop-i : goal.invariant-loop-i
-invariant-loop-i l = record {
-  rest : list_all (λ r. leq (entries_at (fragments_of l.rows) r.1) (vector_of (fragments_of l.others) l.others_index r.0)) (drop l.i l.index)
-      ≡ list_all (λ r. leq (entries_at (fragments_of l.rows) r.1) (vector_of (fragments_of l.others) l.others_index r.0)) l.index;
-}
+invariant-loop-i l = record { along : IsAlong (fragments_of l.rows) (fragments_of l.others) l.index l.others_index l.i l.j }
