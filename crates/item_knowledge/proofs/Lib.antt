@@ -16,3 +16,5 @@ pub mod SearchLemmas
 pub mod AlongLemmas
 pub mod KeptLemmas
 pub mod ToldLemmas
+pub mod PutLemmas
+pub mod NextLemmas

@@ -1,12 +1,12 @@
 -- Rows that are cut out of one list of words.
-use Rattle.std.proofs.Common.{◌≡◌, ℕ, zero, suc, ◌+◌, ◌-◌, ◌<◌, ◌≤◌, Bool, true, false, not, leb, eqb, ◌&&◌, List, [], ◌∷◌, ◌++◌, length, get_or, take, drop, map, refl, sym, subst, ap, ◌∙◌, arith, Result, Ok, Err}
+use Rattle.std.proofs.Common.{◌≡◌, ℕ, zero, suc, ◌+◌, ◌-◌, ◌<◌, ◌≤◌, Bool, true, false, leb, eqb, ◌&&◌, List, [], ◌∷◌, ◌++◌, length, get_or, take, drop, refl, sym, subst, ap, ◌∙◌, arith, Result, Ok, Err}
 use Rattle.std.specs.List.{list_all}
 use Rattle.std.specs.Result.{OnErr}
 use Rattle.std.specs.Cmp.Lexicographic.{pointwise}
 use Rattle.std.proofs.Math.Seq.{drop-append_seam, take-length}
 use Rattle.std.proofs.lemmas.List.{take-append-le, drop-append-le, length-drop, length-append, get_or-map}
 use Rattle.std.proofs.lemmas.Bool.{and_parts, and_from, le-leb, leb-true}
-use Rattle.item_knowledge.specs.Spans.{cut, cuts, is_span, are_spans}
+use Rattle.item_knowledge.specs.Spans.{cut, cuts, is_span, are_spans, are_apart, IsCut}
 use Rattle.item_knowledge.proofs.MergeLemmas.{drop_none, drop_next}
 
 span_parts : (n : ℕ) (s : ℕ × ℕ) → is_span n s ≡ true → (s.0 ≤ s.1) × (s.1 ≤ n)
@@ -45,10 +45,13 @@ spans_more ws more (s ∷ ss) h =
 -- what words and spans show and keep
 pub record Shows (ws : List ℕ) (spans : List (ℕ × ℕ)) (rows : List (List ℕ)) : Type 0 where
   pub shown : cuts ws spans ≡ rows
-  pub within : are_spans ws spans ≡ true
+  pub within : IsCut ws spans
 
-pub more_words : (ws more new : List ℕ) (spans : List (ℕ × ℕ)) → new ≡ ws ++ more → are_spans ws spans ≡ true → Shows new spans (cuts ws spans)
-more_words ws more new spans is h = subst (λ zs. Shows zs spans (cuts ws spans)) (sym is) (record { shown = cuts_more ws more spans h; within = spans_more ws more spans h })
+pub more_words : (ws more new : List ℕ) (spans : List (ℕ × ℕ)) → new ≡ ws ++ more → IsCut ws spans → Shows new spans (cuts ws spans)
+more_words ws more new spans is h = subst (λ zs. Shows zs spans (cuts ws spans)) (sym is) (record {
+  shown = cuts_more ws more spans h.within;
+  within = record { within = spans_more ws more spans h.within; apart = h.apart };
+})
 
 -- a row at the end
 
@@ -78,11 +81,27 @@ spans_last ws more (s ∷ ss) h =
     let l = length-append ws more in
     and_from _ _ (span_from (length (ws ++ more)) s p.0 (omega arith)) (spans_last ws more ss a.1)
 
-pub one_row : (ws more new : List ℕ) (spans after : List (ℕ × ℕ)) (s e : ℕ) → new ≡ ws ++ more → s ≡ length ws → e ≡ length new → after ≡ spans ++ (s, e) ∷ [] → are_spans ws spans ≡ true → Shows new after (cuts ws spans ++ more ∷ [])
+before_last : (n : ℕ) (ss : List (ℕ × ℕ)) (t : ℕ × ℕ) → list_all (λ s. leb n s.0) ss ≡ true → n ≤ t.0 → list_all (λ s. leb n s.0) (ss ++ t ∷ []) ≡ true
+before_last n [] t h l = and_from _ _ (le-leb n t.0 l) refl
+before_last n (s ∷ ss) t h l =
+    let a = and_parts (leb n s.0) (list_all (λ r. leb n r.0) ss) h in
+    and_from _ _ a.0 (before_last n ss t a.1 l)
+
+apart_last : (ws more : List ℕ) (spans : List (ℕ × ℕ)) → are_spans ws spans ≡ true → are_apart spans ≡ true → are_apart (spans ++ last_span ws more ∷ []) ≡ true
+apart_last ws more [] h p = refl
+apart_last ws more (s ∷ ss) h p =
+    let a = and_parts (is_span (length ws) s) (are_spans ws ss) h in
+    let b = and_parts (list_all (λ t. leb s.1 t.0) ss) (are_apart ss) p in
+    and_from _ _ (before_last s.1 ss (last_span ws more) b.0 (span_parts (length ws) s a.0).1) (apart_last ws more ss a.1 b.1)
+
+pub one_row : (ws more new : List ℕ) (spans after : List (ℕ × ℕ)) (s e : ℕ) → new ≡ ws ++ more → s ≡ length ws → e ≡ length new → after ≡ spans ++ (s, e) ∷ [] → IsCut ws spans → Shows new after (cuts ws spans ++ more ∷ [])
 one_row ws more new spans after s e is from to pushed h =
     let last : after ≡ spans ++ last_span ws more ∷ [] = pushed ∙ (λ i. spans ++ (from i, (to ∙ ap length is) i) ∷ []) in
     subst (λ zs. Shows zs after (cuts ws spans ++ more ∷ [])) (sym is)
-    (subst (λ ts. Shows (ws ++ more) ts (cuts ws spans ++ more ∷ [])) (sym last) (record { shown = cuts_last ws more spans h; within = spans_last ws more spans h }))
+    (subst (λ ts. Shows (ws ++ more) ts (cuts ws spans ++ more ∷ [])) (sym last) (record {
+      shown = cuts_last ws more spans h.within;
+      within = record { within = spans_last ws more spans h.within; apart = apart_last ws more spans h.within h.apart };
+    }))
 
 -- the row at a place
 

@@ -1,5 +1,5 @@
 use crate::Fragment;
-use crate::raised::{is_level, raise};
+use crate::raised::{is_level, raise, raise_all};
 use crate::rows::Rows;
 use crate::search::{bound_at, number_at};
 use crate::told::{row_of, told, vector_of as vector_of_row};
@@ -38,7 +38,7 @@ impl Model for Knowledge {
 }
 
 impl Knowledge {
-    ghost use Rattle.std.specs.Prelude.{◌≡◌, ◌↔◌, ℕ, ◌<◌, ◌+◌, ◌||◌, ◌&&◌, ◌==◌, ◌-◌, max, if◌then◌else◌, [], ◌∷◌, true, false, IsTrue, length, get_or, IfOk, OnOk, OnErr};
+    ghost use Rattle.std.specs.Prelude.{◌≡◌, ◌↔◌, ℕ, ◌<◌, ◌≤◌, ◌+◌, ◌||◌, ◌&&◌, ◌==◌, ◌-◌, max, if◌then◌else◌, [], ◌∷◌, true, false, IsTrue, length, get_or, IfOk, OnOk, OnErr};
     ghost use Rattle.photo_version.specs.Author.{Author, same_author, author_word};
     ghost use Rattle.photo_version.specs.Version as versions;
     ghost use Rattle.photo_version.specs.Vector as vectors;
@@ -146,6 +146,20 @@ impl Knowledge {
         Ok(())
     }
 
+    /// Learns of every picture an author's next version, where no fragment has more than the star. Takes no memory.
+    fn take_next(&mut self, version: Version)
+        requires first { 0 < star_bound self.old version.author }
+        requires next { version.number ≡ star_bound self.old version.author + 1 }
+        requires level { are_level self.old (author_word version.author) (version.number - 1) ≡ true }
+        ensures star { (a : Author) → star_bound self.new a ≡ (if same_author version.author a then version.number else star_bound self.old a) }
+        ensures learned { (p : ℕ) (v : versions.Version) → 0 < p → spec.knows self.new p v ≡ (spec.knows self.old p v || versions.same_version version v) }
+    {
+        let _index = &self.index;
+        let author = version.author().word();
+        let n = u64::from(version.n());
+        raise_all(&mut self.live, author, n);
+    }
+
     /// Learns of the picture all versions of the vector. Its only error is want of memory, which changes nothing.
     pub fn learn(&mut self, picture: PicNo, vector: &Vector) -> Result<(), AllocError>
         ensures star { OnOk result ((a : Author) → star_bound self.new a ≡ star_bound self.old a) }
@@ -208,6 +222,19 @@ impl Knowledge {
         rows.place(&star)?;
         self.take_union(&rows, &[])?;
         Ok(())
+    }
+
+    /// Learns of every picture the next version of an author of whom the star has one, and no picture's versions are
+    /// known beyond the star's. It takes no memory.
+    pub fn raise_own(&mut self, version: Version)
+        requires first { 0 < star_bound self.old version.author }
+        requires next { version.number ≡ star_bound self.old version.author + 1 }
+        requires level { (p n : ℕ) → 0 < p → spec.knows self.old p (versions.version version.author n) ≡ true → n ≤ star_bound self.old version.author }
+        ensures star { (a : Author) → star_bound self.new a ≡ (if same_author version.author a then version.number else star_bound self.old a) }
+        ensures learned { (p : ℕ) (v : versions.Version) → 0 < p → spec.knows self.new p v ≡ (spec.knows self.old p v || versions.same_version version v) }
+    {
+        let _index = &self.index;
+        self.take_next(version);
     }
 
     /// An equal knowledge.

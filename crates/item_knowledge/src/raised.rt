@@ -1,12 +1,12 @@
 ghost use Rattle.std.specs.Prelude.{◌≡◌, true, OnOk};
 ghost use Rattle.std.specs.List.{list_all};
 ghost use Rattle.item_knowledge.specs.Tables.{in_order};
-ghost use Rattle.item_knowledge.specs.Raising.{are_level, all_raised};
+ghost use Rattle.item_knowledge.specs.Raising.{are_level, all_raised, are_risen};
 ghost use Rattle.item_knowledge.specs.Rows.{AreRows, fragments_of, rows_of};
 
 use crate::joined::joined;
 use crate::rows::Rows;
-use crate::search::bound_at;
+use crate::search::{bound_at, place_of};
 use crate::union::entries;
 use std::alloc::{AllocError, Global};
 
@@ -43,4 +43,18 @@ pub(crate) fn raise(
         out.place(&row)?;
     }
     Ok(())
+}
+
+/// Raises the author's bound to `n` in each fragment, where each has one. Takes no memory.
+pub(crate) fn raise_all(rows: &mut Rows, author: u64, n: u64)
+    requires rows { AreRows rows.old }
+    requires risen { are_risen (author, n) (fragments_of rows.old) ≡ true }
+    ensures { rows.new ≡ rows_of (all_raised (author, n) (fragments_of rows.old)) }
+{
+    for k in 0..rows.rows() / 2 {
+        let row = entries(rows, k);
+        let _count = row.len();
+        let place = place_of(row, author);
+        rows.put(2 * k + 1, 2 * place + 1, n);
+    }
 }

@@ -10,9 +10,9 @@ pub(crate) struct Rows {
 }
 
 impl Model for Rows {
-    ghost use Rattle.std.specs.Prelude.{◌≡◌, true, ℕ, List};
+    ghost use Rattle.std.specs.Prelude.{ℕ, List};
     ghost use Rattle.std.specs.Coded.{coded_ℕ, coded_list};
-    ghost use Rattle.item_knowledge.specs.Spans.{cuts, are_spans};
+    ghost use Rattle.item_knowledge.specs.Spans.{cuts, IsCut};
 
     ghost Value = { List (List ℕ) };
 
@@ -20,11 +20,11 @@ impl Model for Rows {
 
     ghost view = { λ r. cuts r.words.items r.spans.items };
 
-    ghost invariant = { λ r. are_spans r.words.items r.spans.items ≡ true };
+    ghost invariant = { λ r. IsCut r.words.items r.spans.items };
 }
 
 impl Rows {
-    ghost use Rattle.std.specs.Prelude.{◌≡◌, ◌<◌, ◌↔◌, IsTrue, [], ◌∷◌, ◌++◌, length, get_or, OnOk, OnErr, IfOk};
+    ghost use Rattle.std.specs.Prelude.{◌≡◌, ◌<◌, ◌↔◌, IsTrue, [], ◌∷◌, ◌++◌, length, get_or, set, OnOk, OnErr, IfOk};
 
     /// No rows. Takes no memory.
     pub(crate) fn new(alloc: Global) -> Rows
@@ -58,6 +58,16 @@ impl Rows {
     {
         let (start, end) = self.spans[place];
         &self.words[start..end]
+    }
+
+    /// Puts a word into a row, in place of the one that is there. Takes no memory.
+    pub(crate) fn put(&mut self, place: usize, i: usize, word: u64)
+        requires row { place < length self.old }
+        requires inside { i < length (get_or self.old place []) }
+        ensures { self.new ≡ set self.old place (set (get_or self.old place []) i word) }
+    {
+        let (start, _end) = self.spans[place];
+        self.words[start + i] = word;
     }
 
     /// The number of rows.

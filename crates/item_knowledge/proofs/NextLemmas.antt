@@ -1,0 +1,123 @@
+-- An author's next version, raised in place.
+use Rattle.std.proofs.Common.{◌≡◌, ℕ, ◌+◌, ◌-◌, ◌<◌, ◌≤◌, Bool, true, false, leb, ltb, cond, ◌&&◌, ◌||◌, List, [], ◌∷◌, refl, sym, subst, ◌∙◌, inl, inr, arith}
+use Rattle.std.specs.List.{list_all}
+use Rattle.std.proofs.lemmas.Bool.{and_parts, and_from, lt-ltb, ltb-true, le-leb, leb-true, cases_lt, false≢true}
+use Rattle.photo_version.specs.Author.{Author, author_word, is_author_word, same_author}
+use Rattle.photo_version.specs.Version.{Version, version, same_version}
+use Rattle.item_knowledge.specs.Tables.{in_order}
+use Rattle.item_knowledge.specs.Entries.{Entry, denotes, is_entry, most_number, is_vector, bound, leq}
+use Rattle.item_knowledge.specs.Fragments.{Fragment, is_empty, first, lists, reaches, knows, are_groups, is_normal, entries_at}
+use Rattle.item_knowledge.specs.Gathering.{is_above}
+use Rattle.item_knowledge.specs.Kept.{IsKept, star_bound}
+use Rattle.item_knowledge.specs.Raising.{are_level, all_raised, are_risen, star_of_one}
+use Rattle.item_knowledge.specs.Rows.{fragments_of, rows_of}
+use Rattle.item_knowledge.proofs.EntryLemmas.{denotes-bound}
+use Rattle.item_knowledge.proofs.FragmentLemmas.{groups_parts, normal_parts, leq_at}
+use Rattle.item_knowledge.proofs.KeptLemmas.{kept_side, learned, next_known, star_next}
+use Rattle.item_knowledge.proofs.PictureLemmas.{listed, first_listed}
+use Rattle.item_knowledge.proofs.RaiseLemmas.{raised_kept, is_next}
+
+or_right : (a b : Bool) → b ≡ true → (a || b) ≡ true
+or_right true b h = refl
+or_right false b h = h
+
+or_left : (a b : Bool) → a ≡ true → (a || b) ≡ true
+or_left a b h = rw h refl
+
+-- Where no version that is known has a number above b, no bound is above b
+
+last_denoted : (es : List Entry) (a : Author) → is_vector es ≡ true → 0 < bound es (author_word a) → denotes es (version a (bound es (author_word a))) ≡ true
+last_denoted es a h z =
+    let n = bound es (author_word a) in
+    denotes-bound es (version a n) h ∙ and_from _ _ (le-leb 1 (bound es (author_word a)) (omega arith)) (le-leb (bound es (author_word a)) (bound es (author_word a)) (omega arith))
+
+reached : (f : Fragment) (fs : List Fragment) (p : ℕ) (v : Version) → reaches f p ≡ true → denotes f.entries v ≡ true → knows (f ∷ fs) p v ≡ true
+reached f fs p v here denoted = rw (here, denoted) refl
+
+-- no picture above 0 has a version of the author above b
+abbrev Within : List Fragment → Author → ℕ → Type 0
+Within fs a b = (p n : ℕ) → 0 < p → knows fs p (version a n) ≡ true → n ≤ b
+
+level_one : (f : Fragment) (fs : List Fragment) (p : ℕ) (a : Author) (b : ℕ) → is_vector f.entries ≡ true → 0 < p → reaches f p ≡ true → Within (f ∷ fs) a b → bound f.entries (author_word a) ≤ b
+level_one f fs p a b vector z here each = elim (cases_lt 0 (bound f.entries (author_word a))) [
+  | inl some ↦ each p (bound f.entries (author_word a)) z (reached f fs p (version a (bound f.entries (author_word a))) here (last_denoted f.entries a vector some))
+  | inr none ↦ omega arith
+]
+
+within_rest : (f : Fragment) (fs : List Fragment) (a : Author) (b : ℕ) → Within (f ∷ fs) a b → Within fs a b
+within_rest f fs a b each = λ p n z h. each p n z (or_right (reaches f p && denotes f.entries (version a n)) (knows fs p (version a n)) h)
+
+level_groups : (star : List Entry) (gs : List Fragment) (a : Author) (b : ℕ) → are_groups star gs ≡ true → Within gs a b → are_level gs (author_word a) b ≡ true
+level_groups star [] a b groups each = refl
+level_groups star (g ∷ gs) a b groups each =
+    let parts = groups_parts star g gs groups in
+    let p = first g.pictures in
+    let here = first_listed g.pictures parts.group.some in
+    let above = ltb-true 0 p (listed (λ q. ltb 0 q) g.pictures p parts.group.positive here) in
+    let reach : reaches g p ≡ true = or_right (is_empty g.pictures) (lists g.pictures p) here in
+    and_from _ _ (le-leb (bound g.entries (author_word a)) b (level_one g gs p a b parts.group.vector above reach each)) (level_groups star gs a b parts.rest (within_rest g gs a b each))
+
+pub level_known : (fs : List Fragment) (a : Author) (b : ℕ) → is_normal fs ≡ true → Within fs a b → are_level fs (author_word a) b ≡ true
+level_known [] a b normal each = absurd (false≢true normal)
+level_known (s ∷ gs) a b normal each =
+    let parts = normal_parts s gs normal in
+    let here : reaches s 1 ≡ true = or_left (is_empty s.pictures) (lists s.pictures 1) parts.star in
+    and_from _ _ (le-leb (bound s.entries (author_word a)) b (level_one s gs 1 a b parts.vector (omega arith) here each)) (level_groups s.entries gs a b parts.groups (within_rest s gs a b each))
+
+-- the same of a knowledge that is kept
+pub kept_level : (rows : List (List ℕ)) (xs : List (ℕ × ℕ)) (fs : List Fragment) (w : Version) → IsKept rows xs → fragments_of rows ≡ fs → w.number ≡ star_bound fs w.author + 1 → Within fs w.author (star_bound fs w.author) → are_level fs (author_word w.author) (w.number - 1) ≡ true
+kept_level rows xs fs w h same next each =
+    let before : star_bound fs w.author ≡ w.number - 1 = omega arith in
+    subst (λ b. are_level fs (author_word w.author) b ≡ true) before
+    (level_known fs w.author (star_bound fs w.author) (subst (λ gs. is_normal gs ≡ true) same h.normal) each)
+
+-- Each fragment has the author's entry where the star has it
+
+risen_all : (e : Entry) (star : List Entry) (b : ℕ) (fs : List Fragment) → list_all (λ (f : Fragment). is_above star f) fs ≡ true → 0 < bound star e.0 → are_level fs e.0 b ≡ true → b ≤ e.1 → are_risen e fs ≡ true
+risen_all e star b [] h z l m = refl
+risen_all e star b (f ∷ fs) h z l m =
+    let p = and_parts (is_above star f) (list_all (λ (g : Fragment). is_above star g) fs) h in
+    let q = and_parts (is_vector f.entries) (leq star f.entries) p.0 in
+    let order = (and_parts (in_order f.entries) (list_all (λ (x : Entry). is_entry x) f.entries) q.0).0 in
+    let r = and_parts (leb (bound f.entries e.0) b) (are_level fs e.0 b) l in
+    let least = leq_at star f.entries e.0 q.1 in
+    let most = leb-true (bound f.entries e.0) b r.0 in
+    and_from _ _
+    (and_from _ _ order (and_from _ _ (lt-ltb 0 (bound f.entries e.0) (omega arith)) (le-leb (bound f.entries e.0) e.1 (omega arith))))
+    (risen_all e star b fs p.1 z r.1 m)
+
+-- what a knowledge and an author's next version have
+pub record IsOwn (w : Version) (rows : List (List ℕ)) (xs : List (ℕ × ℕ)) : Type 0 where
+  pub kept : IsKept rows xs
+  pub entry : is_entry (author_word w.author, w.number) ≡ true
+  pub some : 0 < star_bound (fragments_of rows) w.author
+  pub next : w.number ≡ star_bound (fragments_of rows) w.author + 1
+  pub level : are_level (fragments_of rows) (author_word w.author) (w.number - 1) ≡ true
+
+pub own_from : (w : Version) (rows : List (List ℕ)) (xs : List (ℕ × ℕ)) (fs : List Fragment) (a n : ℕ) → IsKept rows xs → fragments_of rows ≡ fs → a ≡ author_word w.author → n ≡ w.number → is_author_word a ≡ true → 0 < n → n ≤ most_number → 0 < star_bound fs w.author → w.number ≡ star_bound fs w.author + 1 → are_level fs (author_word w.author) (w.number - 1) ≡ true → IsOwn w rows xs
+own_from w rows xs fs a n h same word number author above fits some next level = record {
+  kept = h;
+  entry = subst (λ m. is_entry (author_word w.author, m) ≡ true) number (subst (λ b. is_entry (b, n) ≡ true) word (and_from _ _ author (and_from _ _ (lt-ltb 0 n above) (le-leb n most_number fits))));
+  some = subst (λ gs. 0 < star_bound gs w.author) (sym same) some;
+  next = subst (λ gs. w.number ≡ star_bound gs w.author + 1) (sym same) next;
+  level = subst (λ gs. are_level gs (author_word w.author) (w.number - 1) ≡ true) (sym same) level;
+}
+
+pub own_risen : (w : Version) (rows : List (List ℕ)) (xs : List (ℕ × ℕ)) → IsOwn w rows xs → are_risen (author_word w.author, w.number) (fragments_of rows) ≡ true
+own_risen w rows xs h = risen_all (author_word w.author, w.number) (entries_at (fragments_of rows) 0) (w.number - 1) (fragments_of rows) (kept_side rows xs h.kept).above h.some h.level (omega arith)
+
+-- what a knowledge is that learned it
+pub record IsOwned (w : Version) (rows : List (List ℕ)) (xs : List (ℕ × ℕ)) (out : List (List ℕ)) : Type 0 where
+  pub kept : IsKept out xs
+  pub star : (a : Author) → star_bound (fragments_of out) a ≡ cond (same_author w.author a) w.number (star_bound (fragments_of rows) a)
+  pub learned : (p : ℕ) (v : Version) → 0 < p → knows (fragments_of out) p v ≡ (knows (fragments_of rows) p v || same_version w v)
+
+pub owned : (w : Version) (rows : List (List ℕ)) (xs : List (ℕ × ℕ)) (out : List (List ℕ)) → IsOwn w rows xs → out ≡ rows_of (all_raised (author_word w.author, w.number) (fragments_of rows)) → IsOwned w rows xs out
+owned w rows xs out h is =
+    let fs = fragments_of rows in
+    let made = raised_kept (author_word w.author, w.number) rows xs out h.kept (is_next (author_word w.author, w.number) fs fs refl h.entry h.next h.level) is in
+    record {
+      kept = made.kept;
+      star = λ a. made.union.star (author_word a) ∙ star_next fs w.author a w.number h.next;
+      learned = λ p v z. learned rows xs (star_of_one (author_word w.author, w.number)) (fragments_of out) [] xs h.kept made.union p v z ∙ next_known fs w p v h.kept.normal z h.next;
+    }

@@ -1,0 +1,253 @@
+-- A word is put into a row in place: into rows that are cut out of one list, and into those of fragments.
+use Rattle.std.proofs.Common.{◌≡◌, ℕ, zero, suc, ◌+◌, ◌-◌, ◌*◌, ◌<◌, ◌≤◌, true, leb, ltb, max, ◌&&◌, List, [], ◌∷◌, length, get_or, set, take, drop, refl, sym, subst, ap, ◌∙◌, arith}
+use Rattle.std.specs.List.{list_all}
+use Rattle.std.proofs.Math.Seq.{take-set-lt}
+use Rattle.std.proofs.lemmas.List.{drop-set-lt, drop-set-add, take-set-le, length-set, length-take}
+use Rattle.std.proofs.lemmas.Bool.{and_parts, and_from, lt-ltb, ltb-true, leb-true, eq-eqb, ne_eqb}
+use Rattle.item_knowledge.specs.Tables.{keys_pass, in_order}
+use Rattle.item_knowledge.specs.Entries.{Entry, bound, joined}
+use Rattle.item_knowledge.specs.Fragments.{Fragment, entries_at}
+use Rattle.item_knowledge.specs.Rows.{pairs, flat, AreRows, fragments_of, rows_of}
+use Rattle.item_knowledge.specs.Raising.{raised, all_raised, is_risen, are_risen}
+use Rattle.item_knowledge.specs.Spans.{cut, cuts, is_span, are_spans, are_apart, IsCut}
+use Rattle.item_knowledge.proofs.MergeLemmas.{drop_none, drop_next}
+use Rattle.item_knowledge.proofs.RowLemmas.{fragments_rows, rows_rows, rows_length, entries_row}
+use Rattle.item_knowledge.proofs.SpanLemmas.{span_at, row_at, cuts_length}
+use Rattle.item_knowledge.proofs.TableLemmas.{merge_left, merge_both}
+
+-- A word of one row is none of another
+
+cut_before : (ws : List ℕ) (k w : ℕ) (s : ℕ × ℕ) → k < s.0 → cut (set ws k w) s ≡ cut ws s
+cut_before ws k w s l = ap (take (s.1 - s.0)) (drop-set-lt s.0 ws k w l)
+
+cut_behind : (ws : List ℕ) (k w : ℕ) (s : ℕ × ℕ) → s.0 ≤ s.1 → s.1 ≤ k → cut (set ws k w) s ≡ cut ws s
+cut_behind ws k w s l m =
+    let is : k ≡ s.0 + (k - s.0) = omega arith in
+    ap (λ j. take (s.1 - s.0) (drop s.0 (set ws j w))) is
+    ∙ (ap (take (s.1 - s.0)) (drop-set-add s.0 ws (k - s.0) w)
+    ∙ take-set-le (s.1 - s.0) (drop s.0 ws) (k - s.0) w (omega arith))
+
+cut_here : (ws : List ℕ) (i w : ℕ) (s : ℕ × ℕ) → i < s.1 - s.0 → cut (set ws (s.0 + i) w) s ≡ set (cut ws s) i w
+cut_here ws i w s l = ap (take (s.1 - s.0)) (drop-set-add s.0 ws i w) ∙ take-set-lt (s.1 - s.0) (drop s.0 ws) i w l
+
+cuts_before : (ws : List ℕ) (k w n : ℕ) (ss : List (ℕ × ℕ)) → k < n → list_all (λ t. leb n t.0) ss ≡ true → cuts (set ws k w) ss ≡ cuts ws ss
+cuts_before ws k w n [] l h = refl
+cuts_before ws k w n (s ∷ ss) l h =
+    let a = and_parts (leb n s.0) (list_all (λ t. leb n t.0) ss) h in
+    let le = leb-true n s.0 a.0 in
+    λ j. cut_before ws k w s (omega arith) j ∷ cuts_before ws k w n ss l a.1 j
+
+from_all : (n : ℕ) (ss : List (ℕ × ℕ)) (i : ℕ) → list_all (λ t. leb n t.0) ss ≡ true → i < length ss → n ≤ (get_or ss i (0, 0)).0
+from_all n [] i h l = absurd (omega arith)
+from_all n (s ∷ ss) zero h l = leb-true n s.0 (and_parts (leb n s.0) (list_all (λ t. leb n t.0) ss) h).0
+from_all n (s ∷ ss) (suc i) h l = from_all n ss i (and_parts (leb n s.0) (list_all (λ t. leb n t.0) ss) h).1 (omega arith)
+
+cuts_put : (ws : List ℕ) (spans : List (ℕ × ℕ)) (place i w : ℕ) → are_spans ws spans ≡ true → are_apart spans ≡ true → place < length spans → i < (get_or spans place (0, 0)).1 - (get_or spans place (0, 0)).0 → cuts (set ws ((get_or spans place (0, 0)).0 + i) w) spans ≡ set (cuts ws spans) place (set (cut ws (get_or spans place (0, 0))) i w)
+cuts_put ws [] place i w h p l m = absurd (omega arith)
+cuts_put ws (s ∷ ss) zero i w h p l m =
+    let b = and_parts (list_all (λ t. leb s.1 t.0) ss) (are_apart ss) p in
+    λ j. cut_here ws i w s m j ∷ cuts_before ws (s.0 + i) w s.1 ss (omega arith) b.0 j
+cuts_put ws (s ∷ ss) (suc place) i w h p l m =
+    let a = and_parts (is_span (length ws) s) (are_spans ws ss) h in
+    let b = and_parts (list_all (λ t. leb s.1 t.0) ss) (are_apart ss) p in
+    let less : place < length ss = omega arith in
+    let from = from_all s.1 ss place b.0 less in
+    let span = span_at ws (s ∷ ss) 0 (0, 0) h (omega arith) in
+    λ j. cut_behind ws ((get_or ss place (0, 0)).0 + i) w s span.0 (omega arith) j ∷ cuts_put ws ss place i w a.1 b.1 less m j
+
+row_size : (ws : List ℕ) (spans : List (ℕ × ℕ)) (place i : ℕ) → are_spans ws spans ≡ true → place < length spans → i < length (get_or (cuts ws spans) place []) → i < (get_or spans place (0, 0)).1 - (get_or spans place (0, 0)).0
+row_size ws spans place i h l m =
+    let s = get_or spans place (0, 0) in
+    let is = ap length (row_at ws spans place (0, 0) l) in
+    let size = length-take (s.1 - s.0) (drop s.0 ws) in
+    omega arith
+
+-- what a row's word, put in place, makes of the rows
+pub record IsPut (ws new : List ℕ) (spans : List (ℕ × ℕ)) (place i w : ℕ) : Type 0 where
+  pub shown : cuts new spans ≡ set (cuts ws spans) place (set (get_or (cuts ws spans) place []) i w)
+  pub within : IsCut new spans
+
+pub word_within : (ws : List ℕ) (spans : List (ℕ × ℕ)) (place i : ℕ) → IsCut ws spans → place < length (cuts ws spans) → i < length (get_or (cuts ws spans) place []) → (place < length spans) × ((get_or spans place (0, 0)).0 + i < length ws)
+word_within ws spans place i h l m =
+    let n = cuts_length ws spans in
+    let less : place < length spans = omega arith in
+    let size = row_size ws spans place i h.within less m in
+    let span = span_at ws spans place (0, 0) h.within less in
+    let high = span.1 in
+    (less, omega arith)
+
+pub word_put : (ws new : List ℕ) (spans : List (ℕ × ℕ)) (place i k w : ℕ) → IsCut ws spans → place < length (cuts ws spans) → i < length (get_or (cuts ws spans) place []) → k ≡ (get_or spans place (0, 0)).0 + i → new ≡ set ws k w → IsPut ws new spans place i w
+word_put ws new spans place i k w h l m at is =
+    let less = (word_within ws spans place i h l m).0 in
+    let made : new ≡ set ws ((get_or spans place (0, 0)).0 + i) w = is ∙ ap (λ j. set ws j w) at in
+    subst (λ zs. IsPut ws zs spans place i w) (sym made) (record {
+      shown =
+          cuts_put ws spans place i w h.within h.apart less (row_size ws spans place i h.within less m)
+          ∙ ap (λ row. set (cuts ws spans) place (set row i w)) (sym (row_at ws spans place (0, 0) less));
+      within = record {
+        within = subst (λ n. list_all (λ s. is_span n s) spans ≡ true) (sym (length-set ws ((get_or spans place (0, 0)).0 + i) w)) h.within;
+        apart = h.apart;
+      };
+    })
+
+-- a place within has no need of the other value
+pub same_span : (ss : List (ℕ × ℕ)) (i : ℕ) (d e : ℕ × ℕ) → i < length ss → get_or ss i d ≡ get_or ss i e
+same_span [] i d e l = absurd (omega arith)
+same_span (s ∷ ss) zero d e l = refl
+same_span (s ∷ ss) (suc i) d e l = same_span ss i d e (omega arith)
+
+-- The entry of an author who has one
+
+pub bound_passed : (es : List Entry) (i a : ℕ) → i < length es → ((get_or es i (0, 0)).0 ≡ a → ⊥) → bound (drop i es) a ≡ bound (drop (i + 1) es) a
+bound_passed es i a l n = ap (λ ds. bound ds a) (drop_next es i (0, 0) l) ∙ rw (ne_eqb (get_or es i (0, 0)).0 a n) refl
+
+pub bound_none : (es : List Entry) (i a : ℕ) → length es ≤ i → bound (drop i es) a ≡ 0
+bound_none es i a l = ap (λ ds. bound ds a) (drop_none es i l)
+
+-- A bound that is raised in place is the join with the one entry
+
+joined_none : (es : List Entry) → in_order es ≡ true → joined es [] ≡ es
+joined_none [] h = refl
+joined_none (e ∷ es) h =
+    let a = and_parts (keys_pass (λ k. ltb e.0 k) es) (in_order es) h in
+    merge_left (λ n. n) (λ n m. max n m) (λ m. m) e es [] a.0 refl ∙ ap (λ ds. e ∷ ds) (joined_none es a.1)
+
+above_at : (k : ℕ) (es : List Entry) (i : ℕ) → keys_pass (λ n. ltb k n) es ≡ true → i < length es → k < (get_or es i (0, 0)).0
+above_at k [] i h l = absurd (omega arith)
+above_at k (e ∷ es) zero h l = ltb-true k e.0 (and_parts (ltb k e.0) (keys_pass (λ n. ltb k n) es) h).0
+above_at k (e ∷ es) (suc i) h l = above_at k es i (and_parts (ltb k e.0) (keys_pass (λ n. ltb k n) es) h).1 (omega arith)
+
+entry_bound : (es : List Entry) (i a : ℕ) → in_order es ≡ true → i < length es → (get_or es i (0, 0)).0 ≡ a → bound es a ≡ (get_or es i (0, 0)).1
+entry_bound [] i a h l e = absurd (omega arith)
+entry_bound (x ∷ es) zero a h l e = rw (eq-eqb x.0 a e) refl
+entry_bound (x ∷ es) (suc i) a h l e =
+    let p = and_parts (keys_pass (λ k. ltb x.0 k) es) (in_order es) h in
+    let less = above_at x.0 es i p.0 (omega arith) in
+    rw (ne_eqb x.0 a (λ s. absurd (omega arith))) (entry_bound es i a p.1 (omega arith) e)
+
+entry_joined : (es : List Entry) (i a n : ℕ) → in_order es ≡ true → i < length es → (get_or es i (0, 0)).0 ≡ a → (get_or es i (0, 0)).1 ≤ n → joined es ((a, n) ∷ []) ≡ set es i (a, n)
+entry_joined [] i a n h l e m = absurd (omega arith)
+entry_joined (x ∷ es) zero a n h l e m =
+    let p = and_parts (keys_pass (λ k. ltb x.0 k) es) (in_order es) h in
+    let most : max x.1 n ≡ n = omega arith in
+    merge_both (λ k. k) (λ k j. max k j) (λ j. j) x es (a, n) [] e p.0 ∙ (λ z. (e z, most z) ∷ joined_none es p.1 z)
+entry_joined (x ∷ es) (suc i) a n h l e m =
+    let p = and_parts (keys_pass (λ k. ltb x.0 k) es) (in_order es) h in
+    let less = above_at x.0 es i p.0 (omega arith) in
+    merge_left (λ k. k) (λ k j. max k j) (λ j. j) x es ((a, n) ∷ []) p.0 (and_from _ _ (lt-ltb x.0 a (omega arith)) refl)
+    ∙ ap (λ ds. x ∷ ds) (entry_joined es i a n p.1 (omega arith) e m)
+
+flat_put : (es : List Entry) (i a n : ℕ) → i < length es → (get_or es i (0, 0)).0 ≡ a → set (flat es) (2 * i + 1) n ≡ flat (set es i (a, n))
+flat_put [] i a n l e = absurd (omega arith)
+flat_put (x ∷ es) zero a n l e = λ z. e z ∷ n ∷ flat es
+flat_put (x ∷ es) (suc i) a n l e =
+    let two : 2 * suc i + 1 ≡ suc (suc (2 * i + 1)) = omega arith in
+    ap (λ k. set (flat (x ∷ es)) k n) two ∙ ap (λ ws. x.0 ∷ x.1 ∷ ws) (flat_put es i a n (omega arith) e)
+
+-- a row whose author's bound is raised in place
+row_put : (es : List Entry) (i a n : ℕ) → in_order es ≡ true → i < length es → (get_or es i (0, 0)).0 ≡ a → bound es a ≤ n → set (flat es) (2 * i + 1) n ≡ flat (joined es ((a, n) ∷ []))
+row_put es i a n h l e m =
+    let is = entry_bound es i a h l e in
+    flat_put es i a n l e ∙ ap flat (sym (entry_joined es i a n h l e (omega arith)))
+
+-- The fragments up to a place are raised
+
+abbrev pub raised_to : Entry → ℕ → List Fragment → List Fragment
+raised_to e zero fs = fs
+raised_to e (suc k) [] = []
+raised_to e (suc k) (f ∷ fs) = raised e f ∷ raised_to e k fs
+
+pub raised_count : (e : Entry) (k : ℕ) (fs : List Fragment) → length (raised_to e k fs) ≡ length fs
+raised_count e zero fs = refl
+raised_count e (suc k) [] = refl
+raised_count e (suc k) (f ∷ fs) = ap suc (raised_count e k fs)
+
+pub raised_at : (e : Entry) (k : ℕ) (fs : List Fragment) → entries_at (raised_to e k fs) k ≡ entries_at fs k
+raised_at e zero fs = refl
+raised_at e (suc k) [] = refl
+raised_at e (suc k) (f ∷ fs) = raised_at e k fs
+
+pub raised_end : (e : Entry) (k : ℕ) (fs : List Fragment) → length fs ≤ k → raised_to e k fs ≡ all_raised e fs
+raised_end e zero [] l = refl
+raised_end e zero (f ∷ fs) l = absurd (omega arith)
+raised_end e (suc k) [] l = refl
+raised_end e (suc k) (f ∷ fs) l = ap (λ gs. raised e f ∷ gs) (raised_end e k fs (omega arith))
+
+raised_row : (e : Entry) (k : ℕ) (fs : List Fragment) → k < length fs → set (rows_of (raised_to e k fs)) (2 * k + 1) (flat (joined (entries_at fs k) (e ∷ []))) ≡ rows_of (raised_to e (suc k) fs)
+raised_row e zero [] l = absurd (omega arith)
+raised_row e zero (f ∷ fs) l = refl
+raised_row e (suc k) [] l = absurd (omega arith)
+raised_row e (suc k) (f ∷ fs) l =
+    let two : 2 * suc k + 1 ≡ suc (suc (2 * k + 1)) = omega arith in
+    ap (λ j. set (rows_of (raised_to e (suc k) (f ∷ fs))) j (flat (joined (entries_at fs k) (e ∷ [])))) two
+    ∙ ap (λ rows. f.pictures ∷ flat (joined f.entries (e ∷ [])) ∷ rows) (raised_row e k fs (omega arith))
+
+pub record RisenParts (e : Entry) (fs : List Fragment) (k : ℕ) : Type 0 where
+  pub order : in_order (entries_at fs k) ≡ true
+  pub some : 0 < bound (entries_at fs k) e.0
+  pub most : bound (entries_at fs k) e.0 ≤ e.1
+
+pub risen_at : (e : Entry) (fs : List Fragment) (k : ℕ) → are_risen e fs ≡ true → k < length fs → RisenParts e fs k
+risen_at e [] k h l = absurd (omega arith)
+risen_at e (f ∷ fs) zero h l =
+    let a = and_parts (is_risen e f) (are_risen e fs) h in
+    let b = and_parts (in_order f.entries) (ltb 0 (bound f.entries e.0) && leb (bound f.entries e.0) e.1) a.0 in
+    let c = and_parts (ltb 0 (bound f.entries e.0)) (leb (bound f.entries e.0) e.1) b.1 in
+    record { order = b.0; some = ltb-true 0 (bound f.entries e.0) c.0; most = leb-true (bound f.entries e.0) e.1 c.1 }
+risen_at e (f ∷ fs) (suc k) h l =
+    let rest = risen_at e fs k (and_parts (is_risen e f) (are_risen e fs) h).1 (omega arith) in
+    record { order = rest.order; some = rest.some; most = rest.most }
+
+-- what rows are whose fragments up to the kth are raised
+pub record RaisedTo (e : Entry) (k : ℕ) (fs : List Fragment) (rows : List (List ℕ)) : Type 0 where
+  pub are_rows : AreRows rows
+  pub size : length rows ≡ 2 * length fs
+  pub count : length (fragments_of rows) ≡ length fs
+  pub entries : entries_at (fragments_of rows) k ≡ entries_at fs k
+  pub row : k < length fs → get_or rows (2 * k + 1) [] ≡ flat (entries_at fs k)
+
+pub so_far : (e : Entry) (k : ℕ) (fs : List Fragment) (rows : List (List ℕ)) → rows ≡ rows_of (raised_to e k fs) → RaisedTo e k fs rows
+so_far e k fs rows is =
+    let gs = raised_to e k fs in
+    let count = raised_count e k fs in
+    let at = raised_at e k fs in
+    let size = rows_length (raised_to e k fs) in
+    subst (RaisedTo e k fs) (sym is) (record {
+      are_rows = rows_rows gs;
+      size = omega arith;
+      count = ap length (fragments_rows gs) ∙ count;
+      entries = ap (λ hs. entries_at hs k) (fragments_rows gs) ∙ at;
+      row = λ l. entries_row gs k (omega arith) ∙ ap flat at;
+    })
+
+-- the place of the author's entry in a row
+pub record IsEntry (row : List ℕ) (es : List Entry) (place a : ℕ) : Type 0 where
+  pub entries : pairs row ≡ es
+  pub inside : place < length (pairs row)
+  pub author : (get_or (pairs row) place (0, 0)).0 ≡ a
+
+-- the word to be put is in its row
+pub word_inside : (e : Entry) (k : ℕ) (fs : List Fragment) (rows : List (List ℕ)) (row : List ℕ) (place : ℕ) → RaisedTo e k fs rows → k < length fs → IsEntry row (entries_at fs k) place e.0 → 2 * place + 1 < length (get_or rows (2 * k + 1) [])
+word_inside e k fs rows row place r l f =
+    let is = ap length (r.row l) in
+    let size = flat_size (entries_at fs k) in
+    let same = ap length f.entries in
+    let less = f.inside in
+    omega arith
+  where
+    flat_size : (es : List Entry) → length (flat es) ≡ 2 * length es
+    flat_size [] = refl
+    flat_size (x ∷ es) = let rest = flat_size es in omega arith
+
+pub raised_next : (e : Entry) (k : ℕ) (fs : List Fragment) (rows new : List (List ℕ)) (row : List ℕ) (place : ℕ) → are_risen e fs ≡ true → rows ≡ rows_of (raised_to e k fs) → k < length fs → IsEntry row (entries_at fs k) place e.0 → new ≡ set rows (2 * k + 1) (set (get_or rows (2 * k + 1) []) (2 * place + 1) e.1) → new ≡ rows_of (raised_to e (k + 1) fs)
+raised_next e k fs rows new row place risen is l f put =
+    let r = so_far e k fs rows is in
+    let p = risen_at e fs k risen l in
+    let es = entries_at fs k in
+    let here : place < length (entries_at fs k) = subst (λ (ds : List Entry). place < length ds) f.entries f.inside in
+    let author : (get_or (entries_at fs k) place (0, 0)).0 ≡ e.0 = subst (λ (ds : List Entry). (get_or ds place (0, 0)).0 ≡ e.0) f.entries f.author in
+    let made : set (get_or rows (2 * k + 1) []) (2 * place + 1) e.1 ≡ flat (joined es (e ∷ [])) = ap (λ ws. set ws (2 * place + 1) e.1) (r.row l) ∙ row_put es place e.0 e.1 p.order here author p.most in
+    let one : suc k ≡ k + 1 = omega arith in
+    put
+    ∙ ((λ j. set (is j) (2 * k + 1) (made j))
+    ∙ (raised_row e k fs l ∙ ap (λ m. rows_of (raised_to e m fs)) one))

@@ -1,0 +1,5 @@
+use Rattle.item_knowledge.proofs.NextLemmas.{kept_level}
+use Rattle.item_knowledge.proofs.knowledge.Knowledge.raise_own.Goals as goal
+
+pub take_next-requires-clause-level : goal.take_next-requires-clause-level
+take_next-requires-clause-level c = kept_level c.self.inside.live c.self.inside.index.items c.args.self.now c.args.version c.self.invariant c.self.view_is c.requires.next c.requires.level
