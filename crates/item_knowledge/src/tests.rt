@@ -121,8 +121,9 @@ fn own_versions_come_to_the_star(rt: HostRuntime) -> Result<(), Fail> {
 
 /// A number of a fixed sequence.
 fn next(seed: &mut u32) -> u64 {
-    *seed = seed.wrapping_mul(1_664_525).wrapping_add(1_013_904_223);
-    u64::from(*seed >> 16)
+    let before = *seed % 65_537;
+    *seed = (before * 75 + 74) % 65_537;
+    u64::from(*seed)
 }
 
 /// A knowledge, and beside it the plain set of its pairs at the pictures 1 to 4, of which 4 is told nothing by itself.
