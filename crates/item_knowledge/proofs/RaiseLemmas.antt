@@ -1,11 +1,10 @@
 -- Where no fragment has an author above the star, raising the author's bound in each of them keeps the normal form.
-use Rattle.std.proofs.Common.{◌≡◌, ℕ, zero, suc, ◌+◌, ◌-◌, ◌<◌, ◌≤◌, Bool, true, false, not, leb, ltb, cond, max, ◌&&◌, ◌||◌, List, [], ◌∷◌, ◌++◌, length, get_or, drop, map, refl, sym, subst, ap, ◌∙◌, inl, inr, arith, append_assoc, Option, None, Some}
+use Rattle.std.proofs.Common.{◌≡◌, ℕ, zero, suc, ◌+◌, ◌-◌, ◌<◌, ◌≤◌, Bool, true, false, not, leb, ltb, cond, ◌&&◌, List, [], ◌∷◌, ◌++◌, length, get_or, drop, refl, sym, subst, ap, ◌∙◌, inl, inr, arith, append_assoc, Option, None, Some}
 use Rattle.std.specs.List.{list_all}
-use Rattle.std.proofs.lemmas.Bool.{and_parts, and_from, lt-ltb, ltb-true, leb-true, ne_eqb, cases_Bool, cases_eq, false≢true}
-use Rattle.photo_version.specs.Version.{Version}
+use Rattle.std.proofs.lemmas.Bool.{and_parts, and_from, leb-true, ne_eqb, cases_Bool, cases_eq, false≢true}
 use Rattle.item_knowledge.specs.Tables.{at, in_order}
 use Rattle.item_knowledge.specs.Entries.{Entry, denotes, is_entry, is_vector, bound, leq, same_entries, joined}
-use Rattle.item_knowledge.specs.Fragments.{Fragment, lists, knows, is_group, goes_before, are_groups, is_normal, find, or_star, known, nothing, entries_at}
+use Rattle.item_knowledge.specs.Fragments.{Fragment, lists, is_group, goes_before, are_groups, is_normal, find, or_star, known, nothing, entries_at}
 use Rattle.item_knowledge.specs.Rows.{pairs, flat, IsRow, rows_of, fragments_of}
 use Rattle.item_knowledge.specs.Gathering.{vector_of, is_above, IsIndex, IsUnion}
 use Rattle.item_knowledge.specs.Kept.{IsKept}

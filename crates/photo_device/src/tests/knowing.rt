@@ -24,7 +24,7 @@ fn has_history(device: &Device, n: u32, last: u32) -> bool {
 fn knows_up_to(device: &Device, last: u32) -> bool {
     for number in [1, 7, 8, 999_999_999] {
         if knows(device, number, 3, last) != Some(true)
-            || knows(device, number, 3, last + 1) != Some(false)
+            || knows(device, number, 3, last.saturating_add(1)) != Some(false)
             || knows(device, number, 2, 1) != Some(false)
         {
             return false;

@@ -1,4 +1,4 @@
-use Rattle.std.proofs.Common.{◌≡◌, true, sym, ap, ◌∙◌, arith}
+use Rattle.std.proofs.Common.{sym, ap, ◌∙◌, arith}
 use Rattle.item_knowledge.specs.Raising.{are_level}
 use Rattle.item_knowledge.specs.Rows.{fragments_of}
 use Rattle.item_knowledge.proofs.MergeLemmas.{drop_none}

@@ -1,7 +1,7 @@
 use Rattle.std.proofs.Common.{rules, ◌≡◌, ◌++◌, ◌∷◌, [], get_or, length, ◌<◌, ◌*◌, sym, subst, ap, ◌∙◌, true, arith}
 use Rattle.item_knowledge.specs.Tables.{in_order}
 use Rattle.item_knowledge.specs.Entries.{joined}
-use Rattle.item_knowledge.specs.Fragments.{nothing, entries_at}
+use Rattle.item_knowledge.specs.Fragments.{entries_at}
 use Rattle.item_knowledge.specs.Raising.{all_raised}
 use Rattle.item_knowledge.specs.Rows.{pairs, fragments_of, rows_of}
 use Rattle.item_knowledge.proofs.RowLemmas.{rows_read, pictures_read}

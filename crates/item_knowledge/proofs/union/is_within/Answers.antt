@@ -1,5 +1,5 @@
-use Rattle.std.proofs.Common.{rules, ◌≡◌, ◌<◌, true, false, ℕ, length, get_or, drop, sym, subst, ap, ◌∙◌, arith}
-use Rattle.item_knowledge.specs.Tables.{in_order, at}
+use Rattle.std.proofs.Common.{rules, ◌≡◌, ◌<◌, true, false, length, get_or, sym, subst, ◌∙◌, arith}
+use Rattle.item_knowledge.specs.Tables.{in_order}
 use Rattle.item_knowledge.specs.Entries.{is_vector, leq}
 use Rattle.item_knowledge.specs.Fragments.{entries_at}
 use Rattle.item_knowledge.specs.Rows.{fragments_of}

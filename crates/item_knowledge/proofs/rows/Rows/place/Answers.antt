@@ -1,4 +1,4 @@
-use Rattle.std.proofs.Common.{rules, ◌≡◌, ◌++◌, ◌∷◌, [], length, sym, subst, ap, ◌∙◌}
+use Rattle.std.proofs.Common.{rules, ◌≡◌, ◌++◌, ◌∷◌, [], length, ap, ◌∙◌}
 use Rattle.item_knowledge.specs.Spans.{cuts}
 use Rattle.item_knowledge.proofs.SpanLemmas.{more_words, one_row, on_err}
 use Rattle.item_knowledge.proofs.rows.Rows.place.Goals as goal
