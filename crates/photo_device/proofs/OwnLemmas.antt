@@ -63,12 +63,12 @@ one_more n k =
     elim (cases_lt n 1) [
       | inl none ↦ rw (lt-leb 1 n none, ne_eqb (k + 1) n (λ e. omega arith)) refl
       | inr some ↦ elim (cases_lt k n) [
-          | inl above ↦ elim (cases_eq (k + 1) n) [
-              | inl here ↦ rw (le-leb 1 n some, lt-leb n k above, eq-eqb (k + 1) n here, le-leb n (k + 1) (omega arith)) refl
-              | inr apart ↦ rw (le-leb 1 n some, lt-leb n k above, ne_eqb (k + 1) n apart, lt-leb n (k + 1) (omega arith)) refl
-            ]
-          | inr within ↦ rw (le-leb 1 n some, le-leb n k within, le-leb n (k + 1) (omega arith)) refl
+        | inl above ↦ elim (cases_eq (k + 1) n) [
+          | inl here ↦ rw (le-leb 1 n some, lt-leb n k above, eq-eqb (k + 1) n here, le-leb n (k + 1) (omega arith)) refl
+          | inr apart ↦ rw (le-leb 1 n some, lt-leb n k above, ne_eqb (k + 1) n apart, lt-leb n (k + 1) (omega arith)) refl
         ]
+        | inr within ↦ rw (le-leb 1 n some, le-leb n k within, le-leb n (k + 1) (omega arith)) refl
+      ]
     ]
 
 up_to : (n k : ℕ) → (leb 1 n && leb n k) ≡ (leb 1 n && ltb n (k + 1))

@@ -15,7 +15,8 @@ fn knows(device: &Device, number: u32, author: u16, n: u32) -> Option<bool> {
 fn has_history(device: &Device, n: u32, last: u32) -> bool {
     match held(device, n) {
         Some(held) if last == 0 => held.made_with.is_empty(),
-        Some(held) => held.made_with.len() == 1 && held.made_with.entry(0) == (device.author(), last),
+        Some(held) => held.made_with.len() == 1
+            && held.made_with.entry(0) == (device.author(), last),
         None => false,
     }
 }

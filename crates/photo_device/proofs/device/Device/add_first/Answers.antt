@@ -21,9 +21,9 @@ invariant_of-self c =
     let author = ap (λ (d : Kept). d.author) held_is ∙ author_at c.args.place c.args.held _ in
     let counter = c.n-self-inside.ensures.value ∙ ap (λ (x : Version). x.number) next in
     let own = own_learned c.self.inside.author c.self.inside.counter v c.self.inside.knowledge c.learn_own.new.self next
-          (λ a. c.in_ok-learn_own.ensures.star a ∙ ap (λ (fs : List Fragment). cond (same_author v.author a) v.number (star_bound fs a)) c.in_ok-knowledge.ensures)
-          (λ p w above. c.in_ok-learn_own.ensures.learned p w above ∙ ap (λ (fs : List Fragment). knows fs p w || same_version v w) c.in_ok-knowledge.ensures)
-          c.self.invariant.knows in
+    (λ a. c.in_ok-learn_own.ensures.star a ∙ ap (λ (fs : List Fragment). cond (same_author v.author a) v.number (star_bound fs a)) c.in_ok-knowledge.ensures)
+    (λ p w above. c.in_ok-learn_own.ensures.learned p w above ∙ ap (λ (fs : List Fragment). knows fs p w || same_version v w) c.in_ok-knowledge.ensures)
+    c.self.invariant.knows in
     record {
       knows = subst (λ a. KnowsItsOwn a c.n-self-inside.result c.learn_own.new.self) (sym author) (subst (λ n. KnowsItsOwn c.self.inside.author n c.learn_own.new.self) (sym counter) own);
       store = c.self-2.invariant.store;

@@ -28,7 +28,7 @@ invariant_of-self c =
     let next = next_at c.args.place c.args.held c.args.self.now _ (c.self.view_is ∙ c.in_ok-hold.ensures.ok) c.requires.next in
     let counter = c.n-self-inside.ensures.value ∙ ap (λ (x : Version). x.number) next in
     let own = own_learned c.self.inside.author c.self.inside.counter c.args.held.version c.self.inside.knowledge c.raise_own.new.self next
-          c.raise_own.ensures.star c.raise_own.ensures.learned c.self.invariant.knows in
+    c.raise_own.ensures.star c.raise_own.ensures.learned c.self.invariant.knows in
     record {
       knows = subst (λ n. KnowsItsOwn c.self.inside.author n c.raise_own.new.self) (sym counter) own;
       store = c.self.invariant.store;
