@@ -1,6 +1,7 @@
 use crate::{BlockList, Room};
 use std::alloc::{AllocError, Global};
-use std::test::Fail;
+
+// A list that is owned has its own function here, with no `rt` beside it, and a table is a constant: so the proofs are short.
 
 /// 0, 1, 2 .. n - 1, each put before the others.
 fn falling(alloc: Global, n: u32) -> Result<BlockList<u32>, AllocError> {
@@ -53,140 +54,257 @@ fn counts_without(list: &BlockList<u32>, from: u32, to: u32) -> bool {
     true
 }
 
-#[test]
-fn a_list_that_grows_at_its_front_is_halved(rt: HostRuntime) -> Result<(), Fail> {
-    for (n, wanted) in [
-        (0, (0, 0)),
-        (127, (1, 127)),
-        (128, (2, 64)),
-        (129, (2, 65)),
-        (192, (3, 64)),
-    ] {
-        let list = falling(rt.alloc(), n)?;
-        assert_eq!(rt; list.len(), n as usize);
-        assert!(rt; counts_without(&list, 0, 0), "of {n}");
-        assert_eq!(rt; shape(&list), wanted, "of {n}");
-    }
-    Ok(())
+/// How many blocks there are to be, and how long the first.
+type Shape = (usize, usize);
+
+/// Whether the list is 0, 1, 2 .. n - 1, in blocks of that shape.
+fn counts_to(list: &BlockList<u32>, n: u32, wanted: Shape) -> bool {
+    list.len() == n as usize && counts_without(list, 0, 0) && shape(list) == wanted
 }
 
-#[test]
-fn a_list_that_grows_at_its_end_has_full_blocks(rt: HostRuntime) -> Result<(), Fail> {
-    for (n, wanted) in [(127, 1), (128, 2), (254, 2), (255, 3)] {
-        let list = rising(rt.alloc(), n)?;
-        assert_eq!(rt; list.len(), n as usize);
-        assert!(rt; counts_without(&list, 0, 0), "of {n}");
-        assert_eq!(rt; shape(&list), (wanted, 127), "of {n}");
+fn falls(alloc: Global, n: u32, wanted: Shape) -> bool {
+    match falling(alloc, n) {
+        Ok(list) => counts_to(&list, n, wanted),
+        Err(_) => false,
     }
-    Ok(())
 }
 
-#[test]
-fn ranges_are_removed_over_blocks(rt: HostRuntime) -> Result<(), Fail> {
-    for (from, to, wanted) in [
-        (5, 5, (3, 127)),
-        (0, 1, (3, 126)),
-        (126, 128, (3, 126)),
-        (100, 260, (2, 100)),
-        (0, 127, (2, 127)),
-        (127, 254, (2, 127)),
-        (127, 275, (1, 127)),
-        (0, 275, (0, 0)),
-    ] {
-        let mut list = rising(rt.alloc(), 275)?;
-        assert!(rt; from <= to && to <= 275 && list.len() == 275);
-        list.remove_range(from as usize, to as usize);
-        assert_eq!(rt; list.len(), (275 - (to - from)) as usize);
-        assert!(rt; counts_without(&list, from, to), "{from} to {to}");
-        assert_eq!(rt; shape(&list), wanted, "{from} to {to}");
-    }
-    Ok(())
-}
+const FALLING: &[(u32, Shape)] = &[
+    (0, (0, 0)),
+    (127, (1, 127)),
+    (128, (2, 64)),
+    (129, (2, 65)),
+    (192, (3, 64)),
+];
 
 #[test]
-fn a_list_shrinks_through_the_block_length(rt: HostRuntime) -> Result<(), Fail> {
-    let mut list = rising(rt.alloc(), 129)?;
-    for (left, wanted) in [(128, (2, 126)), (127, (2, 125)), (2, (1, 2)), (1, (1, 1))] {
-        for _ in left..list.len() {
-            assert!(rt; !list.is_empty());
-            list.remove_range(0, 1);
-        }
-        assert_eq!(rt; shape(&list), wanted, "{left} left");
+fn a_list_that_grows_at_its_front_is_halved(rt: HostRuntime) {
+    for (n, wanted) in FALLING {
+        assert!(rt; falls(rt.alloc(), *n, *wanted), "of {n}");
     }
-    assert_eq!(rt; list.pop(), Some(128));
-    assert!(rt; list.pop().is_none() && list.is_empty());
-    Ok(())
 }
 
-#[test]
-fn a_room_becomes_a_list_of_short_blocks(rt: HostRuntime) -> Result<(), Fail> {
-    for (n, wanted) in [
-        (0, (0, 0)),
-        (1, (1, 1)),
-        (256, (1, 256)),
-        (257, (2, 256)),
-        (2_000, (8, 256)),
-    ] {
-        let list = roomy(rt.alloc(), n)?;
-        assert_eq!(rt; list.len(), n as usize);
-        assert!(rt; counts_without(&list, 0, 0), "of {n}");
-        assert_eq!(rt; shape(&list), wanted, "of {n}");
+fn rises(alloc: Global, n: u32, wanted: Shape) -> bool {
+    match rising(alloc, n) {
+        Ok(list) => counts_to(&list, n, wanted),
+        Err(_) => false,
     }
-    Ok(())
 }
 
-#[test]
-fn a_list_from_a_room_changes_like_another(rt: HostRuntime) -> Result<(), Fail> {
-    let mut list = roomy(rt.alloc(), 1_000)?;
-    assert_eq!(rt; list.len(), 1_000);
-    list.remove_range(200, 800);
-    assert!(rt; list.len() == 400 && counts_without(&list, 200, 800));
-    for i in 200..800 {
-        assert!(rt; list.len() >= i as usize);
-        list.insert(i as usize, i)?;
-    }
-    assert!(rt; counts_without(&list, 0, 0));
-    assert_eq!(rt; shape(&list), (12, 100));
-    Ok(())
-}
+const RISING: &[(u32, Shape)] = &[
+    (127, (1, 127)),
+    (128, (2, 127)),
+    (254, (2, 127)),
+    (255, (3, 127)),
+];
 
 #[test]
-fn places_are_found_in_each_block(rt: HostRuntime) -> Result<(), Fail> {
-    let mut list = rising(rt.alloc(), 275)?;
-    assert_eq!(rt; list.len(), 275);
-    for i in [0, 126, 127, 128, 253, 254, 274] {
-        assert!(rt; i < list.len());
-        assert_eq!(rt; *list.get(i) as usize, i);
-        assert_eq!(rt; list.partition_point(|item| (*item as usize) < i), i);
+fn a_list_that_grows_at_its_end_has_full_blocks(rt: HostRuntime) {
+    for (n, wanted) in RISING {
+        assert!(rt; rises(rt.alloc(), *n, *wanted), "of {n}");
     }
-    assert_eq!(rt; list.partition_point(|_| true), 275);
-    list.set(127, 7);
-    assert_eq!(rt; *list.get(127), 7);
-    Ok(())
 }
 
+/// Whether a list of 1,100 numbers loses just those from `from` up to before `to`, and then has that shape.
+fn loses(list: &mut BlockList<u32>, from: u32, to: u32, wanted: Shape) -> bool {
+    if from > to || to > 275 || list.len() != 275 {
+        return false;
+    }
+    list.remove_range(from as usize, to as usize);
+    list.len() == (275 - (to - from)) as usize
+        && counts_without(list, from, to)
+        && shape(list) == wanted
+}
+
+fn rises_and_loses(alloc: Global, from: u32, to: u32, wanted: Shape) -> bool {
+    match rising(alloc, 275) {
+        Ok(mut list) => loses(&mut list, from, to, wanted),
+        Err(_) => false,
+    }
+}
+
+const RANGES: &[(u32, u32, Shape)] = &[
+    (5, 5, (3, 127)),
+    (0, 1, (3, 126)),
+    (126, 128, (3, 126)),
+    (100, 260, (2, 100)),
+    (0, 127, (2, 127)),
+    (127, 254, (2, 127)),
+    (127, 275, (1, 127)),
+    (0, 275, (0, 0)),
+];
+
 #[test]
-fn an_element_takes_the_place_of_those_between(rt: HostRuntime) -> Result<(), Fail> {
-    for (from, to, len) in [
-        (0, 0, 276),
-        (127, 127, 276),
-        (275, 275, 276),
-        (0, 1, 275),
-        (126, 128, 274),
-        (127, 128, 275),
-        (0, 275, 1),
-    ] {
-        let mut list = rising(rt.alloc(), 275)?;
-        assert_eq!(rt;
-            list.any_between(|item| *item < from, |item| *item < to),
-            from < to
-        );
-        list.replace_between(|item| *item < from, |item| *item < to, 1_000)?;
+fn ranges_are_removed_over_blocks(rt: HostRuntime) {
+    for (from, to, wanted) in RANGES {
         assert!(rt;
-            list.len() == len && (from as usize) < list.len(),
+            rises_and_loses(rt.alloc(), *from, *to, *wanted),
             "{from} to {to}"
         );
-        assert_eq!(rt; *list.get(from as usize), 1_000, "{from} to {to}");
     }
-    Ok(())
+}
+
+/// Whether the list has that shape once items were taken from its front until so many are left.
+fn shrinks_to(list: &mut BlockList<u32>, left: usize, wanted: Shape) -> bool {
+    for _ in left..list.len() {
+        if list.is_empty() {
+            return false;
+        }
+        list.remove_range(0, 1);
+    }
+    shape(list) == wanted
+}
+
+fn shrinks(list: &mut BlockList<u32>) -> bool {
+    shrinks_to(list, 128, (2, 126))
+        && shrinks_to(list, 127, (2, 125))
+        && shrinks_to(list, 2, (1, 2))
+        && shrinks_to(list, 1, (1, 1))
+        && list.pop() == Some(128)
+        && list.pop().is_none()
+        && list.is_empty()
+}
+
+fn rises_and_shrinks(alloc: Global) -> bool {
+    match rising(alloc, 129) {
+        Ok(mut list) => shrinks(&mut list),
+        Err(_) => false,
+    }
+}
+
+#[test]
+fn a_list_shrinks_through_the_block_length(rt: HostRuntime) {
+    assert!(rt; rises_and_shrinks(rt.alloc()));
+}
+
+fn is_of_a_room(alloc: Global, n: u32, wanted: Shape) -> bool {
+    match roomy(alloc, n) {
+        Ok(list) => counts_to(&list, n, wanted),
+        Err(_) => false,
+    }
+}
+
+const ROOMS: &[(u32, Shape)] = &[
+    (0, (0, 0)),
+    (1, (1, 1)),
+    (256, (1, 256)),
+    (257, (2, 256)),
+    (2_000, (8, 256)),
+];
+
+#[test]
+fn a_room_becomes_a_list_of_short_blocks(rt: HostRuntime) {
+    for (n, wanted) in ROOMS {
+        assert!(rt; is_of_a_room(rt.alloc(), *n, *wanted), "of {n}");
+    }
+}
+
+/// Puts the numbers from 200 up to before 800 at their places.
+fn fill_in(list: &mut BlockList<u32>) -> bool {
+    for i in 200..800 {
+        if list.len() < i as usize || list.insert(i as usize, i).is_err() {
+            return false;
+        }
+    }
+    true
+}
+
+fn changes(list: &mut BlockList<u32>) -> bool {
+    if list.len() != 1_000 {
+        return false;
+    }
+    list.remove_range(200, 800);
+    list.len() == 400
+        && counts_without(list, 200, 800)
+        && fill_in(list)
+        && counts_without(list, 0, 0)
+        && shape(list) == (12, 100)
+}
+
+fn changes_after_a_room(alloc: Global) -> bool {
+    match roomy(alloc, 1_000) {
+        Ok(mut list) => changes(&mut list),
+        Err(_) => false,
+    }
+}
+
+#[test]
+fn a_list_from_a_room_changes_like_another(rt: HostRuntime) {
+    assert!(rt; changes_after_a_room(rt.alloc()));
+}
+
+const PLACES: &[usize] = &[0, 126, 127, 128, 253, 254, 274];
+
+/// Whether those numbers stand at their places and are found there.
+fn finds_places(list: &BlockList<u32>) -> bool {
+    for i in PLACES {
+        let i = *i;
+        if i >= list.len() || *list.get(i) as usize != i {
+            return false;
+        }
+        if list.partition_point(|item| (*item as usize) < i) != i {
+            return false;
+        }
+    }
+    list.partition_point(|_| true) == 275
+}
+
+fn sets(list: &mut BlockList<u32>) -> bool {
+    if list.len() != 275 {
+        return false;
+    }
+    list.set(127, 7);
+    *list.get(127) == 7
+}
+
+fn rises_and_finds(alloc: Global) -> bool {
+    match rising(alloc, 275) {
+        Ok(mut list) => finds_places(&list) && sets(&mut list),
+        Err(_) => false,
+    }
+}
+
+#[test]
+fn places_are_found_in_each_block(rt: HostRuntime) {
+    assert!(rt; rises_and_finds(rt.alloc()));
+}
+
+/// From where to where a list of 275 numbers is replaced, and how long it is then.
+const BETWEEN: &[(u32, u32, usize)] = &[
+    (0, 0, 276),
+    (127, 127, 276),
+    (275, 275, 276),
+    (0, 1, 275),
+    (126, 128, 274),
+    (127, 128, 275),
+    (0, 275, 1),
+];
+
+/// Whether the number 1,000 takes the place of those from `from` up to before `to`.
+fn replaces(list: &mut BlockList<u32>, from: u32, to: u32, wanted: usize) -> bool {
+    if list.any_between(|item| *item < from, |item| *item < to) != (from < to) {
+        return false;
+    }
+    let done = list.replace_between(|item| *item < from, |item| *item < to, 1_000);
+    done.is_ok()
+        && list.len() == wanted
+        && (from as usize) < list.len()
+        && *list.get(from as usize) == 1_000
+}
+
+fn rises_and_replaces(alloc: Global, from: u32, to: u32, wanted: usize) -> bool {
+    match rising(alloc, 275) {
+        Ok(mut list) => replaces(&mut list, from, to, wanted),
+        Err(_) => false,
+    }
+}
+
+#[test]
+fn an_element_takes_the_place_of_those_between(rt: HostRuntime) {
+    for (from, to, wanted) in BETWEEN {
+        assert!(rt;
+            rises_and_replaces(rt.alloc(), *from, *to, *wanted),
+            "{from} to {to}"
+        );
+    }
 }

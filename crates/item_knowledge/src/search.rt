@@ -78,21 +78,6 @@ pub(crate) fn is_leq(row: &[u64], other: &[u64]) -> bool
     true
 }
 
-/// The place of an author's entry in a row that has one.
-pub(crate) fn place_of(row: &[u64], author: u64) -> usize
-    requires row { IsRow row.now }
-    requires author { 0 < bound (pairs row.now) author }
-    ensures place { result < length (pairs row.now) }
-    ensures author { (get_or (pairs row.now) result (0, 0)).0 ≡ author }
-{
-    for i in 0..row.len() / 2 {
-        if row[2 * i] == author {
-            return i;
-        }
-    }
-    0
-}
-
 /// The number of the fragment to which an index leads from a picture, 0 for the star, where it is looked for from a
 /// place on; and the place from which one looks for a later picture.
 pub(crate) fn number_from(index: &[(u64, usize)], from: usize, picture: u64) -> (usize, usize)
@@ -112,4 +97,19 @@ pub(crate) fn number_from(index: &[(u64, usize)], from: usize, picture: u64) -> 
         place += 1;
     }
     (0, place)
+}
+
+/// The place of an author's entry in a row that has one.
+pub(crate) fn place_of(row: &[u64], author: u64) -> usize
+    requires row { IsRow row.now }
+    requires author { 0 < bound (pairs row.now) author }
+    ensures place { result < length (pairs row.now) }
+    ensures author { (get_or (pairs row.now) result (0, 0)).0 ≡ author }
+{
+    for i in 0..row.len() / 2 {
+        if row[2 * i] == author {
+            return i;
+        }
+    }
+    0
 }

@@ -1,8 +1,8 @@
 -- What a device knows of its own versions, after it made one more.
-use Rattle.std.proofs.Common.{◌≡◌, ℕ, ◌+◌, ◌<◌, Bool, true, false, cond, eqb, ltb, leb, ◌&&◌, ◌||◌, List, [], ◌∷◌, refl, sym, ap, ◌∙◌, inl, inr, arith}
+use Rattle.std.proofs.Common.{◌≡◌, ℕ, ◌+◌, ◌<◌, Bool, true, false, cond, eqb, ltb, leb, ◌&&◌, ◌||◌, List, [], ◌∷◌, refl, sym, ap, ◌∙◌, inl, inr, arith, subst, ◌≤◌}
 use Rattle.std.specs.Prelude.{filter}
 use Rattle.std.specs.List.{AllByRecursion}
-use Rattle.std.proofs.lemmas.Bool.{lt-ltb, le-ltb, le-leb, lt-leb, eq-eqb, ne_eqb, cases_eq, cases_lt}
+use Rattle.std.proofs.lemmas.Bool.{leb-true, and_parts, lt-ltb, le-ltb, le-leb, lt-leb, eq-eqb, ne_eqb, cases_eq, cases_lt}
 use Rattle.photo_record.specs.declared.record.Record.{Record}
 use Rattle.photo_version.specs.Author.{Author, same_author}
 use Rattle.photo_version.specs.Version.{Version, version, same_version}
@@ -49,18 +49,26 @@ pub author_at : (place : Place) (h : Held) (d : Kept) → (held_at place h d).au
 author_at Store h d = refl
 author_at Out h d = refl
 
+pub counter_at : (place : Place) (h : Held) (d : Kept) → (held_at place h d).counter ≡ d.counter
+counter_at Store h d = refl
+counter_at Out h d = refl
+
+pub knowledge_at : (place : Place) (h : Held) (d : Kept) → (held_at place h d).knowledge ≡ d.knowledge
+knowledge_at Store h d = refl
+knowledge_at Out h d = refl
+
 -- the numbers from 1 to k, with k + 1
 pub one_more : (n k : ℕ) → ((leb 1 n && leb n k) || eqb (k + 1) n) ≡ (leb 1 n && leb n (k + 1))
 one_more n k =
     elim (cases_lt n 1) [
       | inl none ↦ rw (lt-leb 1 n none, ne_eqb (k + 1) n (λ e. omega arith)) refl
       | inr some ↦ elim (cases_lt k n) [
-          | inl above ↦ elim (cases_eq (k + 1) n) [
-              | inl here ↦ rw (le-leb 1 n some, lt-leb n k above, eq-eqb (k + 1) n here, le-leb n (k + 1) (omega arith)) refl
-              | inr apart ↦ rw (le-leb 1 n some, lt-leb n k above, ne_eqb (k + 1) n apart, lt-leb n (k + 1) (omega arith)) refl
-            ]
-          | inr within ↦ rw (le-leb 1 n some, le-leb n k within, le-leb n (k + 1) (omega arith)) refl
+        | inl above ↦ elim (cases_eq (k + 1) n) [
+          | inl here ↦ rw (le-leb 1 n some, lt-leb n k above, eq-eqb (k + 1) n here, le-leb n (k + 1) (omega arith)) refl
+          | inr apart ↦ rw (le-leb 1 n some, lt-leb n k above, ne_eqb (k + 1) n apart, lt-leb n (k + 1) (omega arith)) refl
         ]
+        | inr within ↦ rw (le-leb 1 n some, le-leb n k within, le-leb n (k + 1) (omega arith)) refl
+      ]
     ]
 
 up_to : (n k : ℕ) → (leb 1 n && leb n k) ≡ (leb 1 n && ltb n (k + 1))
@@ -108,3 +116,27 @@ none_up_to n =
       | inr some ↦ rw (le-leb 1 n some, lt-leb n 0 (omega arith)) refl
     ]
 
+-- the next version is the next one also once it is held
+pub next_at : (place : Place) (h : Held) (d e : Kept) → e ≡ held_at place h d → h.version ≡ version d.author (d.counter + 1) → h.version ≡ version e.author (e.counter + 1)
+next_at place h d e held_is next =
+    let author = ap (λ (k : Kept). k.author) held_is ∙ author_at place h d in
+    let counter = ap (λ (k : Kept). k.counter) held_is ∙ counter_at place h d in
+    next ∙ (λ i. version (sym author i) (sym counter i + 1))
+
+-- what a device knows of its own versions, before it makes the next one
+
+of_author : (a : Author) (k : ℕ) (v : Version) → v ≡ version a (k + 1) → a ≡ v.author
+of_author a k v next = sym (ap (λ (x : Version). x.author) next)
+
+pub next_number : (a : Author) (k : ℕ) (v : Version) (fs gs : List Fragment) → v ≡ version a (k + 1) → gs ≡ fs → KnowsItsOwn a k fs → v.number ≡ star_bound gs v.author + 1
+next_number a k v fs gs next same own =
+    ap (λ (x : Version). x.number) next ∙ ap (λ n. n + 1) (sym own.star) ∙ (λ i. star_bound (sym same i) (of_author a k v next i) + 1)
+
+pub some_number : (a : Author) (k : ℕ) (v : Version) (fs : List Fragment) → v ≡ version a (k + 1) → 0 < k → KnowsItsOwn a k fs → 0 < star_bound fs v.author
+some_number a k v fs next some own = subst (λ b. 0 < star_bound fs b) (of_author a k v next) (subst (λ n. 0 < n) (sym own.star) some)
+
+pub none_above : (a : Author) (k : ℕ) (v : Version) (fs : List Fragment) → v ≡ version a (k + 1) → KnowsItsOwn a k fs → (p n : ℕ) → 0 < p → knows fs p (version v.author n) ≡ true → n ≤ star_bound fs v.author
+none_above a k v fs next own p n above here =
+    let has : (leb 1 n && leb n k) ≡ true = sym (own.own p n above) ∙ ap (λ b. knows fs p (version b n)) (of_author a k v next) ∙ here in
+    let within : n ≤ k = leb-true n k (and_parts (leb 1 n) (leb n k) has).1 in
+    subst (λ b. n ≤ star_bound fs b) (of_author a k v next) (subst (λ m. n ≤ m) (sym own.star) within)

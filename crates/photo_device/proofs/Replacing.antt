@@ -1,5 +1,5 @@
 -- What stands of a picture, found by two tests.
-use Rattle.std.proofs.Common.{◌≡◌, ℕ, ◌≤◌, Bool, true, false, not, cond, eqb, ltb, leb, ◌||◌, List, [], ◌∷◌, Bor, refl, sym, ap, ◌∙◌, arith}
+use Rattle.std.proofs.Common.{◌≡◌, ℕ, Bool, true, false, not, cond, eqb, ltb, leb, ◌||◌, List, [], ◌∷◌, Bor, refl, sym, ap, ◌∙◌, arith}
 use Rattle.std.specs.Fn.{Mut, Called, ComputesKey}
 use Rattle.std.specs.List.Sorted.{IsPartitionedBy}
 use Rattle.std.proofs.lemmas.Bool.{ltb-true, le-leb}

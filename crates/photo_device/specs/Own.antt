@@ -1,14 +1,15 @@
 -- What a device knows of its own versions, and a held version of those that its author made before it: just what there
 -- is. So a bound for each author stands for a plain set of versions.
-use Rattle.std.specs.Prelude.{◌≡◌, ℕ, ◌<◌, ◌&&◌, nat_le, nat_lt, List}
+use Rattle.std.specs.Prelude.{◌≡◌, ℕ, ◌+◌, ◌<◌, ◌&&◌, ◌||◌, nat_le, nat_lt, List}
 use Rattle.std.specs.List.{AllByRecursion}
 use Rattle.photo_version.specs.Author.{Author}
-use Rattle.photo_version.specs.Version.{version}
+use Rattle.photo_version.specs.Version.{Version, version, same_version}
 use Rattle.photo_version.specs.Vector.{denotes}
 use Rattle.item_knowledge.specs.Fragments.{Fragment, knows}
 use Rattle.item_knowledge.specs.Kept.{star_bound}
 use Rattle.photo_device.specs.declared.held.Held.{Held}
-use Rattle.photo_device.specs.Device.{Kept}
+use Rattle.photo_device.specs.declared.place.Place.{Place}
+use Rattle.photo_device.specs.Device.{Kept, held_at}
 
 -- of its own author, the history has just the versions before this one
 pub record HasEarlier (held : Held) : Type 0 where
@@ -18,6 +19,11 @@ pub record HasEarlier (held : Held) : Type 0 where
 pub record KnowsItsOwn (author : Author) (counter : ℕ) (knowledge : List Fragment) : Type 0 where
   pub star : star_bound knowledge author ≡ counter
   pub own : (picture n : ℕ) → 0 < picture → knows knowledge picture (version author n) ≡ (nat_le 1 n && nat_le n counter)
+
+-- the device's next version is held at a place, counted, and known of every picture
+pub record HasMade (place : Place) (h : Held) (old new : Kept) : Type 0 where
+  pub rest : new ≡ record (held_at place h old) { counter = old.counter + 1; knowledge = new.knowledge }
+  pub learned : (picture : ℕ) (v : Version) → 0 < picture → knows new.knowledge picture v ≡ (knows old.knowledge picture v || same_version h.version v)
 
 -- what is true of every device
 pub record IsDevice (d : Kept) : Type 0 where

@@ -37,7 +37,8 @@ impl Device {
     ghost use Rattle.std.specs.List.{AllByRecursion};
     ghost use Rattle.std.specs.Option.{option_copied};
     ghost use Rattle.photo_device.specs.Held.{find_version, has_picture};
-    ghost use Rattle.photo_device.specs.Own.{HasEarlier, KnowsItsOwn};
+    ghost use Rattle.photo_version.specs.Version.{version};
+    ghost use Rattle.photo_device.specs.Own.{HasEarlier, HasMade, KnowsItsOwn};
     ghost use Rattle.photo_device.specs.Device.{ModelDevice, Shows, opening, made, next_version, new_place, held_at, is_held};
     ghost use Rattle.photo_record.specs.declared.record.Record.TheVariants.{Removed};
     ghost use Rattle.photo_device.specs.declared.fault.ChangeFault.TheVariants.{NotHeld};
@@ -85,13 +86,53 @@ impl Device {
             made_with: self.knowledge.of(picture)?,
             content: content.try_clone()?,
         };
+        let place = Place::of(&self.filter, content);
+        self.add(place, held)?;
+        Ok((version, place))
+    }
+
+    /// Holds its next version at a place, counts it, and knows it of every picture. An error leaves the device as it was.
+    fn add(&mut self, place: Place, held: Held) -> Result<(), AllocError>
+        requires next { held.version ≡ version self.old.author (self.old.counter + 1) }
+        requires earlier { HasEarlier held }
+        ensures ok { OnOk result (HasMade place held self.old self.new) }
+        ensures err { OnErr result (self.new ≡ self.old) }
+    {
+        if self.counter == 0 {
+            return self.add_first(place, held);
+        }
+        self.add_later(place, held)
+    }
+
+    // The first version wants memory for its author's bounds: so they are made in a copy of what is known.
+    fn add_first(&mut self, place: Place, held: Held) -> Result<(), AllocError>
+        requires next { held.version ≡ version self.old.author (self.old.counter + 1) }
+        requires earlier { HasEarlier held }
+        ensures ok { OnOk result (HasMade place held self.old self.new) }
+        ensures err { OnErr result (self.new ≡ self.old) }
+    {
+        let version = held.version;
         let mut knowledge = self.knowledge.try_clone()?;
         knowledge.learn_own(version)?;
-        let place = Place::of(&self.filter, content);
         self.hold(place, held)?;
         self.knowledge = knowledge;
-        self.counter = number;
-        Ok((version, place))
+        self.counter = version.n();
+        Ok(())
+    }
+
+    // A later version raises bounds that are there already.
+    fn add_later(&mut self, place: Place, held: Held) -> Result<(), AllocError>
+        requires some { 0 < self.old.counter }
+        requires next { held.version ≡ version self.old.author (self.old.counter + 1) }
+        requires earlier { HasEarlier held }
+        ensures ok { OnOk result (HasMade place held self.old self.new) }
+        ensures err { OnErr result (self.new ≡ self.old) }
+    {
+        let version = held.version;
+        self.hold(place, held)?;
+        self.knowledge.raise_own(version);
+        self.counter = version.n();
+        Ok(())
     }
 
     /// Holds a version at a place, and nothing else of its picture. An error leaves the device as it was.

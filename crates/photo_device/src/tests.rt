@@ -1,4 +1,5 @@
 mod changes;
+mod knowing;
 
 use crate::{Device, Held, HeldList, HeldSet, Place};
 use photo_filter_rules::Filter;

@@ -2,43 +2,46 @@ use crate::{BuildFault, Filter};
 use photo_filter_text::{FilterTree, read};
 use photo_record::{Day, Rating, Record, Words};
 use std::alloc::{AllocError, Global};
-use std::test::Fail;
 
-fn built(alloc: Global, text: &str) -> Result<Filter, Fail> {
-    let tree = read(alloc, text)?;
-    Ok(Filter::build(alloc, tree).map_err(|e| e.1)?)
+// A value that is owned has its own function here, with no `rt` beside it, and a table is a constant: so the proofs are short.
+
+fn built(alloc: Global, text: &str) -> Option<Filter> {
+    let tree = read(alloc, text).ok()?;
+    Filter::build(alloc, tree).ok()
 }
 
-fn refused(alloc: Global, text: &str) -> Result<(FilterTree, BuildFault), Fail> {
-    let tree = read(alloc, text)?;
-    Ok(Filter::build(alloc, tree).err().ok_or("built")?)
+// How many alternatives the filter's copy has.
+fn copied_count(filter: &Filter) -> Option<usize> {
+    let copy = filter.try_clone().ok()?;
+    Some(copy.alternatives())
 }
 
-// How many alternatives the filter has, and its copy.
-fn counts_of(alloc: Global, text: &str) -> Result<(usize, usize), Fail> {
-    let filter = built(alloc, text)?;
-    let copy = filter.try_clone()?;
-    Ok((filter.alternatives(), copy.alternatives()))
+// Whether the filter and its copy have so many alternatives.
+fn counts_to(alloc: Global, text: &str, count: usize) -> bool {
+    match built(alloc, text) {
+        Some(filter) => filter.alternatives() == count && copied_count(&filter) == Some(count),
+        None => false,
+    }
 }
+
+const COUNTS: &[(&str, usize)] = &[
+    ("not (rating = 0 or keyword x)", 1),
+    ("not rating = 3", 2),
+    ("keyword and and all", 1),
+    ("all or none and all", 1),
+    ("not day >= 0000-01-01", 0),
+    ("not day <= 9999-12-31", 0),
+    ("rating >= 4 and rating <= 3", 0),
+    ("rating >= 3 and rating <= 3", 1),
+    ("keyword x and not keyword x", 0),
+    ("keyword x or keyword x", 2),
+];
 
 #[test]
-fn counts(rt: HostRuntime) -> Result<(), Fail> {
-    let alloc = rt.alloc();
-    for (text, count) in [
-        ("not (rating = 0 or keyword x)", 1),
-        ("not rating = 3", 2),
-        ("keyword and and all", 1),
-        ("all or none and all", 1),
-        ("not day >= 0000-01-01", 0),
-        ("not day <= 9999-12-31", 0),
-        ("rating >= 4 and rating <= 3", 0),
-        ("rating >= 3 and rating <= 3", 1),
-        ("keyword x and not keyword x", 0),
-        ("keyword x or keyword x", 2),
-    ] {
-        assert_eq!(rt; counts_of(alloc, text)?, (count, count), "{text}");
+fn counts(rt: HostRuntime) {
+    for (text, count) in COUNTS {
+        assert!(rt; counts_to(rt.alloc(), text, *count), "{text}");
     }
-    Ok(())
 }
 
 // A word of the filter language so many times, with another between them, in brackets.
@@ -57,50 +60,67 @@ fn push_group(
     text.push(')')
 }
 
-// Three such groups, joined by the same word, between two other texts.
-fn groups(
-    alloc: Global,
-    front: &str,
+// Puts three such groups, joined by the same word, between two other texts.
+fn push_groups(
+    text: &mut String,
+    (front, rest): (&str, &str),
     word: &str,
     between: &str,
-    sizes: [usize; 3],
-    rest: &str,
-) -> Result<String, AllocError> {
-    let mut text = String::new(alloc);
+    (one, two, three): (usize, usize, usize),
+) -> Result<(), AllocError> {
     text.push_str(front)?;
-    for (i, size) in sizes.into_iter().enumerate() {
-        if i > 0 {
-            text.push_str(between)?;
-        }
-        push_group(&mut text, word, size, between)?;
-    }
-    text.push_str(rest)?;
-    Ok(text)
+    push_group(text, word, one, between)?;
+    text.push_str(between)?;
+    push_group(text, word, two, between)?;
+    text.push_str(between)?;
+    push_group(text, word, three, between)?;
+    text.push_str(rest)
 }
 
-// How many alternatives the filter has, and none where it is too wide.
-fn width(alloc: Global, text: &str) -> Result<Option<usize>, Fail> {
-    let tree = read(alloc, text)?;
+// How many alternatives the filter has, or why it is not built.
+fn width_of(alloc: Global, tree: FilterTree) -> Result<usize, BuildFault> {
     match Filter::build(alloc, tree) {
-        Ok(filter) => Ok(Some(filter.alternatives())),
-        Err((_, BuildFault::TooWide)) => Ok(None),
-        Err((_, fault)) => Err(Fail::from(fault)),
+        Ok(filter) => Ok(filter.alternatives()),
+        Err((_, fault)) => Err(fault),
     }
+}
+
+// Whether the filter has so many alternatives, and is too wide where none are given.
+fn is_so_wide(alloc: Global, text: &str, count: Option<usize>) -> bool {
+    match read(alloc, text) {
+        Ok(tree) => width_of(alloc, tree) == count.ok_or(BuildFault::TooWide),
+        Err(_) => false,
+    }
+}
+
+type Groups = (
+    (&'static str, &'static str),
+    &'static str,
+    &'static str,
+    (usize, usize, usize),
+);
+
+const GROUPS: &[(Groups, Option<usize>)] = &[
+    ((("", ""), "all", " or ", (22, 21, 21)), Some(64)),
+    ((("", ""), "all", " or ", (22, 22, 21)), None),
+    ((("not (", ")"), "none", " and ", (22, 21, 21)), Some(64)),
+    ((("not (", ")"), "none", " and ", (22, 22, 21)), None),
+];
+
+fn are_groups_so_wide(alloc: Global, groups: Groups, count: Option<usize>) -> bool {
+    let (ends, word, between, sizes) = groups;
+    let mut text = String::new(alloc);
+    push_groups(&mut text, ends, word, between, sizes).is_ok() && is_so_wide(alloc, &text, count)
 }
 
 #[test]
-fn widths_by_or_and_by_not(rt: HostRuntime) -> Result<(), Fail> {
-    let alloc = rt.alloc();
-    for (front, word, between, sizes, rest, count) in [
-        ("", "all", " or ", [22, 21, 21], "", Some(64)),
-        ("", "all", " or ", [22, 22, 21], "", None),
-        ("not (", "none", " and ", [22, 21, 21], ")", Some(64)),
-        ("not (", "none", " and ", [22, 22, 21], ")", None),
-    ] {
-        let text = groups(alloc, front, word, between, sizes, rest)?;
-        assert_eq!(rt; width(alloc, &text)?, count, "{text}");
+fn widths_by_or_and_by_not(rt: HostRuntime) {
+    for (groups, count) in GROUPS {
+        assert!(rt;
+            are_groups_so_wide(rt.alloc(), *groups, *count),
+            "{groups:?}"
+        );
     }
-    Ok(())
 }
 
 // Tests for words of one letter, joined by `or`, in brackets.
@@ -113,129 +133,172 @@ fn push_words(text: &mut String, letters: &str) -> Result<(), AllocError> {
     text.push(')')
 }
 
-// One word of each of two sets, between two other texts.
-fn pairs(
-    alloc: Global,
-    front: &str,
+// Puts one word of each of two sets, between two other texts.
+fn push_pairs(
+    text: &mut String,
+    (front, rest): (&str, &str),
     left: &str,
     right: &str,
-    rest: &str,
-) -> Result<String, AllocError> {
-    let mut text = String::new(alloc);
+) -> Result<(), AllocError> {
     text.push_str(front)?;
-    push_words(&mut text, left)?;
+    push_words(text, left)?;
     text.push_str(" and ")?;
-    push_words(&mut text, right)?;
-    text.push_str(rest)?;
-    Ok(text)
+    push_words(text, right)?;
+    text.push_str(rest)
 }
 
+fn are_pairs_so_wide(
+    alloc: Global,
+    ends: (&str, &str),
+    left: &str,
+    right: &str,
+    count: Option<usize>,
+) -> bool {
+    let mut text = String::new(alloc);
+    push_pairs(&mut text, ends, left, right).is_ok() && is_so_wide(alloc, &text, count)
+}
+
+const PAIRS: &[((&str, &str), &str, &str, Option<usize>)] = &[
+    (("", ""), "abcdefgh", "ijklmnop", Some(64)),
+    (("", ""), "abcde", "fghijklmnopqr", None),
+    (("not (", ")"), "abcde", "fghijklmnopqr", Some(2)),
+    (("", " and none"), "abcde", "fghijklmnopqr", None),
+];
+
 #[test]
-fn widths_by_and(rt: HostRuntime) -> Result<(), Fail> {
-    let alloc = rt.alloc();
-    for (front, left, right, rest, count) in [
-        ("", "abcdefgh", "ijklmnop", "", Some(64)),
-        ("", "abcde", "fghijklmnopqr", "", None),
-        ("not (", "abcde", "fghijklmnopqr", ")", Some(2)),
-        ("", "abcde", "fghijklmnopqr", " and none", None),
-    ] {
-        let text = pairs(alloc, front, left, right, rest)?;
-        assert_eq!(rt; width(alloc, &text)?, count, "{text}");
+fn widths_by_and(rt: HostRuntime) {
+    for (ends, left, right, count) in PAIRS {
+        assert!(rt;
+            are_pairs_so_wide(rt.alloc(), *ends, left, right, *count),
+            "{ends:?} {right}"
+        );
     }
-    Ok(())
+}
+
+// Whether a tree that is read is too wide, and comes back as it is read again.
+fn comes_back(alloc: Global, text: &str) -> Option<bool> {
+    let tree = read(alloc, text).ok()?;
+    let (back, fault) = Filter::build(alloc, tree).err()?;
+    Some(fault == BuildFault::TooWide && is_read_as(alloc, text, &back))
+}
+
+fn is_read_as(alloc: Global, text: &str, tree: &FilterTree) -> bool {
+    match read(alloc, text) {
+        Ok(again) => again == *tree,
+        Err(_) => false,
+    }
+}
+
+fn groups_come_back(alloc: Global) -> bool {
+    let mut text = String::new(alloc);
+    push_groups(&mut text, ("", ""), "all", " or ", (22, 22, 21)).is_ok()
+        && comes_back(alloc, &text) == Some(true)
 }
 
 #[test]
-fn a_refused_tree_comes_back(rt: HostRuntime) -> Result<(), Fail> {
-    let alloc = rt.alloc();
-    let text = groups(alloc, "", "all", " or ", [22, 22, 21], "")?;
-    let tree = read(alloc, &text)?;
-    let (back, fault) = refused(alloc, &text)?;
-    assert_eq!(rt; fault, BuildFault::TooWide);
-    assert!(rt; back == tree);
-    Ok(())
+fn a_refused_tree_comes_back(rt: HostRuntime) {
+    assert!(rt; groups_come_back(rt.alloc()));
 }
 
-fn picture(alloc: Global, rating: u8, date: &str, words: &str) -> Result<Record, Fail> {
-    Ok(Record::Picture {
-        rating: Rating::new(rating).ok_or("no rating")?,
-        day: Day::read(date).ok_or("no date")?,
-        words: Words::read(alloc, words)?,
+fn picture(alloc: Global, rating: u8, date: &str, words: &str) -> Option<Record> {
+    Some(Record::Picture {
+        rating: Rating::new(rating)?,
+        day: Day::read(date)?,
+        words: Words::read(alloc, words).ok()?,
     })
 }
 
-// `y` for each of four pictures that the filter matches, `n` for each other, and then so for a removed one.
-fn answers(alloc: Global, filter: &Filter) -> Result<String, Fail> {
+// `y` where the filter matches that picture, `n` where it doesn't, and `-` where there is none.
+fn answer(alloc: Global, filter: &Filter, rating: u8, date: &str, words: &str) -> char {
+    match picture(alloc, rating, date, words) {
+        Some(picture) => letter(filter, &picture),
+        None => '-',
+    }
+}
+
+fn letter(filter: &Filter, content: &Record) -> char {
+    if filter.matches(content) { 'y' } else { 'n' }
+}
+
+const PICTURES: &[(u8, &str, &str)] = &[
+    (3, "2024-02-29", "x"),
+    (4, "2024-02-28", "e\u{301}"),
+    (0, "9999-12-31", "-"),
+    (5, "0000-01-01", "x,\u{e9}"),
+];
+
+// Puts the letters of the four pictures, and then that of a removed one.
+fn push_answers(alloc: Global, filter: &Filter, answers: &mut String) -> Result<(), AllocError> {
+    for (rating, date, words) in PICTURES {
+        answers.push(answer(alloc, filter, *rating, date, words))?;
+    }
+    answers.push(letter(filter, &Record::Removed))
+}
+
+fn gives_answers(alloc: Global, filter: &Filter, want: &str) -> bool {
     let mut answers = String::new(alloc);
-    for (rating, date, words) in [
-        (3, "2024-02-29", "x"),
-        (4, "2024-02-28", "e\u{301}"),
-        (0, "9999-12-31", "-"),
-        (5, "0000-01-01", "x,\u{e9}"),
-    ] {
-        let picture = picture(alloc, rating, date, words)?;
-        answers.push(if filter.matches(&picture) { 'y' } else { 'n' })?;
+    push_answers(alloc, filter, &mut answers).is_ok() && answers.as_str() == want
+}
+
+fn copy_gives_answers(alloc: Global, filter: &Filter, want: &str) -> bool {
+    match filter.try_clone() {
+        Ok(copy) => gives_answers(alloc, &copy, want),
+        Err(_) => false,
     }
-    answers.push(if filter.matches(&Record::Removed) {
-        'y'
-    } else {
-        'n'
-    })?;
-    Ok(answers)
 }
 
-fn filter_answers(alloc: Global, text: &str) -> Result<String, Fail> {
-    let filter = built(alloc, text)?;
-    answers(alloc, &filter)
+// Whether the filter and its copy give those answers.
+fn answers_so(alloc: Global, text: &str, want: &str) -> bool {
+    match built(alloc, text) {
+        Some(filter) => {
+            gives_answers(alloc, &filter, want) && copy_gives_answers(alloc, &filter, want)
+        }
+        None => false,
+    }
 }
 
-fn copy_answers(alloc: Global, text: &str) -> Result<String, Fail> {
-    let filter = built(alloc, text)?;
-    let copy = filter.try_clone()?;
-    answers(alloc, &copy)
+const ANSWERS: &[(&str, &str)] = &[
+    ("all", "yyyyn"),
+    ("none", "nnnnn"),
+    ("not (rating = 0 or keyword x)", "nynnn"),
+    ("rating >= 4", "nynyn"),
+    ("not rating <= 3", "nynyn"),
+    ("not rating = 3", "nyyyn"),
+    ("day = 2024-02-29", "ynnnn"),
+    ("not day >= 2024-02-29", "nynyn"),
+    // the letter é in two forms
+    ("keyword \u{e9}", "nynyn"),
+    ("keyword x and not keyword e\u{301}", "ynnnn"),
+];
+
+#[test]
+fn matching(rt: HostRuntime) {
+    for (text, want) in ANSWERS {
+        assert!(rt; answers_so(rt.alloc(), text, want), "{text}");
+    }
+}
+
+fn keeps_its_tree(alloc: Global) -> bool {
+    match built(alloc, "not all") {
+        Some(filter) => matches!(filter.tree(), FilterTree::Not(_)),
+        None => false,
+    }
 }
 
 #[test]
-fn matching(rt: HostRuntime) -> Result<(), Fail> {
-    let alloc = rt.alloc();
-    for (text, want) in [
-        ("all", "yyyyn"),
-        ("none", "nnnnn"),
-        ("not (rating = 0 or keyword x)", "nynnn"),
-        ("rating >= 4", "nynyn"),
-        ("not rating <= 3", "nynyn"),
-        ("not rating = 3", "nyyyn"),
-        ("day = 2024-02-29", "ynnnn"),
-        ("not day >= 2024-02-29", "nynyn"),
-        // the letter é in two forms
-        ("keyword \u{e9}", "nynyn"),
-        ("keyword x and not keyword e\u{301}", "ynnnn"),
-    ] {
-        let by_filter = filter_answers(alloc, text)?;
-        assert!(rt; by_filter.as_str() == want, "{text}");
-        let by_copy = copy_answers(alloc, text)?;
-        assert!(rt; by_copy.as_str() == want, "{text}");
+fn the_tree_is_kept(rt: HostRuntime) {
+    assert!(rt; keeps_its_tree(rt.alloc()));
+}
+
+fn is_shown(alloc: Global, fault: BuildFault, want: &str) -> bool {
+    match fault.to_string(alloc) {
+        Ok(text) => text.as_str() == want,
+        Err(_) => false,
     }
-    Ok(())
 }
 
 #[test]
-fn the_tree_is_kept(rt: HostRuntime) -> Result<(), Fail> {
-    let alloc = rt.alloc();
-    let filter = built(alloc, "not all")?;
-    assert!(rt; matches!(filter.tree(), FilterTree::Not(_)));
-    Ok(())
-}
-
-#[test]
-fn faults_are_shown(rt: HostRuntime) -> Result<(), Fail> {
-    let alloc = rt.alloc();
-    for (fault, text) in [
-        (BuildFault::TooWide, "TooWide"),
-        (BuildFault::NoMemory, "NoMemory"),
-    ] {
-        let shown = fault.to_string(alloc)?;
-        assert_eq!(rt; shown.as_str(), text);
-    }
-    Ok(())
+fn faults_are_shown(rt: HostRuntime) {
+    assert!(rt; is_shown(rt.alloc(), BuildFault::TooWide, "TooWide"));
+    assert!(rt; is_shown(rt.alloc(), BuildFault::NoMemory, "NoMemory"));
 }

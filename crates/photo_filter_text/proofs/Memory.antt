@@ -71,7 +71,7 @@ term-kept None us ls ts t x h q w k = absurd (false≢true k)
 term-kept (Some a) us ls ts t x h q w k =
     subst IsKept (sym (behind-or us ls ts h.ors h.last h.or_at.0 (codes "or") x q h.whole h.or_at.2)) (kept.disjunction _ h.is_term w)
 
-close-takes : (l : Level) (outer : List Level) (us ls ts : List Token) (t : Tree) (x : Token) → x ≡ codes ")" → OpenAt outer us → TermAt l.either t ls → ts ≡ us ++ ls → keeps_closed l outer ≡ true → Takes (closed (joined Either l.either t) outer) (ts ++ x ∷ [])
+close-takes : (l : Level) (outer : List Level) (us ls ts : List Token) (t : Tree) (x : Token) → x ≡ codes ")" → OpenAt outer us → TermAt l.either t ls → ts ≡ us ++ ls → keeps_closed l.either outer ≡ true → Takes (closed (joined Either l.either t) outer) (ts ++ x ∷ [])
 close-takes l [] us ls ts t x p o h e k = absurd (false≢true k)
 close-takes l (m ∷ outer) us ls ts t x p o h e k = ((_, refl), go (is_some l.either) refl k)
   where

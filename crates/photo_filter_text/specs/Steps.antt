@@ -171,13 +171,13 @@ keeps_at_factor l AndWord = false
 keeps_at_factor l Other = false
 
 -- for what stands in a bracket that is closed, and for the bracket as a factor
-abbrev pub keeps_closed : Level → List Level → Bool
-keeps_closed l [] = false
-keeps_closed l (below ∷ outer) = is_some l.either || keeps_factor below
+abbrev pub keeps_closed : Option Tree → List Level → Bool
+keeps_closed either [] = false
+keeps_closed either (below ∷ outer) = is_some either || keeps_factor below
 
 unfoldable pub keeps_after_term : Level → List Level → Symbol → Bool
 keeps_after_term l outer OrWord = is_some l.either
-keeps_after_term l outer Close = keeps_closed l outer
+keeps_after_term l outer Close = keeps_closed l.either outer
 keeps_after_term l outer AndWord = false
 keeps_after_term l outer Open = false
 keeps_after_term l outer NotWord = false

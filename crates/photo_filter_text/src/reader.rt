@@ -3,7 +3,7 @@ ghost use Rattle.photo_record.specs.Reading.{word_of_text};
 ghost use Rattle.photo_filter_text.specs.Grammar.{is_bracket};
 ghost use Rattle.photo_filter_text.specs.declared.reader.Refusal.TheVariants.{Unexpected, BadWord, NoMemory};
 ghost use Rattle.photo_filter_text.specs.Tree.{tree_of, Both, Either};
-ghost use Rattle.photo_filter_text.specs.Steps.{start, step, fresh, level_with, levels_of, finish, joined, negated, after_factor, at_factor, after_term, keeps, keeps_at_end, keeps_factor, keeps_at_factor, keeps_after_term, state_of, level_of};
+ghost use Rattle.photo_filter_text.specs.Steps.{start, step, fresh, level_with, levels_of, finish, joined, negated, after_factor, at_factor, after_term, keeps, keeps_at_end, keeps_factor, keeps_at_factor, keeps_after_term, state_of, level_of, state_with, AtFactor, closed, keeps_closed};
 
 use crate::symbol::{Symbol, read_comparison, read_symbol};
 use crate::{Cmp, FilterTree};
@@ -256,11 +256,11 @@ fn after_factor(
     })
 }
 
-#[tactic(auto, using(crate::proofs::Levels::levels_push), unfolding(crate::specs::Steps::after_term, crate::specs::Steps::keeps_after_term))]
+#[tactic(auto, unfolding(crate::specs::Steps::after_term, crate::specs::Steps::keeps_after_term))]
 fn after_term(
     alloc: Global,
     level: Level,
-    mut outer: Vec<Level>,
+    outer: Vec<Level>,
     term: FilterTree,
     symbol: Symbol,
 ) -> Result<Reader, Refusal>
@@ -268,35 +268,63 @@ fn after_term(
     ensures refused { IfErr result (λ refusal. refusal ≢ NoMemory → after_term (level_of level) (levels_of outer.items) (tree_of term) symbol ≡ Err refusal) }
     ensures memory { IfErr result (λ refusal. refusal ≡ NoMemory → keeps_after_term (level_of level) (levels_of outer.items) symbol ≡ true) }
 {
-    let level = match symbol {
-        Symbol::AndWord => Level {
-            either: level.either,
-            both: Some(term),
-            negations: 0,
-        },
-        Symbol::OrWord => {
-            let tree = disjunction(alloc, level.either, term)?;
-            Level {
-                either: Some(tree),
-                both: None,
+    match symbol {
+        Symbol::AndWord => Ok(Reader {
+            alloc,
+            place: Place::Factor,
+            level: Level {
+                either: level.either,
+                both: Some(term),
                 negations: 0,
-            }
-        }
-        Symbol::Close => {
-            let Some(below) = outer.pop() else {
-                return Err(Refusal::Unexpected);
-            };
-            let tree = disjunction(alloc, level.either, term)?;
-            return after_factor(alloc, below, outer, tree);
-        }
-        _ => return Err(Refusal::Unexpected),
-    };
+            },
+            outer,
+        }),
+        Symbol::OrWord => after_or(alloc, level.either, outer, term),
+        Symbol::Close => after_close(alloc, level.either, outer, term),
+        _ => Err(Refusal::Unexpected),
+    }
+}
+
+// An `or` has been read behind a term.
+fn after_or(
+    alloc: Global,
+    either: Option<FilterTree>,
+    outer: Vec<Level>,
+    term: FilterTree,
+) -> Result<Reader, Refusal>
+    ensures taken { IfOk result (λ reader. state_of reader ≡ state_with AtFactor (level_with (Some (joined Either (option_map tree_of either) (tree_of term))) None 0) (levels_of outer.items)) }
+    ensures refused { IfErr result (λ refusal. (refusal ≡ NoMemory) × (is_some (option_map tree_of either) ≡ true)) }
+{
+    let tree = disjunction(alloc, either, term)?;
     Ok(Reader {
         alloc,
         place: Place::Factor,
-        level,
+        level: Level {
+            either: Some(tree),
+            both: None,
+            negations: 0,
+        },
         outer,
     })
+}
+
+// A bracket has been closed behind a term.
+#[tactic(auto, using(crate::proofs::Levels::levels_push))]
+fn after_close(
+    alloc: Global,
+    either: Option<FilterTree>,
+    mut outer: Vec<Level>,
+    term: FilterTree,
+) -> Result<Reader, Refusal>
+    ensures taken { IfOk result (λ reader. closed (joined Either (option_map tree_of either) (tree_of term)) (levels_of outer.items) ≡ Ok (state_of reader)) }
+    ensures refused { IfErr result (λ refusal. refusal ≢ NoMemory → closed (joined Either (option_map tree_of either) (tree_of term)) (levels_of outer.items) ≡ Err refusal) }
+    ensures memory { IfErr result (λ refusal. refusal ≡ NoMemory → keeps_closed (option_map tree_of either) (levels_of outer.items) ≡ true) }
+{
+    let Some(below) = outer.pop() else {
+        return Err(Refusal::Unexpected);
+    };
+    let tree = disjunction(alloc, either, term)?;
+    after_factor(alloc, below, outer, tree)
 }
 
 fn negated(alloc: Global, times: usize, factor: FilterTree) -> Result<FilterTree, AllocError>

@@ -1,7 +1,8 @@
 use super::*;
 use photo_record::{Day, Rating, Word};
 use std::alloc::{AllocError, Global};
-use std::test::Fail;
+
+// A value that is owned has its own function here, with no `rt` beside it, and a table is a constant: so the proofs are short.
 
 // Reads, and prints what was read, or tells the fault.
 fn read_again(alloc: Global, text: &str) -> Result<String, AllocError> {
@@ -9,6 +10,14 @@ fn read_again(alloc: Global, text: &str) -> Result<String, AllocError> {
         Ok(tree) => print(alloc, &tree),
         Err(FilterFault::Unexpected(number)) => format!(in alloc; "Unexpected({number})"),
         Err(fault) => format!(in alloc; "{fault}"),
+    }
+}
+
+// Whether a text is read and printed so, or refused with that fault.
+fn is_read_again(alloc: Global, text: &str, want: &str) -> bool {
+    match read_again(alloc, text) {
+        Ok(got) => got.as_str() == want,
+        Err(_) => false,
     }
 }
 
@@ -38,185 +47,220 @@ fn bracketed(alloc: Global, times: usize, text: &str) -> Result<String, AllocErr
     Ok(bracketed)
 }
 
+const READ_TEXTS: &[(&str, &str)] = &[
+    (
+        "not (rating = 0 or keyword x)",
+        "not ( rating = 0 or keyword x )",
+    ),
+    ("not rating = 3", "not rating = 3"),
+    ("keyword and and all", "( keyword and and all )"),
+    ("all or none and all", "( all or ( none and all ) )"),
+    ("all or none or all", "( ( all or none ) or all )"),
+    ("all and none and all", "( ( all and none ) and all )"),
+    ("  (((  all)) )  ", "all"),
+    ("not day >= 0000-01-01", "not day >= 0000-01-01"),
+    ("day = 2024-02-29", "day = 2024-02-29"),
+    ("day <= 9999-12-31", "day <= 9999-12-31"),
+    ("keyword e\u{301}", "keyword \u{e9}"),
+    ("keyword \u{e9}", "keyword \u{e9}"),
+];
+
 #[test]
-fn texts_are_read_and_printed(rt: HostRuntime) -> Result<(), Fail> {
-    let alloc = rt.alloc();
-    for (text, want) in [
-        (
-            "not (rating = 0 or keyword x)",
-            "not ( rating = 0 or keyword x )",
-        ),
-        ("not rating = 3", "not rating = 3"),
-        ("keyword and and all", "( keyword and and all )"),
-        ("all or none and all", "( all or ( none and all ) )"),
-        ("all or none or all", "( ( all or none ) or all )"),
-        ("all and none and all", "( ( all and none ) and all )"),
-        ("  (((  all)) )  ", "all"),
-        ("not day >= 0000-01-01", "not day >= 0000-01-01"),
-        ("day = 2024-02-29", "day = 2024-02-29"),
-        ("day <= 9999-12-31", "day <= 9999-12-31"),
-        ("keyword e\u{301}", "keyword \u{e9}"),
-        ("keyword \u{e9}", "keyword \u{e9}"),
-    ] {
-        let got = read_again(alloc, text)?;
-        assert!(rt; got.as_str() == want, "{text}: {got}");
+fn texts_are_read_and_printed(rt: HostRuntime) {
+    for (text, want) in READ_TEXTS {
+        assert!(rt; is_read_again(rt.alloc(), text, want), "{text}");
     }
-    Ok(())
 }
 
+const REFUSED_TEXTS: &[(&str, &str)] = &[
+    ("", "Empty"),
+    ("   ", "Empty"),
+    ("all all", "Unexpected(2)"),
+    ("rating >= 6", "Unexpected(3)"),
+    ("rating >= 05", "Unexpected(3)"),
+    ("rating >=4", "Unexpected(2)"),
+    ("day = 2023-02-29", "Unexpected(3)"),
+    ("ALL", "Unexpected(1)"),
+    ("all\tand all", "Unexpected(1)"),
+    ("all )", "Unexpected(2)"),
+    ("keyword (", "Unexpected(2)"),
+    ("keyword x)", "Unexpected(3)"),
+    ("( all", "EndsEarly"),
+    ("keyword", "EndsEarly"),
+    ("keyword a,b", "BadWord"),
+    ("keyword a,b )", "BadWord"),
+];
+
 #[test]
-fn texts_are_refused(rt: HostRuntime) -> Result<(), Fail> {
-    let alloc = rt.alloc();
-    for (text, want) in [
-        ("", "Empty"),
-        ("   ", "Empty"),
-        ("all all", "Unexpected(2)"),
-        ("rating >= 6", "Unexpected(3)"),
-        ("rating >= 05", "Unexpected(3)"),
-        ("rating >=4", "Unexpected(2)"),
-        ("day = 2023-02-29", "Unexpected(3)"),
-        ("ALL", "Unexpected(1)"),
-        ("all\tand all", "Unexpected(1)"),
-        ("all )", "Unexpected(2)"),
-        ("keyword (", "Unexpected(2)"),
-        ("keyword x)", "Unexpected(3)"),
-        ("( all", "EndsEarly"),
-        ("keyword", "EndsEarly"),
-        ("keyword a,b", "BadWord"),
-        ("keyword a,b )", "BadWord"),
-    ] {
-        let got = read_again(alloc, text)?;
-        assert!(rt; got.as_str() == want, "{text}: {got}");
+fn texts_are_refused(rt: HostRuntime) {
+    for (text, want) in REFUSED_TEXTS {
+        assert!(rt; is_read_again(rt.alloc(), text, want), "{text}");
     }
-    Ok(())
 }
 
+const FRONTS: &[(&str, &str)] = &[
+    ("not", "EndsEarly"),
+    ("not (", "EndsEarly"),
+    ("not ( rating", "EndsEarly"),
+    ("not ( rating >=", "EndsEarly"),
+    ("not ( rating >= 4", "EndsEarly"),
+    ("not ( rating >= 4 and", "EndsEarly"),
+    ("not ( rating >= 4 and keyword", "EndsEarly"),
+    ("not ( rating >= 4 and keyword sun", "EndsEarly"),
+    (
+        "not ( rating >= 4 and keyword sun )",
+        "not ( rating >= 4 and keyword sun )",
+    ),
+    ("not ( rating >= 4 and keyword sun ) or", "EndsEarly"),
+    ("not ( rating >= 4 and keyword sun ) or day", "EndsEarly"),
+    ("not ( rating >= 4 and keyword sun ) or day =", "EndsEarly"),
+    (
+        "not ( rating >= 4 and keyword sun ) or day = 2024-02-29",
+        "( not ( rating >= 4 and keyword sun ) or day = 2024-02-29 )",
+    ),
+];
+
 #[test]
-fn each_front_ends_early_or_is_a_filter(rt: HostRuntime) -> Result<(), Fail> {
-    let alloc = rt.alloc();
-    for (text, want) in [
-        ("not", "EndsEarly"),
-        ("not (", "EndsEarly"),
-        ("not ( rating", "EndsEarly"),
-        ("not ( rating >=", "EndsEarly"),
-        ("not ( rating >= 4", "EndsEarly"),
-        ("not ( rating >= 4 and", "EndsEarly"),
-        ("not ( rating >= 4 and keyword", "EndsEarly"),
-        ("not ( rating >= 4 and keyword sun", "EndsEarly"),
-        (
-            "not ( rating >= 4 and keyword sun )",
-            "not ( rating >= 4 and keyword sun )",
-        ),
-        ("not ( rating >= 4 and keyword sun ) or", "EndsEarly"),
-        ("not ( rating >= 4 and keyword sun ) or day", "EndsEarly"),
-        ("not ( rating >= 4 and keyword sun ) or day =", "EndsEarly"),
-        (
-            "not ( rating >= 4 and keyword sun ) or day = 2024-02-29",
-            "( not ( rating >= 4 and keyword sun ) or day = 2024-02-29 )",
-        ),
-    ] {
-        let got = read_again(alloc, text)?;
-        assert!(rt; got.as_str() == want, "{text}: {got}");
+fn each_front_ends_early_or_is_a_filter(rt: HostRuntime) {
+    for (text, want) in FRONTS {
+        assert!(rt; is_read_again(rt.alloc(), text, want), "{text}");
     }
-    Ok(())
 }
 
-#[test]
-fn limits_are_kept(rt: HostRuntime) -> Result<(), Fail> {
-    let alloc = rt.alloc();
-
-    // `None` where the text is printed as it was read.
-    for (front, piece, times, rest, fault) in [
-        ("", "not ", 31, "all", None),
-        ("", "not ", 32, "all", Some("TooDeep")),
-        ("", "( ", 256, "", Some("EndsEarly")),
-        ("", "( ", 255, "or", Some("Unexpected(256)")),
-        ("", ") ", 257, "", Some("TooManyTokens")),
-        ("keyword ", "x", 64, "", None),
-        ("keyword ", "x", 65, "", Some("BadWord")),
-    ] {
-        let text = repeated(alloc, front, piece, times, rest)?;
-        let got = read_again(alloc, &text)?;
-        assert!(rt; got.as_str() == fault.unwrap_or(&text), "{text}: {got}");
+// Whether such a text is refused with that fault, or with none printed as it was read.
+fn is_within_limits(
+    alloc: Global,
+    front: &str,
+    (piece, times): (&str, usize),
+    rest: &str,
+    fault: Option<&str>,
+) -> bool {
+    match repeated(alloc, front, piece, times, rest) {
+        Ok(text) => is_read_again(alloc, &text, fault.unwrap_or(&text)),
+        Err(_) => false,
     }
-    Ok(())
 }
 
+const LIMITS: &[(&str, (&str, usize), &str, Option<&str>)] = &[
+    ("", ("not ", 31), "all", None),
+    ("", ("not ", 32), "all", Some("TooDeep")),
+    ("", ("( ", 256), "", Some("EndsEarly")),
+    ("", ("( ", 255), "or", Some("Unexpected(256)")),
+    ("", (") ", 257), "", Some("TooManyTokens")),
+    ("keyword ", ("x", 64), "", None),
+    ("keyword ", ("x", 65), "", Some("BadWord")),
+];
+
 #[test]
-fn brackets_are_tokens(rt: HostRuntime) -> Result<(), Fail> {
-    let alloc = rt.alloc();
-    for (times, inside, want) in [
-        (127, "not all", "not all"),
-        (128, "all", "TooManyTokens"),
-        (128, "not all", "TooManyTokens"),
-    ] {
-        let text = bracketed(alloc, times, inside)?;
-        let got = read_again(alloc, &text)?;
-        assert!(rt; got.as_str() == want, "{times}: {got}");
+fn limits_are_kept(rt: HostRuntime) {
+    for (front, pieces, rest, fault) in LIMITS {
+        assert!(rt;
+            is_within_limits(rt.alloc(), front, *pieces, rest, *fault),
+            "{pieces:?}"
+        );
     }
-    Ok(())
+}
+
+// Whether a text in so many brackets is read and printed so, or refused with that fault.
+fn is_bracketed_read(alloc: Global, times: usize, text: &str, want: &str) -> bool {
+    match bracketed(alloc, times, text) {
+        Ok(text) => is_read_again(alloc, &text, want),
+        Err(_) => false,
+    }
+}
+
+const BRACKETED: &[(usize, &str, &str)] = &[
+    (127, "not all", "not all"),
+    (128, "all", "TooManyTokens"),
+    (128, "not all", "TooManyTokens"),
+];
+
+#[test]
+fn brackets_are_tokens(rt: HostRuntime) {
+    for (times, inside, want) in BRACKETED {
+        assert!(rt;
+            is_bracketed_read(rt.alloc(), *times, inside, want),
+            "{times}"
+        );
+    }
+}
+
+fn is_printed(alloc: Global, tree: &FilterTree, text: &str) -> bool {
+    match print(alloc, tree) {
+        Ok(printed) => printed.as_str() == text,
+        Err(_) => false,
+    }
+}
+
+// Whether a tree and its copy are equal, and printed so.
+fn is_copied(alloc: Global, tree: &FilterTree, text: &str) -> bool {
+    match tree.try_clone() {
+        Ok(copy) => {
+            copy == *tree && is_printed(alloc, tree, text) && is_printed(alloc, &copy, text)
+        }
+        Err(_) => false,
+    }
+}
+
+fn is_read_and_copied(alloc: Global, text: &str) -> bool {
+    match read(alloc, text) {
+        Ok(tree) => is_copied(alloc, &tree, text),
+        Err(_) => false,
+    }
 }
 
 // Each constructor and each comparison.
+const TREES: &[&str] = &[
+    "( ( all or none ) and not keyword sun )",
+    "( ( rating >= 1 or rating <= 4 ) or rating = 0 )",
+    "( ( day >= 0007-01-31 and day <= 9999-12-31 ) and day = 2024-02-29 )",
+];
+
 #[test]
-fn trees_are_copied_and_printed(rt: HostRuntime) -> Result<(), Fail> {
-    let alloc = rt.alloc();
-    for text in [
-        "( ( all or none ) and not keyword sun )",
-        "( ( rating >= 1 or rating <= 4 ) or rating = 0 )",
-        "( ( day >= 0007-01-31 and day <= 9999-12-31 ) and day = 2024-02-29 )",
-    ] {
-        let tree = read(alloc, text)?;
-        let copy = tree.try_clone()?;
-        let printed = print(alloc, &copy)?;
-        assert!(rt; printed.as_str() == text, "{text}: {printed}");
-        assert!(rt; copy == tree, "{text}");
+fn trees_are_copied_and_printed(rt: HostRuntime) {
+    for text in TREES {
+        assert!(rt; is_read_and_copied(rt.alloc(), text), "{text}");
     }
-    Ok(())
 }
 
-fn until(date: &str) -> Result<FilterTree, Fail> {
-    Ok(FilterTree::On(Cmp::AtMost, Day::read(date).ok_or("no date")?))
+fn both(alloc: Global, left: FilterTree, right: FilterTree) -> Option<FilterTree> {
+    let left = Box::new(alloc, left).ok()?;
+    Some(FilterTree::Both(left, Box::new(alloc, right).ok()?))
 }
 
-fn rated(rating: u8) -> Result<FilterTree, Fail> {
-    Ok(FilterTree::Rate(Cmp::Equal, Rating::new(rating).ok_or("no rating")?))
-}
-
-fn with_keyword(alloc: Global, word: &str) -> Result<FilterTree, Fail> {
-    Ok(FilterTree::Keyword(Word::read(alloc, word)?))
-}
-
-fn both(alloc: Global, left: FilterTree, right: FilterTree) -> Result<FilterTree, Fail> {
-    Ok(FilterTree::Both(Box::new(alloc, left)?, Box::new(alloc, right)?))
-}
-
-fn neither(alloc: Global, left: FilterTree, right: FilterTree) -> Result<FilterTree, Fail> {
-    let either = FilterTree::Either(Box::new(alloc, left)?, Box::new(alloc, right)?);
-    Ok(FilterTree::Not(Box::new(alloc, either)?))
+fn neither(alloc: Global, left: FilterTree, right: FilterTree) -> Option<FilterTree> {
+    let left = Box::new(alloc, left).ok()?;
+    let either = FilterTree::Either(left, Box::new(alloc, right).ok()?);
+    Some(FilterTree::Not(Box::new(alloc, either).ok()?))
 }
 
 // not (day <= 0007-01-31 and rating = 5 or keyword sun)
-fn made_by_hand(alloc: Global) -> Result<FilterTree, Fail> {
-    let tests = both(alloc, until("0007-01-31")?, rated(5)?)?;
-    neither(alloc, tests, with_keyword(alloc, "sun")?)
+fn made_by_hand(alloc: Global) -> Option<FilterTree> {
+    let until = FilterTree::On(Cmp::AtMost, Day::read("0007-01-31")?);
+    let rated = FilterTree::Rate(Cmp::Equal, Rating::new(5)?);
+    let keyword = Word::read(alloc, "sun").ok()?;
+    neither(
+        alloc,
+        both(alloc, until, rated)?,
+        FilterTree::Keyword(keyword),
+    )
+}
+
+fn is_made_by_hand(alloc: Global, text: &str) -> bool {
+    match made_by_hand(alloc) {
+        Some(tree) => tree != FilterTree::Nothing && is_copied(alloc, &tree, text),
+        None => false,
+    }
 }
 
 #[test]
-fn a_tree_made_by_hand_is_printed_and_copied(rt: HostRuntime) -> Result<(), Fail> {
-    let alloc = rt.alloc();
-    let tree = made_by_hand(alloc)?;
-    let copy = tree.try_clone()?;
-    assert!(rt; copy == tree);
-    assert!(rt; copy != FilterTree::Nothing);
-    for printed in [&tree, &copy] {
-        let text = print(alloc, printed)?;
-        assert!(rt;
-            text.as_str() == "not ( ( day <= 0007-01-31 and rating = 5 ) or keyword sun )",
-            "{text}"
-        );
-    }
-    Ok(())
+fn a_tree_made_by_hand_is_printed_and_copied(rt: HostRuntime) {
+    assert!(rt;
+        is_made_by_hand(
+            rt.alloc(),
+            "not ( ( day <= 0007-01-31 and rating = 5 ) or keyword sun )"
+        )
+    );
 }
 
 #[test]

@@ -1,5 +1,5 @@
 -- What a reader has after a line that changes a picture, and what the line says then.
-use Rattle.std.proofs.Common.{◌≡◌, ◌∷◌, ◌++◌, ◌<◌, ℕ, List, [], length, Bool, true, false, ◌||◌, codes, Option, Some, Result, Ok, refl, sym, ap, ◌∙◌, arith}
+use Rattle.std.proofs.Common.{◌≡◌, ◌∷◌, ◌++◌, ◌<◌, ℕ, List, [], Bool, true, false, ◌||◌, codes, Some, Ok, refl, sym, ap, ◌∙◌}
 use Rattle.std.specs.BTreeSet.{contains}
 use Rattle.std.specs.Ordering.{nat_cmp}
 use Rattle.std.proofs.lemmas.Bool.{lt-leb}
@@ -10,7 +10,6 @@ use Rattle.photo_script.specs.Contents.{contents}
 use Rattle.photo_script.specs.Earlier.{Earlier}
 use Rattle.photo_script.specs.Steps.{Takes}
 use Rattle.photo_script.specs.Saying.{edit_line_said, remove_line_said, edition_said, removal_said, command_said, device_said, picture_said, record_said}
-use Rattle.photo_script.specs.declared.command.Command.{Command}
 use Rattle.photo_script.specs.declared.command.Command.TheVariants as command
 use Rattle.photo_script.specs.declared.reader.Reader.{Reader}
 

@@ -1,6 +1,6 @@
 -- Where a text is cut at its first colon.
-use Rattle.std.proofs.Common.{◌≡◌, ◌<◌, ℕ, true, false, eqb, List, length, Option, Some, None, ap, sym, ◌∙◌, lit<, arith, Bor}
-use Rattle.std.specs.List.{list_any, position_or_len, before_first, after_first}
+use Rattle.std.proofs.Common.{◌≡◌, ℕ, List, Option, Some, None, ap, sym, ◌∙◌, lit<, arith, Bor}
+use Rattle.std.specs.List.{position_or_len, after_first}
 use Rattle.std.specs.Option.{MatchOption}
 use Rattle.std.proofs.lemmas.Bool.{cond-true, cond-false}
 use Rattle.std.proofs.lemmas.List.Folds.{list_any_at}

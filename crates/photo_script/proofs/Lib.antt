@@ -2,6 +2,7 @@ mod Arguments
 mod WorkedExamples
 mod Changing
 mod Cuts
+mod Everywhere
 mod FilterTexts
 mod Gathered
 mod Joined

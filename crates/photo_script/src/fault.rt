@@ -44,7 +44,8 @@ pub enum LineFault {
     /// A device is declared behind a command.
     #[error("F10 LateDevice")]
     LateDevice,
-    /// A number is not decimal from 1 to 999999999 without a leading zero.
+    /// A picture's number is not decimal from 1 to 999999999 without a leading zero; or a version has no colon, or behind
+    /// it no such number up to 100000.
     #[error("F11 BadNumber")]
     BadNumber,
     /// A rating is none of 0 to 5.

@@ -1,4 +1,4 @@
-ghost use Rattle.std.specs.Prelude.{◌≡◌, ◌≢◌, ℕ, List, [], ◌∷◌, ◌<◌, ◌≤◌, length, codes, Ok, Err, IfOk, IfErr};
+ghost use Rattle.std.specs.Prelude.{◌≡◌, ◌≢◌, ℕ, List, [], ◌∷◌, ◌<◌, ◌≤◌, length, codes, Ok, Err, IfOk, IfErr, OnOk, true};
 ghost use Rattle.photo_script.specs.Lines.{fields_of, lines_of, third_field_on};
 ghost use Rattle.photo_script.specs.Limits.{max_text_bytes, max_line_bytes};
 ghost use Rattle.std.specs.Str.Lines.{strip_carriage_return};
@@ -78,6 +78,8 @@ struct Reader {
 }
 
 impl Reader {
+    ghost use Rattle.std.specs.BTreeSet.{Updates};
+    ghost use Rattle.std.specs.Ordering.{nat_cmp};
     ghost use Rattle.photo_script.specs.Steps.{Reads, seen, texts};
     ghost use Rattle.photo_script.specs.declared.refusal.Refusal.TheVariants.{Memory};
 
@@ -169,7 +171,6 @@ impl Reader {
             picture,
             record,
         })?;
-        self.pictures.insert(picture.value())?;
         Ok(())
     }
 
@@ -288,14 +289,16 @@ impl Reader {
         self.script.place(name).ok_or(LineFault::UnknownDevice)
     }
 
-    // A picture number that no earlier line makes.
+    // A picture number that no earlier line makes, and that this one does.
     #[tactic(auto, unfolding(crate::specs::Saying::new_picture_said))]
-    fn new_picture(&self, text: &str) -> Result<PicNo, LineFault>
-        ensures { result ≡ new_picture_said (seen self.now) text.now }
+    fn new_picture(&mut self, text: &str) -> Result<PicNo, Refusal>
+        ensures said { Gives (λ number. number) result (new_picture_said (seen self.old) text.now) }
+        ensures script { OnOk result (self.new.script ≡ self.old.script) }
+        ensures made { IfOk result (λ number. Updates nat_cmp self.old.pictures self.new.pictures number true) }
     {
         let picture = picture_of(text).ok_or(LineFault::BadNumber)?;
-        if self.pictures.contains(&picture.value()) {
-            return Err(LineFault::RepeatedPicture);
+        if !self.pictures.insert(picture.value())? {
+            return Err(Refusal::Fault(LineFault::RepeatedPicture));
         }
         Ok(picture)
     }

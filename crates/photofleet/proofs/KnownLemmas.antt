@@ -28,9 +28,10 @@ or_left a b h = rw h refl
 each_last : (es : List Entry) (P : Version → Type 0) → is_vector es ≡ true → ((v : Version) → denotes es v ≡ true → P v) → AllByRecursion (λ e. P (last e)) es
 each_last [] P vector each = tt
 each_last (e ∷ es) P vector each =
-    let parts = vector_parts e es vector in
-    (each (last e) (or_left (denotes_one e (last e)) (denotes es (last e)) (denotes_last e parts.positive)),
-    each_last es P parts.rest (λ v h. each v (or_right (denotes_one e v) (denotes es v) h)))
+    let parts = vector_parts e es vector in (
+      each (last e) (or_left (denotes_one e (last e)) (denotes es (last e)) (denotes_last e parts.positive)),
+      each_last es P parts.rest (λ v h. each v (or_right (denotes_one e v) (denotes es v) h)),
+    )
 
 -- a group lists a picture above 0
 listed : (ps : List ℕ) → is_empty ps ≡ false → list_all (λ p. ltb 0 p) ps ≡ true → (p : ℕ) × (0 < p) × (lists ps p ≡ true)
@@ -51,15 +52,17 @@ each_group star (g ∷ gs) P groups each =
     let parts = groups_parts star g gs groups in
     let picture = listed g.pictures parts.group.some parts.group.positive in
     let p = picture.0 in
-    let here : reaches g p ≡ true = or_right (is_empty g.pictures) (lists g.pictures p) picture.2 in
-    (each_last g.entries P parts.group.vector (λ v h. each p v picture.1 (reached g gs p v here h)),
-    each_group star gs P parts.rest (λ q v above h. each q v above (or_right (reaches g q && denotes g.entries v) (knows gs q v) h)))
+    let here : reaches g p ≡ true = or_right (is_empty g.pictures) (lists g.pictures p) picture.2 in (
+      each_last g.entries P parts.group.vector (λ v h. each p v picture.1 (reached g gs p v here h)),
+      each_group star gs P parts.rest (λ q v above h. each q v above (or_right (reaches g q && denotes g.entries v) (knows gs q v) h)),
+    )
 
 -- the last version of each bound has what each known version has
 pub each_known : (fs : List Fragment) (P : Version → Type 0) → is_normal fs ≡ true → ((p : ℕ) (v : Version) → 0 < p → knows fs p v ≡ true → P v) → EachLast P fs
 each_known [] P normal each = cc
 each_known (s ∷ gs) P normal each =
     let parts = normal_parts s gs normal in
-    let here : reaches s 1 ≡ true = or_left (is_empty s.pictures) (lists s.pictures 1) parts.star in
-    (each_last s.entries P parts.vector (λ v h. each 1 v (omega arith) (reached s gs 1 v here h)),
-    each_group s.entries gs P parts.groups (λ q v above h. each q v above (or_right (reaches s q && denotes s.entries v) (knows gs q v) h)))
+    let here : reaches s 1 ≡ true = or_left (is_empty s.pictures) (lists s.pictures 1) parts.star in (
+      each_last s.entries P parts.vector (λ v h. each 1 v (omega arith) (reached s gs 1 v here h)),
+      each_group s.entries gs P parts.groups (λ q v above h. each q v above (or_right (reaches s q && denotes s.entries v) (knows gs q v) h)),
+    )

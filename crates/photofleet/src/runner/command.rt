@@ -52,7 +52,9 @@ pub fn run_command(
         }
         Command::Knowledge { device: number } => knowledge_of(*number, device.knowledge()),
         Command::Knows {
-            picture, version, ..
+            picture,
+            version,
+            ..
         } => Ok(knows_of(device.knowledge(), *picture, *version)),
     }
 }

@@ -8,7 +8,7 @@ ghost use Rattle.photofleet.specs.Outcomes.{AppendsFirst, AppendsFront};
 ghost use Rattle.photofleet.specs.Status.{IsOfWriting};
 
 use super::RunError;
-use photo_script::{Report, Script, report_text};
+use photo_script::{Report, Script, push_report};
 use std::alloc::Global;
 use std::io::Write;
 
@@ -49,10 +49,12 @@ fn write_texts<W: Write>(
     ensures front { result ≡ Err Write → AppendsFront (W.contents writer.old) (W.contents writer.new) (texts_from script.now 1 (map answer_of reports.now)) }
     ensures err { IfErr result IsOfWriting }
 {
+    let mut text = String::new(alloc);
     let mut number = 0;
     for report in reports {
         number += 1;
-        let Ok(text) = report_text(alloc, script, number, report) else {
+        text.clear();
+        let Ok(()) = push_report(&mut text, script, number, report) else {
             return Err(RunError::NoMemory);
         };
         write_text(writer, text.as_bytes())?;

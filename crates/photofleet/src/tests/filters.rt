@@ -2,62 +2,66 @@ use super::memory::runs;
 use std::alloc::Global;
 use std::test::Fail;
 
+const PLACES: &[(&str, &str)] = &[
+    (
+        "device frame rating >= 4\nnew frame 1 3 2024-05-01 -\nlist frame\n",
+        "1 made frame:1 out\n2 list frame store 0 out 1\n  out 1 frame:1 rating 3 day 2024-05-01 words -\n",
+    ),
+    // the letter é in one form for the filter, and in the other for the picture
+    (
+        "device a keyword \u{e9}\nnew a 1 0 2024-02-29 e\u{301}\nlist a\n",
+        "1 made a:1 store\n2 list a store 1 out 0\n  store 1 a:1 rating 0 day 2024-02-29 words \u{e9}\n",
+    ),
+    (
+        "device a keyword e\u{301}\nnew a 1 0 2024-02-29 \u{e9}\n",
+        "1 made a:1 store\n",
+    ),
+    // each device by its own filter
+    (
+        "device a rating <= 2\ndevice b none\ndevice c not rating <= 2\nnew a 1 3 2024-05-01 -\nnew b 2 3 2024-05-01 -\nnew c 3 3 2024-05-01 -\nnew a 4 2 2024-05-01 -\nnew c 5 2 2024-05-01 -\nlist a\n",
+        "1 made a:1 out\n2 made b:1 out\n3 made c:1 store\n4 made a:2 store\n5 made c:2 out\n6 list a store 1 out 1\n  store 4 a:2 rating 2 day 2024-05-01 words -\n  out 1 a:1 rating 3 day 2024-05-01 words -\n",
+    ),
+];
+
 #[test]
 fn places_of_new_versions(rt: HostRuntime) {
-    for (script, reports) in [
-        (
-            "device frame rating >= 4\nnew frame 1 3 2024-05-01 -\nlist frame\n",
-            "1 made frame:1 out\n2 list frame store 0 out 1\n  out 1 frame:1 rating 3 day 2024-05-01 words -\n",
-        ),
-        // the letter é in one form for the filter, and in the other for the picture
-        (
-            "device a keyword \u{e9}\nnew a 1 0 2024-02-29 e\u{301}\nlist a\n",
-            "1 made a:1 store\n2 list a store 1 out 0\n  store 1 a:1 rating 0 day 2024-02-29 words \u{e9}\n",
-        ),
-        (
-            "device a keyword e\u{301}\nnew a 1 0 2024-02-29 \u{e9}\n",
-            "1 made a:1 store\n",
-        ),
-        // each device by its own filter
-        (
-            "device a rating <= 2\ndevice b none\ndevice c not rating <= 2\nnew a 1 3 2024-05-01 -\nnew b 2 3 2024-05-01 -\nnew c 3 3 2024-05-01 -\nnew a 4 2 2024-05-01 -\nnew c 5 2 2024-05-01 -\nlist a\n",
-            "1 made a:1 out\n2 made b:1 out\n3 made c:1 store\n4 made a:2 store\n5 made c:2 out\n6 list a store 1 out 1\n  store 4 a:2 rating 2 day 2024-05-01 words -\n  out 1 a:1 rating 3 day 2024-05-01 words -\n",
-        ),
-    ] {
+    for (script, reports) in PLACES {
         assert!(rt; runs(rt.alloc(), script, 0, reports, ""), "{script}");
     }
 }
 
+const REFUSED_FILTERS: &[(&str, &str)] = &[
+    (
+        "device a rating >= 6\n",
+        "script fault: line 1: F15 BadFilter\n",
+    ),
+    (
+        "device a all\ndevice b all all\n",
+        "script fault: line 2: F15 BadFilter\n",
+    ),
+    // before a fault of a later line
+    (
+        "device a ( all\nfrob\n",
+        "script fault: line 1: F15 BadFilter\n",
+    ),
+    (
+        "device a rating >=4\nlist b\n",
+        "script fault: line 1: F15 BadFilter\n",
+    ),
+    // behind a fault of an earlier field or line
+    (
+        "device A rating >= 6\n",
+        "script fault: line 1: F7 BadName\n",
+    ),
+    (
+        "frob\ndevice a rating >= 6\n",
+        "script fault: line 1: F5 UnknownCommand\n",
+    ),
+];
+
 #[test]
 fn filters_that_are_refused(rt: HostRuntime) {
-    for (script, error) in [
-        (
-            "device a rating >= 6\n",
-            "script fault: line 1: F15 BadFilter\n",
-        ),
-        (
-            "device a all\ndevice b all all\n",
-            "script fault: line 2: F15 BadFilter\n",
-        ),
-        // before a fault of a later line
-        (
-            "device a ( all\nfrob\n",
-            "script fault: line 1: F15 BadFilter\n",
-        ),
-        (
-            "device a rating >=4\nlist b\n",
-            "script fault: line 1: F15 BadFilter\n",
-        ),
-        // behind a fault of an earlier field or line
-        (
-            "device A rating >= 6\n",
-            "script fault: line 1: F7 BadName\n",
-        ),
-        (
-            "frob\ndevice a rating >= 6\n",
-            "script fault: line 1: F5 UnknownCommand\n",
-        ),
-    ] {
+    for (script, error) in REFUSED_FILTERS {
         assert!(rt; runs(rt.alloc(), script, 3, "", error), "{script}");
     }
 }

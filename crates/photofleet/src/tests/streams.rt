@@ -1,7 +1,7 @@
 use super::memory::{Endless, Full, OUTPUT, SCRIPT, Sink, Source, streams};
 use crate::runner::{RunError, plain_stream};
 use photo_script::ScriptFault;
-use std::test::Fail;
+use std::alloc::{AllocError, Global};
 
 #[test]
 fn pieces_of_one_byte(rt: HostRuntime) {
@@ -71,20 +71,35 @@ fn a_reader_without_end(rt: HostRuntime) {
     assert!(rt; source.given == 8_388_609 && sink.taken.is_empty());
 }
 
-#[test]
-fn the_largest_text(rt: HostRuntime) -> Result<(), Fail> {
+// Puts 8,192 comments of 1,024 bytes.
+fn push_comments(text: &mut Vec<u8>) -> Result<(), AllocError> {
     let mut line = [b'#'; 1024];
     line[1023] = b'\n';
-    let mut text = Vec::new(rt.alloc());
     for _ in 0..8192 {
         text.extend_from_slice(line.as_slice())?;
     }
-    assert_eq!(rt; text.len(), 8_388_608);
-    let source = Source::new(text.as_slice());
-    assert!(rt; streams(rt.alloc(), source, Sink::new(rt.alloc()), Ok(()), b""));
-    text.push(b'\n')?;
-    let source = Source::new(text.as_slice());
-    let answer = Err(RunError::Script(ScriptFault::TooLarge));
-    assert!(rt; streams(rt.alloc(), source, Sink::new(rt.alloc()), answer, b""));
     Ok(())
+}
+
+// Whether a run of the text gives that answer, and writes nothing.
+fn is_answered(alloc: Global, text: &[u8], answer: Result<(), RunError>) -> bool {
+    streams(alloc, Source::new(text), Sink::new(alloc), answer, b"")
+}
+
+fn is_largest(alloc: Global) -> bool {
+    let mut text = Vec::new(alloc);
+    push_comments(&mut text).is_ok()
+        && text.len() == 8_388_608
+        && is_answered(alloc, text.as_slice(), Ok(()))
+        && text.push(b'\n').is_ok()
+        && is_answered(
+            alloc,
+            text.as_slice(),
+            Err(RunError::Script(ScriptFault::TooLarge)),
+        )
+}
+
+#[test]
+fn the_largest_text(rt: HostRuntime) {
+    assert!(rt; is_largest(rt.alloc()));
 }

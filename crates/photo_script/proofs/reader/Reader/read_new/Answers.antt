@@ -1,7 +1,4 @@
-use Rattle.std.proofs.Common.{Some, arith}
-use Rattle.std.proofs.Common.{true, subst}
-use Rattle.std.specs.BTreeSet.{Updates}
-use Rattle.std.specs.Ordering.{nat_cmp}
+use Rattle.std.proofs.Common.{Some, sym, arith}
 use Rattle.photo_script.specs.Steps.{seen}
 use Rattle.photo_script.specs.declared.command.Command.TheVariants as command
 use Rattle.photo_script.proofs.Arguments.{field, texts-five}
@@ -14,7 +11,8 @@ returns c =
     let at = field c.args.arguments.now in
     let device = c.in_ok-device.device in
     let number = c.in_ok-picture.picture in
-    let put : Updates nat_cmp old.pictures c.insert.new.self number true = subst (λ n. Updates nat_cmp old.pictures c.insert.new.self n true) c.value.ensures.value c.in_ok-insert.ensures.updates in
-    let said = new_line-said (seen old) (at 0) (at 1) (at 2) (at 3) (at 4) device number c.in_ok-record.record (omega arith) c.in_ok-device.ensures.said c.in_ok-picture.ensures c.in_ok-record.ensures in
-    let taken = takes_new old (record old { script = c.push.new.self; pictures = c.insert.new.self }) (at 0) (at 1) (at 2) (at 3) (at 4) device number c.in_ok-record.record c.in_ok-picture.ensures c.in_ok-push.ensures.ok put in
+    let fresh = sym c.in_ok-picture.ensures.said in
+    let script = rw c.in_ok-picture.ensures.script at c.in_ok-push.ensures.ok in
+    let said = new_line-said (seen old) (at 0) (at 1) (at 2) (at 3) (at 4) device number c.in_ok-record.record (omega arith) c.in_ok-device.ensures.said fresh c.in_ok-record.ensures in
+    let taken = takes_new old _ (at 0) (at 1) (at 2) (at 3) (at 4) device number c.in_ok-record.record fresh script c.in_ok-picture.ensures.made in
     rw (texts-five c.args.arguments.now (omega arith)) (Some (command.New device number c.in_ok-record.record), said, taken)
