@@ -1,6 +1,6 @@
 -- What comes of a change of a picture.
 use Rattle.std.proofs.Common.{◌≡◌, ℕ, ◌+◌, ◌≤◌, true, false, refl, sym, ap, ◌∙◌, subst, arith}
-use Rattle.std.specs.Prelude.{Option, Some, None, Result, Ok, Err, IfOk, OnOk, OnErr}
+use Rattle.std.specs.Prelude.{Some, None, Result, Ok, Err, IfOk, OnOk, OnErr}
 use Rattle.photo_record.specs.declared.record.Record.{Record}
 use Rattle.photo_version.specs.Version.{Version}
 use Rattle.photo_device.specs.declared.place.Place.{Place}

@@ -1,13 +1,13 @@
 -- What the bounds of a normal form say of the versions that are known.
-use Rattle.std.proofs.Common.{◌≡◌, ℕ, ◌+◌, ◌<◌, ◌≤◌, Bool, true, false, cond, eqb, ltb, leb, ◌&&◌, ◌||◌, List, [], ◌∷◌, refl, ap, ◌∙◌, arith}
-use Rattle.std.specs.List.{AllByRecursion, list_any, list_all}
+use Rattle.std.proofs.Common.{◌≡◌, ℕ, ◌<◌, Bool, true, false, eqb, ltb, ◌&&◌, ◌||◌, List, [], ◌∷◌, refl, arith}
+use Rattle.std.specs.List.{AllByRecursion, list_all}
 use Rattle.std.proofs.lemmas.Bool.{le-leb, eq-eqb, ltb-true, and_parts}
-use Rattle.photo_version.specs.Author.{author, author_of_word}
+use Rattle.photo_version.specs.Author.{author_of_word}
 use Rattle.photo_version.specs.Version.{Version, version}
 use Rattle.item_knowledge.specs.Entries.{Entry, denotes, denotes_one, is_vector}
-use Rattle.item_knowledge.specs.Fragments.{Fragment, knows, reaches, lists, is_empty, first, is_normal, are_groups}
+use Rattle.item_knowledge.specs.Fragments.{Fragment, knows, reaches, lists, is_empty, is_normal, are_groups}
 use Rattle.item_knowledge.proofs.EntryLemmas.{vector_parts}
-use Rattle.item_knowledge.proofs.FragmentLemmas.{group_parts, groups_parts, normal_parts}
+use Rattle.item_knowledge.proofs.FragmentLemmas.{groups_parts, normal_parts}
 
 -- the last version of an entry
 abbrev last : Entry → Version

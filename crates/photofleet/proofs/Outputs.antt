@@ -1,7 +1,6 @@
 -- A script's run has at most one output.
 use Rattle.std.proofs.Common.{◌≡◌, List, [], ◌∷◌, refl, sym, ap, ◌∙◌}
 use Rattle.std.specs.List.{AllZip}
-use Rattle.photo_script.specs.Contents.{Contents}
 use Rattle.photo_script.specs.Reports.{Answer, ModelReport, Tells, texts_from}
 use Rattle.photo_script.specs.Runs.{run, reports_of}
 use Rattle.photo_script.specs.Laws.{AnswersAreOne}

@@ -1,7 +1,6 @@
 -- What a stream has written where memory was refused.
-use Rattle.std.proofs.Common.{◌≡◌, ℕ, List, [], length, take, Ok}
+use Rattle.std.proofs.Common.{◌≡◌, ℕ, List, [], take, Ok}
 use Rattle.std.specs.Prelude.{Option, Some, None, IfSome}
-use Rattle.std.specs.Io.KnownBytes.{Appends}
 use Rattle.std.proofs.KnownBytes.{Appends-nil}
 use Rattle.photo_script.specs.Contents.{Contents}
 use Rattle.photo_script.specs.Reading.{script_of}

@@ -1,21 +1,19 @@
 -- The worked examples are computed by the definitions alone.
-use Rattle.std.proofs.Common.{◌≡◌, ℕ, ◌+◌, ◌<◌, Bool, true, false, eqb, leb, ◌&&◌, ◌||◌, List, [], ◌∷◌, map, Ok, refl, sym, ap, ◌∙◌, subst}
+use Rattle.std.proofs.Common.{◌≡◌, ℕ, Bool, true, false, eqb, leb, ◌&&◌, ◌||◌, List, [], ◌∷◌, map, Ok, refl, sym, ap, ◌∙◌, subst}
 use Rattle.std.specs.Prelude.{Option}
 use Rattle.std.specs.Fmt.{digits}
 use Rattle.std.specs.Io.KnownBytes.{Appends}
 use Rattle.photo_record.specs.Calendar.{date_of, years_off, months_off}
-use Rattle.photo_version.specs.Author.{author, same_author}
-use Rattle.photo_version.specs.Version.{Version}
 use Rattle.item_knowledge.specs.Fragments.{Fragment}
 use Rattle.photo_device.proofs.OwnLemmas.{one_more, none_up_to}
 use Rattle.photo_script.specs.Laws.{AnswersAreOne}
 use Rattle.photo_script.specs.Contents.{Contents}
 use Rattle.photo_script.specs.Reading.{script_of}
-use Rattle.photo_script.specs.Reports.{Answer, ModelReport, NotHeld, KnowledgeOf, Exactly, KnowledgeIs, text_of}
+use Rattle.photo_script.specs.Reports.{Answer, ModelReport, KnowledgeOf, Exactly, KnowledgeIs, text_of}
 use Rattle.photo_script.specs.Runs.{run, reports_of}
 use Rattle.photofleet.specs.Outcomes.{IsOutput, WritesOutput}
 use Rattle.clap.proofs.OnLiterals.{clap_on_literals}
-use Rattle.photofleet.specs.Examples.{AreAsTold, WordsAreAsTold, stored_text, stored_run, printed, below_the_filter, printed_below, with_the_word, printed_word, changes, printed_changes, never_made}
+use Rattle.photofleet.specs.Examples.{AreAsTold, WordsAreAsTold, stored_text, stored_run, printed, below_the_filter, printed_below, with_the_word, changes, printed_changes, never_made}
 use Rattle.photofleet.proofs.Outputs.{one_output}
 
 -- the versions of the first device up to a number, known of every picture

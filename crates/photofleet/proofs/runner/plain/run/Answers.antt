@@ -1,9 +1,8 @@
 use Rattle.std.proofs.Common.{◌≡◌, ◌∙◌, length, subst, ap, arith}
 use Rattle.std.specs.Prelude.{slice_get, Some}
-use Rattle.std.specs.List.{AllZip, AllByRecursion}
+use Rattle.std.specs.List.{AllZip}
 use Rattle.photo_version.specs.Author.{device_of_author}
 use Rattle.photo_device.specs.Device.{Shows}
-use Rattle.photo_script.specs.Reports.{IsAbout}
 use Rattle.photofleet.proofs.Runs.{fleet_after, runs_none, runs_on, runs_all}
 use Rattle.photofleet.proofs.runner.plain.run.Goals as goal
 
