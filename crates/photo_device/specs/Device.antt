@@ -1,5 +1,5 @@
 -- Devices as sets, and what making a version does to one.
-use Rattle.std.specs.Prelude.{◌≡◌, ℕ, ◌+◌, ◌<◌, Bool, false, not, ◌||◌, ◌==◌, if◌then◌else◌, List, [], ◌++◌}
+use Rattle.std.specs.Prelude.{◌≡◌, ℕ, ◌+◌, ◌<◌, Bool, false, not, ◌||◌, ◌==◌, if◌then◌else◌, List, [], ◌++◌, length, filter}
 use Rattle.std.specs.List.{list_any}
 use Rattle.photo_record.specs.declared.record.Record.{Record}
 use Rattle.photo_filter_text.specs.Tree.{Tree}
@@ -10,7 +10,7 @@ use Rattle.photo_device.specs.declared.held.Held.{Held}
 use Rattle.photo_version.specs.Author.{Author}
 use Rattle.photo_version.specs.Version.{Version, Versions, version, same_version}
 use Rattle.item_knowledge.specs.Fragments.{Fragment, knows}
-use Rattle.photo_device.specs.Entry.{Entry, others, put_entry_if}
+use Rattle.photo_device.specs.Entry.{Entry, others, put_entry_if, put_entries, without}
 use Rattle.photo_device.specs.Held.{entries_of, held_of_others, replaced}
 
 -- a model device: who it is, the tree of its filter, how many versions it has made, what it holds, and what it knows:
@@ -27,6 +27,18 @@ pub record ModelDevice : Type 0 where
 -- which versions are known of a picture
 abbrev pub known : ModelDevice → ℕ → Versions
 known m picture = λ v. m.every v || m.of picture v
+
+-- all that it holds
+abbrev pub holds : ModelDevice → List Entry
+holds m = m.store ++ m.out
+
+-- an entry's version is known of its picture
+abbrev pub knows_entry : ModelDevice → Entry → Bool
+knows_entry m e = known m e.picture e.version
+
+-- its filter selects the entry
+abbrev pub selects : ModelDevice → Entry → Bool
+selects m e = matches m.tree e.content
 
 -- what a device of the program keeps
 pub record Kept : Type 0 where
@@ -94,4 +106,31 @@ made m picture content = record m {
 
 -- a version of the picture is held, in the store or in the out. One that removes the picture counts
 abbrev pub is_held : ModelDevice → ℕ → Bool
-is_held m picture = list_any (λ e. e.picture == picture) (m.store ++ m.out)
+is_held m picture = list_any (λ e. e.picture == picture) (holds m)
+
+-- Narrowing: what the new tree doesn't match goes to the out
+
+abbrev pub narrowed : Tree → ModelDevice → ModelDevice
+narrowed tree m = record m {
+  tree = tree;
+  store = filter (λ e. matches tree e.content) m.store;
+  out = put_entries (filter (λ e. not (matches tree e.content)) m.store) m.out;
+}
+
+-- how many versions go
+abbrev pub moved : Tree → ModelDevice → ℕ
+moved tree m = length (filter (λ e. not (matches tree e.content)) m.store)
+
+-- Changing what is held and known: some versions are given up, some entries taken, each into its place, and some
+-- versions of pictures learned
+
+abbrev pub changed : List Version → List Entry → (ℕ → Versions) → ModelDevice → ModelDevice
+changed drops takes gain m = record m {
+  store = put_entries (filter (selects m) takes) (without drops m.store);
+  out = put_entries (filter (λ e. not (selects m e)) takes) (without drops m.out);
+  of = λ picture v. m.of picture v || gain picture v;
+}
+
+-- some versions leave the out
+abbrev pub without_waiting : List Version → ModelDevice → ModelDevice
+without_waiting drops m = record m { out = without drops m.out }

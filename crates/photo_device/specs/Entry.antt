@@ -1,7 +1,8 @@
 -- Versions of pictures with what they say.
-use Rattle.std.specs.Prelude.{ℕ, Bool, true, false, not, ◌&&◌, ◌||◌, ◌==◌, nat_lt, List, filter}
+use Rattle.std.specs.Prelude.{ℕ, Bool, true, false, not, ◌&&◌, ◌||◌, ◌==◌, nat_lt, List, [], ◌∷◌, filter}
+use Rattle.std.specs.List.{list_any}
 use Rattle.photo_record.specs.declared.record.Record.{Record}
-use Rattle.photo_version.specs.Version.{Version, Versions, version_before}
+use Rattle.photo_version.specs.Version.{Version, Versions, same_version, version_before}
 use Rattle.photo_device.specs.Ordered.{put}
 
 -- a version of a picture, the versions that were known of the picture when it was made, and the record that it gives
@@ -32,3 +33,23 @@ put_entry e entries = put entry_before e entries
 abbrev pub put_entry_if : Bool → Entry → List Entry → List Entry
 put_entry_if true e entries = put_entry e entries
 put_entry_if false e entries = entries
+
+-- a set of entries with all those of a list
+abbrev pub put_entries : List Entry → List Entry → List Entry
+put_entries [] entries = entries
+put_entries (e ∷ more) entries = put_entry e (put_entries more entries)
+
+-- w supersedes v: it is of the same picture, and v was known when it was made
+abbrev pub supersedes : Entry → Entry → Bool
+supersedes w v = (w.picture == v.picture) && w.history v.version
+
+abbrev pub superseded_by : List Entry → Entry → Bool
+superseded_by ws v = list_any (λ w. supersedes w v) ws
+
+-- one of the entries is of that version
+abbrev pub is_among : List Entry → Version → Bool
+is_among entries v = list_any (λ e. same_version e.version v) entries
+
+-- the entries of all versions but those
+abbrev pub without : List Version → List Entry → List Entry
+without versions entries = filter (λ e. not (list_any (λ v. same_version v e.version) versions)) entries

@@ -2,6 +2,7 @@ pub mod Ordered
 pub mod Entry
 pub mod Held
 pub mod Device
+pub mod Conflicts
 pub mod Own
 pub mod Coding
 pub use Rattle.photo_record.specs.Limits

@@ -1,20 +1,33 @@
 //! A device of the household: the versions that it made and holds.
 #![tactic(auto)]
 
+mod conflict;
 mod device;
 mod fault;
 mod held;
-mod held_list;
 mod held_set;
+mod item_list;
 mod place;
 mod range;
 
+pub use conflict::Conflict;
 pub use device::Device;
 pub use fault::ChangeFault;
 pub use held::Held;
-pub use held_list::HeldList;
 pub use held_set::HeldSet;
+pub use item_list::ItemList;
 pub use place::Place;
+
+use photo_version::Version;
+
+/// Held versions, in an order.
+pub type HeldList = ItemList<Held>;
+
+/// Versions, in an order.
+pub type VersionList = ItemList<Version>;
+
+/// Conflicts, in an order.
+pub type ConflictList = ItemList<Conflict>;
 
 #[cfg(test)]
 mod tests;

@@ -1,36 +1,34 @@
-use crate::Held;
 use std::marker::Model;
 
-/// A list of held versions, as a report or a log has it.
+/// A list of what a device tells, as a report or a log has it. Contracts see it as the list of its items.
 #[derive(Debug, Drop)]
-pub struct HeldList {
-    items: Vec<Held>,
+pub struct ItemList<T> {
+    items: Vec<T>,
 }
 
-impl Model for HeldList {
+impl<T> Model for ItemList<T> {
     ghost use Rattle.std.specs.Prelude.{List};
-    ghost use Rattle.photo_device.specs.declared.held.Held as spec;
 
-    ghost Value = { List spec.Held };
+    ghost Value = { List T };
 
     ghost view = { λ l. l.items.items };
 }
 
-impl HeldList {
+impl<T> ItemList<T> {
     ghost use Rattle.std.specs.Prelude.{◌≡◌, ◌<◌, ◌==◌, length, slice_get, Some};
 
     /// The list of those, in that order.
-    pub fn new(items: Vec<Held>) -> HeldList
+    pub fn new(items: Vec<T>) -> ItemList<T>
         ensures { result ≡ items.items }
     {
-        HeldList { items }
+        ItemList { items }
     }
 
-    /// The held versions, in order.
-    pub fn into_vec(self) -> Vec<Held>
+    /// The items, in order.
+    pub fn into_vec(self) -> Vec<T>
         ensures { result.items ≡ self }
     {
-        let HeldList { items } = self;
+        let ItemList { items } = self;
         items
     }
 
@@ -49,7 +47,7 @@ impl HeldList {
     }
 
     /// The one at place `i`, from 0.
-    pub fn get(&self, i: usize) -> &Held
+    pub fn get(&self, i: usize) -> &T
         requires { i < length self.now }
         ensures { slice_get self.now i ≡ Some result.now }
     {
@@ -57,7 +55,7 @@ impl HeldList {
     }
 
     /// All of them, in order.
-    pub fn as_slice(&self) -> &[Held]
+    pub fn as_slice(&self) -> &[T]
         ensures { result.now ≡ self.now }
     {
         self.items.as_slice()
