@@ -1,8 +1,7 @@
 -- A filter that is to keep whatever another is to keep.
-use Rattle.std.specs.Prelude.{◌≡◌, Bool, true, ◌&&◌, int_le, List}
+use Rattle.std.specs.Prelude.{Bool, ◌&&◌, int_le, List}
 use Rattle.std.specs.List.{list_any, list_all}
 use Rattle.photo_record.specs.Word.{has_word}
-use Rattle.photo_record.specs.declared.record.Record.{Record}
 use Rattle.photo_filter_text.specs.Tree.{Tree}
 use Rattle.photo_filter_rules.specs.declared.span.Span.{Span}
 use Rattle.photo_filter_rules.specs.declared.polarity.Polarity.TheVariants.{Plain}

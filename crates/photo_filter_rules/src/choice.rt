@@ -1,6 +1,7 @@
 ghost use Rattle.std.specs.Prelude.{◌≡◌, IfOk};
 ghost use Rattle.photo_filter_rules.specs.Matching.{content};
 ghost use Rattle.photo_filter_rules.specs.Alternatives.{anything, with_ratings, with_days, with_keyword, fits, is_possible, both_of};
+ghost use Rattle.photo_filter_rules.specs.Covers.{asks_no_more};
 
 use crate::copies::{TryClone, copied};
 use crate::polarity::Polarity;
@@ -93,6 +94,16 @@ impl Choice {
         !self.ratings.is_empty()
             && !self.days.is_empty()
             && !words::meets(&self.required, &self.forbidden)
+    }
+
+    /// Whether this one asks nothing that the other doesn't ask. It takes no memory.
+    pub fn asks_no_more(&self, other: &Choice) -> bool
+        ensures { result ≡ asks_no_more self.now other.now }
+    {
+        self.ratings.contains(&other.ratings)
+            && self.days.contains(&other.days)
+            && words::contain_all(&other.required, &self.required)
+            && words::contain_all(&other.forbidden, &self.forbidden)
     }
 
     /// What the two ask together. Its only error is want of memory.

@@ -3,6 +3,7 @@ ghost use Rattle.photo_filter_text.specs.Tree.{tree_of};
 ghost use Rattle.photo_filter_rules.specs.declared.polarity.Polarity.TheVariants.{Plain};
 ghost use Rattle.photo_filter_rules.specs.Matching.{matches};
 ghost use Rattle.photo_filter_rules.specs.Alternatives.{alternatives_of, is_too_wide};
+ghost use Rattle.photo_filter_rules.specs.Covers.{covers};
 
 use crate::choice::Choice;
 use crate::copies::copied;
@@ -86,4 +87,12 @@ impl Filter {
             alternatives: copied(&self.alternatives)?,
         })
     }
+}
+
+/// Whether the first filter covers the second: each alternative of the second has one of the first that asks nothing
+/// more, so that the first matches whatever the second matches. It takes no memory.
+pub fn covers(first: &Filter, second: &Filter) -> bool
+    ensures { result ≡ covers first.now second.now }
+{
+    list::has_room_for_all(&first.alternatives, &second.alternatives)
 }

@@ -14,4 +14,4 @@ mod tests;
 mod words;
 
 pub use fault::BuildFault;
-pub use filter::Filter;
+pub use filter::{Filter, covers};

@@ -1,9 +1,10 @@
 ghost use Rattle.std.specs.Prelude.{◌≡◌, ◌++◌, ◌<ℤ◌, ◌∷◌, [], pos, false, true, map, IfOk, IfErr, OnOk};
 ghost use Rattle.photo_filter_text.specs.Tree.{tree_of};
-ghost use Rattle.std.specs.List.{list_any};
+ghost use Rattle.std.specs.List.{list_any, list_all};
 ghost use Rattle.photo_filter_rules.specs.Matching.{content};
 ghost use Rattle.photo_filter_rules.specs.Limits.{all_ratings, all_days};
 ghost use Rattle.photo_filter_rules.specs.Alternatives.{fits, spans_of, possible, with_ratings, with_days, with_keyword, all_or_none, both_of, pairs, either_list, alternatives_of, is_long, is_too_wide};
+ghost use Rattle.photo_filter_rules.specs.Covers.{has_room_for};
 
 use crate::BuildFault;
 use crate::choice::Choice;
@@ -205,4 +206,18 @@ pub fn any_fits(list: &[Choice], rating: u8, day: i32, words: &Words) -> bool
     ensures { result ≡ list_any (fits (content rating day words.now)) list.now }
 {
     list.iter().any(|choice| choice.fits(rating, day, words))
+}
+
+/// Whether some alternative of the list asks nothing that this one doesn't ask. It takes no memory.
+pub fn has_room_for(list: &[Choice], choice: &Choice) -> bool
+    ensures { result ≡ has_room_for list.now choice.now }
+{
+    list.iter().any(|wider| wider.asks_no_more(choice))
+}
+
+/// Whether the first list has room for each alternative of the second. It takes no memory.
+pub fn has_room_for_all(list: &[Choice], others: &[Choice]) -> bool
+    ensures { result ≡ list_all (has_room_for list.now) others.now }
+{
+    others.iter().all(|choice| has_room_for(list, choice))
 }

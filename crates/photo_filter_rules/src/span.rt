@@ -18,6 +18,7 @@ pub const ALL_DAYS: Span = Span {
 
 impl Span {
     ghost use Rattle.photo_filter_rules.specs.Alternatives.{is_within, both_spans};
+    ghost use Rattle.photo_filter_rules.specs.Covers.{contains};
 
     /// Whether the number is one of them.
     pub fn has(&self, number: i32) -> bool
@@ -31,6 +32,13 @@ impl Span {
         ensures { result ≡ not (int_le self.now.first self.now.last) }
     {
         self.last < self.first
+    }
+
+    /// Whether each number of the other one is one of these.
+    pub fn contains(&self, other: &Span) -> bool
+        ensures { result ≡ contains self.now other.now }
+    {
+        self.first <= other.first && other.last <= self.last
     }
 
     /// The numbers that stand in both.

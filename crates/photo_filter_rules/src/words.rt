@@ -41,3 +41,10 @@ pub fn meets(words: &[Word], others: &[Word]) -> bool
 {
     words.iter().any(|word| others.contains(word))
 }
+
+/// Whether the words have all of the wanted ones among them.
+pub fn contain_all(words: &[Word], wanted: &[Word]) -> bool
+    ensures { result ≡ list_all (has_word words.now) wanted.now }
+{
+    wanted.iter().all(|word| words.contains(word))
+}
