@@ -2,5 +2,6 @@ pub mod Bools
 pub mod Sets
 pub mod Spans
 pub mod Fitting
+pub mod Covering
 pub mod Found
 pub mod Worked

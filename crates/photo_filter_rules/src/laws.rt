@@ -1,5 +1,5 @@
 //! Laws of alternatives and of matching. Each function's contract is a law, and its body does nothing.
-ghost use Rattle.photo_filter_rules.specs.Laws.{FitsWhereMatched};
+ghost use Rattle.photo_filter_rules.specs.Laws.{FitsWhereMatched, CoversSelects};
 ghost use Rattle.photo_filter_rules.specs.Examples.{TheLists, TheWidths, TheRemoved, TheFilters};
 ghost use Rattle.photo_filter_rules.specs.Filters.{IsFoundWhereFilter};
 
@@ -7,6 +7,11 @@ ghost use Rattle.photo_filter_rules.specs.Filters.{IsFoundWhereFilter};
 /// has under `not` exactly where it doesn't.
 pub fn fits_where_matched()
     ensures { FitsWhereMatched }
+{}
+
+/// Whatever a filter matches, of the records whose rating and day are in range, is matched by each filter that covers it.
+pub fn covers_selects()
+    ensures { CoversSelects }
 {}
 
 /// The tree that is found of a text is the one that the grammar gives it, and one is found wherever the text is a filter
