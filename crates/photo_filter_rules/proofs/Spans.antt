@@ -61,6 +61,12 @@ int_eq-is x k =
           rw e (not_both k x apart)
     ]
 
+three_or_more : (x : ℤ) → int_le (pos 3) x ≡ true → ((int_le (pos 3) x && int_le x (pos 3)) || int_le (pos 4) x) ≡ true
+three_or_more x h = grind (arith, ints)
+
+pub split_range : (x : ℤ) → int_le (pos 3) x ≡ true → (int_eq x (pos 3) || int_le (pos 4) x) ≡ true
+split_range x h = rw (int_eq-is x (pos 3)) (three_or_more x h)
+
 equal : (k x : ℤ) → ((int_le k x && int_le x k) || false) ≡ int_eq x k
 equal k x = rw (int_eq-is x k) (grind (arith, ints))
 

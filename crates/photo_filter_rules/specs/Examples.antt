@@ -6,12 +6,16 @@ use Rattle.photo_filter_text.specs.declared.tree.Cmp.TheVariants.{AtLeast, AtMos
 use Rattle.photo_filter_text.specs.Tree.{Tree, All, Nothing, Rate, On, Keyword, Not, Both, Either}
 use Rattle.photo_filter_text.specs.Examples.{repeated}
 use Rattle.photo_filter_rules.specs.declared.polarity.Polarity.TheVariants.{Plain}
-use Rattle.photo_filter_rules.specs.Matching.{matches}
+use Rattle.photo_filter_rules.specs.Matching.{Content, matches, matches_picture}
 use Rattle.photo_filter_rules.specs.Filters.{filter_of}
 use Rattle.photo_filter_rules.specs.Alternatives.{span, anything, with_ratings, with_keyword, alternatives_of, is_too_wide}
+use Rattle.photo_filter_rules.specs.Covers.{covers}
 
 abbrev pub word : List ℕ
 word = codes "x"
+
+abbrev pub other_word : List ℕ
+other_word = codes "y"
 
 -- so many words and one more, joined by `or`
 abbrev pub one_of_words : ℕ → ℕ → Tree
@@ -48,6 +52,30 @@ pub record TheRemoved : Type 0 where
   pub by_all : matches All Removed ≡ false
   pub by_not_all : matches (Not All) Removed ≡ false
   pub by_not_none : matches (Not Nothing) Removed ≡ false
+
+-- which tree covers which
+pub record TheCovers : Type 0 where
+  pub narrower : covers (Rate AtLeast 3) (Both (Rate Equal 4) (Keyword word)) ≡ true
+  pub by_all : covers All (Not (Keyword word)) ≡ true
+  -- a tree without alternatives is covered by all, and covers no other
+  pub nothing : covers Nothing (Not (On AtLeast first_day)) ≡ true
+  pub by_nothing : covers Nothing All ≡ false
+  pub word_asked : covers (Keyword word) All ≡ false
+  pub word_among_two : covers (Keyword word) (Both (Keyword other_word) (Keyword word)) ≡ true
+  pub two_words : covers (Both (Keyword other_word) (Keyword word)) (Keyword word) ≡ false
+  pub forbidden_among_two : covers (Not (Keyword word)) (Not (Either (Keyword other_word) (Keyword word))) ≡ true
+  pub two_forbidden : covers (Not (Either (Keyword other_word) (Keyword word))) (Not (Keyword word)) ≡ false
+  pub forbidden_and_asked : covers (Not (Keyword word)) (Keyword word) ≡ false
+  pub day_within : covers (Both (On AtLeast (pos 10)) (On AtMost (pos 20))) (On Equal (pos 20)) ≡ true
+  pub day_before : covers (On AtLeast (pos 10)) (On AtLeast (pos 9)) ≡ false
+  pub day_after : covers (On AtMost (pos 20)) (On AtMost (pos 21)) ≡ false
+  pub same_range : covers (Both (Rate AtLeast 3) (Rate AtMost 3)) (Rate Equal 3) ≡ true
+  -- each alternative of the second has its own, in another order
+  pub each_its_own : covers (Either (Keyword word) (Rate AtLeast 4)) (Either (Rate Equal 5) (Both (Keyword word) (On AtMost (pos 0)))) ≡ true
+  pub one_without : covers (Either (Keyword word) (Rate AtLeast 4)) (Either (Keyword word) (Rate AtLeast 3)) ≡ false
+  -- two alternatives that only together have what one of the second has
+  pub split : covers (Either (Rate Equal 3) (Rate AtLeast 4)) (Rate AtLeast 3) ≡ false
+  pub split_matches : (c : Content) → matches_picture (Rate AtLeast 3) c ≡ true → matches_picture (Either (Rate Equal 3) (Rate AtLeast 4)) c ≡ true
 
 -- texts that are filters, and texts that are none
 pub record TheFilters : Type 0 where

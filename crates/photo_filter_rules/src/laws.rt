@@ -1,6 +1,6 @@
 //! Laws of alternatives and of matching. Each function's contract is a law, and its body does nothing.
 ghost use Rattle.photo_filter_rules.specs.Laws.{FitsWhereMatched, CoversSelects};
-ghost use Rattle.photo_filter_rules.specs.Examples.{TheLists, TheWidths, TheRemoved, TheFilters};
+ghost use Rattle.photo_filter_rules.specs.Examples.{TheLists, TheWidths, TheRemoved, TheCovers, TheFilters};
 ghost use Rattle.photo_filter_rules.specs.Filters.{IsFoundWhereFilter};
 
 /// A picture fits one of the alternatives of a tree exactly where the tree matches it, and one of those that the tree
@@ -20,10 +20,11 @@ pub fn found_where_filter()
     ensures { IsFoundWhereFilter }
 {}
 
-/// What some trees come to, and that nothing matches a removed record.
+/// What some trees come to, that nothing matches a removed record, and which tree covers which.
 pub fn examples()
     ensures lists { TheLists }
     ensures widths { TheWidths }
     ensures removed { TheRemoved }
+    ensures covers { TheCovers }
     ensures filters { TheFilters }
 {}

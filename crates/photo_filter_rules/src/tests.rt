@@ -1,4 +1,4 @@
-use crate::{BuildFault, Filter};
+use crate::{BuildFault, Filter, covers};
 use photo_filter_text::{FilterTree, read};
 use photo_record::{Day, Rating, Record, Words};
 use std::alloc::{AllocError, Global};
@@ -275,6 +275,51 @@ const ANSWERS: &[(&str, &str)] = &[
 fn matching(rt: HostRuntime) {
     for (text, want) in ANSWERS {
         assert!(rt; answers_so(rt.alloc(), text, want), "{text}");
+    }
+}
+
+// Whether the filter covers that of a text.
+fn covers_text(alloc: Global, filter: &Filter, text: &str) -> Option<bool> {
+    let other = built(alloc, text)?;
+    Some(covers(filter, &other))
+}
+
+fn covers_so(alloc: Global, first: &str, second: &str, want: bool) -> bool {
+    match built(alloc, first) {
+        Some(filter) => covers_text(alloc, &filter, second) == Some(want),
+        None => false,
+    }
+}
+
+const COVERS: &[(&str, &str, bool)] = &[
+    ("rating >= 3", "rating = 4 and keyword x", true),
+    ("all", "not keyword x", true),
+    ("none", "not day >= 0000-01-01", true),
+    ("none", "all", false),
+    ("keyword x", "all", false),
+    ("rating = 3 or rating >= 4", "rating >= 3", false),
+    ("not keyword x", "not (keyword y or keyword x)", true),
+    ("not (keyword y or keyword x)", "not keyword x", false),
+    ("not keyword x", "keyword x", false),
+    // the letter é in two forms
+    ("keyword \u{e9}", "keyword x and keyword e\u{301}", true),
+    ("day >= 2024-02-28", "day = 2024-02-29", true),
+    ("day >= 2024-02-29", "day >= 2024-02-28", false),
+    ("keyword x or rating >= 4", "rating = 5 or keyword x", true),
+    (
+        "keyword x or rating >= 4",
+        "keyword x or rating >= 3",
+        false,
+    ),
+];
+
+#[test]
+fn covering(rt: HostRuntime) {
+    for (first, second, want) in COVERS {
+        assert!(rt;
+            covers_so(rt.alloc(), first, second, *want),
+            "{first}; {second}"
+        );
     }
 }
 

@@ -1,5 +1,6 @@
-use Rattle.std.proofs.Common.{refl}
+use Rattle.std.proofs.Common.{refl, pos}
 use Rattle.photo_filter_rules.proofs.Worked.{the_filters}
+use Rattle.photo_filter_rules.proofs.Spans.{split_range}
 use Rattle.photo_filter_rules.proofs.laws.examples.Goals as goal
 
 pub returns-clause-lists : goal.returns-clause-lists
@@ -28,6 +29,28 @@ returns-clause-widths c = record {
 
 pub returns-clause-removed : goal.returns-clause-removed
 returns-clause-removed c = record { by_all = refl; by_not_all = refl; by_not_none = refl }
+
+pub returns-clause-covers : goal.returns-clause-covers
+returns-clause-covers c = record {
+  narrower = refl;
+  by_all = refl;
+  nothing = refl;
+  by_nothing = refl;
+  word_asked = refl;
+  word_among_two = refl;
+  two_words = refl;
+  forbidden_among_two = refl;
+  two_forbidden = refl;
+  forbidden_and_asked = refl;
+  day_within = refl;
+  day_before = refl;
+  day_after = refl;
+  same_range = refl;
+  each_its_own = refl;
+  one_without = refl;
+  split = refl;
+  split_matches = λ picture. split_range (pos picture.rating);
+}
 
 pub returns-clause-filters : goal.returns-clause-filters
 returns-clause-filters c = the_filters
