@@ -48,7 +48,7 @@ denotes-bound (e ∷ es) v h =
     ]
 
 -- the version of an author's word
-abbrev version_at : ℕ → ℕ → Version
+abbrev pub version_at : ℕ → ℕ → Version
 version_at a n = record { author = author_of_word a; number = n }
 
 -- the bounds are determined by what a vector denotes

@@ -97,7 +97,7 @@ within_knows rows others xs ys h g w p v =
 next_one : (n m b : ℕ) → m ≡ b + 1 → (leb 1 n && leb n b) ≡ false → ((leb 1 n && leb n m) || false) ≡ eqb m n
 next_one n m b e h = grind (arith, nat_tests)
 
-star_vector : (fs : List Fragment) → is_normal fs ≡ true → is_vector (entries_at fs 0) ≡ true
+pub star_vector : (fs : List Fragment) → is_normal fs ≡ true → is_vector (entries_at fs 0) ≡ true
 star_vector [] h = absurd (false≢true h)
 star_vector (s ∷ gs) h = (normal_parts s gs h).vector
 

@@ -15,6 +15,7 @@ pub mod RaiseLemmas
 pub mod SearchLemmas
 pub mod AlongLemmas
 pub mod KeptLemmas
+pub mod WithinLemmas
 pub mod ToldLemmas
 pub mod PutLemmas
 pub mod NextLemmas

@@ -100,6 +100,13 @@ impl Knowledge {
         self.live.same(&other.live)
     }
 
+    /// Whether all that the other knows is known here too. Takes no memory.
+    pub fn has_all(&self, other: &Knowledge) -> bool
+        ensures { IsTrue result ↔ ((p : ℕ) (v : versions.Version) → 0 < p → spec.knows other.now p v ≡ true → spec.knows self.now p v ≡ true) }
+    {
+        is_within(&other.live, &other.index, &self.live, &self.index)
+    }
+
     /// What is known of the picture. Its only error is want of memory.
     pub fn of(&self, picture: PicNo) -> Result<Vector, AllocError>
         ensures { IfOk result (λ vector. (v : versions.Version) → vectors.denotes vector v ≡ spec.knows self.now picture v) }
