@@ -225,6 +225,29 @@ fn the_same_pairs_are_the_same_knowledge(rt: HostRuntime) -> Result<(), Fail> {
     Ok(())
 }
 
+/// Whether the one case's knowledge has all of the other's just where its pairs are among them.
+fn agrees_on_all(one: &Case, other: &Case) -> bool {
+    let has = one.knowledge.has_all(&other.knowledge);
+    for pair in &other.pairs {
+        if !one.pairs.contains(pair) {
+            return !has;
+        }
+    }
+    has
+}
+
+#[test]
+fn a_knowledge_has_all_of_another_where_the_pairs_do(rt: HostRuntime) -> Result<(), Fail> {
+    let alloc = rt.alloc();
+    let mut seed = 5;
+    for _ in 0..300 {
+        let one = some_case(alloc, &mut seed)?;
+        let other = some_case(alloc, &mut seed)?;
+        assert!(rt; agrees_on_all(&one, &other) && agrees_on_all(&other, &one));
+    }
+    Ok(())
+}
+
 /// Two pictures, of both of which the same version is told.
 fn table(alloc: Global) -> Result<Vec<(PicNo, Vector)>, Fail>
     ensures { IfOk result (λ table. in_order table.items ≡ true) }
