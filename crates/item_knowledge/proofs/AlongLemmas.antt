@@ -151,6 +151,15 @@ skip_from xs i q d l less = sym (ap (λ zs. at 0 zs q) (drop_next xs i d l) ∙ 
 pub end_from : (xs : List (ℕ × ℕ)) (i p : ℕ) → length xs ≤ i → at 0 (drop i xs) p ≡ 0
 end_from xs i p l = ap (λ zs. at 0 zs p) (drop_none xs i l)
 
+-- where a place has a smaller number, nothing up to it counts
+pub behind_from : (xs : List (ℕ × ℕ)) (i q : ℕ) (d : ℕ × ℕ) → in_order xs ≡ true → i < length xs → (get_or xs i d).0 < q → at 0 (drop (suc i) xs) q ≡ at 0 xs q
+behind_from [] i q d h l less = absurd (omega arith)
+behind_from (x ∷ xs) zero q d h l less = sym (rw (ne_eqb x.0 q (λ s. absurd (omega arith))) refl)
+behind_from (x ∷ xs) (suc i) q d h l less =
+    let rises = no_fall (x ∷ xs) h zero (suc i) d (omega arith) l in
+    behind_from xs i q d (and_parts (keys_pass (λ k. ltb x.0 k) xs) (in_order xs) h).1 (omega arith) less
+    ∙ sym (rw (ne_eqb x.0 q (λ s. absurd (omega arith))) refl)
+
 -- A test of all, from a place on
 
 pub all_more : {X : Type 0} (t : X → Bool) (xs : List X) (i : ℕ) (d : X) (b : Bool) → i < length xs → t (get_or xs i d) ≡ true → list_all t (drop i xs) ≡ b → list_all t (drop (i + 1) xs) ≡ b

@@ -1,7 +1,7 @@
 -- What is kept denotes what is known.
 use Rattle.std.proofs.Common.{◌≡◌, ℕ, ◌+◌, ◌<◌, Bool, true, false, leb, eqb, max, cond, ◌&&◌, ◌||◌, ◌↔◌, List, [], ◌∷◌, length, refl, sym, subst, ap, ◌∙◌, inl, inr, arith}
 use Rattle.std.specs.List.{list_all}
-use Rattle.std.proofs.lemmas.Bool.{and_parts, eq-eqb, ne_eqb, cases_Bool, cases_eq, false≢true}
+use Rattle.std.proofs.lemmas.Bool.{and_parts, and_from, le-leb, eq-eqb, ne_eqb, cases_Bool, cases_eq, false≢true}
 use Rattle.std.proofs.lemmas.Bool.Decides.{nat_tests}
 use Rattle.photo_version.specs.Author.{Author, same_author, author_word}
 use Rattle.photo_version.specs.Version.{Version, same_version}
@@ -100,6 +100,13 @@ next_one n m b e h = grind (arith, nat_tests)
 pub star_vector : (fs : List Fragment) → is_normal fs ≡ true → is_vector (entries_at fs 0) ≡ true
 star_vector [] h = absurd (false≢true h)
 star_vector (s ∷ gs) h = (normal_parts s gs h).vector
+
+-- what the star has is known of every picture
+pub star_has : (rows : List (List ℕ)) (xs : List (ℕ × ℕ)) (p : ℕ) (v : Version) → IsKept rows xs → 0 < v.number → 0 < p → leb v.number (bound (entries_at (fragments_of rows) 0) (author_word v.author)) ≡ true → knows (fragments_of rows) p v ≡ true
+star_has rows xs p v h above z l =
+    let fs = fragments_of rows in
+    (star_of_every fs h.normal v).0
+    (denotes-bound (entries_at fs 0) v (star_vector fs h.normal) ∙ and_from _ _ (le-leb 1 v.number (omega arith)) l) p z
 
 -- an author's versions up to the next one are those that the star has, and the next one
 pub next_known : (fs : List Fragment) (w : Version) (p : ℕ) (v : Version) → is_normal fs ≡ true → 0 < p → w.number ≡ star_bound fs w.author + 1 → (knows fs p v || denotes ((author_word w.author, w.number) ∷ []) v) ≡ (knows fs p v || same_version w v)

@@ -1,7 +1,7 @@
 use crate::Fragment;
 use crate::raised::{is_level, raise};
 use crate::rows::Rows;
-use crate::search::{bound_at, number_at};
+use crate::search::{bound_at, number_at, number_near};
 use crate::told::{row_of, told, vector_of as vector_of_row};
 use crate::union::{entries, is_within, union};
 use photo_record::PicNo;
@@ -70,9 +70,34 @@ impl Knowledge {
     pub fn knows(&self, picture: PicNo, version: Version) -> bool
         ensures { result ≡ spec.knows self.now picture version }
     {
-        let number = number_at(&self.index, u64::from(picture.value()));
+        if self.has_of_every(version) {
+            return true;
+        }
+        let (number, _place) = number_at(&self.index, u64::from(picture.value()));
         let row = entries(&self.live, number);
         u64::from(version.n()) <= bound_at(row, version.author().word())
+    }
+
+    /// Whether of the picture the version is known, and a hint for the next question. Takes no memory. Any hint will do;
+    /// where pictures are asked in rising order, each with the hint that the one before gave, the work for one is small.
+    pub fn knows_near(&self, hint: usize, picture: PicNo, version: Version) -> (bool, usize)
+        ensures { result.0 ≡ spec.knows self.now picture version }
+    {
+        if self.has_of_every(version) {
+            return (true, hint);
+        }
+        let (number, next) = number_near(&self.index, hint, u64::from(picture.value()));
+        let row = entries(&self.live, number);
+        let known = u64::from(version.n()) <= bound_at(row, version.author().word());
+        (known, next)
+    }
+
+    /// Whether the star has a version, which is then known of every picture.
+    fn has_of_every(&self, version: Version) -> bool
+        ensures { result ≡ true → (p : ℕ) → 0 < p → spec.knows self.now p version ≡ true }
+    {
+        let star = entries(&self.live, 0);
+        u64::from(version.n()) <= bound_at(star, version.author().word())
     }
 
     /// The number of fragments, the star among them.
@@ -111,7 +136,7 @@ impl Knowledge {
     pub fn of(&self, picture: PicNo) -> Result<Vector, AllocError>
         ensures { IfOk result (λ vector. (v : versions.Version) → vectors.denotes vector v ≡ spec.knows self.now picture v) }
     {
-        let number = number_at(&self.index, u64::from(picture.value()));
+        let (number, _place) = number_at(&self.index, u64::from(picture.value()));
         let vector = vector_of_row(self.alloc, entries(&self.live, number))?;
         Ok(vector)
     }

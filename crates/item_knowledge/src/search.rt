@@ -3,20 +3,58 @@ ghost use Rattle.item_knowledge.specs.Tables.{in_order, at};
 ghost use Rattle.item_knowledge.specs.Entries.{bound, leq, is_vector};
 ghost use Rattle.item_knowledge.specs.Rows.{pairs, IsRow};
 
-/// The number of the fragment to which an index leads from a picture, 0 for the star.
-pub(crate) fn number_at(index: &[(u64, usize)], picture: u64) -> usize
+/// How many places one goes forward from a hint before the whole index is searched.
+const STEPS: usize = 8;
+
+/// The number of the fragment to which an index leads from a picture, 0 for the star, and the place in the index at which
+/// the picture stands or would stand.
+pub(crate) fn number_at(index: &[(u64, usize)], picture: u64) -> (usize, usize)
     requires { in_order index.now ≡ true }
-    ensures { result ≡ at 0 index.now picture }
+    ensures { result.0 ≡ at 0 index.now picture }
 {
     let place = index.partition_point(|row| row.0 < picture);
     if place == index.len() {
-        return 0;
+        return (0, place);
     }
     let row = index[place];
     if row.0 != picture {
-        return 0;
+        return (0, place);
     }
-    row.1
+    (row.1, place)
+}
+
+/// Whether all pictures before a place in an index are smaller than this one.
+fn is_behind(index: &[(u64, usize)], place: usize, picture: u64) -> bool
+    requires { in_order index.now ≡ true }
+    ensures { result ≡ true → at 0 (drop place index.now) picture ≡ at 0 index.now picture }
+{
+    if place == 0 {
+        return true;
+    }
+    if place > index.len() {
+        return false;
+    }
+    index[place - 1].0 < picture
+}
+
+/// Whether a picture can be seen, in an index, a few places from this one at the latest.
+fn is_ahead(index: &[(u64, usize)], place: usize, picture: u64) -> bool {
+    let last = place.saturating_add(STEPS);
+    last >= index.len() || picture <= index[last].0
+}
+
+/// The number of the fragment to which an index leads from a picture, 0 for the star, and a hint for a later picture. The
+/// work is small where the hint is that of an earlier picture close by; the number is right with any hint.
+pub(crate) fn number_near(index: &[(u64, usize)], hint: usize, picture: u64) -> (usize, usize)
+    requires { in_order index.now ≡ true }
+    ensures { result.0 ≡ at 0 index.now picture }
+{
+    if is_behind(index, hint, picture) {
+        if is_ahead(index, hint, picture) {
+            return number_from(index, hint, picture);
+        }
+    }
+    number_at(index, picture)
 }
 
 /// The entry at place `i` of a row: the author's word, and the bound.

@@ -248,6 +248,35 @@ fn a_knowledge_has_all_of_another_where_the_pairs_do(rt: HostRuntime) -> Result<
     Ok(())
 }
 
+/// Whether a case knows the same with the hint of each answer before, with this hint, and with none.
+fn agrees_near(case: &Case, hint: usize) -> bool {
+    let mut last = 0;
+    for number in 1..5u32 {
+        for device in 0..3u16 {
+            let asked = version(device, 1 + number % 3);
+            let known = case.knowledge.knows(picture(number), asked);
+            let (near, next) = case.knowledge.knows_near(last, picture(number), asked);
+            last = next;
+            if near != known || case.knowledge.knows_near(hint, picture(number), asked).0 != known {
+                return false;
+            }
+        }
+    }
+    true
+}
+
+#[test]
+fn any_hint_will_do(rt: HostRuntime) -> Result<(), Fail> {
+    let mut seed = 3;
+    for _ in 0..60 {
+        let case = some_case(rt.alloc(), &mut seed)?;
+        for hint in [0, 1, 2, 3, 4, 5, 12, usize::MAX] {
+            assert!(rt; agrees_near(&case, hint), "at {hint}");
+        }
+    }
+    Ok(())
+}
+
 /// Two pictures, of both of which the same version is told.
 fn table(alloc: Global) -> Result<Vec<(PicNo, Vector)>, Fail>
     ensures { IfOk result (λ table. in_order table.items ≡ true) }

@@ -10,13 +10,13 @@ use Rattle.item_knowledge.proofs.knowledge.Knowledge.knows.Goals as goal
 
 pub entries-row-requires-clause-number : goal.entries-row-requires-clause-number
 entries-row-requires-clause-number c =
-    let is : c.number_at-number.result ≡ at 0 c.self.inside.index.items c.args.picture = search rules in
+    let is : c.number_at-number.result.0 ≡ at 0 c.self.inside.index.items c.args.picture = search rules in
     subst (λ n. n < length (fragments_of c.self.inside.live)) (sym is)
     (number_below (fragments_of c.self.inside.live) c.self.inside.index.items c.args.picture (kept_side c.self.inside.live c.self.inside.index.items c.self.invariant))
 
 pub returns : goal.returns
 returns c =
-    let is : c.number_at-number.result ≡ at 0 c.self.inside.index.items c.args.picture = search rules in
+    let is : c.number_at-number.result.0 ≡ at 0 c.self.inside.index.items c.args.picture = search rules in
     let n : c.from-2.result ≡ c.args.version.number = search rules in
     let word : c.word.result ≡ author_word c.args.version.author = search rules in
     let above : 0 < c.args.version.number = omega arith in

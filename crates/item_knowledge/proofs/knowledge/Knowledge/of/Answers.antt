@@ -13,7 +13,7 @@ use Rattle.item_knowledge.proofs.knowledge.Knowledge.of.Goals as goal
 
 pub entries-requires-clause-number : goal.entries-requires-clause-number
 entries-requires-clause-number c =
-    let is : c.number_at-number.result ≡ at 0 c.self.inside.index.items c.args.picture = search rules in
+    let is : c.number_at-number.result.0 ≡ at 0 c.self.inside.index.items c.args.picture = search rules in
     subst (λ n. n < length (fragments_of c.self.inside.live)) (sym is)
     (number_below (fragments_of c.self.inside.live) c.self.inside.index.items c.args.picture (kept_side c.self.inside.live c.self.inside.index.items c.self.invariant))
 

@@ -1,0 +1,27 @@
+use Rattle.std.proofs.Common.{rules, ◌≡◌, ◌<◌, leb, length, sym, subst, ap, ◌∙◌, arith}
+use Rattle.photo_version.specs.Author.{author_word}
+use Rattle.item_knowledge.specs.Tables.{at}
+use Rattle.item_knowledge.specs.Entries.{bound}
+use Rattle.item_knowledge.specs.Fragments.{knows}
+use Rattle.item_knowledge.specs.Rows.{fragments_of, pairs}
+use Rattle.item_knowledge.specs.Gathering.{vector_of}
+use Rattle.item_knowledge.proofs.KeptLemmas.{kept_side, number_below, kept_bound}
+use Rattle.item_knowledge.proofs.knowledge.Knowledge.knows_near.Goals as goal
+
+pub entries-row-requires-clause-number : goal.entries-row-requires-clause-number
+entries-row-requires-clause-number c =
+    let is : c.number_near-number.result.0 ≡ at 0 c.self.inside.index.items c.args.picture = search rules in
+    subst (λ n. n < length (fragments_of c.self.inside.live)) (sym is)
+    (number_below (fragments_of c.self.inside.live) c.self.inside.index.items c.args.picture (kept_side c.self.inside.live c.self.inside.index.items c.self.invariant))
+
+pub returns : goal.returns
+returns c =
+    let is : c.number_near-number.result.0 ≡ at 0 c.self.inside.index.items c.args.picture = search rules in
+    let n : c.from-2.result ≡ c.args.version.number = search rules in
+    let word : c.word.result ≡ author_word c.args.version.author = search rules in
+    let above : 0 < c.args.version.number = omega arith in
+    let row : pairs c.entries-row.result.now ≡ vector_of (fragments_of c.self.inside.live) c.self.inside.index.items c.args.picture = search rules in
+    let bounds : c.bound_at.result ≡ bound (vector_of (fragments_of c.self.inside.live) c.self.inside.index.items c.args.picture) (author_word c.args.version.author) = c.bound_at.ensures ∙ (λ i. bound (row i) (word i)) in
+    (λ i. leb (n i) (bounds i))
+    ∙ (sym (kept_bound c.self.inside.live c.self.inside.index.items c.args.picture c.args.version c.self.invariant above)
+    ∙ ap (λ fs. knows fs c.args.picture c.args.version) c.self.view_is)
