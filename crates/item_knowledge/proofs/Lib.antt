@@ -17,5 +17,6 @@ pub mod AlongLemmas
 pub mod KeptLemmas
 pub mod WithinLemmas
 pub mod ToldLemmas
+pub mod HadLemmas
 pub mod PutLemmas
 pub mod NextLemmas

@@ -1,4 +1,5 @@
 use crate::Fragment;
+use crate::had::has_table;
 use crate::raised::{is_level, raise};
 use crate::rows::Rows;
 use crate::search::{bound_at, number_at, number_near};
@@ -194,13 +195,16 @@ impl Knowledge {
     }
 
     /// Learns of each picture of a table all versions of the vector beside it, at once. Its only error is want of
-    /// memory, which changes nothing.
+    /// memory, which changes nothing; none is wanted where all of it is known.
     pub fn learn_table(&mut self, table: &[(PicNo, Vector)]) -> Result<(), AllocError>
         requires { in_order table.now ≡ true }
         ensures star { OnOk result ((a : Author) → star_bound self.new a ≡ star_bound self.old a) }
         ensures learned { OnOk result ((p : ℕ) (v : versions.Version) → 0 < p → spec.knows self.new p v ≡ (spec.knows self.old p v || vectors.denotes (at [] table.now p) v)) }
         ensures refused { OnErr result (self.new ≡ self.old) }
     {
+        if has_table(self, table) {
+            return Ok(());
+        }
         let (rows, index) = told(self.alloc, table)?;
         self.take_union(&rows, &index)?;
         Ok(())

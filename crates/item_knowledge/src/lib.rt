@@ -4,6 +4,7 @@
 mod fragment;
 mod gather;
 mod group;
+mod had;
 mod joined;
 mod knowledge;
 pub mod laws;
