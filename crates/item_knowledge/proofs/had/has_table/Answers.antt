@@ -1,4 +1,4 @@
-use Rattle.std.proofs.Common.{rules, ◌≡◌, arith, Some, ap, sym, ◌∙◌}
+use Rattle.std.proofs.Common.{◌≡◌, arith, Some, ap, sym, ◌∙◌}
 use Rattle.std.specs.List.{slice_get}
 use Rattle.std.proofs.lemmas.Option.{slice_get-get_or}
 use Rattle.item_knowledge.proofs.HadLemmas.{HasAll, row_had, table_had}

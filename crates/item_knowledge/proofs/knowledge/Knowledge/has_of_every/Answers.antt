@@ -1,4 +1,4 @@
-use Rattle.std.proofs.Common.{rules, ◌≡◌, ◌<◌, true, leb, sym, ap, ◌∙◌, arith}
+use Rattle.std.proofs.Common.{rules, ◌≡◌, ◌<◌, leb, sym, ap, ◌∙◌, arith}
 use Rattle.photo_version.specs.Author.{author_word}
 use Rattle.item_knowledge.specs.Entries.{bound}
 use Rattle.item_knowledge.specs.Fragments.{knows, entries_at}
