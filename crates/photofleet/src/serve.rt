@@ -213,6 +213,15 @@ fn job_of<'a, S: AsStr>(alloc: Global, words: &'a [S]) -> Result<Job<'a>, clap::
     ensures refusal { IfErr result (λ e. kind_of e ≢ ErrorKind.OutOfMemory → IsRefusal (map S.text words.now) (kind_of e)) }
 {
     let mut command = command_line(alloc)?;
+    asked(&mut command, words)
+}
+
+// What the words ask of the program's command line.
+fn asked<'a, S: AsStr>(command: &mut Command<'a>, words: &'a [S]) -> Result<Job<'a>, clap::Error>
+    requires { app_of command.old ≡ program }
+    ensures file { IfOk result (AsksJob (map S.text words.now)) }
+    ensures refusal { IfErr result (λ e. kind_of e ≢ ErrorKind.OutOfMemory → IsRefusal (map S.text words.now) (kind_of e)) }
+{
     let matches = command.try_get_matches_from_mut(words)?;
     match plain_file(&matches) {
         Some(file) => Ok(Job::Plain { file }),
