@@ -1,4 +1,5 @@
 use crate::blocks::{element_at, insert_at, insert_in, pop_last, remove_between, set_at};
+use crate::kept::retain_in;
 use crate::search::{first_failing, index_of, passes_behind, spot_of};
 use std::alloc::{AllocError, Global};
 use std::marker::Model;
@@ -104,7 +105,7 @@ impl<T> BlockList<T> {
 }
 
 impl<T: Drop> BlockList<T> {
-    ghost use Rattle.std.specs.Prelude.{◌≡◌, ◌<◌, ◌≤◌, ◌++◌, Bool, true, length, take, drop, slice_set, [], ◌∷◌, IfNone, IfSome, OnOk, OnErr};
+    ghost use Rattle.std.specs.Prelude.{◌≡◌, ◌<◌, ◌≤◌, ◌++◌, Bool, true, length, take, drop, filter, slice_set, [], ◌∷◌, IfNone, IfSome, OnOk, OnErr};
     ghost use Rattle.std.specs.List.{insert};
     ghost use Rattle.std.specs.List.Sorted.{IsPartitionedBy};
     ghost use Rattle.std.specs.Fn.{ComputesKey};
@@ -180,6 +181,15 @@ impl<T: Drop> BlockList<T> {
     {
         remove_between(&mut self.blocks, from, to);
         self.len -= to - from;
+    }
+
+    /// Keeps the elements that pass the test, in their order. It takes no memory.
+    pub fn retain<P: Fn(&T) -> bool>(&mut self, pred: P)
+        requires { P.IsAlwaysCallable pred }
+        ensures { (p : T → Bool) → ComputesKey P.FnMut p pred → self.new ≡ filter p self.old }
+    {
+        let _len = self.len;
+        self.len -= retain_in(&mut self.blocks, pred);
     }
 
     /// Takes the last element out of the list, if there is one. It takes no memory.

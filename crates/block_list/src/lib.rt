@@ -3,6 +3,7 @@
 
 mod block_list;
 mod blocks;
+mod kept;
 mod room;
 mod search;
 mod spare;

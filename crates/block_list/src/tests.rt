@@ -144,6 +144,45 @@ fn ranges_are_removed_over_blocks(rt: HostRuntime) {
     }
 }
 
+/// From where to where the numbers of a list of 275 stay, and what shape it has then.
+const STAYING: &[(u32, u32, Shape)] = &[
+    (0, 275, (3, 127)),
+    (1, 274, (3, 126)),
+    (127, 254, (1, 127)),
+    (126, 255, (3, 1)),
+    (200, 210, (1, 10)),
+    (5, 5, (0, 0)),
+];
+
+/// Whether the numbers from `from` up to before `to` stay, in blocks of that shape.
+fn keeps(list: &mut BlockList<u32>, from: u32, to: u32, wanted: Shape) -> bool {
+    if to < from {
+        return false;
+    }
+    list.retain(|item| *item >= from && *item < to);
+    list.len() == (to - from) as usize
+        && (list.is_empty() || *list.get(0) == from)
+        && (from > 0 || counts_without(list, 0, 0))
+        && shape(list) == wanted
+}
+
+fn rises_and_keeps(alloc: Global, from: u32, to: u32, wanted: Shape) -> bool {
+    match rising(alloc, 275) {
+        Ok(mut list) => keeps(&mut list, from, to, wanted),
+        Err(_) => false,
+    }
+}
+
+#[test]
+fn what_passes_is_kept_over_blocks(rt: HostRuntime) {
+    for (from, to, wanted) in STAYING {
+        assert!(rt;
+            rises_and_keeps(rt.alloc(), *from, *to, *wanted),
+            "{from} to {to}"
+        );
+    }
+}
+
 /// Whether the list has that shape once items were taken from its front until so many are left.
 fn shrinks_to(list: &mut BlockList<u32>, left: usize, wanted: Shape) -> bool {
     for _ in left..list.len() {
