@@ -13,7 +13,7 @@ entries-others p (x ∷ xs) =
       | false ↦ entries-others p xs
     ]
 
-entries-put : (h : Held) (xs : List Held) → entries_of (put held_before h xs) ≡ put_entry (entry_of h) (entries_of xs)
+pub entries-put : (h : Held) (xs : List Held) → entries_of (put held_before h xs) ≡ put_entry (entry_of h) (entries_of xs)
 entries-put h [] = refl
 entries-put h (x ∷ xs) =
     elim (held_before x h) as (λ b. entries_of (cond b (x ∷ put held_before h xs) (h ∷ x ∷ xs)) ≡ cond b (entry_of x ∷ put_entry (entry_of h) (entries_of xs)) (entry_of h ∷ entry_of x ∷ entries_of xs)) [

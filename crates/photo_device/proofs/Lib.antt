@@ -1,7 +1,15 @@
 pub mod Order
 pub mod Entries
+pub mod Counts
 pub mod Found
 pub mod Shown
 pub mod Holding
 pub mod OwnLemmas
 pub mod Replacing
+pub mod Lexical
+pub mod Putting
+pub mod Inserting
+pub mod Seeking
+pub mod Taken
+pub mod Learned
+pub mod Changed

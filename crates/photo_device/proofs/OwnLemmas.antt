@@ -2,7 +2,8 @@
 use Rattle.std.proofs.Common.{◌≡◌, ℕ, ◌+◌, ◌<◌, Bool, true, false, cond, eqb, ltb, leb, ◌&&◌, ◌||◌, List, [], ◌∷◌, refl, sym, ap, ◌∙◌, inl, inr, arith, subst, ◌≤◌}
 use Rattle.std.specs.Prelude.{filter}
 use Rattle.std.specs.List.{AllByRecursion}
-use Rattle.std.proofs.lemmas.Bool.{leb-true, and_parts, lt-ltb, le-ltb, le-leb, lt-leb, eq-eqb, ne_eqb, cases_eq, cases_lt}
+use Rattle.std.proofs.lemmas.Bool.{leb-true, and_parts, lt-ltb, le-ltb, le-leb, lt-leb, eq-eqb, ne_eqb, cases_eq, cases_lt, cases_Bool}
+use Rattle.std.proofs.Math.Bool.{or-true}
 use Rattle.photo_record.specs.declared.record.Record.{Record}
 use Rattle.photo_version.specs.Author.{Author, same_author}
 use Rattle.photo_version.specs.Version.{Version, version, same_version}
@@ -14,9 +15,10 @@ use Rattle.photo_device.specs.declared.place.Place.{Place}
 use Rattle.photo_device.specs.declared.place.Place.TheVariants.{Store, Out}
 use Rattle.photo_device.specs.Ordered.{put}
 use Rattle.photo_device.specs.Entry.{is_of_other}
-use Rattle.photo_device.specs.Held.{entry_of, held_before, held_of_others, replaced}
+use Rattle.photo_device.specs.Held.{entry_of, held_before, held_of_others, replaced, count_of}
 use Rattle.photo_device.specs.Device.{Kept, held_at}
-use Rattle.photo_device.specs.Own.{HasEarlier, KnowsItsOwn, IsDevice}
+use Rattle.photo_device.specs.Own.{HasEarlier, KnowsItsOwn, IsKnownBy, IsNext, HasMade, IsDevice}
+use Rattle.photo_device.proofs.Counts.{one_of, count_of-cons, count_of-append, count_of-put, count_of-filter, same_version_is, same_version_self}
 
 pub all_filter : {X : Type 0} (P : X → Type 0) (q : X → Bool) (xs : List X) → AllByRecursion P xs → AllByRecursion P (filter q xs)
 all_filter P q [] all = tt
@@ -33,29 +35,6 @@ all_put P before x (y ∷ ys) p all =
       | true ↦ (all.0, all_put P before x ys p all.1)
       | false ↦ (p, all)
     ]
-
-others_have : (p : ℕ) (xs : List Held) → AllByRecursion HasEarlier xs → AllByRecursion HasEarlier (held_of_others p xs)
-others_have p xs all = all_filter HasEarlier (λ held. is_of_other p (entry_of held)) xs all
-
-replaced_have : (h : Held) (xs : List Held) → HasEarlier h → AllByRecursion HasEarlier xs → AllByRecursion HasEarlier (replaced h xs)
-replaced_have h xs has all = all_put HasEarlier held_before h _ has (others_have h.picture xs all)
-
--- a device that holds one version more, at either place
-pub holds_own : (place : Place) (h : Held) (d : Kept) → HasEarlier h → IsDevice d → IsDevice (held_at place h d)
-holds_own Store h d has is = record { knows = is.knows; store = replaced_have h d.store has is.store; out = others_have h.picture d.out is.out }
-holds_own Out h d has is = record { knows = is.knows; store = others_have h.picture d.store is.store; out = replaced_have h d.out has is.out }
-
-pub author_at : (place : Place) (h : Held) (d : Kept) → (held_at place h d).author ≡ d.author
-author_at Store h d = refl
-author_at Out h d = refl
-
-pub counter_at : (place : Place) (h : Held) (d : Kept) → (held_at place h d).counter ≡ d.counter
-counter_at Store h d = refl
-counter_at Out h d = refl
-
-pub knowledge_at : (place : Place) (h : Held) (d : Kept) → (held_at place h d).knowledge ≡ d.knowledge
-knowledge_at Store h d = refl
-knowledge_at Out h d = refl
 
 -- the numbers from 1 to k, with k + 1
 pub one_more : (n k : ℕ) → ((leb 1 n && leb n k) || eqb (k + 1) n) ≡ (leb 1 n && leb n (k + 1))
@@ -116,13 +95,6 @@ none_up_to n =
       | inr some ↦ rw (le-leb 1 n some, lt-leb n 0 (omega arith)) refl
     ]
 
--- the next version is the next one also once it is held
-pub next_at : (place : Place) (h : Held) (d e : Kept) → e ≡ held_at place h d → h.version ≡ version d.author (d.counter + 1) → h.version ≡ version e.author (e.counter + 1)
-next_at place h d e held_is next =
-    let author = ap (λ (k : Kept). k.author) held_is ∙ author_at place h d in
-    let counter = ap (λ (k : Kept). k.counter) held_is ∙ counter_at place h d in
-    next ∙ (λ i. version (sym author i) (sym counter i + 1))
-
 -- what a device knows of its own versions, before it makes the next one
 
 of_author : (a : Author) (k : ℕ) (v : Version) → v ≡ version a (k + 1) → a ≡ v.author
@@ -140,3 +112,131 @@ none_above a k v fs next own p n above here =
     let has : (leb 1 n && leb n k) ≡ true = sym (own.own p n above) ∙ ap (λ b. knows fs p (version b n)) (of_author a k v next) ∙ here in
     let within : n ≤ k = leb-true n k (and_parts (leb 1 n) (leb n k) has).1 in
     subst (λ b. n ≤ star_bound fs b) (of_author a k v next) (subst (λ m. n ≤ m) (sym own.star) within)
+
+-- a device that holds one version more, at either place
+
+pub all_of : {X : Type 0} (P Q : X → Type 0) → ((x : X) → P x → Q x) → (xs : List X) → AllByRecursion P xs → AllByRecursion Q xs
+all_of P Q f [] all = tt
+all_of P Q f (x ∷ xs) all = (f x all.0, all_of P Q f xs all.1)
+
+-- what is known stays known
+pub known_later : (k l : List Fragment) → ((p : ℕ) (w : Version) → 0 < p → knows k p w ≡ true → knows l p w ≡ true) → (xs : List Held) → AllByRecursion (IsKnownBy k) xs → AllByRecursion (IsKnownBy l) xs
+known_later k l more xs all =
+    all_of (IsKnownBy k) (IsKnownBy l)
+    (λ x known. record {
+      above = known.above;
+      itself = more x.picture x.version known.above known.itself;
+      history = λ v has. more x.picture v known.above (known.history v has);
+    }) xs all
+
+not_yet : (a : Author) (k : ℕ) (fs : List Fragment) (x : Held) → x.version ≡ version a (k + 1) → KnowsItsOwn a k fs → IsKnownBy fs x → ⊥
+not_yet a k fs x is own known =
+    let has : (leb 1 (k + 1) && leb (k + 1) k) ≡ true = sym (own.own x.picture (k + 1) known.above) ∙ ap (λ w. knows fs x.picture w) (sym is) ∙ known.itself in
+    let within = leb-true (k + 1) k (and_parts (leb 1 (k + 1)) (leb (k + 1) k) has).1 in
+    omega arith
+
+-- the next version isn't held
+pub none_of_next : (a : Author) (k : ℕ) (fs : List Fragment) (v : Version) (xs : List Held) → v ≡ version a (k + 1) → KnowsItsOwn a k fs → AllByRecursion (IsKnownBy fs) xs → count_of v xs ≡ 0
+none_of_next a k fs v [] next own all = refl
+none_of_next a k fs v (x ∷ xs) next own all =
+    let rest = none_of_next a k fs v xs next own all.1 in
+    elim (cases_Bool (same_version x.version v)) [
+      | inl same ↦ absurd (not_yet a k fs x (same_version_is x.version v same ∙ next) own all.0)
+      | inr apart ↦ rw apart rest
+    ]
+
+-- two sets, of which one gets a version and the other gives up some, hold it once
+once_with : (h : Held) (q r : Held → Bool) (xs ys : List Held) → count_of h.version xs ≡ 0 → count_of h.version ys ≡ 0
+    → ((v : Version) → count_of v xs + count_of v ys ≤ 1) → (v : Version) → count_of v (put held_before h (filter q xs)) + count_of v (filter r ys) ≤ 1
+once_with h q r xs ys none_here none_there once v =
+    let before = once v in
+    let new = count_of-put v h (filter q xs) ∙ count_of-cons v h (filter q xs) in
+    let here = count_of-filter v q xs in
+    let there = count_of-filter v r ys in
+    elim (cases_Bool (same_version h.version v)) [
+      | inl same ↦
+          let is = same_version_is h.version v same in
+          let one : one_of v h ≡ 1 = rw same refl in
+          let no_here = subst (λ w. count_of w xs ≡ 0) is none_here in
+          let no_there = subst (λ w. count_of w ys ≡ 0) is none_there in
+          omega arith
+      | inr apart ↦
+          let none : one_of v h ≡ 0 = rw apart refl in
+          omega arith
+    ]
+
+-- the next version is learned: of every picture
+pub record IsOwnLearned (v : Version) (old new : List Fragment) : Type 0 where
+  pub star : (a : Author) → star_bound new a ≡ cond (same_author v.author a) v.number (star_bound old a)
+  pub learned : (p : ℕ) (w : Version) → 0 < p → knows new p w ≡ (knows old p w || same_version v w)
+
+pub makes_device : (place : Place) (h : Held) (d : Kept) (new : List Fragment) → IsNext h d → IsOwnLearned h.version d.knowledge new → IsDevice d
+    → IsDevice (record (held_at place h d) { counter = d.counter + 1; knowledge = new })
+makes_device place h d new next learned is = by place
+  where
+    earlier : HasEarlier h
+    earlier = has_earlier d.author d.counter h.picture h.version h.made_with h.content d.knowledge next.next next.above next.history is.knows
+
+    later : (p : ℕ) (w : Version) → 0 < p → knows d.knowledge p w ≡ true → knows new p w ≡ true
+    later p w above here = learned.learned p w above ∙ ap (λ b. b || same_version h.version w) here
+
+    known : IsKnownBy new h
+    known = record {
+      above = next.above;
+      itself = learned.learned h.picture h.version next.above ∙ ap (λ b. knows d.knowledge h.picture h.version || b) (same_version_self h.version) ∙ or-true (knows d.knowledge h.picture h.version);
+      history = λ v has. later h.picture v next.above (sym (next.history v) ∙ has);
+    }
+
+    own : KnowsItsOwn d.author (d.counter + 1) new
+    own = own_learned d.author d.counter h.version d.knowledge new next.next learned.star learned.learned is.knows
+
+    store : AllByRecursion (IsKnownBy new) d.store
+    store = known_later d.knowledge new later d.store is.store_known
+
+    out : AllByRecursion (IsKnownBy new) d.out
+    out = known_later d.knowledge new later d.out is.out_known
+
+    not_in_store : count_of h.version d.store ≡ 0
+    not_in_store = none_of_next d.author d.counter d.knowledge h.version d.store next.next is.knows is.store_known
+
+    not_in_out : count_of h.version d.out ≡ 0
+    not_in_out = none_of_next d.author d.counter d.knowledge h.version d.out next.next is.knows is.out_known
+
+    apart : (v : Version) → count_of v d.store + count_of v d.out ≤ 1
+    apart v =
+        let once = is.once v in
+        let both = count_of-append v d.store d.out in
+        omega arith
+
+    swapped : (v : Version) → count_of v d.out + count_of v d.store ≤ 1
+    swapped v = let both = apart v in omega arith
+
+    other : Held → Bool
+    other x = is_of_other h.picture (entry_of x)
+
+    by : (to : Place) → IsDevice (record (held_at to h d) { counter = d.counter + 1; knowledge = new })
+    by Store = record {
+      knows = own;
+      store = all_put HasEarlier held_before h _ earlier (all_filter HasEarlier other d.store is.store);
+      out = all_filter HasEarlier other d.out is.out;
+      store_known = all_put (IsKnownBy new) held_before h _ known (all_filter (IsKnownBy new) other d.store store);
+      out_known = all_filter (IsKnownBy new) other d.out out;
+      once = λ v.
+          let once = once_with h other other d.store d.out not_in_store not_in_out apart v in
+          let both = count_of-append v (replaced h d.store) (held_of_others h.picture d.out) in
+          omega arith;
+    }
+    by Out = record {
+      knows = own;
+      store = all_filter HasEarlier other d.store is.store;
+      out = all_put HasEarlier held_before h _ earlier (all_filter HasEarlier other d.out is.out);
+      store_known = all_filter (IsKnownBy new) other d.store store;
+      out_known = all_put (IsKnownBy new) held_before h _ known (all_filter (IsKnownBy new) other d.out out);
+      once = λ v.
+          let once = once_with h other other d.out d.store not_in_out not_in_store swapped v in
+          let both = count_of-append v (held_of_others h.picture d.store) (replaced h d.out) in
+          omega arith;
+    }
+
+pub has_made : (place : Place) (h : Held) (d old after : Kept) → d ≡ old → after ≡ record (held_at place h d) { counter = d.counter + 1; knowledge = after.knowledge } → IsOwnLearned h.version d.knowledge after.knowledge → HasMade place h old after
+has_made place h d old after same rest learned = subst (λ (e : Kept). HasMade place h e after) same (record { rest = rest; learned = learned.learned })

@@ -49,10 +49,18 @@ pub record Kept : Type 0 where
   pub out : List Held
   pub knowledge : List Fragment
 
--- a version is held at a place, and nothing else of its picture
+-- a version is held at a place, and nothing else of its picture: what that makes of the store and of the out
+
+abbrev pub store_with : Place → Held → List Held → List Held
+store_with Store held store = replaced held store
+store_with Out held store = held_of_others held.picture store
+
+abbrev pub out_with : Place → Held → List Held → List Held
+out_with Store held out = held_of_others held.picture out
+out_with Out held out = replaced held out
+
 abbrev pub held_at : Place → Held → Kept → Kept
-held_at Store held d = record d { store = replaced held d.store; out = held_of_others held.picture d.out }
-held_at Out held d = record d { store = held_of_others held.picture d.store; out = replaced held d.out }
+held_at place held d = record d { store = store_with place held d.store; out = out_with place held d.out }
 
 -- the device shows the model device: what it knows of a picture is all that counts of its knowledge
 pub record Shows (d : Kept) (m : ModelDevice) : Type 0 where

@@ -1,11 +1,14 @@
 pub mod Ordered
 pub mod Entry
 pub mod Held
+pub mod Rising
 pub mod Device
 pub mod Conflicts
 pub mod Own
+pub mod Taking
 pub mod Coding
 pub use Rattle.photo_record.specs.Limits
 pub use Rattle.photo_record.specs.Calendar
 pub use Rattle.photo_record.specs.Word
 pub use Rattle.photo_record.specs.Reading
+pub use Rattle.block_list.specs.Blocks

@@ -1,6 +1,6 @@
 -- What a device knows of its own versions, and a held version of those that its author made before it: just what there
--- is. So a bound for each author stands for a plain set of versions.
-use Rattle.std.specs.Prelude.{◌≡◌, ℕ, ◌+◌, ◌<◌, ◌&&◌, ◌||◌, nat_le, nat_lt, List}
+-- is. So a bound for each author stands for a plain set of versions. And what is held is known, and held once.
+use Rattle.std.specs.Prelude.{◌≡◌, ℕ, ◌+◌, ◌<◌, ◌≤◌, true, ◌&&◌, ◌||◌, nat_le, nat_lt, List, ◌++◌}
 use Rattle.std.specs.List.{AllByRecursion}
 use Rattle.photo_version.specs.Author.{Author}
 use Rattle.photo_version.specs.Version.{Version, version, same_version}
@@ -9,6 +9,7 @@ use Rattle.item_knowledge.specs.Fragments.{Fragment, knows}
 use Rattle.item_knowledge.specs.Kept.{star_bound}
 use Rattle.photo_device.specs.declared.held.Held.{Held}
 use Rattle.photo_device.specs.declared.place.Place.{Place}
+use Rattle.photo_device.specs.Held.{count_of}
 use Rattle.photo_device.specs.Device.{Kept, held_at}
 
 -- of its own author, the history has just the versions before this one
@@ -20,6 +21,18 @@ pub record KnowsItsOwn (author : Author) (counter : ℕ) (knowledge : List Fragm
   pub star : star_bound knowledge author ≡ counter
   pub own : (picture n : ℕ) → 0 < picture → knows knowledge picture (version author n) ≡ (nat_le 1 n && nat_le n counter)
 
+-- of its picture, a held version is known, with all that it was made with
+pub record IsKnownBy (knowledge : List Fragment) (held : Held) : Type 0 where
+  pub above : 0 < held.picture
+  pub itself : knows knowledge held.picture held.version ≡ true
+  pub history : (v : Version) → denotes held.made_with v ≡ true → knows knowledge held.picture v ≡ true
+
+-- the device's next version of a picture, made with what the device knows of the picture
+pub record IsNext (held : Held) (d : Kept) : Type 0 where
+  pub next : held.version ≡ version d.author (d.counter + 1)
+  pub above : 0 < held.picture
+  pub history : (v : Version) → denotes held.made_with v ≡ knows d.knowledge held.picture v
+
 -- the device's next version is held at a place, counted, and known of every picture
 pub record HasMade (place : Place) (h : Held) (old new : Kept) : Type 0 where
   pub rest : new ≡ record (held_at place h old) { counter = old.counter + 1; knowledge = new.knowledge }
@@ -30,3 +43,7 @@ pub record IsDevice (d : Kept) : Type 0 where
   pub knows : KnowsItsOwn d.author d.counter d.knowledge
   pub store : AllByRecursion HasEarlier d.store
   pub out : AllByRecursion HasEarlier d.out
+  pub store_known : AllByRecursion (IsKnownBy d.knowledge) d.store
+  pub out_known : AllByRecursion (IsKnownBy d.knowledge) d.out
+  -- no version is held twice
+  pub once : (v : Version) → count_of v (d.store ++ d.out) ≤ 1

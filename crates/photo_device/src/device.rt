@@ -1,4 +1,8 @@
-use crate::{ChangeFault, Held, HeldSet, Place};
+ghost use Rattle.std.specs.Prelude.{◌≡◌, OnOk, OnErr};
+ghost use Rattle.photo_device.specs.Device.{store_with, out_with};
+
+use crate::takes::{give_back, take_all};
+use crate::{Change, ChangeFault, Held, HeldSet, Place};
 use item_knowledge::Knowledge;
 use photo_filter_rules::Filter;
 use photo_record::{PicNo, Record};
@@ -33,13 +37,15 @@ impl Model for Device {
 }
 
 impl Device {
-    ghost use Rattle.std.specs.Prelude.{◌≡◌, ◌≢◌, ℕ, ◌+◌, ◌<◌, ◌||◌, ◌++◌, true, false, Err, IfOk, IfErr, OnOk, OnErr};
+    ghost use Rattle.std.specs.Prelude.{◌≡◌, ◌≢◌, ℕ, ◌+◌, ◌<◌, ◌≤◌, ◌||◌, ◌++◌, true, false, is_some, None, Err, IfOk, IfErr, OnOk, OnErr};
     ghost use Rattle.std.specs.List.{AllByRecursion};
     ghost use Rattle.std.specs.Option.{option_copied};
-    ghost use Rattle.photo_device.specs.Held.{find_version, has_picture};
-    ghost use Rattle.photo_version.specs.Version.{version};
-    ghost use Rattle.photo_device.specs.Own.{HasEarlier, HasMade, KnowsItsOwn};
-    ghost use Rattle.photo_device.specs.Device.{ModelDevice, Shows, opening, made, next_version, new_place, held_at, is_held};
+    ghost use Rattle.photo_device.specs.Held.{find_version, has_picture, count_of, entries_of};
+    ghost use Rattle.photo_device.specs.Own.{HasEarlier, HasMade, IsDevice, IsKnownBy, IsNext};
+    ghost use Rattle.photo_device.specs.Taking.{HasTaken, MayTake};
+    ghost use Rattle.photo_version.specs.Version as versions;
+    ghost use Rattle.item_knowledge.specs.Fragments.{knows};
+    ghost use Rattle.photo_device.specs.Device.{ModelDevice, Shows, opening, made, next_version, new_place, is_held, changed, without_waiting};
     ghost use Rattle.photo_record.specs.declared.record.Record.TheVariants.{Removed};
     ghost use Rattle.photo_device.specs.declared.fault.ChangeFault.TheVariants.{NotHeld};
 
@@ -93,8 +99,7 @@ impl Device {
 
     /// Holds its next version at a place, counts it, and knows it of every picture. An error leaves the device as it was.
     fn add(&mut self, place: Place, held: Held) -> Result<(), AllocError>
-        requires next { held.version ≡ version self.old.author (self.old.counter + 1) }
-        requires earlier { HasEarlier held }
+        requires { IsNext held self.old }
         ensures ok { OnOk result (HasMade place held self.old self.new) }
         ensures err { OnErr result (self.new ≡ self.old) }
     {
@@ -106,15 +111,14 @@ impl Device {
 
     // The first version wants memory for its author's bounds: so they are made in a copy of what is known.
     fn add_first(&mut self, place: Place, held: Held) -> Result<(), AllocError>
-        requires next { held.version ≡ version self.old.author (self.old.counter + 1) }
-        requires earlier { HasEarlier held }
+        requires { IsNext held self.old }
         ensures ok { OnOk result (HasMade place held self.old self.new) }
         ensures err { OnErr result (self.new ≡ self.old) }
     {
         let version = held.version;
         let mut knowledge = self.knowledge.try_clone()?;
         knowledge.learn_own(version)?;
-        self.hold(place, held)?;
+        hold(&mut self.store, &mut self.out, place, held)?;
         self.knowledge = knowledge;
         self.counter = version.n();
         Ok(())
@@ -123,35 +127,14 @@ impl Device {
     // A later version raises bounds that are there already.
     fn add_later(&mut self, place: Place, held: Held) -> Result<(), AllocError>
         requires some { 0 < self.old.counter }
-        requires next { held.version ≡ version self.old.author (self.old.counter + 1) }
-        requires earlier { HasEarlier held }
+        requires next { IsNext held self.old }
         ensures ok { OnOk result (HasMade place held self.old self.new) }
         ensures err { OnErr result (self.new ≡ self.old) }
     {
         let version = held.version;
-        self.hold(place, held)?;
+        hold(&mut self.store, &mut self.out, place, held)?;
         self.knowledge.raise_own(version);
         self.counter = version.n();
-        Ok(())
-    }
-
-    /// Holds a version at a place, and nothing else of its picture. An error leaves the device as it was.
-    fn hold(&mut self, place: Place, held: Held) -> Result<(), AllocError>
-        requires { HasEarlier held }
-        ensures ok { OnOk result (self.new ≡ held_at place held self.old) }
-        ensures err { OnErr result (self.new ≡ self.old) }
-    {
-        let picture = held.picture;
-        match place {
-            Place::Store => {
-                self.store.replace(held)?;
-                self.out.drop_picture(picture);
-            }
-            Place::Out => {
-                self.out.replace(held)?;
-                self.store.drop_picture(picture);
-            }
-        }
         Ok(())
     }
 
@@ -179,7 +162,7 @@ impl Device {
     /// The versions that it keeps.
     pub fn store(&self) -> &HeldSet
         ensures value { result.now ≡ self.now.store }
-        ensures earlier { AllByRecursion HasEarlier self.now.store }
+        ensures device { IsDevice self.now }
     {
         &self.store
     }
@@ -187,7 +170,7 @@ impl Device {
     /// The versions that it holds for another device to take.
     pub fn out(&self) -> &HeldSet
         ensures value { result.now ≡ self.now.out }
-        ensures earlier { AllByRecursion HasEarlier self.now.out }
+        ensures device { IsDevice self.now }
     {
         &self.out
     }
@@ -195,7 +178,7 @@ impl Device {
     /// Of which picture which versions it knows.
     pub fn knowledge(&self) -> &Knowledge
         ensures value { result.now ≡ self.now.knowledge }
-        ensures own { KnowsItsOwn self.now.author self.now.counter self.now.knowledge }
+        ensures device { IsDevice self.now }
     {
         &self.knowledge
     }
@@ -248,10 +231,78 @@ impl Device {
         self.edit(picture, &Record::Removed)
     }
 
+    /// Gives up held versions, takes others, each into the store where the filter matches it and into the out otherwise,
+    /// and learns. After want of memory the device is as it was, and the change comes back.
+    pub fn apply(&mut self, change: Change) -> Result<(), (Change, AllocError)>
+        requires drops { AllByRecursion (λ v. is_some (find_version v (self.old.store ++ self.old.out)) ≡ true) change.drops }
+        requires new { AllByRecursion (λ h. find_version h.version (self.old.store ++ self.old.out) ≡ None) change.takes }
+        requires distinct { (v : versions.Version) → count_of v change.takes ≤ 1 }
+        requires earlier { AllByRecursion HasEarlier change.takes }
+        requires known { AllByRecursion (IsKnownBy change.gain) change.takes }
+        requires own { (p n : ℕ) → 0 < p → knows change.gain p (versions.version self.old.author n) ≡ true → n ≤ self.old.counter }
+        ensures shows { OnOk result ((m : ModelDevice) → Shows self.old m → Shows self.new (changed change.drops (entries_of change.takes) (knows change.gain) m)) }
+        ensures err { OnErr result (self.new ≡ self.old) }
+        ensures returned { IfErr result (λ e. e.0 ≡ change) }
+    {
+        if let Err(refused) = self.take(change.takes.as_slice(), &change.gain) {
+            return Err((change, refused));
+        }
+        let _store = self.store.blocks();
+        let _out = self.out.blocks();
+        self.store.drop_versions(change.drops.as_slice());
+        self.out.drop_versions(change.drops.as_slice());
+        Ok(())
+    }
+
+    /// Takes copies of versions, each into the store where the filter matches it and into the out otherwise, and learns.
+    /// An error leaves the device as it was.
+    fn take(&mut self, takes: &[Held], gain: &Knowledge) -> Result<(), AllocError>
+        requires { MayTake takes.now gain.now self.old }
+        ensures ok { OnOk result (HasTaken takes.now gain.now self.old self.new) }
+        ensures err { OnErr result (self.new ≡ self.old) }
+    {
+        let _fragments = gain.fragments();
+        take_all(&self.filter, takes, &mut self.store, &mut self.out)?;
+        if let Err(refused) = self.knowledge.learn_all(gain) {
+            give_back(takes, &mut self.store);
+            give_back(takes, &mut self.out);
+            return Err(refused);
+        }
+        Ok(())
+    }
+
+    /// Some versions leave the out. It takes no memory.
+    pub fn drop_out(&mut self, versions: &[Version])
+        ensures { (m : ModelDevice) → Shows self.old m → Shows self.new (without_waiting versions.now m) }
+    {
+        self.out.drop_versions(versions);
+    }
+
     // Whether a version of a picture is held, in the store or in the out.
     fn holds(&self, picture: PicNo) -> bool
         ensures { result ≡ (has_picture picture self.now.store || has_picture picture self.now.out) }
     {
         self.store.has_picture(picture) || self.out.has_picture(picture)
     }
+}
+
+/// Holds a version at a place, and nothing else of its picture. An error leaves both sets as they were.
+fn hold(store: &mut HeldSet, out: &mut HeldSet, place: Place, held: Held) -> Result<(), AllocError>
+    ensures store { OnOk result (store.new ≡ store_with place held store.old) }
+    ensures out { OnOk result (out.new ≡ out_with place held out.old) }
+    ensures store_kept { OnErr result (store.new ≡ store.old) }
+    ensures out_kept { OnErr result (out.new ≡ out.old) }
+{
+    let picture = held.picture;
+    match place {
+        Place::Store => {
+            store.replace(held)?;
+            out.drop_picture(picture);
+        }
+        Place::Out => {
+            out.replace(held)?;
+            store.drop_picture(picture);
+        }
+    }
+    Ok(())
 }

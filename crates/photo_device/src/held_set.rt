@@ -3,8 +3,10 @@ ghost use Rattle.std.specs.Option.{option_copied};
 ghost use Rattle.photo_device.specs.Held.{find_version};
 
 use crate::range::range_of;
+use crate::sought::Sought;
 use crate::{Held, HeldList};
 use block_list::BlockList;
+use photo_filter_rules::Filter;
 use photo_record::PicNo;
 use photo_version::Version;
 use std::alloc::{AllocError, Global};
@@ -31,9 +33,12 @@ impl Model for HeldSet {
 }
 
 impl HeldSet {
-    ghost use Rattle.std.specs.Prelude.{◌≡◌, ◌<◌, ◌==◌, true, [], length, slice_get, Some, IfOk, OnOk, OnErr};
+    ghost use Rattle.std.specs.Prelude.{◌≡◌, ◌<◌, ◌==◌, true, None, [], length, filter, slice_get, Some, IfOk, OnOk, OnErr};
     ghost use Rattle.std.specs.Option.{option_copied};
-    ghost use Rattle.photo_device.specs.Held.{are_in_order, held_of_others, has_picture, replaced, find_version};
+    ghost use Rattle.photo_filter_rules.specs.Matching.{matches};
+    ghost use Rattle.block_list.specs.Blocks.{joined};
+    ghost use Rattle.photo_device.specs.Ordered.{put};
+    ghost use Rattle.photo_device.specs.Held.{held_before, are_in_order, held_of_others, has_picture, has_version_of, helds_without, replaced, find_version};
 
     pub(crate) fn new(alloc: Global) -> HeldSet
         ensures { result ≡ [] }
@@ -64,6 +69,24 @@ impl HeldSet {
         ensures ordered { are_in_order self.now ≡ true }
     {
         self.items.get(i)
+    }
+
+    /// The held versions in blocks, which one after another are the set. For callers that go over all of them.
+    pub fn blocks(&self) -> &[Vec<Held>]
+        ensures value { joined result.now ≡ self.now }
+        ensures ordered { are_in_order self.now ≡ true }
+    {
+        self.items.as_blocks()
+    }
+
+    /// Whether it has that version of that picture. It is found by a search, which takes no memory.
+    pub fn has(&self, picture: PicNo, version: Version) -> bool
+        ensures { result ≡ has_version_of picture version self.now }
+    {
+        self.items.any_between(
+            |held| held.is_before(picture, version),
+            |held| !held.is_behind(picture, version),
+        )
     }
 
     /// The held versions as a list. Its only error is want of memory.
@@ -103,6 +126,40 @@ impl HeldSet {
             held,
         )?;
         Ok(())
+    }
+
+    /// Puts a version among the others, of which none is of that version. An error leaves the set as it was.
+    pub(crate) fn insert(&mut self, held: Held) -> Result<(), AllocError>
+        requires { find_version held.version self.old ≡ None }
+        ensures ok { OnOk result (self.new ≡ put held_before held self.old) }
+        ensures err { OnErr result (self.new ≡ self.old) }
+    {
+        let (picture, version) = (held.picture, held.version);
+        self.items.replace_between(
+            |other| other.is_before(picture, version),
+            |other| other.is_before(picture, version),
+            held,
+        )?;
+        Ok(())
+    }
+
+    /// Gives up those versions, in whatever order they come. It takes no memory, and is quickest where they stand in
+    /// the order of versions.
+    pub(crate) fn drop_versions(&mut self, versions: &[Version])
+        ensures { self.new ≡ helds_without versions.now self.old }
+    {
+        if versions.is_empty() {
+            return;
+        }
+        let sought = Sought::new(versions);
+        self.items.retain(|held| !sought.has(held.version));
+    }
+
+    /// Gives up what the filter doesn't match. It takes no memory.
+    pub(crate) fn keep_matched(&mut self, wanted: &Filter)
+        ensures { self.new ≡ filter (λ h. matches wanted.now h.content) self.old }
+    {
+        self.items.retain(|held| wanted.matches(&held.content));
     }
 
     /// Gives up all versions of a picture.

@@ -1,6 +1,7 @@
 //! A device of the household: the versions that it made and holds.
 #![tactic(auto)]
 
+mod change;
 mod conflict;
 mod device;
 mod fault;
@@ -9,16 +10,18 @@ mod held_set;
 mod item_list;
 mod place;
 mod range;
+mod sought;
+mod takes;
 
+pub use change::Change;
 pub use conflict::Conflict;
 pub use device::Device;
 pub use fault::ChangeFault;
 pub use held::Held;
 pub use held_set::HeldSet;
 pub use item_list::ItemList;
-pub use place::Place;
-
 use photo_version::Version;
+pub use place::Place;
 
 /// Held versions, in an order.
 pub type HeldList = ItemList<Held>;

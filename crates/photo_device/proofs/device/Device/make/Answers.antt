@@ -1,21 +1,18 @@
-use Rattle.std.proofs.Common.{◌<◌, ◌+◌, ◌||◌, List, rules, refl, sym, ap, ◌∙◌, subst}
+use Rattle.std.proofs.Common.{◌+◌, ◌||◌, List, rules, refl, sym, ap, ◌∙◌, subst}
 use Rattle.photo_version.specs.Version.{version, same_version}
 use Rattle.item_knowledge.specs.Fragments.{Fragment, knows}
 use Rattle.photo_device.specs.Device.{Kept, Shows, made, held_at}
 use Rattle.photo_device.proofs.Shown.{held, IsLearned, shows_made}
-use Rattle.photo_device.proofs.OwnLemmas.{has_earlier}
 use Rattle.photo_device.proofs.device.Device.make.Goals as goal
 
-pub add-requires-clause-next : goal.add-requires-clause-next
-add-requires-clause-next c =
+pub add-requires : goal.add-requires
+add-requires c =
     let version_is = rw c.unwrap-version.ensures at c.new.ensures in
-    version_is.1 ∙ ap (λ (d : Kept). version d.author (d.counter + 1)) c.self.view_is
-
-pub add-requires-clause-earlier : goal.add-requires-clause-earlier
-add-requires-clause-earlier c =
-    let version_is = rw c.unwrap-version.ensures at c.new.ensures in
-    let above : 0 < c.args.picture = search rules in
-    has_earlier _ _ c.args.picture c.unwrap-version.result _ c.in_ok-try_clone.field-0 c.self.inside.knowledge version_is.1 above c.in_ok-of.ensures c.self.invariant.knows
+    record {
+      next = version_is.1 ∙ ap (λ (d : Kept). version d.author (d.counter + 1)) c.self.view_is;
+      above = search rules;
+      history = λ v. c.in_ok-of.ensures v ∙ ap (λ (d : Kept). knows d.knowledge c.args.picture v) c.self.view_is;
+    }
 
 pub returns-clause-shows : goal.returns-clause-shows
 returns-clause-shows c =

@@ -1,0 +1,78 @@
+-- A version among versions in order.
+use Rattle.std.proofs.Common.{◌≡◌, ℕ, suc, ◌+◌, ◌-◌, ◌<◌, ◌≤◌, Bool, true, false, not, ◌&&◌, List, length, get_or, refl, sym, ap, ◌∙◌, inl, inr, arith}
+use Rattle.std.specs.List.{list_any, All}
+use Rattle.std.specs.List.Sorted.{IsPartitionedBy, IsPartitionPoint}
+use Rattle.std.proofs.lemmas.Bool.{cases_Bool, cases_lt, false≢true, not-true}
+use Rattle.std.proofs.lemmas.List.{get_or_default}
+use Rattle.std.proofs.lemmas.List.Folds.{list_any_at, list_any_none}
+use Rattle.photo_version.specs.Version.{Version, same_version, version_before}
+use Rattle.photo_device.specs.Rising.{are_rising}
+use Rattle.photo_device.specs.Held.{is_listed}
+use Rattle.photo_device.proofs.Lexical.{version_order, version_same}
+use Rattle.photo_device.proofs.Putting.{in_order_at, in_order_next, partitioned_rising}
+
+pub rising_next : (versions : List Version) → ((k : ℕ) (d : Version) → suc k < length versions → version_before (get_or versions (suc k) d) (get_or versions k d) ≡ false) → are_rising versions ≡ true
+rising_next versions next =
+    in_order_next (λ v w. not (version_before w v))
+    (λ x y z h g. ap not (version_order.chain z y x (not-true _ g) (not-true _ h)))
+    versions (λ k d l. ap not (next k d l))
+
+pub rising_partitioned : (versions : List Version) (w : Version) → are_rising versions ≡ true → IsPartitionedBy (λ v. version_before v w) versions
+rising_partitioned versions w o = partitioned_rising version_order w versions o
+
+-- which one stands where those before w end
+module _ (versions : List Version) (w : Version) (n : ℕ) (o : are_rising versions ≡ true) (point : IsPartitionPoint (λ v. version_before v w ≡ true) (λ v. version_before v w ≡ false) versions n) where
+  before_other : (v : Version) → version_before v w ≡ true → same_version v w ≡ false
+  before_other v h = version_same v w ∙ ap (λ b. not b && not (version_before w v)) h
+
+  behind_other : (v : Version) → version_before w v ≡ true → same_version v w ≡ false
+  behind_other v h = version_same v w ∙ ap (λ b. not (version_before v w) && not b) h ∙ none_of_both (not (version_before v w))
+    where
+      none_of_both : (b : Bool) → b && false ≡ false
+      none_of_both true = refl
+      none_of_both false = refl
+
+  behind_first : (v : Version) → version_before v w ≡ false → same_version v w ≡ false → version_before w v ≡ true
+  behind_first v h other = elim (cases_Bool (version_before w v)) [
+    | inl behind ↦ behind
+    | inr none ↦ absurd (false≢true (sym other ∙ version_same v w ∙ (λ i. not (h i) && not (none i))))
+  ]
+
+  others : (k : ℕ) (d : Version) → k < length versions → (n < length versions → same_version (get_or versions n d) w ≡ false) → same_version (get_or versions k d) w ≡ false
+  others k d l other = elim (cases_lt k n) [
+    | inl before ↦ before_other _ (point.0 k d (omega arith) before)
+    | inr from ↦ elim (cases_lt n k) [
+      | inl later ↦
+          let at : n < length versions = omega arith in
+          let turn = behind_first (get_or versions n d) (point.1 n d (omega arith) at) (other at) in
+          let rising = not-true _ (in_order_at (λ v w. not (version_before w v)) versions o n k d later l) in
+          elim (cases_Bool (version_before w (get_or versions k d))) [
+            | inl behind ↦ behind_other _ behind
+            | inr none ↦ absurd (false≢true (sym (version_order.chain w (get_or versions k d) (get_or versions n d) none rising) ∙ turn))
+          ]
+      | inr same ↦ let here : k ≡ n = omega arith in rw here (other (omega arith))
+    ]
+  ]
+
+  pub not_listed : length versions ≤ n → false ≡ is_listed versions w
+  not_listed none = sym (list_any_none (λ v. same_version v w) versions (λ k d l. others k d l (λ at. absurd (omega arith))))
+
+  pub listed_at : (d : Version) → n < length versions → same_version (get_or versions n d) w ≡ is_listed versions w
+  listed_at d at = elim (cases_Bool (same_version (get_or versions n d) w)) [
+    | inl same ↦ same ∙ sym (list_any_at (λ v. same_version v w) versions n d at same)
+    | inr other ↦ other ∙ sym (list_any_none (λ v. same_version v w) versions (λ k e l. others k e l (λ here. ap (λ v. same_version v w) (get_or_default versions n e d at) ∙ other)))
+  ]
+
+-- one more that doesn't stand before the one in front of it
+pub rising_more : (versions : List Version) (i : ℕ) (v w : Version) → 0 < i → i < length versions → v ≡ get_or versions i v → w ≡ get_or versions (i - 1) w → version_before v w ≡ false
+    → ((k : ℕ) (d : Version) → suc k < i → version_before (get_or versions (suc k) d) (get_or versions k d) ≡ false)
+    → (k : ℕ) (d : Version) → suc k < i + 1 → version_before (get_or versions (suc k) d) (get_or versions k d) ≡ false
+rising_more versions i v w some inside v_is w_is after older k d l = elim (cases_lt (suc k) i) [
+  | inl before ↦ older k d before
+  | inr last ↦
+      let here : suc k ≡ i = omega arith in
+      let front : k ≡ i - 1 = omega arith in
+      let later = ap (λ n. get_or versions n d) here ∙ get_or_default versions i d v inside ∙ sym v_is in
+      let earlier = ap (λ n. get_or versions n d) front ∙ get_or_default versions (i - 1) d w (omega arith) ∙ sym w_is in
+      (λ j. version_before (later j) (earlier j)) ∙ after
+]

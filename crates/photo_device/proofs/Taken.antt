@@ -1,0 +1,243 @@
+-- What a set takes, and how it gives it back.
+use Rattle.std.proofs.Common.{◌≡◌, ℕ, ◌+◌, ◌≤◌, Bool, true, false, not, cond, ◌&&◌, ◌||◌, eqb, ltb, List, [], ◌∷◌, ◌++◌, length, get_or, drop, ◌<◌, refl, sym, ap, ◌∙◌, ◌⊎◌, subst, inl, inr, arith}
+use Rattle.std.specs.Prelude.{filter, map, Option, Some, None, is_some}
+use Rattle.std.specs.List.{list_any, list_all, AllByRecursion}
+use Rattle.std.specs.Cmp.{IsStrictWeakOrder}
+use Rattle.std.proofs.Math.Bool.{or-true}
+use Rattle.std.proofs.lemmas.List.{drop_more, drop_all}
+use Rattle.std.proofs.lemmas.Bool.{cases_Bool, and_parts, and_from, false≢true, eq-eqb}
+use Rattle.photo_filter_text.specs.Tree.{Tree}
+use Rattle.photo_version.specs.Version.{Version, version_before, same_version}
+use Rattle.photo_version.specs.Author.{author_before, same_author}
+use Rattle.photo_version.proofs.AuthorLemmas.{same_from}
+use Rattle.photo_device.specs.declared.held.Held.{Held}
+use Rattle.photo_device.specs.Ordered.{put, in_order}
+use Rattle.photo_device.specs.Held.{entry_of, held_before, are_in_order, count_of, find_version, is_listed, helds_without, put_helds}
+use Rattle.photo_device.specs.Taking.{is_on_side, versions_in, AreNewTo, with_side}
+use Rattle.photo_device.proofs.Counts.{one_of, count_of-cons, count_of-append, count_of-put, count_of-filter, same_version_is, same_version_self}
+use Rattle.photo_device.proofs.Lexical.{held_order, held_apart}
+use Rattle.photo_device.proofs.Putting.{follows, filter_all, filter-put_out, filter-put, in_order-filter}
+
+module _ {A : Type 0} {before : A → A → Bool} (order : IsStrictWeakOrder before) where
+  put_past : (x z : A) (zs : List A) → before z x ≡ true → put before x (z ∷ zs) ≡ z ∷ put before x zs
+  put_past x z zs h = ap (λ b. cond b (z ∷ put before x zs) (x ∷ z ∷ zs)) h
+
+  put_here : (x z : A) (zs : List A) → before z x ≡ false → put before x (z ∷ zs) ≡ x ∷ z ∷ zs
+  put_here x z zs h = ap (λ b. cond b (z ∷ put before x zs) (x ∷ z ∷ zs)) h
+
+  swap_less : (x y : A) (zs : List A) → before x y ≡ true → put before x (put before y zs) ≡ put before y (put before x zs)
+  swap_less x y [] less = put_here x y [] (order.one_way x y less) ∙ sym (put_past y x [] less)
+  swap_less x y (z ∷ zs) less =
+      elim (cases_Bool (before z x)) [
+        | inl first ↦
+            let too : before z y ≡ true = follows order z x y first less in
+            ap (put before x) (put_past y z zs too) ∙ put_past x z (put before y zs) first
+            ∙ ap (λ l. z ∷ l) (swap_less x y zs less)
+            ∙ sym (ap (put before y) (put_past x z zs first) ∙ put_past y z (put before x zs) too)
+        | inr behind ↦ elim (cases_Bool (before z y)) [
+          | inl between ↦
+              ap (put before x) (put_past y z zs between) ∙ put_here x z (put before y zs) behind
+              ∙ sym (ap (put before y) (put_here x z zs behind) ∙ put_past y x (z ∷ zs) less ∙ ap (λ l. x ∷ l) (put_past y z zs between))
+          | inr last ↦
+              ap (put before x) (put_here y z zs last) ∙ put_here x y (z ∷ zs) (order.one_way x y less)
+              ∙ sym (ap (put before y) (put_here x z zs behind) ∙ put_past y x (z ∷ zs) less ∙ ap (λ l. x ∷ l) (put_here y z zs last))
+        ]
+      ]
+
+  pub put-put : (x y : A) (zs : List A) → (before x y || before y x) ≡ true → put before x (put before y zs) ≡ put before y (put before x zs)
+  put-put x y zs apart =
+      elim (cases_Bool (before x y)) [
+        | inl less ↦ swap_less x y zs less
+        | inr not_less ↦ sym (swap_less y x zs (other (before x y) (before y x) not_less apart))
+      ]
+    where
+      other : (a b : Bool) → a ≡ false → (a || b) ≡ true → b ≡ true
+      other true b e f = absurd (false≢true (sym e))
+      other false b e f = f
+
+-- how many there are of a version, and whether it is found
+
+pub not_found : (v : Version) (xs : List Held) → count_of v xs ≡ 0 → find_version v xs ≡ None
+not_found v [] none = refl
+not_found v (x ∷ xs) none =
+    let here = count_of-cons v x xs in
+    elim (cases_Bool (same_version x.version v)) [
+      | inl same ↦ let one : one_of v x ≡ 1 = rw same refl in absurd (omega arith)
+      | inr apart ↦ rw apart (not_found v xs (let zero : one_of v x ≡ 0 = rw apart refl in omega arith))
+    ]
+
+pub none_counted : (v : Version) (xs : List Held) → find_version v xs ≡ None → count_of v xs ≡ 0
+none_counted v [] none = refl
+none_counted v (x ∷ xs) none =
+    elim (cases_Bool (same_version x.version v)) [
+      | inl same ↦ absurd (found_none (rw same at none))
+      | inr apart ↦ rw apart (none_counted v xs (rw apart at none))
+    ]
+  where
+    found_none : {A : Type 0} {y : A} → Some y ≡ None → ⊥
+    found_none e = cc
+
+pub count_of-put_helds : (v : Version) (takes helds : List Held) → count_of v (put_helds takes helds) ≡ count_of v (takes ++ helds)
+count_of-put_helds v [] helds = refl
+count_of-put_helds v (h ∷ takes) helds =
+    let rest = count_of-put_helds v takes helds in
+    let one = count_of-cons v h (put_helds takes helds) in
+    let other = count_of-cons v h (takes ++ helds) in
+    count_of-put v h (put_helds takes helds) ∙ (omega arith)
+
+-- those that are new to a set
+
+pub first_new : (h : Held) (takes helds : List Held) → AreNewTo helds (h ∷ takes) → count_of h.version (takes ++ helds) ≡ 0
+first_new h takes helds new =
+    let once = new.once h.version in
+    let all = count_of-cons h.version h (takes ++ helds) in
+    let one : one_of h.version h ≡ 1 = rw (same_version_self h.version) refl in
+    omega arith
+
+pub rest_new : (h : Held) (takes helds : List Held) → AreNewTo helds (h ∷ takes) → AreNewTo helds takes
+rest_new h takes helds new = record {
+  once = λ v.
+      let once = new.once v in
+      let all = count_of-cons v h (takes ++ helds) in
+      omega arith;
+}
+
+pub put_new : (h : Held) (takes helds : List Held) → AreNewTo helds (h ∷ takes) → AreNewTo (put held_before h helds) takes
+put_new h takes helds new = record {
+  once = λ v.
+      let once = new.once v in
+      let all = count_of-cons v h (takes ++ helds) in
+      let before = count_of-append v takes helds in
+      let after = count_of-append v takes (put held_before h helds) in
+      let here = count_of-put v h helds ∙ count_of-cons v h helds in
+      omega arith;
+}
+
+-- one after another they come as all at once
+
+abbrev pub put_one_by_one : List Held → List Held → List Held
+put_one_by_one [] helds = helds
+put_one_by_one (h ∷ takes) helds = put_one_by_one takes (put held_before h helds)
+
+put_through : (h : Held) (takes helds : List Held) → count_of h.version takes ≡ 0 → put_helds takes (put held_before h helds) ≡ put held_before h (put_helds takes helds)
+put_through h [] helds none = refl
+put_through h (g ∷ takes) helds none =
+    let all = count_of-cons h.version g takes in
+    ap (put held_before g) (put_through h takes helds (omega arith))
+    ∙ put-put held_order g h (put_helds takes helds) (held_apart g h (apart (cases_Bool (same_version g.version h.version)) all))
+  where
+    apart : (same_version g.version h.version ≡ true) ⊎ (same_version g.version h.version ≡ false) → count_of h.version (g ∷ takes) ≡ one_of h.version g + count_of h.version takes → same_version g.version h.version ≡ false
+    apart (inl same) all = let one : one_of h.version g ≡ 1 = rw same refl in absurd (omega arith)
+    apart (inr other) all = other
+
+pub one_by_one : (takes helds : List Held) → ((v : Version) → count_of v takes ≤ 1) → put_one_by_one takes helds ≡ put_helds takes helds
+one_by_one [] helds once = refl
+one_by_one (h ∷ takes) helds once =
+    one_by_one takes (put held_before h helds) (λ v. let all = count_of-cons v h takes in let here = once v in omega arith)
+    ∙ put_through h takes helds
+    (let all = count_of-cons h.version h takes in let here = once h.version in let one : one_of h.version h ≡ 1 = rw (same_version_self h.version) refl in omega arith)
+
+-- what a set gives up
+
+pub without_none : (xs : List Held) → helds_without [] xs ≡ xs
+without_none [] = refl
+without_none (x ∷ xs) = ap (λ l. x ∷ l) (without_none xs)
+
+-- one version after another, or all at once
+pub without-cons : (v : Version) (versions : List Version) (xs : List Held) → helds_without versions (helds_without (v ∷ []) xs) ≡ helds_without (v ∷ versions) xs
+without-cons v versions [] = refl
+without-cons v versions (x ∷ xs) =
+    let rest = without-cons v versions xs in
+    elim (same_version v x.version) as (λ b. helds_without versions (cond (not (b || false)) (x ∷ helds_without (v ∷ []) xs) (helds_without (v ∷ []) xs)) ≡ cond (not (b || is_listed versions x.version)) (x ∷ helds_without (v ∷ versions) xs) (helds_without (v ∷ versions) xs)) [
+      | true ↦ rest
+      | false ↦ elim (not (is_listed versions x.version)) as (λ b. cond b (x ∷ helds_without versions (helds_without (v ∷ []) xs)) (helds_without versions (helds_without (v ∷ []) xs)) ≡ cond b (x ∷ helds_without (v ∷ versions) xs) (helds_without (v ∷ versions) xs)) [
+        | true ↦ ap (λ l. x ∷ l) rest
+        | false ↦ rest
+      ]
+    ]
+
+same_back : (v w : Version) → same_version v w ≡ true → same_version w v ≡ true
+same_back v w same = subst (λ u. same_version u v ≡ true) (same_version_is v w same) (same_version_self v)
+
+pub without_other : (v : Version) (xs : List Held) → count_of v xs ≡ 0 → helds_without (v ∷ []) xs ≡ xs
+without_other v [] none = refl
+without_other v (x ∷ xs) none =
+    let here = count_of-cons v x xs in
+    elim (cases_Bool (same_version v x.version)) [
+      | inl same ↦ let one : one_of v x ≡ 1 = rw (same_back v x.version same) refl in absurd (omega arith)
+      | inr apart ↦
+          ap (λ b. cond (not (b || false)) (x ∷ helds_without (v ∷ []) xs) (helds_without (v ∷ []) xs)) apart
+          ∙ ap (λ l. x ∷ l) (without_other v xs (omega arith))
+    ]
+
+pub untouched : (takes helds : List Held) → AreNewTo helds takes → helds_without (versions_in takes) helds ≡ helds
+untouched [] helds new = without_none helds
+untouched (h ∷ takes) helds new =
+    let none : count_of h.version helds ≡ 0 = (let all = first_new h takes helds new in let both = count_of-append h.version takes helds in omega arith) in
+    sym (without-cons h.version (versions_in takes) helds)
+    ∙ ap (helds_without (versions_in takes)) (without_other h.version helds none)
+    ∙ untouched takes helds (rest_new h takes helds new)
+
+back_put : (versions : List Version) (h : Held) (xs : List Held) → is_listed versions h.version ≡ true → helds_without versions (put held_before h xs) ≡ helds_without versions xs
+back_put versions h xs listed = filter-put_out held_before (λ (x : Held). not (is_listed versions x.version)) h xs (ap not listed)
+
+first_listed : (h : Held) (left : List Held) → is_listed (versions_in (h ∷ left)) h.version ≡ true
+first_listed h left = ap (λ b. b || is_listed (versions_in left) h.version) (same_version_self h.version)
+
+rest_listed : (h : Held) (left : List Held) (v : Version) → is_listed (versions_in left) v ≡ true → is_listed (versions_in (h ∷ left)) v ≡ true
+rest_listed h left v listed = ap (λ b. same_version h.version v || b) listed ∙ or-true (same_version h.version v)
+
+back_side : (versions : List Version) (q : Held → Bool) (takes helds : List Held) → ((v : Version) → is_listed (versions_in takes) v ≡ true → is_listed versions v ≡ true) → helds_without versions (put_helds (filter q takes) helds) ≡ helds_without versions helds
+back_side versions q [] helds among = refl
+back_side versions q (h ∷ takes) helds among =
+    let rest = back_side versions q takes helds (λ v listed. among v (rest_listed h takes v listed)) in
+    elim (q h) as (λ b. helds_without versions (put_helds (cond b (h ∷ filter q takes) (filter q takes)) helds) ≡ helds_without versions helds) [
+      | true ↦ back_put versions h _ (among h.version (first_listed h takes)) ∙ rest
+      | false ↦ rest
+    ]
+
+-- what was taken is given back
+pub given_back : (matched : Bool) (tree : Tree) (takes helds : List Held) → AreNewTo helds takes → helds_without (versions_in takes) (with_side matched tree takes helds) ≡ helds
+given_back matched tree takes helds new = back_side (versions_in takes) (is_on_side matched tree) takes helds (λ v listed. listed) ∙ untouched takes helds new
+
+-- a set that takes them one after another: those that are left, and what it has now
+pub record IsTaking (matched : Bool) (tree : Tree) (takes before left now : List Held) : Type 0 where
+  pub done : put_one_by_one (filter (is_on_side matched tree) left) now ≡ put_one_by_one (filter (is_on_side matched tree) takes) before
+  pub new : AreNewTo now left
+  pub back : helds_without (versions_in takes) now ≡ before
+  pub among : (v : Version) → is_listed (versions_in left) v ≡ true → is_listed (versions_in takes) v ≡ true
+
+pub is_starting : (matched : Bool) (tree : Tree) (takes before : List Held) → AreNewTo before takes → IsTaking matched tree takes before takes before
+is_starting matched tree takes before new = record { done = refl; new = new; back = untouched takes before new; among = λ v listed. listed }
+
+pub has_put : (matched : Bool) (tree : Tree) (takes before left now : List Held) (h : Held) → IsTaking matched tree takes before (h ∷ left) now → is_on_side matched tree h ≡ true → IsTaking matched tree takes before left (put held_before h now)
+has_put matched tree takes before left now h taking side = record {
+  done = ap (λ b. put_one_by_one (cond b (h ∷ filter (is_on_side matched tree) left) (filter (is_on_side matched tree) left)) now) (sym side) ∙ taking.done;
+  new = put_new h left now taking.new;
+  back = back_put (versions_in takes) h now (taking.among h.version (first_listed h left)) ∙ taking.back;
+  among = λ v listed. taking.among v (rest_listed h left v listed);
+}
+
+pub has_skipped : (matched : Bool) (tree : Tree) (takes before left now : List Held) (h : Held) → IsTaking matched tree takes before (h ∷ left) now → is_on_side matched tree h ≡ false → IsTaking matched tree takes before left now
+has_skipped matched tree takes before left now h taking side = record {
+  done = ap (λ b. put_one_by_one (cond b (h ∷ filter (is_on_side matched tree) left) (filter (is_on_side matched tree) left)) now) (sym side) ∙ taking.done;
+  new = rest_new h left now taking.new;
+  back = taking.back;
+  among = λ v listed. taking.among v (rest_listed h left v listed);
+}
+
+pub has_taken : (matched : Bool) (tree : Tree) (takes before now : List Held) → AreNewTo before takes → IsTaking matched tree takes before [] now → now ≡ with_side matched tree takes before
+has_taken matched tree takes before now new taking =
+    taking.done ∙ one_by_one (filter (is_on_side matched tree) takes) before
+    (λ v. let once = new.once v in let both = count_of-append v takes before in let some = count_of-filter v (is_on_side matched tree) takes in omega arith)
+
+pub next_left : (takes : List Held) (i : ℕ) (h : Held) → i < length takes → h ≡ get_or takes i h → drop i takes ≡ h ∷ drop (i + 1) takes
+next_left takes i h l is = drop_more takes i h l ∙ ap (λ (x : Held). x ∷ drop (i + 1) takes) (sym is)
+
+pub none_left : (takes : List Held) (i : ℕ) → length takes ≤ i → drop i takes ≡ []
+none_left takes i h = drop_all i takes h
+
+pub next_new : (h : Held) (left now : List Held) → AreNewTo now (h ∷ left) → find_version h.version now ≡ None
+next_new h left now new =
+    not_found h.version now
+    (let all = first_new h left now new in let both = count_of-append h.version left now in omega arith)
