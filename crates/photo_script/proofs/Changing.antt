@@ -13,11 +13,17 @@ use Rattle.photo_script.specs.Saying.{edit_line_said, remove_line_said, edition_
 use Rattle.photo_script.specs.declared.command.Command.TheVariants as command
 use Rattle.photo_script.specs.declared.reader.Reader.{Reader}
 
-pub edit_line-said : (before : Earlier) (name picture rating date words : List ℕ) (device number : ℕ) (r : Record) → before.commands < max_commands
+-- five fields are an edition
+pub edit_line-edition : (before : Earlier) (name picture rating date words : List ℕ)
+    → edit_line_said before (name ∷ picture ∷ rating ∷ date ∷ words ∷ []) ≡ command_said before (edition_said before name picture (record_said rating date words))
+unfolding edit_line_said
+edit_line-edition before name picture rating date words = refl
+
+pub edition-said : (before : Earlier) (name picture rating date words : List ℕ) (device number : ℕ) (r : Record) → before.commands < max_commands
     → Ok device ≡ device_said before name → Ok number ≡ picture_said picture → record_said rating date words ≡ Ok r
-    → edit_line_said before (name ∷ picture ∷ rating ∷ date ∷ words ∷ []) ≡ Ok (Some (command.Edit device number r))
-unfolding edit_line_said command_said edition_said
-edit_line-said before name picture rating date words device number r room known read said = rw (lt-leb max_commands before.commands room, ← known, ← read, said)
+    → command_said before (edition_said before name picture (record_said rating date words)) ≡ Ok (Some (command.Edit device number r))
+unfolding command_said edition_said
+edition-said before name picture rating date words device number r room known read said = rw (lt-leb max_commands before.commands room, ← known, ← read, said)
 
 pub remove_line-said : (before : Earlier) (name picture : List ℕ) (device number : ℕ) → before.commands < max_commands
     → Ok device ≡ device_said before name → Ok number ≡ picture_said picture

@@ -8,6 +8,7 @@ mod Gathered
 mod Joined
 mod Knowing
 pub mod Listing
+mod Moving
 mod Numbers
 mod OneAnswer
 mod Places

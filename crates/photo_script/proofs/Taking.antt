@@ -38,11 +38,17 @@ pub list_line-said : (before : Earlier) (name : List ℕ) (device : ℕ) → bef
 unfolding list_line_said command_said
 list_line-said before name device room known = rw (lt-leb max_commands before.commands room, ← known)
 
-pub new_line-said : (before : Earlier) (name picture rating date words : List ℕ) (device number : ℕ) (r : Record) → before.commands < max_commands
+-- five fields are a creation
+pub new_line-creation : (before : Earlier) (name picture rating date words : List ℕ)
+    → new_line_said before (name ∷ picture ∷ rating ∷ date ∷ words ∷ []) ≡ command_said before (creation_said before name picture (record_said rating date words))
+unfolding new_line_said
+new_line-creation before name picture rating date words = refl
+
+pub creation-said : (before : Earlier) (name picture rating date words : List ℕ) (device number : ℕ) (r : Record) → before.commands < max_commands
     → Ok device ≡ device_said before name → Ok number ≡ new_picture_said before picture → record_said rating date words ≡ Ok r
-    → new_line_said before (name ∷ picture ∷ rating ∷ date ∷ words ∷ []) ≡ Ok (Some (command.New device number r))
-unfolding new_line_said command_said creation_said
-new_line-said before name picture rating date words device number r room known fresh said = rw (lt-leb max_commands before.commands room, ← known, ← fresh, said)
+    → command_said before (creation_said before name picture (record_said rating date words)) ≡ Ok (Some (command.New device number r))
+unfolding command_said creation_said
+creation-said before name picture rating date words device number r room known fresh said = rw (lt-leb max_commands before.commands room, ← known, ← fresh, said)
 
 or_false : (b : Bool) → b ≡ (b || false)
 or_false true = refl

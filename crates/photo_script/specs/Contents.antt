@@ -1,5 +1,5 @@
 -- What a script has: its devices' names and filters in order of declaration, and its commands in order.
-use Rattle.std.specs.Prelude.{◌≡◌, ℕ, zero, suc, ◌<◌, ◌≤◌, List, length, Option, None, IfSome, slice_get}
+use Rattle.std.specs.Prelude.{◌≡◌, ◌≢◌, ℕ, zero, suc, ◌<◌, ◌≤◌, List, length, Option, Some, None, IfSome, slice_get}
 use Rattle.std.specs.List.{AllByRecursion}
 use Rattle.photo_filter_text.specs.Tree.{Tree}
 use Rattle.photo_script.specs.Limits.{max_devices, max_commands}
@@ -24,13 +24,16 @@ abbrev pub devices_of : Command → ℕ × Option ℕ
 devices_of (command.New device picture record_) = (device, None)
 devices_of (command.Edit device picture record_) = (device, None)
 devices_of (command.Remove device picture) = (device, None)
+devices_of (command.Pull target source) = (target, Some source)
+devices_of (command.Narrow device filter) = (device, None)
 devices_of (command.List device) = (device, None)
+devices_of (command.Conflicts device) = (device, None)
 devices_of (command.Knowledge device) = (device, None)
 devices_of (command.Knows device picture v) = (device, None)
 
--- the devices of a command are among the first so many
+-- the devices of a command are among the first so many, and its second is not its first
 abbrev pub IsWithin : ℕ → Command → Type 0
-IsWithin count x = ((devices_of x).0 < count) × IfSome (devices_of x).1 (λ second. second < count)
+IsWithin count x = ((devices_of x).0 < count) × IfSome (devices_of x).1 (λ second. (second < count) × (second ≢ (devices_of x).0))
 
 -- each command works on declared devices
 abbrev pub NamesDevices : Contents → Type 0

@@ -6,13 +6,14 @@ use Rattle.photo_filter_text.specs.declared.tree.Cmp.TheVariants.{AtLeast}
 use Rattle.photo_filter_text.specs.Tree.{All, Rate, Not, Keyword, Both}
 use Rattle.item_knowledge.specs.Entries as knowledge
 use Rattle.photo_device.specs.Entry.{Entry}
+use Rattle.photo_device.specs.declared.conflict.Conflict.{Conflict}
 use Rattle.photo_version.specs.Author.{author}
-use Rattle.photo_version.specs.Version.{version}
+use Rattle.photo_version.specs.Version.{Version, version}
 use Rattle.photo_device.specs.declared.place.Place.TheVariants as place
 use Rattle.photo_script.specs.Contents.{Contents, contents}
 use Rattle.photo_script.specs.Reading.{script_of}
 use Rattle.item_knowledge.specs.Fragments.{Fragment}
-use Rattle.photo_script.specs.Reports.{Made, NotHeld, Listed, KnowledgeOf, Knows, text_of}
+use Rattle.photo_script.specs.Reports.{Made, NotHeld, NotNarrower, Narrowed, Pulled, Listed, Conflicts, KnowledgeOf, Knows, text_of}
 use Rattle.photo_script.specs.declared.command.Command.{Command}
 use Rattle.photo_script.specs.declared.command.Command.TheVariants as command
 use Rattle.photo_script.specs.declared.fault.LineFault.TheVariants as fault
@@ -121,3 +122,36 @@ pub record KnownTexts : Type 0 where
       ≡ codes "5 knowledge b 3\n  * a:1\n  7,9 a:2 b:1\n  8 a:3\n"
   pub known : text_of (pair []) 8 (Knows true) ≡ codes "8 knows yes\n"
   pub unknown : text_of (pair []) 8 (Knows false) ≡ codes "8 knows no\n"
+
+-- a device pulls from another, and gets another filter, which is the text of its line from the third field on
+pub record Moves : Type 0 where
+  pub moved : script_of (codes "device a all\ndevice b all\npull a b\n narrow  b  rating >= 4 \nconflicts b")
+      ≡ Ok (pair (command.Pull 0 1 ∷ command.Narrow 1 (Rate AtLeast 4) ∷ command.Conflicts 1 ∷ []))
+  pub itself : script_of (codes "device a all\npull a a") ≡ Err (Line 2 fault.SameDevice)
+  pub target : script_of (codes "device a all\npull b a") ≡ Err (Line 2 fault.UnknownDevice)
+  pub source : script_of (codes "device a all\npull a b") ≡ Err (Line 2 fault.UnknownDevice)
+  pub neither : script_of (codes "device a all\npull b b") ≡ Err (Line 2 fault.UnknownDevice)
+  pub few : script_of (codes "device a all\npull a") ≡ Err (Line 2 fault.WrongFields)
+  pub many : script_of (codes "device a all\npull a a a") ≡ Err (Line 2 fault.WrongFields)
+  pub filter : script_of (codes "device a all\nnarrow a rating >= 6") ≡ Err (Line 2 fault.BadFilter)
+  pub device_first : script_of (codes "device a all\nnarrow b rating >= 6") ≡ Err (Line 2 fault.UnknownDevice)
+  pub no_filter : script_of (codes "device a all\nnarrow a") ≡ Err (Line 2 fault.WrongFields)
+  pub whose : script_of (codes "device a all\nconflicts b") ≡ Err (Line 2 fault.UnknownDevice)
+  pub none : script_of (codes "device a all\nconflicts") ≡ Err (Line 2 fault.WrongFields)
+  pub late : script_of (codes "device a all\nconflicts a\ndevice b all") ≡ Err (Line 3 fault.LateDevice)
+
+abbrev pub conflict : ℕ → List Version → Conflict
+conflict picture versions = record { picture = picture; versions = versions }
+
+-- what a pull moved, how many versions a narrower filter moved, a filter that isn't narrower, and conflicts
+pub record MovedTexts : Type 0 where
+  pub pulled : text_of (pair []) 5 (Pulled (record { taken = 1; handed = 0; notices = 0; dropped = 0; learned = true }))
+      ≡ codes "5 pulled taken 1 handed 0 notices 0 dropped 0 learned yes\n"
+  pub counted : text_of (pair []) 12 (Pulled (record { taken = 1; handed = 20; notices = 300; dropped = 4000; learned = false }))
+      ≡ codes "12 pulled taken 1 handed 20 notices 300 dropped 4000 learned no\n"
+  pub narrowed : text_of (pair []) 3 (Narrowed 2) ≡ codes "3 narrowed 2\n"
+  pub refused : text_of (pair []) 4 NotNarrower ≡ codes "4 refused C2 NotNarrower\n"
+  pub one : text_of (pair []) 6 (Conflicts 0 (conflict 7 (version (author 0) 2 ∷ version (author 1) 1 ∷ []) ∷ [])) ≡ codes "6 conflicts a 1\n  7 a:2 b:1\n"
+  pub two : text_of (pair []) 9 (Conflicts 1 (conflict 7 (version (author 0) 2 ∷ version (author 1) 1 ∷ []) ∷ conflict 12 (version (author 0) 1 ∷ version (author 0) 3 ∷ version (author 1) 5 ∷ []) ∷ []))
+      ≡ codes "9 conflicts b 2\n  7 a:2 b:1\n  12 a:1 a:3 b:5\n"
+  pub none : text_of (pair []) 6 (Conflicts 0 []) ≡ codes "6 conflicts a 0\n"

@@ -11,8 +11,10 @@ use Rattle.photo_version.specs.Author.{device_of_author, author_of_word}
 use Rattle.photo_version.specs.Version.{Version, Versions, version}
 use Rattle.item_knowledge.specs.Entries as knowledge
 use Rattle.item_knowledge.specs.Fragments.{Fragment, knows, is_normal}
+use Rattle.photo_device.specs.declared.conflict.Conflict.{Conflict}
 use Rattle.photo_device.specs.declared.place.Place.{Place}
 use Rattle.photo_device.specs.declared.place.Place.TheVariants as place
+use Rattle.photo_pull.specs.declared.counts.PullCounts.{PullCounts}
 use Rattle.photo_script.specs.Contents.{Contents}
 use Rattle.photo_script.specs.declared.report.Report.{Report}
 use Rattle.photo_script.specs.declared.report.Report.TheVariants as report
@@ -21,7 +23,11 @@ use Rattle.photo_script.specs.declared.report.Report.TheVariants as report
 pub data Answer : Type 0 where
   Made : Version → Place → Answer
   NotHeld : Answer
+  NotNarrower : Answer
+  Narrowed : ℕ → Answer
+  Pulled : PullCounts → Answer
   Listed : ℕ → List Entry → List Entry → Answer
+  Conflicts : ℕ → List Conflict → Answer
   KnowledgeOf : ℕ → List Fragment → Answer
   Knows : Bool → Answer
 
@@ -29,7 +35,11 @@ pub data Answer : Type 0 where
 abbrev pub answer_of : Report → Answer
 answer_of (report.Made v p) = Made v p
 answer_of report.NotHeld = NotHeld
+answer_of report.NotNarrower = NotNarrower
+answer_of (report.Narrowed count) = Narrowed count
+answer_of (report.Pulled counts) = Pulled counts
 answer_of (report.Listed n store out) = Listed n (entries_of store) (entries_of out)
+answer_of (report.Conflicts n pictures) = Conflicts n pictures
 answer_of (report.KnowledgeOf n knowledge) = KnowledgeOf n knowledge
 answer_of (report.Knows known) = Knows known
 
@@ -61,11 +71,22 @@ AreOfScript script entries = AllByRecursion (λ e. IsOfScript script e.version) 
 abbrev pub IsFragmentOfScript : Contents → Fragment → Type 0
 IsFragmentOfScript script f = AllByRecursion (λ e. device_of_author (author_of_word e.0) < length script.names) f.entries
 
+-- so is the author of each version of a conflict
+abbrev pub IsConflictOfScript : Contents → Conflict → Type 0
+IsConflictOfScript script c = AllByRecursion (IsOfScript script) c.versions
+
+abbrev pub AreConflictsOfScript : Contents → List Conflict → Type 0
+AreConflictsOfScript script pictures = AllByRecursion (IsConflictOfScript script) pictures
+
 -- each author and each device of the answer is a device of the script
 abbrev pub IsAbout : Contents → Answer → Type 0
 IsAbout script (Made v p) = IsOfScript script v
 IsAbout script NotHeld = Unit {0}
+IsAbout script NotNarrower = Unit {0}
+IsAbout script (Narrowed count) = Unit {0}
+IsAbout script (Pulled counts) = Unit {0}
 IsAbout script (Listed n store out) = (n < length script.names) × AreOfScript script store × AreOfScript script out
+IsAbout script (Conflicts n pictures) = (n < length script.names) × AreConflictsOfScript script pictures
 IsAbout script (KnowledgeOf n fragments) = (n < length script.names) × AllByRecursion (IsFragmentOfScript script) fragments
 IsAbout script (Knows known) = Unit {0}
 
@@ -160,11 +181,46 @@ yes_or_no known = if known then codes "yes" else codes "no"
 abbrev pub knows_text : ℕ → Bool → List ℕ
 knows_text number known = decimal number ++ codes " knows " ++ yes_or_no known ++ codes "\n"
 
+abbrev pub not_narrower_text : ℕ → List ℕ
+not_narrower_text number = decimal number ++ codes " refused C2 NotNarrower\n"
+
+-- how many versions went to the out
+abbrev pub narrowed_text : ℕ → ℕ → List ℕ
+narrowed_text number count = decimal number ++ codes " narrowed " ++ decimal count ++ codes "\n"
+
+-- what a pull moved and told
+abbrev pub pulled_text : ℕ → PullCounts → List ℕ
+pulled_text number counts =
+    decimal number ++ codes " pulled taken " ++ decimal counts.taken ++ codes " handed " ++ decimal counts.handed
+    ++ codes " notices " ++ decimal counts.notices ++ codes " dropped " ++ decimal counts.dropped
+    ++ codes " learned " ++ yes_or_no counts.learned ++ codes "\n"
+
+-- versions, each with a space in front
+abbrev pub versions_text : Contents → List Version → List ℕ
+versions_text script versions = flat_map (λ v. codes " " ++ version_text script v) versions
+
+-- the line of a picture of which two or more versions are held
+abbrev pub conflict_text : Contents → Conflict → List ℕ
+conflict_text script c = codes "  " ++ decimal c.picture ++ versions_text script c.versions ++ codes "\n"
+
+-- the first line of conflicts: how many pictures follow
+abbrev pub conflicts_heading_text : Contents → ℕ → ℕ → ℕ → List ℕ
+conflicts_heading_text script number device count =
+    decimal number ++ codes " conflicts " ++ name_of script device ++ codes " " ++ decimal count ++ codes "\n"
+
+abbrev pub conflicts_text : Contents → ℕ → ℕ → List Conflict → List ℕ
+conflicts_text script number device pictures =
+    conflicts_heading_text script number device (length pictures) ++ flat_map (conflict_text script) pictures
+
 -- the text of an answer to the command of that number
 unfoldable pub text_of : Contents → ℕ → Answer → List ℕ
 text_of script number (Made v where_) = made_text script number v where_
 text_of script number NotHeld = not_held_text number
+text_of script number NotNarrower = not_narrower_text number
+text_of script number (Narrowed count) = narrowed_text number count
+text_of script number (Pulled counts) = pulled_text number counts
 text_of script number (Listed n store out) = listed_text script number n store out
+text_of script number (Conflicts n pictures) = conflicts_text script number n pictures
 text_of script number (KnowledgeOf n fragments) = knowledge_text script number n fragments
 text_of script number (Knows known) = knows_text number known
 

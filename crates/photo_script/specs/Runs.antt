@@ -1,15 +1,19 @@
 -- What commands do to devices, and what a run of them gives.
-use Rattle.std.specs.Prelude.{ℕ, zero, suc, ◌+◌, ◌-◌, List, [], ◌∷◌, ◌++◌, length, replicate, slice_index_or, slice_set, fold, if◌then◌else◌, Option, Some, None}
+use Rattle.std.specs.Prelude.{ℕ, zero, suc, ◌+◌, ◌-◌, false, List, [], ◌∷◌, ◌++◌, length, replicate, slice_index_or, slice_set, fold, if◌then◌else◌, Option, Some, None}
 use Rattle.std.specs.List.{flat_map}
 use Rattle.std.specs.Option.{option_map, option_to_list}
 use Rattle.photo_record.specs.declared.record.Record.{Record}
 use Rattle.photo_record.specs.declared.record.Record.TheVariants.{Removed}
 use Rattle.photo_filter_text.specs.Tree.{Tree, All}
+use Rattle.photo_filter_rules.specs.Covers.{covers}
 use Rattle.photo_version.specs.Author.{author}
 use Rattle.photo_device.specs.Entry.{Entry}
-use Rattle.photo_device.specs.Device.{ModelDevice, known, opening, made, new_entry, next_version, new_place, is_held}
+use Rattle.photo_device.specs.Device.{ModelDevice, known, opening, made, new_entry, next_version, new_place, is_held, narrowed, moved}
+use Rattle.photo_device.specs.Conflicts.{conflicts_of}
+use Rattle.photo_pull.specs.Pull.{pulled, handed_over, counts_of}
+use Rattle.photo_pull.specs.declared.counts.PullCounts.{PullCounts}
 use Rattle.photo_script.specs.Contents.{Contents, command_of, devices_of}
-use Rattle.photo_script.specs.Reports.{Made, NotHeld, Listed, Knows, ModelReport, Exactly, KnowledgeIs}
+use Rattle.photo_script.specs.Reports.{Made, NotHeld, NotNarrower, Narrowed, Pulled, Listed, Conflicts, Knows, ModelReport, Exactly, KnowledgeIs}
 use Rattle.photo_script.specs.declared.command.Command.{Command}
 use Rattle.photo_script.specs.declared.command.Command.TheVariants as command
 
@@ -37,11 +41,38 @@ telling d other report = record { first = d; second = other; report = report; en
 abbrev pub changing : ModelDevice → Option ModelDevice → ℕ → Record → Effect
 changing d other picture content = if is_held d picture then making d other picture content else telling d other (Exactly NotHeld)
 
+-- a pull that moves and tells nothing
+abbrev pub nothing_moved : PullCounts
+nothing_moved = record { taken = 0; handed = 0; notices = 0; dropped = 0; learned = false }
+
+-- the first device takes and learns from the second. A pull always has a second
+abbrev pub pulling : ModelDevice → Option ModelDevice → Effect
+pulling d None = telling d None (Exactly (Pulled nothing_moved))
+pulling d (Some s) = record {
+  first = pulled d s;
+  second = Some (handed_over d s);
+  report = Exactly (Pulled (counts_of d s));
+  entries = [];
+}
+
+-- the first device gets another tree where its own covers that one, and nothing happens where it doesn't
+abbrev pub narrowing : ModelDevice → Option ModelDevice → Tree → Effect
+narrowing d other tree =
+    if covers d.tree tree then record {
+      first = narrowed tree d;
+      second = other;
+      report = Exactly (Narrowed (moved tree d));
+      entries = [];
+    } else telling d other (Exactly NotNarrower)
+
 abbrev pub effect : Command → ModelDevice → Option ModelDevice → Effect
 effect (command.New n picture content) d other = making d other picture content
 effect (command.Edit n picture content) d other = changing d other picture content
 effect (command.Remove n picture) d other = changing d other picture Removed
+effect (command.Pull target source) d other = pulling d other
+effect (command.Narrow n tree) d other = narrowing d other tree
 effect (command.List n) d other = telling d other (Exactly (Listed n d.store d.out))
+effect (command.Conflicts n) d other = telling d other (Exactly (Conflicts n (conflicts_of d)))
 effect (command.Knowledge n) d other = telling d other (KnowledgeIs n (known d))
 effect (command.Knows n picture v) d other = telling d other (Exactly (Knows (known d picture v)))
 

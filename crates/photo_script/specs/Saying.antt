@@ -1,5 +1,5 @@
 -- What a line says, by the lines before it: a command, or nothing that runs, or its first fault.
-use Rattle.std.specs.Prelude.{ℕ, not, nat_le, nat_lt, if◌then◌else◌, List, [], ◌∷◌, length, Option, Some, None, is_some, Result, Ok, Err, codes}
+use Rattle.std.specs.Prelude.{ℕ, not, nat_le, nat_lt, ◌==◌, if◌then◌else◌, List, [], ◌∷◌, length, Option, Some, None, is_some, Result, Ok, Err, codes}
 use Rattle.photo_record.specs.Reading.{rating_of_text, day_of_text, words_of_text}
 use Rattle.photo_record.specs.declared.record.Record.{Record}
 use Rattle.photo_record.specs.declared.record.Record.TheVariants as content
@@ -113,10 +113,39 @@ unfoldable pub remove_line_said : Earlier → List (List ℕ) → Result (Option
 remove_line_said before (name ∷ picture ∷ []) = command_said before (removal_said before name picture)
 remove_line_said before arguments = Err fault.WrongFields
 
+-- two devices, which are not one
+unfoldable pub pulling_said : Earlier → List ℕ → List ℕ → Result Command LineFault
+pulling_said before target source = do
+  first ← device_said before target
+  second ← device_said before source
+  if first == second then Err fault.SameDevice else Ok (command.Pull first second)
+
+-- `pull TARGET SOURCE`
+unfoldable pub pull_line_said : Earlier → List (List ℕ) → Result (Option Command) LineFault
+pull_line_said before (target ∷ source ∷ []) = command_said before (pulling_said before target source)
+pull_line_said before arguments = Err fault.WrongFields
+
+unfoldable pub narrowing_said : Earlier → List ℕ → List ℕ → Result Command LineFault
+narrowing_said before name filter = do
+  device ← device_said before name
+  tree ← filter_said filter
+  Ok (command.Narrow device tree)
+
+-- `narrow DEV FILTER`: what stands behind the first field, and the text of FILTER
+unfoldable pub narrow_line_said : Earlier → List (List ℕ) → List ℕ → Result (Option Command) LineFault
+narrow_line_said before [] filter = Err fault.WrongFields
+narrow_line_said before (name ∷ []) filter = Err fault.WrongFields
+narrow_line_said before (name ∷ first ∷ more) filter = command_said before (narrowing_said before name filter)
+
 -- `list DEV`
 unfoldable pub list_line_said : Earlier → List (List ℕ) → Result (Option Command) LineFault
 list_line_said before (name ∷ []) = command_said before (device_said before name >>= λ device. Ok (command.List device))
 list_line_said before arguments = Err fault.WrongFields
+
+-- `conflicts DEV`
+unfoldable pub conflicts_line_said : Earlier → List (List ℕ) → Result (Option Command) LineFault
+conflicts_line_said before (name ∷ []) = command_said before (device_said before name >>= λ device. Ok (command.Conflicts device))
+conflicts_line_said before arguments = Err fault.WrongFields
 
 -- `NAME:N`, cut at its first colon: a version of a declared device, also one that is never made
 unfoldable pub version_said : Earlier → List ℕ → Result Version LineFault
@@ -143,19 +172,32 @@ unfoldable pub knows_line_said : Earlier → List (List ℕ) → Result (Option 
 knows_line_said before (name ∷ picture ∷ text ∷ []) = command_said before (question_said before name picture text)
 knows_line_said before arguments = Err fault.WrongFields
 
+-- a line that asks for a report, by its first field and the others
+unfoldable pub question_line_said : Earlier → List ℕ → List (List ℕ) → Result (Option Command) LineFault
+question_line_said before word arguments =
+    if is_word word (codes "list") then list_line_said before arguments
+    else (if is_word word (codes "conflicts") then conflicts_line_said before arguments
+    else (if is_word word (codes "knowledge") then knowledge_line_said before arguments
+    else (if is_word word (codes "knows") then knows_line_said before arguments
+    else Err fault.UnknownCommand)))
+
+-- a command by the first field of its line, the others and the text from the third on
+unfoldable pub command_line_said : Earlier → List ℕ → List (List ℕ) → List ℕ → Result (Option Command) LineFault
+command_line_said before word arguments filter =
+    if is_word word (codes "new") then new_line_said before arguments
+    else (if is_word word (codes "edit") then edit_line_said before arguments
+    else (if is_word word (codes "remove") then remove_line_said before arguments
+    else (if is_word word (codes "pull") then pull_line_said before arguments
+    else (if is_word word (codes "narrow") then narrow_line_said before arguments filter
+    else question_line_said before word arguments))))
+
 -- a line of these fields, and its text from the third on: empty lines and comments say nothing
 unfoldable pub fields_said : Earlier → List (List ℕ) → List ℕ → Result (Option Command) LineFault
 fields_said before [] filter = Ok None
 fields_said before (word ∷ arguments) filter =
     if is_comment word then Ok None
     else (if is_word word (codes "device") then device_line_said before arguments filter
-    else (if is_word word (codes "new") then new_line_said before arguments
-    else (if is_word word (codes "edit") then edit_line_said before arguments
-    else (if is_word word (codes "remove") then remove_line_said before arguments
-    else (if is_word word (codes "list") then list_line_said before arguments
-    else (if is_word word (codes "knowledge") then knowledge_line_said before arguments
-    else (if is_word word (codes "knows") then knows_line_said before arguments
-    else Err fault.UnknownCommand)))))))
+    else command_line_said before word arguments filter)
 
 unfoldable pub said : Earlier → List ℕ → Result (Option Command) LineFault
 said before line = if nat_lt max_line_bytes (length line) then Err fault.LineTooLong else fields_said before (fields_of line) (third_field_on line)

@@ -3,11 +3,12 @@ ghost use Rattle.std.specs.Option.{option_map};
 ghost use Rattle.photo_version.specs.Author.{author};
 ghost use Rattle.photo_script.specs.Contents.{devices_of};
 
+use photo_filter_rules::Filter;
 use photo_record::{PicNo, Record};
 use photo_version::{Author, Version};
 
 /// A command of a script. Devices are given by their places in order of declaration, from 0.
-#[derive(Debug, PartialEq, Eq, Drop)]
+#[derive(Debug, Drop)]
 pub enum Command {
     /// `new`: the device makes the first version of a picture.
     New {
@@ -26,8 +27,22 @@ pub enum Command {
         device: u16,
         picture: PicNo,
     },
+    /// `pull`: the target takes and learns from the source, which is another device.
+    Pull {
+        target: u16,
+        source: u16,
+    },
+    /// `narrow`: the device gets another filter, if its own covers that one.
+    Narrow {
+        device: u16,
+        filter: Filter,
+    },
     /// `list`: a report on all that the device holds.
     List {
+        device: u16,
+    },
+    /// `conflicts`: a report on the pictures of which the device holds two or more versions.
+    Conflicts {
         device: u16,
     },
     /// `knowledge`: a report on all that the device knows.
@@ -51,8 +66,11 @@ pub fn devices_of(command: &Command) -> (Author, Option<Author>)
         Command::New { device, .. }
         | Command::Edit { device, .. }
         | Command::Remove { device, .. }
+        | Command::Narrow { device, .. }
         | Command::List { device }
+        | Command::Conflicts { device }
         | Command::Knowledge { device }
         | Command::Knows { device, .. } => (Author::new(*device), None),
+        Command::Pull { target, source } => (Author::new(*target), Some(Author::new(*source))),
     }
 }

@@ -66,4 +66,7 @@ pub enum LineFault {
     /// There are over 64 devices or over 100,000 commands.
     #[error("F17 TooMany")]
     TooMany,
+    /// A device is to pull from itself.
+    #[error("F19 SameDevice")]
+    SameDevice,
 }

@@ -3,12 +3,14 @@
 #![tactic(auto)]
 
 mod command;
+mod conflict_report;
 mod fault;
 mod field;
 mod known_report;
 pub mod laws;
 mod limits;
 mod names;
+mod pull_report;
 mod reader;
 mod refusal;
 mod report;

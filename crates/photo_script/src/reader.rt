@@ -3,7 +3,7 @@ ghost use Rattle.photo_script.specs.Lines.{fields_of, lines_of, third_field_on};
 ghost use Rattle.photo_script.specs.Limits.{max_text_bytes, max_line_bytes};
 ghost use Rattle.std.specs.Str.Lines.{strip_carriage_return};
 ghost use Rattle.photo_script.specs.Steps.{Gives};
-ghost use Rattle.photo_script.specs.Saying.{device_said, new_picture_said, record_said, device_line_said, declaration_said, new_line_said, picture_said, edit_line_said, remove_line_said, list_line_said, knowledge_line_said, knows_line_said, version_said, fields_said, said};
+ghost use Rattle.photo_script.specs.Saying.{device_said, new_picture_said, record_said, device_line_said, declaration_said, new_line_said, picture_said, command_said, creation_said, edition_said, edit_line_said, remove_line_said, pull_line_said, narrow_line_said, narrowing_said, list_line_said, conflicts_line_said, knowledge_line_said, knows_line_said, version_said, question_line_said, command_line_said, fields_said, said};
 ghost use Rattle.photo_script.specs.Reading.{script_of, script_of_lines, MayWantMemory};
 ghost use Rattle.photo_script.specs.declared.fault.ScriptFault.TheVariants.{NoMemory, Read};
 
@@ -105,12 +105,33 @@ impl Reader {
         if word.starts_with('#') {
             return Ok(());
         }
-        match *word {
-            "device" => self.read_device(arguments, third_field_on(line)),
+        if *word == "device" {
+            return self.read_device(arguments, third_field_on(line));
+        }
+        self.read_command(line, word, arguments)
+    }
+
+    #[tactic(auto, unfolding(crate::specs::Saying::command_line_said))]
+    fn read_command(&mut self, line: &str, word: &str, arguments: &[&str]) -> Result<(), Refusal>
+        ensures { Reads self.old (word.now ∷ texts arguments.now) (third_field_on line.now) (command_line_said (seen self.old) word.now (texts arguments.now) (third_field_on line.now)) result self.new }
+    {
+        match word {
             "new" => self.read_new(arguments),
             "edit" => self.read_edit(arguments),
             "remove" => self.read_remove(arguments),
+            "pull" => self.read_pull(arguments),
+            "narrow" => self.read_narrow(arguments, third_field_on(line)),
+            _ => self.read_question(word, arguments),
+        }
+    }
+
+    #[tactic(auto, unfolding(crate::specs::Saying::question_line_said))]
+    fn read_question(&mut self, word: &str, arguments: &[&str]) -> Result<(), Refusal>
+        ensures { (filter : List ℕ) → Reads self.old (word.now ∷ texts arguments.now) filter (question_line_said (seen self.old) word.now (texts arguments.now)) result self.new }
+    {
+        match word {
             "list" => self.read_list(arguments),
+            "conflicts" => self.read_conflicts(arguments),
             "knowledge" => self.read_knowledge(arguments),
             "knows" => self.read_knows(arguments),
             _ => Err(Refusal::Fault(LineFault::UnknownCommand)),
@@ -153,13 +174,27 @@ impl Reader {
     }
 
     // `new DEV PIC RATING DATE WORDS`
-    #[tactic(auto, unfolding(crate::specs::Saying::new_line_said, crate::specs::Saying::command_said, crate::specs::Saying::creation_said))]
+    #[tactic(auto, unfolding(crate::specs::Saying::new_line_said))]
     fn read_new(&mut self, arguments: &[&str]) -> Result<(), Refusal>
         ensures { Reads self.old (codes "new" ∷ texts arguments.now) [] (new_line_said (seen self.old) (texts arguments.now)) result self.new }
     {
         let [name, picture, rating, date, words] = arguments else {
             return Err(Refusal::Fault(LineFault::WrongFields));
         };
+        self.create(name, picture, rating, date, words)
+    }
+
+    #[tactic(auto, unfolding(crate::specs::Saying::command_said, crate::specs::Saying::creation_said))]
+    fn create(
+        &mut self,
+        name: &str,
+        picture: &str,
+        rating: &str,
+        date: &str,
+        words: &str,
+    ) -> Result<(), Refusal>
+        ensures { Reads self.old (codes "new" ∷ name.now ∷ picture.now ∷ rating.now ∷ date.now ∷ words.now ∷ []) [] (command_said (seen self.old) (creation_said (seen self.old) name.now picture.now (record_said rating.now date.now words.now))) result self.new }
+    {
         if self.script.commands() >= MAX_COMMANDS {
             return Err(Refusal::Fault(LineFault::TooMany));
         }
@@ -175,13 +210,27 @@ impl Reader {
     }
 
     // `edit DEV PIC RATING DATE WORDS`
-    #[tactic(auto, unfolding(crate::specs::Saying::edit_line_said, crate::specs::Saying::command_said, crate::specs::Saying::edition_said))]
+    #[tactic(auto, unfolding(crate::specs::Saying::edit_line_said))]
     fn read_edit(&mut self, arguments: &[&str]) -> Result<(), Refusal>
         ensures { Reads self.old (codes "edit" ∷ texts arguments.now) [] (edit_line_said (seen self.old) (texts arguments.now)) result self.new }
     {
         let [name, picture, rating, date, words] = arguments else {
             return Err(Refusal::Fault(LineFault::WrongFields));
         };
+        self.edit(name, picture, rating, date, words)
+    }
+
+    #[tactic(auto, unfolding(crate::specs::Saying::command_said, crate::specs::Saying::edition_said))]
+    fn edit(
+        &mut self,
+        name: &str,
+        picture: &str,
+        rating: &str,
+        date: &str,
+        words: &str,
+    ) -> Result<(), Refusal>
+        ensures { Reads self.old (codes "edit" ∷ name.now ∷ picture.now ∷ rating.now ∷ date.now ∷ words.now ∷ []) [] (command_said (seen self.old) (edition_said (seen self.old) name.now picture.now (record_said rating.now date.now words.now))) result self.new }
+    {
         if self.script.commands() >= MAX_COMMANDS {
             return Err(Refusal::Fault(LineFault::TooMany));
         }
@@ -213,6 +262,53 @@ impl Reader {
         Ok(())
     }
 
+    // `pull TARGET SOURCE`
+    #[tactic(auto, unfolding(crate::specs::Saying::pull_line_said, crate::specs::Saying::command_said, crate::specs::Saying::pulling_said))]
+    fn read_pull(&mut self, arguments: &[&str]) -> Result<(), Refusal>
+        ensures { Reads self.old (codes "pull" ∷ texts arguments.now) [] (pull_line_said (seen self.old) (texts arguments.now)) result self.new }
+    {
+        let [target, source] = arguments else {
+            return Err(Refusal::Fault(LineFault::WrongFields));
+        };
+        if self.script.commands() >= MAX_COMMANDS {
+            return Err(Refusal::Fault(LineFault::TooMany));
+        }
+        let target = self.device(target)?;
+        let source = self.device(source)?;
+        if target == source {
+            return Err(Refusal::Fault(LineFault::SameDevice));
+        }
+        self.script.push(Command::Pull { target, source })?;
+        Ok(())
+    }
+
+    // `narrow DEV FILTER`
+    #[tactic(auto, unfolding(crate::specs::Saying::narrow_line_said))]
+    fn read_narrow(&mut self, arguments: &[&str], filter: &str) -> Result<(), Refusal>
+        ensures { Reads self.old (codes "narrow" ∷ texts arguments.now) filter.now (narrow_line_said (seen self.old) (texts arguments.now) filter.now) result self.new }
+    {
+        let Some((name, others)) = arguments.split_first() else {
+            return Err(Refusal::Fault(LineFault::WrongFields));
+        };
+        if others.is_empty() {
+            return Err(Refusal::Fault(LineFault::WrongFields));
+        }
+        self.narrow(name, filter)
+    }
+
+    #[tactic(auto, unfolding(crate::specs::Saying::command_said, crate::specs::Saying::narrowing_said))]
+    fn narrow(&mut self, name: &str, filter: &str) -> Result<(), Refusal>
+        ensures { (more : List (List ℕ)) → Reads self.old (codes "narrow" ∷ name.now ∷ more) filter.now (command_said (seen self.old) (narrowing_said (seen self.old) name.now filter.now)) result self.new }
+    {
+        if self.script.commands() >= MAX_COMMANDS {
+            return Err(Refusal::Fault(LineFault::TooMany));
+        }
+        let device = self.device(name)?;
+        let filter = filter_of(self.alloc, filter)?;
+        self.script.push(Command::Narrow { device, filter })?;
+        Ok(())
+    }
+
     // `list DEV`
     #[tactic(auto, unfolding(crate::specs::Saying::list_line_said, crate::specs::Saying::command_said))]
     fn read_list(&mut self, arguments: &[&str]) -> Result<(), Refusal>
@@ -226,6 +322,22 @@ impl Reader {
         }
         let device = self.device(name)?;
         self.script.push(Command::List { device })?;
+        Ok(())
+    }
+
+    // `conflicts DEV`
+    #[tactic(auto, unfolding(crate::specs::Saying::conflicts_line_said, crate::specs::Saying::command_said))]
+    fn read_conflicts(&mut self, arguments: &[&str]) -> Result<(), Refusal>
+        ensures { Reads self.old (codes "conflicts" ∷ texts arguments.now) [] (conflicts_line_said (seen self.old) (texts arguments.now)) result self.new }
+    {
+        let [name] = arguments else {
+            return Err(Refusal::Fault(LineFault::WrongFields));
+        };
+        if self.script.commands() >= MAX_COMMANDS {
+            return Err(Refusal::Fault(LineFault::TooMany));
+        }
+        let device = self.device(name)?;
+        self.script.push(Command::Conflicts { device })?;
         Ok(())
     }
 

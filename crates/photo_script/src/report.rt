@@ -1,10 +1,13 @@
 ghost use Rattle.std.specs.Prelude.{◌≡◌, ◌<◌, ◌++◌, length, string_bytes, IfOk, OnOk};
 
 use crate::Script;
+use crate::conflict_report::push_conflicts;
 use crate::known_report::push_knowledge;
+use crate::pull_report::{push_narrowed, push_not_narrower, push_pulled};
 use item_knowledge::Knowledge;
 use itoa::Buffer;
-use photo_device::{Held, HeldList, Place};
+use photo_device::{ConflictList, Held, HeldList, Place};
+use photo_pull::PullCounts;
 use photo_record::{Day, Record, Words};
 use photo_version::{Author, Version};
 use std::alloc::{AllocError, Global};
@@ -19,11 +22,23 @@ pub enum Report {
     },
     /// The command was refused, since nothing of its picture is held.
     NotHeld,
+    /// The command was refused, since the device's filter doesn't cover the one that it was to get.
+    NotNarrower,
+    /// A device got another filter, and so many versions went from its store to its out.
+    Narrowed(u64),
+    /// A device took and learned from another.
+    Pulled(PullCounts),
     /// What a device holds, in order. The device is given by its place in order of declaration, from 0.
     Listed {
         device: u16,
         store: HeldList,
         out: HeldList,
+    },
+    /// The pictures of which a device holds two or more versions, in order. The device is given by its place in order of
+    /// declaration, from 0.
+    Conflicts {
+        device: u16,
+        pictures: ConflictList,
     },
     /// What a device knows. The device is given by its place in order of declaration, from 0.
     KnowledgeOf {
@@ -41,7 +56,7 @@ ghost use Rattle.photo_version.specs.Version.{version};
 ghost use Rattle.photo_script.specs.Reports.{IsAbout, IsOfScript, AreOfScript, answer_of, text_of, version_text, place_text, padded_decimal, day_text, words_text, record_text, entry_text, entries_text, made_text, not_held_text, heading_text, listed_text, yes_or_no, knows_text};
 
 /// The text of a report on the command of that number: a line, and for a list a line more for each held version, and
-/// for what a device knows one for each fragment.
+/// for what a device knows one for each fragment, for conflicts one for each picture.
 /// Each line ends with LF. Its only error is want of memory.
 pub fn report_text(
     alloc: Global,
@@ -72,8 +87,14 @@ pub fn push_report(
     match report {
         Report::Made { version, place } => push_made(text, script, number, *version, *place)?,
         Report::NotHeld => push_not_held(text, number)?,
+        Report::NotNarrower => push_not_narrower(text, number)?,
+        Report::Narrowed(moved) => push_narrowed(text, number, *moved)?,
+        Report::Pulled(counts) => push_pulled(text, number, counts)?,
         Report::Listed { device, store, out } => {
             push_listed(text, script, number, *device, store, out)?
+        }
+        Report::Conflicts { device, pictures } => {
+            push_conflicts(text, script, number, *device, pictures)?
         }
         Report::KnowledgeOf { device, knowledge } => {
             push_knowledge(text, script, number, *device, knowledge)?
@@ -188,7 +209,11 @@ fn push_held(
     Ok(())
 }
 
-fn push_version(text: &mut String, script: &Script, version: Version) -> Result<(), AllocError>
+pub(crate) fn push_version(
+    text: &mut String,
+    script: &Script,
+    version: Version,
+) -> Result<(), AllocError>
     requires { IsOfScript script.now version }
     ensures { OnOk result (string_bytes text.new ≡ string_bytes text.old ++ version_text script.now version) }
 {
@@ -252,7 +277,7 @@ fn push_padded(text: &mut String, width: usize, number: u32) -> Result<(), Alloc
     Ok(())
 }
 
-fn push_decimal(text: &mut String, number: u32) -> Result<(), AllocError>
+pub(crate) fn push_decimal(text: &mut String, number: u32) -> Result<(), AllocError>
     ensures { OnOk result (string_bytes text.new ≡ string_bytes text.old ++ decimal number) }
 {
     let mut buffer = Buffer::new();
@@ -284,7 +309,7 @@ fn place_word(place: Place) -> &'static str
     }
 }
 
-fn yes_or_no(known: bool) -> &'static str
+pub(crate) fn yes_or_no(known: bool) -> &'static str
     ensures { result.now ≡ yes_or_no known }
 {
     if known { "yes" } else { "no" }

@@ -3,6 +3,7 @@ ghost use Rattle.photo_version.specs.Author.{author};
 ghost use Rattle.photo_script.specs.Reports.{IsAbout, answer_of};
 
 mod knowing;
+mod moving;
 
 use super::*;
 use photo_device::{Held, HeldList, Place};
@@ -472,7 +473,7 @@ fn makes_and_lists(script: &Script) -> bool {
     }
     script.name(0) == "cam"
         && matches!(script.command(1), Command::New { device: 0, .. })
-        && *script.command(2) == (Command::List { device: 0 })
+        && matches!(script.command(2), Command::List { device: 0 })
 }
 
 fn is_first_script(alloc: Global) -> bool {

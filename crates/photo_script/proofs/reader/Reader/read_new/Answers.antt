@@ -1,18 +1,10 @@
-use Rattle.std.proofs.Common.{Some, sym, arith}
+use Rattle.std.proofs.Common.{arith}
 use Rattle.photo_script.specs.Steps.{seen}
-use Rattle.photo_script.specs.declared.command.Command.TheVariants as command
 use Rattle.photo_script.proofs.Arguments.{field, texts-five}
-use Rattle.photo_script.proofs.Taking.{new_line-said, takes_new}
+use Rattle.photo_script.proofs.Taking.{new_line-creation}
 use Rattle.photo_script.proofs.reader.Reader.read_new.Goals as goal
 
 pub returns : goal.returns
 returns c =
-    let old = c.args.self.now in
     let at = field c.args.arguments.now in
-    let device = c.in_ok-device.device in
-    let number = c.in_ok-picture.picture in
-    let fresh = sym c.in_ok-picture.ensures.said in
-    let script = rw c.in_ok-picture.ensures.script at c.in_ok-push.ensures.ok in
-    let said = new_line-said (seen old) (at 0) (at 1) (at 2) (at 3) (at 4) device number c.in_ok-record.record (omega arith) c.in_ok-device.ensures.said fresh c.in_ok-record.ensures in
-    let taken = takes_new old _ (at 0) (at 1) (at 2) (at 3) (at 4) device number c.in_ok-record.record fresh script c.in_ok-picture.ensures.made in
-    rw (texts-five c.args.arguments.now (omega arith)) (Some (command.New device number c.in_ok-record.record), said, taken)
+    rw (texts-five c.args.arguments.now (omega arith), new_line-creation (seen c.args.self.now) (at 0) (at 1) (at 2) (at 3) (at 4)) c.create.ensures
