@@ -11,7 +11,6 @@ use Rattle.photo_script.specs.declared.report.Report.{Report}
 use Rattle.photo_script.specs.Reports.{Answer, Made, NotHeld, Tells, answer_of}
 use Rattle.photo_script.specs.Runs.{changing}
 use Rattle.photofleet.specs.Changes.{told_of}
-use Rattle.photofleet.proofs.Shown.{model_of, shows_model}
 
 -- what a device promises of a change
 pub record IsChanged (done : Result (Version × Place) ChangeFault) (old new : Kept) (p : ℕ) (content : Record) : Type 0 where
@@ -63,14 +62,6 @@ pub change_report : {E : Type 0} (r : Result Report E) (done : Result (Version �
     → IfOk r (λ report. (m : ModelDevice) → Shows old m → Tells (answer_of report) (changing m None p content).report)
 change_report (Ok report) done old new p content shows version place held not_held err told = tells_change done old new p content (record { shows = shows; version = version; place = place; held = held; not_held = not_held; err = err }) (answer_of report) told
 change_report (Err e) done old new p content shows version place held not_held err told = tt
-
-pub change_counter : {E : Type 0} (r : Result Report E) (done : Result (Version × Place) ChangeFault) (old new : Kept) (p : ℕ) (content : Record)
-    → IfOk done (λ answer. (m : ModelDevice) → Shows old m → Shows new (made m p content))
-    → OnErr done (new ≡ old)
-    → OnOk r (new.counter ≤ old.counter + 1)
-change_counter (Ok report) (Ok made') old new p content shows err = let one = (shows (model_of old) (shows_model old)).counter in omega arith
-change_counter (Ok report) (Err e) old new p content shows err = let same = ap (λ (d : Kept). d.counter) err in omega arith
-change_counter (Err e) done old new p content shows err = tt
 
 pub change_err : {E : Type 0} (r : Result Report E) (done : Result (Version × Place) ChangeFault) (old new : Kept)
     → OnErr done (new ≡ old) → OnErr r (done ≡ Err change.NoMemory) → OnErr r (new ≡ old)

@@ -1,31 +1,14 @@
 -- Devices of the program and the model devices that they show.
-use Rattle.std.proofs.Common.{◌≡◌, ℕ, ◌+◌, ◌<◌, ◌≤◌, zero, suc, false, List, [], ◌∷◌, ◌++◌, length, get_or, take, refl, sym, ap, ◌∙◌, subst, arith, zero-add, add-zero}
+use Rattle.std.proofs.Common.{◌≡◌, ℕ, ◌+◌, ◌<◌, ◌≤◌, zero, List, [], ◌∷◌, ◌++◌, length, take, refl, sym, ap, ◌∙◌, subst, arith, zero-add, add-zero, lit≤}
 use Rattle.std.specs.Prelude.{Some, slice_get}
-use Rattle.std.specs.List.{AllZip}
+use Rattle.std.specs.List.{AllZip, AllByRecursion}
 use Rattle.std.proofs.lemmas.List.{take_more, take_all, length-take-le}
 use Rattle.std.proofs.lemmas.Option.{slice_get_within, get_or_from_slice_get}
 use Rattle.photofleet.proofs.Zipped.{zip_push}
 use Rattle.photo_filter_text.specs.Tree.{Tree}
 use Rattle.photo_version.specs.Author.{author}
-use Rattle.item_knowledge.specs.Fragments.{knows}
-use Rattle.photo_device.specs.Held.{entries_of}
 use Rattle.photo_device.specs.Device.{Kept, ModelDevice, Shows, opening}
 use Rattle.photo_script.specs.Runs.{opening_from}
-
--- a model device that a device shows: what it knows of a picture is known of that picture alone
-abbrev pub model_of : Kept → ModelDevice
-model_of d = record {
-  author = d.author;
-  tree = d.tree;
-  counter = d.counter;
-  store = entries_of d.store;
-  out = entries_of d.out;
-  every = λ v. false;
-  of = λ picture v. knows d.knowledge picture v;
-}
-
-pub shows_model : (d : Kept) → Shows d (model_of d)
-shows_model d = record { author = refl; tree = refl; counter = refl; store = refl; out = refl; known = λ p above v. refl }
 
 pub opening_from-push : (n : ℕ) (filters : List Tree) (filter : Tree) → opening_from n (filters ++ filter ∷ []) ≡ opening_from n filters ++ opening (author (n + length filters)) filter ∷ []
 opening_from-push n [] filter = rw add-zero refl
@@ -48,11 +31,9 @@ pub opening_all : (filters : List Tree) (n : ℕ) (devices : List Kept) → leng
 opening_all filters n devices h all = subst (λ ms. AllZip Shows devices (opening_from 0 ms)) (take_all n filters h) all
 
 -- devices that have made nothing
-pub opening_counts : (filters : List Tree) (n : ℕ) (devices : List Kept) → AllZip Shows devices (opening_from n filters) → (k : ℕ) (d : Kept) → k < length devices → (get_or devices k d).counter ≤ 0
-opening_counts filters n [] all k d h = absurd (omega arith)
-opening_counts [] n (x ∷ xs) all k d h = absurd all
-opening_counts (y ∷ ys) n (x ∷ xs) all zero d h = let none = all.0.counter in omega arith
-opening_counts (y ∷ ys) n (x ∷ xs) all (suc k) d h = opening_counts ys (n + 1) xs all.1 k d (omega arith)
+pub opening_counts : (filters : List Tree) (n : ℕ) → AllByRecursion (λ (m : ModelDevice). m.counter ≤ 0) (opening_from n filters)
+opening_counts [] n = tt
+opening_counts (y ∷ ys) n = (lit≤ tt, opening_counts ys (n + 1))
 
 pub opening_long : (filters : List Tree) (n : ℕ) (devices : List Kept) → AllZip Shows devices (opening_from n filters) → length devices ≡ length filters
 opening_long [] n [] all = refl

@@ -2,7 +2,7 @@
 use Rattle.std.specs.Prelude.{◌≡◌, ℕ, List, [], ◌∷◌, ◌++◌, pos, Option, Ok, codes}
 use Rattle.std.specs.Io.KnownBytes.{Appends}
 use Rattle.photo_record.specs.declared.record.Record.TheVariants.{Picture}
-use Rattle.photo_filter_text.specs.declared.tree.Cmp.TheVariants.{AtLeast}
+use Rattle.photo_filter_text.specs.declared.tree.Cmp.TheVariants.{AtLeast, AtMost}
 use Rattle.photo_filter_text.specs.Tree.{All, Rate, Keyword}
 use Rattle.photo_version.specs.Author.{author}
 use Rattle.photo_version.specs.Version.{version}
@@ -49,6 +49,33 @@ printed_changes = codes "1 made a:1 store\n" ++ (codes "2 made a:2 out\n" ++ (co
     ++ (codes "  store 7 a:4 rating 4 day 2024-01-01 words -\n" ++ (codes "7 knowledge a 1\n" ++ (codes "  * a:4\n"
     ++ (codes "8 knows yes\n" ++ codes "9 knows no\n")))))))))
 
+-- two devices, neither filter of which covers the other's. Each makes a version of a picture that the other doesn't
+-- know, so both are held after a pull; a version that was made with both supersedes them
+abbrev pub two_versions : Contents
+two_versions = contents (codes "a" ∷ codes "b" ∷ []) (Rate AtLeast 1 ∷ Rate AtMost 4 ∷ [])
+    (command.New 0 7 (Picture 3 (pos 19723) []) ∷ command.Pull 1 0 ∷ command.Edit 0 7 (Picture 4 (pos 19723) [])
+    ∷ command.Edit 1 7 (Picture 2 (pos 19723) []) ∷ command.Pull 0 1 ∷ command.Conflicts 0 ∷ command.Knowledge 0
+    ∷ command.Edit 0 7 (Picture 3 (pos 19723) []) ∷ command.Pull 1 0 ∷ [])
+
+abbrev pub printed_two_versions : List ℕ
+printed_two_versions = codes "1 made a:1 store\n" ++ (codes "2 pulled taken 1 handed 0 notices 0 dropped 0 learned no\n"
+    ++ (codes "3 made a:2 store\n" ++ (codes "4 made b:1 store\n" ++ (codes "5 pulled taken 1 handed 0 notices 0 dropped 0 learned no\n"
+    ++ (codes "6 conflicts a 1\n" ++ (codes "  7 a:2 b:1\n" ++ (codes "7 knowledge a 2\n" ++ (codes "  * a:2\n" ++ (codes "  7 a:2 b:1\n"
+    ++ (codes "8 made a:3 store\n" ++ codes "9 pulled taken 1 handed 0 notices 0 dropped 1 learned no\n"))))))))))
+
+-- a narrower filter: what it doesn't select waits in the out. A filter that isn't narrower is refused
+abbrev pub narrower : Contents
+narrower = contents (codes "a" ∷ []) (Rate AtLeast 2 ∷ [])
+    (command.New 0 1 (Picture 2 (pos 19723) []) ∷ command.New 0 2 (Picture 3 (pos 19723) []) ∷ command.New 0 3 (Picture 5 (pos 19723) [])
+    ∷ command.Narrow 0 (Rate AtLeast 4) ∷ command.List 0 ∷ command.Narrow 0 (Rate AtLeast 3)
+    ∷ command.Edit 0 9 (Picture 5 (pos 19723) []) ∷ command.Remove 0 1 ∷ [])
+
+abbrev pub printed_narrower : List ℕ
+printed_narrower = codes "1 made a:1 store\n" ++ (codes "2 made a:2 store\n" ++ (codes "3 made a:3 store\n" ++ (codes "4 narrowed 2\n"
+    ++ (codes "5 list a store 1 out 2\n" ++ (codes "  store 3 a:3 rating 5 day 2024-01-01 words -\n"
+    ++ (codes "  out 1 a:1 rating 2 day 2024-01-01 words -\n" ++ (codes "  out 2 a:2 rating 3 day 2024-01-01 words -\n"
+    ++ (codes "6 refused C2 NotNarrower\n" ++ (codes "7 refused C1 NotHeld\n" ++ codes "8 made a:4 out\n")))))))))
+
 -- a version that is never made isn't known
 abbrev pub never_made : Contents
 never_made = contents (codes "cam" ∷ codes "b" ∷ []) (All ∷ All ∷ []) (command.Knows 1 7 (version (author 0) 100000) ∷ [])
@@ -73,6 +100,8 @@ pub record AreAsTold : Type 0 where
   pub below : IsOutput below_the_filter printed_below
   pub word : IsOutput with_the_word printed_word
   pub changed : IsOutput changes printed_changes
+  pub conflict : IsOutput two_versions printed_two_versions
+  pub narrowed : IsOutput narrower printed_narrower
   pub unknown : IsOutput never_made (codes "1 knows no\n")
   pub empty : IsOutput (contents [] [] []) []
   pub silent : IsOutput (contents (codes "a" ∷ []) (All ∷ []) []) []

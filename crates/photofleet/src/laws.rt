@@ -1,6 +1,7 @@
 //! Laws of the definitions.
 ghost use Rattle.std.specs.Prelude.{◌≡◌, IfOk};
-ghost use Rattle.photofleet.specs.Laws.{OutputsAreOne};
+ghost use Rattle.photofleet.specs.Laws.{OutputsAreOne, StaysSoundAndKept};
+ghost use Rattle.photofleet.specs.SoundExamples.{SoundIsAsTold};
 ghost use Rattle.photofleet.specs.Examples.{AreAsTold, WordsAreAsTold, printed};
 
 use crate::runner::{RunError, plain_stream};
@@ -20,6 +21,17 @@ pub fn outputs_are_one()
 {
     photo_script::laws::answers_are_one();
 }
+
+/// Before the first command of a script and after each, each device stores just what its filter selects of the newest
+/// versions that it knows, and no version that is current is lost.
+pub fn stays_sound_and_kept()
+    ensures { StaysSoundAndKept }
+{}
+
+/// Which devices are sound, and what is lost, is as it is told, by the definitions alone.
+pub fn sound_examples()
+    ensures { SoundIsAsTold }
+{}
 
 /// What command lines ask for is as it is told, by `clap`'s definitions alone.
 pub fn words()

@@ -1,14 +1,16 @@
 //! Runs of scripts: from a reader's bytes to the bytes of the reports.
 mod command;
 mod fault;
+mod fleet;
 mod outcome;
 mod plain;
 mod reports;
 mod source;
 mod stream;
 
-pub use command::run_command;
+pub use command::{run_command, run_pull};
 pub use fault::RunError;
+pub use fleet::run_on;
 pub use outcome::Outcome;
 pub use plain::run_plain;
 pub use reports::write_reports;

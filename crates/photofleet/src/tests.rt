@@ -3,4 +3,5 @@ mod filters;
 mod knowing;
 mod memory;
 mod program;
+mod pulling;
 mod streams;

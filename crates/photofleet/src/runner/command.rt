@@ -1,29 +1,32 @@
-ghost use Rattle.std.specs.Prelude.{◌≡◌, true, ◌+◌, ◌<◌, ◌≤◌, Some, None, Err, IfOk, OnOk, OnErr};
+ghost use Rattle.std.specs.Prelude.{◌≡◌, true, ◌<◌, Some, None, Err, IfOk, IfSome, OnOk, OnErr};
 ghost use Rattle.photo_device.specs.Device.{ModelDevice, Shows};
 ghost use Rattle.item_knowledge.specs.Fragments.{is_normal, knows};
+ghost use Rattle.photo_script.specs.Contents.{devices_of};
 ghost use Rattle.photo_script.specs.Reports.{KnowledgeOf, Knows, Tells, answer_of};
-ghost use Rattle.photo_script.specs.Runs.{effect, changing};
+ghost use Rattle.photo_script.specs.Runs.{effect, changing, pulling};
 ghost use Rattle.photo_record.specs.declared.record.Record.TheVariants.{Removed};
 ghost use Rattle.photo_device.specs.declared.fault.ChangeFault.TheVariants.{NoMemory};
 ghost use Rattle.photofleet.specs.Changes.{told_of};
+ghost use Rattle.photofleet.specs.Between.{MayPull};
 
 use item_knowledge::Knowledge;
 use photo_device::{ChangeFault, Device, Place};
+use photo_pull::pull;
 use photo_record::{PicNo, Record};
 use photo_script::{Command, Report};
 use photo_version::Version;
 use std::alloc::{AllocError, Global};
 
-/// Runs one command on the device that it works on, and gives the report. After want of memory the device is as it was.
+/// Runs a command that works on one device, and gives the report. After want of memory the device is as it was.
 pub fn run_command(
     alloc: Global,
     command: &Command,
     device: &mut Device,
 ) -> Result<Report, AllocError>
-    requires { device.old.counter < 4_294_967_295 }
+    requires alone { (devices_of command.now).1 ≡ None }
+    requires room { device.old.counter < 4_294_967_295 }
     ensures device { OnOk result ((m : ModelDevice) → Shows device.old m → Shows device.new (effect command.now m None).first) }
     ensures report { IfOk result (λ report. (m : ModelDevice) → Shows device.old m → Tells (answer_of report) (effect command.now m None).report) }
-    ensures counter { OnOk result (device.new.counter ≤ device.old.counter + 1) }
     ensures err { OnErr result (device.new ≡ device.old) }
 {
     match command {
@@ -41,6 +44,8 @@ pub fn run_command(
             ..
         } => run_edit(device, *picture, record),
         Command::Remove { picture, .. } => run_remove(device, *picture),
+        Command::Pull { .. } => unreachable!(),
+        Command::Narrow { .. } => Err(AllocError),
         Command::List { device: number } => {
             let store = device.store().to_list(alloc)?;
             let out = device.out().to_list(alloc)?;
@@ -50,6 +55,7 @@ pub fn run_command(
                 out,
             })
         }
+        Command::Conflicts { .. } => Err(AllocError),
         Command::Knowledge { device: number } => knowledge_of(*number, device.knowledge()),
         Command::Knows {
             picture,
@@ -57,6 +63,23 @@ pub fn run_command(
             ..
         } => Ok(knows_of(device.knowledge(), *picture, *version)),
     }
+}
+
+/// Runs a pull of one device from another, and gives the report. After want of memory both are as they were.
+pub fn run_pull(
+    alloc: Global,
+    target: &mut Device,
+    source: &mut Device,
+) -> Result<Report, AllocError>
+    requires { MayPull target.old source.old }
+    ensures target { OnOk result ((t s : ModelDevice) → Shows target.old t → Shows source.old s → Shows target.new (pulling t (Some s)).first) }
+    ensures source { OnOk result ((t s : ModelDevice) → Shows target.old t → Shows source.old s → IfSome (pulling t (Some s)).second (Shows source.new)) }
+    ensures report { IfOk result (λ report. (t s : ModelDevice) → Shows target.old t → Shows source.old s → Tells (answer_of report) (pulling t (Some s)).report) }
+    ensures target_kept { OnErr result (target.new ≡ target.old) }
+    ensures source_kept { OnErr result (source.new ≡ source.old) }
+{
+    let counts = pull(alloc, target, source)?;
+    Ok(Report::Pulled(counts))
 }
 
 // The report on whether a version of a picture is known.
@@ -79,23 +102,21 @@ fn knowledge_of(device: u16, knowledge: &Knowledge) -> Result<Report, AllocError
     })
 }
 
-#[tactic(auto, using(crate::proofs::Changed::change_device, crate::proofs::Changed::change_report, crate::proofs::Changed::change_counter, crate::proofs::Changed::change_err))]
+#[tactic(auto, using(crate::proofs::Changed::change_device, crate::proofs::Changed::change_report, crate::proofs::Changed::change_err))]
 fn run_edit(device: &mut Device, picture: PicNo, content: &Record) -> Result<Report, AllocError>
     requires { device.old.counter < 4_294_967_295 }
     ensures device { OnOk result ((m : ModelDevice) → Shows device.old m → Shows device.new (changing m None picture content.now).first) }
     ensures report { IfOk result (λ report. (m : ModelDevice) → Shows device.old m → Tells (answer_of report) (changing m None picture content.now).report) }
-    ensures counter { OnOk result (device.new.counter ≤ device.old.counter + 1) }
     ensures err { OnErr result (device.new ≡ device.old) }
 {
     report_on(device.edit(picture, content))
 }
 
-#[tactic(auto, using(crate::proofs::Changed::change_device, crate::proofs::Changed::change_report, crate::proofs::Changed::change_counter, crate::proofs::Changed::change_err))]
+#[tactic(auto, using(crate::proofs::Changed::change_device, crate::proofs::Changed::change_report, crate::proofs::Changed::change_err))]
 fn run_remove(device: &mut Device, picture: PicNo) -> Result<Report, AllocError>
     requires { device.old.counter < 4_294_967_295 }
     ensures device { OnOk result ((m : ModelDevice) → Shows device.old m → Shows device.new (changing m None picture Removed).first) }
     ensures report { IfOk result (λ report. (m : ModelDevice) → Shows device.old m → Tells (answer_of report) (changing m None picture Removed).report) }
-    ensures counter { OnOk result (device.new.counter ≤ device.old.counter + 1) }
     ensures err { OnErr result (device.new ≡ device.old) }
 {
     report_on(device.remove(picture))

@@ -7,10 +7,10 @@ ghost use Rattle.photofleet.specs.Outcomes.{IsOutcome};
 ghost use Rattle.photofleet.specs.declared.runner.fault.RunError.TheVariants.{NoMemory};
 
 use super::RunError;
-use super::command::run_command;
+use super::fleet::run_on;
 use super::outcome::Outcome;
 use photo_device::Device;
-use photo_script::{Script, devices_of};
+use photo_script::Script;
 use photo_version::Author;
 use std::alloc::{AllocError, Global};
 
@@ -32,9 +32,8 @@ fn run(alloc: Global, script: &Script) -> Result<Outcome, AllocError>
     let mut reports = Vec::new(alloc);
     for place in 0..script.commands() {
         let command = script.command(place as u32 + 1);
-        let (author, _) = devices_of(command);
-        let device = &mut devices[usize::from(author.value())];
-        reports.push(run_command(alloc, command, device)?)?;
+        let report = run_on(alloc, command, devices.as_mut_slice())?;
+        reports.push(report)?;
     }
     Ok(Outcome { devices, reports })
 }
@@ -43,6 +42,8 @@ fn run(alloc: Global, script: &Script) -> Result<Outcome, AllocError>
 fn opening_devices(alloc: Global, script: &Script) -> Result<Vec<Device>, AllocError>
     ensures shown { IfOk result (λ devices. AllZip Shows devices.items (opening_from 0 script.now.filters)) }
     ensures long { IfOk result (λ devices. length devices.items ≡ length script.now.names) }
+    ensures few { length script.now.names ≤ max_devices }
+    ensures filtered { length script.now.filters ≡ length script.now.names }
 {
     let mut devices = Vec::new(alloc);
     for place in 0..script.devices() {

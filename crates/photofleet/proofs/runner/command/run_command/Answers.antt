@@ -1,7 +1,6 @@
-use Rattle.std.proofs.Common.{List, ap, ◌∙◌, arith}
+use Rattle.std.proofs.Common.{List, ap, ◌∙◌}
 use Rattle.item_knowledge.specs.Fragments.{Fragment, knows}
 use Rattle.photo_script.specs.Reports.{Made, Knows}
-use Rattle.photofleet.proofs.Shown.{model_of, shows_model}
 use Rattle.photofleet.proofs.runner.command.run_command.Goals as goal
 
 pub returns-in_ok-version-in-New-clause-report : goal.returns-in_ok-version-in-New-clause-report
@@ -10,12 +9,6 @@ returns-in_ok-version-in-New-clause-report c =
     let version = c.in_ok-version-in-New.ensures.version m shows in
     let place = c.in_ok-version-in-New.ensures.place m shows in
     rw c.in-New.is (λ i. Made (version i) (place i))
-
-pub returns-in_ok-version-in-New-clause-counter : goal.returns-in_ok-version-in-New-clause-counter
-returns-in_ok-version-in-New-clause-counter c =
-    let old = c.args.device.now in
-    let counted = (c.in_ok-version-in-New.ensures.shows (model_of old) (shows_model old)).counter in
-    omega arith
 
 pub returns-in-Knows-clause-report : goal.returns-in-Knows-clause-report
 returns-in-Knows-clause-report c =
