@@ -45,7 +45,7 @@ filters_device d q r is = record {
 }
 
 -- each take is on one side
-both_sides : (v : Version) (tree : Tree) (takes : List Held) → count_of v (filter (is_on_side true tree) takes) + count_of v (filter (is_on_side false tree) takes) ≡ count_of v takes
+pub both_sides : (v : Version) (tree : Tree) (takes : List Held) → count_of v (filter (is_on_side true tree) takes) + count_of v (filter (is_on_side false tree) takes) ≡ count_of v takes
 both_sides v tree [] = refl
 both_sides v tree (h ∷ takes) =
     let rest = both_sides v tree takes in

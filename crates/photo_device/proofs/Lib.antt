@@ -13,3 +13,4 @@ pub mod Seeking
 pub mod Taken
 pub mod Learned
 pub mod Changed
+pub mod Narrowed

@@ -200,22 +200,23 @@ back_side versions q (h ∷ takes) helds among =
 pub given_back : (matched : Bool) (tree : Tree) (takes helds : List Held) → AreNewTo helds takes → helds_without (versions_in takes) (with_side matched tree takes helds) ≡ helds
 given_back matched tree takes helds new = back_side (versions_in takes) (is_on_side matched tree) takes helds (λ v listed. listed) ∙ untouched takes helds new
 
--- a set that takes them one after another: those that are left, and what it has now
+-- a set that takes them one after another: those that are left, and what it has now. A test that none of them passes
+-- leaves of it what it leaves of the set before
 pub record IsTaking (matched : Bool) (tree : Tree) (takes before left now : List Held) : Type 0 where
   pub done : put_one_by_one (filter (is_on_side matched tree) left) now ≡ put_one_by_one (filter (is_on_side matched tree) takes) before
   pub new : AreNewTo now left
-  pub back : helds_without (versions_in takes) now ≡ before
-  pub among : (v : Version) → is_listed (versions_in left) v ≡ true → is_listed (versions_in takes) v ≡ true
+  pub back : (q : Held → Bool) → AllByRecursion (λ h. q h ≡ false) takes → filter q now ≡ filter q before
+  pub among : (q : Held → Bool) → AllByRecursion (λ h. q h ≡ false) takes → AllByRecursion (λ h. q h ≡ false) left
 
 pub is_starting : (matched : Bool) (tree : Tree) (takes before : List Held) → AreNewTo before takes → IsTaking matched tree takes before takes before
-is_starting matched tree takes before new = record { done = refl; new = new; back = untouched takes before new; among = λ v listed. listed }
+is_starting matched tree takes before new = record { done = refl; new = new; back = λ q none. refl; among = λ q none. none }
 
 pub has_put : (matched : Bool) (tree : Tree) (takes before left now : List Held) (h : Held) → IsTaking matched tree takes before (h ∷ left) now → is_on_side matched tree h ≡ true → IsTaking matched tree takes before left (put held_before h now)
 has_put matched tree takes before left now h taking side = record {
   done = ap (λ b. put_one_by_one (cond b (h ∷ filter (is_on_side matched tree) left) (filter (is_on_side matched tree) left)) now) (sym side) ∙ taking.done;
   new = put_new h left now taking.new;
-  back = back_put (versions_in takes) h now (taking.among h.version (first_listed h left)) ∙ taking.back;
-  among = λ v listed. taking.among v (rest_listed h left v listed);
+  back = λ q none. filter-put_out held_before q h now (taking.among q none).0 ∙ taking.back q none;
+  among = λ q none. (taking.among q none).1;
 }
 
 pub has_skipped : (matched : Bool) (tree : Tree) (takes before left now : List Held) (h : Held) → IsTaking matched tree takes before (h ∷ left) now → is_on_side matched tree h ≡ false → IsTaking matched tree takes before left now
@@ -223,8 +224,13 @@ has_skipped matched tree takes before left now h taking side = record {
   done = ap (λ b. put_one_by_one (cond b (h ∷ filter (is_on_side matched tree) left) (filter (is_on_side matched tree) left)) now) (sym side) ∙ taking.done;
   new = rest_new h left now taking.new;
   back = taking.back;
-  among = λ v listed. taking.among v (rest_listed h left v listed);
+  among = λ q none. (taking.among q none).1;
 }
+
+-- a test for those that are not taken: none of these passes it
+pub all_listed : (takes : List Held) (versions : List Version) → ((v : Version) → is_listed (versions_in takes) v ≡ true → is_listed versions v ≡ true) → AllByRecursion (λ h. not (is_listed versions h.version) ≡ false) takes
+all_listed [] versions among = tt
+all_listed (h ∷ takes) versions among = (ap not (among h.version (first_listed h takes)), all_listed takes versions (λ v listed. among v (rest_listed h takes v listed)))
 
 pub has_taken : (matched : Bool) (tree : Tree) (takes before now : List Held) → AreNewTo before takes → IsTaking matched tree takes before [] now → now ≡ with_side matched tree takes before
 has_taken matched tree takes before now new taking =

@@ -1,10 +1,10 @@
 ghost use Rattle.std.specs.Prelude.{◌≡◌, OnOk, OnErr};
 ghost use Rattle.photo_device.specs.Device.{store_with, out_with};
 
-use crate::takes::{give_back, take_all};
-use crate::{Change, ChangeFault, Held, HeldSet, Place};
+use crate::takes::{give_back, take_all, take_others};
+use crate::{Change, ChangeFault, Held, HeldSet, NarrowFault, Place};
 use item_knowledge::Knowledge;
-use photo_filter_rules::Filter;
+use photo_filter_rules::{Filter, covers};
 use photo_record::{PicNo, Record};
 use photo_version::{Author, Version};
 use std::alloc::{AllocError, Global};
@@ -45,9 +45,11 @@ impl Device {
     ghost use Rattle.photo_device.specs.Taking.{HasTaken, MayTake};
     ghost use Rattle.photo_version.specs.Version as versions;
     ghost use Rattle.item_knowledge.specs.Fragments.{knows};
-    ghost use Rattle.photo_device.specs.Device.{ModelDevice, Shows, opening, made, next_version, new_place, is_held, changed, without_waiting};
+    ghost use Rattle.photo_device.specs.Device.{ModelDevice, Shows, opening, made, next_version, new_place, is_held, changed, without_waiting, narrowed, moved};
     ghost use Rattle.photo_record.specs.declared.record.Record.TheVariants.{Removed};
     ghost use Rattle.photo_device.specs.declared.fault.ChangeFault.TheVariants.{NotHeld};
+    ghost use Rattle.photo_device.specs.declared.fault.NarrowFault.TheVariants.{NotNarrower, NoMemory};
+    ghost use Rattle.photo_filter_rules.specs.Covers.{covers};
 
     /// A device that has made, holds and knows nothing, and is to keep what the filter matches. Its only error is want
     /// of memory, which gives the filter back.
@@ -276,6 +278,32 @@ impl Device {
         ensures { (m : ModelDevice) → Shows self.old m → Shows self.new (without_waiting versions.now m) }
     {
         self.out.drop_versions(versions);
+    }
+
+    /// Is to keep from now on what a filter matches that its own covers: what it doesn't match goes from the store to the
+    /// out. Gives how many versions went.
+    ///
+    /// `NotNarrower` comes exactly where its own filter doesn't cover the new one. An error leaves the device as it was,
+    /// and gives the filter back.
+    pub fn narrow(&mut self, filter: Filter) -> Result<u64, (Filter, NarrowFault)>
+        ensures shows { OnOk result ((m : ModelDevice) → Shows self.old m → Shows self.new (narrowed filter m)) }
+        ensures moved { IfOk result (λ count. (m : ModelDevice) → Shows self.old m → count ≡ moved filter m) }
+        ensures covered { OnOk result (covers self.old.tree filter ≡ true) }
+        ensures refused { IfErr result (λ e. e.1 ≡ NotNarrower → covers self.old.tree filter ≡ false) }
+        ensures no_memory { IfErr result (λ e. e.1 ≡ NoMemory → covers self.old.tree filter ≡ true) }
+        ensures returned { IfErr result (λ e. e.0 ≡ filter) }
+        ensures err { OnErr result (self.new ≡ self.old) }
+    {
+        if !covers(&self.filter, &filter) {
+            return Err((filter, NarrowFault::NotNarrower));
+        }
+        if let Err(_) = take_others(&filter, &self.store, &mut self.out) {
+            return Err((filter, NarrowFault::NoMemory));
+        }
+        let before = self.store.len();
+        self.store.keep_matched(&filter);
+        self.filter = filter;
+        Ok((before - self.store.len()) as u64)
     }
 
     // Whether a version of a picture is held, in the store or in the out.

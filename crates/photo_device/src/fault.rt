@@ -22,3 +22,14 @@ impl From<AllocError> for ChangeFault {
         ChangeFault::NoMemory
     }
 }
+
+/// Why a device did not narrow.
+#[derive(Clone, Copy, Debug, PartialEq, Eq, Drop, Error)]
+pub enum NarrowFault {
+    /// The device's filter doesn't cover the new one.
+    #[error("C2 NotNarrower")]
+    NotNarrower,
+    /// Memory was refused.
+    #[error("NoMemory")]
+    NoMemory,
+}

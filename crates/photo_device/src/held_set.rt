@@ -33,7 +33,7 @@ impl Model for HeldSet {
 }
 
 impl HeldSet {
-    ghost use Rattle.std.specs.Prelude.{◌≡◌, ◌<◌, ◌==◌, true, None, [], length, filter, slice_get, Some, IfOk, OnOk, OnErr};
+    ghost use Rattle.std.specs.Prelude.{◌≡◌, ◌<◌, ◌==◌, true, not, None, [], length, filter, slice_get, Some, IfOk, OnOk, OnErr};
     ghost use Rattle.std.specs.Option.{option_copied};
     ghost use Rattle.photo_filter_rules.specs.Matching.{matches};
     ghost use Rattle.block_list.specs.Blocks.{joined};
@@ -160,6 +160,14 @@ impl HeldSet {
         ensures { self.new ≡ filter (λ h. matches wanted.now h.content) self.old }
     {
         self.items.retain(|held| wanted.matches(&held.content));
+    }
+
+    /// Gives up what the other set has as well. It takes no memory.
+    pub(crate) fn drop_those_of(&mut self, other: &HeldSet)
+        ensures { self.new ≡ filter (λ h. not (has_version_of h.picture h.version other.now)) self.old }
+    {
+        self.items
+            .retain(|held| !other.has(held.picture, held.version));
     }
 
     /// Gives up all versions of a picture.

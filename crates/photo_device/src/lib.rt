@@ -16,7 +16,7 @@ mod takes;
 pub use change::Change;
 pub use conflict::Conflict;
 pub use device::Device;
-pub use fault::ChangeFault;
+pub use fault::{ChangeFault, NarrowFault};
 pub use held::Held;
 pub use held_set::HeldSet;
 pub use item_list::ItemList;

@@ -1,1 +1,3 @@
 pub mod Pull
+pub mod Found
+pub mod Findings

@@ -1,7 +1,7 @@
 -- A pull: what a target takes, is told of and learns from a source. All is judged on the two devices before it.
 use Rattle.std.specs.Prelude.{ℕ, ◌+◌, Bool, not, ◌&&◌, ◌||◌, ◌==◌, List, ◌++◌, length, filter}
 use Rattle.std.specs.List.{list_any}
-use Rattle.photo_version.specs.Version.{Version, Versions, same_version}
+use Rattle.photo_version.specs.Version.{Versions, same_version}
 use Rattle.photo_filter_rules.specs.Covers.{covers}
 use Rattle.photo_device.specs.Entry.{Entry, put_entries, supersedes, superseded_by, is_among}
 use Rattle.photo_device.specs.Device.{ModelDevice, holds, knows_entry, selects}

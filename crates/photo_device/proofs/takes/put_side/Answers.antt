@@ -6,12 +6,12 @@ use Rattle.photo_device.proofs.Taken.{IsTaking, is_starting, has_put, has_skippe
 use Rattle.photo_device.proofs.takes.put_side.Goals as goal
 
 pub loop-held-init : goal.loop-held-init
-loop-held-init c = is_starting c.args.matched c.args.filter.now c.args.takes.now c.args.set.now c.requires
+loop-held-init c = is_starting c.args.matched c.args.wanted.now c.args.takes.now c.args.set.now c.requires
 
 pub loop-held-preserved-then-not-is_wanted : goal.loop-held-preserved-then-not-is_wanted
 loop-held-preserved-then-not-is_wanted c =
     let left = next_left c.args.takes.now c.loop-held.held-index c.held-item.result c.loop-held-test.true c.held-item.is in
-    let taking = subst (λ (l : List Held). IsTaking c.args.matched c.args.filter.now c.args.takes.now c.args.set.now l c.loop-held.set) left c.loop-held.invariant in
+    let taking = subst (λ (l : List Held). IsTaking c.args.matched c.args.wanted.now c.args.takes.now c.args.set.now l c.loop-held.set) left c.loop-held.invariant in
     has_skipped _ _ _ _ _ _ c.held-item.result taking (search rules)
 
 pub insert-requires : goal.insert-requires
@@ -23,11 +23,11 @@ insert-requires c =
 pub loop-held-preserved : goal.loop-held-preserved
 loop-held-preserved c =
     let left = next_left c.args.takes.now c.loop-held.held-index c.held-item.result c.loop-held-test.true c.held-item.is in
-    let taking = subst (λ (l : List Held). IsTaking c.args.matched c.args.filter.now c.args.takes.now c.args.set.now l c.loop-held.set) left c.loop-held.invariant in
+    let taking = subst (λ (l : List Held). IsTaking c.args.matched c.args.wanted.now c.args.takes.now c.args.set.now l c.loop-held.set) left c.loop-held.invariant in
     let copied = c.in_ok-try_clone.ensures in
     rw (c.in_ok-insert.ensures.ok, copied) (has_put _ _ _ _ _ _ c.held-item.result taking (search rules))
 
 pub returns-clause-ok : goal.returns-clause-ok
 returns-clause-ok c =
     let left = none_left c.args.takes.now c.loop-held.held-index c.loop-held-test.false in
-    has_taken _ _ _ _ _ c.requires (subst (λ (l : List Held). IsTaking c.args.matched c.args.filter.now c.args.takes.now c.args.set.now l c.loop-held.set) left c.loop-held.invariant)
+    has_taken _ _ _ _ _ c.requires (subst (λ (l : List Held). IsTaking c.args.matched c.args.wanted.now c.args.takes.now c.args.set.now l c.loop-held.set) left c.loop-held.invariant)

@@ -3,4 +3,4 @@ use Rattle.photo_device.proofs.Taken.{IsTaking}
 use Rattle.photo_device.proofs.takes.put_side.Given as goal
 
 abbrev pub invariant-loop-held : goal.invariant-loop-held
-invariant-loop-held l = IsTaking l.matched l.filter l.takes l.initial.set (drop l.held-index l.takes) l.set
+invariant-loop-held l = IsTaking l.matched l.wanted l.takes l.initial.set (drop l.held-index l.takes) l.set

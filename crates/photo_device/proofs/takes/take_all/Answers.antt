@@ -6,4 +6,4 @@ use Rattle.photo_device.proofs.takes.take_all.Goals as goal
 
 pub returns-in-Err-clause-store_kept : goal.returns-in-Err-clause-store_kept
 returns-in-Err-clause-store_kept c =
-    c.give_back.ensures ∙ ap (helds_without (versions_in c.args.takes.now)) c.in_ok-take_side.ensures.ok ∙ given_back true c.args.filter.now c.args.takes.now c.args.store.now c.requires.store
+    c.give_back.ensures ∙ ap (helds_without (versions_in c.args.takes.now)) c.in_ok-take_side.ensures.ok ∙ given_back true c.args.wanted.now c.args.takes.now c.args.store.now c.requires.store

@@ -1,0 +1,31 @@
+use Rattle.std.proofs.Common.{◌≡◌, ◌-◌, not, false, length, arith, sym, ap, ◌∙◌, subst}
+use Rattle.photo_filter_rules.specs.Matching.{matches}
+use Rattle.photo_device.specs.declared.held.Held.{Held}
+use Rattle.photo_device.specs.Device.{Kept, Shows}
+use Rattle.photo_device.specs.Taking.{with_side}
+use Rattle.photo_device.proofs.Narrowed.{shorter, narrows_device, shows_narrowed, moved_away}
+use Rattle.photo_device.proofs.device.Device.narrow.Goals as goal
+
+pub overflow_sub-result : goal.overflow_sub-result
+overflow_sub-result c =
+    let less = shorter (λ (h : Held). matches c.args.filter h.content) c.self.inside.store in
+    let kept = c.len.ensures ∙ ap length c.keep_matched.ensures in
+    let all = c.len-before.ensures in
+    omega arith
+
+pub invariant_of-self-2 : goal.invariant_of-self-2
+invariant_of-self-2 c =
+    let out = c.in_default.ensures.ok in
+    rw (c.keep_matched.ensures, out) (narrows_device c.args.filter _ c.self.invariant)
+
+pub returns-clause-shows : goal.returns-clause-shows
+returns-clause-shows c =
+    λ m shows.
+    let out = c.in_default.ensures.ok in
+    rw (c.keep_matched.ensures, out) (shows_narrowed c.args.filter _ m (subst (λ (d : Kept). Shows d m) (sym c.self.view_is) shows))
+
+pub returns-clause-moved : goal.returns-clause-moved
+returns-clause-moved c =
+    λ m shows.
+    let kept = c.len.ensures ∙ ap length c.keep_matched.ensures in
+    (λ i. c.len-before.ensures i - kept i) ∙ moved_away c.args.filter _ m (subst (λ (d : Kept). Shows d m) (sym c.self.view_is) shows)

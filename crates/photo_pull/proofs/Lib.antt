@@ -1,0 +1,10 @@
+pub mod Passing
+pub mod Members
+pub mod Ranges
+pub mod Ready
+pub mod Told
+pub mod Shown
+pub mod Changes
+pub mod Asked
+pub mod TableLemmas
+pub mod Findings

@@ -1,0 +1,35 @@
+use crate::search::{any_above, any_below};
+use photo_device::Held;
+
+/// Some of the versions that a device holds, in the order of their pictures.
+#[derive(Debug, Drop)]
+pub(crate) struct Part {
+    /// Of its store.
+    pub stored: Vec<Held>,
+    /// Of its out.
+    pub waiting: Vec<Held>,
+}
+
+impl Part {
+    ghost use Rattle.std.specs.Prelude.{◌≡◌, ◌||◌, true};
+    ghost use Rattle.photo_device.specs.Held.{are_in_order};
+    ghost use Rattle.photo_pull.specs.Found.{has_above, has_below};
+
+    /// Whether one of them supersedes the version.
+    pub fn any_above(&self, held: &Held) -> bool
+        requires stored { are_in_order self.now.stored.items ≡ true }
+        requires waiting { are_in_order self.now.waiting.items ≡ true }
+        ensures { result ≡ (has_above self.now.stored.items held.now || has_above self.now.waiting.items held.now) }
+    {
+        any_above(&self.stored, held) || any_above(&self.waiting, held)
+    }
+
+    /// Whether the version supersedes one of them.
+    pub fn any_below(&self, newer: &Held) -> bool
+        requires stored { are_in_order self.now.stored.items ≡ true }
+        requires waiting { are_in_order self.now.waiting.items ≡ true }
+        ensures { result ≡ (has_below self.now.stored.items newer.now || has_below self.now.waiting.items newer.now) }
+    {
+        any_below(&self.stored, newer) || any_below(&self.waiting, newer)
+    }
+}

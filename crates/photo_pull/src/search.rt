@@ -1,0 +1,50 @@
+//! Searches in lists of held versions that are in the order of their pictures.
+ghost use Rattle.std.specs.Prelude.{◌≡◌, ◌==◌, true, filter};
+ghost use Rattle.std.specs.List.{list_any};
+ghost use Rattle.photo_version.specs.Vector.{denotes};
+ghost use Rattle.photo_device.specs.Held.{are_in_order};
+ghost use Rattle.photo_pull.specs.Found.{has_above, has_below};
+
+use photo_device::Held;
+use photo_record::PicNo;
+use photo_version::{Vector, Version};
+
+/// Those of a picture.
+fn of_picture(list: &[Held], picture: PicNo) -> &[Held]
+    requires { are_in_order list.now ≡ true }
+    ensures { result.now ≡ filter (λ h. h.picture == picture) list.now }
+{
+    let from = list.partition_point(|held| held.picture < picture);
+    let to = list.partition_point(|held| held.picture <= picture);
+    &list[from..to]
+}
+
+/// Whether one of them was made with a version.
+fn any_made_with(list: &[Held], version: Version) -> bool
+    ensures { result ≡ list_any (λ w. denotes w.made_with version) list.now }
+{
+    list.iter().any(|held| held.made_with.has(version))
+}
+
+/// Whether one of them is in a vector.
+fn any_within(list: &[Held], vector: &Vector) -> bool
+    ensures { result ≡ list_any (λ h. denotes vector.now h.version) list.now }
+{
+    list.iter().any(|held| vector.has(held.version))
+}
+
+/// Whether one of them supersedes the version.
+pub(crate) fn any_above(list: &[Held], held: &Held) -> bool
+    requires { are_in_order list.now ≡ true }
+    ensures { result ≡ has_above list.now held.now }
+{
+    any_made_with(of_picture(list, held.picture), held.version)
+}
+
+/// Whether the version supersedes one of them.
+pub(crate) fn any_below(list: &[Held], newer: &Held) -> bool
+    requires { are_in_order list.now ≡ true }
+    ensures { result ≡ has_below list.now newer.now }
+{
+    any_within(of_picture(list, newer.picture), &newer.made_with)
+}
