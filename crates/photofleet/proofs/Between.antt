@@ -1,14 +1,13 @@
 -- A pull between two devices of a run.
-use Rattle.std.proofs.Common.{◌≡◌, ◌≢◌, ℕ, zero, ◌+◌, ◌-◌, ◌<◌, ◌≤◌, Bool, true, false, cond, eqb, List, [], ◌∷◌, ◌++◌, length, get_or, set, take, drop, refl, sym, ap, ◌∙◌, subst, add-zero, arith}
+use Rattle.std.proofs.Common.{◌≡◌, ◌≢◌, ℕ, ◌+◌, ◌-◌, ◌<◌, Bool, true, false, cond, eqb, List, [], ◌∷◌, ◌++◌, length, get_or, set, take, drop, refl, sym, ap, ◌∙◌, subst, arith}
 use Rattle.std.specs.Prelude.{Option, Some, None, Result, Ok, Err, OnOk, IfOk}
 use Rattle.std.specs.Option.{option_map}
-use Rattle.std.specs.List.{AllZip, find}
-use Rattle.std.proofs.lemmas.List.{append-nil, take_all, drop_all, get_or_append_left, get_or-append-add, set-append_left, set-append_right, set_comm, length-append, length-set, map-append}
+use Rattle.std.specs.List.{AllZip}
+use Rattle.std.proofs.lemmas.List.{append-nil, take_all, drop_all, get_or_append_left, get_or-append-add, set-append_left, set-append_right, length-set, map-append}
 use Rattle.std.proofs.lemmas.Bool.{and_parts, eqb-true, ne_eqb}
 use Rattle.photo_filter_text.specs.Tree.{All}
-use Rattle.photo_version.specs.Author.{Author, author, same_author}
+use Rattle.photo_version.specs.Author.{author, same_author}
 use Rattle.photo_version.specs.Version.{Version, version, same_version}
-use Rattle.item_knowledge.specs.Fragments.{knows}
 use Rattle.photo_device.specs.declared.held.Held.{Held}
 use Rattle.photo_device.specs.Entry.{Entry}
 use Rattle.photo_device.specs.Held.{find_version, entry_of, entries_of}
@@ -16,7 +15,6 @@ use Rattle.photo_device.specs.Device.{Kept, ModelDevice, Shows, holds, known, op
 use Rattle.photo_pull.specs.Pull.{pulled, handed_over, counts_of}
 use Rattle.photo_script.specs.Runs.{effect, device_at, with_second}
 use Rattle.photofleet.specs.Members.{In, here, there}
-use Rattle.photofleet.specs.Ready.{IsReady}
 use Rattle.photo_script.specs.declared.command.Command.{Command}
 use Rattle.photo_script.specs.declared.report.Report.{Report}
 use Rattle.photo_script.specs.Contents.{devices_of}

@@ -3,14 +3,15 @@ ghost use Rattle.photo_device.specs.Device.{ModelDevice, Shows};
 ghost use Rattle.item_knowledge.specs.Fragments.{is_normal, knows};
 ghost use Rattle.photo_script.specs.Contents.{devices_of};
 ghost use Rattle.photo_script.specs.Reports.{KnowledgeOf, Knows, Tells, answer_of};
-ghost use Rattle.photo_script.specs.Runs.{effect, changing, pulling};
+ghost use Rattle.photo_script.specs.Runs.{effect, changing, narrowing, pulling};
 ghost use Rattle.photo_record.specs.declared.record.Record.TheVariants.{Removed};
 ghost use Rattle.photo_device.specs.declared.fault.ChangeFault.TheVariants.{NoMemory};
 ghost use Rattle.photofleet.specs.Changes.{told_of};
 ghost use Rattle.photofleet.specs.Between.{MayPull};
 
 use item_knowledge::Knowledge;
-use photo_device::{ChangeFault, Device, Place};
+use photo_device::{ChangeFault, ConflictList, Device, NarrowFault, Place};
+use photo_filter_rules::Filter;
 use photo_pull::pull;
 use photo_record::{PicNo, Record};
 use photo_script::{Command, Report};
@@ -45,7 +46,7 @@ pub fn run_command(
         } => run_edit(device, *picture, record),
         Command::Remove { picture, .. } => run_remove(device, *picture),
         Command::Pull { .. } => unreachable!(),
-        Command::Narrow { .. } => Err(AllocError),
+        Command::Narrow { filter, .. } => run_narrow(device, filter),
         Command::List { device: number } => {
             let store = device.store().to_list(alloc)?;
             let out = device.out().to_list(alloc)?;
@@ -55,7 +56,13 @@ pub fn run_command(
                 out,
             })
         }
-        Command::Conflicts { .. } => Err(AllocError),
+        Command::Conflicts { device: number } => {
+            let pictures = ConflictList::new(device.conflicts(alloc)?);
+            Ok(Report::Conflicts {
+                device: *number,
+                pictures,
+            })
+        }
         Command::Knowledge { device: number } => knowledge_of(*number, device.knowledge()),
         Command::Knows {
             picture,
@@ -120,6 +127,19 @@ fn run_remove(device: &mut Device, picture: PicNo) -> Result<Report, AllocError>
     ensures err { OnErr result (device.new ≡ device.old) }
 {
     report_on(device.remove(picture))
+}
+
+// The filter stays the script's, so the device gets a copy.
+fn run_narrow(device: &mut Device, filter: &Filter) -> Result<Report, AllocError>
+    ensures device { OnOk result ((m : ModelDevice) → Shows device.old m → Shows device.new (narrowing m None filter.now).first) }
+    ensures report { IfOk result (λ report. (m : ModelDevice) → Shows device.old m → Tells (answer_of report) (narrowing m None filter.now).report) }
+    ensures err { OnErr result (device.new ≡ device.old) }
+{
+    match device.narrow(filter.try_clone()?) {
+        Ok(count) => Ok(Report::Narrowed(count)),
+        Err((_, NarrowFault::NotNarrower)) => Ok(Report::NotNarrower),
+        Err((_, NarrowFault::NoMemory)) => Err(AllocError),
+    }
 }
 
 // The report on a change of a picture. Its only error is want of memory.

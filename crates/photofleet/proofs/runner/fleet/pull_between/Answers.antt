@@ -1,4 +1,4 @@
-use Rattle.std.proofs.Common.{◌≡◌, ◌≢◌, ◌<◌, length, get_or, arith, ◌∙◌}
+use Rattle.std.proofs.Common.{◌<◌, get_or, arith, ◌∙◌}
 use Rattle.std.proofs.lemmas.List.{set_comm}
 use Rattle.photofleet.proofs.Between.{may_pull_behind, may_pull_ahead, front_at, back_at, both_set, pull_shows, pull_tells}
 use Rattle.photofleet.proofs.runner.fleet.pull_between.Goals as goal
