@@ -1,17 +1,17 @@
 -- Versions that are put into a set, found there and given up, by tests of the code.
-use Rattle.std.proofs.Common.{◌≡◌, ℕ, zero, suc, ◌+◌, ◌<◌, ◌≤◌, Bool, true, false, not, cond, eqb, ltb, ◌&&◌, ◌||◌, List, [], ◌∷◌, ◌++◌, length, take, drop, Bor, refl, sym, ap, ◌∙◌, subst, inl, inr, arith}
-use Rattle.std.specs.Prelude.{filter, Option, Some, None}
+use Rattle.std.proofs.Common.{◌≡◌, ℕ, ◌<◌, ◌≤◌, Bool, true, false, not, cond, eqb, ltb, ◌&&◌, ◌||◌, List, [], ◌∷◌, ◌++◌, length, take, drop, Bor, refl, sym, ap, ◌∙◌, inl, inr, arith}
+use Rattle.std.specs.Prelude.{Some, None}
 use Rattle.std.specs.List.{find, list_any, list_all, All}
-use Rattle.std.specs.List.Sorted.{IsPartitionedBy, IsPartitionPoint}
+use Rattle.std.specs.List.Sorted.{IsPartitionedBy}
 use Rattle.std.specs.Fn.{Mut, Called, ComputesKey}
 use Rattle.std.proofs.lemmas.Fn.{always_returns_same}
-use Rattle.std.proofs.lemmas.Bool.{and_parts, and_from, eqb-true, cases_Bool, cases_lt, lt-ltb, le-ltb, false≢true, not-true}
+use Rattle.std.proofs.lemmas.Bool.{and_from, eqb-true, cases_lt, lt-ltb, le-ltb, not-true}
 use Rattle.std.proofs.lemmas.List.Folds.{list_any_at, list_any_none}
 use Rattle.block_list.specs.Blocks.{AreBetween, IsReplaced, TellsBetween}
 use Rattle.photo_record.specs.declared.record.Record.TheVariants.{Removed}
-use Rattle.photo_version.specs.Version.{Version, same_version, version_before}
+use Rattle.photo_version.specs.Version.{Version, same_version}
 use Rattle.photo_device.specs.declared.held.Held.{Held}
-use Rattle.photo_device.specs.Ordered.{put, in_order}
+use Rattle.photo_device.specs.Ordered.{put}
 use Rattle.photo_device.specs.Held.{held_before, stands_before, stands_behind, is_of, are_in_order, find_version, has_version_of, is_listed, helds_without}
 use Rattle.photo_device.proofs.Lexical.{held_order, held_apart, held_same}
 use Rattle.photo_device.proofs.Putting.{partitioned, put_at, turns_once, in_order-put, list_all_wider, partitioned_upto, filter_all}

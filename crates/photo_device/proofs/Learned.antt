@@ -1,11 +1,11 @@
 -- What a device knows of its own versions, after it learned what others knew.
-use Rattle.std.proofs.Common.{◌≡◌, ℕ, ◌+◌, ◌≤◌, ◌<◌, Bool, true, false, cond, leb, eqb, ◌&&◌, ◌||◌, List, [], ◌∷◌, refl, sym, ap, ◌∙◌, ◌⊎◌, inl, inr, arith}
+use Rattle.std.proofs.Common.{◌≡◌, ℕ, ◌≤◌, ◌<◌, true, false, leb, eqb, ◌&&◌, ◌||◌, List, [], ◌∷◌, sym, ap, ◌∙◌, ◌⊎◌, inl, inr, arith}
 use Rattle.std.specs.Prelude.{max}
-use Rattle.std.proofs.lemmas.Bool.{leb-true, and_parts, and_from, le-leb, lt-leb, cases_lt, cases_Bool, false≢true}
-use Rattle.std.proofs.Math.Bool.{or-true, or-false}
+use Rattle.std.proofs.lemmas.Bool.{and_parts, and_from, le-leb, cases_lt, cases_Bool, false≢true}
+use Rattle.std.proofs.Math.Bool.{or-false}
 use Rattle.photo_version.specs.Author.{Author, author_word}
 use Rattle.photo_version.specs.Version.{Version, version}
-use Rattle.item_knowledge.specs.Entries.{Entry, denotes, denotes_one, bound, is_vector}
+use Rattle.item_knowledge.specs.Entries.{Entry, denotes, denotes_one, is_vector}
 use Rattle.item_knowledge.specs.Fragments.{Fragment, knows, reaches, is_normal, is_empty, are_groups, entries_at}
 use Rattle.item_knowledge.specs.Kept.{star_bound}
 use Rattle.item_knowledge.proofs.EntryLemmas.{denotes-bound}

@@ -1,7 +1,7 @@
 -- Orders by a key, and by a second test where the keys are the same: versions, entries and held versions.
 use Rattle.std.proofs.Common.{◌≡◌, ℕ, ◌<◌, Bool, true, false, not, eqb, ltb, ◌&&◌, ◌||◌, refl, sym, ap, ◌∙◌, subst, ◌⊎◌, inl, inr, arith}
 use Rattle.std.specs.Cmp.{IsStrictWeakOrder}
-use Rattle.std.proofs.lemmas.Bool.{lt-ltb, le-ltb, ltb-true, ltb-false, eq-eqb, ne_eqb, cases_Bool, cases_order, false≢true}
+use Rattle.std.proofs.lemmas.Bool.{lt-ltb, le-ltb, ltb-true, ltb-false, eq-eqb, ne_eqb, cases_order, false≢true}
 use Rattle.photo_version.specs.Author.{Author, same_author, author_before}
 use Rattle.photo_version.specs.Version.{Version, version_before, same_version}
 use Rattle.photo_version.proofs.AuthorLemmas.{Before, before_from, before_trans, cases_author, same_from, not_before_same}

@@ -14,3 +14,7 @@ pub mod Taken
 pub mod Learned
 pub mod Changed
 pub mod Narrowed
+pub mod SetLemmas
+pub mod Grouping
+pub mod Runs
+pub mod Merging

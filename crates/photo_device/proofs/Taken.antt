@@ -1,22 +1,20 @@
 -- What a set takes, and how it gives it back.
-use Rattle.std.proofs.Common.{◌≡◌, ℕ, ◌+◌, ◌≤◌, Bool, true, false, not, cond, ◌&&◌, ◌||◌, eqb, ltb, List, [], ◌∷◌, ◌++◌, length, get_or, drop, ◌<◌, refl, sym, ap, ◌∙◌, ◌⊎◌, subst, inl, inr, arith}
-use Rattle.std.specs.Prelude.{filter, map, Option, Some, None, is_some}
-use Rattle.std.specs.List.{list_any, list_all, AllByRecursion}
+use Rattle.std.proofs.Common.{◌≡◌, ℕ, ◌+◌, ◌≤◌, Bool, true, false, not, cond, ◌||◌, List, [], ◌∷◌, ◌++◌, length, get_or, drop, ◌<◌, refl, sym, ap, ◌∙◌, ◌⊎◌, subst, inl, inr, arith}
+use Rattle.std.specs.Prelude.{filter, Some, None}
+use Rattle.std.specs.List.{AllByRecursion}
 use Rattle.std.specs.Cmp.{IsStrictWeakOrder}
 use Rattle.std.proofs.Math.Bool.{or-true}
 use Rattle.std.proofs.lemmas.List.{drop_more, drop_all}
-use Rattle.std.proofs.lemmas.Bool.{cases_Bool, and_parts, and_from, false≢true, eq-eqb}
+use Rattle.std.proofs.lemmas.Bool.{cases_Bool, false≢true}
 use Rattle.photo_filter_text.specs.Tree.{Tree}
-use Rattle.photo_version.specs.Version.{Version, version_before, same_version}
-use Rattle.photo_version.specs.Author.{author_before, same_author}
-use Rattle.photo_version.proofs.AuthorLemmas.{same_from}
+use Rattle.photo_version.specs.Version.{Version, same_version}
 use Rattle.photo_device.specs.declared.held.Held.{Held}
-use Rattle.photo_device.specs.Ordered.{put, in_order}
-use Rattle.photo_device.specs.Held.{entry_of, held_before, are_in_order, count_of, find_version, is_listed, helds_without, put_helds}
+use Rattle.photo_device.specs.Ordered.{put}
+use Rattle.photo_device.specs.Held.{held_before, count_of, find_version, is_listed, helds_without, put_helds}
 use Rattle.photo_device.specs.Taking.{is_on_side, versions_in, AreNewTo, with_side}
 use Rattle.photo_device.proofs.Counts.{one_of, count_of-cons, count_of-append, count_of-put, count_of-filter, same_version_is, same_version_self}
 use Rattle.photo_device.proofs.Lexical.{held_order, held_apart}
-use Rattle.photo_device.proofs.Putting.{follows, filter_all, filter-put_out, filter-put, in_order-filter}
+use Rattle.photo_device.proofs.Putting.{follows, filter-put_out}
 
 module _ {A : Type 0} {before : A → A → Bool} (order : IsStrictWeakOrder before) where
   put_past : (x z : A) (zs : List A) → before z x ≡ true → put before x (z ∷ zs) ≡ z ∷ put before x zs

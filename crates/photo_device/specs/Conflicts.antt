@@ -1,6 +1,5 @@
 -- Pictures of which two or more versions are held.
 use Rattle.std.specs.Prelude.{ℕ, not, ◌==◌, nat_lt, List, [], ◌∷◌, length, map, filter}
-use Rattle.photo_version.specs.Version.{Version}
 use Rattle.photo_device.specs.declared.conflict.Conflict.{Conflict}
 use Rattle.photo_device.specs.Entry.{Entry, put_entries}
 use Rattle.photo_device.specs.Device.{ModelDevice}

@@ -2,7 +2,7 @@ ghost use Rattle.std.specs.Prelude.{◌≡◌, OnOk, OnErr};
 ghost use Rattle.photo_device.specs.Device.{store_with, out_with};
 
 use crate::takes::{give_back, take_all, take_others};
-use crate::{Change, ChangeFault, Held, HeldSet, NarrowFault, Place};
+use crate::{Change, ChangeFault, Conflict, Held, HeldSet, NarrowFault, Place, conflicts};
 use item_knowledge::Knowledge;
 use photo_filter_rules::{Filter, covers};
 use photo_record::{PicNo, Record};
@@ -46,6 +46,7 @@ impl Device {
     ghost use Rattle.photo_version.specs.Version as versions;
     ghost use Rattle.item_knowledge.specs.Fragments.{knows};
     ghost use Rattle.photo_device.specs.Device.{ModelDevice, Shows, opening, made, next_version, new_place, is_held, changed, without_waiting, narrowed, moved};
+    ghost use Rattle.photo_device.specs.Conflicts.{conflicts_of};
     ghost use Rattle.photo_record.specs.declared.record.Record.TheVariants.{Removed};
     ghost use Rattle.photo_device.specs.declared.fault.ChangeFault.TheVariants.{NotHeld};
     ghost use Rattle.photo_device.specs.declared.fault.NarrowFault.TheVariants.{NotNarrower, NoMemory};
@@ -311,6 +312,15 @@ impl Device {
         ensures { result ≡ (has_picture picture self.now.store || has_picture picture self.now.out) }
     {
         self.store.has_picture(picture) || self.out.has_picture(picture)
+    }
+
+    /// The pictures of which it holds two or more versions, in the store and the out together, each with them in order.
+    /// Its only error is want of memory.
+    pub fn conflicts(&self, alloc: Global) -> Result<Vec<Conflict>, AllocError>
+        ensures { IfOk result (λ list. (m : ModelDevice) → Shows self.now m → list.items ≡ conflicts_of m) }
+    {
+        let list = conflicts::conflicts_of(alloc, &self.store, &self.out)?;
+        Ok(list)
     }
 }
 

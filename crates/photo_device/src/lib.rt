@@ -3,6 +3,7 @@
 
 mod change;
 mod conflict;
+mod conflicts;
 mod device;
 mod fault;
 mod held;

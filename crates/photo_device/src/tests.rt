@@ -1,5 +1,6 @@
 mod changes;
 mod knowing;
+mod narrowing;
 
 use crate::{Device, Held, HeldList, HeldSet, Place};
 use photo_filter_rules::Filter;

@@ -8,3 +8,4 @@ pub mod Changes
 pub mod Asked
 pub mod TableLemmas
 pub mod Findings
+pub mod Moved

@@ -1,6 +1,7 @@
 //! What a target is to give up, to take and to learn.
 ghost use Rattle.std.specs.Prelude.{◌≡◌, ℕ, ◌<◌, ◌&&◌, ◌||◌, ◌++◌, true, IfOk};
 ghost use Rattle.std.specs.List.{AllByRecursion};
+ghost use Rattle.std.specs.List.Sorted.{IsPermutation};
 ghost use Rattle.photo_version.specs.Version as spec;
 ghost use Rattle.item_knowledge.specs.Fragments.{knows};
 ghost use Rattle.photo_device.specs.Held.{are_in_order};
@@ -49,13 +50,14 @@ fn gain_of(
     Ok(gain)
 }
 
-/// The versions of what a device gives up.
+/// The versions of what a device gives up, in order.
 fn drops_of(alloc: Global, stored: &[Held], waiting: &[Held]) -> Result<Vec<Version>, AllocError>
-    ensures { IfOk result (λ drops. drops.items ≡ versions stored.now ++ versions waiting.now) }
+    ensures { IfOk result (λ drops. IsPermutation (versions stored.now ++ versions waiting.now) drops.items) }
 {
     let mut drops = Vec::new(alloc);
     push_versions(&mut drops, stored)?;
     push_versions(&mut drops, waiting)?;
+    drops.sort_unstable();
     Ok(drops)
 }
 
@@ -69,12 +71,13 @@ fn takes_of(alloc: Global, kept: &[Held], handed: &[Held]) -> Result<Vec<Held>, 
     Ok(takes)
 }
 
-/// The versions that the source hands over.
+/// The versions that the source hands over, in order.
 pub(crate) fn handed_of(alloc: Global, finding: &Finding) -> Result<Vec<Version>, AllocError>
-    ensures { IfOk result (λ handed. handed.items ≡ versions finding.now.news.waiting.items) }
+    ensures { IfOk result (λ handed. IsPermutation (versions finding.now.news.waiting.items) handed.items) }
 {
     let mut handed = Vec::new(alloc);
     push_versions(&mut handed, &finding.news.waiting)?;
+    handed.sort_unstable();
     Ok(handed)
 }
 
@@ -88,7 +91,7 @@ pub(crate) fn change_for(
     requires handed_order { are_in_order finding.now.news.waiting.items ≡ true }
     requires heard { AllByRecursion HasEarlier finding.now.heard.items }
     requires handed { AllByRecursion HasEarlier finding.now.news.waiting.items }
-    ensures drops { IfOk result (λ change. change.drops ≡ versions finding.now.gone.stored.items ++ versions finding.now.gone.waiting.items) }
+    ensures drops { IfOk result (λ change. IsPermutation (versions finding.now.gone.stored.items ++ versions finding.now.gone.waiting.items) change.drops) }
     ensures takes { IfOk result (λ change. change.takes ≡ finding.now.kept.items ++ finding.now.news.waiting.items) }
     ensures gain { IfOk result (λ change. (p : ℕ) (v : spec.Version) → 0 < p → knows change.gain p v ≡ ((finding.now.learned && knows taught.now p v) || (tells finding.now.heard.items p v || tells finding.now.news.waiting.items p v))) }
 {

@@ -1,4 +1,4 @@
-use Rattle.std.proofs.Common.{◌≡◌, ap, ◌∙◌, arith, rules}
+use Rattle.std.proofs.Common.{ap, ◌∙◌, arith, rules}
 use Rattle.std.proofs.lemmas.List.Sorted.{IsPartitionPoint-from_clause}
 use Rattle.photo_version.specs.Version.{Version, version_before, same_version}
 use Rattle.photo_device.proofs.Seeking.{rising_partitioned, not_listed, listed_at}

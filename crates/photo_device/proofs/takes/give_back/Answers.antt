@@ -1,4 +1,4 @@
-use Rattle.std.proofs.Common.{◌+◌, ◌≡◌, List, [], drop, sym, ap, ◌∙◌, subst}
+use Rattle.std.proofs.Common.{◌+◌, List, drop, sym, ap, ◌∙◌}
 use Rattle.photo_device.specs.declared.held.Held.{Held}
 use Rattle.photo_device.specs.Held.{helds_without}
 use Rattle.photo_device.specs.Taking.{versions_in}

@@ -1,8 +1,8 @@
-use Rattle.std.proofs.Common.{◌+◌, ◌≡◌, true, false, not, List, [], drop, sym, ap, ◌∙◌, subst, rules}
+use Rattle.std.proofs.Common.{List, ap, ◌∙◌, subst, rules}
 use Rattle.photo_device.specs.declared.held.Held.{Held}
 use Rattle.photo_device.specs.Held.{find_version}
-use Rattle.photo_device.specs.Taking.{is_on_side, AreNewTo}
-use Rattle.photo_device.proofs.Taken.{IsTaking, is_starting, has_put, has_skipped, has_taken, not_found, next_new, next_left, none_left}
+use Rattle.photo_device.specs.Taking.{AreNewTo}
+use Rattle.photo_device.proofs.Taken.{IsTaking, is_starting, has_put, has_skipped, has_taken, next_new, next_left, none_left}
 use Rattle.photo_device.proofs.takes.put_side.Goals as goal
 
 pub loop-held-init : goal.loop-held-init

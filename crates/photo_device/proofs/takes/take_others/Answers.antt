@@ -1,11 +1,10 @@
-use Rattle.std.proofs.Common.{◌≡◌, ◌++◌, ◌+◌, not, false, List, [], Vec, drop, sym, ap, ◌∙◌, subst}
+use Rattle.std.proofs.Common.{◌≡◌, ◌+◌, not, false, List, drop, sym, ap, ◌∙◌, subst}
 use Rattle.std.specs.List.{AllByRecursion}
 use Rattle.std.proofs.lemmas.List.{drop_all}
 use Rattle.block_list.specs.Blocks.{joined}
 use Rattle.photo_device.specs.declared.held.Held.{Held}
-use Rattle.photo_device.specs.Held.{count_of, has_version_of}
+use Rattle.photo_device.specs.Held.{has_version_of}
 use Rattle.photo_device.specs.Taking.{AreNewTo, with_side}
-use Rattle.photo_device.proofs.Counts.{count_of-append}
 use Rattle.photo_device.proofs.Taken.{IsTaking, is_starting, has_taken}
 use Rattle.photo_device.proofs.Narrowed.{next_block, front_new, all_front, side_taken, none_pass, none_given_back, once_apart}
 use Rattle.photo_device.proofs.takes.take_others.Goals as goal

@@ -3,7 +3,7 @@ use Rattle.std.specs.List.{AllByRecursion}
 use Rattle.std.specs.Option.{is_some}
 use Rattle.item_knowledge.specs.Fragments.{Fragment, knows}
 use Rattle.photo_device.specs.declared.held.Held.{Held}
-use Rattle.photo_device.specs.Held.{find_version, count_of}
+use Rattle.photo_device.specs.Held.{entries_of, find_version, count_of}
 use Rattle.photo_device.specs.Device.{Shows, without_waiting}
 use Rattle.photo_device.specs.Own.{HasEarlier, IsKnownBy}
 use Rattle.photo_pull.specs.Found.{tells, versions, gains}
@@ -11,6 +11,7 @@ use Rattle.photo_pull.proofs.Ready.{AreReady}
 use Rattle.photo_pull.proofs.Changes.{shows_unchanged, shows_pulled, shows_handed, shows_not_handed}
 use Rattle.photo_pull.proofs.Asked.{drops_held, takes_new, takes_distinct, takes_earlier, takes_known, gain_own}
 use Rattle.photo_pull.proofs.Findings.{few_kept, told_of, drops_are, takes_are, heard_have, waiting_have, nothing_found, shows_change, counts_found}
+use Rattle.photo_pull.proofs.Moved.{all_moved, changed_moved, waiting_moved}
 use Rattle.photo_pull.proofs.exchange.pull.Goals as goal
 
 pub counts-counts-requires : goal.counts-counts-requires
@@ -45,7 +46,9 @@ change_for-requires-clause-handed c =
 pub apply-requires-clause-drops : goal.apply-requires-clause-drops
 apply-requires-clause-drops c =
     let ready : AreReady c.args.target.now c.args.source.now = record { target = c.knowledge.ensures.device; source = c.knowledge-2.ensures.device; one = c.requires.one } in
-    subst (AllByRecursion (λ v. is_some (find_version v (c.args.target.now.store ++ c.args.target.now.out)) ≡ true)) (sym (c.in_ok-change.ensures.drops ∙ drops_are c.args.target.now c.args.source.now c.in_ok-finding.finding c.in_ok-finding.ensures)) (drops_held c.args.target.now c.args.source.now ready)
+    let f = c.in_ok-finding.finding in
+    all_moved (λ v. is_some (find_version v (c.args.target.now.store ++ c.args.target.now.out))) (versions f.gone.stored.items ++ versions f.gone.waiting.items) c.in_ok-change.change.drops c.in_ok-change.ensures.drops
+    (subst (AllByRecursion (λ v. is_some (find_version v (c.args.target.now.store ++ c.args.target.now.out)) ≡ true)) (sym (drops_are c.args.target.now c.args.source.now f c.in_ok-finding.ensures)) (drops_held c.args.target.now c.args.source.now ready))
 
 pub apply-requires-clause-new : goal.apply-requires-clause-new
 apply-requires-clause-new c =
@@ -84,16 +87,19 @@ returns-clause-target c = λ t s shows_t shows_s.
     let f = c.in_ok-finding.finding in
     shows_pulled c.args.target.now c.args.source.now ready t s shows_t shows_s c.apply.new.self (knows c.in_ok-change.change.gain)
     (λ p v above. c.in_ok-change.ensures.gain p v above ∙ ap (λ (fs : List Fragment). (f.learned && knows fs p v) || (tells f.heard.items p v || tells f.news.waiting.items p v)) c.knowledge-3.ensures.value ∙ told_of c.args.target.now c.args.source.now f c.in_ok-finding.ensures p v)
-    (shows_change c.args.target.now c.args.source.now f c.in_ok-finding.ensures c.apply.new.self c.in_ok-change.change.drops c.in_ok-change.change.takes (knows c.in_ok-change.change.gain)
-    (c.in_ok-change.ensures.drops ∙ drops_are c.args.target.now c.args.source.now f c.in_ok-finding.ensures)
+    (shows_change c.args.target.now c.args.source.now f c.in_ok-finding.ensures c.apply.new.self (versions f.gone.stored.items ++ versions f.gone.waiting.items) c.in_ok-change.change.takes (knows c.in_ok-change.change.gain)
+    (drops_are c.args.target.now c.args.source.now f c.in_ok-finding.ensures)
     (c.in_ok-change.ensures.takes ∙ takes_are c.args.target.now c.args.source.now f c.in_ok-finding.ensures)
-    c.in-Ok.ensures.shows)
+    (λ m shows. subst (Shows c.apply.new.self) (changed_moved (versions f.gone.stored.items ++ versions f.gone.waiting.items) c.in_ok-change.change.drops c.in_ok-change.ensures.drops (entries_of c.in_ok-change.change.takes) (knows c.in_ok-change.change.gain) m) (c.in-Ok.ensures.shows m shows)))
 
 pub returns-clause-source : goal.returns-clause-source
 returns-clause-source c = λ t s shows_t shows_s.
     let ready : AreReady c.args.target.now c.args.source.now = record { target = c.knowledge.ensures.device; source = c.knowledge-2.ensures.device; one = c.requires.one } in
-    let handed = c.deref.ensures.value ∙ c.in_ok-handed.ensures ∙ ap versions c.in_ok-finding.ensures.waiting in
-    shows_handed c.args.target.now c.args.source.now ready t s shows_t shows_s c.drop_out.new.self (λ m shows. subst (λ vs. Shows c.drop_out.new.self (without_waiting vs m)) handed (c.drop_out.ensures m shows))
+    let f = c.in_ok-finding.finding in
+    shows_handed c.args.target.now c.args.source.now ready t s shows_t shows_s c.drop_out.new.self
+    (λ m shows. subst (λ vs. Shows c.drop_out.new.self (without_waiting vs m)) (ap versions c.in_ok-finding.ensures.waiting)
+    (subst (Shows c.drop_out.new.self) (waiting_moved (versions f.news.waiting.items) c.in_ok-handed.handed.items c.in_ok-handed.ensures m)
+    (subst (λ vs. Shows c.drop_out.new.self (without_waiting vs m)) c.deref.ensures.value (c.drop_out.ensures m shows))))
 
 pub returns-clause-counts : goal.returns-clause-counts
 returns-clause-counts c = λ t s shows_t shows_s.

@@ -1,6 +1,4 @@
-use Rattle.std.proofs.Common.{not, true, sym, subst}
-use Rattle.photo_device.specs.declared.held.Held.{Held}
-use Rattle.photo_device.specs.Held.{is_listed}
+use Rattle.std.proofs.Common.{sym, subst}
 use Rattle.photo_device.specs.Device.{Kept, Shows}
 use Rattle.photo_device.proofs.Changed.{shows_without, drops_device}
 use Rattle.photo_device.proofs.device.Device.drop_out.Goals as goal

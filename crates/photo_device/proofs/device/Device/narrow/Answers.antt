@@ -1,8 +1,7 @@
-use Rattle.std.proofs.Common.{◌≡◌, ◌-◌, not, false, length, arith, sym, ap, ◌∙◌, subst}
+use Rattle.std.proofs.Common.{◌-◌, length, arith, sym, ap, ◌∙◌, subst}
 use Rattle.photo_filter_rules.specs.Matching.{matches}
 use Rattle.photo_device.specs.declared.held.Held.{Held}
 use Rattle.photo_device.specs.Device.{Kept, Shows}
-use Rattle.photo_device.specs.Taking.{with_side}
 use Rattle.photo_device.proofs.Narrowed.{shorter, narrows_device, shows_narrowed, moved_away}
 use Rattle.photo_device.proofs.device.Device.narrow.Goals as goal
 

@@ -1,7 +1,6 @@
-use Rattle.std.proofs.Common.{◌≡◌, ◌++◌, ◌∙◌, true, false, sym, ap, subst}
+use Rattle.std.proofs.Common.{◌≡◌, ◌∙◌, true, false, sym, ap, subst}
 use Rattle.photo_device.specs.Held.{helds_without}
-use Rattle.photo_device.specs.Device.{Kept}
-use Rattle.photo_device.specs.Taking.{versions_in, AreNewTo, MayTake, HasTaken}
+use Rattle.photo_device.specs.Taking.{versions_in, MayTake}
 use Rattle.photo_device.proofs.Taken.{given_back}
 use Rattle.photo_device.proofs.Learned.{IsLearnedOf}
 use Rattle.photo_device.proofs.Changed.{all_new, new_to, fewer_in_store, fewer_in_out, takes_device, taken_device}

@@ -1,8 +1,8 @@
-use Rattle.std.proofs.Common.{◌≡◌, not, [], sym, ap, ◌∙◌, rules}
+use Rattle.std.proofs.Common.{◌≡◌, not, sym, ap, ◌∙◌, rules}
 use Rattle.std.specs.Prelude.{filter}
 use Rattle.std.proofs.lemmas.Fn.{always_returns_same}
 use Rattle.photo_device.specs.declared.held.Held.{Held}
-use Rattle.photo_device.specs.Held.{held_before, is_listed, helds_without}
+use Rattle.photo_device.specs.Held.{held_before, is_listed}
 use Rattle.photo_device.proofs.Putting.{in_order-filter}
 use Rattle.photo_device.proofs.Inserting.{without_none}
 use Rattle.photo_device.proofs.held_set.HeldSet.drop_versions.Goals as goal
