@@ -1,6 +1,7 @@
 mod changes;
 mod knowing;
 mod narrowing;
+mod sets;
 
 use crate::{Device, Held, HeldList, HeldSet, Place};
 use photo_filter_rules::Filter;
