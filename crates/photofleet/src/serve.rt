@@ -63,6 +63,56 @@ const NO_RUN: u8 = 4;
 /// The output could not be written.
 const BAD_OUTPUT: u8 = 5;
 
+/// What the program's help ends with.
+const OVERVIEW: &str =
+    "A script declares the devices of a household, each with what it is to keep, and then
+says what happens. Two lines of one:
+
+    device phone all
+    new phone 1 5 2026-07-01 beach,family
+
+A file with a script is run by
+
+    photofleet plain FILE
+
+and 'photofleet plain --help' tells all lines.";
+
+/// What the help of `plain` ends with.
+const LINES: &str = "Lines of a script, those of devices first:
+  device NAME FILTER              a device, and what it is to keep
+  new DEV PIC RATING DATE WORDS   the first version of a picture, made on a device
+  edit DEV PIC RATING DATE WORDS  a further version of a picture that the device holds
+  remove DEV PIC                  a version that removes a picture that the device holds
+  pull TARGET SOURCE              the first device takes and learns from the second
+  narrow DEV FILTER               the device is to keep less from now on
+  list DEV                        what the device holds
+  conflicts DEV                   the pictures of which it holds several versions
+  knowledge DEV                   the versions that it knows
+  knows DEV PIC VERSION           whether it knows that version of the picture
+  # TEXT                          nothing: it is for the reader alone
+
+NAME      a letter from a to z, and up to 15 such letters and digits
+DEV       a declared name, and so are TARGET and SOURCE
+PIC       a number from 1 to 999999999, another one for each 'new'
+RATING    a digit from 0 to 5
+DATE      YYYY-MM-DD
+WORDS     words with commas between them and no spaces, or - for none
+VERSION   NAME:N, the Nth version that the device made
+FILTER    tests joined by 'and', 'or' and 'not', with round brackets. A test is all, none,
+          rating OP 4, day OP 2026-12-31 or keyword beach, where OP is >=, <= or =
+
+Exit status: 0 done, 2 refused words, 3 script fault, 4 no memory, 5 output not written.
+
+Example: a phone's picture comes to a frame that shows good ones.
+
+    device phone all
+    device hall rating >= 4
+    new phone 1 5 2026-07-01 beach,family
+    pull hall phone
+    list hall
+
+Written to the file my.script, it is run by 'photofleet plain my.script'.";
+
 // What a command line asks for.
 pub enum Job<'a> {
     Plain { file: &'a str },
@@ -240,14 +290,16 @@ fn command_line<'a>(alloc: Global) -> Result<Command<'a>, AllocError>
     ensures { IfOk result (λ command. app_of command ≡ program) }
 {
     let file = Arg::new(alloc, "FILE")
-        .help("The script")
+        .help("The file with the script")
         .required(true)
         .action(ArgAction::Set);
     let plain = Command::new(alloc, "plain")
         .about("Runs a script command by command and prints the reports")
+        .after_help(LINES)
         .arg(file)?;
     Command::new(alloc, "photofleet")
         .about("Runs scripts of a photo collection")
+        .after_help(OVERVIEW)
         .subcommand_required(true)
         .subcommand(plain)
 }
