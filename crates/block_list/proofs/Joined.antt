@@ -129,3 +129,9 @@ module _ {T : Type 0} where
   start_within (d ∷ ds) b k place =
       let within = place.within d in
       omega (arith, (start_more (d ∷ ds) b d place.block).1)
+
+  pub element_within : (blocks : List (Vec T Global)) (b k : ℕ) → IsElement blocks (start_of blocks b + k) b k → start_of blocks b + k < length (joined blocks)
+  element_within [] b k place = let inside = place.block in absurd (omega arith)
+  element_within (d ∷ ds) b k place =
+      let within = place.within d in
+      omega (arith, (start_more (d ∷ ds) b d place.block).1)

@@ -1,13 +1,14 @@
 -- One element in the place of those between the turns of two tests.
-use Rattle.std.proofs.Common.{◌≡◌, ℕ, zero, suc, ◌+◌, ◌<◌, ◌≤◌, Bool, true, false, List, [], ◌∷◌, ◌++◌, length, get_or, take, drop, Vec, Some, None, slice_get, refl, subst, sym, ap, ◌∙◌, inl, inr, arith}
+use Rattle.std.proofs.Common.{◌≡◌, ℕ, zero, suc, ◌+◌, ◌-◌, ◌<◌, ◌≤◌, Bool, true, false, List, [], ◌∷◌, ◌++◌, length, get_or, set, take, drop, Vec, Some, None, slice_get, refl, subst, sym, ap, ◌∙◌, inl, inr, arith}
 use Rattle.std.specs.List.{insert}
 use Rattle.std.specs.List.Sorted.{IsPartitionedBy, IsPartitionPoint}
 use Rattle.std.specs.declared.alloc.Global.{Global}
 use Rattle.std.proofs.lemmas.Bool.{cases_Bool, cases_lt, lt-ltb, le-ltb, false≢true}
-use Rattle.std.proofs.lemmas.List.{get_or_default, take_all}
+use Rattle.std.proofs.lemmas.List.{get_or_default, set_split, take_all}
 use Rattle.std.proofs.lemmas.Option.{slice_get-get_or, slice_get_past}
-use Rattle.block_list.specs.Blocks.{joined, AreFilled, start_of, IsPlace, IsReplaced, TellsBetween}
-use Rattle.block_list.proofs.Joined.{start_more, start_within, read_at}
+use Rattle.block_list.specs.Blocks.{joined, AreFilled, start_of, IsPlace, IsElement, IsReplaced, TellsBetween}
+use Rattle.block_list.proofs.Joined.{start_more, start_within, element_within, read_at}
+use Rattle.block_list.proofs.Nearby.{turns_between}
 
 module _ {T : Type 0} where
   -- what stands behind a place in a block
@@ -91,6 +92,30 @@ module _ {T : Type 0} where
           last = last_point;
         };
         list = is less;
+      }
+
+  -- it is the only one of those
+
+  pub put_only : (p q : T → Bool) (old new : List T) (blocks at behind alone : List (Vec T Global)) (b k : ℕ) (x : T) (found : Bool) → at ≡ blocks → behind ≡ blocks → alone ≡ blocks → joined blocks ≡ old → IsElement alone (start_of alone b + k) b k → (IsPartitionedBy p (joined at) → IsPartitionPoint (λ y. p y ≡ true) (λ y. p y ≡ false) (joined at) (start_of at b + k)) → ((y : T) → slice_get (joined behind) (start_of behind b + k) ≡ Some y → q y ≡ found) → found ≡ true → ((y : T) → slice_get (joined alone) (start_of alone b + (k + 1)) ≡ Some y → q y ≡ false) → IsPartitionedBy p old → IsPartitionedBy q old → new ≡ set (joined blocks) (start_of blocks b + k) x → IsReplaced p q old x new
+  put_only p q old new blocks at behind alone b k x found at_is behind_is alone_is old_is element first passes is_found last parts_p parts_q is =
+      let from = start_of blocks b + k in
+      let inside : from < length old = rw old_is at (element_within blocks b k (rw alone_is at element)) in
+      let point = (rw old_is at (rw at_is at first)) parts_p in
+      let passed : (y : T) → slice_get old from ≡ Some y → q y ≡ true = λ y e. (rw old_is at (rw behind_is at passes)) y e ∙ is_found in
+      let next : from + 1 ≡ start_of blocks b + (k + 1) = omega arith in
+      let failed : (y : T) → slice_get old (from + 1) ≡ Some y → q y ≡ false = λ y e. (rw old_is at (rw alone_is at last)) y (ap (λ n. slice_get old n) (sym next) ∙ e) in
+      let back : from + 1 - 1 ≡ from = omega arith in
+      let behind_it : from + 1 ≡ suc from = omega arith in
+      record {
+        from = from;
+        to = from + 1;
+        between = record {
+          order = omega arith;
+          within = omega arith;
+          first = point;
+          last = turns_between q old (from + 1) (omega arith) (λ d some. ap (λ n. q (get_or old n d)) back ∙ passed _ (slice_get-get_or old from d inside)) failed parts_q;
+        };
+        list = rw old_is at is ∙ set_split old from x inside ∙ ap (λ n. take from old ++ x ∷ drop n old) (sym behind_it);
       }
 
   -- whether there is one

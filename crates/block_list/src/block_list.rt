@@ -1,6 +1,8 @@
-use crate::blocks::{element_at, insert_at, insert_in, pop_last, remove_between, set_at};
+use crate::Spot;
+use crate::blocks::{element_at, insert_at, insert_in, pop_last, remove_between, set_at, set_in};
 use crate::kept::retain_in;
-use crate::search::{first_failing, index_of, passes_behind, spot_of};
+use crate::near::spot_near;
+use crate::search::{element_behind, first_failing, index_of, is_alone, passes_behind, spot_of};
 use std::alloc::{AllocError, Global};
 use std::marker::Model;
 
@@ -26,7 +28,9 @@ impl<T> Model for BlockList<T> {
 }
 
 impl<T> BlockList<T> {
-    ghost use Rattle.std.specs.Prelude.{◌≡◌, ◌<◌, ◌≤◌, ◌==◌, Bool, true, false, [], length, slice_get, Some};
+    ghost use Rattle.std.specs.Prelude.{◌≡◌, ◌<◌, ◌≤◌, ◌==◌, Bool, true, false, not, [], length, slice_get, Some};
+    ghost use Rattle.std.specs.Option.{option_copied};
+    ghost use Rattle.std.specs.List.{find};
     ghost use Rattle.std.specs.List.Sorted.{IsPartitionedBy, IsPartitionPoint};
     ghost use Rattle.std.specs.Fn.{ComputesKey};
     ghost use Rattle.block_list.specs.Blocks.{joined, IsKept, TellsBetween};
@@ -89,6 +93,34 @@ impl<T> BlockList<T> {
         first_failing(&self.blocks, pred)
     }
 
+    /// The first element that fails the test, in a list where those that pass stand before those that fail. It counts no
+    /// blocks.
+    pub fn find_failing<P: Fn(&T) -> bool>(&self, pred: P) -> Option<&T>
+        requires { P.IsAlwaysCallable pred }
+        ensures { (p : T → Bool) → ComputesKey P.FnMut p pred → IsPartitionedBy p self.now → option_copied result ≡ find (λ y. not (p y)) self.now }
+    {
+        if self.blocks.is_empty() {
+            return None;
+        }
+        let (block, place) = spot_of(&self.blocks, pred);
+        element_behind(&self.blocks, block, place)
+    }
+
+    /// What `find_failing` gives, and a hint for the next search. Any hint will do.
+    ///
+    /// Where searches go along the list, each with the hint that the one before gave, the work for one is small.
+    pub fn find_failing_near<P: Fn(&T) -> bool>(&self, near: Spot, pred: P) -> (Option<&T>, Spot)
+        requires { P.IsAlwaysCallable pred }
+        ensures { (p : T → Bool) → ComputesKey P.FnMut p pred → IsPartitionedBy p self.now → option_copied result.0 ≡ find (λ y. not (p y)) self.now }
+    {
+        if self.blocks.is_empty() {
+            return (None, near);
+        }
+        let (block, place) = spot_near(&self.blocks, near, pred);
+        let found = element_behind(&self.blocks, block, place);
+        (found, Spot { block, place })
+    }
+
     /// Whether there are elements that fail the first test and pass the second, in a list where those that pass a test
     /// stand before those that fail it, and what passes the first test passes the second. It counts no blocks.
     pub fn any_between<P: Fn(&T) -> bool, Q: Fn(&T) -> bool>(&self, before: P, through: Q) -> bool
@@ -130,8 +162,8 @@ impl<T: Drop> BlockList<T> {
     /// Puts an element in the place of those that fail the first test and pass the second, or where they would stand.
     ///
     /// The list is one where those that pass a test stand before those that fail it, and what passes the first test
-    /// passes the second. Where there is none to replace, this counts no blocks. The only error is want of memory, also
-    /// for a list of `usize::MAX` elements. It leaves the list as it was.
+    /// passes the second. Where at most one is to be replaced, this seldom counts blocks. The only error is want of
+    /// memory, also for a list of `usize::MAX` elements. It leaves the list as it was.
     pub fn replace_between<P: Fn(&T) -> bool, Q: Fn(&T) -> bool>(
         &mut self,
         before: P,
@@ -149,6 +181,10 @@ impl<T: Drop> BlockList<T> {
         }
         let (block, place) = spot_of(&self.blocks, before);
         if passes_behind(&self.blocks, block, place, &through) {
+            if is_alone(&self.blocks, block, place, &through) {
+                set_in(&mut self.blocks, block, place, item);
+                return Ok(());
+            }
             let from = index_of(&self.blocks, block, place);
             let to = first_failing(&self.blocks, through);
             self.set(from, item);

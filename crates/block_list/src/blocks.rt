@@ -113,6 +113,16 @@ pub fn set_at<T: Drop>(blocks: &mut Vec<Vec<T>>, i: usize, item: T)
     blocks[block][place] = item;
 }
 
+/// Puts an element in the place of one in a block.
+pub fn set_in<T: Drop>(blocks: &mut Vec<Vec<T>>, block: usize, place: usize, item: T)
+    requires filled { AreFilled blocks.old.items }
+    requires element { IsElement blocks.old.items (start_of blocks.old.items block + place) block place }
+    ensures set { joined blocks.new.items ≡ slice_set (joined blocks.old.items) (start_of blocks.old.items block + place) item }
+    ensures filled { AreFilled blocks.new.items }
+{
+    blocks[block][place] = item;
+}
+
 /// Gives up the elements of a block from place `from` up to before place `to`.
 fn remove_part<T: Drop>(block: &mut Vec<T>, from: usize, to: usize)
     requires order { from ≤ to }

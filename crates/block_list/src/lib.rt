@@ -4,12 +4,15 @@
 mod block_list;
 mod blocks;
 mod kept;
+mod near;
 mod room;
 mod search;
 mod spare;
+mod spot;
 
 pub use block_list::BlockList;
 pub use room::Room;
+pub use spot::Spot;
 
 #[cfg(test)]
 mod tests;

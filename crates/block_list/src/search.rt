@@ -3,7 +3,7 @@ ghost use Rattle.std.specs.Prelude.{◌≡◌, ◌+◌, ◌^◌, ◌<◌, ◌≤
 ghost use Rattle.std.specs.Option.{option_copied};
 ghost use Rattle.std.specs.List.Sorted.{IsPartitionedBy, IsPartitionPoint};
 ghost use Rattle.std.specs.Fn.{ComputesKey};
-ghost use Rattle.block_list.specs.Blocks.{joined, AreFilled, start_of, IsPlace, IsTurn};
+ghost use Rattle.block_list.specs.Blocks.{joined, AreFilled, start_of, IsPlace, IsElement, IsTurn};
 
 /// How many elements stand before block `block`.
 #[tactic(auto, using(crate::proofs::Joined::start_more))]
@@ -81,7 +81,7 @@ pub fn index_of<T>(blocks: &[Vec<T>], block: usize, place: usize) -> usize
 }
 
 /// The element at a place in a block, or behind its last the first of the next one.
-fn element_behind<T>(blocks: &[Vec<T>], block: usize, place: usize) -> Option<&T>
+pub fn element_behind<T>(blocks: &[Vec<T>], block: usize, place: usize) -> Option<&T>
     requires filled { AreFilled blocks.now }
     requires place { IsPlace blocks.now (start_of blocks.now block + place) block place }
     ensures { option_copied result ≡ slice_get (joined blocks.now) (start_of blocks.now block + place) }
@@ -113,4 +113,24 @@ pub fn passes_behind<T, P: Fn(&T) -> bool>(
         Some(item) => pred(item),
         None => false,
     }
+}
+
+/// Whether the element behind a place stands in its block, and the one behind that is the first to fail the test, or
+/// there is none.
+pub fn is_alone<T, P: Fn(&T) -> bool>(
+    blocks: &[Vec<T>],
+    block: usize,
+    place: usize,
+    pred: &P,
+) -> bool
+    requires callable { P.IsAlwaysCallable pred.now }
+    requires filled { AreFilled blocks.now }
+    requires place { IsPlace blocks.now (start_of blocks.now block + place) block place }
+    ensures inside { result ≡ true → IsElement blocks.now (start_of blocks.now block + place) block place }
+    ensures last { result ≡ true → (p : T → Bool) → ComputesKey P.FnMut p pred.now → (x : T) → slice_get (joined blocks.now) (start_of blocks.now block + (place + 1)) ≡ Some x → p x ≡ false }
+{
+    if place >= blocks[block].len() {
+        return false;
+    }
+    !passes_behind(blocks, block, place + 1, pred)
 }

@@ -16,7 +16,7 @@ use Rattle.photo_device.specs.Held.{held_before, stands_before, stands_behind, i
 use Rattle.photo_device.proofs.Lexical.{held_order, held_apart, held_same}
 use Rattle.photo_device.proofs.Putting.{partitioned, put_at, turns_once, in_order-put, list_all_wider, partitioned_upto, filter_all}
 
-found_later : {X : Type 0} (q : X → Bool) (x : X) (xs : List X) (b : Bool) → cond b (Some x) (find q xs) ≡ None → (b ≡ false) × (find q xs ≡ None)
+pub found_later : {X : Type 0} (q : X → Bool) (x : X) (xs : List X) (b : Bool) → cond b (Some x) (find q xs) ≡ None → (b ≡ false) × (find q xs ≡ None)
 found_later q x xs true h = absurd cc
 found_later q x xs false h = (refl, h)
 
@@ -55,7 +55,7 @@ in_order-inserted h xs o none =
 
 -- Whether a version of a picture is there
 
-abbrev key_of : ℕ → Version → Held
+abbrev pub key_of : ℕ → Version → Held
 key_of picture version = record { picture = picture; version = version; made_with = []; content = Removed }
 
 same_between : (is p q : Held → Bool) → ((y : Held) → is y ≡ (not (p y) && q y)) → (xs : List Held) (from to : ℕ) → AreBetween p q xs from to → ltb from to ≡ list_any is xs

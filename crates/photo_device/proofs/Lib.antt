@@ -9,12 +9,13 @@ pub mod Replacing
 pub mod Lexical
 pub mod Putting
 pub mod Inserting
+pub mod Located
+pub mod Recalled
 pub mod Seeking
 pub mod Taken
 pub mod Learned
 pub mod Changed
 pub mod Narrowed
-pub mod SetLemmas
 pub mod Grouping
 pub mod Runs
 pub mod Merging

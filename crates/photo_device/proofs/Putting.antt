@@ -1,7 +1,7 @@
 -- Lists in the order of a test: what is put into them, and what a filter leaves of them.
-use Rattle.std.proofs.Common.{◌≡◌, ℕ, zero, suc, ◌+◌, ◌<◌, ◌≤◌, Bool, true, false, not, cond, ◌||◌, List, [], ◌∷◌, ◌++◌, length, get_or, take, drop, refl, sym, ap, ◌∙◌, inl, inr, arith}
+use Rattle.std.proofs.Common.{◌≡◌, ℕ, zero, suc, ◌<◌, ◌≤◌, Bool, true, false, not, cond, ◌||◌, List, [], ◌∷◌, ◌++◌, length, get_or, take, drop, refl, sym, ap, ◌∙◌, inl, inr, arith}
 use Rattle.std.specs.Prelude.{filter}
-use Rattle.std.specs.List.{list_all, list_any}
+use Rattle.std.specs.List.{list_all}
 use Rattle.std.specs.List.Sorted.{IsPartitionedBy, IsPartitionPoint}
 use Rattle.std.specs.Cmp.{IsStrictWeakOrder}
 use Rattle.std.proofs.lemmas.Bool.{and_parts, and_from, cases_Bool, cases_lt, false≢true, not-true}
@@ -50,19 +50,6 @@ module _ {A : Type 0} where
           | false ↦ and_from _ _ p a
         ]
 
-    pub list_any-put : (q : A → Bool) (x : A) (xs : List A) → list_any q (put before x xs) ≡ (q x || list_any q xs)
-    list_any-put q x [] = refl
-    list_any-put q x (y ∷ ys) =
-        elim (before y x) as (λ b. list_any q (cond b (y ∷ put before x ys) (x ∷ y ∷ ys)) ≡ (q x || (q y || list_any q ys))) [
-          | true ↦ ap (λ b. q y || b) (list_any-put q x ys) ∙ swapped (q y) (q x) (list_any q ys)
-          | false ↦ refl
-        ]
-      where
-        swapped : (a b c : Bool) → (a || (b || c)) ≡ (b || (a || c))
-        swapped true true c = refl
-        swapped true false c = refl
-        swapped false b c = refl
-
     -- what a test leaves out, a put changes nothing of
     pub filter-put_out : (q : A → Bool) (x : A) (xs : List A) → q x ≡ false → filter q (put before x xs) ≡ filter q xs
     filter-put_out q x [] f = rw f refl
@@ -71,29 +58,6 @@ module _ {A : Type 0} where
           | true ↦ ap (λ l. cond (q y) (y ∷ l) l) (filter-put_out q x ys f)
           | false ↦ rw f refl
         ]
-
-    pub length-put : (x : A) (xs : List A) → length (put before x xs) ≡ length xs + 1
-    length-put x [] = refl
-    length-put x (y ∷ ys) =
-        elim (before y x) as (λ b. length (cond b (y ∷ put before x ys) (x ∷ y ∷ ys)) ≡ length (y ∷ ys) + 1) [
-          | true ↦ omega (arith, length-put x ys)
-          | false ↦ omega arith
-        ]
-
-    -- how many pass a test
-    pub length-filter_put : (q : A → Bool) (x : A) (xs : List A) → length (filter q (put before x xs)) ≡ length (filter q (x ∷ xs))
-    length-filter_put q x [] = refl
-    length-filter_put q x (y ∷ ys) =
-        elim (before y x) as (λ b. length (filter q (cond b (y ∷ put before x ys) (x ∷ y ∷ ys))) ≡ length (filter q (x ∷ y ∷ ys))) [
-          | true ↦ counted (q y) (q x) (filter q ys) (filter q (put before x ys)) (length-filter_put q x ys)
-          | false ↦ refl
-        ]
-      where
-        counted : (a b : Bool) (l m : List A) → length m ≡ length (cond b (x ∷ l) l) → length (cond a (y ∷ m) m) ≡ length (cond b (x ∷ cond a (y ∷ l) l) (cond a (y ∷ l) l))
-        counted true true l m e = omega arith
-        counted true false l m e = omega arith
-        counted false true l m e = e
-        counted false false l m e = e
 
   pub list_all_get : (q : A → Bool) (xs : List A) → list_all q xs ≡ true → (j : ℕ) (d : A) → j < length xs → q (get_or xs j d) ≡ true
   list_all_get q [] a j d l = absurd (omega arith)

@@ -1,6 +1,6 @@
 -- Versions of pictures with what they say.
-use Rattle.std.specs.Prelude.{ℕ, Bool, true, false, not, ◌&&◌, ◌||◌, ◌==◌, nat_lt, List, [], ◌∷◌, filter}
-use Rattle.std.specs.List.{list_any}
+use Rattle.std.specs.Prelude.{ℕ, Bool, true, false, not, ◌&&◌, ◌||◌, ◌==◌, nat_lt, List, [], ◌∷◌, filter, Option}
+use Rattle.std.specs.List.{find, list_any}
 use Rattle.photo_record.specs.declared.record.Record.{Record}
 use Rattle.photo_version.specs.Version.{Version, Versions, same_version, version_before}
 use Rattle.photo_device.specs.Ordered.{put}
@@ -38,6 +38,10 @@ put_entry_if false e entries = entries
 abbrev pub put_entries : List Entry → List Entry → List Entry
 put_entries [] entries = entries
 put_entries (e ∷ more) entries = put_entry e (put_entries more entries)
+
+-- the one that is that version of that picture
+abbrev pub find_entry : ℕ → Version → List Entry → Option Entry
+find_entry picture version entries = find (λ e. (e.picture == picture) && same_version e.version version) entries
 
 -- w supersedes v: it is of the same picture, and v was known when it was made
 abbrev pub supersedes : Entry → Entry → Bool

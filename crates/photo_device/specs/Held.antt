@@ -64,6 +64,10 @@ has_picture picture helds = list_any (λ h. h.picture == picture) helds
 abbrev pub has_version_of : ℕ → Version → List Held → Bool
 has_version_of picture version helds = list_any (λ h. is_of h picture version) helds
 
+-- the one that is that version of that picture
+abbrev pub find_version_of : ℕ → Version → List Held → Option Held
+find_version_of picture version helds = find (λ h. is_of h picture version) helds
+
 -- a version is among versions
 abbrev pub is_listed : List Version → Version → Bool
 is_listed versions version = list_any (λ v. same_version v version) versions

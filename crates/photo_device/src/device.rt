@@ -39,13 +39,14 @@ impl Model for Device {
 impl Device {
     ghost use Rattle.std.specs.Prelude.{◌≡◌, ◌≢◌, ℕ, ◌+◌, ◌<◌, ◌≤◌, ◌||◌, ◌++◌, true, false, is_some, None, Err, IfOk, IfErr, OnOk, OnErr};
     ghost use Rattle.std.specs.List.{AllByRecursion};
-    ghost use Rattle.std.specs.Option.{option_copied};
-    ghost use Rattle.photo_device.specs.Held.{find_version, has_picture, count_of, entries_of};
+    ghost use Rattle.std.specs.Option.{option_copied, option_map};
+    ghost use Rattle.photo_device.specs.Entry.{find_entry};
+    ghost use Rattle.photo_device.specs.Held.{find_version, find_version_of, has_picture, count_of, entry_of, entries_of};
     ghost use Rattle.photo_device.specs.Own.{HasEarlier, HasMade, IsDevice, IsKnownBy, IsNext};
     ghost use Rattle.photo_device.specs.Taking.{HasTaken, MayTake};
     ghost use Rattle.photo_version.specs.Version as versions;
     ghost use Rattle.item_knowledge.specs.Fragments.{knows};
-    ghost use Rattle.photo_device.specs.Device.{ModelDevice, Shows, opening, made, next_version, new_place, is_held, changed, without_waiting, narrowed, moved};
+    ghost use Rattle.photo_device.specs.Device.{ModelDevice, Shows, opening, made, next_version, new_place, is_held, changed, holds, without_waiting, narrowed, moved};
     ghost use Rattle.photo_device.specs.Conflicts.{conflicts_of};
     ghost use Rattle.photo_record.specs.declared.record.Record.TheVariants.{Removed};
     ghost use Rattle.photo_device.specs.declared.fault.ChangeFault.TheVariants.{NotHeld};
@@ -193,6 +194,18 @@ impl Device {
         match self.store.find(version) {
             Some(held) => Some(held),
             None => self.out.find(version),
+        }
+    }
+
+    /// What it holds of that version of that picture, in the store or in the out. It is found by a search, which takes no
+    /// memory.
+    pub fn held_of(&self, picture: PicNo, version: Version) -> Option<&Held>
+        ensures held { option_copied result ≡ find_version_of picture version (self.now.store ++ self.now.out) }
+        ensures shows { (m : ModelDevice) → Shows self.now m → option_map entry_of (option_copied result) ≡ find_entry picture version (holds m) }
+    {
+        match self.store.of(picture, version) {
+            Some(held) => Some(held),
+            None => self.out.of(picture, version),
         }
     }
 

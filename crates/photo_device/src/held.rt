@@ -15,7 +15,7 @@ pub struct Held {
 }
 
 impl Held {
-    ghost use Rattle.photo_device.specs.Held.{stands_before, stands_behind};
+    ghost use Rattle.photo_device.specs.Held.{stands_before, stands_behind, is_of};
 
     /// An equal held version. Its only error is want of memory.
     pub fn try_clone(&self) -> Result<Held, AllocError>
@@ -41,5 +41,11 @@ impl Held {
         ensures { result ≡ stands_behind self.now picture version }
     {
         picture < self.picture || (picture == self.picture && version < self.version)
+    }
+    /// Whether it is that version of that picture.
+    pub(crate) fn is_of(&self, picture: PicNo, version: Version) -> bool
+        ensures { result ≡ is_of self.now picture version }
+    {
+        self.picture == picture && self.version == version
     }
 }

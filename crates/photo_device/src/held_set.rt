@@ -5,7 +5,7 @@ ghost use Rattle.photo_device.specs.Held.{find_version};
 use crate::range::range_of;
 use crate::sought::Sought;
 use crate::{Held, HeldList};
-use block_list::BlockList;
+use block_list::{BlockList, Spot};
 use photo_filter_rules::Filter;
 use photo_record::PicNo;
 use photo_version::Version;
@@ -38,7 +38,7 @@ impl HeldSet {
     ghost use Rattle.photo_filter_rules.specs.Matching.{matches};
     ghost use Rattle.block_list.specs.Blocks.{joined};
     ghost use Rattle.photo_device.specs.Ordered.{put};
-    ghost use Rattle.photo_device.specs.Held.{held_before, are_in_order, held_of_others, has_picture, has_version_of, helds_without, replaced, find_version};
+    ghost use Rattle.photo_device.specs.Held.{held_before, are_in_order, held_of_others, has_picture, has_version_of, helds_without, replaced, find_version, find_version_of};
 
     pub(crate) fn new(alloc: Global) -> HeldSet
         ensures { result ≡ [] }
@@ -87,6 +87,36 @@ impl HeldSet {
             |held| held.is_before(picture, version),
             |held| !held.is_behind(picture, version),
         )
+    }
+
+    /// Whether it has that version of that picture, and a hint for the next question. It takes no memory. Any hint will do:
+    /// `Spot::start()`, or what an earlier question gave.
+    ///
+    /// Where questions come in the order of pictures, and of the versions of each, every one with the hint that the one
+    /// before gave, the work for one is small.
+    pub fn has_near(&self, near: Spot, picture: PicNo, version: Version) -> (bool, Spot)
+        ensures { result.0 ≡ has_version_of picture version self.now }
+    {
+        let (found, spot) = self
+            .items
+            .find_failing_near(near, |held| held.is_before(picture, version));
+        let Some(held) = found else {
+            return (false, spot);
+        };
+        (held.is_of(picture, version), spot)
+    }
+
+    /// That version of that picture, if it has it. It is found by a search, which takes no memory.
+    pub fn of(&self, picture: PicNo, version: Version) -> Option<&Held>
+        ensures { option_copied result ≡ find_version_of picture version self.now }
+    {
+        let held = self
+            .items
+            .find_failing(|held| held.is_before(picture, version))?;
+        if !held.is_of(picture, version) {
+            return None;
+        }
+        Some(held)
     }
 
     /// The held versions as a list. Its only error is want of memory.

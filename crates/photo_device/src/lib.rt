@@ -14,6 +14,7 @@ mod range;
 mod sought;
 mod takes;
 
+pub use block_list::Spot;
 pub use change::Change;
 pub use conflict::Conflict;
 pub use device::Device;

@@ -1,6 +1,7 @@
 mod changes;
 mod knowing;
 mod narrowing;
+mod near;
 mod sets;
 
 use crate::{Device, Held, HeldList, HeldSet, Place};
@@ -73,7 +74,11 @@ fn held(device: &Device, n: u32) -> Option<&Held> {
 /// Whether a device holds its version of that number, of that picture and with that record.
 fn has(device: &Device, n: u32, number: u32, content: &Record) -> bool {
     match held(device, n) {
-        Some(held) => held.picture.value() == number && held.content == *content,
+        Some(held) => {
+            held.picture.value() == number
+                && held.content == *content
+                && device.held_of(held.picture, held.version) == Some(held)
+        }
         None => false,
     }
 }

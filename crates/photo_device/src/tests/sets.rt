@@ -7,12 +7,12 @@ use photo_version::{Author, Vector, Version};
 use std::alloc::Global;
 
 /// A version by its author and number.
-fn version(author: u16, number: u32) -> Option<Version> {
+pub fn version(author: u16, number: u32) -> Option<Version> {
     Version::new(Author::new(author), number)
 }
 
 /// A held version: its picture, its author, its number and its rating.
-type Row = (u32, u16, u32, u8);
+pub type Row = (u32, u16, u32, u8);
 
 fn held(alloc: Global, row: Row) -> Option<Held> {
     let (picture, author, number, rating) = row;
@@ -25,7 +25,7 @@ fn held(alloc: Global, row: Row) -> Option<Held> {
 }
 
 /// Puts a held version into a set that hasn't its version.
-fn put(alloc: Global, set: &mut HeldSet, row: Row) -> bool {
+pub fn put(alloc: Global, set: &mut HeldSet, row: Row) -> bool {
     match held(alloc, row) {
         Some(held) => set.find(held.version).is_none() && set.insert(held).is_ok(),
         None => false,
