@@ -8,6 +8,7 @@ pub mod RowLemmas
 pub mod SpanLemmas
 pub mod AddLemmas
 pub mod GatherLemmas
+pub mod ChainLemmas
 pub mod PlaceLemmas
 pub mod IndexLemmas
 pub mod UnionLemmas

@@ -1,38 +1,15 @@
 -- The place of the group with a vector, as groups grow.
-use Rattle.std.proofs.Common.{◌≡◌, ℕ, suc, ◌<◌, Bool, true, false, eqb, cond, ◌&&◌, List, [], ◌∷◌, ◌++◌, length, get_or, slice_set, refl, sym, subst, ap, ◌∙◌, inl, inr, arith, Option, None, Some}
-use Rattle.std.specs.declared.cmp.Ordering.{Ordering}
-use Rattle.std.specs.declared.cmp.Ordering.TheVariants.{Less, Equal, Greater}
-use Rattle.std.specs.Ordering.{nat_cmp, ordering_then, is_eq}
-use Rattle.std.specs.Cmp.Lexicographic.{slice_cmp, pointwise}
-use Rattle.std.proofs.lemmas.Bool.{cases_Bool, false≢true}
-use Rattle.std.proofs.lemmas.Bool.Decides.{nat_tests}
+use Rattle.std.proofs.Common.{◌≡◌, ℕ, zero, suc, ◌<◌, Bool, true, false, cond, List, [], ◌∷◌, ◌++◌, length, get_or, slice_set, refl, sym, subst, ap, ◌∙◌, inl, inr, arith, Option, None, Some, length-append}
+use Rattle.std.proofs.Math.ListN.{get_or-append}
+use Rattle.std.proofs.Math.Seq.{get_or-append_seam}
+use Rattle.std.proofs.lemmas.Bool.{cases_Bool, cases_lt, false≢true}
 use Rattle.item_knowledge.specs.Entries.{Entry, same_entries}
-use Rattle.item_knowledge.specs.Fragments.{Fragment}
+use Rattle.item_knowledge.specs.Fragments.{Fragment, nothing}
 use Rattle.item_knowledge.specs.Gathering.{add, place, after}
-use Rattle.item_knowledge.specs.Rows.{pairs, IsRow}
-use Rattle.item_knowledge.proofs.RowLemmas.{same_rows}
+use Rattle.item_knowledge.specs.Places.{is_new}
+use Rattle.item_knowledge.specs.Rows.{pairs, flat, IsRow, grouped, rows_of}
 use Rattle.item_knowledge.proofs.FragmentLemmas.{entries_decide}
 use Rattle.item_knowledge.proofs.AddLemmas.{with_one, add_here, add_later}
-
-is_eq_then : (a b : Ordering) → is_eq (ordering_then a b) ≡ (is_eq a && is_eq b)
-is_eq_then Less b = refl
-is_eq_then Equal b = refl
-is_eq_then Greater b = refl
-
-is_eq_nat : (a b : ℕ) → is_eq (nat_cmp a b) ≡ eqb a b
-is_eq_nat a b = grind (arith, nat_tests)
-
-compared : (xs ys : List ℕ) → is_eq (slice_cmp nat_cmp xs ys) ≡ pointwise (λ a b. eqb a b) xs ys
-compared [] [] = refl
-compared [] (y ∷ ys) = refl
-compared (x ∷ xs) [] = refl
-compared (x ∷ xs) (y ∷ ys) =
-    is_eq_then (nat_cmp x y) (slice_cmp nat_cmp xs ys)
-    ∙ (λ i. is_eq_nat x y i && compared xs ys i)
-
--- rows that compare alike are those of the same entries
-pub same_keys : (xs ys : List ℕ) → IsRow xs → IsRow ys → is_eq (slice_cmp nat_cmp xs ys) ≡ same_entries (pairs xs) (pairs ys)
-same_keys xs ys h g = compared xs ys ∙ same_rows xs ys h g
 
 pub place_here : (g : Fragment) (gs : List Fragment) (v : List Entry) → same_entries g.entries v ≡ true → place (g ∷ gs) v ≡ Some 0
 place_here g gs v h = rw h refl
@@ -125,13 +102,100 @@ place_added p v w (g ∷ gs) h =
 pub place_of_added : (p : ℕ) (v : List Entry) (gs : List Fragment) → place gs v ≡ None → place (add p v gs) v ≡ Some (length gs)
 place_of_added p v gs h = place_added p v v gs h ∙ ap (λ b. cond b (Some (length gs)) (place gs v)) ((entries_decide v v).1 refl)
 
--- what the code writes at the place
-pub grown_is : (gs : List Fragment) (v : List Entry) (p k : ℕ) (g new : Fragment) → place gs v ≡ Some k → g ≡ get_or gs k g → new ≡ with_one g p → slice_set gs k new ≡ add p v gs
-grown_is gs v p k g new h at is = ap (slice_set gs k) (is ∙ ap (λ x. with_one x p) at) ∙ add_found p v gs k g h
+-- Groups whose pictures stand beside their rows
 
--- what the map has after the group's place came into it
-pub placed_more : (gs : List Fragment) (p n : ℕ) (v : List Entry) (ws key : List ℕ) (old new : Option ℕ) → IsRow key → pairs key ≡ v → IsRow ws → n ≡ length gs → place gs v ≡ None → old ≡ place gs (pairs ws) → new ≡ cond (is_eq (slice_cmp nat_cmp key ws)) (Some n) old → new ≡ place (add p v gs) (pairs ws)
-placed_more gs p n v ws key old new r k w l none before after_insert =
-    after_insert
-    ∙ ((λ i. cond ((same_keys key ws r w ∙ ap (λ es. same_entries es (pairs ws)) k) i) (Some (l i)) (before i))
-    ∙ sym (place_added p v (pairs ws) gs none))
+abbrev pub are_rows : List (List ℕ) → Type 0
+are_rows rows = (k : ℕ) → k < length rows → IsRow (get_or rows k [])
+
+abbrev pub are_once : List (List ℕ) → Type 0
+are_once rows = (j k : ℕ) → j < k → k < length rows → get_or rows j [] ≡ get_or rows k [] → ⊥
+
+-- rows of the same entries are equal
+pub one_row : (xs ys : List ℕ) → IsRow xs → IsRow ys → same_entries (pairs xs) (pairs ys) ≡ true → xs ≡ ys
+one_row xs ys h g same = sym h ∙ (ap flat ((entries_decide (pairs xs) (pairs ys)).0 same) ∙ g)
+
+other_rows : (xs ys : List ℕ) → IsRow xs → IsRow ys → (xs ≡ ys → ⊥) → same_entries (pairs xs) (pairs ys) ≡ false
+other_rows xs ys h g other = elim (cases_Bool (same_entries (pairs xs) (pairs ys))) [
+  | inl same ↦ absurd (other (one_row xs ys h g same))
+  | inr unlike ↦ unlike
+]
+
+-- a row at its place is that of the group
+pub row_placed : (pictures rows : List (List ℕ)) (row : List ℕ) (k : ℕ) → length pictures ≡ length rows → are_rows rows → are_once rows → IsRow row → k < length rows → get_or rows k [] ≡ row → place (grouped pictures rows) (pairs row) ≡ Some k
+row_placed [] [] row k l whole once r less is = absurd (omega arith)
+row_placed [] (ws ∷ rows) row k l whole once r less is = absurd (omega arith)
+row_placed (ps ∷ pictures) [] row k l whole once r less is = absurd (omega arith)
+row_placed (ps ∷ pictures) (ws ∷ rows) row zero l whole once r less is =
+    place_here (record { pictures = ps; entries = pairs ws }) (grouped pictures rows) (pairs row) ((entries_decide (pairs ws) (pairs row)).1 (ap pairs is))
+row_placed (ps ∷ pictures) (ws ∷ rows) row (suc k) l whole once r less is =
+    let other : same_entries (pairs ws) (pairs row) ≡ false = other_rows ws row (whole 0 (omega arith)) r (λ e. once 0 (suc k) (omega arith) less (e ∙ sym is)) in
+    place_later (record { pictures = ps; entries = pairs ws }) (grouped pictures rows) (pairs row) other
+    ∙ ap after (row_placed pictures rows row k (omega arith) (λ j m. whole (suc j) (omega arith)) (λ i j m n. once (suc i) (suc j) (omega arith) (omega arith)) r (omega arith) is)
+
+-- a row that is new has no place
+pub row_absent : (pictures rows : List (List ℕ)) (row : List ℕ) → are_rows rows → IsRow row → is_new rows row → place (grouped pictures rows) (pairs row) ≡ None
+row_absent [] rows row whole r new = refl
+row_absent (ps ∷ pictures) [] row whole r new = refl
+row_absent (ps ∷ pictures) (ws ∷ rows) row whole r new =
+    place_later (record { pictures = ps; entries = pairs ws }) (grouped pictures rows) (pairs row) (other_rows ws row (whole 0 (omega arith)) r (new 0 (omega arith)))
+    ∙ ap after (row_absent pictures rows row (λ j m. whole (suc j) (omega arith)) r (λ j m. new (suc j) (omega arith)))
+
+-- one picture more in a group
+grown_at : (pictures rows : List (List ℕ)) (k p : ℕ) (new : List ℕ) → length pictures ≡ length rows → k < length rows → new ≡ get_or pictures k [] ++ p ∷ [] → grouped (slice_set pictures k new) rows ≡ slice_set (grouped pictures rows) k (with_one (get_or (grouped pictures rows) k nothing) p)
+grown_at [] rows k p new l less is = absurd (omega arith)
+grown_at (ps ∷ pictures) [] k p new l less is = absurd (omega arith)
+grown_at (ps ∷ pictures) (ws ∷ rows) zero p new l less is = ap (λ qs. record { pictures = qs; entries = pairs ws } ∷ grouped pictures rows) is
+grown_at (ps ∷ pictures) (ws ∷ rows) (suc k) p new l less is = ap (λ gs. record { pictures = ps; entries = pairs ws } ∷ gs) (grown_at pictures rows k p new (omega arith) (omega arith) is)
+
+pub grown_is : (pictures rows : List (List ℕ)) (row : List ℕ) (k p : ℕ) (old new : List ℕ) → length pictures ≡ length rows → k < length rows → place (grouped pictures rows) (pairs row) ≡ Some k → old ≡ get_or pictures k old → new ≡ old ++ p ∷ [] → grouped (slice_set pictures k new) rows ≡ add p (pairs row) (grouped pictures rows)
+grown_is pictures rows row k p old new l less here at is =
+    let was : old ≡ get_or pictures k [] = at ∙ same_default pictures k old [] (omega arith) in
+    grown_at pictures rows k p new l less (is ∙ ap (λ qs. qs ++ p ∷ []) was)
+    ∙ add_found p (pairs row) (grouped pictures rows) k nothing here
+  where
+    same_default : (xs : List (List ℕ)) (i : ℕ) (d e : List ℕ) → i < length xs → get_or xs i d ≡ get_or xs i e
+    same_default [] i d e m = absurd (omega arith)
+    same_default (x ∷ xs) zero d e m = refl
+    same_default (x ∷ xs) (suc i) d e m = same_default xs i d e (omega arith)
+
+-- one group more
+pub grouped_more : (pictures rows : List (List ℕ)) (ps row : List ℕ) → length pictures ≡ length rows → grouped (pictures ++ ps ∷ []) (rows ++ row ∷ []) ≡ grouped pictures rows ++ record { pictures = ps; entries = pairs row } ∷ []
+grouped_more [] [] ps row l = refl
+grouped_more [] (ws ∷ rows) ps row l = absurd (omega arith)
+grouped_more (qs ∷ pictures) [] ps row l = absurd (omega arith)
+grouped_more (qs ∷ pictures) (ws ∷ rows) ps row l = ap (λ gs. record { pictures = qs; entries = pairs ws } ∷ gs) (grouped_more pictures rows ps row (omega arith))
+
+pub grouped_length : (pictures rows : List (List ℕ)) → length pictures ≡ length rows → length (grouped pictures rows) ≡ length rows
+grouped_length [] [] l = refl
+grouped_length [] (ws ∷ rows) l = absurd (omega arith)
+grouped_length (ps ∷ pictures) [] l = refl
+grouped_length (ps ∷ pictures) (ws ∷ rows) l = ap suc (grouped_length pictures rows (omega arith))
+
+pub rows_more : (rows new : List (List ℕ)) (row : List ℕ) → are_rows rows → IsRow row → new ≡ rows ++ row ∷ [] → are_rows new
+rows_more rows new row whole r is = subst are_rows (sym is) (λ k m. elim (cases_lt k (length rows)) [
+  | inl less ↦ subst IsRow (sym (get_or-append rows (row ∷ []) [] k less)) (whole k less)
+  | inr more ↦
+      let many = length-append rows (row ∷ []) in
+      let end : k ≡ length rows = omega arith in
+      subst IsRow (sym (ap (λ j. get_or (rows ++ row ∷ []) j []) end ∙ get_or-append_seam rows row [] [])) r
+])
+
+pub counted_more : (pictures rows pictures_new rows_new : List (List ℕ)) (ps row : List ℕ) → length pictures ≡ length rows → pictures_new ≡ pictures ++ ps ∷ [] → rows_new ≡ rows ++ row ∷ [] → length pictures_new ≡ length rows_new
+counted_more pictures rows pictures_new rows_new ps row l is also =
+    let a = ap length is ∙ length-append pictures (ps ∷ []) in
+    let b = ap length also ∙ length-append rows (row ∷ []) in
+    omega arith
+
+-- what stands in the rows of fragments
+
+-- the pictures and the row of each group in turn
+abbrev pub interleaved : List (List ℕ) → List (List ℕ) → List (List ℕ)
+interleaved [] rows = []
+interleaved (ps ∷ pictures) [] = []
+interleaved (ps ∷ pictures) (ws ∷ rows) = ps ∷ ws ∷ interleaved pictures rows
+
+pub interleaved_rows : (pictures rows : List (List ℕ)) → are_rows rows → interleaved pictures rows ≡ rows_of (grouped pictures rows)
+interleaved_rows [] rows whole = refl
+interleaved_rows (ps ∷ pictures) [] whole = refl
+interleaved_rows (ps ∷ pictures) (ws ∷ rows) whole =
+    λ i. ps ∷ sym (whole 0 (omega arith)) i ∷ interleaved_rows pictures rows (λ j m. whole (suc j) (omega arith)) i

@@ -1,17 +1,39 @@
--- Machinery of the proofs: which group has a vector, kept in a map from rows of words.
-use Rattle.std.specs.Prelude.{◌≡◌, ℕ, List}
-use Rattle.std.specs.Global.{Vec}
-use Rattle.std.specs.Ordering.{nat_cmp}
-use Rattle.std.specs.declared.cmp.Ordering.{Ordering}
-use Rattle.std.specs.Cmp.Lexicographic.{slice_cmp}
-use Rattle.std.specs.BTreeMap as tree
-use Rattle.std.specs.BTreeMap.{BTreeMap}
-use Rattle.item_knowledge.specs.Fragments.{Fragment}
-use Rattle.item_knowledge.specs.Gathering.{place}
-use Rattle.item_knowledge.specs.Rows.{pairs, IsRow}
+-- Machinery of the proofs: rows of words that are found by their hashes.
+use Rattle.std.specs.Prelude.{◌≡◌, ℕ, ◌<◌, ◌≤◌, ◌+◌, ◌-◌, ◌*◌, ◌/◌, ◌%◌, ◌^◌, List, [], ◌∷◌, length, get_or}
+use Rattle.item_knowledge.specs.declared.places.Places.{Places}
+use Rattle.item_knowledge.specs.Rows.{IsRow}
 
-abbrev pub key_cmp : Vec ℕ → Vec ℕ → Ordering
-key_cmp a b = slice_cmp nat_cmp a.items b.items
+-- a hash with one word more
+unfoldable pub mixed : ℕ → ℕ → ℕ
+mixed hash word = ((hash + word) % 2 ^ 64 * 11400714819323198485) % 2 ^ 64
 
-abbrev pub Placed : BTreeMap (Vec ℕ) ℕ → List Fragment → Type 0
-Placed places gs = (key : Vec ℕ) → IsRow key.items → tree.get key_cmp places key ≡ place gs (pairs key.items)
+abbrev pub hashed : ℕ → List ℕ → ℕ
+hashed hash [] = hash
+hashed hash (w ∷ ws) = hashed (mixed hash w) ws
+
+-- which of the buckets a row is in: any function of its words would do
+abbrev pub bucket : ℕ → List ℕ → ℕ
+bucket count row = (hashed 0 row / 4294967296) % count
+
+-- of the first rows the last one in a bucket is the one before this place; where the place is 0 there is none
+pub record IsLast (count b : ℕ) (rows : List (List ℕ)) (first place : ℕ) : Type 0 where
+  pub within : place ≤ first
+  pub there : 0 < place → bucket count (get_or rows (place - 1) []) ≡ b
+  pub none_later : (k : ℕ) → place ≤ k → k < first → bucket count (get_or rows k []) ≡ b → ⊥
+
+abbrev pub is_new : List (List ℕ) → List ℕ → Type 0
+is_new rows row = (k : ℕ) → k < length rows → get_or rows k [] ≡ row → ⊥
+
+-- each bucket leads to its last row, and each row to the one before it in its bucket; no row is there twice
+pub record IsPlaced (heads before : List ℕ) (rows : List (List ℕ)) : Type 0 where
+  pub some : 0 < length heads
+  pub counted : length before ≡ length rows
+  pub latest : (b : ℕ) → b < length heads → IsLast (length heads) b rows (length rows) (get_or heads b 0)
+  pub earlier : (k : ℕ) → k < length rows → IsLast (length heads) (bucket (length heads) (get_or rows k [])) rows k (get_or before k 0)
+  pub once : (j k : ℕ) → j < k → k < length rows → get_or rows j [] ≡ get_or rows k [] → ⊥
+
+-- of each group the pictures stand beside its row
+pub record Placed (places : Places) (pictures : List (List ℕ)) : Type 0 where
+  pub placed : IsPlaced places.heads.items places.before.items places.rows
+  pub counted : length pictures ≡ length places.rows
+  pub whole : (k : ℕ) → k < length places.rows → IsRow (get_or places.rows k [])

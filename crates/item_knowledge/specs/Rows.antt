@@ -25,6 +25,12 @@ abbrev pub rows_of : List Fragment → List (List ℕ)
 rows_of [] = []
 rows_of (f ∷ fs) = f.pictures ∷ flat f.entries ∷ rows_of fs
 
+-- fragments by their pictures and their rows
+abbrev pub grouped : List (List ℕ) → List (List ℕ) → List Fragment
+grouped [] rows = []
+grouped (ps ∷ pictures) [] = []
+grouped (ps ∷ pictures) (ws ∷ rows) = record { pictures = ps; entries = pairs ws } ∷ grouped pictures rows
+
 -- the rows are those of whole fragments
 abbrev pub AreRows : List (List ℕ) → Type 0
 AreRows rows = rows_of (fragments_of rows) ≡ rows

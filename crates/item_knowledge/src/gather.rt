@@ -2,11 +2,11 @@ ghost use Rattle.std.specs.Prelude.{◌≡◌, ◌<◌, true, length, OnOk, IfOk
 ghost use Rattle.item_knowledge.specs.Entries.{same_entries};
 ghost use Rattle.item_knowledge.specs.Gathering as spec;
 ghost use Rattle.item_knowledge.specs.Places.{Placed};
-ghost use Rattle.item_knowledge.specs.Rows.{pairs, IsRow};
+ghost use Rattle.item_knowledge.specs.Rows.{pairs, IsRow, grouped};
 
 use crate::group::Group;
+use crate::places::Places;
 use std::alloc::{AllocError, Global};
-use std::collections::BTreeMap;
 
 /// Whether two rows have the same entries.
 pub(crate) fn same_row(xs: &[u64], ys: &[u64]) -> bool
@@ -21,28 +21,22 @@ pub(crate) fn same_row(xs: &[u64], ys: &[u64]) -> bool
 pub(crate) fn add(
     alloc: Global,
     groups: &mut Vec<Group>,
-    places: &mut BTreeMap<Vec<u64>, usize>,
+    places: &mut Places,
     picture: u64,
-    row: Vec<u64>,
+    row: &[u64],
 ) -> Result<usize, AllocError>
     requires placed { Placed places.old groups.old.items }
-    requires row { IsRow row.items }
-    ensures groups { OnOk result (groups.new.items ≡ spec.add picture (pairs row.items) groups.old.items) }
+    requires row { IsRow row.now }
+    ensures groups { OnOk result (grouped groups.new.items places.new.rows ≡ spec.add picture (pairs row.now) (grouped groups.old.items places.old.rows)) }
     ensures placed { OnOk result (Placed places.new groups.new.items) }
     ensures below { IfOk result (λ k. k < length groups.new.items) }
-    ensures place { IfOk result (λ k. spec.place groups.new.items (pairs row.items) ≡ Some k) }
+    ensures place { IfOk result (λ k. spec.place (grouped groups.new.items places.new.rows) (pairs row.now) ≡ Some k) }
 {
-    match places.get(&row) {
-        Some(place) => {
-            let k = *place;
-            groups[k].push(picture)?;
-            return Ok(k);
-        }
-        None => {}
+    if let Some(k) = places.find(row) {
+        groups[k].push(picture)?;
+        return Ok(k);
     }
-    let k = groups.len();
-    let key = row.to_vec(alloc)?;
-    places.insert(key, k)?;
-    groups.push(Group::new(alloc, picture, row)?)?;
+    groups.push(Group::new(alloc, picture))?;
+    let k = places.push(row)?;
     Ok(k)
 }

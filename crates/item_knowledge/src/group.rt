@@ -1,61 +1,52 @@
+use crate::rows::Rows;
 use std::alloc::{AllocError, Global};
 use std::marker::Model;
 
-/// Pictures with the same vector, whose entries are kept as a row of words.
+/// The pictures of a group, at least one. A group of one picture takes no memory.
 #[derive(Debug, Drop)]
 pub(crate) struct Group {
-    pictures: Vec<u64>,
-    row: Vec<u64>,
+    first: u64,
+    others: Vec<u64>,
 }
 
 impl Model for Group {
-    ghost use Rattle.item_knowledge.specs.Fragments.{Fragment};
-    ghost use Rattle.item_knowledge.specs.Coding.{fragment_code};
-    ghost use Rattle.item_knowledge.specs.Rows.{pairs, IsRow};
+    ghost use Rattle.std.specs.Prelude.{ℕ, List, ◌∷◌};
+    ghost use Rattle.std.specs.Coded.{coded_ℕ, coded_list};
 
-    ghost Value = { Fragment };
+    ghost Value = { List ℕ };
 
-    ghost coded = { fragment_code };
+    ghost coded = { coded_list coded_ℕ };
 
-    ghost view = { λ g. record { pictures = g.pictures.items; entries = pairs g.row.items } };
-
-    ghost invariant = { λ g. IsRow g.row.items };
+    ghost view = { λ g. g.first ∷ g.others.items };
 }
 
 impl Group {
-    ghost use Rattle.std.specs.Prelude.{◌≡◌, ◌++◌, ◌∷◌, [], IfOk, OnOk, OnErr};
-    ghost use Rattle.item_knowledge.specs.Rows.{pairs, flat, IsRow};
+    ghost use Rattle.std.specs.Prelude.{◌≡◌, ◌++◌, ◌∷◌, [], OnOk, OnErr};
 
     /// The group of one picture.
-    pub(crate) fn new(alloc: Global, picture: u64, row: Vec<u64>) -> Result<Group, AllocError>
-        requires { IsRow row.items }
-        ensures { IfOk result (λ g. g ≡ record { pictures = picture ∷ []; entries = pairs row.items }) }
+    pub(crate) fn new(alloc: Global, picture: u64) -> Group
+        ensures { result ≡ picture ∷ [] }
     {
-        let mut pictures = Vec::new(alloc);
-        pictures.push(picture)?;
-        Ok(Group { pictures, row })
+        Group {
+            first: picture,
+            others: Vec::new(alloc),
+        }
     }
 
     /// One picture more, at the end. A refusal changes nothing.
     pub(crate) fn push(&mut self, picture: u64) -> Result<(), AllocError>
-        ensures pushed { OnOk result (self.new ≡ record { pictures = self.old.pictures ++ picture ∷ []; entries = self.old.entries }) }
+        ensures pushed { OnOk result (self.new ≡ self.old ++ picture ∷ []) }
         ensures refused { OnErr result (self.new ≡ self.old) }
     {
-        self.pictures.push(picture)?;
+        self.others.push(picture)?;
         Ok(())
     }
 
-    /// The pictures.
-    pub(crate) fn pictures(&self) -> &[u64]
-        ensures { result.now ≡ self.now.pictures }
+    /// The pictures come to the end of rows, as one more.
+    pub(crate) fn place(&self, out: &mut Rows) -> Result<(), AllocError>
+        ensures { OnOk result (out.new ≡ out.old ++ self.now ∷ []) }
     {
-        self.pictures.as_slice()
-    }
-
-    /// The entries, as a row of words.
-    pub(crate) fn row(&self) -> &[u64]
-        ensures { result.now ≡ flat self.now.entries }
-    {
-        self.row.as_slice()
+        out.place_first(self.first, &self.others)?;
+        Ok(())
     }
 }

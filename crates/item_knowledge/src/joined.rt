@@ -1,21 +1,21 @@
-ghost use Rattle.std.specs.Prelude.{◌≡◌, true, IfOk};
+ghost use Rattle.std.specs.Prelude.{◌≡◌, true, OnOk};
 ghost use Rattle.item_knowledge.specs.Tables.{in_order};
 ghost use Rattle.item_knowledge.specs.Entries as spec;
 ghost use Rattle.item_knowledge.specs.Rows.{pairs, IsRow};
 
-use std::alloc::{AllocError, Global};
+use std::alloc::AllocError;
 
-/// The row of the join of two vectors: of each author the greater bound.
+/// Writes the row of the join of two vectors, in place of what was there: of each author the greater bound.
 #[tactic(auto, using(crate::proofs::RowLemmas::row_step))]
-pub(crate) fn joined(alloc: Global, xs: &[u64], ys: &[u64]) -> Result<Vec<u64>, AllocError>
+pub(crate) fn joined(xs: &[u64], ys: &[u64], out: &mut Vec<u64>) -> Result<(), AllocError>
     requires left_row { IsRow xs.now }
     requires right_row { IsRow ys.now }
     requires left { in_order (pairs xs.now) ≡ true }
     requires right { in_order (pairs ys.now) ≡ true }
-    ensures row { IfOk result (λ row. IsRow row.items) }
-    ensures entries { IfOk result (λ row. pairs row.items ≡ spec.joined (pairs xs.now) (pairs ys.now)) }
+    ensures row { OnOk result (IsRow out.new.items) }
+    ensures entries { OnOk result (pairs out.new.items ≡ spec.joined (pairs xs.now) (pairs ys.now)) }
 {
-    let mut out = Vec::with_capacity(alloc, xs.len().saturating_add(ys.len()))?;
+    out.clear();
     let mut i = 0;
     let mut j = 0;
     while i < xs.len() && j < ys.len() {
@@ -41,5 +41,5 @@ pub(crate) fn joined(alloc: Global, xs: &[u64], ys: &[u64]) -> Result<Vec<u64>, 
     }
     out.extend_from_slice(&xs[i..])?;
     out.extend_from_slice(&ys[j..])?;
-    Ok(out)
+    Ok(())
 }

@@ -3,7 +3,7 @@ use crate::had::has_table;
 use crate::raised::{is_level, raise};
 use crate::rows::Rows;
 use crate::search::{bound_at, number_at, number_near};
-use crate::told::{row_of, told, vector_of as vector_of_row};
+use crate::told::{told, vector_of as vector_of_row, write_row};
 use crate::union::{entries, is_within, union};
 use photo_record::PicNo;
 use photo_version::{Vector, Version};
@@ -184,7 +184,8 @@ impl Knowledge {
         ensures refused { OnErr result (self.new ≡ self.old) }
     {
         let picture = u64::from(picture.value());
-        let row = row_of(self.alloc, vector)?;
+        let mut row = Vec::new(self.alloc);
+        write_row(vector, &mut row)?;
         let mut rows = Rows::new(self.alloc);
         rows.place(&[])?;
         rows.place(&[])?;
@@ -261,15 +262,11 @@ impl Knowledge {
     pub fn try_clone(&self) -> Result<Knowledge, AllocError>
         ensures { IfOk result (λ copy. copy ≡ self.now) }
     {
-        let mut index = Vec::new(self.alloc);
-        for row in &self.index {
-            index.push(*row)?;
-        }
         Ok(Knowledge {
             alloc: self.alloc,
             live: self.live.try_clone()?,
             spare: Rows::new(self.alloc),
-            index,
+            index: self.index.to_vec(self.alloc)?,
         })
     }
 }

@@ -9,6 +9,7 @@ mod joined;
 mod knowledge;
 pub mod laws;
 mod paired;
+mod places;
 mod raised;
 mod rows;
 mod search;

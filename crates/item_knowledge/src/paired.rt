@@ -14,7 +14,7 @@ pub(crate) fn paired(
     requires right { in_order ys.now ≡ true }
     ensures { IfOk result (λ r. r.items ≡ spec.paired xs.now ys.now) }
 {
-    let mut out = Vec::new(alloc);
+    let mut out = Vec::with_capacity(alloc, xs.len().saturating_add(ys.len()))?;
     let mut i = 0;
     let mut j = 0;
     while i < xs.len() && j < ys.len() {

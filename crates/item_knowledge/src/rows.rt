@@ -51,6 +51,20 @@ impl Rows {
         Ok(place)
     }
 
+    /// One row more, at the end, of a word and others behind it; gives its place.
+    pub(crate) fn place_first(&mut self, first: u64, others: &[u64]) -> Result<usize, AllocError>
+        ensures place { IfOk result (λ place. place ≡ length self.old) }
+        ensures placed { OnOk result (self.new ≡ self.old ++ (first ∷ others.now) ∷ []) }
+    {
+        let place = self.spans.len();
+        let start = self.words.len();
+        self.words.push(first)?;
+        self.words.extend_from_slice(others)?;
+        let end = self.words.len();
+        self.spans.push((start, end))?;
+        Ok(place)
+    }
+
     /// The row at a place.
     pub(crate) fn row(&self, place: usize) -> &[u64]
         requires { place < length self.now }

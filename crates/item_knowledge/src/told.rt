@@ -11,19 +11,19 @@ use photo_record::PicNo;
 use photo_version::{Author, Vector};
 use std::alloc::{AllocError, Global};
 
-/// The entries of a vector as a row of words.
-pub(crate) fn row_of(alloc: Global, vector: &Vector) -> Result<Vec<u64>, AllocError>
-    ensures row { IfOk result (λ row. IsRow row.items) }
-    ensures entries { IfOk result (λ row. pairs row.items ≡ spec.entries_of vector.now) }
-    ensures vector { IfOk result (λ row. is_vector (spec.entries_of vector.now) ≡ true) }
+/// Writes the entries of a vector as a row of words, in place of what was there.
+pub(crate) fn write_row(vector: &Vector, row: &mut Vec<u64>) -> Result<(), AllocError>
+    ensures row { OnOk result (IsRow row.new.items) }
+    ensures entries { OnOk result (pairs row.new.items ≡ spec.entries_of vector.now) }
+    ensures vector { OnOk result (is_vector (spec.entries_of vector.now) ≡ true) }
 {
-    let mut row = Vec::new(alloc);
+    row.clear();
     for i in 0..vector.len() {
         let (author, n) = vector.entry(i);
         row.push(author.word())?;
         row.push(u64::from(n))?;
     }
-    Ok(row)
+    Ok(())
 }
 
 /// The vector of the entries of a row.
@@ -40,19 +40,19 @@ pub(crate) fn vector_of(alloc: Global, row: &[u64]) -> Result<Vector, AllocError
     Vector::from_entries(alloc, bounds)
 }
 
-/// A fragment of one picture with the entries of a vector, at the end.
+/// A fragment of one picture with the entries of a vector, at the end. The row is room to write in.
 fn place_told(
-    alloc: Global,
     rows: &mut Rows,
     picture: u64,
     vector: &Vector,
+    row: &mut Vec<u64>,
 ) -> Result<(), AllocError>
     ensures rows { OnOk result (rows.new ≡ rows.old ++ (picture ∷ []) ∷ flat (spec.entries_of vector.now) ∷ []) }
     ensures vector { OnOk result (is_vector (spec.entries_of vector.now) ≡ true) }
 {
-    let row = row_of(alloc, vector)?;
+    write_row(vector, row)?;
     rows.place(&[picture])?;
-    rows.place(&row)?;
+    rows.place(row)?;
     Ok(())
 }
 
@@ -67,12 +67,13 @@ pub(crate) fn told(
     ensures vectors { IfOk result (λ all. list_all (λ t. is_vector (spec.entries_of t.1)) table.now ≡ true) }
 {
     let mut rows = Rows::new(alloc);
-    let mut index = Vec::new(alloc);
+    let mut index = Vec::with_capacity(alloc, table.len())?;
+    let mut row = Vec::new(alloc);
     rows.place(&[])?;
     rows.place(&[])?;
     for i in 0..table.len() {
         let picture = u64::from(table[i].0.value());
-        place_told(alloc, &mut rows, picture, &table[i].1)?;
+        place_told(&mut rows, picture, &table[i].1, &mut row)?;
         index.push((picture, i + 1))?;
     }
     Ok((rows, index))

@@ -2,16 +2,17 @@ ghost use Rattle.std.specs.Prelude.{◌≡◌, ◌<◌, [], true, length, IfOk, 
 ghost use Rattle.item_knowledge.specs.Fragments.{entries_at};
 ghost use Rattle.item_knowledge.specs.Gathering.{IsSide, IsUnion, pair_vector, groups_of, index_of, star_first};
 ghost use Rattle.item_knowledge.specs.Kept.{is_side_within};
-ghost use Rattle.item_knowledge.specs.Rows.{pairs, IsRow, AreRows, fragments_of, rows_of};
+ghost use Rattle.item_knowledge.specs.Places.{Placed};
+ghost use Rattle.item_knowledge.specs.Rows.{pairs, IsRow, AreRows, fragments_of, rows_of, grouped};
 
 use crate::gather::{add, same_row};
 use crate::group::Group;
 use crate::joined::joined;
 use crate::paired::paired as paired_numbers;
+use crate::places::Places;
 use crate::rows::Rows;
 use crate::search::{is_leq, number_from};
 use std::alloc::{AllocError, Global};
-use std::collections::BTreeMap;
 
 /// The entries of the fragment of a number, as a row of words.
 pub(crate) fn entries(rows: &Rows, number: usize) -> &[u64]
@@ -24,39 +25,40 @@ pub(crate) fn entries(rows: &Rows, number: usize) -> &[u64]
     rows.row(2 * number + 1)
 }
 
-/// What two fragments of the two sides give together, as a row of words.
+/// Writes what two fragments of the two sides give together, as a row of words, in place of what was there.
 fn pair(
-    alloc: Global,
     left: &Rows,
     left_index: &[(u64, usize)],
     right: &Rows,
     right_index: &[(u64, usize)],
     a: usize,
     b: usize,
-) -> Result<Vec<u64>, AllocError>
+    row: &mut Vec<u64>,
+) -> Result<(), AllocError>
     requires left_rows { AreRows left.now }
     requires right_rows { AreRows right.now }
     requires left { IsSide (fragments_of left.now) left_index.now }
     requires right { IsSide (fragments_of right.now) right_index.now }
     requires a { a < length (fragments_of left.now) }
     requires b { b < length (fragments_of right.now) }
-    ensures row { IfOk result (λ row. IsRow row.items) }
-    ensures entries { IfOk result (λ row. pairs row.items ≡ pair_vector (fragments_of left.now) (fragments_of right.now) (a, b)) }
+    ensures row { OnOk result (IsRow row.new.items) }
+    ensures entries { OnOk result (pairs row.new.items ≡ pair_vector (fragments_of left.now) (fragments_of right.now) (a, b)) }
 {
-    joined(alloc, entries(left, a), entries(right, b))
+    joined(entries(left, a), entries(right, b), row)
 }
 
 /// The rows of a star and of groups, in place of those that were there.
-fn write(star: &[u64], groups: &[Group], out: &mut Rows) -> Result<(), AllocError>
-    requires { IsRow star.now }
-    ensures { OnOk result (out.new ≡ rows_of (star_first (pairs star.now) groups.now)) }
+fn write(star: &[u64], groups: &[Group], places: &Places, out: &mut Rows) -> Result<(), AllocError>
+    requires star { IsRow star.now }
+    requires placed { Placed places.now groups.now }
+    ensures { OnOk result (out.new ≡ rows_of (star_first (pairs star.now) (grouped groups.now places.now.rows))) }
 {
     out.clear();
     out.place(&[])?;
     out.place(star)?;
-    for group in groups {
-        out.place(group.pictures())?;
-        out.place(group.row())?;
+    for k in 0..groups.len() {
+        groups[k].place(out)?;
+        out.place(places.rows.row(k))?;
     }
     Ok(())
 }
@@ -69,30 +71,32 @@ fn groups(
     right: &Rows,
     right_index: &[(u64, usize)],
     star: &[u64],
-) -> Result<(Vec<Group>, Vec<(u64, usize)>), AllocError>
+) -> Result<(Vec<Group>, Places, Vec<(u64, usize)>), AllocError>
     requires left_rows { AreRows left.now }
     requires right_rows { AreRows right.now }
     requires left { IsSide (fragments_of left.now) left_index.now }
     requires right { IsSide (fragments_of right.now) right_index.now }
     requires star_row { IsRow star.now }
     requires star { pairs star.now ≡ pair_vector (fragments_of left.now) (fragments_of right.now) (0, 0) }
-    ensures groups { IfOk result (λ all. all.0.items ≡ groups_of (fragments_of left.now) (fragments_of right.now) left_index.now right_index.now) }
-    ensures index { IfOk result (λ all. all.1.items ≡ index_of (fragments_of left.now) (fragments_of right.now) left_index.now right_index.now) }
+    ensures placed { IfOk result (λ all. Placed all.1 all.0.items) }
+    ensures groups { IfOk result (λ all. grouped all.0.items all.1.rows ≡ groups_of (fragments_of left.now) (fragments_of right.now) left_index.now right_index.now) }
+    ensures index { IfOk result (λ all. all.2.items ≡ index_of (fragments_of left.now) (fragments_of right.now) left_index.now right_index.now) }
 {
     let table = paired_numbers(alloc, left_index, right_index)?;
     let mut groups = Vec::new(alloc);
-    let mut places = BTreeMap::new(alloc);
-    let mut index = Vec::new(alloc);
+    let mut places = Places::new(alloc, table.len())?;
+    let mut index = Vec::with_capacity(alloc, table.len())?;
+    let mut row = Vec::new(alloc);
     for i in 0..table.len() {
         let (picture, (a, b)) = table[i];
-        let row = pair(alloc, left, left_index, right, right_index, a, b)?;
+        pair(left, left_index, right, right_index, a, b, &mut row)?;
         if same_row(star, &row) {
             continue;
         }
-        let k = add(alloc, &mut groups, &mut places, picture, row)?;
+        let k = add(alloc, &mut groups, &mut places, picture, &row)?;
         index.push((picture, k + 1))?;
     }
-    Ok((groups, index))
+    Ok((groups, places, index))
 }
 
 /// Writes the normal form of what either side denotes, and gives its index.
@@ -111,9 +115,10 @@ pub(crate) fn union(
     ensures rows { OnOk result (AreRows out.new) }
     ensures union { IfOk result (λ index. IsUnion (fragments_of left.now) left_index.now (fragments_of right.now) right_index.now (fragments_of out.new) index.items) }
 {
-    let star = pair(alloc, left, left_index, right, right_index, 0, 0)?;
-    let (listed, index) = groups(alloc, left, left_index, right, right_index, &star)?;
-    write(&star, &listed, out)?;
+    let mut star = Vec::new(alloc);
+    pair(left, left_index, right, right_index, 0, 0, &mut star)?;
+    let (listed, places, index) = groups(alloc, left, left_index, right, right_index, &star)?;
+    write(&star, &listed, &places, out)?;
     Ok(index)
 }
 

@@ -1,59 +1,51 @@
-use Rattle.std.proofs.Common.{rules, ◌≡◌, ◌++◌, ◌∷◌, [], sym, subst, ap, ◌∙◌, length, arith, Some, None}
-use Rattle.std.proofs.Math.ListN.{length-set}
-use Rattle.std.specs.BTreeMap as tree
+use Rattle.std.proofs.Common.{rules, ◌≡◌, ◌<◌, ◌++◌, ◌∷◌, [], ap, ◌∙◌, length, Some}
 use Rattle.item_knowledge.specs.Gathering as spec
-use Rattle.item_knowledge.specs.Places.{key_cmp}
-use Rattle.item_knowledge.proofs.PlaceLemmas.{place_below, place_grown, add_absent, place_of_added, of_one, grown_is, placed_more}
-use Rattle.item_knowledge.specs.Rows.{pairs, IsRow}
+use Rattle.item_knowledge.specs.Places.{is_new}
+use Rattle.item_knowledge.specs.Rows.{pairs, grouped}
+use Rattle.item_knowledge.proofs.PlaceLemmas.{row_placed, row_absent, grown_is, grouped_more, grouped_length, rows_more, counted_more, place_grown, place_of_added, add_absent}
 use Rattle.item_knowledge.proofs.gather.add.Goals as goal
 
-pub index_mut-requires : goal.index_mut-requires
-index_mut-requires c =
-    let found : spec.place c.args.groups.now.items (pairs c.args.row.items) ≡ Some c.in-Some.place.now = sym (c.requires.placed c.args.row c.requires.row) ∙ sym c.in-Some.ensures.value in
-    let less = place_below c.args.groups.now.items (pairs c.args.row.items) c.in-Some.place.now found in
-    omega (arith, c.args.groups.now.ok)
-
 pub returns-in-Some-clause-groups : goal.returns-in-Some-clause-groups
-returns-in-Some-clause-groups c = grown_is c.args.groups.now.items (pairs c.args.row.items) c.args.picture c.in-Some.place.now c.index_mut.result.now c.push.new.self
-    (sym (c.requires.placed c.args.row c.requires.row) ∙ sym c.in-Some.ensures.value) c.index_mut.ensures.value c.in_ok-push-in-Some.ensures.pushed
-
-pub returns-in-Some-clause-placed : goal.returns-in-Some-clause-placed
-returns-in-Some-clause-placed c key row =
-    let found : spec.place c.args.groups.now.items (pairs c.args.row.items) ≡ Some c.in-Some.place.now = sym (c.requires.placed c.args.row c.requires.row) ∙ sym c.in-Some.ensures.value in
-    c.requires.placed key row ∙ (sym (place_grown c.args.picture (pairs c.args.row.items) (pairs key.items) c.args.groups.now.items c.in-Some.place.now found)
-    ∙ ap (λ gs. spec.place gs (pairs key.items)) (sym (grown_is c.args.groups.now.items (pairs c.args.row.items) c.args.picture c.in-Some.place.now c.index_mut.result.now c.push.new.self found c.index_mut.ensures.value c.in_ok-push-in-Some.ensures.pushed)))
-
-pub returns-in-Some-clause-below : goal.returns-in-Some-clause-below
-returns-in-Some-clause-below c =
-    let found : spec.place c.args.groups.now.items (pairs c.args.row.items) ≡ Some c.in-Some.place.now = sym (c.requires.placed c.args.row c.requires.row) ∙ sym c.in-Some.ensures.value in
-    rw length-set (place_below c.args.groups.now.items (pairs c.args.row.items) c.in-Some.place.now found)
+returns-in-Some-clause-groups c =
+    let less : c.in-Some.k < length c.args.places.now.rows = c.find.ensures.below c.in-Some.k c.in-Some.is in
+    let here = row_placed c.args.groups.now.items c.args.places.now.rows c.args.row.now c.in-Some.k c.requires.placed.counted c.requires.placed.whole c.requires.placed.placed.once c.requires.row less (c.find.ensures.found c.in-Some.k c.in-Some.is) in
+    grown_is c.args.groups.now.items c.args.places.now.rows c.args.row.now c.in-Some.k c.args.picture c.index_mut.result.now c.push.new.self c.requires.placed.counted less here c.index_mut.ensures.value c.in_ok-push.ensures.pushed
 
 pub returns-in-Some-clause-place : goal.returns-in-Some-clause-place
 returns-in-Some-clause-place c =
-    let found : spec.place c.args.groups.now.items (pairs c.args.row.items) ≡ Some c.in-Some.place.now = sym (c.requires.placed c.args.row c.requires.row) ∙ sym c.in-Some.ensures.value in
-    ap (λ gs. spec.place gs (pairs c.args.row.items)) (grown_is c.args.groups.now.items (pairs c.args.row.items) c.args.picture c.in-Some.place.now c.index_mut.result.now c.push.new.self found c.index_mut.ensures.value c.in_ok-push-in-Some.ensures.pushed)
-    ∙ (place_grown c.args.picture (pairs c.args.row.items) (pairs c.args.row.items) c.args.groups.now.items c.in-Some.place.now found ∙ found)
+    let less : c.in-Some.k < length c.args.places.now.rows = c.find.ensures.below c.in-Some.k c.in-Some.is in
+    let here = row_placed c.args.groups.now.items c.args.places.now.rows c.args.row.now c.in-Some.k c.requires.placed.counted c.requires.placed.whole c.requires.placed.placed.once c.requires.row less (c.find.ensures.found c.in-Some.k c.in-Some.is) in
+    let grown = grown_is c.args.groups.now.items c.args.places.now.rows c.args.row.now c.in-Some.k c.args.picture c.index_mut.result.now c.push.new.self c.requires.placed.counted less here c.index_mut.ensures.value c.in_ok-push.ensures.pushed in
+    ap (λ gs. spec.place gs (pairs c.args.row.now)) grown
+    ∙ (place_grown c.args.picture (pairs c.args.row.now) (pairs c.args.row.now) (grouped c.args.groups.now.items c.args.places.now.rows) c.in-Some.k here ∙ here)
 
 pub returns-clause-groups : goal.returns-clause-groups
 returns-clause-groups c =
-    let n : spec.place c.args.groups.now.items (pairs c.args.row.items) ≡ None = search (rules, c.requires.placed c.args.row c.requires.row) in
-    let p : c.push-2.new.self.items ≡ c.args.groups.now.items ++ of_one c.args.picture (pairs c.args.row.items) ∷ [] = search rules in
-    p ∙ add_absent c.args.picture (pairs c.args.row.items) c.args.groups.now.items n
+    let new : is_new c.args.places.now.rows c.args.row.now = c.find.ensures.absent (search rules) in
+    let groups : c.push-2.new.self.items ≡ c.args.groups.now.items ++ (c.args.picture ∷ []) ∷ [] = search rules in
+    let rows : c.push-3.new.self.rows ≡ c.args.places.now.rows ++ c.args.row.now ∷ [] = search rules in
+    (λ i. grouped (groups i) (rows i))
+    ∙ (grouped_more c.args.groups.now.items c.args.places.now.rows (c.args.picture ∷ []) c.args.row.now c.requires.placed.counted
+    ∙ add_absent c.args.picture (pairs c.args.row.now) (grouped c.args.groups.now.items c.args.places.now.rows) (row_absent c.args.groups.now.items c.args.places.now.rows c.args.row.now c.requires.placed.whole c.requires.row new))
 
 pub returns-clause-placed : goal.returns-clause-placed
-returns-clause-placed c key row =
-    let n : spec.place c.args.groups.now.items (pairs c.args.row.items) ≡ None = search (rules, c.requires.placed c.args.row c.requires.row) in
-    let k : c.in_ok-key.key.items ≡ c.args.row.items = search rules in
-    let p : c.push-2.new.self.items ≡ c.args.groups.now.items ++ of_one c.args.picture (pairs c.args.row.items) ∷ [] = search rules in
-    let l : c.len-k.result ≡ length c.args.groups.now.items = search rules in
-    placed_more c.args.groups.now.items c.args.picture c.len-k.result (pairs c.args.row.items) key.items c.in_ok-key.key.items (tree.get key_cmp c.args.places.now key) (tree.get key_cmp c.insert.new.self key)
-    (subst IsRow (sym k) c.requires.row) (ap pairs k) row l n (c.requires.placed key row) (c.in_ok-insert.ensures.updates.0 key)
-    ∙ ap (λ gs. spec.place gs (pairs key.items)) (sym (p ∙ add_absent c.args.picture (pairs c.args.row.items) c.args.groups.now.items n))
+returns-clause-placed c =
+    let groups : c.push-2.new.self.items ≡ c.args.groups.now.items ++ (c.args.picture ∷ []) ∷ [] = search rules in
+    let rows : c.push-3.new.self.rows ≡ c.args.places.now.rows ++ c.args.row.now ∷ [] = search rules in
+    record {
+      placed = c.in_ok-k.ensures.placed;
+      counted = counted_more c.args.groups.now.items c.args.places.now.rows c.push-2.new.self.items c.push-3.new.self.rows (c.args.picture ∷ []) c.args.row.now c.requires.placed.counted groups rows;
+      whole = rows_more c.args.places.now.rows c.push-3.new.self.rows c.args.row.now c.requires.placed.whole c.requires.row rows;
+    }
 
 pub returns-clause-place : goal.returns-clause-place
 returns-clause-place c =
-    let n : spec.place c.args.groups.now.items (pairs c.args.row.items) ≡ None = search (rules, c.requires.placed c.args.row c.requires.row) in
-    let p : c.push-2.new.self.items ≡ c.args.groups.now.items ++ of_one c.args.picture (pairs c.args.row.items) ∷ [] = search rules in
-    let l : c.len-k.result ≡ length c.args.groups.now.items = search rules in
-    ap (λ gs. spec.place gs (pairs c.args.row.items)) (p ∙ add_absent c.args.picture (pairs c.args.row.items) c.args.groups.now.items n)
-    ∙ (place_of_added c.args.picture (pairs c.args.row.items) c.args.groups.now.items n ∙ ap (λ j. Some j) (sym l))
+    let new : is_new c.args.places.now.rows c.args.row.now = c.find.ensures.absent (search rules) in
+    let none = row_absent c.args.groups.now.items c.args.places.now.rows c.args.row.now c.requires.placed.whole c.requires.row new in
+    let groups : c.push-2.new.self.items ≡ c.args.groups.now.items ++ (c.args.picture ∷ []) ∷ [] = search rules in
+    let rows : c.push-3.new.self.rows ≡ c.args.places.now.rows ++ c.args.row.now ∷ [] = search rules in
+    let place : length (grouped c.args.groups.now.items c.args.places.now.rows) ≡ c.in_ok-k.k = grouped_length c.args.groups.now.items c.args.places.now.rows c.requires.placed.counted ∙ (search rules) in
+    ap (λ gs. spec.place gs (pairs c.args.row.now)) ((λ i. grouped (groups i) (rows i))
+    ∙ (grouped_more c.args.groups.now.items c.args.places.now.rows (c.args.picture ∷ []) c.args.row.now c.requires.placed.counted
+    ∙ add_absent c.args.picture (pairs c.args.row.now) (grouped c.args.groups.now.items c.args.places.now.rows) none))
+    ∙ (place_of_added c.args.picture (pairs c.args.row.now) (grouped c.args.groups.now.items c.args.places.now.rows) none ∙ ap (λ j. Some j) place)

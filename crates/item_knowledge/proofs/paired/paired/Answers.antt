@@ -9,7 +9,7 @@ At xs ys i j out = Merging (λ a. (a, 0)) (λ a b. (a, b.1)) (λ b. (0, b)) xs y
 
 pub loop-i-init : goal.loop-i-init
 loop-i-init c = record {
-  merging = record { done = ap (λ zs. zs ++ spec.paired c.args.xs.now c.args.ys.now) c.new-out.ensures.items; left = c.requires.left; right = c.requires.right };
+  merging = record { done = ap (λ zs. zs ++ spec.paired c.args.xs.now c.args.ys.now) c.in_ok-out.ensures.items; left = c.requires.left; right = c.requires.right };
   left = omega arith;
   right = omega arith;
 }

@@ -1,8 +1,6 @@
 use Rattle.std.proofs.Common.{◌≡◌, sym, subst, true}
-use Rattle.std.specs.Result.{IfOk}
 use Rattle.item_knowledge.specs.Tables.{in_order}
-use Rattle.item_knowledge.specs.Entries.{joined}
-use Rattle.item_knowledge.specs.Rows.{pairs, fragments_of}
+use Rattle.item_knowledge.specs.Rows.{fragments_of}
 use Rattle.item_knowledge.proofs.UnionLemmas.{entries_order}
 use Rattle.item_knowledge.proofs.union.pair.Goals as goal
 
@@ -13,7 +11,3 @@ joined-requires-clause-left c =
 pub joined-requires-clause-right : goal.joined-requires-clause-right
 joined-requires-clause-right c =
     subst (λ es. in_order es ≡ true) (sym c.entries-2.ensures.entries) (entries_order (fragments_of c.args.right.now) c.args.right_index.now c.args.b c.requires.right c.requires.b)
-
-pub returns-clause-entries : goal.returns-clause-entries
-returns-clause-entries c =
-    subst (λ es. IfOk c.joined.result (λ row. pairs row.items ≡ es)) (λ i. joined (c.entries.ensures.entries i) (c.entries-2.ensures.entries i)) c.joined.ensures.entries

@@ -1,7 +1,8 @@
 use Rattle.std.proofs.Common.{◌≡◌, ◌++◌, drop}
 use Rattle.item_knowledge.specs.Gathering.{star_first}
-use Rattle.item_knowledge.specs.Rows.{pairs, rows_of}
+use Rattle.item_knowledge.specs.Rows.{pairs, rows_of, grouped}
+use Rattle.item_knowledge.proofs.PlaceLemmas.{interleaved}
 use Rattle.item_knowledge.proofs.union.write.Given as goal
 
-abbrev pub invariant-loop-group : goal.invariant-loop-group
-invariant-loop-group l = record { rest : l.out ++ rows_of (drop l.group-index l.groups) ≡ rows_of (star_first (pairs l.star) l.groups) }
+abbrev pub invariant-loop-k : goal.invariant-loop-k
+invariant-loop-k l = record { rest : l.out ++ interleaved (drop l.k l.groups) (drop l.k l.places.rows) ≡ rows_of (star_first (pairs l.star) (grouped l.groups l.places.rows)) }

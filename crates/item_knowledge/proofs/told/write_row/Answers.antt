@@ -5,7 +5,7 @@ use Rattle.item_knowledge.specs.Rows.{pairs, IsRow}
 use Rattle.item_knowledge.specs.Told.{entries_of}
 use Rattle.item_knowledge.proofs.RowLemmas.{flat_row, pairs_flat}
 use Rattle.item_knowledge.proofs.ToldLemmas.{row_done, entries_done, row_more, entries_more, got_positive, got_entry, entries_vector}
-use Rattle.item_knowledge.proofs.told.row_of.Goals as goal
+use Rattle.item_knowledge.proofs.told.write_row.Goals as goal
 
 pub loop-i-preserved : goal.loop-i-preserved
 loop-i-preserved c =

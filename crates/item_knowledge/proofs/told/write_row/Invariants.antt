@@ -3,7 +3,7 @@ use Rattle.std.specs.List.{list_all}
 use Rattle.item_knowledge.specs.Entries.{Entry, is_entry}
 use Rattle.item_knowledge.specs.Rows.{flat}
 use Rattle.item_knowledge.specs.Told.{entries_of}
-use Rattle.item_knowledge.proofs.told.row_of.Given as goal
+use Rattle.item_knowledge.proofs.told.write_row.Given as goal
 
 abbrev pub invariant-loop-i : goal.invariant-loop-i
 invariant-loop-i l = record {
