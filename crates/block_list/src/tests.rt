@@ -1,4 +1,4 @@
-use crate::{BlockList, Room};
+use crate::{BlockList, Room, Spot};
 use std::alloc::{AllocError, Global};
 
 // A list that is owned has its own function here, with no `rt` beside it, and a table is a constant: so the proofs are short.
@@ -346,4 +346,55 @@ fn an_element_takes_the_place_of_those_between(rt: HostRuntime) {
             "{from} to {to}"
         );
     }
+}
+
+/// Whether the first number that isn't below `wanted` is found, also from that hint on.
+fn finds_from(list: &BlockList<u32>, wanted: u32, near: Spot) -> bool {
+    let first = list.find_failing(|item| *item < wanted);
+    let (again, next) = list.find_failing_near(near, |item| *item < wanted);
+    let (last, _) = list.find_failing_near(next, |item| *item < wanted);
+    if wanted >= 275 {
+        return first.is_none() && again.is_none() && last.is_none();
+    }
+    first == Some(&wanted) && again == Some(&wanted) && last == Some(&wanted)
+}
+
+/// Hints within the list and outside of it, by their block and place.
+const HINTS: &[(usize, usize)] = &[
+    (0, 0),
+    (0, 120),
+    (0, 127),
+    (1, 0),
+    (1, 126),
+    (2, 21),
+    (2, 500),
+    (7, 3),
+    (usize::MAX, usize::MAX),
+];
+
+fn finds_from_hints(list: &BlockList<u32>) -> bool {
+    for (block, place) in HINTS {
+        for wanted in 0..278 {
+            let near = Spot {
+                block: *block,
+                place: *place,
+            };
+            if !finds_from(list, wanted, near) {
+                return false;
+            }
+        }
+    }
+    true
+}
+
+fn rises_and_finds_from_hints(alloc: Global) -> bool {
+    match rising(alloc, 275) {
+        Ok(list) => finds_from_hints(&list),
+        Err(_) => false,
+    }
+}
+
+#[test]
+fn a_hint_changes_nothing_that_is_found(rt: HostRuntime) {
+    assert!(rt; rises_and_finds_from_hints(rt.alloc()));
 }

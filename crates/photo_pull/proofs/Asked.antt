@@ -16,7 +16,6 @@ use Rattle.photo_pull.specs.Found.{is_new, tells, new_waiting, learns, goes, is_
 use Rattle.photo_pull.proofs.Members.{In, in_left, in_right, in_any, all_at, all_append, all_map, all_passing, all_of, found_some, found_in}
 use Rattle.photo_pull.proofs.Ready.{AreReady, known_target, known_source, found_source, same_itself, same_is}
 use Rattle.photo_pull.proofs.Told.{or_intro, or_other, one}
-use Rattle.photo_pull.proofs.Shown.{or_false}
 use Rattle.photo_pull.proofs.Changes.{drops, takes}
 
 -- a filter keeps no more of any kind
@@ -101,6 +100,33 @@ module _ (t s : Kept) (ready : AreReady t s) where
   pub waiting_earlier : AllByRecursion HasEarlier (new_waiting t s)
   waiting_earlier = all_of HasEarlier (new_waiting t s) (λ w here. all_at HasEarlier w s.out ready.source.out (from_waiting w here).0)
 
+  -- what is told of, the source knows
+  told_within : (hs : List Held) → AllByRecursion (IsKnownBy s.knowledge) hs → (p : ℕ) (v : Version) → tells hs p v ≡ true → knows s.knowledge p v ≡ true
+  told_within [] all p v h = cc
+  told_within (w ∷ hs) all p v h = elim (cases_Bool (one p v w)) [
+    | inl here ↦
+        let parts = and_parts (eqb w.picture p) (denotes w.made_with v || same_version w.version v) here in
+        let same : w.picture ≡ p = eqb-true w.picture p parts.0 in
+        subst (λ q. knows s.knowledge q v ≡ true) same (of_it (cases_Bool (denotes w.made_with v)) parts.1)
+    | inr apart ↦ told_within hs all.1 p v (sym (ap (λ b. b || tells hs p v) apart) ∙ h)
+  ]
+    where
+      of_it : (denotes w.made_with v ≡ true) ⊎ (denotes w.made_with v ≡ false) → (denotes w.made_with v || same_version w.version v) ≡ true → knows s.knowledge w.picture v ≡ true
+      of_it (inl history) e = all.0.history v history
+      of_it (inr none) e =
+          let same : w.version ≡ v = same_is w.version v (sym (ap (λ b. b || same_version w.version v) none) ∙ e) in
+          subst (λ x. knows s.knowledge w.picture x ≡ true) same all.0.itself
+
+  known_here : (hs : List Held) → ((w : Held) → In w hs → In w (s.store ++ s.out)) → AllByRecursion (IsKnownBy s.knowledge) hs
+  known_here hs inside = all_of (IsKnownBy s.knowledge) hs (λ w here. known_source t s ready w (inside w here))
+
+  pub told_is_known : (p : ℕ) (v : Version) → (tells (heard t s) p v || tells (new_waiting t s) p v) ≡ true → knows s.knowledge p v ≡ true
+  told_is_known p v h = by (cases_Bool (tells (heard t s) p v)) h
+    where
+      by : (tells (heard t s) p v ≡ true) ⊎ (tells (heard t s) p v ≡ false) → (tells (heard t s) p v || tells (new_waiting t s) p v) ≡ true → knows s.knowledge p v ≡ true
+      by (inl told) e = told_within (heard t s) (known_here (heard t s) (λ w here. in_left w s.store s.out (from_heard w here).0)) p v told
+      by (inr none) e = told_within (new_waiting t s) (known_here (new_waiting t s) (λ w here. in_right w s.store s.out (from_waiting w here).0)) p v (sym (ap (λ b. b || tells (new_waiting t s) p v) none) ∙ e)
+
   module _ (gain : List Fragment) (gain_is : (p : ℕ) (v : Version) → 0 < p → knows gain p v ≡ gains t s p v) where
     told_known : (hs : List Held) (w : Held) → In w hs → 0 < w.picture → ((p : ℕ) (v : Version) → tells hs p v ≡ true → gains t s p v ≡ true) → IsKnownBy gain w
     told_known hs w here above told =
@@ -117,36 +143,12 @@ module _ (t s : Kept) (ready : AreReady t s) where
         (λ w here. told_known (heard t s) w here ((known_source t s ready w (in_left w s.store s.out (from_heard w here).0)).above) (λ p v h. or_other (learns t s && knows s.knowledge p v) _ (or_intro (tells (heard t s) p v) _ h)))
         (λ w here. told_known (new_waiting t s) w here ((known_source t s ready w (in_right w s.store s.out (from_waiting w here).0)).above) (λ p v h. or_other (learns t s && knows s.knowledge p v) _ (or_other (tells (heard t s) p v) _ h)))
 
-    -- what is told of, the source knows
-    told_within : (hs : List Held) → AllByRecursion (IsKnownBy s.knowledge) hs → (p : ℕ) (v : Version) → tells hs p v ≡ true → knows s.knowledge p v ≡ true
-    told_within [] all p v h = cc
-    told_within (w ∷ hs) all p v h = elim (cases_Bool (one p v w)) [
-      | inl here ↦
-          let parts = and_parts (eqb w.picture p) (denotes w.made_with v || same_version w.version v) here in
-          let same : w.picture ≡ p = eqb-true w.picture p parts.0 in
-          subst (λ q. knows s.knowledge q v ≡ true) same (of_it (cases_Bool (denotes w.made_with v)) parts.1)
-      | inr apart ↦ told_within hs all.1 p v (sym (ap (λ b. b || tells hs p v) apart) ∙ h)
-    ]
-      where
-        of_it : (denotes w.made_with v ≡ true) ⊎ (denotes w.made_with v ≡ false) → (denotes w.made_with v || same_version w.version v) ≡ true → knows s.knowledge w.picture v ≡ true
-        of_it (inl history) e = all.0.history v history
-        of_it (inr none) e =
-            let same : w.version ≡ v = same_is w.version v (sym (ap (λ b. b || same_version w.version v) none) ∙ e) in
-            subst (λ x. knows s.knowledge w.picture x ≡ true) same all.0.itself
-
-    known_here : (hs : List Held) → ((w : Held) → In w hs → In w (s.store ++ s.out)) → AllByRecursion (IsKnownBy s.knowledge) hs
-    known_here hs inside = all_of (IsKnownBy s.knowledge) hs (λ w here. known_source t s ready w (inside w here))
-
     pub gain_own : ((p n : ℕ) → 0 < p → knows s.knowledge p (version t.author n) ≡ true → n ≤ t.counter) → (p n : ℕ) → 0 < p → knows gain p (version t.author n) ≡ true → n ≤ t.counter
     gain_own own p n above h =
         let v = version t.author n in
-        own p n above (by (cases_Bool (tells (heard t s) p v)) (cases_Bool (tells (new_waiting t s) p v)) (sym (gain_is p v above) ∙ h))
+        own p n above (by (cases_Bool (learns t s && knows s.knowledge p v)) (sym (gain_is p v above) ∙ h))
       where
-        by : (tells (heard t s) p (version t.author n) ≡ true) ⊎ (tells (heard t s) p (version t.author n) ≡ false)
-            → (tells (new_waiting t s) p (version t.author n) ≡ true) ⊎ (tells (new_waiting t s) p (version t.author n) ≡ false)
+        by : ((learns t s && knows s.knowledge p (version t.author n)) ≡ true) ⊎ ((learns t s && knows s.knowledge p (version t.author n)) ≡ false)
             → gains t s p (version t.author n) ≡ true → knows s.knowledge p (version t.author n) ≡ true
-        by (inl told) o e = told_within (heard t s) (known_here (heard t s) (λ w here. in_left w s.store s.out (from_heard w here).0)) p (version t.author n) told
-        by (inr none) (inl told) e = told_within (new_waiting t s) (known_here (new_waiting t s) (λ w here. in_right w s.store s.out (from_waiting w here).0)) p (version t.author n) told
-        by (inr none) (inr nothing) e =
-            (and_parts (learns t s) (knows s.knowledge p (version t.author n))
-            (sym (ap (λ b. (learns t s && knows s.knowledge p (version t.author n)) || b) (λ i. none i || nothing i) ∙ or_false (learns t s && knows s.knowledge p (version t.author n))) ∙ e)).1
+        by (inl learned) e = (and_parts (learns t s) (knows s.knowledge p (version t.author n)) learned).1
+        by (inr not_so) e = told_is_known p (version t.author n) (sym (ap (λ b. b || (tells (heard t s) p (version t.author n) || tells (new_waiting t s) p (version t.author n))) not_so) ∙ e)

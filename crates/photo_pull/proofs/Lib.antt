@@ -1,4 +1,4 @@
-pub mod Passing
+pub mod Along
 pub mod Members
 pub mod Ranges
 pub mod Ready

@@ -16,46 +16,70 @@ use Rattle.photo_pull.proofs.Told.{one}
 abbrev pub Table : Type 0
 Table = List (ℕ × List Bound)
 
--- a table tells what so many of a list tell, and its pictures are none greater than those that follow
-pub record IsTableOf (table : Table) (hs : List Held) (i : ℕ) : Type 0 where
+-- a table tells what so many of two lists tell, and its pictures are none greater than those that follow
+pub record IsTableOf (table : Table) (hs : List Held) (i : ℕ) (ws : List Held) (j : ℕ) : Type 0 where
   pub order : in_order table ≡ true
-  pub last : (d : Held) → i < length hs → keys_pass (λ k. leb k (get_or hs i d).picture) table ≡ true
-  pub told : (p : ℕ) (v : Version) → denotes (at [] table p) v ≡ tells (take i hs) p v
+  pub first : (d : Held) → i < length hs → keys_pass (λ k. leb k (get_or hs i d).picture) table ≡ true
+  pub second : (d : Held) → j < length ws → keys_pass (λ k. leb k (get_or ws j d).picture) table ≡ true
+  pub told : (p : ℕ) (v : Version) → denotes (at [] table p) v ≡ (tells (take i hs) p v || tells (take j ws) p v)
 
 pass_weaker : (f g : ℕ → Bool) (table : Table) → ((k : ℕ) → f k ≡ true → g k ≡ true) → keys_pass f table ≡ true → keys_pass g table ≡ true
 pass_weaker f g [] h all = refl
 pass_weaker f g (r ∷ table) h all = let parts = and_parts (f r.0) (keys_pass f table) all in and_from (g r.0) (keys_pass g table) (h r.0 parts.0) (pass_weaker f g table h parts.1)
 
-pub table_none : (hs : List Held) → IsTableOf [] hs 0
-table_none hs = record { order = refl; last = λ d l. refl; told = λ p v. refl }
+or_turned : (a b : Bool) → (a || b) ≡ (b || a)
+or_turned true true = refl
+or_turned true false = refl
+or_turned false true = refl
+or_turned false false = refl
 
-pub table_more : (table new : Table) (hs : List Held) (i : ℕ) (w : Held) (vector : List Bound) → i < length hs → w ≡ get_or hs i w → are_in_order hs ≡ true
-    → ((v : Version) → denotes vector v ≡ (denotes w.made_with v || same_version w.version v))
+-- the two lists are alike
+pub turned : (table : Table) (hs : List Held) (i : ℕ) (ws : List Held) (j : ℕ) → IsTableOf table hs i ws j → IsTableOf table ws j hs i
+turned table hs i ws j so_far = record {
+  order = so_far.order;
+  first = so_far.second;
+  second = so_far.first;
+  told = λ p v. so_far.told p v ∙ or_turned (tells (take i hs) p v) (tells (take j ws) p v);
+}
+
+-- one more of the first list, of the smaller picture
+pub table_more : (table new : Table) (hs : List Held) (i : ℕ) (ws : List Held) (j : ℕ) (w : Held) → i < length hs → w ≡ get_or hs i w → are_in_order hs ≡ true
+    → ((a b : Held) → j < length ws → (get_or hs i a).picture ≤ (get_or ws j b).picture)
     → in_order new ≡ true → keys_pass (λ k. leb k w.picture) new ≡ true
-    → ((p : ℕ) (v : Version) → denotes (at [] new p) v ≡ (denotes (at [] table p) v || ((eqb w.picture p) && denotes vector v)))
-    → IsTableOf table hs i → IsTableOf new hs (i + 1)
-table_more table new hs i w vector l is ordered of_w order last more so_far = record {
+    → ((p : ℕ) (v : Version) → denotes (at [] new p) v ≡ (denotes (at [] table p) v || one p v w))
+    → IsTableOf table hs i ws j → IsTableOf new hs (i + 1) ws j
+table_more table new hs i ws j w l is ordered least order last more so_far = record {
   order = order;
-  last = λ d further. pass_weaker (λ k. leb k w.picture) (λ k. leb k (get_or hs (i + 1) d).picture) new
-      (λ k h.
-      let below = leb-true k w.picture h in
+  first = λ d further.
       let here : (get_or hs i d).picture ≡ w.picture = ap (λ (x : Held). x.picture) (get_or_default hs i d w l ∙ sym is) in
       let rise = rises hs ordered i (i + 1) d (omega arith) further in
-      le-leb k (get_or hs (i + 1) d).picture (omega arith)) last;
+      at_most (get_or hs (i + 1) d).picture (omega arith);
+  second = λ d behind.
+      let here : (get_or hs i w).picture ≡ w.picture = ap (λ (x : Held). x.picture) (sym is) in
+      let less = least w d behind in
+      at_most (get_or ws j d).picture (omega arith);
   told = λ p v.
       more p v
-      ∙ (λ j. so_far.told p v j || ((eqb w.picture p) && of_w v j))
-      ∙ (λ j. tells (take i hs) p v || one p v (is j))
-      ∙ sym (list_any_more (one p v) hs i w l);
+      ∙ (λ k. so_far.told p v k || one p v w)
+      ∙ swapped (tells (take i hs) p v) (tells (take j ws) p v) (one p v w)
+      ∙ (λ k. (tells (take i hs) p v || one p v (is k)) || tells (take j ws) p v)
+      ∙ (λ k. sym (list_any_more (one p v) hs i w l) k || tells (take j ws) p v);
 }
   where
-    get_or_default : (xs : List Held) (j : ℕ) (d e : Held) → j < length xs → get_or xs j d ≡ get_or xs j e
-    get_or_default [] j d e h = absurd (omega arith)
-    get_or_default (x ∷ xs) zero d e h = refl
-    get_or_default (x ∷ xs) (suc j) d e h = get_or_default xs j d e (omega arith)
+    at_most : (q : ℕ) → w.picture ≤ q → keys_pass (λ k. leb k q) new ≡ true
+    at_most q above = pass_weaker (λ k. leb k w.picture) (λ k. leb k q) new (λ k h. let below = leb-true k w.picture h in le-leb k q (omega arith)) last
 
-pub last_of : (table : Table) (hs : List Held) (i : ℕ) (w : Held) → i < length hs → w ≡ get_or hs i w → IsTableOf table hs i → keys_pass (λ k. leb k w.picture) table ≡ true
-last_of table hs i w l is so_far = subst (λ (x : Held). keys_pass (λ k. leb k x.picture) table ≡ true) (sym is) (so_far.last w l)
+    get_or_default : (xs : List Held) (n : ℕ) (d e : Held) → n < length xs → get_or xs n d ≡ get_or xs n e
+    get_or_default [] n d e h = absurd (omega arith)
+    get_or_default (x ∷ xs) zero d e h = refl
+    get_or_default (x ∷ xs) (suc n) d e h = get_or_default xs n d e (omega arith)
+
+    swapped : (a b c : Bool) → ((a || b) || c) ≡ ((a || c) || b)
+    swapped true b c = refl
+    swapped false b c = or_turned b c
+
+pub first_last : (table : Table) (hs : List Held) (i : ℕ) (ws : List Held) (j : ℕ) (w : Held) → i < length hs → w ≡ get_or hs i w → IsTableOf table hs i ws j → keys_pass (λ k. leb k w.picture) table ≡ true
+first_last table hs i ws j w l is so_far = subst (λ (x : Held). keys_pass (λ k. leb k x.picture) table ≡ true) (sym is) (so_far.first w l)
 
 -- a version with its history, by one bound more
 

@@ -1,17 +1,23 @@
 -- Machinery of the proofs: what the code finds between two devices is what `Found` says.
-use Rattle.std.specs.Prelude.{◌≡◌, true}
-use Rattle.photo_device.specs.Held.{are_in_order}
+use Rattle.std.specs.Prelude.{◌≡◌, ℕ, ◌+◌, Bool, true, false, ◌||◌, List, [], length}
+use Rattle.photo_version.specs.Version.{Version}
+use Rattle.photo_version.specs.Vector.{Bound, denotes}
+use Rattle.item_knowledge.specs.Tables.{in_order, at}
+use Rattle.photo_device.specs.declared.held.Held.{Held}
 use Rattle.photo_device.specs.Device.{Kept}
-use Rattle.photo_pull.specs.Found.{new_stored, new_waiting, gone_stored, gone_waiting, heard, kept, learns}
+use Rattle.photo_pull.specs.Found.{tells, new_waiting, gone_stored, gone_waiting, heard, kept, learns}
 use Rattle.photo_pull.specs.declared.finding.Finding.{Finding}
+
+-- a table has what two lists tell, where it is wanted
+pub record IsTold (learned : Bool) (hs ws : List Held) (table : List (ℕ × List Bound)) : Type 0 where
+  pub order : in_order table ≡ true
+  pub told : learned ≡ false → (p : ℕ) (v : Version) → denotes (at [] table p) v ≡ (tells hs p v || tells ws p v)
 
 pub record IsFound (t s : Kept) (f : Finding) : Type 0 where
   pub learned : f.learned ≡ learns t s
-  pub stored : f.news.stored.items ≡ new_stored t s
-  pub waiting : f.news.waiting.items ≡ new_waiting t s
   pub gone_stored : f.gone.stored.items ≡ gone_stored t s
   pub gone_waiting : f.gone.waiting.items ≡ gone_waiting t s
-  pub heard : f.heard.items ≡ heard t s
   pub kept : f.kept.items ≡ kept t s
-  pub waiting_order : are_in_order f.news.waiting.items ≡ true
-  pub heard_order : are_in_order f.heard.items ≡ true
+  pub handed : f.handed.items ≡ new_waiting t s
+  pub notices : f.notices + length f.kept.items ≡ length (heard t s)
+  pub told : IsTold f.learned (heard t s) (new_waiting t s) f.told.items

@@ -1,52 +1,36 @@
 //! What a target is to give up, to take and to learn.
-ghost use Rattle.std.specs.Prelude.{◌≡◌, ℕ, ◌<◌, ◌&&◌, ◌||◌, ◌++◌, true, IfOk};
-ghost use Rattle.std.specs.List.{AllByRecursion};
+ghost use Rattle.std.specs.Prelude.{◌≡◌, ℕ, ◌<◌, ◌++◌, true, [], if◌then◌else◌, IfOk};
 ghost use Rattle.std.specs.List.Sorted.{IsPermutation};
 ghost use Rattle.photo_version.specs.Version as spec;
+ghost use Rattle.photo_version.specs.Vector.{denotes};
 ghost use Rattle.item_knowledge.specs.Fragments.{knows};
-ghost use Rattle.photo_device.specs.Held.{are_in_order};
-ghost use Rattle.photo_device.specs.Own.{HasEarlier};
-ghost use Rattle.photo_pull.specs.Found.{tells, versions};
+ghost use Rattle.item_knowledge.specs.Tables.{in_order, at};
+ghost use Rattle.photo_pull.specs.Found.{versions};
 
 use crate::finding::Finding;
-use crate::found::{push_copies, push_versions};
-use crate::table::table_of;
+use crate::found::push_versions;
 use item_knowledge::Knowledge;
 use photo_device::{Change, Held, ItemList};
-use photo_version::Version;
+use photo_record::PicNo;
+use photo_version::{Vector, Version};
 use std::alloc::{AllocError, Global};
 
-/// All of a knowledge where the answer is yes, and nothing else.
-fn gain_from(alloc: Global, learned: bool, taught: &Knowledge) -> Result<Knowledge, AllocError>
-    ensures { IfOk result (λ gain. (p : ℕ) (v : spec.Version) → knows gain p v ≡ (learned && knows taught.now p v)) }
+/// All of a knowledge where the answer is yes, and what a table says otherwise.
+fn gain_of(
+    alloc: Global,
+    learned: bool,
+    taught: &Knowledge,
+    told: &[(PicNo, Vector)],
+) -> Result<Knowledge, AllocError>
+    requires { in_order told.now ≡ true }
+    ensures { IfOk result (λ gain. (p : ℕ) (v : spec.Version) → 0 < p → knows gain p v ≡ (if learned then knows taught.now p v else denotes (at [] told.now p) v)) }
 {
     if learned {
         let all = taught.try_clone()?;
         return Ok(all);
     }
-    let none = Knowledge::new(alloc)?;
-    Ok(none)
-}
-
-/// A knowledge with what is told.
-fn gain_of(
-    alloc: Global,
-    learned: bool,
-    taught: &Knowledge,
-    heard: &[Held],
-    handed: &[Held],
-) -> Result<Knowledge, AllocError>
-    requires heard_order { are_in_order heard.now ≡ true }
-    requires handed_order { are_in_order handed.now ≡ true }
-    requires heard { AllByRecursion HasEarlier heard.now }
-    requires handed { AllByRecursion HasEarlier handed.now }
-    ensures { IfOk result (λ gain. (p : ℕ) (v : spec.Version) → 0 < p → knows gain p v ≡ ((learned && knows taught.now p v) || (tells heard.now p v || tells handed.now p v))) }
-{
-    let mut gain = gain_from(alloc, learned, taught)?;
-    let stored = table_of(alloc, heard)?;
-    gain.learn_table(&stored)?;
-    let waiting = table_of(alloc, handed)?;
-    gain.learn_table(&waiting)?;
+    let mut gain = Knowledge::new(alloc)?;
+    gain.learn_table(told)?;
     Ok(gain)
 }
 
@@ -62,21 +46,21 @@ fn drops_of(alloc: Global, stored: &[Held], waiting: &[Held]) -> Result<Vec<Vers
 }
 
 /// What it takes, of the source's store and of its out.
-fn takes_of(alloc: Global, kept: &[Held], handed: &[Held]) -> Result<Vec<Held>, AllocError>
-    ensures { IfOk result (λ takes. takes.items ≡ kept.now ++ handed.now) }
+fn takes_of(kept: Vec<Held>, handed: Vec<Held>) -> Result<Vec<Held>, AllocError>
+    ensures { IfOk result (λ takes. takes.items ≡ kept.items ++ handed.items) }
 {
-    let mut takes = Vec::new(alloc);
-    push_copies(&mut takes, kept)?;
-    push_copies(&mut takes, handed)?;
+    let mut takes = kept;
+    let mut more = handed;
+    takes.append(&mut more)?;
     Ok(takes)
 }
 
 /// The versions that the source hands over, in order.
 pub(crate) fn handed_of(alloc: Global, finding: &Finding) -> Result<Vec<Version>, AllocError>
-    ensures { IfOk result (λ handed. IsPermutation (versions finding.now.news.waiting.items) handed.items) }
+    ensures { IfOk result (λ handed. IsPermutation (versions finding.now.handed.items) handed.items) }
 {
     let mut handed = Vec::new(alloc);
-    push_versions(&mut handed, &finding.news.waiting)?;
+    push_versions(&mut handed, &finding.handed)?;
     handed.sort_unstable();
     Ok(handed)
 }
@@ -84,21 +68,17 @@ pub(crate) fn handed_of(alloc: Global, finding: &Finding) -> Result<Vec<Version>
 /// What the target is to give up, to take and to learn after what was found.
 pub(crate) fn change_for(
     alloc: Global,
-    finding: &Finding,
+    finding: Finding,
     taught: &Knowledge,
 ) -> Result<Change, AllocError>
-    requires heard_order { are_in_order finding.now.heard.items ≡ true }
-    requires handed_order { are_in_order finding.now.news.waiting.items ≡ true }
-    requires heard { AllByRecursion HasEarlier finding.now.heard.items }
-    requires handed { AllByRecursion HasEarlier finding.now.news.waiting.items }
-    ensures drops { IfOk result (λ change. IsPermutation (versions finding.now.gone.stored.items ++ versions finding.now.gone.waiting.items) change.drops) }
-    ensures takes { IfOk result (λ change. change.takes ≡ finding.now.kept.items ++ finding.now.news.waiting.items) }
-    ensures gain { IfOk result (λ change. (p : ℕ) (v : spec.Version) → 0 < p → knows change.gain p v ≡ ((finding.now.learned && knows taught.now p v) || (tells finding.now.heard.items p v || tells finding.now.news.waiting.items p v))) }
+    requires { in_order finding.told.items ≡ true }
+    ensures drops { IfOk result (λ change. IsPermutation (versions finding.gone.stored.items ++ versions finding.gone.waiting.items) change.drops) }
+    ensures takes { IfOk result (λ change. change.takes ≡ finding.kept.items ++ finding.handed.items) }
+    ensures gain { IfOk result (λ change. (p : ℕ) (v : spec.Version) → 0 < p → knows change.gain p v ≡ (if finding.learned then knows taught.now p v else denotes (at [] finding.told.items p) v)) }
 {
-    let handed = &finding.news.waiting;
     let drops = drops_of(alloc, &finding.gone.stored, &finding.gone.waiting)?;
-    let takes = takes_of(alloc, &finding.kept, handed)?;
-    let gain = gain_of(alloc, finding.learned, taught, &finding.heard, handed)?;
+    let gain = gain_of(alloc, finding.learned, taught, &finding.told)?;
+    let takes = takes_of(finding.kept, finding.handed)?;
     Ok(Change {
         drops: ItemList::new(drops),
         takes: ItemList::new(takes),

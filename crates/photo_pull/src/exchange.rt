@@ -37,7 +37,7 @@ pub fn pull(
         return Ok(counts);
     }
     let handed = handed_of(alloc, &finding)?;
-    let change = change_for(alloc, &finding, source.knowledge())?;
+    let change = change_for(alloc, finding, source.knowledge())?;
     match target.apply(change) {
         Ok(()) => {}
         Err((_, refused)) => return Err(refused),

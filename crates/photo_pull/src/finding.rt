@@ -1,14 +1,19 @@
 ghost use Rattle.std.specs.Prelude.{◌≡◌, true, IfOk};
+ghost use Rattle.std.specs.List.{AllByRecursion};
 ghost use Rattle.photo_device.specs.Held.{are_in_order};
+ghost use Rattle.photo_device.specs.Own.{HasEarlier};
 ghost use Rattle.photo_pull.specs.Found.{new_stored, new_waiting, gone_stored, gone_waiting, learns};
-ghost use Rattle.photo_pull.specs.Findings.{IsFound};
+ghost use Rattle.photo_pull.specs.Findings.{IsFound, IsTold};
 
 use crate::PullCounts;
-use crate::found::{gone_of, heard_of, kept_of, new_of, superseded_of};
+use crate::found::{gone_of, heard_of, kept_of, new_of};
 use crate::part::Part;
+use crate::table::table_of;
 use item_knowledge::Knowledge;
 use photo_device::{Device, Held};
 use photo_filter_rules::covers;
+use photo_record::PicNo;
+use photo_version::Vector;
 use std::alloc::{AllocError, Global};
 
 /// What a pull finds between two devices before it changes them.
@@ -16,14 +21,16 @@ use std::alloc::{AllocError, Global};
 pub(crate) struct Finding {
     /// Whether the target learns all that the source knows.
     pub learned: bool,
-    /// What the target doesn't know of what the source holds.
-    pub news: Part,
     /// What the target gives up.
     pub gone: Part,
-    /// Of what is new in the source's store, what the target takes or is told of.
-    pub heard: Vec<Held>,
-    /// Of this, what it takes.
+    /// What it takes of the source's store.
     pub kept: Vec<Held>,
+    /// What it takes of the source's out.
+    pub handed: Vec<Held>,
+    /// Of how many it is told without their records.
+    pub notices: usize,
+    /// What it is told of the pictures, where it doesn't learn all.
+    pub told: Vec<(PicNo, Vector)>,
 }
 
 /// What the target doesn't know of what the source holds.
@@ -32,6 +39,8 @@ fn news_of(alloc: Global, target: &Device, source: &Device) -> Result<Part, Allo
     ensures waiting { IfOk result (λ part. part.waiting.items ≡ new_waiting target.now source.now) }
     ensures stored_order { IfOk result (λ part. are_in_order part.stored.items ≡ true) }
     ensures waiting_order { IfOk result (λ part. are_in_order part.waiting.items ≡ true) }
+    ensures stored_earlier { IfOk result (λ part. AllByRecursion HasEarlier part.stored.items) }
+    ensures waiting_earlier { IfOk result (λ part. AllByRecursion HasEarlier part.waiting.items) }
 {
     let known = target.knowledge();
     let stored = new_of(alloc, known, source.store())?;
@@ -58,8 +67,28 @@ fn gone_for(
     ensures waiting_order { IfOk result (λ part. are_in_order part.waiting.items ≡ true) }
 {
     let stored = gone_of(alloc, news, learned, source, target.store())?;
-    let waiting = superseded_of(alloc, news, target.out())?;
+    let waiting = gone_of(alloc, news, false, source, target.out())?;
     Ok(Part { stored, waiting })
+}
+
+/// What two lists tell of their pictures, or nothing where the target learns all anyhow.
+fn told_of(
+    alloc: Global,
+    learned: bool,
+    heard: &[Held],
+    handed: &[Held],
+) -> Result<Vec<(PicNo, Vector)>, AllocError>
+    requires heard_order { are_in_order heard.now ≡ true }
+    requires handed_order { are_in_order handed.now ≡ true }
+    requires heard { AllByRecursion HasEarlier heard.now }
+    requires handed { AllByRecursion HasEarlier handed.now }
+    ensures { IfOk result (λ told. IsTold learned heard.now handed.now told.items) }
+{
+    if learned {
+        return Ok(Vec::new(alloc));
+    }
+    let table = table_of(alloc, heard, handed)?;
+    Ok(table)
 }
 
 /// What a pull finds between two devices. Its only error is want of memory.
@@ -73,14 +102,19 @@ pub(crate) fn found_between(
     let learned = covers(source.filter(), target.filter());
     let news = news_of(alloc, target, source)?;
     let gone = gone_for(alloc, &news, learned, target, source)?;
-    let heard = heard_of(alloc, target.filter(), &gone, &news.stored)?;
-    let kept = kept_of(alloc, target.filter(), &heard)?;
+    let Part { stored, waiting } = news;
+    let heard = heard_of(target.filter(), &gone, stored);
+    let told = told_of(alloc, learned, &heard, &waiting)?;
+    let all = heard.len();
+    let kept = kept_of(target.filter(), heard);
+    let notices = all - kept.len();
     Ok(Finding {
         learned,
-        news,
         gone,
-        heard,
         kept,
+        handed: waiting,
+        notices,
+        told,
     })
 }
 
@@ -91,17 +125,16 @@ impl Finding {
 
     /// What the pull moves and tells.
     pub fn counts(&self) -> PullCounts
-        requires { length self.now.kept.items ≤ length self.now.heard.items }
         ensures taken { result.taken ≡ length self.now.kept.items }
-        ensures handed { result.handed ≡ length self.now.news.waiting.items }
-        ensures notices { result.notices + length self.now.kept.items ≡ length self.now.heard.items }
+        ensures handed { result.handed ≡ length self.now.handed.items }
+        ensures notices { result.notices ≡ self.now.notices }
         ensures dropped { result.dropped ≡ length self.now.gone.stored.items + length self.now.gone.waiting.items }
         ensures learned { result.learned ≡ self.now.learned }
     {
         PullCounts {
             taken: self.kept.len() as u64,
-            handed: self.news.waiting.len() as u64,
-            notices: (self.heard.len() - self.kept.len()) as u64,
+            handed: self.handed.len() as u64,
+            notices: self.notices as u64,
             dropped: self.gone.stored.len() as u64 + self.gone.waiting.len() as u64,
             learned: self.learned,
         }
@@ -109,23 +142,24 @@ impl Finding {
 
     /// Whether no version comes, is told of or goes.
     pub fn is_empty(&self) -> bool
-        ensures { result ≡ (((length self.now.heard.items == 0) && (length self.now.news.waiting.items == 0)) && ((length self.now.gone.stored.items == 0) && (length self.now.gone.waiting.items == 0))) }
+        ensures { result ≡ (((length self.now.kept.items == 0) && (self.now.notices == 0)) && ((length self.now.handed.items == 0) && ((length self.now.gone.stored.items == 0) && (length self.now.gone.waiting.items == 0)))) }
     {
-        (self.heard.is_empty() && self.news.waiting.is_empty())
-            && (self.gone.stored.is_empty() && self.gone.waiting.is_empty())
+        (self.kept.is_empty() && self.notices == 0)
+            && (self.handed.is_empty() && self.gone.is_empty())
     }
 
     /// Whether nothing comes and nothing goes, and what the source may teach is known.
     pub fn is_nothing(&self, known: &Knowledge, taught: &Knowledge) -> bool
-        ensures heard { result ≡ true → self.now.heard.items ≡ [] }
-        ensures waiting { result ≡ true → self.now.news.waiting.items ≡ [] }
+        ensures kept { result ≡ true → self.now.kept.items ≡ [] }
+        ensures notices { result ≡ true → self.now.notices ≡ 0 }
+        ensures handed { result ≡ true → self.now.handed.items ≡ [] }
         ensures gone_stored { result ≡ true → self.now.gone.stored.items ≡ [] }
         ensures gone_waiting { result ≡ true → self.now.gone.waiting.items ≡ [] }
         ensures known { result ≡ true → self.now.learned ≡ true → (p : ℕ) (v : Version) → 0 < p → knows taught.now p v ≡ true → knows known.now p v ≡ true }
     {
-        if self.learned && !known.has_all(taught) {
+        if !self.is_empty() {
             return false;
         }
-        self.is_empty()
+        !self.learned || known.has_all(taught)
     }
 }

@@ -1,11 +1,10 @@
-//! Copies of held versions that pass a test, in their order. A copy shares what the version carries.
-ghost use Rattle.std.specs.Prelude.{◌≡◌, ◌++◌, ◌&&◌, ◌||◌, not, Bool, true, filter, IfOk, OnOk};
-ghost use Rattle.std.specs.Fn.{ComputesKey};
-ghost use Rattle.photo_device.specs.declared.held.Held as spec;
+//! Held versions that pass a test, in their order. A copy shares what the version carries.
+ghost use Rattle.std.specs.Prelude.{◌≡◌, ◌≤◌, ◌++◌, ◌&&◌, ◌||◌, not, true, length, filter, IfOk, OnOk};
 ghost use Rattle.photo_device.specs.Held.{are_in_order};
 ghost use Rattle.photo_pull.specs.Found.{is_new, is_kept, has_above, has_below, has_same, versions};
 ghost use Rattle.item_knowledge.specs.Fragments.{knows};
 
+use crate::hints::Hints;
 use crate::part::Part;
 use item_knowledge::Knowledge;
 use photo_device::{Device, Held, HeldSet};
@@ -13,41 +12,27 @@ use photo_filter_rules::Filter;
 use photo_version::Version;
 use std::alloc::{AllocError, Global};
 
-/// Those of a list.
-pub(crate) fn push_passing<P: Fn(&Held) -> bool>(
+/// Puts copies of those of a list that a knowledge doesn't have behind others. Any hint will do.
+fn push_new(
     found: &mut Vec<Held>,
+    knowledge: &Knowledge,
+    hint: &mut usize,
     list: &[Held],
-    test: &P,
 ) -> Result<(), AllocError>
-    requires { P.IsAlwaysCallable test.now }
-    ensures { OnOk result ((p : spec.Held → Bool) → ComputesKey P.FnMut p test.now → found.new.items ≡ found.old.items ++ filter p list.now) }
+    ensures { OnOk result (found.new.items ≡ found.old.items ++ filter (is_new knowledge.now) list.now) }
 {
     for held in list {
-        if test(held) {
-            found.push(held.try_clone()?)?;
+        let (known, next) = knowledge.knows_near(*hint, held.picture, held.version);
+        *hint = next;
+        if known {
+            continue;
         }
+        found.push(held.try_clone()?)?;
     }
     Ok(())
 }
 
-/// Those of a set.
-pub(crate) fn passing<P: Fn(&Held) -> bool>(
-    alloc: Global,
-    set: &HeldSet,
-    test: P,
-) -> Result<Vec<Held>, AllocError>
-    requires { P.IsAlwaysCallable test }
-    ensures items { IfOk result (λ found. (p : spec.Held → Bool) → ComputesKey P.FnMut p test → found.items ≡ filter p set.now) }
-    ensures ordered { are_in_order set.now ≡ true }
-{
-    let mut found = Vec::new(alloc);
-    for block in set.blocks() {
-        push_passing(&mut found, block, &test)?;
-    }
-    Ok(found)
-}
-
-/// Those of a set that a knowledge doesn't have.
+/// Copies of those of a set that a knowledge doesn't have. No memory is wanted where it has all.
 pub(crate) fn new_of(
     alloc: Global,
     knowledge: &Knowledge,
@@ -56,55 +41,63 @@ pub(crate) fn new_of(
     ensures items { IfOk result (λ found. found.items ≡ filter (is_new knowledge.now) set.now) }
     ensures ordered { IfOk result (λ found. are_in_order found.items ≡ true) }
 {
-    let found = passing(alloc, set, |held| {
-        !knowledge.knows(held.picture, held.version)
-    })?;
-    Ok(found)
-}
-
-/// Those of a list that a filter matches.
-pub(crate) fn kept_of(
-    alloc: Global,
-    wanted: &Filter,
-    list: &[Held],
-) -> Result<Vec<Held>, AllocError>
-    ensures { IfOk result (λ found. found.items ≡ filter (is_kept wanted.now) list.now) }
-{
     let mut found = Vec::new(alloc);
-    push_passing(
-        &mut found,
-        list,
-        &|held: &Held| wanted.matches(&held.content),
-    )?;
-    Ok(found)
-}
-
-/// Those of a set that something new supersedes.
-pub(crate) fn superseded_of(
-    alloc: Global,
-    news: &Part,
-    set: &HeldSet,
-) -> Result<Vec<Held>, AllocError>
-    requires stored { are_in_order news.now.stored.items ≡ true }
-    requires waiting { are_in_order news.now.waiting.items ≡ true }
-    ensures items { IfOk result (λ found. found.items ≡ filter (λ h. has_above news.now.stored.items h || has_above news.now.waiting.items h) set.now) }
-    ensures ordered { IfOk result (λ found. are_in_order found.items ≡ true) }
-{
-    let found = passing(alloc, set, |held| news.any_above(held))?;
+    let mut hint = 0;
+    for block in set.blocks() {
+        push_new(&mut found, knowledge, &mut hint, block)?;
+    }
     Ok(found)
 }
 
 /// Whether a device knows a version and doesn't keep it.
-fn has_given_up(device: &Device, held: &Held) -> bool
+fn has_given_up(device: &Device, hints: &mut Hints, held: &Held) -> bool
     ensures { result ≡ (knows device.now.knowledge held.now.picture held.now.version && not (has_same device.now.store held.now)) }
 {
-    if !device.knowledge().knows(held.picture, held.version) {
+    if device.store().has(held.picture, held.version) {
         return false;
     }
-    !device.store().has(held.picture, held.version)
+    let (known, next) = device
+        .knowledge()
+        .knows_near(hints.known, held.picture, held.version);
+    hints.known = next;
+    known
 }
 
-/// Those of a set that something new supersedes, or that a device has given up whose keeping is followed.
+/// Whether something new supersedes a version, or a device has given it up whose keeping is followed.
+fn goes(news: &Part, followed: bool, device: &Device, hints: &mut Hints, held: &Held) -> bool
+    requires stored { are_in_order news.now.stored.items ≡ true }
+    requires waiting { are_in_order news.now.waiting.items ≡ true }
+    ensures { result ≡ ((has_above news.now.stored.items held.now || has_above news.now.waiting.items held.now) || (followed && (knows device.now.knowledge held.now.picture held.now.version && not (has_same device.now.store held.now)))) }
+{
+    if news.any_above(hints, held) {
+        return true;
+    }
+    followed && has_given_up(device, hints, held)
+}
+
+/// Puts copies of those of a list that go behind others.
+fn push_gone(
+    found: &mut Vec<Held>,
+    news: &Part,
+    followed: bool,
+    device: &Device,
+    hints: &mut Hints,
+    list: &[Held],
+) -> Result<(), AllocError>
+    requires stored { are_in_order news.now.stored.items ≡ true }
+    requires waiting { are_in_order news.now.waiting.items ≡ true }
+    ensures { OnOk result (found.new.items ≡ found.old.items ++ filter (λ h. (has_above news.now.stored.items h || has_above news.now.waiting.items h) || (followed && (knows device.now.knowledge h.picture h.version && not (has_same device.now.store h)))) list.now) }
+{
+    for held in list {
+        if !goes(news, followed, device, hints, held) {
+            continue;
+        }
+        found.push(held.try_clone()?)?;
+    }
+    Ok(())
+}
+
+/// Copies of those of a set that something new supersedes, or that a device has given up whose keeping is followed.
 pub(crate) fn gone_of(
     alloc: Global,
     news: &Part,
@@ -117,42 +110,36 @@ pub(crate) fn gone_of(
     ensures items { IfOk result (λ found. found.items ≡ filter (λ h. (has_above news.now.stored.items h || has_above news.now.waiting.items h) || (followed && (knows device.now.knowledge h.picture h.version && not (has_same device.now.store h)))) set.now) }
     ensures ordered { IfOk result (λ found. are_in_order found.items ≡ true) }
 {
-    let found = passing(alloc, set, |held| {
-        news.any_above(held) || (followed && has_given_up(device, held))
-    })?;
+    let mut found = Vec::new(alloc);
+    if !followed && news.is_empty() {
+        return Ok(found);
+    }
+    let mut hints = Hints::new();
+    for block in set.blocks() {
+        push_gone(&mut found, news, followed, device, &mut hints, block)?;
+    }
     Ok(found)
 }
 
 /// Those of a list that a filter matches, or that supersede something that goes.
-pub(crate) fn heard_of(
-    alloc: Global,
-    wanted: &Filter,
-    gone: &Part,
-    list: &[Held],
-) -> Result<Vec<Held>, AllocError>
+pub(crate) fn heard_of(wanted: &Filter, gone: &Part, list: Vec<Held>) -> Vec<Held>
     requires stored { are_in_order gone.now.stored.items ≡ true }
     requires waiting { are_in_order gone.now.waiting.items ≡ true }
-    requires list { are_in_order list.now ≡ true }
-    ensures items { IfOk result (λ found. found.items ≡ filter (λ w. is_kept wanted.now w || (has_below gone.now.stored.items w || has_below gone.now.waiting.items w)) list.now) }
-    ensures ordered { IfOk result (λ found. are_in_order found.items ≡ true) }
+    ensures { result.items ≡ filter (λ w. is_kept wanted.now w || (has_below gone.now.stored.items w || has_below gone.now.waiting.items w)) list.items }
 {
-    let mut found = Vec::new(alloc);
-    push_passing(
-        &mut found,
-        list,
-        &|held: &Held| { wanted.matches(&held.content) || gone.any_below(held) },
-    )?;
-    Ok(found)
+    let mut heard = list;
+    heard.retain(|held| wanted.matches(&held.content) || gone.any_below(held));
+    heard
 }
 
-/// Puts copies of those of a list behind others.
-pub(crate) fn push_copies(found: &mut Vec<Held>, list: &[Held]) -> Result<(), AllocError>
-    ensures { OnOk result (found.new.items ≡ found.old.items ++ list.now) }
+/// Those of a list that a filter matches.
+pub(crate) fn kept_of(wanted: &Filter, list: Vec<Held>) -> Vec<Held>
+    ensures items { result.items ≡ filter (is_kept wanted.now) list.items }
+    ensures fewer { length result.items ≤ length list.items }
 {
-    for held in list {
-        found.push(held.try_clone()?)?;
-    }
-    Ok(())
+    let mut kept = list;
+    kept.retain(|held| wanted.matches(&held.content));
+    kept
 }
 
 /// Puts the versions of those of a list behind others.

@@ -6,6 +6,7 @@ mod counts;
 mod exchange;
 mod finding;
 mod found;
+mod hints;
 mod part;
 mod search;
 mod table;

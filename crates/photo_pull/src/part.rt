@@ -1,4 +1,5 @@
-use crate::search::{any_above, any_below};
+use crate::hints::Hints;
+use crate::search::{any_above_near, any_below};
 use photo_device::Held;
 
 /// Some of the versions that a device holds, in the order of their pictures.
@@ -11,17 +12,31 @@ pub(crate) struct Part {
 }
 
 impl Part {
-    ghost use Rattle.std.specs.Prelude.{◌≡◌, ◌||◌, true};
+    ghost use Rattle.std.specs.Prelude.{◌≡◌, ◌||◌, ◌&&◌, ◌==◌, true, length};
     ghost use Rattle.photo_device.specs.Held.{are_in_order};
     ghost use Rattle.photo_pull.specs.Found.{has_above, has_below};
 
+    /// Whether there is none.
+    pub fn is_empty(&self) -> bool
+        ensures { result ≡ ((length self.now.stored.items == 0) && (length self.now.waiting.items == 0)) }
+    {
+        self.stored.is_empty() && self.waiting.is_empty()
+    }
+
     /// Whether one of them supersedes the version.
-    pub fn any_above(&self, held: &Held) -> bool
+    pub fn any_above(&self, hints: &mut Hints, held: &Held) -> bool
         requires stored { are_in_order self.now.stored.items ≡ true }
         requires waiting { are_in_order self.now.waiting.items ≡ true }
         ensures { result ≡ (has_above self.now.stored.items held.now || has_above self.now.waiting.items held.now) }
     {
-        any_above(&self.stored, held) || any_above(&self.waiting, held)
+        let (above, next) = any_above_near(&self.stored, hints.stored, held);
+        hints.stored = next;
+        if above {
+            return true;
+        }
+        let (above, next) = any_above_near(&self.waiting, hints.waiting, held);
+        hints.waiting = next;
+        above
     }
 
     /// Whether the version supersedes one of them.

@@ -1,9 +1,10 @@
 //! What held versions tell of their pictures, as a table of pictures with vectors.
-ghost use Rattle.std.specs.Prelude.{◌≡◌, ℕ, ◌&&◌, ◌||◌, ◌==◌, nat_le, true, [], IfOk, OnOk};
+ghost use Rattle.std.specs.Prelude.{◌≡◌, ℕ, ◌<◌, ◌≤◌, ◌&&◌, ◌||◌, ◌==◌, nat_le, true, false, [], length, get_or, IfOk, OnOk};
 ghost use Rattle.std.specs.List.{AllByRecursion};
 ghost use Rattle.photo_version.specs.Version as versions;
 ghost use Rattle.photo_version.specs.Vector.{denotes};
 ghost use Rattle.item_knowledge.specs.Tables.{in_order, keys_pass, at};
+ghost use Rattle.photo_device.specs.declared.held.Held as spec;
 ghost use Rattle.photo_device.specs.Held.{are_in_order};
 ghost use Rattle.photo_device.specs.Own.{HasEarlier};
 ghost use Rattle.photo_pull.specs.Found.{tells};
@@ -48,17 +49,60 @@ fn add_row(
     Ok(())
 }
 
-/// What they tell, all those of one picture in one row.
-pub(crate) fn table_of(alloc: Global, told: &[Held]) -> Result<Vec<(PicNo, Vector)>, AllocError>
-    requires order { are_in_order told.now ≡ true }
-    requires earlier { AllByRecursion HasEarlier told.now }
+/// Adds what a version tells to a table whose pictures are none greater.
+fn add_told(table: &mut Vec<(PicNo, Vector)>, held: &Held) -> Result<(), AllocError>
+    requires earlier { HasEarlier held.now }
+    requires order { in_order table.old.items ≡ true }
+    requires last { keys_pass (λ k. nat_le k held.now.picture) table.old.items ≡ true }
+    ensures order { OnOk result (in_order table.new.items ≡ true) }
+    ensures last { OnOk result (keys_pass (λ k. nat_le k held.now.picture) table.new.items ≡ true) }
+    ensures told { OnOk result ((p : ℕ) (v : versions.Version) → denotes (at [] table.new.items p) v ≡ (denotes (at [] table.old.items p) v || ((held.now.picture == p) && (denotes held.now.made_with v || versions.same_version held.now.version v)))) }
+{
+    let vector = told_by(held)?;
+    add_row(table, held.picture, vector)?;
+    Ok(())
+}
+
+/// Whether the first of two lists gives the next one, that of the smaller picture, where one stands at a place in each.
+fn is_first(heard: &[Held], i: usize, handed: &[Held], j: usize) -> bool
+    ensures first { result ≡ true → i < length heard.now }
+    ensures first_least { (a b : spec.Held) → result ≡ true → j < length handed.now → (get_or heard.now i a).picture ≤ (get_or handed.now j b).picture }
+    ensures second { result ≡ false → i < length heard.now → j < length handed.now }
+    ensures second_least { (a b : spec.Held) → result ≡ false → i < length heard.now → (get_or handed.now j b).picture ≤ (get_or heard.now i a).picture }
+{
+    if i >= heard.len() {
+        return false;
+    }
+    if j >= handed.len() {
+        return true;
+    }
+    heard[i].picture <= handed[j].picture
+}
+
+/// What both tell, all those of one picture in one row.
+pub(crate) fn table_of(
+    alloc: Global,
+    heard: &[Held],
+    handed: &[Held],
+) -> Result<Vec<(PicNo, Vector)>, AllocError>
+    requires heard_order { are_in_order heard.now ≡ true }
+    requires handed_order { are_in_order handed.now ≡ true }
+    requires heard { AllByRecursion HasEarlier heard.now }
+    requires handed { AllByRecursion HasEarlier handed.now }
     ensures order { IfOk result (λ table. in_order table.items ≡ true) }
-    ensures told { IfOk result (λ table. (p : ℕ) (v : versions.Version) → denotes (at [] table.items p) v ≡ tells told.now p v) }
+    ensures told { IfOk result (λ table. (p : ℕ) (v : versions.Version) → denotes (at [] table.items p) v ≡ (tells heard.now p v || tells handed.now p v)) }
 {
     let mut table = Vec::new(alloc);
-    for held in told {
-        let vector = told_by(held)?;
-        add_row(&mut table, held.picture, vector)?;
+    let mut i = 0;
+    let mut j = 0;
+    while i < heard.len() || j < handed.len() {
+        if is_first(heard, i, handed, j) {
+            add_told(&mut table, &heard[i])?;
+            i += 1;
+            continue;
+        }
+        add_told(&mut table, &handed[j])?;
+        j += 1;
     }
     Ok(table)
 }

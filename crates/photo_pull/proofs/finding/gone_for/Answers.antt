@@ -1,7 +1,9 @@
 use Rattle.std.proofs.Common.{not, ◌&&◌, ◌||◌, ◌∙◌}
 use Rattle.std.specs.Prelude.{filter}
 use Rattle.item_knowledge.specs.Fragments.{knows}
+use Rattle.photo_device.specs.declared.held.Held.{Held}
 use Rattle.photo_pull.specs.Found.{has_above, has_same}
+use Rattle.photo_pull.proofs.Shown.{or_false}
 use Rattle.photo_pull.proofs.finding.gone_for.Goals as goal
 
 pub returns-clause-stored : goal.returns-clause-stored
@@ -12,4 +14,4 @@ returns-clause-stored c =
 pub returns-clause-waiting : goal.returns-clause-waiting
 returns-clause-waiting c =
     c.in_ok-waiting.ensures.items
-    ∙ (λ i. filter (λ h. has_above (c.requires.stored i) h || has_above (c.requires.waiting i) h) (c.out.ensures.value i))
+    ∙ (λ i. filter (λ (h : Held). or_false (has_above (c.requires.stored i) h || has_above (c.requires.waiting i) h) i) (c.out.ensures.value i))

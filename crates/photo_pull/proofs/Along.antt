@@ -1,0 +1,88 @@
+-- Searches along a list in order, from a place on.
+use Rattle.std.proofs.Common.{◌≡◌, ℕ, zero, suc, ◌+◌, ◌-◌, ◌<◌, ◌≤◌, Bool, true, false, ◌&&◌, ◌||◌, eqb, List, [], ◌∷◌, length, get_or, drop, refl, sym, ap, ◌∙◌, arith, add-one, take, Vec}
+use Rattle.std.specs.Prelude.{filter}
+use Rattle.std.specs.declared.alloc.Global.{Global}
+use Rattle.std.proofs.lemmas.Bool.{ne_eqb, and_parts, eqb-true}
+use Rattle.block_list.specs.Blocks.{joined}
+use Rattle.photo_device.specs.declared.held.Held.{Held}
+use Rattle.photo_device.specs.Held.{are_in_order}
+use Rattle.photo_device.proofs.Order.{rises, in_order-filter}
+use Rattle.photo_pull.specs.Found.{is_above, has_above}
+
+not_above : (x h : Held) → (x.picture ≡ h.picture → ⊥) → is_above x h ≡ false
+not_above x h ne = rw (ne_eqb x.picture h.picture ne) refl
+
+-- what stands before smaller pictures' end is none of this picture
+pub behind : (xs : List Held) (k : ℕ) (h : Held) → k ≤ length xs → ((i : ℕ) (d : Held) → i < k → (get_or xs i d).picture < h.picture) → has_above (drop k xs) h ≡ has_above xs h
+behind xs zero h within below = refl
+behind [] (suc k) h within below = absurd (omega arith)
+behind (x ∷ xs) (suc k) h within below =
+    let less = below 0 x (omega arith) in
+    behind xs k h (omega arith) (λ i d l. below (suc i) d (omega arith))
+    ∙ sym (ap (λ b. b || has_above xs h) (not_above x h (λ e. absurd (omega arith))))
+
+pub none_from : (xs : List Held) (k : ℕ) (h : Held) → ((i : ℕ) (d : Held) → k ≤ i → i < length xs → h.picture < (get_or xs i d).picture) → has_above (drop k xs) h ≡ false
+none_from [] zero h above = refl
+none_from [] (suc k) h above = refl
+none_from (x ∷ xs) zero h above =
+    let more = above 0 x (omega arith) (omega arith) in
+    ap (λ b. b || has_above xs h) (not_above x h (λ e. absurd (omega arith))) ∙ none_from xs 0 h (λ i d g l. above (suc i) d (omega arith) (omega arith))
+none_from (x ∷ xs) (suc k) h above = none_from xs k h (λ i d g l. above (suc i) d (omega arith) (omega arith))
+
+-- the same by one element of a list in order
+
+same_picture : (xs : List Held) (k : ℕ) (w d : Held) → k < length xs → w ≡ get_or xs k w → (get_or xs k d).picture ≡ w.picture
+same_picture xs k w d l is = ap (λ (x : Held). x.picture) (other_default xs k l) ∙ sym (ap (λ (x : Held). x.picture) is)
+  where
+    other_default : (xs : List Held) (k : ℕ) → k < length xs → get_or xs k d ≡ get_or xs k w
+    other_default [] k l = absurd (omega arith)
+    other_default (x ∷ xs) zero l = refl
+    other_default (x ∷ xs) (suc k) l = other_default xs k (omega arith)
+
+pub less_before : (xs : List Held) (k : ℕ) (w : Held) (p : ℕ) (h : Held) → are_in_order xs ≡ true → 0 < k → k ≤ length xs → w ≡ get_or xs (k - 1) w → w.picture < p → h.picture ≡ p → has_above (drop k xs) h ≡ has_above xs h
+less_before xs k w p h order some within is less of_it = behind xs k h within
+    (λ i d l.
+    let rise = rises xs order i (k - 1) d (omega arith) (omega arith) in
+    let last = same_picture xs (k - 1) w d (omega arith) is in
+    omega arith)
+
+pub greater_from : (xs : List Held) (k : ℕ) (w h : Held) → are_in_order xs ≡ true → k < length xs → w ≡ get_or xs k w → h.picture < w.picture → has_above (drop k xs) h ≡ false
+greater_from xs k w h order within is greater = none_from xs k h
+    (λ i d g l.
+    let rise = rises xs order k i d g l in
+    let first = same_picture xs k w d within is in
+    omega arith)
+
+pub one_from : (xs : List Held) (k : ℕ) (w h : Held) → k < length xs → w ≡ get_or xs k w → has_above (drop k xs) h ≡ (is_above w h || has_above (drop (k + 1) xs) h)
+one_from xs k w h l is = rw add-one (at_place xs k l is)
+  where
+    at_place : (xs : List Held) (k : ℕ) → k < length xs → w ≡ get_or xs k w → has_above (drop k xs) h ≡ (is_above w h || has_above (drop (suc k) xs) h)
+    at_place [] k l is = absurd (omega arith)
+    at_place (x ∷ xs) zero l is = ap (λ y. is_above y h || has_above xs h) (sym is)
+    at_place (x ∷ xs) (suc k) l is = at_place xs k (omega arith) is
+
+-- where nothing is new, and no keeping is followed, nothing goes
+pub none_over : (followed : Bool) (test : Held → Bool) (stored waiting xs : List Held) → followed ≡ false → (eqb (length stored) 0 && eqb (length waiting) 0) ≡ true
+    → filter (λ h. (has_above stored h || has_above waiting h) || (followed && test h)) xs ≡ []
+none_over followed test stored waiting xs unfollowed none =
+    let parts = and_parts (eqb (length stored) 0) (eqb (length waiting) 0) none in
+    (λ i. filter (λ h. (has_above (no_element stored parts.0 i) h || has_above (no_element waiting parts.1 i) h) || (unfollowed i && test h)) xs) ∙ nothing xs
+  where
+    no_element : (hs : List Held) → eqb (length hs) 0 ≡ true → hs ≡ []
+    no_element [] e = refl
+    no_element (h ∷ hs) e = let zero_length = eqb-true (length (h ∷ hs)) 0 e in absurd (omega arith)
+
+    nothing : (hs : List Held) → filter (λ h. false) hs ≡ []
+    nothing [] = refl
+    nothing (h ∷ hs) = nothing hs
+
+-- what passes in all blocks of a set in order
+pub in_order-passing : (p : Held → Bool) (items set : List Held) (blocks : List (Vec Held Global)) (k : ℕ) → length blocks ≤ k → joined blocks ≡ set → are_in_order set ≡ true → items ≡ filter p (joined (take k blocks)) → are_in_order items ≡ true
+in_order-passing p items set blocks k all of_set order passing =
+    ap are_in_order (passing ∙ ap (λ l. filter p (joined l)) (whole blocks k all) ∙ ap (filter p) of_set) ∙ in_order-filter p set order
+  where
+    whole : (xs : List (Vec Held Global)) (n : ℕ) → length xs ≤ n → take n xs ≡ xs
+    whole [] zero h = refl
+    whole [] (suc n) h = refl
+    whole (x ∷ xs) zero h = absurd (omega arith)
+    whole (x ∷ xs) (suc n) h = ap (λ l. x ∷ l) (whole xs n (omega arith))
