@@ -1,5 +1,5 @@
 -- Blocks as one list.
-use Rattle.std.proofs.Common.{slice_get, Some, ◌≡◌, ℕ, zero, suc, ◌+◌, ◌<◌, ◌≤◌, List, [], ◌∷◌, ◌++◌, length, get_or, set, take, drop, Vec, refl, sym, ap, ◌∙◌, append_assoc, arith}
+use Rattle.std.proofs.Common.{slice_get, Some, ◌≡◌, ℕ, zero, suc, ◌+◌, ◌<◌, ◌≤◌, List, [], ◌∷◌, ◌++◌, length, get_or, set, take, drop, Vec, refl, subst, sym, ap, ◌∙◌, append_assoc, arith}
 use Rattle.std.specs.List.{insert, remove}
 use Rattle.std.specs.declared.alloc.Global.{Global}
 use Rattle.std.proofs.lemmas.List.{set_split, length-set, get_or-set_same, length-take-le, take_at, drop_at, drop-drop, take-append-le, drop-append-le, take-set-le, drop-set-lt}
@@ -135,3 +135,13 @@ module _ {T : Type 0} where
   element_within (d ∷ ds) b k place =
       let within = place.within d in
       omega (arith, (start_more (d ∷ ds) b d place.block).1)
+
+  -- a place that was found in equal blocks
+
+  pub place_start : (at blocks : List (Vec T Global)) (i b k : ℕ) → at ≡ blocks → IsPlace at i b k → start_of blocks b + k ≡ i
+  place_start at blocks i b k is place = ap (λ l. start_of l b + k) (sym is) ∙ place.start
+
+  pub place_again : (at blocks : List (Vec T Global)) (i b k : ℕ) → at ≡ blocks → IsPlace at i b k → IsPlace blocks (start_of blocks b + k) b k
+  place_again at blocks i b k is place =
+      let here : IsPlace blocks i b k = subst (λ l. IsPlace l i b k) is place in
+      record { block = here.block; start = refl; within = here.within }

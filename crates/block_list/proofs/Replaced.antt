@@ -66,6 +66,23 @@ module _ {T : Type 0} where
         list = rw old_is at is;
       }
 
+  -- there is no element
+  pub put_first : (p q : T → Bool) (old new : List T) (blocks : List (Vec T Global)) (x : T) → joined blocks ≡ old → blocks ≡ [] → new ≡ insert old 0 x → IsReplaced p q old x new
+  put_first p q old new blocks x old_is none is =
+      let empty : old ≡ [] = sym old_is ∙ ap joined none in
+      let long : length old ≡ 0 = ap length empty in
+      record {
+        from = 0;
+        to = 0;
+        between = record {
+          order = omega arith;
+          within = omega arith;
+          first = (λ j d z l. absurd (omega arith), λ j d l u. absurd (omega arith));
+          last = (λ j d z l. absurd (omega arith), λ j d l u. absurd (omega arith));
+        };
+        list = is;
+      }
+
   -- the element there is one of those that are to be replaced
 
   some_between : (q : T → Bool) (old : List T) (from to : ℕ) (x : T) → from < length old → IsPartitionPoint (λ y. q y ≡ true) (λ y. q y ≡ false) old to → ((y : T) → slice_get old from ≡ Some y → q y ≡ true) → from < to

@@ -131,8 +131,9 @@ impl<T> BlockList<T> {
         if self.blocks.is_empty() {
             return false;
         }
-        let (block, place) = spot_of(&self.blocks, before);
-        passes_behind(&self.blocks, block, place, &through)
+        let blocks = self.blocks.as_slice();
+        let (block, place) = spot_of(blocks, before);
+        passes_behind(blocks, block, place, &through)
     }
 }
 
@@ -179,18 +180,16 @@ impl<T: Drop> BlockList<T> {
             self.insert(0, item)?;
             return Ok(());
         }
-        let (block, place) = spot_of(&self.blocks, before);
-        if passes_behind(&self.blocks, block, place, &through) {
-            if is_alone(&self.blocks, block, place, &through) {
+        let blocks = self.blocks.as_slice();
+        let (block, place) = spot_of(blocks, before);
+        if passes_behind(blocks, block, place, &through) {
+            if is_alone(blocks, block, place, &through) {
                 set_in(&mut self.blocks, block, place, item);
                 return Ok(());
             }
-            let from = index_of(&self.blocks, block, place);
-            let to = first_failing(&self.blocks, through);
-            self.set(from, item);
-            if from < to {
-                self.remove_range(from + 1, to);
-            }
+            let from = index_of(blocks, block, place);
+            let to = first_failing(blocks, through);
+            self.replace_range(from, to, item);
             return Ok(());
         }
         if self.len == usize::MAX {
@@ -217,6 +216,18 @@ impl<T: Drop> BlockList<T> {
     {
         remove_between(&mut self.blocks, from, to);
         self.len -= to - from;
+    }
+
+    // Puts an element in the place of those from place `from` up to before place `to`, of which there is one at least.
+    fn replace_range(&mut self, from: usize, to: usize, item: T)
+        requires first { from < length self.old }
+        requires in_range { to ≤ length self.old }
+        ensures { from < to → self.new ≡ take from self.old ++ item ∷ drop to self.old }
+    {
+        self.set(from, item);
+        if from < to {
+            self.remove_range(from + 1, to);
+        }
     }
 
     /// Keeps the elements that pass the test, in their order. It takes no memory.

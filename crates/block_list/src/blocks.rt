@@ -176,10 +176,7 @@ pub fn pop_last<T: Drop>(blocks: &mut Vec<Vec<T>>) -> Option<T>
     let mut block = blocks.pop()?;
     let last = block.pop();
     if !block.is_empty() {
-        match blocks.push(block) {
-            Ok(()) => {}
-            Err(_) => unreachable!(),
-        }
+        blocks.push_reserved(block);
     }
     last
 }

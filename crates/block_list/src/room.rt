@@ -1,5 +1,5 @@
 use crate::BlockList;
-use crate::spare::{BLOCK_ROOM, next_block, push_within, spare_blocks, turn_round};
+use crate::spare::{BLOCK_ROOM, next_block, push_filled, spare_blocks, turn_round};
 use std::alloc::{AllocError, Global};
 use std::marker::Model;
 
@@ -53,10 +53,7 @@ impl<T: Drop> Room<T> {
         if self.current.len() >= self.current.capacity() {
             next_block(&mut self.full, &mut self.current, &mut self.spare);
         }
-        match self.current.push(item) {
-            Ok(()) => {}
-            Err(_) => unreachable!(),
-        }
+        self.current.push_reserved(item);
         self.len += 1;
         self.left -= 1;
     }
@@ -72,9 +69,7 @@ impl<T: Drop> Room<T> {
             len,
             left: _,
         } = self;
-        if !current.is_empty() {
-            push_within(&mut full, current);
-        }
+        push_filled(&mut full, current);
         spare.clear();
         turn_round(full, &mut spare);
         BlockList::from_blocks(spare, len)

@@ -24,15 +24,17 @@ pub fn spare_blocks<T: Drop>(alloc: Global, count: usize) -> Result<Vec<Vec<T>>,
     Ok(blocks)
 }
 
-/// Puts a block behind the others, where there is a place for it.
-pub fn push_within<T: Drop>(blocks: &mut Vec<Vec<T>>, block: Vec<T>)
-    requires { vec_len blocks.old < vec_capacity blocks.old }
-    ensures items { blocks.new.items ≡ blocks.old.items ++ block ∷ [] }
-    ensures capacity { vec_capacity blocks.old ≤ vec_capacity blocks.new }
+/// Puts a block to the full ones. One with nothing in it is let go.
+pub fn push_filled<T: Drop>(full: &mut Vec<Vec<T>>, block: Vec<T>)
+    requires filled { AreFilled full.old.items }
+    requires room { vec_len full.old < vec_capacity full.old }
+    ensures same { joined full.new.items ≡ joined full.old.items ++ block.items }
+    ensures filled { AreFilled full.new.items }
+    ensures more { length full.new.items ≤ length full.old.items + 1 }
+    ensures capacity { vec_capacity full.new ≡ vec_capacity full.old }
 {
-    match blocks.push(block) {
-        Ok(()) => {}
-        Err(_) => unreachable!(),
+    if !block.is_empty() {
+        full.push_reserved(block);
     }
 }
 
@@ -55,9 +57,7 @@ pub fn next_block<T: Drop>(full: &mut Vec<Vec<T>>, current: &mut Vec<T>, spare: 
         unreachable!()
     };
     let before = mem::replace(current, next);
-    if !before.is_empty() {
-        push_within(full, before);
-    }
+    push_filled(full, before);
 }
 
 /// Moves the blocks into `to`, which is empty, the last first, and turns each of them round.
@@ -70,6 +70,6 @@ pub fn turn_round<T: Drop>(mut blocks: Vec<Vec<T>>, to: &mut Vec<Vec<T>>)
 {
     while let Some(mut block) = blocks.pop() {
         block.reverse();
-        push_within(to, block);
+        to.push_reserved(block);
     }
 }

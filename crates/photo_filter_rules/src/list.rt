@@ -190,14 +190,26 @@ fn pair_with(choice: &Choice, others: &[Choice], list: &mut Vec<Choice>) -> Resu
         → is_long (list.old.items ++ possible (map (both_of choice.now) others.now)) ≡ true) }
 {
     for other in others {
-        let both = choice.meet(other)?;
-        if both.is_possible() {
-            if list.len() == MAX_ALTERNATIVES {
-                return Err(BuildFault::TooWide);
-            }
-            list.push(both)?;
-        }
+        push_possible(choice.meet(other)?, list)?;
     }
+    Ok(())
+}
+
+/// Puts an alternative behind a list of at most 64, if it is possible.
+fn push_possible(choice: Choice, list: &mut Vec<Choice>) -> Result<(), BuildFault>
+    requires { is_long list.old.items ≡ false }
+    ensures list { OnOk result (list.new.items ≡ list.old.items ++ possible (choice ∷ [])) }
+    ensures short { OnOk result (is_long list.new.items ≡ false) }
+    ensures long { IfErr result
+        (λ fault. fault ≡ BuildFault.TooWide → is_long (list.old.items ++ possible (choice ∷ [])) ≡ true) }
+{
+    if !choice.is_possible() {
+        return Ok(());
+    }
+    if list.len() == MAX_ALTERNATIVES {
+        return Err(BuildFault::TooWide);
+    }
+    list.push(choice)?;
     Ok(())
 }
 

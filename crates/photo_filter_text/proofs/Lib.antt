@@ -15,3 +15,4 @@ pub mod OneFault
 pub mod Decided
 pub mod WantedAt
 pub mod Judged
+pub mod Bracketed

@@ -1,12 +1,12 @@
 ghost use Rattle.std.specs.Prelude.{◌≡◌, ◌<◌, ◌≤◌, [], ◌∷◌, ◌++◌, string_bytes, IfOk, OnOk};
 ghost use Rattle.photo_record.specs.Limits.{max_rating, IsDay};
-ghost use Rattle.photo_filter_text.specs.Tree.{Tree, tree_of};
+ghost use Rattle.photo_filter_text.specs.Tree.{Tree, Rate, On, Keyword, tree_of};
 ghost use Rattle.photo_filter_text.specs.Tokens.{tokens_of};
 ghost use Rattle.photo_filter_text.specs.Grammar.{IsExpr};
 ghost use Rattle.photo_filter_text.specs.Printed.{text_of, cmp_text, date_text, digit, two_digits, IsSound};
 
 use crate::{Cmp, FilterTree};
-use photo_record::{Day, Rating};
+use photo_record::{Day, Rating, Word};
 use std::alloc::{AllocError, Global};
 
 /// Prints a filter: `all`, `none`, `rating OP R`, `day OP DATE`, `keyword WORD`, `not X`, `( X and Y )` or `( X or Y )`,
@@ -19,51 +19,61 @@ pub fn print(alloc: Global, tree: &FilterTree) -> Result<String, AllocError>
     ensures only { IfOk result (λ text. (other : Tree) → IsExpr (tokens_of (string_bytes text)) other → other ≡ tree_of tree.now) }
 {
     let mut text = String::new(alloc);
-    push_tree(&mut text, tree)?;
+    push_tree(&mut text, "", tree)?;
     Ok(text)
 }
 
-fn push_tree(text: &mut String, tree: &FilterTree) -> Result<(), AllocError>
-    ensures text { OnOk result (string_bytes text.new ≡ string_bytes text.old ++ text_of (tree_of tree.now)) }
+// A text, and the tree behind it.
+fn push_tree(text: &mut String, front: &str, tree: &FilterTree) -> Result<(), AllocError>
+    ensures text { OnOk result (string_bytes text.new ≡ string_bytes text.old ++ (front.now ++ text_of (tree_of tree.now))) }
     ensures sound { OnOk result (IsSound (tree_of tree.now)) }
 {
+    text.push_str(front)?;
     match tree {
         FilterTree::All => text.push_str("all"),
         FilterTree::Nothing => text.push_str("none"),
-        FilterTree::Rate(cmp, rating) => {
-            text.push_str("rating ")?;
-            text.push_str(cmp_text(*cmp))?;
-            push_rating(text, *rating)
-        }
-        FilterTree::On(cmp, day) => {
-            text.push_str("day ")?;
-            text.push_str(cmp_text(*cmp))?;
-            text.push_str(" ")?;
-            push_date(text, *day)
-        }
-        FilterTree::Keyword(word) => {
-            text.push_str("keyword ")?;
-            text.push_str(word.text())
-        }
-        FilterTree::Not(part) => {
-            text.push_str("not ")?;
-            push_tree(text, part)
-        }
+        FilterTree::Rate(cmp, rating) => push_rating_test(text, *cmp, *rating),
+        FilterTree::On(cmp, day) => push_day_test(text, *cmp, *day),
+        FilterTree::Keyword(word) => push_keyword(text, word),
+        FilterTree::Not(part) => push_tree(text, "not ", part),
         FilterTree::Both(left, right) => {
-            text.push_str("( ")?;
-            push_tree(text, left)?;
-            text.push_str(" and ")?;
-            push_tree(text, right)?;
+            push_tree(text, "( ", left)?;
+            push_tree(text, " and ", right)?;
             text.push_str(" )")
         }
         FilterTree::Either(left, right) => {
-            text.push_str("( ")?;
-            push_tree(text, left)?;
-            text.push_str(" or ")?;
-            push_tree(text, right)?;
+            push_tree(text, "( ", left)?;
+            push_tree(text, " or ", right)?;
             text.push_str(" )")
         }
     }
+}
+
+fn push_rating_test(text: &mut String, cmp: Cmp, rating: Rating) -> Result<(), AllocError>
+    ensures text { OnOk result (string_bytes text.new ≡ string_bytes text.old ++ text_of (Rate cmp rating)) }
+    ensures sound { OnOk result (IsSound (Rate cmp rating)) }
+{
+    text.push_str("rating ")?;
+    text.push_str(cmp_text(cmp))?;
+    push_rating(text, rating)
+}
+
+fn push_day_test(text: &mut String, cmp: Cmp, day: Day) -> Result<(), AllocError>
+    ensures text { OnOk result (string_bytes text.new ≡ string_bytes text.old ++ text_of (On cmp day)) }
+    ensures sound { OnOk result (IsSound (On cmp day)) }
+{
+    text.push_str("day ")?;
+    text.push_str(cmp_text(cmp))?;
+    text.push_str(" ")?;
+    push_date(text, day)
+}
+
+fn push_keyword(text: &mut String, word: &Word) -> Result<(), AllocError>
+    ensures text { OnOk result (string_bytes text.new ≡ string_bytes text.old ++ text_of (Keyword word.now)) }
+    ensures sound { OnOk result (IsSound (Keyword word.now)) }
+{
+    text.push_str("keyword ")?;
+    text.push_str(word.text())
 }
 
 fn cmp_text(cmp: Cmp) -> &'static str

@@ -3,7 +3,8 @@ ghost use Rattle.photo_record.specs.Reading.{word_of_text};
 ghost use Rattle.photo_filter_text.specs.Grammar.{is_bracket};
 ghost use Rattle.photo_filter_text.specs.declared.reader.Refusal.TheVariants.{Unexpected, BadWord, NoMemory};
 ghost use Rattle.photo_filter_text.specs.Tree.{tree_of, Both, Either};
-ghost use Rattle.photo_filter_text.specs.Steps.{start, step, fresh, level_with, levels_of, finish, joined, negated, after_factor, at_factor, after_term, keeps, keeps_at_end, keeps_factor, keeps_at_factor, keeps_after_term, state_of, level_of, state_with, AtFactor, closed, keeps_closed};
+ghost use Rattle.photo_filter_text.specs.declared.reader.Field.TheVariants.{RatingField, DayField};
+ghost use Rattle.photo_filter_text.specs.Steps.{start, step, step_at, fresh, level_with, levels_of, finish, joined, negated, after_factor, at_factor, after_term, keeps, keeps_at, keeps_at_end, keeps_factor, keeps_at_factor, keeps_after_term, state_of, level_of, state_with, AtFactor, AtOperator, AtValue, AtWord, closed, keeps_closed};
 
 use crate::symbol::{Symbol, read_comparison, read_symbol};
 use crate::{Cmp, FilterTree};
@@ -103,27 +104,10 @@ impl Reader {
         } = self;
         match place {
             Place::Factor => at_factor(alloc, level, outer, read_symbol(token)),
-            Place::Operator(field) => match read_comparison(token) {
-                Some(cmp) => Ok(Reader {
-                    alloc,
-                    place: Place::Value(field, cmp),
-                    level,
-                    outer,
-                }),
-                None => Err(Refusal::Unexpected),
-            },
-            Place::Value(Field::RatingField, cmp) => match Rating::read(token) {
-                Some(rating) => after_factor(alloc, level, outer, FilterTree::Rate(cmp, rating)),
-                None => Err(Refusal::Unexpected),
-            },
-            Place::Value(Field::DayField, cmp) => match Day::read(token) {
-                Some(day) => after_factor(alloc, level, outer, FilterTree::On(cmp, day)),
-                None => Err(Refusal::Unexpected),
-            },
-            Place::Word => {
-                let word = read_word(alloc, token)?;
-                after_factor(alloc, level, outer, FilterTree::Keyword(word))
-            }
+            Place::Operator(field) => at_operator(alloc, level, outer, field, token),
+            Place::Value(Field::RatingField, cmp) => at_rating(alloc, level, outer, cmp, token),
+            Place::Value(Field::DayField, cmp) => at_day(alloc, level, outer, cmp, token),
+            Place::Word => at_word(alloc, level, outer, token),
             Place::After(tree) => after_term(alloc, level, outer, tree, read_symbol(token)),
         }
     }
@@ -223,6 +207,77 @@ fn at_factor(
         level,
         outer,
     })
+}
+
+// A comparison is read.
+fn at_operator(
+    alloc: Global,
+    level: Level,
+    outer: Vec<Level>,
+    field: Field,
+    token: &str,
+) -> Result<Reader, Refusal>
+    ensures taken { IfOk result (λ reader. step_at (AtOperator field) (level_of level) (levels_of outer.items) token.now ≡ Ok (state_of reader)) }
+    ensures refused { IfErr result (λ refusal. refusal ≢ NoMemory → step_at (AtOperator field) (level_of level) (levels_of outer.items) token.now ≡ Err refusal) }
+    ensures memory { IfErr result (λ refusal. refusal ≡ NoMemory → keeps_at (AtOperator field) (level_of level) (levels_of outer.items) token.now ≡ true) }
+{
+    match read_comparison(token) {
+        Some(cmp) => Ok(Reader {
+            alloc,
+            place: Place::Value(field, cmp),
+            level,
+            outer,
+        }),
+        None => Err(Refusal::Unexpected),
+    }
+}
+
+// A rating is read.
+fn at_rating(
+    alloc: Global,
+    level: Level,
+    outer: Vec<Level>,
+    cmp: Cmp,
+    token: &str,
+) -> Result<Reader, Refusal>
+    ensures taken { IfOk result (λ reader. step_at (AtValue RatingField cmp) (level_of level) (levels_of outer.items) token.now ≡ Ok (state_of reader)) }
+    ensures refused { IfErr result (λ refusal. refusal ≢ NoMemory → step_at (AtValue RatingField cmp) (level_of level) (levels_of outer.items) token.now ≡ Err refusal) }
+    ensures memory { IfErr result (λ refusal. refusal ≡ NoMemory → keeps_at (AtValue RatingField cmp) (level_of level) (levels_of outer.items) token.now ≡ true) }
+{
+    match Rating::read(token) {
+        Some(rating) => after_factor(alloc, level, outer, FilterTree::Rate(cmp, rating)),
+        None => Err(Refusal::Unexpected),
+    }
+}
+
+// A date is read.
+fn at_day(
+    alloc: Global,
+    level: Level,
+    outer: Vec<Level>,
+    cmp: Cmp,
+    token: &str,
+) -> Result<Reader, Refusal>
+    ensures taken { IfOk result (λ reader. step_at (AtValue DayField cmp) (level_of level) (levels_of outer.items) token.now ≡ Ok (state_of reader)) }
+    ensures refused { IfErr result (λ refusal. refusal ≢ NoMemory → step_at (AtValue DayField cmp) (level_of level) (levels_of outer.items) token.now ≡ Err refusal) }
+    ensures memory { IfErr result (λ refusal. refusal ≡ NoMemory → keeps_at (AtValue DayField cmp) (level_of level) (levels_of outer.items) token.now ≡ true) }
+{
+    match Day::read(token) {
+        Some(day) => after_factor(alloc, level, outer, FilterTree::On(cmp, day)),
+        None => Err(Refusal::Unexpected),
+    }
+}
+
+// A word is read.
+fn at_word(alloc: Global, level: Level, outer: Vec<Level>, token: &str) -> Result<Reader, Refusal>
+    ensures taken { IfOk result (λ reader. step_at AtWord (level_of level) (levels_of outer.items) token.now ≡ Ok (state_of reader)) }
+    ensures refused { IfErr result (λ refusal. refusal ≢ NoMemory → step_at AtWord (level_of level) (levels_of outer.items) token.now ≡ Err refusal) }
+    ensures memory { IfErr result (λ refusal. refusal ≡ NoMemory → keeps_at AtWord (level_of level) (levels_of outer.items) token.now ≡ true) }
+{
+    match read_word(alloc, token) {
+        Ok(word) => after_factor(alloc, level, outer, FilterTree::Keyword(word)),
+        Err(refusal) => Err(refusal),
+    }
 }
 
 // A factor has been read.
@@ -333,7 +388,7 @@ fn negated(alloc: Global, times: usize, factor: FilterTree) -> Result<FilterTree
 {
     let mut tree = factor;
     for _ in 0..times {
-        tree = FilterTree::Not(Box::new(alloc, tree)?);
+        tree = FilterTree::negation(alloc, tree)?;
     }
     Ok(tree)
 }
@@ -348,7 +403,7 @@ fn conjunction(
     ensures memory { IsErr result → is_some (option_map tree_of left) ≡ true }
 {
     match left {
-        Some(left) => Ok(FilterTree::Both(Box::new(alloc, left)?, Box::new(alloc, right)?)),
+        Some(left) => FilterTree::conjunction(alloc, left, right),
         None => Ok(right),
     }
 }
@@ -363,7 +418,7 @@ fn disjunction(
     ensures memory { IsErr result → is_some (option_map tree_of left) ≡ true }
 {
     match left {
-        Some(left) => Ok(FilterTree::Either(Box::new(alloc, left)?, Box::new(alloc, right)?)),
+        Some(left) => FilterTree::disjunction(alloc, left, right),
         None => Ok(right),
     }
 }

@@ -1,8 +1,8 @@
 ghost use Rattle.std.specs.Prelude.{◌≡◌, ℕ, ◌≤◌, IsTrue, ◌↔◌, IfOk};
-ghost use Rattle.photo_filter_text.specs.Tree.{tree_of, height};
+ghost use Rattle.photo_filter_text.specs.Tree.{tree_of, height, Not, Both, Either};
 
 use photo_record::{Day, Rating, Word};
-use std::alloc::AllocError;
+use std::alloc::{AllocError, Global};
 
 /// How a test compares a picture's rating or day with its own.
 #[derive(Clone, Copy, Debug, PartialEq, Eq)]
@@ -49,22 +49,46 @@ impl FilterTree {
             FilterTree::Keyword(word) => Ok(FilterTree::Keyword(word.try_clone()?)),
             FilterTree::Not(part) => {
                 let alloc = *Box::allocator(part);
-                let part = part.try_clone()?;
-                Ok(FilterTree::Not(Box::new(alloc, part)?))
+                FilterTree::negation(alloc, part.try_clone()?)
             }
             FilterTree::Both(left, right) => {
                 let alloc = *Box::allocator(left);
-                let left = left.try_clone()?;
-                let right = right.try_clone()?;
-                Ok(FilterTree::Both(Box::new(alloc, left)?, Box::new(alloc, right)?))
+                FilterTree::conjunction(alloc, left.try_clone()?, right.try_clone()?)
             }
             FilterTree::Either(left, right) => {
                 let alloc = *Box::allocator(left);
-                let left = left.try_clone()?;
-                let right = right.try_clone()?;
-                Ok(FilterTree::Either(Box::new(alloc, left)?, Box::new(alloc, right)?))
+                FilterTree::disjunction(alloc, left.try_clone()?, right.try_clone()?)
             }
         }
+    }
+
+    /// The pictures that the part does not select. Its only error is want of memory.
+    pub(crate) fn negation(alloc: Global, part: FilterTree) -> Result<FilterTree, AllocError>
+        ensures { IfOk result (λ tree. tree_of tree ≡ Not (tree_of part)) }
+    {
+        Ok(FilterTree::Not(Box::new(alloc, part)?))
+    }
+
+    /// The pictures that both parts select. Its only error is want of memory.
+    pub(crate) fn conjunction(
+        alloc: Global,
+        left: FilterTree,
+        right: FilterTree,
+    ) -> Result<FilterTree, AllocError>
+        ensures { IfOk result (λ tree. tree_of tree ≡ Both (tree_of left) (tree_of right)) }
+    {
+        Ok(FilterTree::Both(Box::new(alloc, left)?, Box::new(alloc, right)?))
+    }
+
+    /// The pictures that at least one of the parts selects. Its only error is want of memory.
+    pub(crate) fn disjunction(
+        alloc: Global,
+        left: FilterTree,
+        right: FilterTree,
+    ) -> Result<FilterTree, AllocError>
+        ensures { IfOk result (λ tree. tree_of tree ≡ Either (tree_of left) (tree_of right)) }
+    {
+        Ok(FilterTree::Either(Box::new(alloc, left)?, Box::new(alloc, right)?))
     }
 
     /// Whether the height is at most the limit.
