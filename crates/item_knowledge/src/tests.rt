@@ -201,18 +201,27 @@ fn vectors_agree(case: &Case) -> Result<bool, Fail> {
     Ok(true)
 }
 
+/// Whether a case, once it learned all that another knows, knows just the pairs of both.
+fn becomes_the_union(one: &mut Case, other: &Case) -> Result<bool, Fail> {
+    one.knowledge.learn_all(&other.knowledge)?;
+    for pair in &other.pairs {
+        one.pairs.insert(*pair)?;
+    }
+    Ok(agrees(one) && vectors_agree(other)?)
+}
+
+/// Whether the next case becomes the union of itself and the case after it.
+fn next_becomes_the_union(alloc: Global, seed: &mut u32) -> Result<bool, Fail> {
+    let mut one = some_case(alloc, seed)?;
+    let other = some_case(alloc, seed)?;
+    becomes_the_union(&mut one, &other)
+}
+
 #[test]
 fn learning_all_is_the_union_of_the_pairs(rt: HostRuntime) -> Result<(), Fail> {
-    let alloc = rt.alloc();
     let mut seed = 1;
     for _ in 0..300 {
-        let mut one = some_case(alloc, &mut seed)?;
-        let other = some_case(alloc, &mut seed)?;
-        one.knowledge.learn_all(&other.knowledge)?;
-        for pair in &other.pairs {
-            one.pairs.insert(*pair)?;
-        }
-        assert!(rt; agrees(&one) && vectors_agree(&other)?);
+        assert!(rt; next_becomes_the_union(rt.alloc(), &mut seed)?);
     }
     Ok(())
 }

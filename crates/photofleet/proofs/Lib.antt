@@ -32,3 +32,4 @@ pub mod SoundRuns
 pub mod Between
 pub mod SoundTests
 pub mod SoundWorked
+pub mod Refusals

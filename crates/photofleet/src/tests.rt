@@ -4,4 +4,5 @@ mod knowing;
 mod memory;
 mod program;
 mod pulling;
+mod refusals;
 mod streams;

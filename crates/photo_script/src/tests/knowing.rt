@@ -110,13 +110,24 @@ fn is_knowledge_of(script: &Script, knowledge: &Knowledge) -> bool
 }
 
 /// The text of what a device knows, where its authors are devices of the script.
-fn known_text(alloc: Global, number: u32, device: u16, knowledge: Knowledge) -> Option<String> {
-    let script = two_devices(alloc)?;
-    if usize::from(device) >= script.devices() || !is_knowledge_of(&script, &knowledge) {
+fn text_in(
+    alloc: Global,
+    script: &Script,
+    number: u32,
+    device: u16,
+    knowledge: Knowledge,
+) -> Option<String> {
+    if usize::from(device) >= script.devices() || !is_knowledge_of(script, &knowledge) {
         return None;
     }
     let report = Report::KnowledgeOf { device, knowledge };
-    report_text(alloc, &script, number, &report).ok()
+    report_text(alloc, script, number, &report).ok()
+}
+
+/// The same in a script of two devices.
+fn known_text(alloc: Global, number: u32, device: u16, knowledge: Knowledge) -> Option<String> {
+    let script = two_devices(alloc)?;
+    text_in(alloc, &script, number, device, knowledge)
 }
 
 /// One version of every picture.
