@@ -53,7 +53,11 @@ pub(crate) fn new_of(
 fn has_given_up(device: &Device, hints: &mut Hints, held: &Held) -> bool
     ensures { result ≡ (knows device.now.knowledge held.now.picture held.now.version && not (has_same device.now.store held.now)) }
 {
-    if device.store().has(held.picture, held.version) {
+    let (keeps, next) = device
+        .store()
+        .has_near(hints.kept, held.picture, held.version);
+    hints.kept = next;
+    if keeps {
         return false;
     }
     let (known, next) = device

@@ -1,3 +1,5 @@
+use photo_device::Spot;
+
 /// Where to look first for what is asked next. Any hints will do; where pictures are asked in rising order, each with the
 /// hints that the one before left, the work for one is small.
 #[derive(Clone, Copy)]
@@ -6,6 +8,8 @@ pub(crate) struct Hints {
     pub stored: usize,
     /// In what is new in its out.
     pub waiting: usize,
+    /// In what it keeps.
+    pub kept: Spot,
     /// In what it knows.
     pub known: usize,
 }
@@ -16,6 +20,7 @@ impl Hints {
         Hints {
             stored: 0,
             waiting: 0,
+            kept: Spot::start(),
             known: 0,
         }
     }
