@@ -1,12 +1,3 @@
-pub mod Changes
-pub mod Outcomes
 pub mod Status
 pub mod CommandLine
-pub mod Laws
 pub mod Examples
-pub mod Members
-pub mod Ready
-pub mod Ranges
-pub mod Sound
-pub mod Between
-pub mod SoundExamples

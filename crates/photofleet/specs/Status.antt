@@ -1,7 +1,7 @@
 -- Exit statuses.
-use Rattle.std.specs.Prelude.{◌≡◌, ◌⊎◌, ℕ, Bool, ◌||◌, ◌==◌, Result, Ok, Err}
-use Rattle.photofleet.specs.declared.runner.fault.RunError.{RunError}
-use Rattle.photofleet.specs.declared.runner.fault.RunError.TheVariants.{NoMemory, Script, Write}
+use Rattle.std.specs.Prelude.{ℕ, Bool, ◌||◌, ◌==◌, Result, Ok, Err}
+use Rattle.fleet_runner.specs.declared.fault.RunError.{RunError}
+use Rattle.fleet_runner.specs.declared.fault.RunError.TheVariants.{NoMemory, Script, Write}
 
 -- done, bad words, no script, no run, or no output
 abbrev pub is_status : ℕ → Bool
@@ -13,7 +13,3 @@ status_of (Ok done) = 0
 status_of (Err (Script fault)) = 3
 status_of (Err NoMemory) = 4
 status_of (Err Write) = 5
-
--- the error is one of writing: it is not the script's
-abbrev pub IsOfWriting : RunError → Type 0
-IsOfWriting e = (e ≡ NoMemory) ⊎ (e ≡ Write)

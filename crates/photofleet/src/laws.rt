@@ -1,50 +1,7 @@
 //! Laws of the definitions.
-ghost use Rattle.std.specs.Prelude.{◌≡◌, IfOk};
-ghost use Rattle.photofleet.specs.Laws.{OutputsAreOne, StaysSoundAndKept};
-ghost use Rattle.photofleet.specs.SoundExamples.{SoundIsAsTold};
-ghost use Rattle.photofleet.specs.Examples.{AreAsTold, WordsAreAsTold, printed};
-
-use crate::runner::{RunError, plain_stream};
-use std::alloc::Global;
-
-/// The worked examples are as they are told, by the definitions alone.
-pub fn examples()
-    ensures { AreAsTold }
-{
-    photo_script::laws::examples();
-    photo_script::laws::answers_are_one();
-}
-
-/// A script's run has at most one output, whatever its reports of knowledge.
-pub fn outputs_are_one()
-    ensures { OutputsAreOne }
-{
-    photo_script::laws::answers_are_one();
-}
-
-/// Before the first command of a script and after each, each device stores just what its filter selects of the newest
-/// versions that it knows, and no version that is current is lost.
-pub fn stays_sound_and_kept()
-    ensures { StaysSoundAndKept }
-{}
-
-/// Which devices are sound, and what is lost, is as it is told, by the definitions alone.
-pub fn sound_examples()
-    ensures { SoundIsAsTold }
-{}
+ghost use Rattle.photofleet.specs.Examples.{WordsAreAsTold};
 
 /// What command lines ask for is as it is told, by `clap`'s definitions alone.
 pub fn words()
     ensures { WordsAreAsTold }
 {}
-
-/// From the bytes of a script in memory to the bytes of its reports.
-pub fn first_picture(alloc: Global) -> Result<Vec<u8>, RunError>
-    ensures { IfOk result (λ output. output.items ≡ printed) }
-{
-    examples();
-    let mut source = "device cam all\nnew cam 7 5 2024-05-01 sun,beach\nlist cam\n".as_bytes();
-    let mut output = Vec::new(alloc);
-    plain_stream(alloc, &mut source, &mut output)?;
-    Ok(output)
-}

@@ -2,7 +2,6 @@
 #![tactic(auto)]
 
 mod laws;
-mod runner;
 mod serve;
 
 use serve::{FileOpener, serve, without_memory, without_words};

@@ -1,12 +1,11 @@
-//! Readers, writers and files in memory, and the program over them.
+//! Writers and files in memory, and the program over them.
 ghost use Rattle.std.specs.Prelude.{Some, None, codes, if◌then◌else◌};
 ghost use Rattle.std.specs.Str.{bytes_eq};
 
-use crate::runner::{RunError, plain_stream};
 use crate::serve::{Opener, serve};
 use photo_script::ScriptFault;
 use std::alloc::Global;
-use std::io::{self, ErrorKind, Read, Write};
+use std::io::{self, ErrorKind, Write};
 
 /// The stored run's script.
 pub const SCRIPT: &str = "device cam all\nnew cam 7 5 2024-05-01 sun,beach\nlist cam\n";
@@ -15,53 +14,6 @@ pub const SCRIPT: &str = "device cam all\nnew cam 7 5 2024-05-01 sun,beach\nlist
 pub const OUTPUT: &str =
     "1 made cam:1 store\n2 list cam store 1 out 0\n  store 7 cam:1 rating 5 day 2024-05-01 words beach,sun\n";
 
-/// Gives its bytes in pieces of at most `step`, and then an error in place of the end where `fails`.
-#[derive(Drop)]
-pub struct Source<'a> {
-    pub left: &'a [u8],
-    pub step: usize,
-    pub fails: bool,
-}
-
-impl<'a> Source<'a> {
-    /// Gives all, in pieces as large as the caller takes them.
-    pub fn new(left: &'a [u8]) -> Source<'a> {
-        Source {
-            left,
-            step: usize::MAX,
-            fails: false,
-        }
-    }
-}
-
-impl Read for Source<'_> {
-    fn read(&mut self, buf: &mut [u8]) -> io::Result<usize> {
-        let count = self.left.len().min(buf.len()).min(self.step);
-        if count == 0 && self.fails {
-            return Err(ErrorKind::BrokenPipe.into());
-        }
-        let (piece, left) = self.left.split_at(count);
-        buf[..count].copy_from_slice(piece);
-        self.left = left;
-        Ok(count)
-    }
-}
-
-/// Gives LFs without end, and counts them.
-#[derive(Drop)]
-pub struct Endless {
-    pub given: u64,
-}
-
-impl Read for Endless {
-    fn read(&mut self, buf: &mut [u8]) -> io::Result<usize> {
-        let count = buf.len().min(4096);
-        buf[..count].fill(b'\n');
-        self.given = self.given.saturating_add(count as u64);
-        Ok(count)
-    }
-}
-
 /// What a writer answers once it is full.
 #[derive(Clone, Copy, PartialEq, Eq)]
 pub enum Full {
@@ -69,14 +21,12 @@ pub enum Full {
     Zero,
 }
 
-/// Takes at most `step` bytes a write and `room` in all, and keeps them.
+/// Takes at most `room` bytes in all, and keeps them.
 #[derive(Drop)]
 pub struct Sink {
     pub taken: Vec<u8>,
-    pub step: usize,
     pub room: usize,
     pub full: Full,
-    pub flush_fails: bool,
 }
 
 impl Sink {
@@ -89,17 +39,15 @@ impl Sink {
     pub fn of_room(alloc: Global, room: usize, full: Full) -> Sink {
         Sink {
             taken: Vec::new(alloc),
-            step: usize::MAX,
             room,
             full,
-            flush_fails: false,
         }
     }
 }
 
 impl Write for Sink {
     fn write(&mut self, buf: &[u8]) -> io::Result<usize> {
-        let count = buf.len().min(self.step).min(self.room);
+        let count = buf.len().min(self.room);
         if count == 0 && self.full == Full::Error && !buf.is_empty() {
             return Err(ErrorKind::StorageFull.into());
         }
@@ -109,9 +57,6 @@ impl Write for Sink {
     }
 
     fn flush(&mut self) -> io::Result<()> {
-        if self.flush_fails {
-            return Err(ErrorKind::BrokenPipe.into());
-        }
         Ok(())
     }
 }
@@ -163,15 +108,4 @@ pub fn runs(alloc: Global, script: &str, status: u8, output: &str, error: &str) 
         output.as_bytes(),
         error.as_bytes(),
     )
-}
-
-/// Whether a run from that reader to that writer gives an answer and leaves those bytes written.
-pub fn streams<R: Read + Drop>(
-    alloc: Global,
-    mut source: R,
-    mut sink: Sink,
-    answer: Result<(), RunError>,
-    output: &[u8],
-) -> bool {
-    plain_stream(alloc, &mut source, &mut sink) == answer && sink.taken.as_slice() == output
 }

@@ -1,5 +1,4 @@
 use super::memory::{Full, OUTPUT, SCRIPT, Shelf, Sink, runs, serves};
-use crate::laws;
 use crate::serve::{serve, without_words};
 use std::alloc::Global;
 use std::io::{self, BufWriter};
@@ -197,11 +196,4 @@ fn errors_that_cannot_be_told(rt: HostRuntime) {
         3
     );
     assert!(rt; err.taken.is_empty());
-}
-
-#[test]
-fn the_first_picture(rt: HostRuntime) {
-    assert!(rt;
-        laws::first_picture(rt.alloc()).is_ok_and(|output| output.as_slice() == OUTPUT.as_bytes())
-    );
 }

@@ -1,4 +1,4 @@
-use Rattle.photofleet.proofs.WorkedExamples.{words_as_told}
+use Rattle.photofleet.proofs.WordExamples.{words_as_told}
 use Rattle.photofleet.proofs.laws.words.Goals as goal
 
 pub returns : goal.returns

@@ -1,0 +1,53 @@
+use Rattle.std.proofs.Common.{◌≡◌, ◌∙◌, List, ◌++◌, length, take, drop, subst, sym, ap, arith}
+use Rattle.std.specs.Prelude.{slice_get, Some}
+use Rattle.std.specs.List.{AllZip}
+use Rattle.photo_device.specs.Device.{Kept, ModelDevice, Shows}
+use Rattle.photo_script.specs.Contents.{IsScript}
+use Rattle.photo_script.specs.Reports.{Tells, answer_of}
+use Rattle.fleet_runner.specs.Between.{AreReady, HaveRoom, devices_after, effect_on}
+use Rattle.fleet_runner.proofs.Between.{written_back}
+use Rattle.fleet_runner.proofs.Runs.{fleet_after, runs_none, runs_more, runs_all, have_room}
+use Rattle.fleet_runner.proofs.ReadyRuns.{run_is_ready}
+use Rattle.fleet_runner.proofs.plain.run.Goals as goal
+
+pub loop-place-init : goal.loop-place-init
+loop-place-init c = runs_none _ _ _ c.in_ok-devices.ensures.shown c.in_ok-devices.ensures.long c.new-reports.ensures.items
+
+pub run_on-requires-clause-ready : goal.run_on-requires-clause-ready
+run_on-requires-clause-ready c =
+    let script = c.args.script.now in
+    let n = c.loop-place.place in
+    let opened = c.in_ok-devices.ensures in
+    let is : IsScript script = record { devices = opened.few; filtered = opened.filtered; commands = omega arith; known = c.commands-place-end.ensures.known } in
+    subst AreReady (sym c.as_mut_slice.ensures.value) (record { models = (fleet_after script n).devices; shown = c.loop-place.invariant.shown; ready = run_is_ready script n is })
+
+pub run_on-requires-clause-room : goal.run_on-requires-clause-room
+run_on-requires-clause-room c =
+    subst HaveRoom (sym c.as_mut_slice.ensures.value) (have_room c.loop-place.devices.items _ c.loop-place.place (omega arith) c.loop-place.invariant.shown c.loop-place.invariant.counted)
+
+pub loop-place-preserved : goal.loop-place-preserved
+loop-place-preserved c =
+    let script = c.args.script.now in
+    let n = c.loop-place.place in
+    let items = c.loop-place.devices.items in
+    let new = c.run_on.new.devices in
+    let command = c.command-command.result.now in
+    let given = c.as_mut_slice.ensures in
+    let here : slice_get script.commands n ≡ Some command = subst (λ k. slice_get script.commands k ≡ Some command) (omega arith) c.command-command.ensures.command in
+    let same : length new ≡ length items = c.run_on.auto.devices ∙ ap length given.value in
+    let whole : take c.loop-place.devices.len (new ++ drop (length new) items) ≡ new = written_back new items c.loop-place.devices.len same (sym given.len ∙ ap length given.value) in
+    let shows = subst (λ (l : List Kept). (models : List ModelDevice) → AllZip Shows l models → AllZip Shows new (devices_after models command)) given.value c.in_ok-report.ensures.devices in
+    let tells = subst (λ (l : List Kept). (models : List ModelDevice) → AllZip Shows l models → Tells (answer_of c.in_ok-report.report) (effect_on models command).report) given.value c.in_ok-report.ensures.report in
+    rw (whole, c.in_ok-push.ensures.items) (runs_more script n items new c.loop-place.reports.items command c.in_ok-report.report c.loop-place.invariant here c.command-command.ensures.known shows tells)
+
+pub returns : goal.returns
+returns c =
+    let script = c.args.script.now in
+    let all : c.loop-place.place ≡ length script.commands = omega arith in
+    record {
+      devices = subst (λ n. AllZip Shows c.loop-place.devices.items (fleet_after script n).devices) all c.loop-place.invariant.shown;
+      reports = runs_all script c.loop-place.place _ _ c.loop-place.invariant all;
+      each = c.loop-place.invariant.count ∙ all;
+      about = c.loop-place.invariant.about;
+      few = omega arith;
+    }

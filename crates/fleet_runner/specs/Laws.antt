@@ -1,0 +1,21 @@
+-- What holds of all outputs, and of all runs.
+use Rattle.std.specs.Prelude.{◌≡◌, ℕ, true, List}
+use Rattle.std.specs.List.{list_all}
+use Rattle.photo_script.specs.Contents.{Contents, IsScript}
+use Rattle.photo_script.specs.Runs.{Fleet, run_in_order, numbers_to}
+use Rattle.fleet_runner.specs.Outcomes.{IsOutput}
+use Rattle.fleet_runner.specs.Ranges.{AreInRange}
+use Rattle.fleet_runner.specs.Sound.{is_sound, is_kept}
+
+-- a script's run has at most one output
+abbrev pub OutputsAreOne : Type 0
+OutputsAreOne = (script : Contents) (first second : List ℕ) → IsOutput script first → IsOutput script second → first ≡ second
+
+-- each device stores of the log what it is to store, and nothing else; and no current version is lost
+pub record IsSoundAndKept (fleet : Fleet) : Type 0 where
+  pub sound : list_all (is_sound fleet.log) fleet.devices ≡ true
+  pub kept : is_kept fleet.log fleet.devices ≡ true
+
+-- so it is before the first command of a script whose records are in range, and after each
+abbrev pub StaysSoundAndKept : Type 0
+StaysSoundAndKept = (script : Contents) (n : ℕ) → IsScript script → AreInRange script → IsSoundAndKept (run_in_order script (numbers_to n))

@@ -1,0 +1,10 @@
+pub mod Changes
+pub mod Outcomes
+pub mod Laws
+pub mod Examples
+pub mod Members
+pub mod Ready
+pub mod Ranges
+pub mod Sound
+pub mod Between
+pub mod SoundExamples

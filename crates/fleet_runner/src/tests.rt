@@ -1,0 +1,7 @@
+mod changes;
+mod filters;
+mod knowing;
+mod memory;
+mod pulling;
+mod refusals;
+mod streams;

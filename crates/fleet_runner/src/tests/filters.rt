@@ -1,0 +1,106 @@
+use super::memory::runs;
+use std::alloc::Global;
+use std::test::Fail;
+
+const PLACES: &[(&str, &str)] = &[
+    (
+        "device frame rating >= 4\nnew frame 1 3 2024-05-01 -\nlist frame\n",
+        "1 made frame:1 out\n2 list frame store 0 out 1\n  out 1 frame:1 rating 3 day 2024-05-01 words -\n",
+    ),
+    // the letter é in one form for the filter, and in the other for the picture
+    (
+        "device a keyword \u{e9}\nnew a 1 0 2024-02-29 e\u{301}\nlist a\n",
+        "1 made a:1 store\n2 list a store 1 out 0\n  store 1 a:1 rating 0 day 2024-02-29 words \u{e9}\n",
+    ),
+    (
+        "device a keyword e\u{301}\nnew a 1 0 2024-02-29 \u{e9}\n",
+        "1 made a:1 store\n",
+    ),
+    // each device by its own filter
+    (
+        "device a rating <= 2\ndevice b none\ndevice c not rating <= 2\nnew a 1 3 2024-05-01 -\nnew b 2 3 2024-05-01 -\nnew c 3 3 2024-05-01 -\nnew a 4 2 2024-05-01 -\nnew c 5 2 2024-05-01 -\nlist a\n",
+        "1 made a:1 out\n2 made b:1 out\n3 made c:1 store\n4 made a:2 store\n5 made c:2 out\n6 list a store 1 out 1\n  store 4 a:2 rating 2 day 2024-05-01 words -\n  out 1 a:1 rating 3 day 2024-05-01 words -\n",
+    ),
+];
+
+#[test]
+fn places_of_new_versions(rt: HostRuntime) {
+    for (script, reports) in PLACES {
+        assert!(rt; runs(rt.alloc(), script, reports, ""), "{script}");
+    }
+}
+
+const REFUSED_FILTERS: &[(&str, &str)] = &[
+    ("device a rating >= 6\n", "line 1: F15 BadFilter"),
+    ("device a all\ndevice b all all\n", "line 2: F15 BadFilter"),
+    // before a fault of a later line
+    ("device a ( all\nfrob\n", "line 1: F15 BadFilter"),
+    ("device a rating >=4\nlist b\n", "line 1: F15 BadFilter"),
+    // behind a fault of an earlier field or line
+    ("device A rating >= 6\n", "line 1: F7 BadName"),
+    ("frob\ndevice a rating >= 6\n", "line 1: F5 UnknownCommand"),
+];
+
+#[test]
+fn filters_that_are_refused(rt: HostRuntime) {
+    for (script, error) in REFUSED_FILTERS {
+        assert!(rt; runs(rt.alloc(), script, "", error), "{script}");
+    }
+}
+
+// A device whose filter has so many `not` in front of `all`.
+fn high_script(alloc: Global, count: usize) -> Result<String, Fail> {
+    let mut script = String::from_str(alloc, "device a ")?;
+    for _ in 0..count {
+        script.push_str("not ")?;
+    }
+    script.push_str("all\n")?;
+    Ok(script)
+}
+
+#[test]
+fn heights_of_filters(rt: HostRuntime) -> Result<(), Fail> {
+    for (count, error) in [(31, ""), (32, "line 1: F15 BadFilter")] {
+        let script = high_script(rt.alloc(), count)?;
+        assert!(rt; runs(rt.alloc(), script.as_str(), "", error), "{count}");
+    }
+    Ok(())
+}
+
+// Puts so many words, joined by `or` and in brackets, behind a text.
+fn push_words(text: &mut String, letter: char, count: usize) -> Result<(), Fail> {
+    text.push('(')?;
+    for i in 0..count {
+        if i > 0 {
+            text.push_str(" or ")?;
+        }
+        write!(text, "keyword {letter}{i}")?;
+    }
+    text.push(')')?;
+    Ok(())
+}
+
+// A device whose filter has so many words by so many, and two pictures.
+fn wide_script(alloc: Global, left: usize, right: usize) -> Result<String, Fail> {
+    let mut script = String::from_str(alloc, "device a ")?;
+    push_words(&mut script, 'x', left)?;
+    script.push_str(" and ")?;
+    push_words(&mut script, 'y', right)?;
+    script.push_str("\nnew a 1 0 2024-05-01 x7,y0\nnew a 2 0 2024-05-01 x1,x2\n")?;
+    Ok(script)
+}
+
+#[test]
+fn widths_of_filters(rt: HostRuntime) -> Result<(), Fail> {
+    for (left, right, output, error) in [
+        (8, 8, "1 made a:1 store\n2 made a:2 out\n", ""),
+        (5, 13, "", "line 1: F15 BadFilter"),
+    ] {
+        let script = wide_script(rt.alloc(), left, right)?;
+        assert!(rt;
+            runs(rt.alloc(), script.as_str(), output, error),
+            "{left} by {right}"
+        );
+    }
+    Ok(())
+}

@@ -1,5 +1,0 @@
-use Rattle.photofleet.proofs.WorkedExamples.{as_told}
-use Rattle.photofleet.proofs.laws.examples.Goals as goal
-
-pub returns : goal.returns
-returns c = as_told c.answers_are_one.ensures c.examples.ensures.first_run.script

@@ -1,5 +1,0 @@
-use Rattle.photofleet.proofs.Outputs.{one_output}
-use Rattle.photofleet.proofs.laws.outputs_are_one.Goals as goal
-
-pub returns : goal.returns
-returns c = one_output c.answers_are_one.ensures

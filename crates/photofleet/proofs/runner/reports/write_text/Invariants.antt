@@ -1,9 +1,0 @@
-use Rattle.std.proofs.Common.{length}
-use Rattle.photofleet.proofs.Known.{IsWrittenTo}
-use Rattle.photofleet.proofs.runner.reports.write_text.Given as goal
-
-abbrev pub invariant-loop-rest : goal.invariant-loop-rest
-invariant-loop-rest g l = IsWrittenTo (g.W.Write.contents l.fn.writer) (g.W.Write.contents l.writer) l.rest l.text
-
-abbrev pub decreases-loop-rest : goal.decreases-loop-rest
-decreases-loop-rest g l = length l.rest
