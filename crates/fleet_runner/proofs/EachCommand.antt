@@ -15,8 +15,7 @@ use Rattle.photo_device.specs.Device.{ModelDevice, opening, new_entry, made, nar
 use Rattle.photo_pull.specs.Pull.{pulled, handed_over}
 use Rattle.photo_script.specs.declared.command.Command.{Command}
 use Rattle.photo_script.specs.declared.command.Command.TheVariants as command
-use Rattle.photo_script.specs.Contents.{Contents, IsWithin, IsScript}
-use Rattle.fleet_runner.specs.Ranges.{record_of}
+use Rattle.photo_script.specs.Contents.{Contents, IsWithin, IsScript, record_of}
 use Rattle.photo_script.specs.Reports.{Exactly, NotHeld, NotNarrower, Narrowed}
 use Rattle.photo_script.specs.Runs.{device_at, Fleet, Effect, making, telling, changing, narrowing, opening_from, opening_fleet, after_command, step, run_in_order, numbers_to}
 use Rattle.fleet_runner.proofs.Places.{two_set, length_two}
@@ -42,18 +41,18 @@ all_at Q [] k d all h = absurd (omega arith)
 all_at Q (x ∷ xs) zero d all h = all.0
 all_at Q (x ∷ xs) (suc k) d all h = all_at Q xs k d all.1 (omega arith)
 
-all_got : {X : Type 0} (Q : X → Type 0) (xs : List X) (k : ℕ) (x : X) → AllByRecursion Q xs → slice_get xs k ≡ Some x → Q x
+pub all_got : {X : Type 0} (Q : X → Type 0) (xs : List X) (k : ℕ) (x : X) → AllByRecursion Q xs → slice_get xs k ≡ Some x → Q x
 all_got Q xs k x all here = subst Q (get_or_from_slice_get xs k x x here) (all_at Q xs k x all (slice_get_within xs k x here))
 
 -- a narrowing that is done
-abbrev narrowed_effect : ModelDevice → Tree → Effect
+abbrev pub narrowed_effect : ModelDevice → Tree → Effect
 narrowed_effect d tree = record { first = narrowed tree d; second = None; report = Exactly (Narrowed (moved tree d)); entries = [] }
 
 -- the command of a number, and none
-stepped : (script : Contents) (fleet : Fleet) (n : ℕ) (c : Command) → slice_get script.commands n ≡ Some c → step script fleet (suc n) ≡ after_command fleet (suc n) c
+pub stepped : (script : Contents) (fleet : Fleet) (n : ℕ) (c : Command) → slice_get script.commands n ≡ Some c → step script fleet (suc n) ≡ after_command fleet (suc n) c
 stepped script fleet n c here = rw here refl
 
-not_stepped : (script : Contents) (fleet : Fleet) (n : ℕ) → slice_get script.commands n ≡ None → step script fleet (suc n) ≡ fleet
+pub not_stepped : (script : Contents) (fleet : Fleet) (n : ℕ) → slice_get script.commands n ≡ None → step script fleet (suc n) ≡ fleet
 not_stepped script fleet n past = rw past refl
 
 length_opening : (n : ℕ) (filters : List Tree) → length (opening_from n filters) ≡ length filters

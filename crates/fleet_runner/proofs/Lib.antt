@@ -31,3 +31,5 @@ pub mod SoundRuns
 pub mod Between
 pub mod SoundTests
 pub mod SoundWorked
+pub mod Once
+pub mod FewMoved

@@ -7,8 +7,7 @@ use Rattle.photo_filter_text.specs.Tree.{Tree, All}
 use Rattle.photo_version.specs.Author.{author}
 use Rattle.photo_device.specs.Device.{ModelDevice, opening}
 use Rattle.photo_script.specs.declared.command.Command.{Command}
-use Rattle.photo_script.specs.Contents.{Contents, IsScript}
-use Rattle.fleet_runner.specs.Ranges.{record_of}
+use Rattle.photo_script.specs.Contents.{Contents, IsScript, record_of}
 use Rattle.photo_script.specs.Runs.{device_at, opening_from, run_in_order, numbers_to}
 use Rattle.fleet_runner.specs.Ready.{IsReady}
 use Rattle.fleet_runner.proofs.Members.{in_nothing}

@@ -5,16 +5,16 @@ use Rattle.std.specs.List.{AllZip, list_all}
 use Rattle.std.proofs.lemmas.Bool.{and_parts, ltb-true}
 use Rattle.photo_device.specs.Device.{Kept, Shows}
 use Rattle.photo_script.specs.Limits.{max_devices, max_commands}
-use Rattle.photo_script.specs.Contents.{Contents, NamesDevices}
+use Rattle.photo_script.specs.Contents.{Contents, NamesDevices, AreInRange}
 use Rattle.photo_script.specs.Runs.{run}
 use Rattle.fleet_runner.specs.Between.{AreReady, HaveRoom}
 use Rattle.fleet_runner.proofs.ReadyRuns.{run_is_ready}
 
-pub ready_after : (script : Contents) (devices : List Kept) → length script.names ≤ max_devices → length script.filters ≡ length script.names → length script.commands ≤ max_commands → NamesDevices script → AllZip Shows devices (run script).devices → AreReady devices
-ready_after script devices few filtered small known shown = record {
+pub ready_after : (script : Contents) (devices : List Kept) → length script.names ≤ max_devices → length script.filters ≡ length script.names → length script.commands ≤ max_commands → NamesDevices script → AreInRange script → AllZip Shows devices (run script).devices → AreReady devices
+ready_after script devices few filtered small known in_range shown = record {
   models = (run script).devices;
   shown = shown;
-  ready = run_is_ready script (length script.commands) (record { devices = few; filtered = filtered; commands = small; known = known });
+  ready = run_is_ready script (length script.commands) (record { devices = few; filtered = filtered; commands = small; known = known; in_range = in_range });
 }
 
 pub room_for_all : (devices : List Kept) → list_all (λ d. nat_lt d.counter 4_294_967_295) devices ≡ true → HaveRoom devices

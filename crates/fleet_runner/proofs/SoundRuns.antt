@@ -6,7 +6,6 @@ use Rattle.photo_version.specs.Author.{author}
 use Rattle.photo_device.specs.Device.{opening}
 use Rattle.photo_script.specs.Contents.{Contents, IsScript}
 use Rattle.photo_script.specs.Runs.{opening_from, run_in_order, numbers_to}
-use Rattle.fleet_runner.specs.Ranges.{AreInRange}
 use Rattle.fleet_runner.specs.Sound.{is_sound}
 use Rattle.fleet_runner.specs.Laws.{StaysSoundAndKept}
 use Rattle.fleet_runner.proofs.Members.{in_nothing, all_from}
@@ -27,7 +26,7 @@ nothing_sound n tree = record {
   newest = λ e w i. in_nothing i;
 }
 
-opening_sound : (filters : List Tree) → IsSoundFleet [] (opening_from 0 filters)
+pub opening_sound : (filters : List Tree) → IsSoundFleet [] (opening_from 0 filters)
 opening_sound filters = record {
   traced = opening_traced filters;
   orderly = record { transitive = λ w x i. in_nothing i; in_range = λ e i. in_nothing i };
@@ -35,7 +34,7 @@ opening_sound filters = record {
   kept = λ e i. in_nothing i;
 }
 
-sound_kept : IsKept IsInRange IsSoundFleet
+pub sound_kept : IsKept IsInRange IsSoundFleet
 sound_kept = record {
   removed = tt;
   making = λ log ds k p r H h fits. making_sound log ds H k p r h fits;
@@ -43,13 +42,13 @@ sound_kept = record {
   pulling = λ log ds t s H h k apart. pulling_sound log ds H t s h k apart;
 }
 
-pub run_is_sound : (script : Contents) (n : ℕ) → IsScript script → AreInRange script → IsSoundFleet (run_in_order script (numbers_to n)).log (run_in_order script (numbers_to n)).devices
-run_is_sound script n is fit = (after_each IsInRange IsSoundFleet sound_kept script is fit (opening_sound script.filters) n).fact
+pub run_is_sound : (script : Contents) (n : ℕ) → IsScript script → IsSoundFleet (run_in_order script (numbers_to n)).log (run_in_order script (numbers_to n)).devices
+run_is_sound script n is = (after_each IsInRange IsSoundFleet sound_kept script is is.in_range (opening_sound script.filters) n).fact
 
 pub stays_sound_and_kept : StaysSoundAndKept
-stays_sound_and_kept script n is fit =
+stays_sound_and_kept script n is =
     let fleet = run_in_order script (numbers_to n) in
-    let facts = run_is_sound script n is fit in
+    let facts = run_is_sound script n is in
     record {
       sound = all_from (is_sound fleet.log) fleet.devices (each_is_sound fleet.log fleet.devices facts);
       kept = fleet_is_kept fleet.log fleet.devices facts;

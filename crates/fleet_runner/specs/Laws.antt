@@ -1,10 +1,11 @@
 -- What holds of all outputs, and of all runs.
-use Rattle.std.specs.Prelude.{◌≡◌, ℕ, true, List}
-use Rattle.std.specs.List.{list_all}
+use Rattle.std.specs.Prelude.{◌≡◌, ◌≤◌, ℕ, true, List}
+use Rattle.std.specs.List.{list_all, AllByRecursion}
 use Rattle.photo_script.specs.Contents.{Contents, IsScript}
+use Rattle.photo_script.specs.Reports.{Answer}
 use Rattle.photo_script.specs.Runs.{Fleet, run_in_order, numbers_to}
-use Rattle.fleet_runner.specs.Outcomes.{IsOutput}
-use Rattle.fleet_runner.specs.Ranges.{AreInRange}
+use Rattle.photo_script.specs.Tallies.{moved_by, max_moved}
+use Rattle.fleet_runner.specs.Outcomes.{AreRight, IsOutput}
 use Rattle.fleet_runner.specs.Sound.{is_sound, is_kept}
 
 -- a script's run has at most one output
@@ -16,6 +17,10 @@ pub record IsSoundAndKept (fleet : Fleet) : Type 0 where
   pub sound : list_all (is_sound fleet.log) fleet.devices ≡ true
   pub kept : is_kept fleet.log fleet.devices ≡ true
 
--- so it is before the first command of a script whose records are in range, and after each
+-- so it is before the first command of a script, and after each
 abbrev pub StaysSoundAndKept : Type 0
-StaysSoundAndKept = (script : Contents) (n : ℕ) → IsScript script → AreInRange script → IsSoundAndKept (run_in_order script (numbers_to n))
+StaysSoundAndKept = (script : Contents) (n : ℕ) → IsScript script → IsSoundAndKept (run_in_order script (numbers_to n))
+
+-- no pull of a run moves more versions than the run can make and move
+abbrev pub PullsMoveFew : Type 0
+PullsMoveFew = (script : Contents) (answers : List Answer) → IsScript script → AreRight script answers → AllByRecursion (λ a. moved_by a ≤ max_moved) answers

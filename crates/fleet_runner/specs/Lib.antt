@@ -4,7 +4,6 @@ pub mod Laws
 pub mod Examples
 pub mod Members
 pub mod Ready
-pub mod Ranges
 pub mod Sound
 pub mod Between
 pub mod SoundExamples

@@ -1,6 +1,6 @@
 //! Laws of the definitions.
 ghost use Rattle.std.specs.Prelude.{◌≡◌, IfOk};
-ghost use Rattle.fleet_runner.specs.Laws.{OutputsAreOne, StaysSoundAndKept};
+ghost use Rattle.fleet_runner.specs.Laws.{OutputsAreOne, StaysSoundAndKept, PullsMoveFew};
 ghost use Rattle.fleet_runner.specs.SoundExamples.{SoundIsAsTold};
 ghost use Rattle.fleet_runner.specs.Examples.{AreAsTold, printed};
 
@@ -26,6 +26,12 @@ pub fn outputs_are_one()
 /// versions that it knows, and no version that is current is lost.
 pub fn stays_sound_and_kept()
     ensures { StaysSoundAndKept }
+{}
+
+/// What the right reports of a run say that a pull moved is at most 200,000: no device holds more versions than were
+/// made, so a pull takes no more and is handed no more.
+pub fn pulls_move_few()
+    ensures { PullsMoveFew }
 {}
 
 /// Which devices are sound, and what is lost, is as it is told, by the definitions alone.

@@ -1,6 +1,7 @@
 mod Arguments
 mod WorkedExamples
 mod Changing
+mod Counted
 mod Cuts
 mod Everywhere
 mod FilterTexts

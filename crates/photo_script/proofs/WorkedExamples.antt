@@ -12,7 +12,7 @@ use Rattle.photo_record.specs.Reading.{day_of_text, words_of_text, word_of_text}
 use Rattle.photo_script.specs.Saying.{said, fields_said, command_line_said, question_line_said, device_line_said, filter_said, declaration_said, new_line_said, creation_said, command_said, device_said, new_picture_said, record_said, list_line_said, picture_said, edition_said, edit_line_said, removal_said, remove_line_said, pulling_said, pull_line_said, narrowing_said, narrow_line_said, conflicts_line_said, knowledge_line_said, knows_line_said, question_said, version_said}
 use Rattle.photo_script.specs.Reading.{script_of}
 use Rattle.photo_script.specs.Reports.{text_of}
-use Rattle.photo_script.specs.Examples.{FirstRun, SingleFaults, TwoFaults, LinesAndFields, Filters, Changes, Questions, KnownTexts, Moves, MovedTexts}
+use Rattle.photo_script.specs.Examples.{FirstRun, SingleFaults, TwoFaults, LinesAndFields, Filters, Changes, Questions, KnownTexts, Moves, MovedTexts, Counts}
 
 pub first_run : FirstRun
 unfolding chars is_utf8 digits encode days_from_civil day_count days_of_years days_of_months unicode_normalization date_of years_off months_off day_of_text words_of_text word_of_text said fields_said command_line_said question_line_said device_line_said filter_said symbol_of at_factor after_term after_factor filter_of declaration_said new_line_said creation_said command_said device_said new_picture_said record_said list_line_said script_of text_of
@@ -98,3 +98,6 @@ moves = record {
 pub moved_texts : MovedTexts
 unfolding chars digits encode text_of
 moved_texts = record { pulled = refl; counted = refl; narrowed = refl; refused = refl; one = refl; two = refl; none = refl }
+
+pub counts : Counts
+counts = record { empty = refl; silent = refl; first = refl; pulled = refl; refused = refl }

@@ -1,7 +1,9 @@
 -- What a script has: its devices' names and filters in order of declaration, and its commands in order.
 use Rattle.std.specs.Prelude.{◌≡◌, ◌≢◌, ℕ, zero, suc, ◌<◌, ◌≤◌, List, length, Option, Some, None, IfSome, slice_get}
 use Rattle.std.specs.List.{AllByRecursion}
+use Rattle.photo_record.specs.declared.record.Record.{Record}
 use Rattle.photo_filter_text.specs.Tree.{Tree}
+use Rattle.photo_filter_rules.specs.Laws.{IsInRange}
 use Rattle.photo_script.specs.Limits.{max_devices, max_commands}
 use Rattle.photo_script.specs.declared.command.Command.{Command}
 use Rattle.photo_script.specs.declared.command.Command.TheVariants as command
@@ -39,9 +41,26 @@ IsWithin count x = ((devices_of x).0 < count) × IfSome (devices_of x).1 (λ sec
 abbrev pub NamesDevices : Contents → Type 0
 NamesDevices c = AllByRecursion (IsWithin (length c.names)) c.commands
 
+-- the record that a command gives a picture, if it names one
+abbrev pub record_of : Command → Option Record
+record_of (command.New device picture content) = Some content
+record_of (command.Edit device picture content) = Some content
+record_of (command.Remove device picture) = None
+record_of (command.Pull target source) = None
+record_of (command.Narrow device filter) = None
+record_of (command.List device) = None
+record_of (command.Conflicts device) = None
+record_of (command.Knowledge device) = None
+record_of (command.Knows device picture v) = None
+
+-- the ratings and days of all records are ones that there are
+abbrev pub AreInRange : Contents → Type 0
+AreInRange c = AllByRecursion (λ x. IfSome (record_of x) IsInRange) c.commands
+
 -- what is true of every script
 pub record IsScript (c : Contents) : Type 0 where
   pub devices : length c.names ≤ max_devices
   pub filtered : length c.filters ≡ length c.names
   pub commands : length c.commands ≤ max_commands
   pub known : NamesDevices c
+  pub in_range : AreInRange c

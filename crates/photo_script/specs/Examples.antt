@@ -2,7 +2,7 @@
 use Rattle.std.specs.Prelude.{◌≡◌, ℕ, true, false, pos, List, [], ◌∷◌, Ok, Err, codes}
 use Rattle.photo_record.specs.declared.record.Record.{Record}
 use Rattle.photo_record.specs.declared.record.Record.TheVariants as content
-use Rattle.photo_filter_text.specs.declared.tree.Cmp.TheVariants.{AtLeast}
+use Rattle.photo_filter_text.specs.declared.tree.Cmp.TheVariants.{AtLeast, AtMost}
 use Rattle.photo_filter_text.specs.Tree.{All, Rate, Not, Keyword, Both}
 use Rattle.item_knowledge.specs.Entries as knowledge
 use Rattle.photo_device.specs.Entry.{Entry}
@@ -12,6 +12,9 @@ use Rattle.photo_version.specs.Version.{Version, version}
 use Rattle.photo_device.specs.declared.place.Place.TheVariants as place
 use Rattle.photo_script.specs.Contents.{Contents, contents}
 use Rattle.photo_script.specs.Reading.{script_of}
+use Rattle.photo_script.specs.Runs.{run}
+use Rattle.photo_script.specs.Tallies.{totals_of}
+use Rattle.photo_script.specs.declared.tally.Totals.{Totals}
 use Rattle.item_knowledge.specs.Fragments.{Fragment}
 use Rattle.photo_script.specs.Reports.{Made, NotHeld, NotNarrower, Narrowed, Pulled, Listed, Conflicts, KnowledgeOf, Knows, text_of}
 use Rattle.photo_script.specs.declared.command.Command.{Command}
@@ -155,3 +158,29 @@ pub record MovedTexts : Type 0 where
   pub two : text_of (pair []) 9 (Conflicts 1 (conflict 7 (version (author 0) 2 ∷ version (author 1) 1 ∷ []) ∷ conflict 12 (version (author 0) 1 ∷ version (author 0) 3 ∷ version (author 1) 5 ∷ []) ∷ []))
       ≡ codes "9 conflicts b 2\n  7 a:2 b:1\n  12 a:1 a:3 b:5\n"
   pub none : text_of (pair []) 6 (Conflicts 0 []) ≡ codes "6 conflicts a 0\n"
+
+-- two devices, neither filter of which covers the other's, make versions of one picture and pull three times
+abbrev pub two_versions : Contents
+two_versions = contents (codes "a" ∷ codes "b" ∷ []) (Rate AtLeast 1 ∷ Rate AtMost 4 ∷ [])
+    (command.New 0 7 (content.Picture 3 (pos 19_723) []) ∷ command.Pull 1 0 ∷ command.Edit 0 7 (content.Picture 4 (pos 19_723) [])
+    ∷ command.Edit 1 7 (content.Picture 2 (pos 19_723) []) ∷ command.Pull 0 1 ∷ command.Conflicts 0 ∷ command.Knowledge 0
+    ∷ command.Edit 0 7 (content.Picture 3 (pos 19_723) []) ∷ command.Pull 1 0 ∷ [])
+
+-- a version that its device doesn't keep is handed over by a pull, and one that it keeps is taken. An edit, a removal and
+-- a filter are refused, and a version is asked for that is never made
+abbrev pub each_refused : Contents
+each_refused = contents (codes "a" ∷ codes "b" ∷ []) (Rate AtLeast 4 ∷ All ∷ [])
+    (command.New 0 1 (content.Picture 3 (pos 19_723) []) ∷ command.New 0 2 (content.Picture 5 (pos 19_723) []) ∷ command.Pull 1 0
+    ∷ command.Edit 0 9 (content.Picture 5 (pos 19_723) []) ∷ command.Remove 1 9 ∷ command.Narrow 0 All ∷ command.List 0
+    ∷ command.Knows 1 7 (version (author 0) 9) ∷ [])
+
+abbrev pub totals : ℕ → ℕ → ℕ → ℕ → Totals
+totals changes pulls reports moved = record { changes = changes; pulls = pulls; reports = reports; moved = moved }
+
+-- the commands of runs by their kinds, and what their pulls moved
+pub record Counts : Type 0 where
+  pub empty : totals_of (contents [] [] []) (run (contents [] [] [])) ≡ totals 0 0 0 0
+  pub silent : totals_of (pair []) (run (pair [])) ≡ totals 0 0 0 0
+  pub first : totals_of camera (run camera) ≡ totals 1 0 1 0
+  pub pulled : totals_of two_versions (run two_versions) ≡ totals 4 3 2 3
+  pub refused : totals_of each_refused (run each_refused) ≡ totals 5 1 2 2

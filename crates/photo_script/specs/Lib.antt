@@ -9,5 +9,6 @@ pub mod Reading
 pub mod Steps
 pub mod Reports
 pub mod Runs
+pub mod Tallies
 pub mod Laws
 pub mod Examples

@@ -1,6 +1,6 @@
 //! Laws of the definitions. Each function's contract is a law, and its body does nothing.
 ghost use Rattle.photo_script.specs.Laws.{AnswersAreOne};
-ghost use Rattle.photo_script.specs.Examples.{FirstRun, SingleFaults, TwoFaults, LinesAndFields, Filters, Changes, Questions, KnownTexts, Moves, MovedTexts};
+ghost use Rattle.photo_script.specs.Examples.{FirstRun, SingleFaults, TwoFaults, LinesAndFields, Filters, Changes, Questions, KnownTexts, Moves, MovedTexts, Counts};
 
 /// Of each model report at most one answer is the right one, also where it gives a knowledge.
 pub fn answers_are_one()
@@ -10,7 +10,7 @@ pub fn answers_are_one()
 /// The definitions at some texts: a camera that makes a picture and lists it, with the texts of its reports; scripts
 /// of one fault each and of two; ends of lines and spaces; filters; later versions of a picture; questions
 /// about what devices know, and the texts of their answers; pulls, narrower filters and conflicts, and the texts of
-/// their reports.
+/// their reports; commands by their kinds, and what pulls move.
 pub fn examples()
     ensures first_run { FirstRun }
     ensures single_faults { SingleFaults }
@@ -22,4 +22,5 @@ pub fn examples()
     ensures known_texts { KnownTexts }
     ensures moves { Moves }
     ensures moved_texts { MovedTexts }
+    ensures counts { Counts }
 {}

@@ -15,6 +15,7 @@ mod reader;
 mod refusal;
 mod report;
 mod script;
+mod tally;
 
 pub use command::{Command, devices_of};
 pub use fault::{LineFault, ScriptFault};
@@ -22,6 +23,7 @@ pub use limits::{MAX_COMMANDS, MAX_DEVICES, MAX_TEXT_BYTES};
 pub use reader::read_script;
 pub use report::{Report, push_report, report_text};
 pub use script::Script;
+pub use tally::{Tally, Totals, totals_of};
 
 #[cfg(test)]
 mod tests;

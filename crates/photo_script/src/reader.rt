@@ -2,6 +2,7 @@ ghost use Rattle.std.specs.Prelude.{◌≡◌, ◌≢◌, ℕ, List, [], ◌∷�
 ghost use Rattle.photo_script.specs.Lines.{fields_of, lines_of, third_field_on};
 ghost use Rattle.photo_script.specs.Limits.{max_text_bytes, max_line_bytes};
 ghost use Rattle.std.specs.Str.Lines.{strip_carriage_return};
+ghost use Rattle.photo_filter_rules.specs.Laws.{IsInRange};
 ghost use Rattle.photo_script.specs.Steps.{Gives};
 ghost use Rattle.photo_script.specs.Saying.{device_said, new_picture_said, record_said, device_line_said, declaration_said, new_line_said, picture_said, command_said, creation_said, edition_said, edit_line_said, remove_line_said, pull_line_said, narrow_line_said, narrowing_said, list_line_said, conflicts_line_said, knowledge_line_said, knows_line_said, version_said, question_line_said, command_line_said, fields_said, said};
 ghost use Rattle.photo_script.specs.Reading.{script_of, script_of_lines, MayWantMemory};
@@ -427,7 +428,8 @@ fn any_picture(text: &str) -> Result<PicNo, LineFault>
 // The record of those fields.
 #[tactic(auto, unfolding(crate::specs::Saying::record_said))]
 fn record_of(alloc: Global, rating: &str, date: &str, words: &str) -> Result<Record, Refusal>
-    ensures { Gives (λ r. r) result (record_said rating.now date.now words.now) }
+    ensures said { Gives (λ r. r) result (record_said rating.now date.now words.now) }
+    ensures in_range { IfOk result IsInRange }
 {
     let rating = Rating::read(rating).ok_or(LineFault::BadRating)?;
     let day = Day::read(date).ok_or(LineFault::BadDate)?;

@@ -4,6 +4,7 @@ ghost use Rattle.photo_script.specs.Fields.{place_of};
 
 use crate::Command;
 use crate::names::Names;
+use crate::tally::{self, Tally};
 use photo_filter_rules::Filter;
 use std::alloc::{AllocError, Global};
 use std::marker::Model;
@@ -30,7 +31,9 @@ impl Model for Script {
 }
 
 impl Script {
-    ghost use Rattle.photo_script.specs.Contents.{contents, IsWithin, NamesDevices};
+    ghost use Rattle.photo_filter_rules.specs.Laws.{IsInRange};
+    ghost use Rattle.photo_script.specs.Contents.{contents, record_of, IsWithin, NamesDevices, AreInRange};
+    ghost use Rattle.photo_script.specs.Tallies.{tally_of};
 
     /// A script with no devices and no commands.
     pub(crate) fn new(alloc: Global) -> Script
@@ -73,6 +76,7 @@ impl Script {
         ensures count { result ≡ length self.now.commands }
         ensures at_most { result ≤ max_commands }
         ensures known { NamesDevices self.now }
+        ensures in_range { AreInRange self.now }
     {
         self.commands.len()
     }
@@ -85,6 +89,13 @@ impl Script {
         ensures known { IsWithin (length self.now.names) result.now }
     {
         &self.commands[number as usize - 1]
+    }
+
+    /// How many commands of each kind there are. It takes no memory.
+    pub fn tally(&self) -> Tally
+        ensures { result ≡ tally_of self.now }
+    {
+        tally::tally_of(self.commands.as_slice())
     }
 
     /// The place of the device with that name.
@@ -115,6 +126,7 @@ impl Script {
     pub(crate) fn push(&mut self, command: Command) -> Result<(), AllocError>
         requires room { length self.old.commands < max_commands }
         requires known { IsWithin (length self.old.names) command }
+        requires in_range { IfSome (record_of command) IsInRange }
         ensures ok { OnOk result (self.new ≡ contents self.old.names self.old.filters (self.old.commands ++ command ∷ [])) }
         ensures err { OnErr result (self.new ≡ self.old) }
     {

@@ -4,6 +4,7 @@ ghost use Rattle.photo_script.specs.Reports.{IsAbout, answer_of};
 
 mod knowing;
 mod moving;
+mod tallying;
 
 use super::*;
 use photo_device::{Held, HeldList, Place};

@@ -18,7 +18,7 @@ run_on-requires-clause-ready c =
     let script = c.args.script.now in
     let n = c.loop-place.place in
     let opened = c.in_ok-devices.ensures in
-    let is : IsScript script = record { devices = opened.few; filtered = opened.filtered; commands = omega arith; known = c.commands-place-end.ensures.known } in
+    let is : IsScript script = record { devices = opened.few; filtered = opened.filtered; commands = omega arith; known = c.commands-place-end.ensures.known; in_range = c.commands-place-end.ensures.in_range } in
     subst AreReady (sym c.as_mut_slice.ensures.value) (record { models = (fleet_after script n).devices; shown = c.loop-place.invariant.shown; ready = run_is_ready script n is })
 
 pub run_on-requires-clause-room : goal.run_on-requires-clause-room

@@ -1,4 +1,4 @@
-use Rattle.photo_script.proofs.WorkedExamples.{first_run, single_faults, two_faults, lines_and_fields, filters, changes, questions, known_texts, moves, moved_texts}
+use Rattle.photo_script.proofs.WorkedExamples.{first_run, single_faults, two_faults, lines_and_fields, filters, changes, questions, known_texts, moves, moved_texts, counts}
 use Rattle.photo_script.proofs.laws.examples.Goals as goal
 
 pub returns-clause-first_run : goal.returns-clause-first_run
@@ -30,3 +30,6 @@ returns-clause-moves c = moves
 
 pub returns-clause-moved_texts : goal.returns-clause-moved_texts
 returns-clause-moved_texts c = moved_texts
+
+pub returns-clause-counts : goal.returns-clause-counts
+returns-clause-counts c = counts

@@ -11,6 +11,6 @@ returns c =
     let number = c.in_ok-picture.picture in
     let fresh = sym c.in_ok-picture.ensures.said in
     let script = rw c.in_ok-picture.ensures.script at c.in_ok-push.ensures.ok in
-    let said = creation-said (seen old) c.args.name.now c.args.picture.now c.args.rating.now c.args.date.now c.args.words.now device number c.in_ok-record.record (omega arith) c.in_ok-device.ensures.said fresh c.in_ok-record.ensures in
+    let said = creation-said (seen old) c.args.name.now c.args.picture.now c.args.rating.now c.args.date.now c.args.words.now device number c.in_ok-record.record (omega arith) c.in_ok-device.ensures.said fresh c.in_ok-record.ensures.said in
     let taken = takes_new old _ c.args.name.now c.args.picture.now c.args.rating.now c.args.date.now c.args.words.now device number c.in_ok-record.record fresh script c.in_ok-picture.ensures.made in
     (Some (command.New device number c.in_ok-record.record), said, taken)

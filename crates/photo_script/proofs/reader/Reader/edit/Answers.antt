@@ -10,6 +10,6 @@ returns c =
     let device = c.in_ok-device.device in
     let number = c.in_ok-picture.picture in
     let content = c.in_ok-record.record in
-    let said = edition-said (seen old) c.args.name.now c.args.picture.now c.args.rating.now c.args.date.now c.args.words.now device number content (omega arith) c.in_ok-device.ensures.said c.in_ok-picture.ensures c.in_ok-record.ensures in
+    let said = edition-said (seen old) c.args.name.now c.args.picture.now c.args.rating.now c.args.date.now c.args.words.now device number content (omega arith) c.in_ok-device.ensures.said c.in_ok-picture.ensures c.in_ok-record.ensures.said in
     let taken = takes_edit old (record old { script = c.push.new.self }) c.args.name.now c.args.picture.now c.args.rating.now c.args.date.now c.args.words.now device number content c.in_ok-push.ensures.ok refl in
     (Some (command.Edit device number content), said, taken)

@@ -1,0 +1,6 @@
+use Rattle.std.proofs.Common.{◌≡◌, take}
+use Rattle.photo_script.specs.Tallies.{tally_of_commands}
+use Rattle.photo_script.proofs.tally.tally_of.Given as goal
+
+abbrev pub invariant-loop-command : goal.invariant-loop-command
+invariant-loop-command l = l.tally ≡ tally_of_commands (take l.command-index l.commands)

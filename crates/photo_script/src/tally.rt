@@ -1,0 +1,91 @@
+ghost use Rattle.std.specs.Prelude.{◌≡◌, ◌≤◌, ◌*◌, length, map};
+ghost use Rattle.std.specs.List.{AllByRecursion, AllZip, sum_by};
+ghost use Rattle.photo_script.specs.Limits.{max_commands};
+
+use crate::{Command, Report, Script};
+
+/// How many commands of each kind a script has. A command counts also where a run refuses it.
+#[derive(Clone, Copy, Debug, PartialEq, Eq)]
+pub struct Tally {
+    /// How many commands are `new`, `edit`, `remove` or `narrow`.
+    pub changes: u64,
+    /// How many are `pull`.
+    pub pulls: u64,
+    /// How many are `list`, `conflicts`, `knowledge` or `knows`.
+    pub reports: u64,
+}
+
+/// What the run of a script did: how many commands of each kind, as in [`Tally`], and what its pulls moved.
+#[derive(Clone, Copy, Debug, PartialEq, Eq)]
+pub struct Totals {
+    /// How many commands are `new`, `edit`, `remove` or `narrow`.
+    pub changes: u64,
+    /// How many are `pull`.
+    pub pulls: u64,
+    /// How many are `list`, `conflicts`, `knowledge` or `knows`.
+    pub reports: u64,
+    /// How many versions the targets of all pulls took and their sources handed over, together.
+    pub moved: u64,
+}
+
+ghost use Rattle.photo_script.specs.Reports.{Tells, answer_of};
+ghost use Rattle.photo_script.specs.Runs.{Fleet, reports_of};
+ghost use Rattle.photo_script.specs.Tallies.{tally_of_commands, moved_by, totals_of, max_moved};
+
+/// The totals of a script's run, by its reports.
+///
+/// A report of a pull has to tell of no more versions than the run's commands can make and move.
+pub fn totals_of(script: &Script, reports: &[Report]) -> Totals
+    requires few { length reports.now ≤ max_commands }
+    requires each { AllByRecursion (λ a. moved_by a ≤ max_moved) (map answer_of reports.now) }
+    ensures { (fleet : Fleet) → AllZip Tells (map answer_of reports.now) (reports_of fleet) → result ≡ totals_of script.now fleet }
+{
+    let tally = script.tally();
+    Totals {
+        changes: tally.changes,
+        pulls: tally.pulls,
+        reports: tally.reports,
+        moved: moved_by(reports),
+    }
+}
+
+// How many versions were moved, by the reports of the pulls among these.
+fn moved_by(reports: &[Report]) -> u64
+    requires few { length reports.now ≤ max_commands }
+    requires each { AllByRecursion (λ a. moved_by a ≤ max_moved) (map answer_of reports.now) }
+    ensures { result ≡ sum_by moved_by (map answer_of reports.now) }
+{
+    let mut moved = 0;
+    for report in reports {
+        if let Report::Pulled(counts) = report {
+            moved += counts.taken + counts.handed;
+        }
+    }
+    moved
+}
+
+// How many of the commands are of each kind.
+pub(crate) fn tally_of(commands: &[Command]) -> Tally
+    requires { length commands.now ≤ max_commands }
+    ensures { result ≡ tally_of_commands commands.now }
+{
+    let mut tally = Tally {
+        changes: 0,
+        pulls: 0,
+        reports: 0,
+    };
+    for command in commands {
+        match command {
+            Command::New { .. }
+            | Command::Edit { .. }
+            | Command::Remove { .. }
+            | Command::Narrow { .. } => tally.changes += 1,
+            Command::Pull { .. } => tally.pulls += 1,
+            Command::List { .. }
+            | Command::Conflicts { .. }
+            | Command::Knowledge { .. }
+            | Command::Knows { .. } => tally.reports += 1,
+        }
+    }
+    tally
+}
