@@ -33,3 +33,4 @@ pub mod SoundTests
 pub mod SoundWorked
 pub mod Once
 pub mod FewMoved
+pub mod Issued

@@ -12,6 +12,8 @@ use Rattle.photo_record.specs.declared.record.Record.TheVariants.{Removed}
 use Rattle.photo_filter_text.specs.Tree.{Tree, All}
 use Rattle.photo_filter_rules.specs.Covers.{covers}
 use Rattle.photo_version.specs.Author.{author}
+use Rattle.photo_device.specs.declared.held.Held.{Held}
+use Rattle.photo_device.specs.Held.{entries_of}
 use Rattle.photo_device.specs.Device.{Kept, ModelDevice, Shows, opening, is_held}
 use Rattle.photo_script.specs.declared.command.Command.{Command}
 use Rattle.photo_script.specs.declared.command.Command.TheVariants as command
@@ -112,8 +114,8 @@ have_room (d ∷ ds) (m ∷ ms) n few all most =
     let here = most.0 in
     (omega arith, have_room ds ms n few all.1 most.1)
 
--- the devices and the reports after the first n commands, in the order of their numbers
-pub record RunsTo (script : Contents) (n : ℕ) (devices : List Kept) (reports : List Report) : Type 0 where
+-- the devices, the reports and the log after the first n commands, in the order of their numbers
+pub record RunsTo (script : Contents) (n : ℕ) (devices : List Kept) (reports : List Report) (log : List Held) : Type 0 where
   pub long : length devices ≡ length script.names
   pub count : length reports ≡ n
   pub shown : AllZip Shows devices (fleet_after script n).devices
@@ -123,6 +125,7 @@ pub record RunsTo (script : Contents) (n : ℕ) (devices : List Kept) (reports :
   pub known : AllByRecursion (IsOfFleet script) (fleet_after script n).devices
   pub about : AllByRecursion (IsAbout script) (map answer_of reports)
   pub counted : AllByRecursion (HasMadeAtMost n) (fleet_after script n).devices
+  pub logged : entries_of log ≡ (fleet_after script n).log
 
 -- the next report comes to its place
 put_report : (models : List ModelReport) (n left : ℕ) (a : ModelReport) → length models ≡ n → 0 < left
@@ -137,11 +140,12 @@ put_report models n (suc left) a long some =
     ap (λ k. set (before ++ None ∷ replicate left None) k (Some a)) (sym size) ∙ set-append_seam before None (replicate left None) (Some a) ∙ sym whole
 
 -- one command more
-pub runs_more : (script : Contents) (n : ℕ) (devices new : List Kept) (reports : List Report) (c : Command) (report : Report) → RunsTo script n devices reports → slice_get script.commands n ≡ Some c → IsWithin (length script.names) c
+pub runs_more : (script : Contents) (n : ℕ) (devices new : List Kept) (reports : List Report) (log more_log : List Held) (c : Command) (report : Report) → RunsTo script n devices reports log → slice_get script.commands n ≡ Some c → IsWithin (length script.names) c
     → ((models : List ModelDevice) → AllZip Shows devices models → AllZip Shows new (devices_after models c))
     → ((models : List ModelDevice) → AllZip Shows devices models → Tells (answer_of report) (effect_on models c).report)
-    → RunsTo script (n + 1) new (reports ++ report ∷ [])
-runs_more script n devices new reports c report so_far here declared shows tells =
+    → ((models : List ModelDevice) → AllZip Shows devices models → entries_of more_log ≡ entries_of log ++ (effect_on models c).entries)
+    → RunsTo script (n + 1) new (reports ++ report ∷ []) more_log
+runs_more script n devices new reports log more_log c report so_far here declared shows tells logs =
     let k = (devices_of c).0 in
     let known : k < length script.names = declared.0 in
     let fleet = fleet_after script n in
@@ -175,11 +179,12 @@ runs_more script n devices new reports c report so_far here declared shows tells
       counted = subst (λ (f : Fleet). AllByRecursion (HasMadeAtMost (n + 1)) f.devices) (sym more)
           (after_all (HasMadeAtMost (n + 1)) c models (all_are (HasMadeAtMost n) (HasMadeAtMost (n + 1)) models (λ m most. omega arith) so_far.counted)
           (effect_counts c (device_at models k) second n most_first) (one_more n done.second (effect_counts_second c (device_at models k) second n most_second)));
+      logged = logs models so_far.shown ∙ ap (λ l. l ++ done.entries) so_far.logged ∙ sym (ap (λ (f : Fleet). f.log) more);
     }
 
 -- no command
-pub runs_none : (script : Contents) (devices : List Kept) (reports : List Report) → AllZip Shows devices (opening_from 0 script.filters) → length devices ≡ length script.names → reports ≡ [] → RunsTo script 0 devices reports
-runs_none script devices reports all long none =
+pub runs_none : (script : Contents) (devices : List Kept) (reports : List Report) (log : List Held) → AllZip Shows devices (opening_from 0 script.filters) → length devices ≡ length script.names → reports ≡ [] → log ≡ [] → RunsTo script 0 devices reports log
+runs_none script devices reports log all long none none_logged =
     let whole : length script.commands - 0 ≡ length script.commands = omega arith in
     record {
       long = long;
@@ -191,6 +196,7 @@ runs_none script devices reports all long none =
       known = opening_known script (let same = opening_long script.filters 0 devices all in omega (arith, long));
       about = subst (λ l. AllByRecursion (IsAbout script) (map answer_of l)) (sym none) tt;
       counted = opening_counts script.filters 0;
+      logged = ap entries_of none_logged;
     }
 
 -- the reports of a run that gave them all
@@ -199,11 +205,11 @@ told_again [] = refl
 told_again (r ∷ rs) = ap (λ l. r ∷ l) (told_again rs)
 
 -- all commands
-runs_whole : (script : Contents) (n : ℕ) (devices : List Kept) (reports : List Report) → (to : RunsTo script n devices reports) → n ≡ length script.commands → map Some to.models ≡ (run script).reports
-runs_whole script n devices reports to all =
+runs_whole : (script : Contents) (n : ℕ) (devices : List Kept) (reports : List Report) (log : List Held) → (to : RunsTo script n devices reports log) → n ≡ length script.commands → map Some to.models ≡ (run script).reports
+runs_whole script n devices reports log to all =
     let none : length script.commands - n ≡ 0 = omega arith in
     sym (ap (λ k. (fleet_after script k).reports) (sym all) ∙ to.told ∙ ap (λ k. map Some to.models ++ replicate k None) none ∙ append-nil (map Some to.models))
 
-pub runs_all : (script : Contents) (n : ℕ) (devices : List Kept) (reports : List Report) → RunsTo script n devices reports → n ≡ length script.commands → AllZip Tells (map answer_of reports) (reports_of (run script))
-runs_all script n devices reports to all =
-    subst (AllZip Tells (map answer_of reports)) (sym (told_again to.models) ∙ ap (flat_map option_to_list) (runs_whole script n devices reports to all)) to.right
+pub runs_all : (script : Contents) (n : ℕ) (devices : List Kept) (reports : List Report) (log : List Held) → RunsTo script n devices reports log → n ≡ length script.commands → AllZip Tells (map answer_of reports) (reports_of (run script))
+runs_all script n devices reports log to all =
+    subst (AllZip Tells (map answer_of reports)) (sym (told_again to.models) ∙ ap (flat_map option_to_list) (runs_whole script n devices reports log to all)) to.right

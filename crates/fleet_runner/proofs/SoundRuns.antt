@@ -12,7 +12,7 @@ use Rattle.fleet_runner.proofs.Members.{in_nothing, all_from}
 use Rattle.fleet_runner.proofs.EachCommand.{IsKept, after_each}
 use Rattle.fleet_runner.proofs.ReadyRuns.{opened_at, opening_traced}
 use Rattle.fleet_runner.proofs.SoundFacts.{IsSoundDevice, IsSoundFleet}
-use Rattle.fleet_runner.proofs.SoundTests.{each_is_sound, fleet_is_kept}
+use Rattle.fleet_runner.proofs.SoundTests.{each_is_sound, fleet_is_kept, held_is_logged}
 use Rattle.fleet_runner.proofs.SoundFleets.{making_sound, narrowing_sound, pulling_sound}
 
 nothing_sound : (n : ℕ) (tree : Tree) → IsSoundDevice [] (opening (author n) tree)
@@ -52,4 +52,5 @@ stays_sound_and_kept script n is =
     record {
       sound = all_from (is_sound fleet.log) fleet.devices (each_is_sound fleet.log fleet.devices facts);
       kept = fleet_is_kept fleet.log fleet.devices facts;
+      logged = held_is_logged fleet.log fleet.devices facts;
     }

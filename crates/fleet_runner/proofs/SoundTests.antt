@@ -65,3 +65,8 @@ module _ (log : List Entry) (devices : List ModelDevice) (H : IsSoundFleet log d
 
   pub fleet_is_kept : is_kept log devices ≡ true
   fleet_is_kept = all_from (is_held_by devices) (filter (λ (x : Entry). not (superseded_by log x)) log) current_held
+
+  pub held_is_logged : (d : ModelDevice) (e : Entry) → In d devices → In e (holds d) → In e log
+  held_is_logged d e i j =
+      let r = place_of devices i in
+      (H.traced.each r.0 r.1).logged e (subst (λ (x : ModelDevice). In e (holds x)) (sym (r.2 (opening (author r.0) All))) j)

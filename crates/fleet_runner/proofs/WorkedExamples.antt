@@ -133,4 +133,6 @@ as_told one read = record {
   unknown = record { answers = answers_to 0 never_made; right = (refl, tt); texts = refl };
   empty = record { answers = []; right = tt; texts = refl };
   silent = record { answers = []; right = tt; texts = refl };
+  empty_totals = refl;
+  silent_totals = refl;
 }

@@ -9,6 +9,9 @@ use Rattle.photo_version.specs.Version.{version}
 use Rattle.photo_script.specs.declared.command.Command.TheVariants as command
 use Rattle.photo_script.specs.Contents.{Contents, contents}
 use Rattle.photo_script.specs.Reading.{script_of}
+use Rattle.photo_script.specs.Runs.{run}
+use Rattle.photo_script.specs.Tallies.{totals_of}
+use Rattle.photo_script.specs.Examples.{totals}
 use Rattle.fleet_runner.specs.Outcomes.{IsOutput, WritesOutput}
 
 -- the text of a script
@@ -103,3 +106,5 @@ pub record AreAsTold : Type 0 where
   pub unknown : IsOutput never_made (codes "1 knows no\n")
   pub empty : IsOutput (contents [] [] []) []
   pub silent : IsOutput (contents (codes "a" ∷ []) (All ∷ []) []) []
+  pub empty_totals : totals_of (contents [] [] []) (run (contents [] [] [])) ≡ totals 0 0 0 0
+  pub silent_totals : totals_of (contents (codes "a" ∷ []) (All ∷ []) []) (run (contents (codes "a" ∷ []) (All ∷ []) [])) ≡ totals 0 0 0 0

@@ -1,23 +1,18 @@
 -- What holds of all outputs, and of all runs.
-use Rattle.std.specs.Prelude.{◌≡◌, ◌≤◌, ℕ, true, List}
-use Rattle.std.specs.List.{list_all, AllByRecursion}
+use Rattle.std.specs.Prelude.{◌≡◌, ◌≤◌, ℕ, List}
+use Rattle.std.specs.List.{AllByRecursion}
 use Rattle.photo_script.specs.Contents.{Contents, IsScript}
 use Rattle.photo_script.specs.Reports.{Answer}
-use Rattle.photo_script.specs.Runs.{Fleet, run_in_order, numbers_to}
+use Rattle.photo_script.specs.Runs.{run_in_order, numbers_to}
 use Rattle.photo_script.specs.Tallies.{moved_by, max_moved}
 use Rattle.fleet_runner.specs.Outcomes.{AreRight, IsOutput}
-use Rattle.fleet_runner.specs.Sound.{is_sound, is_kept}
+use Rattle.fleet_runner.specs.Sound.{IsSoundAndKept}
 
 -- a script's run has at most one output
 abbrev pub OutputsAreOne : Type 0
 OutputsAreOne = (script : Contents) (first second : List ℕ) → IsOutput script first → IsOutput script second → first ≡ second
 
--- each device stores of the log what it is to store, and nothing else; and no current version is lost
-pub record IsSoundAndKept (fleet : Fleet) : Type 0 where
-  pub sound : list_all (is_sound fleet.log) fleet.devices ≡ true
-  pub kept : is_kept fleet.log fleet.devices ≡ true
-
--- so it is before the first command of a script, and after each
+-- before the first command of a script, and after each, the devices are sound and lose nothing that is current
 abbrev pub StaysSoundAndKept : Type 0
 StaysSoundAndKept = (script : Contents) (n : ℕ) → IsScript script → IsSoundAndKept (run_in_order script (numbers_to n))
 

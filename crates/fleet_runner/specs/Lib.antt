@@ -7,3 +7,4 @@ pub mod Ready
 pub mod Sound
 pub mod Between
 pub mod SoundExamples
+pub mod Issued

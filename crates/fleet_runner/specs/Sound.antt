@@ -1,9 +1,11 @@
 -- What is promised of devices for a log of all versions made: each stores what it is to store and nothing else, and
 -- none that is current is lost.
-use Rattle.std.specs.Prelude.{Bool, not, ◌&&◌, List, filter}
+use Rattle.std.specs.Prelude.{◌≡◌, Bool, true, not, ◌&&◌, List, filter}
 use Rattle.std.specs.List.{list_any, list_all}
 use Rattle.photo_device.specs.Entry.{Entry, superseded_by, is_among}
 use Rattle.photo_device.specs.Device.{ModelDevice, holds, knows_entry, selects}
+use Rattle.photo_script.specs.Runs.{Fleet}
+use Rattle.fleet_runner.specs.Members.{In}
 
 -- the device knows nothing of the log that supersedes the entry
 abbrev pub is_newest : List Entry → ModelDevice → Entry → Bool
@@ -29,3 +31,10 @@ is_held_by devices e = list_any (λ d. is_among (holds d) e.version) devices
 
 abbrev pub is_kept : List Entry → List ModelDevice → Bool
 is_kept log devices = list_all (is_held_by devices) (current log)
+
+-- each device stores of the log what it is to store, and nothing else; no current version is lost; and what a device
+-- holds is the log's
+pub record IsSoundAndKept (fleet : Fleet) : Type 0 where
+  pub sound : list_all (is_sound fleet.log) fleet.devices ≡ true
+  pub kept : is_kept fleet.log fleet.devices ≡ true
+  pub logged : (d : ModelDevice) (e : Entry) → In d fleet.devices → In e (holds d) → In e fleet.log

@@ -4,6 +4,8 @@
 mod command;
 mod fault;
 mod fleet;
+mod issue;
+mod issue_log;
 pub mod laws;
 mod outcome;
 mod plain;
@@ -14,6 +16,8 @@ mod stream;
 pub use command::{run_command, run_pull};
 pub use fault::RunError;
 pub use fleet::run_on;
+pub use issue::run_and_log;
+pub use issue_log::IssueLog;
 pub use outcome::Outcome;
 pub use plain::run_plain;
 pub use reports::write_reports;

@@ -6,11 +6,10 @@ ghost use Rattle.photo_script.specs.Runs.{opening_from};
 ghost use Rattle.fleet_runner.specs.Outcomes.{IsOutcome};
 ghost use Rattle.fleet_runner.specs.declared.fault.RunError.TheVariants.{NoMemory};
 
-use crate::RunError;
-use crate::fleet::run_on;
-use crate::outcome::Outcome;
+use crate::issue::run_and_log;
+use crate::{IssueLog, Outcome, RunError};
 use photo_device::Device;
-use photo_script::Script;
+use photo_script::{Script, totals_of};
 use photo_version::Author;
 use std::alloc::{AllocError, Global};
 
@@ -30,12 +29,19 @@ fn run(alloc: Global, script: &Script) -> Result<Outcome, AllocError>
 {
     let mut devices = opening_devices(alloc, script)?;
     let mut reports = Vec::new(alloc);
+    let mut log = IssueLog::new(alloc);
     for place in 0..script.commands() {
         let command = script.command(place as u32 + 1);
-        let report = run_on(alloc, command, devices.as_mut_slice())?;
+        let report = run_and_log(alloc, command, devices.as_mut_slice(), &mut log)?;
         reports.push(report)?;
     }
-    Ok(Outcome { devices, reports })
+    let totals = totals_of(script, reports.as_slice());
+    Ok(Outcome {
+        devices,
+        reports,
+        totals,
+        log,
+    })
 }
 
 // The devices of a script, none of which has made or holds anything.

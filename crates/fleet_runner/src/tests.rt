@@ -5,3 +5,4 @@ mod memory;
 mod pulling;
 mod refusals;
 mod streams;
+mod totals;

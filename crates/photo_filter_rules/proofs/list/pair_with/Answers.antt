@@ -7,7 +7,7 @@ use Rattle.photo_filter_rules.proofs.list.pair_with.Goals as goal
 pub loop-other-preserved : goal.loop-other-preserved
 loop-other-preserved c = (
   pair_more (both_of c.args.choice.now) _ c.loop-other.list.items c.push_possible.new.list.items c.args.others.now c.loop-other.other-index c.other-item.result c.loop-other.invariant.0 c.loop-other-test.true c.other-item.is
-  (c.in_ok-push_possible.ensures.list ∙ ap (λ a. c.loop-other.list.items ++ possible (a ∷ [])) c.in_ok-meet.ensures),
+      (c.in_ok-push_possible.ensures.list ∙ ap (λ a. c.loop-other.list.items ++ possible (a ∷ [])) c.in_ok-meet.ensures),
   c.in_ok-push_possible.ensures.short,
 )
 

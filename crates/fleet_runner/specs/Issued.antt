@@ -1,0 +1,30 @@
+-- Which command makes a version, and which report tells of one.
+use Rattle.std.specs.Prelude.{ℕ, Option, Some, None}
+use Rattle.photo_version.specs.Version.{Version}
+use Rattle.photo_script.specs.declared.command.Command.{Command}
+use Rattle.photo_script.specs.declared.command.Command.TheVariants as command
+use Rattle.photo_script.specs.Reports.{Answer, Made, NotHeld, NotNarrower, Narrowed, Pulled, Listed, Conflicts, KnowledgeOf, Knows}
+
+-- the picture of which a command makes a version
+abbrev pub picture_of : Command → Option ℕ
+picture_of (command.New device picture content) = Some picture
+picture_of (command.Edit device picture content) = Some picture
+picture_of (command.Remove device picture) = Some picture
+picture_of (command.Pull target source) = None
+picture_of (command.Narrow device filter) = None
+picture_of (command.List device) = None
+picture_of (command.Conflicts device) = None
+picture_of (command.Knowledge device) = None
+picture_of (command.Knows device picture v) = None
+
+-- the version that an answer tells to have been made
+abbrev pub version_told : Answer → Option Version
+version_told (Made v place) = Some v
+version_told NotHeld = None
+version_told NotNarrower = None
+version_told (Narrowed count) = None
+version_told (Pulled counts) = None
+version_told (Listed n store out) = None
+version_told (Conflicts n pictures) = None
+version_told (KnowledgeOf n fragments) = None
+version_told (Knows known) = None

@@ -1,0 +1,71 @@
+use crate::{IssueLog, Outcome, run_plain};
+use photo_script::{Script, Totals, read_script};
+use std::alloc::Global;
+
+// Whether a log has just those versions: of that picture, by the device at that place, with that number.
+fn logs(log: &IssueLog, wanted: &[(u32, u16, u32)]) -> bool {
+    if log.len() != wanted.len() || log.is_empty() != wanted.is_empty() {
+        return false;
+    }
+    for i in 0..log.len() {
+        let held = log.get(i);
+        let (picture, device, n) = wanted[i];
+        if held.picture.value() != picture
+            || held.version.author().value() != device
+            || held.version.n() != n
+        {
+            return false;
+        }
+    }
+    true
+}
+
+fn is_outcome(outcome: &Outcome, totals: [u64; 4], log: &[(u32, u16, u32)]) -> bool {
+    let [changes, pulls, reports, moved] = totals;
+    let wanted = Totals {
+        changes,
+        pulls,
+        reports,
+        moved,
+    };
+    outcome.totals == wanted && logs(&outcome.log, log)
+}
+
+fn ends_in(alloc: Global, script: &Script, totals: [u64; 4], log: &[(u32, u16, u32)]) -> bool {
+    match run_plain(alloc, script) {
+        Ok(outcome) => is_outcome(&outcome, totals, log),
+        Err(_) => false,
+    }
+}
+
+// Whether the run of a script ends with those totals (changes, pulls, reports, moved) and that log.
+fn runs_to(alloc: Global, text: &str, totals: [u64; 4], log: &[(u32, u16, u32)]) -> bool {
+    match read_script(alloc, text.as_bytes()) {
+        Ok(script) => ends_in(alloc, &script, totals, log),
+        Err(_) => false,
+    }
+}
+
+const OUTCOMES: &[(&str, [u64; 4], &[(u32, u16, u32)])] = &[
+    ("", [0, 0, 0, 0], &[]),
+    ("device a all", [0, 0, 0, 0], &[]),
+    // a removal reaches the devices that hold the picture, by the server and without it
+    (
+        "device cam all\ndevice srv all\ndevice tab all\ndevice frame rating >= 4\nnew cam 7 5 2024-01-01 -\npull srv cam\npull tab cam\npull frame srv\nremove cam 7\npull srv cam\npull frame srv\npull tab cam\nlist frame\nlist tab\n",
+        [2, 6, 2, 5],
+        &[(7, 0, 1), (7, 0, 2)],
+    ),
+    // a refused change counts, and makes no version
+    (
+        "device a all\ndevice b all\nnew b 8 1 2024-01-01 -\nedit a 8 2 2024-01-01 -\nnew a 7 5 2024-01-01 -\npull a b\nedit a 8 2 2024-01-01 -\nnarrow a rating >= 2\n",
+        [5, 1, 0, 1],
+        &[(8, 1, 1), (7, 0, 1), (8, 0, 2)],
+    ),
+];
+
+#[test]
+fn totals_and_logs(rt: HostRuntime) {
+    for (text, totals, log) in OUTCOMES {
+        assert!(rt; runs_to(rt.alloc(), text, *totals, log), "{text}");
+    }
+}
