@@ -1,4 +1,4 @@
--- Which command makes a version, and which report tells of one.
+-- Machinery of the proofs: which command makes a version, and which report tells of one.
 use Rattle.std.specs.Prelude.{ℕ, Option, Some, None}
 use Rattle.photo_version.specs.Version.{Version}
 use Rattle.photo_script.specs.declared.command.Command.{Command}
