@@ -1,10 +1,39 @@
 -- Rows that are found by their hashes.
-use Rattle.std.proofs.Common.{◌≡◌, ℕ, suc, ◌<◌, ◌≤◌, ◌-◌, List, [], ◌∷◌, ◌++◌, length, get_or, set, sym, subst, ap, ◌∙◌, inl, inr, arith, length-append, length-set}
+use Rattle.std.proofs.Common.{◌≡◌, ℕ, suc, ◌<◌, ◌≤◌, ◌+◌, ◌-◌, ◌*◌, ◌/◌, ◌%◌, ◌^◌, List, [], ◌∷◌, ◌++◌, length, get_or, set, sym, subst, ap, ◌∙◌, inl, inr, arith, length-append, length-set}
 use Rattle.std.proofs.Math.ListN.{get_or-append}
 use Rattle.std.proofs.Math.Seq.{get_or-append_seam}
 use Rattle.std.proofs.lemmas.List.{get_or-set_same, get_or-set_other}
 use Rattle.std.proofs.lemmas.Bool.{cases_lt, cases_eq}
-use Rattle.item_knowledge.specs.Places.{bucket, IsLast, is_new, IsPlaced}
+use Rattle.std.proofs.lemmas.Nat.{div_below}
+use Rattle.std.proofs.Math.Nat.{mod-lt, mul-le-mul_right}
+use Rattle.item_knowledge.specs.Places.{mixed, hashed, share, bucket, IsLast, is_new, IsPlaced}
+
+-- The bucket of a row
+
+half_below : (hash : ℕ) → hash < 2 ^ 64 → hash / 4294967296 < 4294967296
+half_below hash h = div_below hash 4294967296 4294967296 (omega arith) (omega arith)
+
+product_most : (count hash : ℕ) → hash < 2 ^ 64 → hash / 4294967296 * count ≤ 4294967295 * count
+product_most count hash h =
+    let half = half_below hash h in
+    mul-le-mul_right count (omega arith)
+
+pub share_below : (count hash : ℕ) → 0 < count → hash < 2 ^ 64 → share count hash < count
+unfolding share
+share_below count hash some h =
+    let most = product_most count hash h in
+    div_below (hash / 4294967296 * count) 4294967296 count (omega arith) (omega arith)
+
+mixed_below : (n word : ℕ) → mixed n word < 2 ^ 64
+unfolding mixed
+mixed_below n word = mod-lt ((n + word) % 2 ^ 64 * 11400714819323198485) (omega arith)
+
+hashed_below : (hash : ℕ) (row : List ℕ) → hash < 2 ^ 64 → hashed hash row < 2 ^ 64
+hashed_below hash [] h = h
+hashed_below hash (w ∷ ws) h = hashed_below (mixed hash w) ws (mixed_below hash w)
+
+pub bucket_below : (heads before : List ℕ) (rows : List (List ℕ)) (row : List ℕ) → IsPlaced heads before rows → bucket (length heads) row < length heads
+bucket_below heads before rows row h = share_below (length heads) (hashed 0 row) h.some (hashed_below 0 row (omega arith))
 
 -- A search along the rows of a bucket, the latest first
 
@@ -13,6 +42,16 @@ pub record Along (heads : List ℕ) (rows : List (List ℕ)) (row : List ℕ) (p
   pub within : place ≤ length rows
   pub there : 0 < place → bucket (length heads) (get_or rows (place - 1) []) ≡ bucket (length heads) row
   pub others : (k : ℕ) → place ≤ k → k < length rows → get_or rows k [] ≡ row → ⊥
+
+-- it begins at the bucket's latest row
+pub along_first : (heads before : List ℕ) (rows : List (List ℕ)) (row : List ℕ) (b place : ℕ) → IsPlaced heads before rows → b ≡ bucket (length heads) row → b < length heads → place ≡ get_or heads b 0 → Along heads rows row place
+along_first heads before rows row b place h is l at =
+    let last = h.latest b l in
+    subst (Along heads rows row) (sym at) (record {
+      within = last.within;
+      there = λ z. last.there z ∙ is;
+      others = λ k f t e. last.none_later k f t (ap (bucket (length heads)) e ∙ sym is);
+    })
 
 -- One row more
 
@@ -103,8 +142,10 @@ with_one heads before rows row b h new is l =
     let also = length-append before (get_or heads b 0 ∷ []) in
     let many = h.counted in
     let some = h.some in
+    let few = h.few in
     record {
       some = omega arith;
+      few = omega arith;
       counted = omega arith;
       latest = subst (λ m. (c : ℕ) → c < m → IsLast m c (with_row rows row) (length (with_row rows row)) (get_or (set heads b (suc (length rows))) c 0)) same
           (subst (λ m. (c : ℕ) → c < n → IsLast n c (with_row rows row) m (get_or (set heads b (suc (length rows))) c 0)) more (heads_more heads before rows row b h is l));

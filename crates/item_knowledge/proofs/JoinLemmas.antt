@@ -9,7 +9,7 @@ use Rattle.photo_version.specs.Version.{Version}
 use Rattle.item_knowledge.specs.Tables.{in_order, put}
 use Rattle.item_knowledge.specs.Entries.{Entry, denotes, is_entry, most_number, is_vector, bound, leq, joined}
 use Rattle.item_knowledge.proofs.TableLemmas.{merge_at, merge_order}
-use Rattle.item_knowledge.proofs.EntryLemmas.{vector_parts, bound_below, denotes-bound}
+use Rattle.item_knowledge.proofs.EntryLemmas.{vector_parts, bound_below, denotes-bound, one_by_bounds}
 use Rattle.item_knowledge.proofs.FragmentLemmas.{leq_at}
 
 abbrev all_entries : List Entry → Bool
@@ -94,3 +94,15 @@ joined_leq s t x y hs ht hx hy l m = leq_from (joined s t) (joined x y) (joined_
 
 pub leq_self : (es : List Entry) → is_vector es ≡ true → leq es es ≡ true
 leq_self es h = leq_from es es h (λ a. omega arith)
+
+-- the join with what is within is the whole
+
+pub joined_left : (xs ys : List Entry) → is_vector xs ≡ true → is_vector ys ≡ true → leq ys xs ≡ true → joined xs ys ≡ xs
+joined_left xs ys h g l = one_by_bounds (joined xs ys) xs (joined_vector xs ys h g) h (λ a.
+    let le = leq_at ys xs a l in
+    joined_bound xs ys a h g ∙ (omega arith))
+
+pub joined_right : (xs ys : List Entry) → is_vector xs ≡ true → is_vector ys ≡ true → leq xs ys ≡ true → joined xs ys ≡ ys
+joined_right xs ys h g l = one_by_bounds (joined xs ys) ys (joined_vector xs ys h g) g (λ a.
+    let le = leq_at xs ys a l in
+    joined_bound xs ys a h g ∙ (omega arith))

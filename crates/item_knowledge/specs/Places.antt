@@ -11,9 +11,17 @@ abbrev pub hashed : ℕ → List ℕ → ℕ
 hashed hash [] = hash
 hashed hash (w ∷ ws) = hashed (mixed hash w) ws
 
--- which of the buckets a row is in: any function of its words would do
+-- how many buckets there are at most
+abbrev pub most_buckets : ℕ
+most_buckets = 4294967295
+
+-- the share of so many buckets that is as large as a hash is of all hashes
+unfoldable pub share : ℕ → ℕ → ℕ
+share count hash = hash / 4294967296 * count / 4294967296
+
+-- which of the buckets a row is in: any function of its words would do that stays below their number
 abbrev pub bucket : ℕ → List ℕ → ℕ
-bucket count row = (hashed 0 row / 4294967296) % count
+bucket count row = share count (hashed 0 row)
 
 -- of the first rows the last one in a bucket is the one before this place; where the place is 0 there is none
 pub record IsLast (count b : ℕ) (rows : List (List ℕ)) (first place : ℕ) : Type 0 where
@@ -27,6 +35,7 @@ is_new rows row = (k : ℕ) → k < length rows → get_or rows k [] ≡ row →
 -- each bucket leads to its last row, and each row to the one before it in its bucket; no row is there twice
 pub record IsPlaced (heads before : List ℕ) (rows : List (List ℕ)) : Type 0 where
   pub some : 0 < length heads
+  pub few : length heads ≤ most_buckets
   pub counted : length before ≡ length rows
   pub latest : (b : ℕ) → b < length heads → IsLast (length heads) b rows (length rows) (get_or heads b 0)
   pub earlier : (k : ℕ) → k < length rows → IsLast (length heads) (bucket (length heads) (get_or rows k [])) rows k (get_or before k 0)

@@ -32,11 +32,12 @@ pub(crate) fn add(
     ensures below { IfOk result (λ k. k < length groups.new.items) }
     ensures place { IfOk result (λ k. spec.place (grouped groups.new.items places.new.rows) (pairs row.now) ≡ Some k) }
 {
-    if let Some(k) = places.find(row) {
+    let bucket = places.bucket(row);
+    if let Some(k) = places.find(bucket, row) {
         groups[k].push(picture)?;
         return Ok(k);
     }
     groups.push(Group::new(alloc, picture))?;
-    let k = places.push(row)?;
+    let k = places.push(bucket, row)?;
     Ok(k)
 }

@@ -1,4 +1,6 @@
-ghost use Rattle.std.specs.Prelude.{◌≡◌, true};
+ghost use Rattle.std.specs.Prelude.{◌≡◌, ℕ, ◌<◌, true, length};
+ghost use Rattle.item_knowledge.specs.Tables.{in_order};
+ghost use Rattle.item_knowledge.specs.Fragments.{entries_at};
 ghost use Rattle.item_knowledge.specs.Raising.{are_level, all_raised, are_risen};
 ghost use Rattle.item_knowledge.specs.Rows.{AreRows, fragments_of, rows_of};
 
@@ -8,7 +10,8 @@ use crate::union::entries;
 
 /// Whether no fragment has a version of the author above the bound. Takes no memory.
 pub(crate) fn is_level(rows: &Rows, author: u64, bound: u64) -> bool
-    requires { AreRows rows.now }
+    requires rows { AreRows rows.now }
+    requires order { (k : ℕ) → k < length (fragments_of rows.now) → in_order (entries_at (fragments_of rows.now) k) ≡ true }
     ensures { result ≡ are_level (fragments_of rows.now) author bound }
 {
     for k in 0..rows.rows() / 2 {

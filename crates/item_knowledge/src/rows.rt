@@ -37,6 +37,17 @@ impl Rows {
         }
     }
 
+    /// No rows, and room for so many rows of two words each.
+    pub(crate) fn with_room(alloc: Global, count: usize) -> Result<Rows, AllocError>
+        ensures { IfOk result (λ rows. rows ≡ []) }
+    {
+        Ok(Rows {
+            alloc,
+            words: Vec::with_capacity(alloc, count.saturating_mul(2))?,
+            spans: Vec::with_capacity(alloc, count)?,
+        })
+    }
+
     /// One row more, at the end; gives its place. A refusal changes nothing.
     pub(crate) fn place(&mut self, words: &[u64]) -> Result<usize, AllocError>
         ensures place { IfOk result (λ place. place ≡ length self.old) }

@@ -4,7 +4,7 @@ ghost use Rattle.item_knowledge.specs.Entries.{bound, leq, is_vector};
 ghost use Rattle.item_knowledge.specs.Rows.{pairs, IsRow};
 
 /// How many places one goes forward from a hint before the whole index is searched.
-const STEPS: usize = 8;
+const STEPS: usize = 32;
 
 /// The number of the fragment to which an index leads from a picture, 0 for the star, and the place in the index at which
 /// the picture stands or would stand.
@@ -67,20 +67,24 @@ pub(crate) fn entry_at(row: &[u64], i: usize) -> (u64, u64)
     (row[2 * i], row[2 * i + 1])
 }
 
-/// The bound of an author in a row of entries, 0 where it has none.
+/// The bound of an author in a row of entries in order, 0 where it has none.
 #[tactic(auto, using(crate::proofs::RowLemmas::row_step))]
 pub(crate) fn bound_at(row: &[u64], author: u64) -> u64
-    requires { IsRow row.now }
+    requires row { IsRow row.now }
+    requires order { in_order (pairs row.now) ≡ true }
     ensures { result ≡ bound (pairs row.now) author }
 {
     let mut i = 0;
-    while i < row.len() {
-        if row[i] == author {
-            return row[i + 1];
-        }
+    while i < row.len() && row[i] < author {
         i += 2;
     }
-    0
+    if i >= row.len() {
+        return 0;
+    }
+    if row[i] != author {
+        return 0;
+    }
+    row[i + 1]
 }
 
 /// Whether each bound of the one row is at most the other's.

@@ -66,7 +66,8 @@ pub(crate) fn told(
     ensures positive { IfOk result (λ all. keys_pass (λ p. nat_lt 0 p) table.now ≡ true) }
     ensures vectors { IfOk result (λ all. list_all (λ t. is_vector (spec.entries_of t.1)) table.now ≡ true) }
 {
-    let mut rows = Rows::new(alloc);
+    let count = table.len().saturating_mul(2).saturating_add(2);
+    let mut rows = Rows::with_room(alloc, count)?;
     let mut index = Vec::with_capacity(alloc, table.len())?;
     let mut row = Vec::new(alloc);
     rows.place(&[])?;

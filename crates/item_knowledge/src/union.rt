@@ -25,26 +25,36 @@ pub(crate) fn entries(rows: &Rows, number: usize) -> &[u64]
     rows.row(2 * number + 1)
 }
 
-/// Writes what two fragments of the two sides give together, as a row of words, in place of what was there.
-fn pair(
-    left: &Rows,
+/// What two fragments of the two sides give together, as a row of words: the row of the one side that holds the other's,
+/// or else their join, which is written into `room`.
+fn pair<'a>(
+    left: &'a Rows,
     left_index: &[(u64, usize)],
-    right: &Rows,
+    right: &'a Rows,
     right_index: &[(u64, usize)],
     a: usize,
     b: usize,
-    row: &mut Vec<u64>,
-) -> Result<(), AllocError>
+    room: &'a mut Vec<u64>,
+) -> Result<&'a [u64], AllocError>
     requires left_rows { AreRows left.now }
     requires right_rows { AreRows right.now }
     requires left { IsSide (fragments_of left.now) left_index.now }
     requires right { IsSide (fragments_of right.now) right_index.now }
     requires a { a < length (fragments_of left.now) }
     requires b { b < length (fragments_of right.now) }
-    ensures row { OnOk result (IsRow row.new.items) }
-    ensures entries { OnOk result (pairs row.new.items ≡ pair_vector (fragments_of left.now) (fragments_of right.now) (a, b)) }
+    ensures row { IfOk result (λ row. IsRow row.now) }
+    ensures entries { IfOk result (λ row. pairs row.now ≡ pair_vector (fragments_of left.now) (fragments_of right.now) (a, b)) }
 {
-    joined(entries(left, a), entries(right, b), row)
+    let one = entries(left, a);
+    let other = entries(right, b);
+    if is_leq(other, one) {
+        return Ok(one);
+    }
+    if is_leq(one, other) {
+        return Ok(other);
+    }
+    joined(one, other, room)?;
+    Ok(room)
 }
 
 /// The rows of a star and of groups, in place of those that were there.
@@ -83,17 +93,17 @@ fn groups(
     ensures index { IfOk result (λ all. all.2.items ≡ index_of (fragments_of left.now) (fragments_of right.now) left_index.now right_index.now) }
 {
     let table = paired_numbers(alloc, left_index, right_index)?;
-    let mut groups = Vec::new(alloc);
+    let mut groups = Vec::with_capacity(alloc, table.len())?;
     let mut places = Places::new(alloc, table.len())?;
     let mut index = Vec::with_capacity(alloc, table.len())?;
-    let mut row = Vec::new(alloc);
+    let mut room = Vec::new(alloc);
     for i in 0..table.len() {
         let (picture, (a, b)) = table[i];
-        pair(left, left_index, right, right_index, a, b, &mut row)?;
-        if same_row(star, &row) {
+        let row = pair(left, left_index, right, right_index, a, b, &mut room)?;
+        if same_row(star, row) {
             continue;
         }
-        let k = add(alloc, &mut groups, &mut places, picture, &row)?;
+        let k = add(alloc, &mut groups, &mut places, picture, row)?;
         index.push((picture, k + 1))?;
     }
     Ok((groups, places, index))
@@ -115,10 +125,10 @@ pub(crate) fn union(
     ensures rows { OnOk result (AreRows out.new) }
     ensures union { IfOk result (λ index. IsUnion (fragments_of left.now) left_index.now (fragments_of right.now) right_index.now (fragments_of out.new) index.items) }
 {
-    let mut star = Vec::new(alloc);
-    pair(left, left_index, right, right_index, 0, 0, &mut star)?;
-    let (listed, places, index) = groups(alloc, left, left_index, right, right_index, &star)?;
-    write(&star, &listed, &places, out)?;
+    let mut room = Vec::new(alloc);
+    let star = pair(left, left_index, right, right_index, 0, 0, &mut room)?;
+    let (listed, places, index) = groups(alloc, left, left_index, right, right_index, star)?;
+    write(star, &listed, &places, out)?;
     Ok(index)
 }
 

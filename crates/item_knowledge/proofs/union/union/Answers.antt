@@ -7,15 +7,15 @@ use Rattle.item_knowledge.proofs.union.union.Goals as goal
 
 pub returns-clause-rows : goal.returns-clause-rows
 returns-clause-rows c =
-    let written : c.write.new.out ≡ rows_of (star_first (pairs c.pair.new.row.items) (grouped c.in_ok-listed.listed.items c.in_ok-listed.places.rows)) = search rules in
-    subst AreRows (sym written) (rows_rows (star_first (pairs c.pair.new.row.items) (grouped c.in_ok-listed.listed.items c.in_ok-listed.places.rows)))
+    let written : c.write.new.out ≡ rows_of (star_first (pairs c.in_ok-star.star.now) (grouped c.in_ok-listed.listed.items c.in_ok-listed.places.rows)) = search rules in
+    subst AreRows (sym written) (rows_rows (star_first (pairs c.in_ok-star.star.now) (grouped c.in_ok-listed.listed.items c.in_ok-listed.places.rows)))
 
 pub returns-clause-union : goal.returns-clause-union
 returns-clause-union c =
-    let written : c.write.new.out ≡ rows_of (star_first (pairs c.pair.new.row.items) (grouped c.in_ok-listed.listed.items c.in_ok-listed.places.rows)) = search rules in
-    let star : pairs c.pair.new.row.items ≡ pair_vector (fragments_of c.args.left.now) (fragments_of c.args.right.now) (0, 0) = search rules in
+    let written : c.write.new.out ≡ rows_of (star_first (pairs c.in_ok-star.star.now) (grouped c.in_ok-listed.listed.items c.in_ok-listed.places.rows)) = search rules in
+    let star : pairs c.in_ok-star.star.now ≡ pair_vector (fragments_of c.args.left.now) (fragments_of c.args.right.now) (0, 0) = search rules in
     let groups : grouped c.in_ok-listed.listed.items c.in_ok-listed.places.rows ≡ groups_of (fragments_of c.args.left.now) (fragments_of c.args.right.now) c.args.left_index.now c.args.right_index.now = search rules in
     let index : c.in_ok-listed.index.items ≡ index_of (fragments_of c.args.left.now) (fragments_of c.args.right.now) c.args.left_index.now c.args.right_index.now = search rules in
     union_made (fragments_of c.args.left.now) (fragments_of c.args.right.now) (fragments_of c.write.new.out) c.args.left_index.now c.args.right_index.now c.in_ok-listed.index.items
     c.requires.left c.requires.right
-    (ap fragments_of written ∙ (fragments_rows (star_first (pairs c.pair.new.row.items) (grouped c.in_ok-listed.listed.items c.in_ok-listed.places.rows)) ∙ (λ i. star_first (star i) (groups i)))) index
+    (ap fragments_of written ∙ (fragments_rows (star_first (pairs c.in_ok-star.star.now) (grouped c.in_ok-listed.listed.items c.in_ok-listed.places.rows)) ∙ (λ i. star_first (star i) (groups i)))) index

@@ -1,13 +1,20 @@
-use Rattle.std.proofs.Common.{rules, ◌≡◌, ◌<◌, leb, sym, ap, ◌∙◌, arith}
+use Rattle.std.proofs.Common.{rules, ◌≡◌, ◌<◌, leb, true, sym, subst, ap, ◌∙◌, arith}
 use Rattle.photo_version.specs.Author.{author_word}
+use Rattle.item_knowledge.specs.Tables.{in_order}
 use Rattle.item_knowledge.specs.Entries.{bound}
 use Rattle.item_knowledge.specs.Fragments.{knows, entries_at}
 use Rattle.item_knowledge.specs.Rows.{fragments_of, pairs}
 use Rattle.item_knowledge.proofs.KeptLemmas.{kept_side, star_has}
+use Rattle.item_knowledge.proofs.UnionLemmas.{entries_order}
 use Rattle.item_knowledge.proofs.knowledge.Knowledge.has_of_every.Goals as goal
 
 pub entries-star-requires-clause-number : goal.entries-star-requires-clause-number
 entries-star-requires-clause-number c = (kept_side c.self.inside.live c.self.inside.index.items c.self.invariant).star
+
+pub bound_at-requires-clause-order : goal.bound_at-requires-clause-order
+bound_at-requires-clause-order c =
+    let side = kept_side c.self.inside.live c.self.inside.index.items c.self.invariant in
+    subst (λ es. in_order es ≡ true) (sym c.entries-star.ensures.entries) (entries_order (fragments_of c.self.inside.live) c.self.inside.index.items 0 side side.star)
 
 pub returns : goal.returns
 returns c is p z =

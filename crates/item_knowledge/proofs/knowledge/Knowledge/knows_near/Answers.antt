@@ -1,11 +1,12 @@
-use Rattle.std.proofs.Common.{rules, ◌≡◌, ◌<◌, leb, length, sym, subst, ap, ◌∙◌, arith}
+use Rattle.std.proofs.Common.{rules, ◌≡◌, ◌<◌, leb, true, length, sym, subst, ap, ◌∙◌, arith}
 use Rattle.photo_version.specs.Author.{author_word}
-use Rattle.item_knowledge.specs.Tables.{at}
+use Rattle.item_knowledge.specs.Tables.{in_order, at}
 use Rattle.item_knowledge.specs.Entries.{bound}
 use Rattle.item_knowledge.specs.Fragments.{knows}
 use Rattle.item_knowledge.specs.Rows.{fragments_of, pairs}
 use Rattle.item_knowledge.specs.Gathering.{vector_of}
 use Rattle.item_knowledge.proofs.KeptLemmas.{kept_side, number_below, kept_bound}
+use Rattle.item_knowledge.proofs.UnionLemmas.{entries_order}
 use Rattle.item_knowledge.proofs.knowledge.Knowledge.knows_near.Goals as goal
 
 pub entries-row-requires-clause-number : goal.entries-row-requires-clause-number
@@ -13,6 +14,13 @@ entries-row-requires-clause-number c =
     let is : c.number_near-number.result.0 ≡ at 0 c.self.inside.index.items c.args.picture = search rules in
     subst (λ n. n < length (fragments_of c.self.inside.live)) (sym is)
     (number_below (fragments_of c.self.inside.live) c.self.inside.index.items c.args.picture (kept_side c.self.inside.live c.self.inside.index.items c.self.invariant))
+
+pub bound_at-requires-clause-order : goal.bound_at-requires-clause-order
+bound_at-requires-clause-order c =
+    let is : c.number_near-number.result.0 ≡ at 0 c.self.inside.index.items c.args.picture = search rules in
+    let side = kept_side c.self.inside.live c.self.inside.index.items c.self.invariant in
+    let below : c.number_near-number.result.0 < length (fragments_of c.self.inside.live) = subst (λ n. n < length (fragments_of c.self.inside.live)) (sym is) (number_below (fragments_of c.self.inside.live) c.self.inside.index.items c.args.picture side) in
+    subst (λ es. in_order es ≡ true) (sym c.entries-row.ensures.entries) (entries_order (fragments_of c.self.inside.live) c.self.inside.index.items c.number_near-number.result.0 side below)
 
 pub returns : goal.returns
 returns c =

@@ -6,8 +6,12 @@ use Rattle.item_knowledge.specs.Fragments.{knows, entries_at}
 use Rattle.item_knowledge.specs.Rows.{fragments_of}
 use Rattle.item_knowledge.specs.Gathering.{vector_of}
 use Rattle.item_knowledge.specs.Kept.{star_bound}
-use Rattle.item_knowledge.proofs.KeptLemmas.{next_known, star_next}
+use Rattle.item_knowledge.proofs.KeptLemmas.{kept_side, next_known, star_next}
+use Rattle.item_knowledge.proofs.UnionLemmas.{entries_order}
 use Rattle.item_knowledge.proofs.knowledge.Knowledge.learn_own.Goals as goal
+
+pub is_level-requires-clause-order : goal.is_level-requires-clause-order
+is_level-requires-clause-order c k l = entries_order (fragments_of c.self.inside.live) c.self.inside.index.items k (kept_side c.self.inside.live c.self.inside.index.items c.self.invariant) l
 
 pub returns-clause-learned : goal.returns-clause-learned
 returns-clause-learned c p v z =

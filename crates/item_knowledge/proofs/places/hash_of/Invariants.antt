@@ -1,6 +1,6 @@
 use Rattle.std.proofs.Common.{◌≡◌, drop}
 use Rattle.item_knowledge.specs.Places.{hashed}
-use Rattle.item_knowledge.proofs.places.bucket_of.Given as goal
+use Rattle.item_knowledge.proofs.places.hash_of.Given as goal
 
 abbrev pub invariant-loop-word : goal.invariant-loop-word
 invariant-loop-word l = record { rest : hashed l.hash (drop l.word-index l.row) ≡ hashed 0 l.row }
