@@ -17,7 +17,7 @@ use photo_version::Version;
 use std::alloc::{AllocError, Global};
 
 /// Runs one command on the one or two of the devices that it works on, puts the version that it makes behind the log, and
-/// gives the report.
+/// gives the report. After want of memory the command may have run: there is no outcome then.
 pub fn run_and_log(
     alloc: Global,
     command: &Command,

@@ -16,7 +16,6 @@ mod stream;
 pub use command::{run_command, run_pull};
 pub use fault::RunError;
 pub use fleet::run_on;
-pub use issue::run_and_log;
 pub use issue_log::IssueLog;
 pub use outcome::Outcome;
 pub use plain::run_plain;

@@ -42,6 +42,7 @@ impl Held {
     {
         picture < self.picture || (picture == self.picture && version < self.version)
     }
+
     /// Whether it is that version of that picture.
     pub(crate) fn is_of(&self, picture: PicNo, version: Version) -> bool
         ensures { result ≡ is_of self.now picture version }
