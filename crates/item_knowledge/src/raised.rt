@@ -5,7 +5,7 @@ ghost use Rattle.item_knowledge.specs.Raising.{are_level, all_raised, are_risen}
 ghost use Rattle.item_knowledge.specs.Rows.{AreRows, fragments_of, rows_of};
 
 use crate::rows::Rows;
-use crate::search::{bound_at, place_of};
+use crate::search::{bound_at, place_near};
 use crate::union::entries;
 
 /// Whether no fragment has a version of the author above the bound. Takes no memory.
@@ -28,10 +28,12 @@ pub(crate) fn raise(rows: &mut Rows, author: u64, n: u64)
     requires risen { are_risen (author, n) (fragments_of rows.old) ≡ true }
     ensures { rows.new ≡ rows_of (all_raised (author, n) (fragments_of rows.old)) }
 {
+    let mut near = 0;
     for k in 0..rows.rows() / 2 {
         let row = entries(rows, k);
         let _count = row.len();
-        let place = place_of(row, author);
+        let place = place_near(row, near, author);
         rows.put(2 * k + 1, 2 * place + 1, n);
+        near = place;
     }
 }

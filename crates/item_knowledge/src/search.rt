@@ -155,3 +155,16 @@ pub(crate) fn place_of(row: &[u64], author: u64) -> usize
     }
     0
 }
+
+/// The same, looked for at a place first.
+pub(crate) fn place_near(row: &[u64], near: usize, author: u64) -> usize
+    requires row { IsRow row.now }
+    requires author { 0 < bound (pairs row.now) author }
+    ensures place { result < length (pairs row.now) }
+    ensures author { (get_or (pairs row.now) result (0, 0)).0 ≡ author }
+{
+    if near < row.len() / 2 && row[2 * near] == author {
+        return near;
+    }
+    place_of(row, author)
+}

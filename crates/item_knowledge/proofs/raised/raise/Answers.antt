@@ -14,8 +14,8 @@ entries-row-requires-clause-number c =
     let count = (so_far (c.args.author, c.args.n) c.loop-k.k (fragments_of c.args.rows.now) c.loop-k.rows c.loop-k.invariant.rows).count in
     omega arith
 
-pub place_of-place-requires-clause-author : goal.place_of-place-requires-clause-author
-place_of-place-requires-clause-author c =
+pub place_near-place-requires-clause-author : goal.place_near-place-requires-clause-author
+place_near-place-requires-clause-author c =
     let rows = rows_read c.args.rows.now c.requires.rows in
     let less : c.loop-k.k < length (fragments_of c.args.rows.now) = omega arith in
     let r = so_far (c.args.author, c.args.n) c.loop-k.k (fragments_of c.args.rows.now) c.loop-k.rows c.loop-k.invariant.rows in
@@ -42,8 +42,8 @@ put-requires-clause-inside c =
     let rows = rows_read c.args.rows.now c.requires.rows in
     let less : c.loop-k.k < length (fragments_of c.args.rows.now) = omega arith in
     let r = so_far (c.args.author, c.args.n) c.loop-k.k (fragments_of c.args.rows.now) c.loop-k.rows c.loop-k.invariant.rows in
-    word_inside (c.args.author, c.args.n) c.loop-k.k (fragments_of c.args.rows.now) c.loop-k.rows c.entries-row.result.now c.place_of-place.result r less
-    (record { entries = c.entries-row.ensures.entries ∙ r.entries; inside = c.place_of-place.ensures.place; author = c.place_of-place.ensures.author })
+    word_inside (c.args.author, c.args.n) c.loop-k.k (fragments_of c.args.rows.now) c.loop-k.rows c.entries-row.result.now c.place_near-place.result r less
+    (record { entries = c.entries-row.ensures.entries ∙ r.entries; inside = c.place_near-place.ensures.place; author = c.place_near-place.ensures.author })
 
 pub loop-k-preserved : goal.loop-k-preserved
 loop-k-preserved c =
@@ -51,8 +51,8 @@ loop-k-preserved c =
     let less : c.loop-k.k < length (fragments_of c.args.rows.now) = omega arith in
     let r = so_far (c.args.author, c.args.n) c.loop-k.k (fragments_of c.args.rows.now) c.loop-k.rows c.loop-k.invariant.rows in
     record {
-      rows = raised_next (c.args.author, c.args.n) c.loop-k.k (fragments_of c.args.rows.now) c.loop-k.rows c.put.new.self c.entries-row.result.now c.place_of-place.result c.requires.risen c.loop-k.invariant.rows less
-          (record { entries = c.entries-row.ensures.entries ∙ r.entries; inside = c.place_of-place.ensures.place; author = c.place_of-place.ensures.author })
+      rows = raised_next (c.args.author, c.args.n) c.loop-k.k (fragments_of c.args.rows.now) c.loop-k.rows c.put.new.self c.entries-row.result.now c.place_near-place.result c.requires.risen c.loop-k.invariant.rows less
+          (record { entries = c.entries-row.ensures.entries ∙ r.entries; inside = c.place_near-place.ensures.place; author = c.place_near-place.ensures.author })
           c.put.ensures;
     }
 
