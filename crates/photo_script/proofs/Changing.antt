@@ -1,17 +1,16 @@
--- What a reader has after a line that changes a picture, and what the line says then.
-use Rattle.std.proofs.Common.{◌≡◌, ◌∷◌, ◌++◌, ◌<◌, ℕ, List, [], Bool, true, false, ◌||◌, codes, Some, Ok, refl, sym, ap, ◌∙◌}
-use Rattle.std.specs.BTreeSet.{contains}
-use Rattle.std.specs.Ordering.{nat_cmp}
+-- What a line says that changes a picture.
+use Rattle.std.proofs.Common.{◌≡◌, ◌∷◌, ◌<◌, ℕ, List, [], Some, Ok, Err, refl}
 use Rattle.std.proofs.lemmas.Bool.{lt-leb}
-use Rattle.std.proofs.lemmas.List.{append-nil}
 use Rattle.photo_record.specs.declared.record.Record.{Record}
 use Rattle.photo_script.specs.Limits.{max_commands}
-use Rattle.photo_script.specs.Contents.{contents}
 use Rattle.photo_script.specs.Earlier.{Earlier}
-use Rattle.photo_script.specs.Steps.{Takes}
+use Rattle.photo_script.specs.Steps.{Refuses, first_said}
 use Rattle.photo_script.specs.Saying.{edit_line_said, remove_line_said, edition_said, removal_said, command_said, device_said, picture_said, record_said}
 use Rattle.photo_script.specs.declared.command.Command.TheVariants as command
-use Rattle.photo_script.specs.declared.reader.Reader.{Reader}
+use Rattle.photo_script.specs.declared.fault.LineFault.{LineFault}
+use Rattle.photo_script.specs.declared.refusal.Refusal.{Refusal}
+use Rattle.photo_script.specs.declared.refusal.Refusal.TheVariants.{Memory, Fault}
+use Rattle.photo_script.proofs.Commands.{first-refused}
 
 -- five fields are an edition
 pub edit_line-edition : (before : Earlier) (name picture rating date words : List ℕ)
@@ -31,30 +30,27 @@ pub remove_line-said : (before : Earlier) (name picture : List ℕ) (device numb
 unfolding remove_line_said command_said removal_said
 remove_line-said before name picture device number room known read = rw (lt-leb max_commands before.commands room, ← known, ← read)
 
-or_false : (b : Bool) → b ≡ (b || false)
-or_false true = refl
-or_false false = refl
+pub edition-first : (before : Earlier) (name picture rating date words : List ℕ) (f : LineFault) → Err f ≡ first_said before name
+    → command_said before (edition_said before name picture (record_said rating date words)) ≡ Err f
+unfolding edition_said
+edition-first before name picture rating date words f e = first-refused before name f _ e
 
--- an `edit` line puts a command behind the others
-pub takes_edit : (old new : Reader) (name picture rating date words : List ℕ) (device number : ℕ) (r : Record)
-    → new.script ≡ contents old.script.names old.script.filters (old.script.commands ++ command.Edit device number r ∷ []) → new.pictures ≡ old.pictures
-    → Takes old (codes "edit" ∷ name ∷ picture ∷ rating ∷ date ∷ words ∷ []) [] (Some (command.Edit device number r)) new
-takes_edit old new name picture rating date words device number r script pictures = record {
-  names = ap (λ s. s.names) script ∙ sym (append-nil old.script.names);
-  filters = ap (λ s. s.filters) script ∙ sym (append-nil old.script.filters);
-  commands = ap (λ s. s.commands) script;
-  makes = λ p. ap (λ s. contains nat_cmp s p) pictures ∙ or_false _;
-  counted = refl;
-}
+pub edition-picture : (before : Earlier) (name picture rating date words : List ℕ) (device : ℕ) (f : LineFault) → before.commands < max_commands → Ok device ≡ device_said before name → Err f ≡ picture_said picture
+    → command_said before (edition_said before name picture (record_said rating date words)) ≡ Err f
+unfolding command_said edition_said
+edition-picture before name picture rating date words device f room known e = rw (lt-leb max_commands before.commands room, ← known, ← e)
 
--- and so does a `remove` line
-pub takes_remove : (old new : Reader) (name picture : List ℕ) (device number : ℕ)
-    → new.script ≡ contents old.script.names old.script.filters (old.script.commands ++ command.Remove device number ∷ []) → new.pictures ≡ old.pictures
-    → Takes old (codes "remove" ∷ name ∷ picture ∷ []) [] (Some (command.Remove device number)) new
-takes_remove old new name picture device number script pictures = record {
-  names = ap (λ s. s.names) script ∙ sym (append-nil old.script.names);
-  filters = ap (λ s. s.filters) script ∙ sym (append-nil old.script.filters);
-  commands = ap (λ s. s.commands) script;
-  makes = λ p. ap (λ s. contains nat_cmp s p) pictures ∙ or_false _;
-  counted = refl;
-}
+pub edition-record : (before : Earlier) (name picture rating date words : List ℕ) (device number : ℕ) (e : Refusal) → before.commands < max_commands → Ok device ≡ device_said before name → Ok number ≡ picture_said picture
+    → Refuses e (record_said rating date words) → Refuses e (command_said before (edition_said before name picture (record_said rating date words)))
+unfolding command_said edition_said
+edition-record before name picture rating date words device number Memory room known read refused = tt
+edition-record before name picture rating date words device number (Fault f) room known read refused = rw (lt-leb max_commands before.commands room, ← known, ← read, refused)
+
+pub remove_line-first : (before : Earlier) (name picture : List ℕ) (f : LineFault) → Err f ≡ first_said before name → remove_line_said before (name ∷ picture ∷ []) ≡ Err f
+unfolding remove_line_said removal_said
+remove_line-first before name picture f e = first-refused before name f _ e
+
+pub remove_line-picture : (before : Earlier) (name picture : List ℕ) (device : ℕ) (f : LineFault) → before.commands < max_commands → Ok device ≡ device_said before name → Err f ≡ picture_said picture
+    → remove_line_said before (name ∷ picture ∷ []) ≡ Err f
+unfolding remove_line_said command_said removal_said
+remove_line-picture before name picture device f room known e = rw (lt-leb max_commands before.commands room, ← known, ← e)

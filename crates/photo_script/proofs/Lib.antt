@@ -1,6 +1,7 @@
 mod Arguments
 mod WorkedExamples
 mod Changing
+mod Commands
 mod Counted
 mod Cuts
 mod Everywhere

@@ -13,7 +13,7 @@ use Rattle.photo_script.specs.Lines.{fields_of, third_field_on}
 use Rattle.photo_script.specs.Earlier.{earlier, names_of, filters_of, pictures_of, commands_of, declared_by, filter_declared_by, made_by, is_command}
 use Rattle.photo_script.specs.Reading.{sayings, commands_said}
 use Rattle.photo_script.specs.Saying.{said}
-use Rattle.photo_script.specs.Steps.{Takes, seen}
+use Rattle.photo_script.specs.Steps.{IsFirst, Takes, seen}
 use Rattle.photo_script.specs.declared.command.Command.{Command}
 use Rattle.photo_script.specs.declared.reader.Reader.{Reader}
 use Rattle.photo_script.proofs.Gathered.{commands_said-more}
@@ -25,6 +25,16 @@ pub record HasTaken (lines : List (List ℕ)) (r : Reader) : Type 0 where
   pub makes : (p : ℕ) → contains nat_cmp r.pictures p ≡ (earlier lines).makes p
   pub counted : length r.script.commands ≡ commands_of lines
   pub said : commands_said 1 (sayings [] lines) ≡ Ok r.script.commands
+
+-- at first it has taken none
+pub HasTaken-none : (r : Reader) → IsFirst r → HasTaken [] r
+HasTaken-none r first = record {
+  names = ap (λ s. s.names) first.script;
+  filters = ap (λ s. s.filters) first.script;
+  makes = first.makes;
+  counted = ap (λ s. length s.commands) first.script;
+  said = ap (λ s. Ok s.commands) (sym first.script);
+}
 
 -- so it has seen what they tell
 pub seen-earlier : (lines : List (List ℕ)) (r : Reader) → HasTaken lines r → seen r ≡ earlier lines

@@ -15,12 +15,15 @@ use Rattle.photo_script.specs.Earlier.{Earlier, made_by}
 use Rattle.photo_filter_text.specs.Tree.{Tree}
 use Rattle.photo_filter_rules.specs.Filters.{filter_of}
 use Rattle.photo_script.specs.Fields.{number_of, picture_of, is_name, place_of}
-use Rattle.photo_script.specs.Steps.{Takes, seen}
+use Rattle.photo_script.specs.Steps.{Lacks, Refuses, Takes, first_said, seen}
 use Rattle.photo_script.specs.Saying.{filter_said, device_line_said, declaration_said, list_line_said, new_line_said, command_said, creation_said, device_said, new_picture_said, record_said, or_fault, ◌>>=◌}
 use Rattle.photo_script.specs.declared.command.Command.TheVariants as command
 use Rattle.photo_script.specs.declared.fault.LineFault.{LineFault}
 use Rattle.photo_script.specs.declared.fault.LineFault.TheVariants as fault
 use Rattle.photo_script.specs.declared.reader.Reader.{Reader}
+use Rattle.photo_script.specs.declared.refusal.Refusal.{Refusal}
+use Rattle.photo_script.specs.declared.refusal.Refusal.TheVariants.{Memory, Fault}
+use Rattle.photo_script.proofs.Commands.{first-refused}
 
 -- behind no command, a name and a filter are a declaration
 pub device_line-declaration : (before : Earlier) (name : List ℕ) (others : List (List ℕ)) (filter : List ℕ) → before.commands ≤ 0 → 1 ≤ length others → device_line_said before (name ∷ others) filter ≡ declaration_said before name filter
@@ -38,6 +41,10 @@ pub list_line-said : (before : Earlier) (name : List ℕ) (device : ℕ) → bef
 unfolding list_line_said command_said
 list_line-said before name device room known = rw (lt-leb max_commands before.commands room, ← known)
 
+pub list_line-first : (before : Earlier) (name : List ℕ) (f : LineFault) → Err f ≡ first_said before name → list_line_said before (name ∷ []) ≡ Err f
+unfolding list_line_said
+list_line-first before name f e = first-refused before name f (λ device. Ok (command.List device)) e
+
 -- five fields are a creation
 pub new_line-creation : (before : Earlier) (name picture rating date words : List ℕ)
     → new_line_said before (name ∷ picture ∷ rating ∷ date ∷ words ∷ []) ≡ command_said before (creation_said before name picture (record_said rating date words))
@@ -49,6 +56,23 @@ pub creation-said : (before : Earlier) (name picture rating date words : List �
     → command_said before (creation_said before name picture (record_said rating date words)) ≡ Ok (Some (command.New device number r))
 unfolding command_said creation_said
 creation-said before name picture rating date words device number r room known fresh said = rw (lt-leb max_commands before.commands room, ← known, ← fresh, said)
+
+pub creation-first : (before : Earlier) (name picture rating date words : List ℕ) (f : LineFault) → Err f ≡ first_said before name
+    → command_said before (creation_said before name picture (record_said rating date words)) ≡ Err f
+unfolding creation_said
+creation-first before name picture rating date words f e = first-refused before name f _ e
+
+pub creation-picture : (before : Earlier) (name picture rating date words : List ℕ) (device : ℕ) (e : Refusal) → before.commands < max_commands → Ok device ≡ device_said before name → Refuses e (new_picture_said before picture)
+    → Refuses e (command_said before (creation_said before name picture (record_said rating date words)))
+unfolding command_said creation_said
+creation-picture before name picture rating date words device Memory room known refused = tt
+creation-picture before name picture rating date words device (Fault f) room known refused = rw (lt-leb max_commands before.commands room, ← known, refused)
+
+pub creation-record : (before : Earlier) (name picture rating date words : List ℕ) (device number : ℕ) (e : Refusal) → before.commands < max_commands → Ok device ≡ device_said before name → Ok number ≡ new_picture_said before picture
+    → Refuses e (record_said rating date words) → Refuses e (command_said before (creation_said before name picture (record_said rating date words)))
+unfolding command_said creation_said
+creation-record before name picture rating date words device number Memory room known fresh refused = tt
+creation-record before name picture rating date words device number (Fault f) room known fresh refused = rw (lt-leb max_commands before.commands room, ← known, ← fresh, refused)
 
 or_false : (b : Bool) → b ≡ (b || false)
 or_false true = refl
@@ -80,17 +104,6 @@ takes_device old new name filter more tree said script pictures = record {
   counted = refl;
 }
 
--- a `list` line puts a command behind the others
-pub takes_list : (old new : Reader) (name : List ℕ) (device : ℕ) → new.script ≡ contents old.script.names old.script.filters (old.script.commands ++ command.List device ∷ []) → new.pictures ≡ old.pictures
-    → Takes old (codes "list" ∷ name ∷ []) [] (Some (command.List device)) new
-takes_list old new name device script pictures = record {
-  names = ap (λ s. s.names) script ∙ sym (append-nil old.script.names);
-  filters = ap (λ s. s.filters) script ∙ sym (append-nil old.script.filters);
-  commands = ap (λ s. s.commands) script;
-  makes = λ p. ap (λ s. contains nat_cmp s p) pictures ∙ or_false _;
-  counted = refl;
-}
-
 -- what comes of a field that denotes something
 or_fault-ok : {A B : Type 0} (o : Option A) (e : LineFault) (f : A → Result B LineFault) (y : B) → Ok y ≡ (or_fault o e >>= f) → (x : A) × (o ≡ Some x) × (Ok y ≡ f x)
 or_fault-ok None e f y h = cc
@@ -116,16 +129,16 @@ or_last true false = refl
 or_last false true = refl
 or_last false false = refl
 
--- a `new` line puts a command behind the others, and its picture to the others
-pub takes_new : (old new : Reader) (name picture rating date words : List ℕ) (device number : ℕ) (r : Record) → Ok number ≡ new_picture_said (seen old) picture
-    → new.script ≡ contents old.script.names old.script.filters (old.script.commands ++ command.New device number r ∷ []) → Updates nat_cmp old.pictures new.pictures number true
-    → Takes old (codes "new" ∷ name ∷ picture ∷ rating ∷ date ∷ words ∷ []) [] (Some (command.New device number r)) new
-takes_new old new name picture rating date words device number r said script pictures = record {
-  names = ap (λ s. s.names) script ∙ sym (append-nil old.script.names);
-  filters = ap (λ s. s.filters) script ∙ sym (append-nil old.script.filters);
-  commands = ap (λ s. s.commands) script;
+-- a `new` line, whose picture is put to the others first, lacks its command then
+pub lacks_new : (old now : Reader) (name picture rating date words : List ℕ) (number : ℕ) → Ok number ≡ new_picture_said (seen old) picture
+    → now.script ≡ old.script → Updates nat_cmp old.pictures now.pictures number true
+    → Lacks old (codes "new" ∷ name ∷ picture ∷ rating ∷ date ∷ words ∷ []) [] now
+lacks_new old now name picture rating date words number said script pictures = record {
+  script = script;
+  no_name = refl;
+  no_filter = refl;
   makes = λ p.
       let had = contains nat_cmp old.pictures p in
       pictures.0 p ∙ ap (λ b. cond b true had) (is_equal number p) ∙ or_last (eqb number p) had ∙ ap (λ n. had || (eqb n p || false)) (sym (number-said (seen old) picture number said));
-  counted = refl;
+  counts = refl;
 }

@@ -9,7 +9,7 @@ use Rattle.std.proofs.lemmas.List.{take-append-drop, map-append}
 use Rattle.photo_script.specs.Lines.{pieces_of, lines_of, fields_of, third_field_on}
 use Rattle.photo_script.specs.Earlier.{names_of, filters_of}
 use Rattle.photo_script.specs.Saying.{said}
-use Rattle.photo_script.specs.Contents.{Contents, contents}
+use Rattle.photo_script.specs.Contents.{contents}
 use Rattle.photo_script.specs.Reading.{script_of_commands, script_of_lines, MayWantMemory}
 use Rattle.photo_script.specs.Steps.{Refuses, Takes, seen, fault_at}
 use Rattle.photo_script.specs.declared.command.Command.{Command}
@@ -74,7 +74,7 @@ taken-end text yielded r h all =
 -- where memory is refused, no fault came before
 pub wants-turn : (text : List ℕ) (yielded : List (Bor (List ℕ))) (piece line : List ℕ) (r : Reader) (refusal : Refusal) (number : ℕ) → length text ≤ max_text_bytes → IsUtf8 text → HasTaken (taken_lines yielded) r
     → map (λ p. p.now) yielded ≡ take (length yielded) (pieces_of text) → length yielded < length (pieces_of text) → piece ≡ get_or (pieces_of text) (length yielded) piece
-    → line ≡ strip_carriage_return piece → (refusal ≡ Memory → length line ≤ max_line_bytes) → ◌≡◌ {A = Result Contents ScriptFault} (Err (fault_at number refusal)) (Err NoMemory) → MayWantMemory text
+    → line ≡ strip_carriage_return piece → (refusal ≡ Memory → length line ≤ max_line_bytes) → ◌≡◌ {A = Result (Unit {0}) ScriptFault} (Err (fault_at number refusal)) (Err NoMemory) → MayWantMemory text
 wants-turn text yielded piece line r (Fault f) number small utf8 h front within item end short e = cc
 wants-turn text yielded piece line r Memory number small utf8 h front within item end short e =
     let read : script_of_lines (taken_lines yielded) ≡ Ok (contents (names_of (taken_lines yielded)) (filters_of (taken_lines yielded)) r.script.commands) = ap (script_of_commands (names_of (taken_lines yielded)) (filters_of (taken_lines yielded))) h.said in

@@ -1,14 +1,18 @@
 -- Machinery of the proofs, which only contracts of private functions cite: how what a reader does is tied to what lines
 -- say, where memory may be refused instead.
-use Rattle.std.specs.Prelude.{◌≡◌, ℕ, ◌||◌, ◌==◌, if◌then◌else◌, List, ◌++◌, length, map, Option, option_to_list, Result, Ok, Err}
+use Rattle.std.specs.Prelude.{◌≡◌, ℕ, Bool, true, false, ◌||◌, ◌==◌, nat_le, if◌then◌else◌, List, [], ◌++◌, length, map, Option, Some, option_to_list, Result, Ok, Err}
 use Rattle.std.specs.Borrow.{Bor}
 use Rattle.std.specs.BTreeSet.{contains}
 use Rattle.std.specs.List.{list_any}
 use Rattle.std.specs.Ordering.{nat_cmp}
+use Rattle.photo_script.specs.Limits.{max_commands}
+use Rattle.photo_script.specs.Contents.{contents}
 use Rattle.photo_script.specs.Earlier.{Earlier, declared_by, filter_declared_by, made_by, is_command}
 use Rattle.photo_script.specs.declared.command.Command.{Command}
 use Rattle.photo_script.specs.declared.reader.Reader.{Reader}
+use Rattle.photo_script.specs.Saying.{device_said}
 use Rattle.photo_script.specs.declared.fault.LineFault.{LineFault}
+use Rattle.photo_script.specs.declared.fault.LineFault.TheVariants.{TooMany}
 use Rattle.photo_script.specs.declared.fault.ScriptFault.{ScriptFault}
 use Rattle.photo_script.specs.declared.fault.ScriptFault.TheVariants as script
 use Rattle.photo_script.specs.declared.refusal.Refusal.{Refusal}
@@ -44,6 +48,27 @@ pub record Takes (old : Reader) (fields : List (List ℕ)) (filter : List ℕ) (
 abbrev pub Reads : Reader → List (List ℕ) → List ℕ → Result (Option Command) LineFault → Result (Unit {0}) Refusal → Reader → Type 0
 Reads old fields filter said (Ok done) new = (x : Option Command) × (said ≡ Ok x) × Takes old fields filter x new
 Reads old fields filter said (Err e) new = Refuses e said
+
+-- a reader of no lines
+pub record IsFirst (r : Reader) : Type 0 where
+  pub script : r.script ≡ contents [] [] []
+  pub makes : (p : ℕ) → contains nat_cmp r.pictures p ≡ false
+
+-- the place of a declared device, where there is room for one command more
+unfoldable pub first_said : Earlier → List ℕ → Result ℕ LineFault
+first_said before name = if nat_le max_commands before.commands then Err TooMany else device_said before name
+
+-- a reader has taken a line of these fields and this text from the third on, but not yet the command that it says
+pub record Lacks (before : Reader) (fields : List (List ℕ)) (filter : List ℕ) (now : Reader) : Type 0 where
+  pub script : now.script ≡ before.script
+  pub no_name : declared_by fields ≡ []
+  pub no_filter : filter_declared_by fields filter ≡ []
+  pub makes : (p : ℕ) → contains nat_cmp now.pictures p ≡ (contains nat_cmp before.pictures p || list_any (λ q. q == p) (made_by fields))
+  pub counts : is_command fields ≡ true
+
+-- and then that command, unless memory was refused
+abbrev pub TakesLast : Command → Reader → Result (Unit {0}) Refusal → Reader → Type 0
+TakesLast command old result new = (before : Reader) (fields : List (List ℕ)) (filter : List ℕ) → Lacks before fields filter old → Reads before fields filter (Ok (Some command)) result new
 
 abbrev pub texts : List (Bor (List ℕ)) → List (List ℕ)
 texts fields = map (λ f. f.now) fields

@@ -1,4 +1,4 @@
-ghost use Rattle.std.specs.Prelude.{◌≡◌, ◌≢◌, ℕ, List, [], ◌∷◌, ◌<◌, ◌≤◌, length, codes, Ok, Err, IfOk, IfErr, OnOk, true};
+ghost use Rattle.std.specs.Prelude.{◌≡◌, ◌≢◌, ℕ, List, [], ◌∷◌, ◌<◌, ◌≤◌, length, codes, Ok, Err, IfOk, IfErr, IfSome, OnOk, true};
 ghost use Rattle.photo_script.specs.Lines.{fields_of, lines_of, third_field_on};
 ghost use Rattle.photo_script.specs.Limits.{max_text_bytes, max_line_bytes};
 ghost use Rattle.std.specs.Str.Lines.{strip_carriage_return};
@@ -53,14 +53,10 @@ fn read_lines(alloc: Global, text: &str) -> Result<Script, ScriptFault>
         pictures: BTreeSet::new(alloc),
     };
     let mut fields = Vec::new(alloc);
-    let mut number = 0;
-    for piece in text.split('\n') {
-        number += 1;
-        if let Err(refusal) = reader.read_line(without_return(piece), &mut fields) {
-            return Err(refusal.in_line(number));
-        }
+    match reader.read_pieces(text, &mut fields) {
+        Ok(()) => Ok(reader.script),
+        Err(fault) => Err(fault),
     }
-    Ok(reader.script)
 }
 
 // A line without the CR that it may end in.
@@ -81,8 +77,33 @@ struct Reader {
 impl Reader {
     ghost use Rattle.std.specs.BTreeSet.{Updates};
     ghost use Rattle.std.specs.Ordering.{nat_cmp};
-    ghost use Rattle.photo_script.specs.Steps.{Reads, seen, texts};
+    ghost use Rattle.photo_script.specs.Contents.{IsWithin, record_of};
+    ghost use Rattle.photo_script.specs.Limits.{max_commands};
+    ghost use Rattle.photo_script.specs.Steps.{IsFirst, Reads, TakesLast, first_said, seen, texts};
     ghost use Rattle.photo_script.specs.declared.refusal.Refusal.TheVariants.{Memory};
+
+    // Reads the lines of a script from the first one on, with one list for the fields of each.
+    fn read_pieces<'a>(
+        &mut self,
+        text: &'a str,
+        fields: &mut Vec<&'a str>,
+    ) -> Result<(), ScriptFault>
+        requires small { length text.now ≤ max_text_bytes }
+        requires first { IsFirst self.old }
+        ensures read { OnOk result (script_of_lines (lines_of text.now) ≡ Ok self.new.script) }
+        ensures refused { IfErr result (λ fault. fault ≢ NoMemory → script_of_lines (lines_of text.now) ≡ Err fault) }
+        ensures no_memory { result ≡ Err NoMemory → MayWantMemory text.now }
+        ensures no_read { result ≢ Err Read }
+    {
+        let mut number = 0;
+        for piece in text.split('\n') {
+            number += 1;
+            if let Err(refusal) = self.read_line(without_return(piece), fields) {
+                return Err(refusal.in_line(number));
+            }
+        }
+        Ok(())
+    }
 
     #[tactic(auto, unfolding(crate::specs::Saying::said))]
     fn read_line<'a>(&mut self, line: &'a str, fields: &mut Vec<&'a str>) -> Result<(), Refusal>
@@ -196,18 +217,14 @@ impl Reader {
     ) -> Result<(), Refusal>
         ensures { Reads self.old (codes "new" ∷ name.now ∷ picture.now ∷ rating.now ∷ date.now ∷ words.now ∷ []) [] (command_said (seen self.old) (creation_said (seen self.old) name.now picture.now (record_said rating.now date.now words.now))) result self.new }
     {
-        if self.script.commands() >= MAX_COMMANDS {
-            return Err(Refusal::Fault(LineFault::TooMany));
-        }
-        let device = self.device(name)?;
+        let device = self.first_device(name)?;
         let picture = self.new_picture(picture)?;
         let record = record_of(self.alloc, rating, date, words)?;
-        self.script.push(Command::New {
+        self.take(Command::New {
             device,
             picture,
             record,
-        })?;
-        Ok(())
+        })
     }
 
     // `edit DEV PIC RATING DATE WORDS`
@@ -232,18 +249,14 @@ impl Reader {
     ) -> Result<(), Refusal>
         ensures { Reads self.old (codes "edit" ∷ name.now ∷ picture.now ∷ rating.now ∷ date.now ∷ words.now ∷ []) [] (command_said (seen self.old) (edition_said (seen self.old) name.now picture.now (record_said rating.now date.now words.now))) result self.new }
     {
-        if self.script.commands() >= MAX_COMMANDS {
-            return Err(Refusal::Fault(LineFault::TooMany));
-        }
-        let device = self.device(name)?;
+        let device = self.first_device(name)?;
         let picture = any_picture(picture)?;
         let record = record_of(self.alloc, rating, date, words)?;
-        self.script.push(Command::Edit {
+        self.take(Command::Edit {
             device,
             picture,
             record,
-        })?;
-        Ok(())
+        })
     }
 
     // `remove DEV PIC`
@@ -254,13 +267,9 @@ impl Reader {
         let [name, picture] = arguments else {
             return Err(Refusal::Fault(LineFault::WrongFields));
         };
-        if self.script.commands() >= MAX_COMMANDS {
-            return Err(Refusal::Fault(LineFault::TooMany));
-        }
-        let device = self.device(name)?;
+        let device = self.first_device(name)?;
         let picture = any_picture(picture)?;
-        self.script.push(Command::Remove { device, picture })?;
-        Ok(())
+        self.take(Command::Remove { device, picture })
     }
 
     // `pull TARGET SOURCE`
@@ -271,16 +280,12 @@ impl Reader {
         let [target, source] = arguments else {
             return Err(Refusal::Fault(LineFault::WrongFields));
         };
-        if self.script.commands() >= MAX_COMMANDS {
-            return Err(Refusal::Fault(LineFault::TooMany));
-        }
-        let target = self.device(target)?;
+        let target = self.first_device(target)?;
         let source = self.device(source)?;
         if target == source {
             return Err(Refusal::Fault(LineFault::SameDevice));
         }
-        self.script.push(Command::Pull { target, source })?;
-        Ok(())
+        self.take(Command::Pull { target, source })
     }
 
     // `narrow DEV FILTER`
@@ -301,13 +306,9 @@ impl Reader {
     fn narrow(&mut self, name: &str, filter: &str) -> Result<(), Refusal>
         ensures { (more : List (List ℕ)) → Reads self.old (codes "narrow" ∷ name.now ∷ more) filter.now (command_said (seen self.old) (narrowing_said (seen self.old) name.now filter.now)) result self.new }
     {
-        if self.script.commands() >= MAX_COMMANDS {
-            return Err(Refusal::Fault(LineFault::TooMany));
-        }
-        let device = self.device(name)?;
+        let device = self.first_device(name)?;
         let filter = filter_of(self.alloc, filter)?;
-        self.script.push(Command::Narrow { device, filter })?;
-        Ok(())
+        self.take(Command::Narrow { device, filter })
     }
 
     // `list DEV`
@@ -318,12 +319,8 @@ impl Reader {
         let [name] = arguments else {
             return Err(Refusal::Fault(LineFault::WrongFields));
         };
-        if self.script.commands() >= MAX_COMMANDS {
-            return Err(Refusal::Fault(LineFault::TooMany));
-        }
-        let device = self.device(name)?;
-        self.script.push(Command::List { device })?;
-        Ok(())
+        let device = self.first_device(name)?;
+        self.take(Command::List { device })
     }
 
     // `conflicts DEV`
@@ -334,12 +331,8 @@ impl Reader {
         let [name] = arguments else {
             return Err(Refusal::Fault(LineFault::WrongFields));
         };
-        if self.script.commands() >= MAX_COMMANDS {
-            return Err(Refusal::Fault(LineFault::TooMany));
-        }
-        let device = self.device(name)?;
-        self.script.push(Command::Conflicts { device })?;
-        Ok(())
+        let device = self.first_device(name)?;
+        self.take(Command::Conflicts { device })
     }
 
     // `knowledge DEV`
@@ -350,12 +343,8 @@ impl Reader {
         let [name] = arguments else {
             return Err(Refusal::Fault(LineFault::WrongFields));
         };
-        if self.script.commands() >= MAX_COMMANDS {
-            return Err(Refusal::Fault(LineFault::TooMany));
-        }
-        let device = self.device(name)?;
-        self.script.push(Command::Knowledge { device })?;
-        Ok(())
+        let device = self.first_device(name)?;
+        self.take(Command::Knowledge { device })
     }
 
     // `knows DEV PIC VERSION`
@@ -366,18 +355,14 @@ impl Reader {
         let [name, picture, version] = arguments else {
             return Err(Refusal::Fault(LineFault::WrongFields));
         };
-        if self.script.commands() >= MAX_COMMANDS {
-            return Err(Refusal::Fault(LineFault::TooMany));
-        }
-        let device = self.device(name)?;
+        let device = self.first_device(name)?;
         let picture = any_picture(picture)?;
         let version = self.version(version)?;
-        self.script.push(Command::Knows {
+        self.take(Command::Knows {
             device,
             picture,
             version,
-        })?;
-        Ok(())
+        })
     }
 
     // `NAME:N`, a version of a declared device.
@@ -391,6 +376,19 @@ impl Reader {
         let device = self.device(name)?;
         let number = version_number_of(number).ok_or(LineFault::BadNumber)?;
         Version::new(Author::new(device), number).ok_or(LineFault::BadNumber)
+    }
+
+    // The device that a command names first, where there is room for one command more.
+    #[tactic(auto, unfolding(crate::specs::Steps::first_said))]
+    fn first_device(&self, name: &str) -> Result<u16, LineFault>
+        ensures said { result ≡ first_said (seen self.now) name.now }
+        ensures within { IfOk result (λ i. i < length self.now.script.names) }
+        ensures room { OnOk result (length self.now.script.commands < max_commands) }
+    {
+        if self.script.commands() >= MAX_COMMANDS {
+            return Err(LineFault::TooMany);
+        }
+        self.device(name)
     }
 
     // The device of that name.
@@ -414,6 +412,17 @@ impl Reader {
             return Err(Refusal::Fault(LineFault::RepeatedPicture));
         }
         Ok(picture)
+    }
+
+    // Puts the command that a line says behind the others.
+    fn take(&mut self, command: Command) -> Result<(), Refusal>
+        requires room { length self.old.script.commands < max_commands }
+        requires known { IsWithin (length self.old.script.names) command }
+        requires in_range { IfSome (record_of command) IsInRange }
+        ensures { TakesLast command self.old result self.new }
+    {
+        self.script.push(command)?;
+        Ok(())
     }
 }
 

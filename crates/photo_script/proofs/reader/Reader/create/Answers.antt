@@ -1,8 +1,31 @@
-use Rattle.std.proofs.Common.{Some, sym, arith}
+use Rattle.std.proofs.Common.{◌∷◌, [], codes, sym}
 use Rattle.photo_script.specs.Steps.{seen}
-use Rattle.photo_script.specs.declared.command.Command.TheVariants as command
-use Rattle.photo_script.proofs.Taking.{creation-said, takes_new}
+use Rattle.photo_script.specs.Saying.{command_said, creation_said, record_said}
+use Rattle.photo_script.proofs.Commands.{first-known, reads-fault, reads-same}
+use Rattle.photo_script.proofs.Taking.{creation-first, creation-picture, creation-record, creation-said, lacks_new}
 use Rattle.photo_script.proofs.reader.Reader.create.Goals as goal
+
+pub returns-in_err-device : goal.returns-in_err-device
+returns-in_err-device c =
+    let old = c.args.self.now in
+    let said = creation-first (seen old) c.args.name.now c.args.picture.now c.args.rating.now c.args.date.now c.args.words.now _ c.in_err-device.ensures.said in
+    reads-fault old old (codes "new" ∷ c.args.name.now ∷ c.args.picture.now ∷ c.args.rating.now ∷ c.args.date.now ∷ c.args.words.now ∷ []) [] _ c.from_residual.result _ c.from_residual.ensures.1 said
+
+pub returns-in_err-picture : goal.returns-in_err-picture
+returns-in_err-picture c =
+    let old = c.args.self.now in
+    let device = c.in_ok-device.device in
+    let known = first-known (seen old) c.args.name.now device c.in_ok-device.ensures.said in
+    reads-same old c.new_picture.new.self (codes "new" ∷ c.args.name.now ∷ c.args.picture.now ∷ c.args.rating.now ∷ c.args.date.now ∷ c.args.words.now ∷ []) [] (command_said (seen old) (creation_said (seen old) c.args.name.now c.args.picture.now (record_said c.args.rating.now c.args.date.now c.args.words.now))) c.from_residual-in_err-picture.result _ c.from_residual-in_err-picture.ensures.1
+    (creation-picture (seen old) c.args.name.now c.args.picture.now c.args.rating.now c.args.date.now c.args.words.now device _ c.in_ok-device.ensures.room known c.in_err-picture.ensures.said)
+
+pub returns-in_err-record : goal.returns-in_err-record
+returns-in_err-record c =
+    let old = c.args.self.now in
+    let device = c.in_ok-device.device in
+    let known = first-known (seen old) c.args.name.now device c.in_ok-device.ensures.said in
+    reads-same old c.new_picture.new.self (codes "new" ∷ c.args.name.now ∷ c.args.picture.now ∷ c.args.rating.now ∷ c.args.date.now ∷ c.args.words.now ∷ []) [] (command_said (seen old) (creation_said (seen old) c.args.name.now c.args.picture.now (record_said c.args.rating.now c.args.date.now c.args.words.now))) c.from_residual-in_err-record.result _ c.from_residual-in_err-record.ensures.1
+    (creation-record (seen old) c.args.name.now c.args.picture.now c.args.rating.now c.args.date.now c.args.words.now device c.in_ok-picture.picture _ c.in_ok-device.ensures.room known (sym c.in_ok-picture.ensures.said) c.in_err-record.ensures.said)
 
 pub returns : goal.returns
 returns c =
@@ -10,7 +33,6 @@ returns c =
     let device = c.in_ok-device.device in
     let number = c.in_ok-picture.picture in
     let fresh = sym c.in_ok-picture.ensures.said in
-    let script = rw c.in_ok-picture.ensures.script at c.in_ok-push.ensures.ok in
-    let said = creation-said (seen old) c.args.name.now c.args.picture.now c.args.rating.now c.args.date.now c.args.words.now device number c.in_ok-record.record (omega arith) c.in_ok-device.ensures.said fresh c.in_ok-record.ensures.said in
-    let taken = takes_new old _ c.args.name.now c.args.picture.now c.args.rating.now c.args.date.now c.args.words.now device number c.in_ok-record.record fresh script c.in_ok-picture.ensures.made in
-    (Some (command.New device number c.in_ok-record.record), said, taken)
+    let known = first-known (seen old) c.args.name.now device c.in_ok-device.ensures.said in
+    let said = creation-said (seen old) c.args.name.now c.args.picture.now c.args.rating.now c.args.date.now c.args.words.now device number c.in_ok-record.record c.in_ok-device.ensures.room known fresh c.in_ok-record.ensures.said in
+    rw said (c.take.ensures old (codes "new" ∷ c.args.name.now ∷ c.args.picture.now ∷ c.args.rating.now ∷ c.args.date.now ∷ c.args.words.now ∷ []) [] (lacks_new old c.new_picture.new.self c.args.name.now c.args.picture.now c.args.rating.now c.args.date.now c.args.words.now number fresh c.in_ok-picture.ensures.script c.in_ok-picture.ensures.made))

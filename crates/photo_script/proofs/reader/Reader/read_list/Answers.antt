@@ -1,15 +1,21 @@
-use Rattle.std.proofs.Common.{Some, refl, arith}
+use Rattle.std.proofs.Common.{◌∷◌, [], codes, refl, arith}
 use Rattle.photo_script.specs.Steps.{seen}
-use Rattle.photo_script.specs.declared.command.Command.TheVariants as command
 use Rattle.photo_script.proofs.Arguments.{field, texts-one}
-use Rattle.photo_script.proofs.Taking.{list_line-said, takes_list}
+use Rattle.photo_script.proofs.Commands.{first-known, lacks-first, reads-fault}
+use Rattle.photo_script.proofs.Taking.{list_line-first, list_line-said}
 use Rattle.photo_script.proofs.reader.Reader.read_list.Goals as goal
+
+pub returns-in_err-device : goal.returns-in_err-device
+returns-in_err-device c =
+    let old = c.args.self.now in
+    let name = field c.args.arguments.now 0 in
+    let said = list_line-first (seen old) name _ c.in_err-device.ensures.said in
+    rw (texts-one c.args.arguments.now (omega arith)) (reads-fault old old (codes "list" ∷ name ∷ []) [] _ c.from_residual.result _ c.from_residual.ensures.1 said)
 
 pub returns : goal.returns
 returns c =
     let old = c.args.self.now in
     let name = field c.args.arguments.now 0 in
     let device = c.in_ok-device.device in
-    let said = list_line-said (seen old) name device (omega arith) c.in_ok-device.ensures.said in
-    let taken = takes_list old (record old { script = c.push.new.self }) name device c.in_ok-push.ensures.ok refl in
-    rw (texts-one c.args.arguments.now (omega arith)) (Some (command.List device), said, taken)
+    let said = list_line-said (seen old) name device c.in_ok-device.ensures.room (first-known (seen old) name device c.in_ok-device.ensures.said) in
+    rw (texts-one c.args.arguments.now (omega arith), said) (c.take.ensures old (codes "list" ∷ name ∷ []) [] (lacks-first old (codes "list" ∷ name ∷ []) [] refl refl refl refl))

@@ -1,16 +1,31 @@
-use Rattle.std.proofs.Common.{Some, refl, arith}
+use Rattle.std.proofs.Common.{◌∷◌, [], codes, refl, arith}
 use Rattle.photo_script.specs.Steps.{seen}
-use Rattle.photo_script.specs.declared.command.Command.TheVariants as command
 use Rattle.photo_script.proofs.Arguments.{field, texts-two}
-use Rattle.photo_script.proofs.Changing.{remove_line-said, takes_remove}
+use Rattle.photo_script.proofs.Changing.{remove_line-first, remove_line-picture, remove_line-said}
+use Rattle.photo_script.proofs.Commands.{first-known, lacks-first, reads-fault}
 use Rattle.photo_script.proofs.reader.Reader.read_remove.Goals as goal
+
+pub returns-in_err-device : goal.returns-in_err-device
+returns-in_err-device c =
+    let old = c.args.self.now in
+    let at = field c.args.arguments.now in
+    let said = remove_line-first (seen old) (at 0) (at 1) _ c.in_err-device.ensures.said in
+    rw (texts-two c.args.arguments.now (omega arith)) (reads-fault old old (codes "remove" ∷ at 0 ∷ at 1 ∷ []) [] _ c.from_residual.result _ c.from_residual.ensures.1 said)
+
+pub returns-in_err-picture : goal.returns-in_err-picture
+returns-in_err-picture c =
+    let old = c.args.self.now in
+    let at = field c.args.arguments.now in
+    let device = c.in_ok-device.device in
+    let known = first-known (seen old) (at 0) device c.in_ok-device.ensures.said in
+    let said = remove_line-picture (seen old) (at 0) (at 1) device _ c.in_ok-device.ensures.room known c.in_err-picture.ensures in
+    rw (texts-two c.args.arguments.now (omega arith)) (reads-fault old old (codes "remove" ∷ at 0 ∷ at 1 ∷ []) [] _ c.from_residual-in_err-picture.result _ c.from_residual-in_err-picture.ensures.1 said)
 
 pub returns : goal.returns
 returns c =
     let old = c.args.self.now in
     let at = field c.args.arguments.now in
     let device = c.in_ok-device.device in
-    let number = c.in_ok-picture.picture in
-    let said = remove_line-said (seen old) (at 0) (at 1) device number (omega arith) c.in_ok-device.ensures.said c.in_ok-picture.ensures in
-    let taken = takes_remove old (record old { script = c.push.new.self }) (at 0) (at 1) device number c.in_ok-push.ensures.ok refl in
-    rw (texts-two c.args.arguments.now (omega arith)) (Some (command.Remove device number), said, taken)
+    let known = first-known (seen old) (at 0) device c.in_ok-device.ensures.said in
+    let said = remove_line-said (seen old) (at 0) (at 1) device c.in_ok-picture.picture c.in_ok-device.ensures.room known c.in_ok-picture.ensures in
+    rw (texts-two c.args.arguments.now (omega arith), said) (c.take.ensures old (codes "remove" ∷ at 0 ∷ at 1 ∷ []) [] (lacks-first old (codes "remove" ∷ at 0 ∷ at 1 ∷ []) [] refl refl refl refl))

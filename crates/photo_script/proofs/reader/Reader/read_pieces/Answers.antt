@@ -1,4 +1,4 @@
-use Rattle.std.proofs.Common.{◌≡◌, ◌+◌, length, ap, ◌∙◌, lit<, arith}
+use Rattle.std.proofs.Common.{◌≡◌, ◌+◌, length, refl, ap, ◌∙◌, lit<, arith}
 use Rattle.std.proofs.lemmas.Iterator.Consumers.{YieldsList-so_far, YieldsList-turn, YieldsList-end}
 use Rattle.std.proofs.lemmas.Iterator.Splits.{YieldsList-from_str_split}
 use Rattle.std.proofs.lemmas.List.{length_push}
@@ -7,8 +7,12 @@ use Rattle.photo_script.specs.Limits.{max_line_bytes}
 use Rattle.photo_script.specs.declared.refusal.Refusal.TheVariants.{Memory}
 use Rattle.photo_script.specs.Steps.{Refuses, seen}
 use Rattle.photo_script.specs.Saying.{said}
+use Rattle.photo_script.proofs.Taken.{HasTaken-none}
 use Rattle.photo_script.proofs.Turns.{refused-turn, wants-turn, taken-turn, taken-end}
-use Rattle.photo_script.proofs.reader.read_lines.Goals as goal
+use Rattle.photo_script.proofs.reader.Reader.read_pieces.Goals as goal
+
+pub loop-piece-init : goal.loop-piece-init
+loop-piece-init c = record { numbered = refl; taken = HasTaken-none c.args.self.now c.requires.first }
 
 pub returns-in-Err-clause-refused : goal.returns-in-Err-clause-refused
 returns-in-Err-clause-refused c =
@@ -17,8 +21,8 @@ returns-in-Err-clause-refused c =
     let turn = YieldsList-turn road c.loop-piece.yielded _ c.loop-piece.yielded_by _ _ c.in-Some.piece c.in-Some.is c.next.ensures.steps in
     let front = YieldsList-so_far road c.loop-piece.yielded _ c.loop-piece.yielded_by in
     let line = c.without_return.result.now in
-    let refused : Refuses c.in-Err.refusal (said (seen c.loop-piece.reader) line) = c.in-Err.ensures.reads in
-    rw c.in_line.ensures (refused-turn c.args.text.now c.loop-piece.yielded c.in-Some.piece.now line c.loop-piece.reader c.in-Err.refusal (c.loop-piece.number + 1) c.loop-piece.invariant.taken
+    let refused : Refuses c.in-Err.refusal (said (seen c.loop-piece.self) line) = c.in-Err.ensures.reads in
+    rw c.in_line.ensures (refused-turn c.args.text.now c.loop-piece.yielded c.in-Some.piece.now line c.loop-piece.self c.in-Err.refusal (c.loop-piece.number + 1) c.loop-piece.invariant.taken
     front turn.0 turn.1 c.without_return.ensures refused number)
 
 pub returns-in-Err-clause-no_memory : goal.returns-in-Err-clause-no_memory
@@ -28,7 +32,7 @@ returns-in-Err-clause-no_memory c =
     let front = YieldsList-so_far road c.loop-piece.yielded _ c.loop-piece.yielded_by in
     let line = c.without_return.result.now in
     let short : c.in-Err.refusal ≡ Memory → length line ≤ max_line_bytes = λ e. c.read_line.ensures.memory (c.in-Err.is ∙ ap Err e) in
-    rw c.in_line.ensures (wants-turn c.args.text.now c.loop-piece.yielded c.in-Some.piece.now line c.loop-piece.reader c.in-Err.refusal (c.loop-piece.number + 1) c.requires c.utf8.text c.loop-piece.invariant.taken
+    rw c.in_line.ensures (wants-turn c.args.text.now c.loop-piece.yielded c.in-Some.piece.now line c.loop-piece.self c.in-Err.refusal (c.loop-piece.number + 1) c.requires.small c.utf8.text c.loop-piece.invariant.taken
     front turn.0 turn.1 c.without_return.ensures short)
 
 pub loop-piece-preserved : goal.loop-piece-preserved
@@ -36,11 +40,11 @@ loop-piece-preserved c =
     let read = rw c.without_return.ensures at c.in_default.ensures.reads in
     record {
       numbered = omega (arith, length_push c.loop-piece.yielded c.in-Some.piece);
-      taken = taken-turn c.loop-piece.yielded c.in-Some.piece c.loop-piece.reader c.read_line.new.self read.0 c.loop-piece.invariant.taken read.1 read.2;
+      taken = taken-turn c.loop-piece.yielded c.in-Some.piece c.loop-piece.self c.read_line.new.self read.0 c.loop-piece.invariant.taken read.1 read.2;
     }
 
 pub returns-clause-read : goal.returns-clause-read
 returns-clause-read c =
     let road = YieldsList-from_str_split 10 c.args.text.now (lit< tt) (cc) (cc) (cc) in
     let end = YieldsList-end road c.loop-piece.yielded _ c.loop-piece.yielded_by _ _ c.in-None.is c.next.ensures.steps in
-    taken-end c.args.text.now c.loop-piece.yielded c.loop-piece.reader c.loop-piece.invariant.taken end.0
+    taken-end c.args.text.now c.loop-piece.yielded c.loop-piece.self c.loop-piece.invariant.taken end.0

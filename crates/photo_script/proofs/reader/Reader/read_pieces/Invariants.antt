@@ -1,10 +1,10 @@
 use Rattle.std.proofs.Common.{◌≡◌, length}
 use Rattle.photo_script.proofs.Taken.{HasTaken}
 use Rattle.photo_script.proofs.Turns.{taken_lines}
-use Rattle.photo_script.proofs.reader.read_lines.Given as goal
+use Rattle.photo_script.proofs.reader.Reader.read_pieces.Given as goal
 
 abbrev pub invariant-loop-piece : goal.invariant-loop-piece
 invariant-loop-piece l = record {
   numbered : l.number ≡ length l.yielded;
-  taken : HasTaken (taken_lines l.yielded) l.reader;
+  taken : HasTaken (taken_lines l.yielded) l.self;
 }

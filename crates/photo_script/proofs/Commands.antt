@@ -1,0 +1,85 @@
+-- What comes of a line that says a command: its first device, its refusal, and the command behind the others.
+use Rattle.std.proofs.Common.{◌≡◌, ◌∷◌, ◌++◌, ℕ, List, [], Bool, true, false, cond, ◌||◌, leb, eqb, Option, Some, Result, Ok, Err, refl, sym, ap, subst, ◌∙◌}
+use Rattle.std.specs.BTreeSet.{contains}
+use Rattle.std.specs.Result.{IsErrAnd}
+use Rattle.std.specs.List.{list_any}
+use Rattle.std.specs.Ordering.{nat_cmp}
+use Rattle.std.proofs.lemmas.List.{append-nil}
+use Rattle.std.proofs.lemmas.Result.{err_from_is_err_and}
+use Rattle.photo_script.specs.Limits.{max_commands}
+use Rattle.photo_script.specs.Contents.{contents}
+use Rattle.photo_script.specs.Earlier.{Earlier, declared_by, filter_declared_by, made_by, is_command}
+use Rattle.photo_script.specs.Saying.{command_said, device_said, ◌>>=◌}
+use Rattle.photo_script.specs.Steps.{Lacks, Reads, Refuses, Takes, first_said}
+use Rattle.photo_script.specs.declared.command.Command.{Command}
+use Rattle.photo_script.specs.declared.fault.LineFault.{LineFault}
+use Rattle.photo_script.specs.declared.fault.LineFault.TheVariants.{TooMany}
+use Rattle.photo_script.specs.declared.reader.Reader.{Reader}
+use Rattle.photo_script.specs.declared.refusal.Refusal.{Refusal}
+use Rattle.photo_script.specs.declared.refusal.Refusal.TheVariants.{Memory, Fault}
+
+first-cases : (full : Bool) (d : Result ℕ LineFault) (f : LineFault) (next : ℕ → Result Command LineFault) → Err f ≡ cond full (Err TooMany) d → cond full (Err TooMany) ((d >>= next) >>= λ x. Ok (Some x)) ≡ Err f
+first-cases true d f next e = cc
+first-cases false (Ok x) f next e = cc
+first-cases false (Err g) f next e = cc
+
+-- where the first device is refused, so is the line
+pub first-refused : (before : Earlier) (name : List ℕ) (f : LineFault) (next : ℕ → Result Command LineFault) → Err f ≡ first_said before name → command_said before (device_said before name >>= next) ≡ Err f
+unfolding first_said command_said
+first-refused before name f next e = first-cases (leb max_commands before.commands) (device_said before name) f next e
+
+known-cases : (full : Bool) (d : Result ℕ LineFault) (device : ℕ) → Ok device ≡ cond full (Err TooMany) d → Ok device ≡ d
+known-cases true d device e = cc
+known-cases false d device e = e
+
+pub first-known : (before : Earlier) (name : List ℕ) (device : ℕ) → Ok device ≡ first_said before name → Ok device ≡ device_said before name
+unfolding first_said
+first-known before name device e = known-cases (leb max_commands before.commands) (device_said before name) device e
+
+reads-refused : (old new : Reader) (fields : List (List ℕ)) (filter : List ℕ) (said : Result (Option Command) LineFault) (r : Result (Unit {0}) Refusal) (e : Refusal) → r ≡ Err e → Refuses e said → Reads old fields filter said r new
+reads-refused old new fields filter said r e is refused = subst (λ x. Reads old fields filter said x new) (sym is) refused
+
+-- what a `?` on a fault hands on
+pub reads-fault : (old new : Reader) (fields : List (List ℕ)) (filter : List ℕ) (said : Result (Option Command) LineFault) (r : Result (Unit {0}) Refusal) (f : LineFault) → IsErrAnd r (λ e. e ≡ Fault f) → said ≡ Err f → Reads old fields filter said r new
+reads-fault old new fields filter said r f h is =
+    let p = err_from_is_err_and r h in
+    reads-refused old new fields filter said r p.0 p.1 (subst (λ e. Refuses e said) (sym p.2) is)
+
+-- a `?` on a refusal hands on the same
+pub reads-same : (old new : Reader) (fields : List (List ℕ)) (filter : List ℕ) (said : Result (Option Command) LineFault) (r : Result (Unit {0}) Refusal) (e : Refusal) → IsErrAnd r (λ x. x ≡ e) → Refuses e said → Reads old fields filter said r new
+reads-same old new fields filter said r e h refused =
+    let p = err_from_is_err_and r h in
+    reads-refused old new fields filter said r p.0 p.1 (subst (λ x. Refuses x said) (sym p.2) refused)
+
+-- and on want of memory
+pub reads-memory : (old new : Reader) (fields : List (List ℕ)) (filter : List ℕ) (said : Result (Option Command) LineFault) (r : Result (Unit {0}) Refusal) → IsErrAnd r (λ e. e ≡ Memory) → Reads old fields filter said r new
+reads-memory old new fields filter said r h =
+    let p = err_from_is_err_and r h in
+    reads-refused old new fields filter said r p.0 p.1 (subst (λ e. Refuses e said) (sym p.2) tt)
+
+or_false : (b : Bool) → b ≡ (b || false)
+or_false true = refl
+or_false false = refl
+
+-- a line that declares no device and makes no picture lacks but its command from the first
+pub lacks-first : (r : Reader) (fields : List (List ℕ)) (filter : List ℕ) → declared_by fields ≡ [] → filter_declared_by fields filter ≡ [] → made_by fields ≡ [] → is_command fields ≡ true → Lacks r fields filter r
+lacks-first r fields filter no_name no_filter no_picture counts = record {
+  script = refl;
+  no_name = no_name;
+  no_filter = no_filter;
+  makes = λ p.
+      let had = contains nat_cmp r.pictures p in
+      or_false had ∙ ap (λ made. had || list_any (λ (q : ℕ). eqb q p) made) (sym no_picture);
+  counts = counts;
+}
+
+-- with its command behind the others a line is taken
+pub last-taken : (before now new : Reader) (fields : List (List ℕ)) (filter : List ℕ) (x : Command) → Lacks before fields filter now
+    → new.script ≡ contents now.script.names now.script.filters (now.script.commands ++ x ∷ []) → new.pictures ≡ now.pictures → Takes before fields filter (Some x) new
+last-taken before now new fields filter x lacks script pictures = record {
+  names = ap (λ s. s.names) (script) ∙ ap (λ s. s.names) lacks.script ∙ sym (append-nil before.script.names) ∙ ap (λ names. before.script.names ++ names) (sym lacks.no_name);
+  filters = ap (λ s. s.filters) script ∙ ap (λ s. s.filters) lacks.script ∙ sym (append-nil before.script.filters) ∙ ap (λ filters. before.script.filters ++ filters) (sym lacks.no_filter);
+  commands = ap (λ s. s.commands) script ∙ ap (λ s. s.commands ++ x ∷ []) lacks.script;
+  makes = λ p. ap (λ s. contains nat_cmp s p) pictures ∙ lacks.makes p;
+  counted = rw lacks.counts refl;
+}
