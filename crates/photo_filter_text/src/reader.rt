@@ -1,10 +1,9 @@
 ghost use Rattle.std.specs.Prelude.{◌≡◌, ◌≢◌, ◌+◌, ◌<◌, ◌^◌, true, false, is_some, IfOk, IfErr, IsErr, Some, None, Ok, Err, option_map};
-ghost use Rattle.photo_record.specs.Reading.{word_of_text};
 ghost use Rattle.photo_filter_text.specs.Grammar.{is_bracket};
 ghost use Rattle.photo_filter_text.specs.declared.reader.Refusal.TheVariants.{Unexpected, BadWord, NoMemory};
-ghost use Rattle.photo_filter_text.specs.Tree.{tree_of, Both, Either};
+ghost use Rattle.photo_filter_text.specs.Tree.{tree_of, Keyword, Both, Either};
 ghost use Rattle.photo_filter_text.specs.declared.reader.Field.TheVariants.{RatingField, DayField};
-ghost use Rattle.photo_filter_text.specs.Steps.{start, step, step_at, fresh, level_with, levels_of, finish, joined, negated, after_factor, at_factor, after_term, keeps, keeps_at, keeps_at_end, keeps_factor, keeps_at_factor, keeps_after_term, state_of, level_of, state_with, AtFactor, AtOperator, AtValue, AtWord, closed, keeps_closed};
+ghost use Rattle.photo_filter_text.specs.Steps.{start, step, step_at, fresh, level_with, levels_of, finish, joined, negated, after_factor, at_factor, after_term, keeps, keeps_at, keeps_at_end, keeps_factor, keeps_at_factor, keeps_after_term, state_of, level_of, state_with, AtFactor, AtOperator, AtValue, AtWord, After, finished, keeps_finished, closed, keeps_closed};
 
 use crate::symbol::{Symbol, read_comparison, read_symbol};
 use crate::{Cmp, FilterTree};
@@ -124,11 +123,7 @@ impl Reader {
             outer,
         } = self;
         match place {
-            Place::After(tree) if outer.is_empty() => Ok(Some(disjunction(
-                alloc,
-                level.either,
-                tree,
-            )?)),
+            Place::After(term) => whole(alloc, level.into_either(), outer, term),
             _ => Ok(None),
         }
     }
@@ -155,14 +150,21 @@ impl Level {
             ..self
         }
     }
+
+    // The terms before the last `or`.
+    fn into_either(self) -> Option<FilterTree>
+        ensures { option_map tree_of result ≡ option_map tree_of self.either }
+    {
+        self.either
+    }
 }
 
 // A token in the place of a word.
 fn read_word(alloc: Global, token: &str) -> Result<Word, Refusal>
-    ensures read { IfOk result (λ word. (is_bracket token.now ≡ false) × (word_of_text token.now ≡ Ok word)) }
-    ensures unexpected { result ≡ Err Unexpected → is_bracket token.now ≡ true }
-    ensures bad { result ≡ Err BadWord → (is_bracket token.now ≡ false) × IsErr (word_of_text token.now) }
-    ensures memory { result ≡ Err NoMemory → is_bracket token.now ≡ false }
+    ensures read { IfOk result (λ word. (level : _) (outer : _) → step_at AtWord level outer token.now ≡ Ok (after_factor level outer (Keyword word))) }
+    ensures refused { IfErr result (λ refusal. refusal ≢ NoMemory → (level : _) (outer : _) → step_at AtWord level outer token.now ≡ Err refusal) }
+    ensures word { IfOk result (λ word. is_bracket token.now ≡ false) }
+    ensures memory { IfErr result (λ refusal. refusal ≡ NoMemory → is_bracket token.now ≡ false) }
 {
     if token == "(" || token == ")" {
         return Err(Refusal::Unexpected);
@@ -323,20 +325,33 @@ fn after_term(
     ensures refused { IfErr result (λ refusal. refusal ≢ NoMemory → after_term (level_of level) (levels_of outer.items) (tree_of term) symbol ≡ Err refusal) }
     ensures memory { IfErr result (λ refusal. refusal ≡ NoMemory → keeps_after_term (level_of level) (levels_of outer.items) symbol ≡ true) }
 {
+    let either = level.into_either();
     match symbol {
-        Symbol::AndWord => Ok(Reader {
-            alloc,
-            place: Place::Factor,
-            level: Level {
-                either: level.either,
-                both: Some(term),
-                negations: 0,
-            },
-            outer,
-        }),
-        Symbol::OrWord => after_or(alloc, level.either, outer, term),
-        Symbol::Close => after_close(alloc, level.either, outer, term),
+        Symbol::AndWord => Ok(after_and(alloc, either, outer, term)),
+        Symbol::OrWord => after_or(alloc, either, outer, term),
+        Symbol::Close => after_close(alloc, either, outer, term),
         _ => Err(Refusal::Unexpected),
+    }
+}
+
+// An `and` has been read behind a term.
+fn after_and(
+    alloc: Global,
+    either: Option<FilterTree>,
+    outer: Vec<Level>,
+    term: FilterTree,
+) -> Reader
+    ensures { state_of result ≡ state_with AtFactor (level_with (option_map tree_of either) (Some (tree_of term)) 0) (levels_of outer.items) }
+{
+    Reader {
+        alloc,
+        place: Place::Factor,
+        level: Level {
+            either,
+            both: Some(term),
+            negations: 0,
+        },
+        outer,
     }
 }
 
@@ -380,6 +395,23 @@ fn after_close(
     };
     let tree = disjunction(alloc, either, term)?;
     after_factor(alloc, below, outer, tree)
+}
+
+// The tree behind the last term, where no bracket is open.
+fn whole(
+    alloc: Global,
+    either: Option<FilterTree>,
+    outer: Vec<Level>,
+    term: FilterTree,
+) -> Result<Option<FilterTree>, AllocError>
+    ensures tree { IfOk result (λ tree. option_map tree_of tree ≡ finished (After (tree_of term)) (level_with (option_map tree_of either) None 0) (levels_of outer.items)) }
+    ensures memory { IsErr result → keeps_finished (After (tree_of term)) (level_with (option_map tree_of either) None 0) (levels_of outer.items) ≡ true }
+{
+    if !outer.is_empty() {
+        return Ok(None);
+    }
+    let tree = disjunction(alloc, either, term)?;
+    Ok(Some(tree))
 }
 
 fn negated(alloc: Global, times: usize, factor: FilterTree) -> Result<FilterTree, AllocError>
