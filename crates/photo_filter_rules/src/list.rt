@@ -1,7 +1,9 @@
 ghost use Rattle.std.specs.Prelude.{◌≡◌, ◌++◌, ◌<ℤ◌, ◌∷◌, [], pos, false, true, map, IfOk, IfErr, OnOk};
 ghost use Rattle.photo_filter_text.specs.Tree.{tree_of};
 ghost use Rattle.std.specs.List.{list_any, list_all};
+ghost use Rattle.std.specs.Option.{option_to_list};
 ghost use Rattle.photo_filter_rules.specs.Matching.{content};
+ghost use Rattle.photo_filter_rules.specs.declared.fault.BuildFault.TheVariants.{NoMemory};
 ghost use Rattle.photo_filter_rules.specs.Limits.{all_ratings, all_days};
 ghost use Rattle.photo_filter_rules.specs.Alternatives.{fits, spans_of, possible, with_ratings, with_days, with_keyword, all_or_none, both_of, pairs, either_list, alternatives_of, is_long, is_too_wide};
 ghost use Rattle.photo_filter_rules.specs.Covers.{has_room_for};
@@ -12,7 +14,7 @@ use crate::polarity::Polarity;
 use crate::span::{ALL_DAYS, ALL_RATINGS, Span};
 use photo_filter_text::{Cmp, FilterTree};
 use photo_record::{Day, Rating, Word, Words};
-use std::alloc::{AllocError, Global};
+use std::alloc::Global;
 
 /// The most alternatives that a tree, or a part of one, may have.
 pub const MAX_ALTERNATIVES: usize = 64;
@@ -31,11 +33,11 @@ pub fn alternatives_of(
         (λ fault. fault ≡ BuildFault.TooWide → is_too_wide (tree_of tree.now) polarity ≡ true) }
 {
     match tree {
-        FilterTree::All => Ok(all_or_none(alloc, polarity)?),
-        FilterTree::Nothing => Ok(all_or_none(alloc, polarity.opposite())?),
-        FilterTree::Rate(cmp, rating) => Ok(ratings_list(alloc, polarity, *cmp, *rating)?),
-        FilterTree::On(cmp, day) => Ok(days_list(alloc, polarity, *cmp, *day)?),
-        FilterTree::Keyword(word) => Ok(word_list(alloc, polarity, word)?),
+        FilterTree::All => all_or_none(alloc, polarity),
+        FilterTree::Nothing => all_or_none(alloc, polarity.opposite()),
+        FilterTree::Rate(cmp, rating) => ratings_list(alloc, polarity, *cmp, *rating),
+        FilterTree::On(cmp, day) => days_list(alloc, polarity, *cmp, *day),
+        FilterTree::Keyword(word) => word_list(alloc, polarity, word),
         FilterTree::Not(part) => alternatives_of(alloc, part, polarity.opposite()),
         FilterTree::Both(left, right) => {
             let left = alternatives_of(alloc, left, polarity)?;
@@ -50,8 +52,9 @@ pub fn alternatives_of(
     }
 }
 
-fn all_or_none(alloc: Global, polarity: Polarity) -> Result<Vec<Choice>, AllocError>
-    ensures { IfOk result (λ list. list.items ≡ all_or_none polarity) }
+fn all_or_none(alloc: Global, polarity: Polarity) -> Result<Vec<Choice>, BuildFault>
+    ensures list { IfOk result (λ list. list.items ≡ all_or_none polarity) }
+    ensures memory { IfErr result (λ fault. fault ≡ NoMemory) }
 {
     let mut list = Vec::new(alloc);
     if polarity == Polarity::Plain {
@@ -65,16 +68,14 @@ fn ratings_list(
     polarity: Polarity,
     cmp: Cmp,
     rating: Rating,
-) -> Result<Vec<Choice>, AllocError>
-    ensures { IfOk result
+) -> Result<Vec<Choice>, BuildFault>
+    ensures list { IfOk result
         (λ list. list.items ≡ possible (map with_ratings (spans_of all_ratings polarity cmp (pos rating)))) }
+    ensures memory { IfErr result (λ fault. fault ≡ NoMemory) }
 {
-    let spans = spans_of(alloc, ALL_RATINGS, polarity, cmp, i32::from(rating.value()))?;
-    spans
-        .iter()
-        .map(|ratings| Choice::with_ratings(alloc, *ratings))
-        .filter(|choice| choice.is_possible())
-        .collect(alloc)
+    let (first, second) = spans_of(ALL_RATINGS, polarity, cmp, i32::from(rating.value()));
+    let second = second.map(|ratings| Choice::with_ratings(alloc, ratings));
+    possible_of(alloc, Choice::with_ratings(alloc, first), second)
 }
 
 fn days_list(
@@ -82,35 +83,58 @@ fn days_list(
     polarity: Polarity,
     cmp: Cmp,
     day: Day,
-) -> Result<Vec<Choice>, AllocError>
-    ensures { IfOk result (λ list. list.items ≡ possible (map with_days (spans_of all_days polarity cmp day))) }
+) -> Result<Vec<Choice>, BuildFault>
+    ensures list { IfOk result (λ list. list.items ≡ possible (map with_days (spans_of all_days polarity cmp day))) }
+    ensures memory { IfErr result (λ fault. fault ≡ NoMemory) }
 {
-    let spans = spans_of(alloc, ALL_DAYS, polarity, cmp, day.number())?;
-    spans
-        .iter()
-        .map(|days| Choice::with_days(alloc, *days))
-        .filter(|choice| choice.is_possible())
-        .collect(alloc)
+    let (first, second) = spans_of(ALL_DAYS, polarity, cmp, day.number());
+    let second = second.map(|days| Choice::with_days(alloc, days));
+    possible_of(alloc, Choice::with_days(alloc, first), second)
 }
 
-fn word_list(alloc: Global, polarity: Polarity, word: &Word) -> Result<Vec<Choice>, AllocError>
-    ensures { IfOk result (λ list. list.items ≡ with_keyword polarity word.now ∷ []) }
+/// The possible ones of one alternative or two.
+fn possible_of(
+    alloc: Global,
+    first: Choice,
+    second: Option<Choice>,
+) -> Result<Vec<Choice>, BuildFault>
+    ensures list { IfOk result (λ list. list.items ≡ possible (first ∷ option_to_list second)) }
+    ensures memory { IfErr result (λ fault. fault ≡ NoMemory) }
+{
+    let mut list = Vec::new(alloc);
+    add_possible(first, &mut list)?;
+    if let Some(second) = second {
+        add_possible(second, &mut list)?;
+    }
+    Ok(list)
+}
+
+/// Puts an alternative behind a list, if it is possible.
+fn add_possible(choice: Choice, list: &mut Vec<Choice>) -> Result<(), BuildFault>
+    ensures list { OnOk result (list.new.items ≡ list.old.items ++ possible (choice ∷ [])) }
+    ensures memory { IfErr result (λ fault. fault ≡ NoMemory) }
+{
+    if !choice.is_possible() {
+        return Ok(());
+    }
+    list.push(choice)?;
+    Ok(())
+}
+
+fn word_list(alloc: Global, polarity: Polarity, word: &Word) -> Result<Vec<Choice>, BuildFault>
+    ensures list { IfOk result (λ list. list.items ≡ with_keyword polarity word.now ∷ []) }
+    ensures memory { IfErr result (λ fault. fault ≡ NoMemory) }
 {
     let mut list = Vec::new(alloc);
     list.push(Choice::with_keyword(alloc, polarity, word)?)?;
     Ok(list)
 }
 
-fn spans_of(
-    alloc: Global,
-    whole: Span,
-    polarity: Polarity,
-    cmp: Cmp,
-    named: i32,
-) -> Result<Vec<Span>, AllocError>
+/// The first range of the numbers that pass, and the second where there are two.
+fn spans_of(whole: Span, polarity: Polarity, cmp: Cmp, named: i32) -> (Span, Option<Span>)
     requires above { i32.MIN <ℤ named }
     requires below { named <ℤ i32.MAX }
-    ensures { IfOk result (λ spans. spans.items ≡ spans_of whole polarity cmp named) }
+    ensures { result.0 ∷ option_to_list result.1 ≡ spans_of whole polarity cmp named }
 {
     let Span { first, last } = whole;
     let only = Span {
@@ -126,12 +150,12 @@ fn spans_of(
         last,
     };
     match (polarity, cmp) {
-        (Polarity::Plain, Cmp::AtLeast) => Ok(vec![in alloc; Span { first: named, last }]?),
-        (Polarity::Plain, Cmp::AtMost) => Ok(vec![in alloc; Span { first, last: named }]?),
-        (Polarity::Plain, Cmp::Equal) => Ok(vec![in alloc; only]?),
-        (Polarity::Negated, Cmp::AtLeast) => Ok(vec![in alloc; below]?),
-        (Polarity::Negated, Cmp::AtMost) => Ok(vec![in alloc; above]?),
-        (Polarity::Negated, Cmp::Equal) => Ok(vec![in alloc; below, above]?),
+        (Polarity::Plain, Cmp::AtLeast) => (Span { first: named, last }, None),
+        (Polarity::Plain, Cmp::AtMost) => (Span { first, last: named }, None),
+        (Polarity::Plain, Cmp::Equal) => (only, None),
+        (Polarity::Negated, Cmp::AtLeast) => (below, None),
+        (Polarity::Negated, Cmp::AtMost) => (above, None),
+        (Polarity::Negated, Cmp::Equal) => (below, Some(above)),
     }
 }
 
