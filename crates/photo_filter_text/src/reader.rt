@@ -1,9 +1,9 @@
-ghost use Rattle.std.specs.Prelude.{◌≡◌, ◌≢◌, ◌+◌, ◌<◌, ◌^◌, true, false, is_some, IfOk, IfErr, IsErr, Some, None, Ok, Err, option_map};
+ghost use Rattle.std.specs.Prelude.{◌≡◌, ◌≢◌, ◌+◌, ◌<◌, ◌^◌, ◌||◌, ◌∷◌, nat_lt, true, false, is_some, IfOk, IfErr, IsErr, Some, None, Ok, Err, option_map};
 ghost use Rattle.photo_filter_text.specs.Grammar.{is_bracket};
 ghost use Rattle.photo_filter_text.specs.declared.reader.Refusal.TheVariants.{Unexpected, BadWord, NoMemory};
 ghost use Rattle.photo_filter_text.specs.Tree.{tree_of, Keyword, Both, Either};
 ghost use Rattle.photo_filter_text.specs.declared.reader.Field.TheVariants.{RatingField, DayField};
-ghost use Rattle.photo_filter_text.specs.Steps.{start, step, step_at, fresh, level_with, levels_of, finish, joined, negated, after_factor, at_factor, after_term, keeps, keeps_at, keeps_at_end, keeps_factor, keeps_at_factor, keeps_after_term, state_of, level_of, state_with, AtFactor, AtOperator, AtValue, AtWord, After, finished, keeps_finished, closed, keeps_closed};
+ghost use Rattle.photo_filter_text.specs.Steps.{start, step, step_at, fresh, level_with, levels_of, finish, joined, negated, after_factor, at_factor, after_term, keeps, keeps_at, keeps_at_end, keeps_factor, keeps_at_factor, keeps_after_term, state_of, place_of, level_of, state_with, AtFactor, AtOperator, AtValue, AtWord, After, finished, keeps_finished, closed, keeps_closed};
 
 use crate::symbol::{Symbol, read_comparison, read_symbol};
 use crate::{Cmp, FilterTree};
@@ -176,11 +176,11 @@ fn read_word(alloc: Global, token: &str) -> Result<Word, Refusal>
     }
 }
 
-#[tactic(auto, using(crate::proofs::Levels::levels_push), unfolding(crate::specs::Steps::at_factor, crate::specs::Steps::keeps_at_factor))]
+#[tactic(auto, unfolding(crate::specs::Steps::at_factor, crate::specs::Steps::keeps_at_factor))]
 fn at_factor(
     alloc: Global,
     level: Level,
-    mut outer: Vec<Level>,
+    outer: Vec<Level>,
     symbol: Symbol,
 ) -> Result<Reader, Refusal>
     requires { level.negations < 2 ^ 32 }
@@ -188,27 +188,39 @@ fn at_factor(
     ensures refused { IfErr result (λ refusal. refusal ≢ NoMemory → at_factor (level_of level) (levels_of outer.items) symbol ≡ Err refusal) }
     ensures memory { IfErr result (λ refusal. refusal ≡ NoMemory → keeps_at_factor (level_of level) symbol ≡ true) }
 {
-    let (place, level) = match symbol {
-        Symbol::AllWord => return after_factor(alloc, level, outer, FilterTree::All),
-        Symbol::NoneWord => return after_factor(alloc, level, outer, FilterTree::Nothing),
-        Symbol::Open => {
-            outer.push(level)?;
-            (Place::Factor, Level::new())
-        }
-        Symbol::NotWord => (Place::Factor, level.with_negation()),
-        Symbol::RatingWord => (Place::Operator(Field::RatingField), level),
-        Symbol::DayWord => (Place::Operator(Field::DayField), level),
-        Symbol::KeywordWord => (Place::Word, level),
+    match symbol {
+        Symbol::Open => opened(alloc, level, outer),
+        Symbol::NotWord => Ok(placed(alloc, Place::Factor, level.with_negation(), outer)),
+        Symbol::AllWord => after_factor(alloc, level, outer, FilterTree::All),
+        Symbol::NoneWord => after_factor(alloc, level, outer, FilterTree::Nothing),
+        Symbol::RatingWord => Ok(placed(alloc, Place::Operator(Field::RatingField), level, outer)),
+        Symbol::DayWord => Ok(placed(alloc, Place::Operator(Field::DayField), level, outer)),
+        Symbol::KeywordWord => Ok(placed(alloc, Place::Word, level, outer)),
         Symbol::Close | Symbol::OrWord | Symbol::AndWord | Symbol::Other => {
-            return Err(Refusal::Unexpected);
+            Err(Refusal::Unexpected)
         }
-    };
-    Ok(Reader {
+    }
+}
+
+fn placed(alloc: Global, place: Place, level: Level, outer: Vec<Level>) -> Reader
+    ensures { state_of result ≡ state_with (place_of place) (level_of level) (levels_of outer.items) }
+{
+    Reader {
         alloc,
         place,
         level,
         outer,
-    })
+    }
+}
+
+// A bracket has been opened.
+#[tactic(auto, using(crate::proofs::Levels::levels_push))]
+fn opened(alloc: Global, level: Level, mut outer: Vec<Level>) -> Result<Reader, Refusal>
+    ensures taken { IfOk result (λ reader. state_of reader ≡ state_with AtFactor fresh (level_of level ∷ levels_of outer.items)) }
+    ensures refused { IfErr result (λ refusal. refusal ≡ NoMemory) }
+{
+    outer.push(level)?;
+    Ok(placed(alloc, Place::Factor, Level::new(), outer))
 }
 
 // A comparison is read.
@@ -298,19 +310,27 @@ fn after_factor(
         both,
         negations,
     } = level;
-    let factor = negated(alloc, negations, factor)?;
-    let term = conjunction(alloc, both, factor)?;
+    let term = term_of(alloc, both, negations, factor)?;
     let level = Level {
         either,
         both: None,
         negations: 0,
     };
-    Ok(Reader {
-        alloc,
-        place: Place::After(term),
-        level,
-        outer,
-    })
+    Ok(placed(alloc, Place::After(term), level, outer))
+}
+
+// The term that a factor behind so many `not` makes of those before it.
+fn term_of(
+    alloc: Global,
+    both: Option<FilterTree>,
+    negations: usize,
+    factor: FilterTree,
+) -> Result<FilterTree, AllocError>
+    ensures tree { IfOk result (λ tree. tree_of tree ≡ joined Both (option_map tree_of both) (negated negations (tree_of factor))) }
+    ensures memory { IsErr result → (nat_lt 0 negations || is_some (option_map tree_of both)) ≡ true }
+{
+    let factor = negated(alloc, negations, factor)?;
+    conjunction(alloc, both, factor)
 }
 
 #[tactic(auto, unfolding(crate::specs::Steps::after_term, crate::specs::Steps::keeps_after_term))]

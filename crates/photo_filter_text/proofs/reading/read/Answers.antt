@@ -6,6 +6,9 @@ use Rattle.photo_filter_text.proofs.Complete.{one-tree}
 use Rattle.photo_filter_text.proofs.Verdict.{accepted, no-fault}
 use Rattle.photo_filter_text.proofs.reading.read.Goals as goal
 
+pub returns-then-count-eq0-clause-fault : goal.returns-then-count-eq0-clause-fault
+returns-then-count-eq0-clause-fault c = nil_from_length _ (omega arith)
+
 pub returns-then-count-eq0-clause-accepted : goal.returns-then-count-eq0-clause-accepted
 returns-then-count-eq0-clause-accepted c =
     λ tree f. no-fault (tokens_of c.args.text.now) tree _ f (nil_from_length _ (omega arith))
