@@ -188,18 +188,19 @@ fn at_factor(
     ensures refused { IfErr result (λ refusal. refusal ≢ NoMemory → at_factor (level_of level) (levels_of outer.items) symbol ≡ Err refusal) }
     ensures memory { IfErr result (λ refusal. refusal ≡ NoMemory → keeps_at_factor (level_of level) symbol ≡ true) }
 {
-    match symbol {
-        Symbol::Open => opened(alloc, level, outer),
-        Symbol::NotWord => Ok(placed(alloc, Place::Factor, level.with_negation(), outer)),
-        Symbol::AllWord => after_factor(alloc, level, outer, FilterTree::All),
-        Symbol::NoneWord => after_factor(alloc, level, outer, FilterTree::Nothing),
-        Symbol::RatingWord => Ok(placed(alloc, Place::Operator(Field::RatingField), level, outer)),
-        Symbol::DayWord => Ok(placed(alloc, Place::Operator(Field::DayField), level, outer)),
-        Symbol::KeywordWord => Ok(placed(alloc, Place::Word, level, outer)),
+    let (place, level) = match symbol {
+        Symbol::AllWord => return after_factor(alloc, level, outer, FilterTree::All),
+        Symbol::NoneWord => return after_factor(alloc, level, outer, FilterTree::Nothing),
+        Symbol::Open => return opened(alloc, level, outer),
+        Symbol::NotWord => (Place::Factor, level.with_negation()),
+        Symbol::RatingWord => (Place::Operator(Field::RatingField), level),
+        Symbol::DayWord => (Place::Operator(Field::DayField), level),
+        Symbol::KeywordWord => (Place::Word, level),
         Symbol::Close | Symbol::OrWord | Symbol::AndWord | Symbol::Other => {
-            Err(Refusal::Unexpected)
+            return Err(Refusal::Unexpected);
         }
-    }
+    };
+    Ok(placed(alloc, place, level, outer))
 }
 
 fn placed(alloc: Global, place: Place, level: Level, outer: Vec<Level>) -> Reader
