@@ -3,7 +3,8 @@ use photo_filter_text::{FilterTree, read};
 use photo_record::{Day, Rating, Record, Words};
 use std::alloc::{AllocError, Global};
 
-// A value that is owned has its own function here, with no `rt` beside it, and a table is a constant: so the proofs are short.
+// A value that is owned has its own function here, with no `rt` beside it, a table is a constant,
+// and a loop over one tells its first wrong row: so the proofs are short.
 
 fn built(alloc: Global, text: &str) -> Option<Filter> {
     let tree = read(alloc, text).ok()?;
@@ -37,11 +38,19 @@ const COUNTS: &[(&str, usize)] = &[
     ("keyword x or keyword x", 2),
 ];
 
+fn wrong_count(alloc: Global) -> Option<&'static str> {
+    for (text, count) in COUNTS {
+        if !counts_to(alloc, text, *count) {
+            return Some(*text);
+        }
+    }
+    None
+}
+
 #[test]
 fn counts(rt: HostRuntime) {
-    for (text, count) in COUNTS {
-        assert!(rt; counts_to(rt.alloc(), text, *count), "{text}");
-    }
+    let wrong = wrong_count(rt.alloc());
+    assert!(rt; wrong.is_none(), "{wrong:?}");
 }
 
 // A word of the filter language so many times, with another between them, in brackets.
@@ -113,14 +122,19 @@ fn are_groups_so_wide(alloc: Global, groups: Groups, count: Option<usize>) -> bo
     push_groups(&mut text, ends, word, between, sizes).is_ok() && is_so_wide(alloc, &text, count)
 }
 
+fn wrong_groups(alloc: Global) -> Option<Groups> {
+    for (groups, count) in GROUPS {
+        if !are_groups_so_wide(alloc, *groups, *count) {
+            return Some(*groups);
+        }
+    }
+    None
+}
+
 #[test]
 fn widths_by_or_and_by_not(rt: HostRuntime) {
-    for (groups, count) in GROUPS {
-        assert!(rt;
-            are_groups_so_wide(rt.alloc(), *groups, *count),
-            "{groups:?}"
-        );
-    }
+    let wrong = wrong_groups(rt.alloc());
+    assert!(rt; wrong.is_none(), "{wrong:?}");
 }
 
 // Tests for words of one letter, joined by `or`, in brackets.
@@ -165,14 +179,19 @@ const PAIRS: &[((&str, &str), &str, &str, Option<usize>)] = &[
     (("", " and none"), "abcde", "fghijklmnopqr", None),
 ];
 
+fn wrong_pairs(alloc: Global) -> Option<(&'static str, &'static str)> {
+    for (ends, left, right, count) in PAIRS {
+        if !are_pairs_so_wide(alloc, *ends, left, right, *count) {
+            return Some((ends.0, *right));
+        }
+    }
+    None
+}
+
 #[test]
 fn widths_by_and(rt: HostRuntime) {
-    for (ends, left, right, count) in PAIRS {
-        assert!(rt;
-            are_pairs_so_wide(rt.alloc(), *ends, left, right, *count),
-            "{ends:?} {right}"
-        );
-    }
+    let wrong = wrong_pairs(rt.alloc());
+    assert!(rt; wrong.is_none(), "{wrong:?}");
 }
 
 // Whether a tree that is read is too wide, and comes back as it is read again.
@@ -271,11 +290,19 @@ const ANSWERS: &[(&str, &str)] = &[
     ("keyword x and not keyword e\u{301}", "ynnnn"),
 ];
 
+fn wrong_answer(alloc: Global) -> Option<&'static str> {
+    for (text, want) in ANSWERS {
+        if !answers_so(alloc, text, want) {
+            return Some(*text);
+        }
+    }
+    None
+}
+
 #[test]
 fn matching(rt: HostRuntime) {
-    for (text, want) in ANSWERS {
-        assert!(rt; answers_so(rt.alloc(), text, want), "{text}");
-    }
+    let wrong = wrong_answer(rt.alloc());
+    assert!(rt; wrong.is_none(), "{wrong:?}");
 }
 
 // Whether the filter covers that of a text.
@@ -313,14 +340,19 @@ const COVERS: &[(&str, &str, bool)] = &[
     ),
 ];
 
+fn wrong_cover(alloc: Global) -> Option<(&'static str, &'static str)> {
+    for (first, second, want) in COVERS {
+        if !covers_so(alloc, first, second, *want) {
+            return Some((*first, *second));
+        }
+    }
+    None
+}
+
 #[test]
 fn covering(rt: HostRuntime) {
-    for (first, second, want) in COVERS {
-        assert!(rt;
-            covers_so(rt.alloc(), first, second, *want),
-            "{first}; {second}"
-        );
-    }
+    let wrong = wrong_cover(rt.alloc());
+    assert!(rt; wrong.is_none(), "{wrong:?}");
 }
 
 fn keeps_its_tree(alloc: Global) -> bool {
