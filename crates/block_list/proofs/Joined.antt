@@ -2,13 +2,14 @@
 use Rattle.std.proofs.Common.{slice_get, Some, ◌≡◌, ℕ, zero, suc, ◌+◌, ◌<◌, ◌≤◌, List, [], ◌∷◌, ◌++◌, length, get_or, set, take, drop, Vec, refl, subst, sym, ap, ◌∙◌, append_assoc, arith}
 use Rattle.std.specs.List.{insert, remove}
 use Rattle.std.specs.declared.alloc.Global.{Global}
-use Rattle.std.proofs.lemmas.List.{set_split, length-set, get_or-set_same, length-take-le, take_at, drop_at, drop-drop, take-append-le, drop-append-le, take-set-le, drop-set-lt}
+use Rattle.std.proofs.lemmas.List.{set_split, length-set, get_or-set_same, length-take-le, take_at, drop_at, drop-drop, take-append-le, drop-append-le}
 use Rattle.std.proofs.lemmas.List.Concat.{get_or-flat_map}
+use Rattle.std.proofs.lemmas.List.Edits.{length-insert}
 use Rattle.std.proofs.lemmas.List.Folds.{length-flat_map-take}
 use Rattle.std.proofs.lemmas.Option.{slice_get_read}
 use Rattle.std.proofs.lemmas.List.Elements.{All-set, All-take, All-drop, All-append, All-cons}
 use Rattle.std.proofs.lemmas.Grind.{common_steps}
-use Rattle.block_list.specs.Blocks.{joined, IsFilled, AreFilled, start_of, IsPlace, IsElement}
+use Rattle.block_list.specs.Blocks.{joined, IsFilled, AreFilled, IsKept, start_of, IsPlace, IsElement}
 
 -- n elements from place k of the middle list on are replaced, which is place i of the whole
 spliced : {T : Type 0} (front items back new : List T) (i k n : ℕ) → length front + k ≡ i → k + n ≤ length items → front ++ ((take k items ++ (new ++ drop (k + n) items)) ++ back) ≡ take i (front ++ (items ++ back)) ++ (new ++ drop (i + n) (front ++ (items ++ back)))
@@ -105,9 +106,6 @@ module _ {T : Type 0} where
   pub filled-set : (blocks : List (Vec T Global)) (b : ℕ) (v : Vec T Global) → 0 < length v.items → AreFilled blocks → AreFilled (set blocks b v)
   filled-set blocks b v n f = All-set IsFilled blocks b v n f
 
-  pub filled-remove : (blocks : List (Vec T Global)) (b : ℕ) (v : Vec T Global) → AreFilled blocks → AreFilled (remove (set blocks b v) b)
-  filled-remove blocks b v f = rw (take-set-le b blocks b v (omega arith), drop-set-lt (suc b) blocks b v (omega arith)) (All-append IsFilled _ _ (All-take IsFilled b blocks f) (All-drop IsFilled (suc b) blocks f))
-
   -- one block further
   pub start_more : (blocks : List (Vec T Global)) (b : ℕ) (d : Vec T Global) → b < length blocks → (start_of blocks (b + 1) ≡ start_of blocks b + length (get_or blocks b d).items) × (start_of blocks b + length (get_or blocks b d).items ≤ length (joined blocks))
   start_more blocks b d h = (grind (arith, common_steps), length-flat_map-take (λ block. block.items) blocks b d h)
@@ -122,6 +120,13 @@ module _ {T : Type 0} where
       slice_get_read (joined blocks) (length (joined blocks)) i x refl
       (omega (arith, length-flat_map-take (λ block. block.items) blocks b v place.block))
       (item ∙ (λ j. get_or (read j).items k x) ∙ sym (get_or-flat_map (λ block. block.items) blocks b k v x place.block inner) ∙ ap (λ n. get_or (joined blocks) n x) (sym i_is))
+
+  -- one element more
+  pub kept_more : (old new : List (Vec T Global)) (i len : ℕ) (x : T) → IsKept old len → i ≤ length (joined old) → joined new ≡ insert (joined old) i x → AreFilled new → IsKept new (len + 1)
+  kept_more old new i len x kept within is filled = record {
+    filled = filled;
+    len_is = ap (λ n. n + 1) kept.len_is ∙ sym (length-insert (joined old) i x within) ∙ sym (ap length is);
+  }
 
   -- a place in a block is within the list
   pub start_within : (blocks : List (Vec T Global)) (b k : ℕ) → IsPlace blocks (start_of blocks b + k) b k → start_of blocks b + k ≤ length (joined blocks)

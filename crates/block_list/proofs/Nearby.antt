@@ -28,6 +28,9 @@ module _ {T : Type 0} where
     within = λ d. omega (arith, ap (λ (w : Vec T Global). length w.items) (get_or_default blocks b d v inside ∙ sym is));
   }
 
+  pub same_block : (blocks : List (Vec T Global)) (b : ℕ) (v w : Vec T Global) → b < length blocks → v ≡ get_or blocks b v → w ≡ get_or blocks b w → v ≡ w
+  same_block blocks b v w inside is also = is ∙ get_or_default blocks b v w inside ∙ sym also
+
   -- the element before a place in a block that isn't its first
   pub before_here : (blocks : List (Vec T Global)) (b k : ℕ) (v : Vec T Global) (x d : T) → IsPlace blocks (start_of blocks b + k) b k → v ≡ get_or blocks b v → 0 < k → x ≡ get_or v.items (k - 1) x → get_or (joined blocks) (start_of blocks b + k - 1) d ≡ x
   before_here blocks b k v x d place is some item =

@@ -83,6 +83,11 @@ module _ {T : Type 0} where
         list = is;
       }
 
+  pub point_of_none : (p : T → Bool) (blocks : List (Vec T Global)) → blocks ≡ [] → IsPartitionPoint (λ y. p y ≡ true) (λ y. p y ≡ false) (joined blocks) 0
+  point_of_none p blocks none =
+      let long : length (joined blocks) ≡ 0 = ap (λ l. length (joined l)) none in
+      (λ j d z l. absurd (omega arith), λ j d l u. absurd (omega arith))
+
   -- the element there is one of those that are to be replaced
 
   some_between : (q : T → Bool) (old : List T) (from to : ℕ) (x : T) → from < length old → IsPartitionPoint (λ y. q y ≡ true) (λ y. q y ≡ false) old to → ((y : T) → slice_get old from ≡ Some y → q y ≡ true) → from < to
@@ -193,3 +198,13 @@ module _ {T : Type 0} where
   pub tells_in_blocks : (p q : T → Bool) (xs : List T) (blocks at behind : List (Vec T Global)) (b k : ℕ) (found : Bool) → at ≡ blocks → behind ≡ blocks → joined blocks ≡ xs → IsPlace at (start_of at b + k) b k → (IsPartitionedBy p (joined at) → IsPartitionPoint (λ y. p y ≡ true) (λ y. p y ≡ false) (joined at) (start_of at b + k)) → ((y : T) → slice_get (joined behind) (start_of behind b + k) ≡ Some y → q y ≡ found) → (found ≡ true → start_of behind b + k < length (joined behind)) → IsPartitionedBy p xs → IsPartitionedBy q xs → ((y : T) → p y ≡ true → q y ≡ true) → TellsBetween p q xs found
   tells_in_blocks p q xs blocks at behind b k found at_is behind_is xs_is place first passes some parts_p parts_q wider =
       tells p q xs (start_of blocks b + k) found (rw xs_is at (start_within blocks b k (rw at_is at place))) ((rw xs_is at (rw at_is at first)) parts_p) parts_q wider (rw xs_is at (rw behind_is at passes)) (rw xs_is at (rw behind_is at some))
+
+  pub tells_none : (p q : T → Bool) (xs : List T) (blocks : List (Vec T Global)) → joined blocks ≡ xs → blocks ≡ [] → TellsBetween p q xs false
+  tells_none p q xs blocks xs_is none =
+      let long : length xs ≡ 0 = ap length (sym xs_is ∙ ap joined none) in
+      record {
+        from = 0;
+        to = 0;
+        between = record { order = omega arith; within = omega arith; first = rw xs_is at (point_of_none p blocks none); last = rw xs_is at (point_of_none q blocks none) };
+        answer_is = sym (le-ltb 0 0 (omega arith));
+      }

@@ -43,19 +43,32 @@ fn moved_on<T, P: Fn(&T) -> bool>(blocks: &[Vec<T>], near: Spot, pred: &P) -> Sp
 fn next<T, P: Fn(&T) -> bool>(blocks: &[Vec<T>], spot: Spot, pred: &P) -> Option<Spot>
     requires { P.IsAlwaysCallable pred.now }
 {
-    let (mut block, mut place) = (spot.block, spot.place);
-    if place >= blocks.get(block)?.len() {
-        block += 1;
-        place = 0;
-    }
-    let item = blocks.get(block)?.get(place)?;
-    if !pred(item) {
+    let Spot { block, place } = spot;
+    if block >= blocks.len() {
         return None;
     }
-    Some(Spot {
-        block,
-        place: place + 1,
-    })
+    if place < blocks[block].len() {
+        return passed(blocks, block, place, pred);
+    }
+    passed(blocks, block + 1, 0, pred)
+}
+
+/// Behind an element, where there is that one and it passes the test.
+fn passed<T, P: Fn(&T) -> bool>(
+    blocks: &[Vec<T>],
+    block: usize,
+    place: usize,
+    pred: &P,
+) -> Option<Spot>
+    requires { P.IsAlwaysCallable pred.now }
+{
+    match blocks.get(block)?.get(place) {
+        Some(item) if pred(item) => Some(Spot {
+            block,
+            place: place + 1,
+        }),
+        _ => None,
+    }
 }
 
 /// Whether the test is seen to turn at a place in a block: the element before it passes, or there is none, and the one

@@ -19,7 +19,7 @@ pub fn spare_blocks<T: Drop>(alloc: Global, count: usize) -> Result<Vec<Vec<T>>,
 {
     let mut blocks = Vec::with_capacity(alloc, count + 1)?;
     for i in 0..count {
-        blocks.push(Vec::with_capacity(alloc, BLOCK_ROOM)?)?;
+        blocks.push_reserved(Vec::with_capacity(alloc, BLOCK_ROOM)?);
     }
     Ok(blocks)
 }

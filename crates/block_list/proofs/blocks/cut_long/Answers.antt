@@ -14,3 +14,9 @@ returns-clause-filled g c =
     let place : c.args.block + 1 ≤ length (set c.reserve.new.self.items c.args.block c.split_off.new.self) = grind (arith, common_steps) in
     let first : AreFilled c.reserve.new.self.items = subst AreFilled (sym c.reserve.ensures.items) c.requires.filled in
     subst AreFilled (sym c.in-Ok-insert.ensures.items) (filled-insert _ _ _ place back (filled-set _ _ _ front first))
+
+pub split_off-requires : goal.split_off-requires
+split_off-requires g c = grind (arith, common_steps)
+
+pub returns-in_default-clause-same : goal.returns-in_default-clause-same
+returns-in_default-clause-same g c = grind (arith, common_steps)

@@ -8,3 +8,6 @@ returns-then-is_empty-clause-rest g c = grind (arith, common_steps, joined-drain
 
 pub returns-else-is_empty-clause-rest : goal.returns-else-is_empty-clause-rest
 returns-else-is_empty-clause-rest g c = grind (arith, common_steps, joined-drain)
+
+pub remove_part-requires-clause-in_range : goal.remove_part-requires-clause-in_range
+remove_part-requires-clause-in_range g c = grind (arith, common_steps)

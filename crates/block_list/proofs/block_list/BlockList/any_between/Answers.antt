@@ -1,5 +1,11 @@
-use Rattle.block_list.proofs.Replaced.{tells_in_blocks}
+use Rattle.std.proofs.Common.{arith}
+use Rattle.std.proofs.lemmas.Grind.{common_steps}
+use Rattle.block_list.proofs.Replaced.{tells_none, tells_in_blocks}
 use Rattle.block_list.proofs.block_list.BlockList.any_between.Goals as goal
+
+pub returns-then-is_empty : goal.returns-then-is_empty
+returns-then-is_empty g c = λ p q hp hq parts_p parts_q wider.
+    tells_none p q c.args.self.now c.self.inside.blocks.items c.self.view_is (grind (arith, common_steps))
 
 pub returns : goal.returns
 returns g c = λ p q hp hq parts_p parts_q wider.

@@ -1,5 +1,7 @@
-use Rattle.std.proofs.Common.{arith}
+use Rattle.std.proofs.Common.{◌+◌, arith}
 use Rattle.std.proofs.lemmas.Grind.{common_steps}
+use Rattle.block_list.specs.Blocks.{start_of, IsPlace}
+use Rattle.block_list.proofs.Joined.{kept_more, start_within}
 use Rattle.block_list.proofs.Replaced.{put_first, put_only, put_alone, put_over}
 use Rattle.block_list.proofs.block_list.BlockList.replace_between.Goals as goal
 
@@ -21,6 +23,12 @@ returns-then-passes_behind-clause-ok g c = λ p q hp hq parts_p parts_q wider.
 
 pub insert_in-requires-clause-place : goal.insert_in-requires-clause-place
 insert_in-requires-clause-place g c = rw c.as_slice-blocks.ensures.value at c.spot_of-block.ensures.place
+
+pub invariant_of-self-2 : goal.invariant_of-self-2
+invariant_of-self-2 g c =
+    let blocks = c.self.inside.blocks.items in
+    let place : IsPlace blocks (start_of blocks c.spot_of-block.result.0 + c.spot_of-block.result.1) c.spot_of-block.result.0 c.spot_of-block.result.1 = rw c.as_slice-blocks.ensures.value at c.spot_of-block.ensures.place in
+    kept_more blocks c.insert_in.new.blocks.items _ c.self.inside.len c.args.item c.self.invariant (start_within blocks c.spot_of-block.result.0 c.spot_of-block.result.1 place) c.in_ok-insert_in.ensures.ok c.insert_in.ensures.filled
 
 pub returns-clause-ok : goal.returns-clause-ok
 returns-clause-ok g c = λ p q hp hq parts_p parts_q wider.
