@@ -1,7 +1,8 @@
 use crate::{BlockList, Room, Spot};
 use std::alloc::{AllocError, Global};
 
-// A list that is owned has its own function here, with no `rt` beside it, and a table is a constant: so the proofs are short.
+// A list that is owned has its own function here, with no `rt` beside it, a table is a constant,
+// and a loop over one tells its first wrong row: so the proofs are short.
 
 /// 0, 1, 2 .. n - 1, each put before the others.
 fn falling(alloc: Global, n: u32) -> Result<BlockList<u32>, AllocError> {
@@ -77,11 +78,19 @@ const FALLING: &[(u32, Shape)] = &[
     (192, (3, 64)),
 ];
 
+fn wrong_fall(alloc: Global) -> Option<u32> {
+    for (n, wanted) in FALLING {
+        if !falls(alloc, *n, *wanted) {
+            return Some(*n);
+        }
+    }
+    None
+}
+
 #[test]
 fn a_list_that_grows_at_its_front_is_halved(rt: HostRuntime) {
-    for (n, wanted) in FALLING {
-        assert!(rt; falls(rt.alloc(), *n, *wanted), "of {n}");
-    }
+    let wrong = wrong_fall(rt.alloc());
+    assert!(rt; wrong.is_none(), "{wrong:?}");
 }
 
 fn rises(alloc: Global, n: u32, wanted: Shape) -> bool {
@@ -98,11 +107,19 @@ const RISING: &[(u32, Shape)] = &[
     (255, (3, 127)),
 ];
 
+fn wrong_rise(alloc: Global) -> Option<u32> {
+    for (n, wanted) in RISING {
+        if !rises(alloc, *n, *wanted) {
+            return Some(*n);
+        }
+    }
+    None
+}
+
 #[test]
 fn a_list_that_grows_at_its_end_has_full_blocks(rt: HostRuntime) {
-    for (n, wanted) in RISING {
-        assert!(rt; rises(rt.alloc(), *n, *wanted), "of {n}");
-    }
+    let wrong = wrong_rise(rt.alloc());
+    assert!(rt; wrong.is_none(), "{wrong:?}");
 }
 
 /// Whether a list of 1,100 numbers loses just those from `from` up to before `to`, and then has that shape.
@@ -134,14 +151,19 @@ const RANGES: &[(u32, u32, Shape)] = &[
     (0, 275, (0, 0)),
 ];
 
+fn wrong_removal(alloc: Global) -> Option<(u32, u32)> {
+    for (from, to, wanted) in RANGES {
+        if !rises_and_loses(alloc, *from, *to, *wanted) {
+            return Some((*from, *to));
+        }
+    }
+    None
+}
+
 #[test]
 fn ranges_are_removed_over_blocks(rt: HostRuntime) {
-    for (from, to, wanted) in RANGES {
-        assert!(rt;
-            rises_and_loses(rt.alloc(), *from, *to, *wanted),
-            "{from} to {to}"
-        );
-    }
+    let wrong = wrong_removal(rt.alloc());
+    assert!(rt; wrong.is_none(), "{wrong:?}");
 }
 
 /// From where to where the numbers of a list of 275 stay, and what shape it has then.
@@ -173,14 +195,19 @@ fn rises_and_keeps(alloc: Global, from: u32, to: u32, wanted: Shape) -> bool {
     }
 }
 
+fn wrong_stay(alloc: Global) -> Option<(u32, u32)> {
+    for (from, to, wanted) in STAYING {
+        if !rises_and_keeps(alloc, *from, *to, *wanted) {
+            return Some((*from, *to));
+        }
+    }
+    None
+}
+
 #[test]
 fn what_passes_is_kept_over_blocks(rt: HostRuntime) {
-    for (from, to, wanted) in STAYING {
-        assert!(rt;
-            rises_and_keeps(rt.alloc(), *from, *to, *wanted),
-            "{from} to {to}"
-        );
-    }
+    let wrong = wrong_stay(rt.alloc());
+    assert!(rt; wrong.is_none(), "{wrong:?}");
 }
 
 /// Whether the list has that shape once items were taken from its front until so many are left.
@@ -231,11 +258,19 @@ const ROOMS: &[(u32, Shape)] = &[
     (2_000, (8, 256)),
 ];
 
+fn wrong_room(alloc: Global) -> Option<u32> {
+    for (n, wanted) in ROOMS {
+        if !is_of_a_room(alloc, *n, *wanted) {
+            return Some(*n);
+        }
+    }
+    None
+}
+
 #[test]
 fn a_room_becomes_a_list_of_short_blocks(rt: HostRuntime) {
-    for (n, wanted) in ROOMS {
-        assert!(rt; is_of_a_room(rt.alloc(), *n, *wanted), "of {n}");
-    }
+    let wrong = wrong_room(rt.alloc());
+    assert!(rt; wrong.is_none(), "{wrong:?}");
 }
 
 /// Puts the numbers from 200 up to before 800 at their places.
@@ -338,14 +373,19 @@ fn rises_and_replaces(alloc: Global, from: u32, to: u32, wanted: usize) -> bool 
     }
 }
 
+fn wrong_replacement(alloc: Global) -> Option<(u32, u32)> {
+    for (from, to, wanted) in BETWEEN {
+        if !rises_and_replaces(alloc, *from, *to, *wanted) {
+            return Some((*from, *to));
+        }
+    }
+    None
+}
+
 #[test]
 fn an_element_takes_the_place_of_those_between(rt: HostRuntime) {
-    for (from, to, wanted) in BETWEEN {
-        assert!(rt;
-            rises_and_replaces(rt.alloc(), *from, *to, *wanted),
-            "{from} to {to}"
-        );
-    }
+    let wrong = wrong_replacement(rt.alloc());
+    assert!(rt; wrong.is_none(), "{wrong:?}");
 }
 
 /// Whether the first number that isn't below `wanted` is found, also from that hint on.
