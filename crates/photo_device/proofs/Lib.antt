@@ -7,6 +7,7 @@ pub mod Holding
 pub mod OwnLemmas
 pub mod Replacing
 pub mod Lexical
+pub mod Pushing
 pub mod Putting
 pub mod Inserting
 pub mod Located

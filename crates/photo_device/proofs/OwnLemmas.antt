@@ -18,6 +18,7 @@ use Rattle.photo_device.specs.Entry.{is_of_other}
 use Rattle.photo_device.specs.Held.{entry_of, held_before, held_of_others, replaced, count_of}
 use Rattle.photo_device.specs.Device.{Kept, held_at}
 use Rattle.photo_device.specs.Own.{HasEarlier, KnowsItsOwn, IsKnownBy, IsNext, HasMade, IsDevice}
+use Rattle.photo_device.specs.Learning.{IsOwnLearned}
 use Rattle.photo_device.proofs.Counts.{one_of, count_of-cons, count_of-append, count_of-put, count_of-filter, same_version_is, same_version_self}
 
 pub all_filter : {X : Type 0} (P : X → Type 0) (q : X → Bool) (xs : List X) → AllByRecursion P xs → AllByRecursion P (filter q xs)
@@ -164,11 +165,6 @@ once_with h q r xs ys none_here none_there once v =
           let none : one_of v h ≡ 0 = rw apart refl in
           omega arith
     ]
-
--- the next version is learned: of every picture
-pub record IsOwnLearned (v : Version) (old new : List Fragment) : Type 0 where
-  pub star : (a : Author) → star_bound new a ≡ cond (same_author v.author a) v.number (star_bound old a)
-  pub learned : (p : ℕ) (w : Version) → 0 < p → knows new p w ≡ (knows old p w || same_version v w)
 
 pub makes_device : (place : Place) (h : Held) (d : Kept) (new : List Fragment) → IsNext h d → IsOwnLearned h.version d.knowledge new → IsDevice d
     → IsDevice (record (held_at place h d) { counter = d.counter + 1; knowledge = new })

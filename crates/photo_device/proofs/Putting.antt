@@ -149,16 +149,6 @@ module _ {A : Type 0} where
     partitioned x (y ∷ ys) o (suc i) zero d le l h = absurd (omega arith)
     partitioned x (y ∷ ys) o (suc i) (suc j) d le l h = partitioned x ys (and_parts _ _ o).1 i j d (omega arith) (omega arith) h
 
-    -- so does the test that x doesn't stand before it
-    pub partitioned_upto : (x : A) (xs : List A) → in_order before xs ≡ true → IsPartitionedBy (λ y. not (before x y)) xs
-    partitioned_upto x xs o i j d le l h = elim (cases_lt i j) [
-      | inl less ↦ elim (cases_Bool (before x (get_or xs i d))) [
-        | inl first ↦ absurd (false≢true (sym (not-true _ h) ∙ follows x (get_or xs i d) (get_or xs j d) first (in_order_at before xs o i j d less l)))
-        | inr not_first ↦ ap not not_first
-      ]
-      | inr same ↦ let at : i ≡ j = omega arith in rw at h
-    ]
-
     -- the same of a list in which one may stand twice
     pub partitioned_rising : (x : A) (xs : List A) → in_order (λ y z. not (before z y)) xs ≡ true → IsPartitionedBy (λ y. before y x) xs
     partitioned_rising x xs o i j d le l h = elim (cases_lt i j) [

@@ -25,10 +25,6 @@ held_before a b = entry_before (entry_of a) (entry_of b)
 abbrev pub stands_before : Held → ℕ → Version → Bool
 stands_before held picture version = nat_lt held.picture picture || ((held.picture == picture) && version_before held.version version)
 
--- and behind it
-abbrev pub stands_behind : Held → ℕ → Version → Bool
-stands_behind held picture version = nat_lt picture held.picture || ((picture == held.picture) && version_before version held.version)
-
 -- it is that version of that picture
 abbrev pub is_of : Held → ℕ → Version → Bool
 is_of held picture version = (held.picture == picture) && same_version held.version version

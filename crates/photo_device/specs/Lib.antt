@@ -4,6 +4,7 @@ pub mod Held
 pub mod Rising
 pub mod Device
 pub mod Conflicts
+pub mod Learning
 pub mod Listing
 pub mod Own
 pub mod Taking

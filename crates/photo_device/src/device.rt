@@ -1,5 +1,7 @@
-ghost use Rattle.std.specs.Prelude.{◌≡◌, OnOk, OnErr};
+ghost use Rattle.std.specs.Prelude.{◌≡◌, ◌+◌, IfOk, OnOk, OnErr};
+ghost use Rattle.item_knowledge.specs.Kept.{star_bound};
 ghost use Rattle.photo_device.specs.Device.{store_with, out_with};
+ghost use Rattle.photo_device.specs.Learning.{IsOwnLearned};
 
 use crate::takes::{give_back, take_all, take_others};
 use crate::{Change, ChangeFault, Conflict, Held, HeldSet, NarrowFault, Place, conflicts};
@@ -120,8 +122,7 @@ impl Device {
         ensures err { OnErr result (self.new ≡ self.old) }
     {
         let version = held.version;
-        let mut knowledge = self.knowledge.try_clone()?;
-        knowledge.learn_own(version)?;
+        let knowledge = with_own(&self.knowledge, version)?;
         hold(&mut self.store, &mut self.out, place, held)?;
         self.knowledge = knowledge;
         self.counter = version.n();
@@ -335,6 +336,16 @@ impl Device {
         let list = conflicts::conflicts_of(alloc, &self.store, &self.out)?;
         Ok(list)
     }
+}
+
+/// What is known, and of every picture its author's next version as well. Its only error is want of memory.
+fn with_own(known: &Knowledge, version: Version) -> Result<Knowledge, AllocError>
+    requires { version.number ≡ star_bound known.now version.author + 1 }
+    ensures { IfOk result (λ knowledge. IsOwnLearned version known.now knowledge) }
+{
+    let mut knowledge = known.try_clone()?;
+    knowledge.learn_own(version)?;
+    Ok(knowledge)
 }
 
 /// Holds a version at a place, and nothing else of its picture. An error leaves both sets as they were.

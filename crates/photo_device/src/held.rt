@@ -15,7 +15,7 @@ pub struct Held {
 }
 
 impl Held {
-    ghost use Rattle.photo_device.specs.Held.{stands_before, stands_behind, is_of};
+    ghost use Rattle.photo_device.specs.Held.{stands_before, is_of};
 
     /// An equal held version. Its only error is want of memory.
     pub fn try_clone(&self) -> Result<Held, AllocError>
@@ -34,13 +34,6 @@ impl Held {
         ensures { result ≡ stands_before self.now picture version }
     {
         self.picture < picture || (self.picture == picture && self.version < version)
-    }
-
-    /// Whether it stands behind that version of that picture.
-    pub(crate) fn is_behind(&self, picture: PicNo, version: Version) -> bool
-        ensures { result ≡ stands_behind self.now picture version }
-    {
-        picture < self.picture || (picture == self.picture && version < self.version)
     }
 
     /// Whether it is that version of that picture.

@@ -83,10 +83,7 @@ impl HeldSet {
     pub fn has(&self, picture: PicNo, version: Version) -> bool
         ensures { result ≡ has_version_of picture version self.now }
     {
-        self.items.any_between(
-            |held| held.is_before(picture, version),
-            |held| !held.is_behind(picture, version),
-        )
+        self.of(picture, version).is_some()
     }
 
     /// Whether it has that version of that picture, and a hint for the next question. It takes no memory. Any hint will do:
@@ -165,11 +162,8 @@ impl HeldSet {
         ensures err { OnErr result (self.new ≡ self.old) }
     {
         let (picture, version) = (held.picture, held.version);
-        self.items.replace_between(
-            |other| other.is_before(picture, version),
-            |other| other.is_before(picture, version),
-            held,
-        )?;
+        let before = |other: &Held| other.is_before(picture, version);
+        self.items.replace_between(&before, &before, held)?;
         Ok(())
     }
 
@@ -215,10 +209,10 @@ impl HeldSet {
     pub(crate) fn has_picture(&self, picture: PicNo) -> bool
         ensures { result ≡ has_picture picture self.now }
     {
-        self.items.any_between(
-            |held| held.picture < picture,
-            |held| held.picture <= picture,
-        )
+        match self.items.find_failing(|held| held.picture < picture) {
+            Some(held) => held.picture == picture,
+            None => false,
+        }
     }
 }
 

@@ -12,11 +12,31 @@ use std::alloc::Global;
 
 // A value that is owned has its own function here, with no `?` behind it and no `rt` beside it: so its proof is short.
 
+/// The filter of a text.
+fn filter_of(alloc: Global, text: &str) -> Option<Filter> {
+    let tree = photo_filter_text::read(alloc, text).ok()?;
+    Filter::build(alloc, tree).ok()
+}
+
 /// A new device, by its number and its filter's text.
 fn opened(alloc: Global, author: u16, text: &str) -> Option<Device> {
-    let tree = photo_filter_text::read(alloc, text).ok()?;
-    let filter = Filter::build(alloc, tree).ok()?;
+    let filter = filter_of(alloc, text)?;
     Device::new(alloc, Author::new(author), filter).ok()
+}
+
+/// Whether a new device, by its number and its filter's text, passes a test.
+fn on_device<F: FnOnce(Global, &mut Device) -> bool>(
+    alloc: Global,
+    author: u16,
+    text: &str,
+    test: F,
+) -> bool
+    requires { F.IsAlwaysCallable test }
+{
+    match opened(alloc, author, text) {
+        Some(mut device) => test(alloc, &mut device),
+        None => false,
+    }
 }
 
 fn rated(alloc: Global, rating: u8) -> Option<Record> {
@@ -118,10 +138,10 @@ fn makes_all(alloc: Global, device: &mut Device, steps: &[Step]) -> bool {
     true
 }
 
-/// Whether the device's filter matches a record of that rating.
-fn is_matched(alloc: Global, device: &Device, rating: u8) -> Option<bool> {
+/// Whether a filter matches a record of that rating.
+fn is_matched(alloc: Global, filter: &Filter, rating: u8) -> Option<bool> {
     let record = rated(alloc, rating)?;
-    Some(device.filter().matches(&record))
+    Some(filter.matches(&record))
 }
 
 fn is_new(device: &Device, author: u16) -> bool {
@@ -131,62 +151,47 @@ fn is_new(device: &Device, author: u16) -> bool {
         && device.out().is_empty()
 }
 
-fn opens(alloc: Global) -> bool {
-    match opened(alloc, 2, "rating >= 3") {
-        Some(device) => {
-            is_new(&device, 2)
-                && is_matched(alloc, &device, 2) == Some(false)
-                && is_matched(alloc, &device, 3) == Some(true)
-        }
-        None => false,
-    }
+fn opens(alloc: Global, device: &mut Device) -> bool {
+    is_new(device, 2)
+        && is_matched(alloc, device.filter(), 2) == Some(false)
+        && is_matched(alloc, device.filter(), 3) == Some(true)
 }
 
 #[test]
 fn a_new_device_holds_nothing(rt: HostRuntime) {
-    assert!(rt; opens(rt.alloc()));
+    assert!(rt; on_device(rt.alloc(), 2, "rating >= 3", opens));
 }
 
-fn numbers_versions(alloc: Global) -> bool {
-    match opened(alloc, 2, "all") {
-        Some(mut device) => {
-            makes_all(
-                alloc,
-                &mut device,
-                &[
-                    (1, 7, 5, Place::Store),
-                    (2, 3, 5, Place::Store),
-                    (3, 999_999_999, 5, Place::Store),
-                    (4, 5, 5, Place::Store),
-                ],
-            ) && device.author() == Author::new(2)
-        }
-        None => false,
-    }
+fn numbers_versions(alloc: Global, device: &mut Device) -> bool {
+    makes_all(
+        alloc,
+        device,
+        &[
+            (1, 7, 5, Place::Store),
+            (2, 3, 5, Place::Store),
+            (3, 999_999_999, 5, Place::Store),
+            (4, 5, 5, Place::Store),
+        ],
+    ) && device.author() == Author::new(2)
 }
 
 #[test]
 fn versions_are_numbered(rt: HostRuntime) {
-    assert!(rt; numbers_versions(rt.alloc()));
+    assert!(rt; on_device(rt.alloc(), 2, "all", numbers_versions));
 }
 
 // A device that keeps all, with four versions of four pictures.
 const FOUR_PICTURES: &[(u32, u8)] = &[(7, 5), (3, 5), (999_999_999, 5), (5, 5)];
 
-fn lists_by_picture(alloc: Global) -> bool {
-    match opened(alloc, 2, "all") {
-        Some(mut device) => {
-            made_all(alloc, &mut device, FOUR_PICTURES)
-                && lists(device.store(), &[(3, 2), (5, 4), (7, 1), (999_999_999, 3)])
-                && lists(device.out(), &[])
-        }
-        None => false,
-    }
+fn lists_by_picture(alloc: Global, device: &mut Device) -> bool {
+    made_all(alloc, device, FOUR_PICTURES)
+        && lists(device.store(), &[(3, 2), (5, 4), (7, 1), (999_999_999, 3)])
+        && lists(device.out(), &[])
 }
 
 #[test]
 fn versions_are_listed_by_picture(rt: HostRuntime) {
-    assert!(rt; lists_by_picture(rt.alloc()));
+    assert!(rt; on_device(rt.alloc(), 2, "all", lists_by_picture));
 }
 
 /// Whether a list has what a set has, in the same order.
@@ -214,62 +219,47 @@ fn is_copied(alloc: Global, set: &HeldSet, length: usize) -> bool {
     }
 }
 
-fn copies(alloc: Global) -> bool {
-    match opened(alloc, 2, "all") {
-        Some(mut device) => {
-            made_all(alloc, &mut device, FOUR_PICTURES)
-                && is_copied(alloc, device.store(), 4)
-                && is_copied(alloc, device.out(), 0)
-        }
-        None => false,
-    }
+fn copies(alloc: Global, device: &mut Device) -> bool {
+    made_all(alloc, device, FOUR_PICTURES)
+        && is_copied(alloc, device.store(), 4)
+        && is_copied(alloc, device.out(), 0)
 }
 
 #[test]
 fn a_list_has_copies(rt: HostRuntime) {
-    assert!(rt; copies(rt.alloc()));
+    assert!(rt; on_device(rt.alloc(), 2, "all", copies));
 }
 
-fn replaces(alloc: Global) -> bool {
-    match opened(alloc, 0, "all") {
-        Some(mut device) => {
-            made_all(alloc, &mut device, &[(7, 3), (8, 4), (7, 1)])
-                && lists(device.store(), &[(7, 3), (8, 2)])
-                && device.out().is_empty()
-                && held(&device, 1).is_none()
-                && has_rated(alloc, &device, 3, 7, 1)
-        }
-        None => false,
-    }
+fn replaces(alloc: Global, device: &mut Device) -> bool {
+    made_all(alloc, device, &[(7, 3), (8, 4), (7, 1)])
+        && lists(device.store(), &[(7, 3), (8, 2)])
+        && device.out().is_empty()
+        && held(device, 1).is_none()
+        && has_rated(alloc, device, 3, 7, 1)
 }
 
 #[test]
 fn a_version_takes_the_place_of_the_one_before(rt: HostRuntime) {
-    assert!(rt; replaces(rt.alloc()));
+    assert!(rt; on_device(rt.alloc(), 0, "all", replaces));
 }
 
-fn keeps_what_matches(alloc: Global) -> bool {
-    match opened(alloc, 1, "rating >= 3") {
-        Some(mut device) => {
-            makes_all(
-                alloc,
-                &mut device,
-                &[
-                    (1, 8, 2, Place::Out),
-                    (2, 7, 3, Place::Store),
-                    (3, 6, 0, Place::Out),
-                    (4, 9, 5, Place::Store),
-                ],
-            ) && lists(device.store(), &[(7, 2), (9, 4)])
-                && lists(device.out(), &[(6, 3), (8, 1)])
-        }
-        None => false,
-    }
+fn keeps_what_matches(alloc: Global, device: &mut Device) -> bool {
+    makes_all(
+        alloc,
+        device,
+        &[
+            (1, 8, 2, Place::Out),
+            (2, 7, 3, Place::Store),
+            (3, 6, 0, Place::Out),
+            (4, 9, 5, Place::Store),
+        ],
+    ) && lists(device.store(), &[(7, 2), (9, 4)])
+        && lists(device.out(), &[(6, 3), (8, 1)])
 }
 
 #[test]
 fn a_version_below_the_filter_goes_to_the_out(rt: HostRuntime) {
-    assert!(rt; keeps_what_matches(rt.alloc()));
+    assert!(rt; on_device(rt.alloc(), 1, "rating >= 3", keeps_what_matches));
 }
 
 /// Whether the device's next version of a picture is as the step says, and is all that is then held.
@@ -285,26 +275,21 @@ fn makes_alone(alloc: Global, device: &mut Device, step: Step) -> bool {
         && held(device, n.saturating_sub(1)).is_none()
 }
 
-fn holds_in_one_place(alloc: Global) -> bool {
-    match opened(alloc, 0, "not rating <= 2") {
-        Some(mut device) => {
-            makes_alone(alloc, &mut device, (1, 7, 4, Place::Store))
-                && makes_alone(alloc, &mut device, (2, 7, 1, Place::Out))
-                && makes_alone(alloc, &mut device, (3, 7, 2, Place::Out))
-                && makes_alone(alloc, &mut device, (4, 7, 3, Place::Store))
-                && makes_alone(alloc, &mut device, (5, 7, 5, Place::Store))
-        }
-        None => false,
-    }
+fn holds_in_one_place(alloc: Global, device: &mut Device) -> bool {
+    makes_alone(alloc, device, (1, 7, 4, Place::Store))
+        && makes_alone(alloc, device, (2, 7, 1, Place::Out))
+        && makes_alone(alloc, device, (3, 7, 2, Place::Out))
+        && makes_alone(alloc, device, (4, 7, 3, Place::Store))
+        && makes_alone(alloc, device, (5, 7, 5, Place::Store))
 }
 
 #[test]
 fn a_picture_is_held_in_one_place(rt: HostRuntime) {
-    assert!(rt; holds_in_one_place(rt.alloc()));
+    assert!(rt; on_device(rt.alloc(), 0, "not rating <= 2", holds_in_one_place));
 }
 
 /// Whether a removed picture goes to the device's out, and nowhere else.
-fn removes(device: &mut Device) -> bool {
+fn removes(_: Global, device: &mut Device) -> bool {
     match made_of(device, 7, &Record::Removed) {
         Some((version, place)) => {
             place == Place::Out
@@ -317,16 +302,9 @@ fn removes(device: &mut Device) -> bool {
     }
 }
 
-fn removes_under(alloc: Global, text: &str) -> bool {
-    match opened(alloc, 0, text) {
-        Some(mut device) => removes(&mut device),
-        None => false,
-    }
-}
-
 #[test]
 fn a_removed_picture_goes_to_the_out(rt: HostRuntime) {
     for text in ["all", "not none", "not all", "rating >= 0"] {
-        assert!(rt; removes_under(rt.alloc(), text), "{text}");
+        assert!(rt; on_device(rt.alloc(), 0, text, removes), "{text}");
     }
 }

@@ -1,4 +1,4 @@
-use super::{made, opened, rated};
+use super::{made, on_device, rated};
 use crate::{ChangeFault, Device, Place};
 use photo_record::{PicNo, Record};
 use photo_version::Version;
@@ -47,59 +47,44 @@ fn removes(device: &mut Device, number: u32) -> bool {
     removed(device) == Some(Some((number, Place::Out)))
 }
 
-fn edits_to_places(alloc: Global) -> bool {
-    match opened(alloc, 0, "rating >= 2") {
-        Some(mut device) => {
-            made(alloc, &mut device, 7, 5).is_some()
-                && edits(alloc, &mut device, 1, (2, Place::Out))
-                && edits(alloc, &mut device, 0, (3, Place::Out))
-                && edits(alloc, &mut device, 4, (4, Place::Store))
-                && device.store().len() == 1
-                && device.out().is_empty()
-        }
-        None => false,
-    }
+fn edits_to_places(alloc: Global, device: &mut Device) -> bool {
+    made(alloc, device, 7, 5).is_some()
+        && edits(alloc, device, 1, (2, Place::Out))
+        && edits(alloc, device, 0, (3, Place::Out))
+        && edits(alloc, device, 4, (4, Place::Store))
+        && device.store().len() == 1
+        && device.out().is_empty()
 }
 
 #[test]
 fn an_edit_goes_where_its_record_belongs(rt: HostRuntime) {
-    assert!(rt; edits_to_places(rt.alloc()));
+    assert!(rt; on_device(rt.alloc(), 0, "rating >= 2", edits_to_places));
 }
 
-fn removes_twice(alloc: Global) -> bool {
-    match opened(alloc, 0, "all") {
-        Some(mut device) => {
-            made(alloc, &mut device, 7, 5).is_some()
-                && removes(&mut device, 2)
-                && removes(&mut device, 3)
-                && device.store().is_empty()
-                && device.out().len() == 1
-        }
-        None => false,
-    }
+fn removes_twice(alloc: Global, device: &mut Device) -> bool {
+    made(alloc, device, 7, 5).is_some()
+        && removes(device, 2)
+        && removes(device, 3)
+        && device.store().is_empty()
+        && device.out().len() == 1
 }
 
 #[test]
 fn a_removed_version_is_held(rt: HostRuntime) {
-    assert!(rt; removes_twice(rt.alloc()));
+    assert!(rt; on_device(rt.alloc(), 0, "all", removes_twice));
 }
 
-fn leaves_others(alloc: Global) -> bool {
-    match opened(alloc, 0, "all") {
-        Some(mut device) => {
-            made(alloc, &mut device, 8, 5).is_some()
-                && edited(alloc, &mut device, 5) == Some(None)
-                && removed(&mut device) == Some(None)
-                && device.counter() == 1
-                && device.store().len() == 1
-        }
-        None => false,
-    }
+fn leaves_others(alloc: Global, device: &mut Device) -> bool {
+    made(alloc, device, 8, 5).is_some()
+        && edited(alloc, device, 5) == Some(None)
+        && removed(device) == Some(None)
+        && device.counter() == 1
+        && device.store().len() == 1
 }
 
 #[test]
 fn what_is_not_held_stays_so(rt: HostRuntime) {
-    assert!(rt; leaves_others(rt.alloc()));
+    assert!(rt; on_device(rt.alloc(), 0, "all", leaves_others));
 }
 
 /// Whether that is the text of a fault.

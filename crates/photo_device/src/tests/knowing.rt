@@ -1,4 +1,4 @@
-use super::{held, makes_all, opened};
+use super::{held, makes_all, on_device};
 use crate::{Device, Place};
 use photo_record::PicNo;
 use photo_version::{Author, Version};
@@ -34,49 +34,41 @@ fn knows_up_to(device: &Device, last: u32) -> bool {
     device.knowledge().fragments() == 1
 }
 
-fn learns(alloc: Global) -> bool {
-    let Some(mut device) = opened(alloc, 3, "rating >= 3") else {
-        return false;
-    };
-    if knows(&device, 7, 3, 1) != Some(false) || device.knowledge().fragments() != 1 {
-        return false;
-    }
-    let made = makes_all(
-        alloc,
-        &mut device,
-        &[
-            (1, 7, 5, Place::Store),
-            (2, 8, 1, Place::Out),
-            (3, 9, 0, Place::Out),
-        ],
-    );
-    made && knows_up_to(&device, 3)
-        && has_history(&device, 1, 0)
-        && has_history(&device, 2, 1)
-        && has_history(&device, 3, 2)
+/// Whether a device knows nothing of its own.
+fn knows_none(device: &Device) -> bool {
+    knows(device, 7, 3, 1) == Some(false) && device.knowledge().fragments() == 1
+}
+
+fn learns(alloc: Global, device: &mut Device) -> bool {
+    let steps = [
+        (1, 7, 5, Place::Store),
+        (2, 8, 1, Place::Out),
+        (3, 9, 0, Place::Out),
+    ];
+    knows_none(device)
+        && makes_all(alloc, device, &steps)
+        && knows_up_to(device, 3)
+        && has_history(device, 1, 0)
+        && has_history(device, 2, 1)
+        && has_history(device, 3, 2)
 }
 
 #[test]
 fn a_device_knows_what_it_made(rt: HostRuntime) {
-    assert!(rt; learns(rt.alloc()));
+    assert!(rt; on_device(rt.alloc(), 3, "rating >= 3", learns));
 }
 
 /// Whether a version in the place of two others has both in its history, though they are held no more.
-fn replaces(alloc: Global) -> bool {
-    let Some(mut device) = opened(alloc, 3, "all") else {
-        return false;
-    };
+fn replaces(alloc: Global, device: &mut Device) -> bool {
     let steps = [
         (1, 7, 5, Place::Store),
         (2, 7, 4, Place::Store),
         (3, 7, 3, Place::Store),
     ];
-    makes_all(alloc, &mut device, &steps)
-        && held(&device, 2).is_none()
-        && has_history(&device, 3, 2)
+    makes_all(alloc, device, &steps) && held(device, 2).is_none() && has_history(device, 3, 2)
 }
 
 #[test]
 fn a_history_has_what_was_replaced(rt: HostRuntime) {
-    assert!(rt; replaces(rt.alloc()));
+    assert!(rt; on_device(rt.alloc(), 3, "all", replaces));
 }

@@ -1,7 +1,6 @@
-use super::{lists, made_all, opened, rated};
+use super::{filter_of, lists, made_all, on_device, rated};
 use crate::conflicts::conflicts_of;
-use crate::{Conflict, Held, HeldSet};
-use photo_filter_rules::Filter;
+use crate::{Conflict, Device, Held, HeldSet};
 use photo_record::PicNo;
 use photo_version::{Author, Vector, Version};
 use std::alloc::Global;
@@ -16,11 +15,14 @@ pub type Row = (u32, u16, u32, u8);
 
 fn held(alloc: Global, row: Row) -> Option<Held> {
     let (picture, author, number, rating) = row;
+    let picture = PicNo::new(picture)?;
+    let version = version(author, number)?;
+    let content = rated(alloc, rating)?;
     Some(Held {
-        picture: PicNo::new(picture)?,
-        version: version(author, number)?,
+        picture,
+        version,
         made_with: Vector::new(alloc),
-        content: rated(alloc, rating)?,
+        content,
     })
 }
 
@@ -116,13 +118,8 @@ fn versions_are_given_up_in_any_order(rt: HostRuntime) {
     }
 }
 
-fn filter(alloc: Global, text: &str) -> Option<Filter> {
-    let tree = photo_filter_text::read(alloc, text).ok()?;
-    Filter::build(alloc, tree).ok()
-}
-
 fn keeps(alloc: Global, set: &mut HeldSet, text: &str) -> bool {
-    match filter(alloc, text) {
+    match filter_of(alloc, text) {
         Some(wanted) => {
             set.keep_matched(&wanted);
             true
@@ -182,17 +179,12 @@ fn conflicts_are_told_of_both_sets(rt: HostRuntime) {
     assert!(rt; two_sets_conflict(rt.alloc()));
 }
 
-fn has_no_conflict(alloc: Global) -> bool {
-    match opened(alloc, 2, "rating >= 3") {
-        Some(mut device) => {
-            made_all(alloc, &mut device, &[(7, 5), (3, 2), (7, 1), (5, 4)])
-                && device.conflicts(alloc).is_ok_and(|list| list.is_empty())
-        }
-        None => false,
-    }
+fn has_no_conflict(alloc: Global, device: &mut Device) -> bool {
+    made_all(alloc, device, &[(7, 5), (3, 2), (7, 1), (5, 4)])
+        && device.conflicts(alloc).is_ok_and(|list| list.is_empty())
 }
 
 #[test]
 fn a_device_alone_has_no_conflict(rt: HostRuntime) {
-    assert!(rt; has_no_conflict(rt.alloc()));
+    assert!(rt; on_device(rt.alloc(), 2, "rating >= 3", has_no_conflict));
 }

@@ -2,7 +2,8 @@ use Rattle.std.proofs.Common.{◌<◌, refl, sym, ap, ◌∙◌, subst}
 use Rattle.photo_version.specs.Version.{Version}
 use Rattle.photo_device.specs.Device.{Kept}
 use Rattle.photo_device.specs.Own.{IsNext}
-use Rattle.photo_device.proofs.OwnLemmas.{next_number, some_number, none_above, IsOwnLearned, makes_device, has_made}
+use Rattle.photo_device.specs.Learning.{IsOwnLearned}
+use Rattle.photo_device.proofs.OwnLemmas.{next_number, some_number, none_above, makes_device, has_made}
 use Rattle.photo_device.proofs.device.Device.add_later.Goals as goal
 
 pub raise_own-requires-clause-first : goal.raise_own-requires-clause-first
