@@ -1,6 +1,5 @@
 use super::{filter_of, is_matched, lists, made_all, on_device};
 use crate::{Device, NarrowFault};
-use photo_filter_rules::Filter;
 use photo_version::Version;
 use std::alloc::Global;
 
@@ -12,20 +11,12 @@ fn narrowed(alloc: Global, device: &mut Device, text: &str) -> Option<u64> {
     }
 }
 
-/// The filter that a device gives back where it is not narrowed.
-fn given_back(alloc: Global, device: &mut Device, text: &str) -> Option<Filter> {
-    let filter = filter_of(alloc, text)?;
-    match device.narrow(filter) {
-        Err((filter, NarrowFault::NotNarrower)) => Some(filter),
-        _ => None,
-    }
-}
-
 /// Whether a device is not narrowed, and the filter that it gives back matches a record of that rating.
 fn gives_back(alloc: Global, device: &mut Device, text: &str, rating: u8) -> Option<bool> {
-    match given_back(alloc, device, text) {
-        Some(filter) => is_matched(alloc, &filter, rating),
-        None => None,
+    let filter = filter_of(alloc, text)?;
+    match device.narrow(filter) {
+        Err((filter, NarrowFault::NotNarrower)) => is_matched(alloc, &filter, rating),
+        _ => None,
     }
 }
 
