@@ -131,12 +131,23 @@ mod tests {
 
     // How many sets share the words once a copy was made of the set.
     fn owners(alloc: Global, text: &str) -> Option<usize> {
-        let words = Words::read(alloc, text).ok()?;
-        let copy = words.try_clone().ok()?;
-        Some(
-            copy.shared
-                .as_ref()
-                .map_or(0, |words| Arc::strong_count(words)),
-        )
+        match Words::read(alloc, text) {
+            Ok(words) => owners_with_copy(&words),
+            Err(_) => None,
+        }
+    }
+
+    fn owners_with_copy(words: &Words) -> Option<usize> {
+        match words.try_clone() {
+            Ok(copy) => Some(owners_now(&copy)),
+            Err(_) => None,
+        }
+    }
+
+    fn owners_now(words: &Words) -> usize {
+        words
+            .shared
+            .as_ref()
+            .map_or(0, |shared| Arc::strong_count(shared))
     }
 }
