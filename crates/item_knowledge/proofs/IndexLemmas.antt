@@ -1,5 +1,5 @@
 -- The index that is made beside the groups.
-use Rattle.std.proofs.Common.{◌≡◌, ℕ, zero, suc, ◌<◌, ◌≤◌, Bool, true, false, ltb, List, [], ◌∷◌, length, refl, sym, subst, ap, ◌∙◌, inl, inr, arith, Option, None, Some}
+use Rattle.std.proofs.Common.{◌≡◌, ℕ, zero, suc, ◌+◌, ◌<◌, ◌≤◌, Bool, true, false, ltb, List, [], ◌∷◌, ◌++◌, length, drop, refl, sym, subst, ap, ◌∙◌, inl, inr, arith, append_assoc, Option, None, Some}
 use Rattle.std.specs.List.{list_all}
 use Rattle.std.proofs.lemmas.Bool.{and_parts, and_from, lt-ltb, eq-eqb, ne_eqb, cases_Bool, cases_eq}
 use Rattle.item_knowledge.specs.Tables.{keys_pass, in_order, at}
@@ -9,6 +9,7 @@ use Rattle.item_knowledge.specs.Gathering.{add, add_unless, gathered, indexed, n
 use Rattle.item_knowledge.proofs.FragmentLemmas.{entries_decide}
 use Rattle.item_knowledge.proofs.AddLemmas.{add_here, add_later}
 use Rattle.item_knowledge.proofs.GatherLemmas.{unless_same, unless_other, row_vector, row_none}
+use Rattle.item_knowledge.proofs.MergeLemmas.{append_nil, drop_none}
 use Rattle.item_knowledge.proofs.PlaceLemmas.{place_below, place_grown, place_of_added, place_here, place_later, inner, some_inj}
 
 indexed_same : (star : List Entry) (f : ℕ × ℕ → List Entry) (r : ℕ × (ℕ × ℕ)) (rs : List (ℕ × (ℕ × ℕ))) (gs : List Fragment) → same_entries star (f r.1) ≡ true → indexed star f (r ∷ rs) gs ≡ indexed star f rs gs
@@ -143,3 +144,43 @@ indexed_vectors star f (r ∷ rs) gs q o =
             | inr away ↦ rw (ne_eqb r.0 q away) (indexed_vectors star f rs new q a.1)
           ]
     ]
+
+-- A table on the way: the groups so far with their index, and the rows that are left
+
+pub record IsGathered (star : List Entry) (f : ℕ × ℕ → List Entry) (table : List (ℕ × (ℕ × ℕ))) (gs : List Fragment) (numbers : List (ℕ × ℕ)) (i : ℕ) (all : List Fragment) (every : List (ℕ × ℕ)) : Type 0 where
+  pub rest : gathered star f (drop i table) gs ≡ all
+  pub index : numbers ++ indexed star f (drop i table) gs ≡ every
+
+pub none_gathered : (star : List Entry) (f : ℕ × ℕ → List Entry) (table rows : List (ℕ × (ℕ × ℕ))) (gs : List Fragment) (numbers : List (ℕ × ℕ)) → table ≡ rows → gs ≡ [] → numbers ≡ [] → IsGathered star f table gs numbers 0 (gathered star f rows []) (indexed star f rows [])
+none_gathered star f table rows gs numbers t g n = record {
+  rest = λ i. gathered star f (t i) (g i);
+  index = λ i. n i ++ indexed star f (t i) (g i);
+}
+
+pub star_passed : (star : List Entry) (f : ℕ × ℕ → List Entry) (table : List (ℕ × (ℕ × ℕ))) (gs : List Fragment) (numbers : List (ℕ × ℕ)) (i : ℕ) (all : List Fragment) (every : List (ℕ × ℕ)) (r : ℕ × (ℕ × ℕ)) → drop i table ≡ r ∷ drop (i + 1) table → IsGathered star f table gs numbers i all every → same_entries star (f r.1) ≡ true → IsGathered star f table gs numbers (i + 1) all every
+star_passed star f table gs numbers i all every r d h same =
+    let rest : List (ℕ × (ℕ × ℕ)) = drop (i + 1) table in
+    record {
+      rest = ap (λ hs. gathered star f rest hs) (sym (unless_same star r.0 (f r.1) gs same)) ∙ (ap (λ rs. gathered star f rs gs) (sym d) ∙ h.rest);
+      index = ap (λ ns. numbers ++ ns) (sym (indexed_same star f r rest gs same)) ∙ (ap (λ rs. numbers ++ indexed star f rs gs) (sym d) ∙ h.index);
+    }
+
+pub one_gathered : (star : List Entry) (f : ℕ × ℕ → List Entry) (table : List (ℕ × (ℕ × ℕ))) (gs new : List Fragment) (numbers more : List (ℕ × ℕ)) (i k : ℕ) (all : List Fragment) (every : List (ℕ × ℕ)) (r : ℕ × (ℕ × ℕ)) → drop i table ≡ r ∷ drop (i + 1) table → IsGathered star f table gs numbers i all every → same_entries star (f r.1) ≡ false → new ≡ add r.0 (f r.1) gs → place new (f r.1) ≡ Some k → more ≡ numbers ++ (r.0, k + 1) ∷ [] → IsGathered star f table new more (i + 1) all every
+one_gathered star f table gs new numbers more i k all every r d h other g p m =
+    let rest : List (ℕ × (ℕ × ℕ)) = drop (i + 1) table in
+    let grown : List Fragment = add r.0 (f r.1) gs in
+    let next : k + 1 ≡ suc k = omega arith in
+    let found : number (place grown (f r.1)) ≡ suc k = ap number (ap (λ hs. place hs (f r.1)) (sym g) ∙ p) in
+    let pushed : more ≡ numbers ++ (r.0, number (place grown (f r.1))) ∷ [] = m ∙ ap (λ n. numbers ++ (r.0, n) ∷ []) (next ∙ sym found) in
+    record {
+      rest = ap (λ hs. gathered star f rest hs) (g ∙ sym (unless_other star r.0 (f r.1) gs other)) ∙ (ap (λ rs. gathered star f rs gs) (sym d) ∙ h.rest);
+      index = (λ j. pushed j ++ indexed star f rest (g j))
+          ∙ (append_assoc numbers ((r.0, number (place grown (f r.1))) ∷ []) (indexed star f rest grown)
+          ∙ (ap (λ ns. numbers ++ ns) (sym (indexed_other star f r rest gs other))
+          ∙ (ap (λ rs. numbers ++ indexed star f rs gs) (sym d) ∙ h.index)));
+    }
+
+pub all_gathered : (star : List Entry) (f : ℕ × ℕ → List Entry) (table : List (ℕ × (ℕ × ℕ))) (gs : List Fragment) (numbers : List (ℕ × ℕ)) (i : ℕ) (all : List Fragment) (every : List (ℕ × ℕ)) → length table ≤ i → IsGathered star f table gs numbers i all every → (gs ≡ all) × (numbers ≡ every)
+all_gathered star f table gs numbers i all every l h =
+    let none = drop_none table i l in
+    (ap (λ rs. gathered star f rs gs) (sym none) ∙ h.rest, sym (append_nil numbers) ∙ (ap (λ rs. numbers ++ indexed star f rs gs) (sym none) ∙ h.index))

@@ -1,6 +1,7 @@
 -- What is told of pictures, as rows.
-use Rattle.std.proofs.Common.{◌≡◌, ℕ, zero, suc, ◌+◌, ◌<◌, ◌≤◌, Bool, true, false, ltb, eqb, cond, ◌&&◌, ◌||◌, List, [], ◌∷◌, ◌++◌, map, length, get_or, drop, refl, sym, subst, ap, ◌∙◌, inl, inr, arith, append_assoc, Some}
+use Rattle.std.proofs.Common.{◌≡◌, ℕ, zero, suc, ◌+◌, ◌<◌, ◌≤◌, Bool, true, false, ltb, eqb, cond, ◌&&◌, ◌||◌, List, [], ◌∷◌, ◌++◌, map, length, get_or, drop, refl, sym, subst, ap, ◌∙◌, inl, inr, arith, append_assoc, Some, Result, Ok, Err}
 use Rattle.std.specs.List.{list_all, slice_get}
+use Rattle.std.specs.Result.{IfOk}
 use Rattle.std.proofs.Math.ListN.{get_or-append}
 use Rattle.std.proofs.Math.Seq.{get_or-append_seam}
 use Rattle.std.proofs.lemmas.Bool.{and_parts, and_from, lt-ltb, le-leb, ltb-true, eq-eqb, ne_eqb, cases_eq}
@@ -11,7 +12,7 @@ use Rattle.photo_version.specs.Vector.{Bound}
 use Rattle.item_knowledge.specs.Tables.{keys_pass, in_order, at}
 use Rattle.item_knowledge.specs.Entries.{Entry, denotes, is_entry, is_vector, most_number}
 use Rattle.item_knowledge.specs.Fragments.{Fragment, nothing, entries_at}
-use Rattle.item_knowledge.specs.Rows.{pairs, flat, fragments_of}
+use Rattle.item_knowledge.specs.Rows.{flat, rows_of}
 use Rattle.item_knowledge.specs.Gathering.{is_above, vector_of, IsSide}
 use Rattle.item_knowledge.specs.Told.{entries_of, bounds_of, told_one, told, numbered}
 use Rattle.item_knowledge.proofs.MergeLemmas.{append_nil, drop_none, drop_next}
@@ -72,6 +73,10 @@ bounds_vector [] h = refl
 bounds_vector (e ∷ es) h =
     let p = vector_parts e es h in
     and_from _ _ (lt-ltb 0 e.1 p.positive) (and_from _ _ (above_authors e es p.above) (bounds_vector es p.rest))
+
+pub if_ok : {A B : Type 0} (r : Result A B) (P Q : A → Type 0) → ((x : A) → P x → Q x) → IfOk r P → IfOk r Q
+if_ok (Ok a) P Q f h = f a h
+if_ok (Err e) P Q f h = tt
 
 pub bounds_denote : (es : List Entry) (v : Version) → versions.denotes (bounds_of es) v ≡ denotes es v
 bounds_denote [] v = refl
@@ -181,9 +186,64 @@ pub told_knows : (table : List (ℕ × List Bound)) (p : ℕ) (v : Version) → 
 told_knows table p v = ap (λ es. denotes es v) (told_vector table p) ∙ entries_denote (at [] table p) v
 
 -- and of one picture
-pub one_knows : (q : ℕ) (row : List ℕ) (bs : List Bound) (p : ℕ) (v : Version) → pairs row ≡ entries_of bs → denotes (vector_of (fragments_of ([] ∷ [] ∷ (q ∷ []) ∷ row ∷ [])) ((q, 1) ∷ []) p) v ≡ (eqb q p && versions.denotes bs v)
-one_knows q row bs p v e = by (eqb q p)
+pub one_knows : (q : ℕ) (bs : List Bound) (p : ℕ) (v : Version) → denotes (vector_of (told ((q, bs) ∷ [])) ((q, 1) ∷ []) p) v ≡ (eqb q p && versions.denotes bs v)
+one_knows q bs p v = by (eqb q p)
   where
-    by : (b : Bool) → denotes (entries_at (fragments_of ([] ∷ [] ∷ (q ∷ []) ∷ row ∷ [])) (cond b 1 0)) v ≡ (b && versions.denotes bs v)
-    by true = ap (λ es. denotes es v) e ∙ entries_denote bs v
+    by : (b : Bool) → denotes (entries_at (told ((q, bs) ∷ [])) (cond b 1 0)) v ≡ (b && versions.denotes bs v)
+    by true = entries_denote bs v
     by false = refl
+
+pub one_side : (q : ℕ) (bs : List Bound) → 0 < q → is_vector (entries_of bs) ≡ true → IsSide (told ((q, bs) ∷ [])) ((q, 1) ∷ [])
+one_side q bs z v = told_side ((q, bs) ∷ []) refl (and_from _ _ (lt-ltb 0 q z) refl) (and_from _ _ v refl)
+
+-- A table on the way: what is told, and what is left
+
+abbrev rows_told : List (ℕ × List Bound) → List (List ℕ)
+rows_told table = rows_of (map (λ (t : ℕ × List Bound). told_one t) table)
+
+abbrev are_vectors : List (ℕ × List Bound) → Bool
+are_vectors table = list_all (λ (t : ℕ × List Bound). is_vector (entries_of t.1)) table
+
+pub record IsTold (table : List (ℕ × List Bound)) (out : List (List ℕ)) (numbers : List (ℕ × ℕ)) (i : ℕ) : Type 0 where
+  pub rows : out ++ rows_told (drop i table) ≡ rows_of (told table)
+  pub index : numbers ++ numbered (i + 1) (drop i table) ≡ numbered 1 table
+  pub positive : keys_pass (λ p. ltb 0 p) (drop i table) ≡ keys_pass (λ p. ltb 0 p) table
+  pub vectors : are_vectors (drop i table) ≡ are_vectors table
+
+pub none_told : (table : List (ℕ × List Bound)) (out : List (List ℕ)) (numbers : List (ℕ × ℕ)) → out ≡ [] ∷ [] ∷ [] → numbers ≡ [] → IsTold table out numbers 0
+none_told table out numbers e n = record {
+  rows = ap (λ rs. rs ++ rows_told table) e;
+  index = ap (λ ns. ns ++ numbered 1 table) n;
+  positive = refl;
+  vectors = refl;
+}
+
+pub one_told : (table : List (ℕ × List Bound)) (i : ℕ) (t : ℕ × List Bound) (out new : List (List ℕ)) (numbers more : List (ℕ × ℕ)) → drop i table ≡ t ∷ drop (i + 1) table → IsTold table out numbers i → new ≡ out ++ (t.0 ∷ []) ∷ flat (entries_of t.1) ∷ [] → more ≡ numbers ++ (t.0, i + 1) ∷ [] → 0 < t.0 → is_vector (entries_of t.1) ≡ true → IsTold table new more (i + 1)
+one_told table i t out new numbers more d h e n z v =
+    let rest : List (ℕ × List Bound) = drop (i + 1) table in
+    record {
+      rows = ap (λ rs. rs ++ rows_told rest) e
+          ∙ (append_assoc out ((t.0 ∷ []) ∷ flat (entries_of t.1) ∷ []) (rows_told rest)
+          ∙ (ap (λ ts. out ++ rows_told ts) (sym d) ∙ h.rows));
+      index = ap (λ ns. ns ++ numbered (i + 1 + 1) rest) n
+          ∙ (append_assoc numbers ((t.0, i + 1) ∷ []) (numbered (i + 1 + 1) rest)
+          ∙ (ap (λ ts. numbers ++ numbered (i + 1) ts) (sym d) ∙ h.index));
+      positive = sym (ap (λ b. b && keys_pass (λ p. ltb 0 p) rest) (lt-ltb 0 t.0 z)) ∙ (ap (λ ts. keys_pass (λ p. ltb 0 p) ts) (sym d) ∙ h.positive);
+      vectors = sym (ap (λ b. b && are_vectors rest) v) ∙ (ap (λ ts. are_vectors ts) (sym d) ∙ h.vectors);
+    }
+
+pub record AllTold (table : List (ℕ × List Bound)) (out : List (List ℕ)) (numbers : List (ℕ × ℕ)) : Type 0 where
+  pub rows : out ≡ rows_of (told table)
+  pub index : numbers ≡ numbered 1 table
+  pub positive : keys_pass (λ p. ltb 0 p) table ≡ true
+  pub vectors : are_vectors table ≡ true
+
+pub all_told : (table : List (ℕ × List Bound)) (out : List (List ℕ)) (numbers : List (ℕ × ℕ)) (i : ℕ) → length table ≤ i → IsTold table out numbers i → AllTold table out numbers
+all_told table out numbers i l h =
+    let none = drop_none table i l in
+    record {
+      rows = sym (append_nil out) ∙ (ap (λ ts. out ++ rows_told ts) (sym none) ∙ h.rows);
+      index = sym (append_nil numbers) ∙ (ap (λ ts. numbers ++ numbered (i + 1) ts) (sym none) ∙ h.index);
+      positive = sym h.positive ∙ ap (λ ts. keys_pass (λ p. ltb 0 p) ts) none;
+      vectors = sym h.vectors ∙ ap (λ ts. are_vectors ts) none;
+    }

@@ -180,5 +180,11 @@ pub entries_order : (fs : List Fragment) (xs : List (ℕ × ℕ)) (k : ℕ) → 
 entries_order fs xs k h l = (and_parts (in_order (entries_at fs k)) (list_all (λ (e : Entry). is_entry e) (entries_at fs k)) (above fs xs k h l).vector).0
 
 -- what is written is the union
+-- a star of one entry
+pub one_star : (a n : ℕ) → is_entry (a, n) ≡ true → IsSide (record { pictures = []; entries = (a, n) ∷ [] } ∷ []) []
+one_star a n e =
+    let v : is_vector ((a, n) ∷ []) ≡ true = and_from _ _ refl (and_from _ _ e refl) in
+    record { star = omega arith; above = and_from _ _ (and_from _ _ v (leq_self ((a, n) ∷ []) v)) refl; order = refl; positive = refl; range = refl }
+
 pub union_made : (fs gs us : List Fragment) (xs ys index : List (ℕ × ℕ)) → IsSide fs xs → IsSide gs ys → us ≡ union_of fs gs xs ys → index ≡ index_of fs gs xs ys → IsUnion fs xs gs ys us index
 union_made fs gs us xs ys index h g u i = subst (λ zs. IsUnion fs xs gs ys us zs) (sym i) (subst (λ ws. IsUnion fs xs gs ys ws (index_of fs gs xs ys)) (sym u) (is_union fs gs xs ys h g))

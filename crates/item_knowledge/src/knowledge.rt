@@ -3,7 +3,7 @@ use crate::had::has_table;
 use crate::raised::{is_level, raise};
 use crate::rows::Rows;
 use crate::search::{bound_at, number_at, number_near};
-use crate::told::{told, vector_of as vector_of_row, write_row};
+use crate::told::{star_alone, told, told_one, vector_of as vector_of_row};
 use crate::union::{entries, is_within, union};
 use photo_record::PicNo;
 use photo_version::{Vector, Version};
@@ -56,9 +56,7 @@ impl Knowledge {
         ensures value { IfOk result (λ k. k ≡ nothing_known) }
         ensures nothing { IfOk result (λ k. (p : ℕ) (v : versions.Version) → spec.knows k p v ≡ false) }
     {
-        let mut live = Rows::new(alloc);
-        live.place(&[])?;
-        live.place(&[])?;
+        let live = star_alone(alloc, &[], 2)?;
         Ok(Knowledge {
             alloc,
             live,
@@ -138,8 +136,7 @@ impl Knowledge {
         ensures { IfOk result (λ vector. (v : versions.Version) → vectors.denotes vector v ≡ spec.knows self.now picture v) }
     {
         let (number, _place) = number_at(&self.index, u64::from(picture.value()));
-        let vector = vector_of_row(self.alloc, entries(&self.live, number))?;
-        Ok(vector)
+        vector_of_row(self.alloc, entries(&self.live, number))
     }
 
     /// Learns what a side denotes.
@@ -184,13 +181,7 @@ impl Knowledge {
         ensures refused { OnErr result (self.new ≡ self.old) }
     {
         let picture = u64::from(picture.value());
-        let mut row = Vec::new(self.alloc);
-        write_row(vector, &mut row)?;
-        let mut rows = Rows::new(self.alloc);
-        rows.place(&[])?;
-        rows.place(&[])?;
-        rows.place(&[picture])?;
-        rows.place(&row)?;
+        let rows = told_one(self.alloc, picture, vector)?;
         self.take_union(&rows, &[(picture, 1)])?;
         Ok(())
     }
@@ -237,10 +228,7 @@ impl Knowledge {
             self.take_next(version);
             return Ok(());
         }
-        let star = [author, n];
-        let mut rows = Rows::new(self.alloc);
-        rows.place(&[])?;
-        rows.place(&star)?;
+        let rows = star_alone(self.alloc, &[author, n], 2)?;
         self.take_union(&rows, &[])?;
         Ok(())
     }
@@ -262,11 +250,13 @@ impl Knowledge {
     pub fn try_clone(&self) -> Result<Knowledge, AllocError>
         ensures { IfOk result (λ copy. copy ≡ self.now) }
     {
+        let live = self.live.try_clone()?;
+        let index = self.index.to_vec(self.alloc)?;
         Ok(Knowledge {
             alloc: self.alloc,
-            live: self.live.try_clone()?,
+            live,
             spare: Rows::new(self.alloc),
-            index: self.index.to_vec(self.alloc)?,
+            index,
         })
     }
 }

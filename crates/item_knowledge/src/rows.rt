@@ -129,10 +129,12 @@ impl Rows {
     pub(crate) fn try_clone(&self) -> Result<Rows, AllocError>
         ensures { IfOk result (λ copy. copy ≡ self.now) }
     {
+        let words = self.words.to_vec(self.alloc)?;
+        let spans = self.spans.to_vec(self.alloc)?;
         Ok(Rows {
             alloc: self.alloc,
-            words: self.words.to_vec(self.alloc)?,
-            spans: self.spans.to_vec(self.alloc)?,
+            words,
+            spans,
         })
     }
 }

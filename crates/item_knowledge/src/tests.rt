@@ -1,4 +1,4 @@
-ghost use Rattle.std.specs.Prelude.{◌≡◌, ◌<◌, true, IfOk};
+ghost use Rattle.std.specs.Prelude.{◌≡◌, ◌<◌, true, IfOk, OnOk};
 ghost use Rattle.photo_record.specs.Limits.{IsPicNo};
 ghost use Rattle.photo_version.specs.Author.{Author, author};
 ghost use Rattle.photo_version.specs.Version as versions;
@@ -8,7 +8,7 @@ ghost use Rattle.item_knowledge.specs.Tables.{in_order};
 use crate::Knowledge;
 use photo_record::PicNo;
 use photo_version::{Author, Vector, Version};
-use std::alloc::Global;
+use std::alloc::{AllocError, Global};
 use std::collections::BTreeSet;
 use std::test::Fail;
 
@@ -28,61 +28,100 @@ fn picture(number: u32) -> PicNo
 }
 
 /// The first versions of a device, up to the `n`th.
-fn up_to(alloc: Global, device: u16, n: u32) -> Result<Vector, Fail>
+fn up_to(alloc: Global, device: u16, n: u32) -> Result<Vector, AllocError>
     requires { 0 < n }
 {
-    Ok(Vector::new(alloc).with(version(device, n))?)
+    Vector::new(alloc).with(version(device, n))
 }
 
 /// What `learn_own` alone tells of one version.
-fn own(alloc: Global) -> Result<Knowledge, Fail> {
+fn own(alloc: Global) -> Result<Knowledge, AllocError> {
     let mut knowledge = Knowledge::new(alloc)?;
     knowledge.learn_own(version(0, 1))?;
     Ok(knowledge)
 }
 
+/// Tells of two pictures the same.
+fn tell_two(knowledge: &mut Knowledge, vector: &Vector) -> Result<(), AllocError>
+    ensures { OnOk result ((a : Author) → star_bound knowledge.new a ≡ star_bound knowledge.old a) }
+{
+    knowledge.learn(picture(7), vector)?;
+    knowledge.learn(picture(9), vector)?;
+    Ok(())
+}
+
 /// Two pictures of which the same version is known.
-fn of_two(alloc: Global) -> Result<Knowledge, Fail>
+fn of_two(alloc: Global) -> Result<Knowledge, AllocError>
     ensures { IfOk result (λ knowledge. (a : Author) → star_bound knowledge a ≡ 0) }
 {
+    let first = up_to(alloc, 0, 1)?;
     let mut knowledge = Knowledge::new(alloc)?;
-    knowledge.learn(picture(7), &up_to(alloc, 0, 1)?)?;
-    knowledge.learn(picture(9), &up_to(alloc, 0, 1)?)?;
+    tell_two(&mut knowledge, &first)?;
     Ok(knowledge)
+}
+
+fn are_one_fragment(alloc: Global) -> bool {
+    let Ok(knowledge) = of_two(alloc) else {
+        return false;
+    };
+    knowledge.fragments() == 2
+        && knowledge.knows(picture(7), version(0, 1))
+        && !knowledge.knows(picture(8), version(0, 1))
 }
 
 #[test]
 fn pictures_known_alike_are_one_fragment(rt: HostRuntime) -> Result<(), Fail> {
-    let alloc = rt.alloc();
-    let knowledge = of_two(alloc)?;
-    assert!(rt; knowledge.fragments() == 2);
-    assert!(rt;
-        knowledge.knows(picture(7), version(0, 1)) && !knowledge.knows(picture(8), version(0, 1))
-    );
+    assert!(rt; are_one_fragment(rt.alloc()));
     Ok(())
+}
+
+/// Whether of the picture 9 just one version is known.
+fn is_known_of_nine(knowledge: &Knowledge) -> bool {
+    let Ok(vector) = knowledge.of(picture(9)) else {
+        return false;
+    };
+    vector.len() == 1 && vector.has(version(0, 1)) && !vector.has(version(0, 2))
+}
+
+fn of_two_is_known(alloc: Global) -> bool {
+    match of_two(alloc) {
+        Ok(knowledge) => is_known_of_nine(&knowledge),
+        Err(_) => false,
+    }
 }
 
 #[test]
 fn what_is_known_of_a_picture(rt: HostRuntime) -> Result<(), Fail> {
-    let alloc = rt.alloc();
-    let of_nine = of_two(alloc)?.of(picture(9))?;
-    assert!(rt; of_nine.len() == 1 && of_nine.has(version(0, 1)) && !of_nine.has(version(0, 2)));
+    assert!(rt; of_two_is_known(rt.alloc()));
     Ok(())
+}
+
+/// Whether the fragments are the star, which is empty, and one of both pictures.
+fn has_both_fragments(knowledge: &Knowledge) -> bool {
+    if knowledge.fragments() != 2 {
+        return false;
+    }
+    let star = knowledge.fragment(0);
+    if !(star.star() && star.pictures().is_empty() && star.len() == 0) {
+        return false;
+    }
+    let both = knowledge.fragment(1);
+    if both.star() || both.pictures() != [7, 9].as_slice() || both.len() != 1 {
+        return false;
+    }
+    both.entry(0) == (Author::new(0), 1)
+}
+
+fn of_two_has_both(alloc: Global) -> bool {
+    match of_two(alloc) {
+        Ok(knowledge) => has_both_fragments(&knowledge),
+        Err(_) => false,
+    }
 }
 
 #[test]
 fn fragments_are_lent(rt: HostRuntime) -> Result<(), Fail> {
-    let alloc = rt.alloc();
-    let knowledge = of_two(alloc)?;
-    if knowledge.fragments() == 2 {
-        let star = knowledge.fragment(0);
-        assert!(rt; star.star() && star.pictures().is_empty() && star.len() == 0);
-        let both = knowledge.fragment(1);
-        assert!(rt; !both.star() && both.pictures() == [7, 9].as_slice() && both.len() == 1);
-        if both.len() == 1 {
-            assert!(rt; both.entry(0) == (Author::new(0), 1));
-        }
-    }
+    assert!(rt; of_two_has_both(rt.alloc()));
     Ok(())
 }
 
@@ -95,31 +134,59 @@ fn becomes_the_star(knowledge: &mut Knowledge, star: &Knowledge) -> bool {
     same && knowledge.learn_all(star).is_ok() && knowledge.same(star)
 }
 
+fn of_two_becomes(alloc: Global, star: &Knowledge) -> bool {
+    match of_two(alloc) {
+        Ok(mut knowledge) => becomes_the_star(&mut knowledge, star),
+        Err(_) => false,
+    }
+}
+
+fn of_two_becomes_the_star(alloc: Global) -> bool {
+    match own(alloc) {
+        Ok(star) => of_two_becomes(alloc, &star),
+        Err(_) => false,
+    }
+}
+
 #[test]
 fn what_is_known_of_every_picture_is_the_star(rt: HostRuntime) -> Result<(), Fail> {
-    let mut knowledge = of_two(rt.alloc())?;
-    let star = own(rt.alloc())?;
-    assert!(rt; becomes_the_star(&mut knowledge, &star));
+    assert!(rt; of_two_becomes_the_star(rt.alloc()));
     Ok(())
+}
+
+fn has_an_equal_copy(knowledge: &Knowledge) -> bool {
+    match knowledge.try_clone() {
+        Ok(copy) => copy.same(knowledge) && copy.fragments() == 2,
+        Err(_) => false,
+    }
+}
+
+fn of_two_has_an_equal_copy(alloc: Global) -> bool {
+    match of_two(alloc) {
+        Ok(knowledge) => has_an_equal_copy(&knowledge),
+        Err(_) => false,
+    }
 }
 
 #[test]
 fn a_copy_is_the_same(rt: HostRuntime) -> Result<(), Fail> {
-    let alloc = rt.alloc();
-    let knowledge = of_two(alloc)?;
-    let copy = knowledge.try_clone()?;
-    assert!(rt; copy.same(&knowledge) && copy.fragments() == 2);
+    assert!(rt; of_two_has_an_equal_copy(rt.alloc()));
     Ok(())
+}
+
+fn own_is_the_star(alloc: Global) -> bool {
+    let Ok(knowledge) = own(alloc) else {
+        return false;
+    };
+    knowledge.fragments() == 1
+        && knowledge.knows(picture(5), version(0, 1))
+        && !knowledge.knows(picture(5), version(0, 2))
+        && !knowledge.knows(picture(5), version(1, 1))
 }
 
 #[test]
 fn own_versions_come_to_the_star(rt: HostRuntime) -> Result<(), Fail> {
-    let alloc = rt.alloc();
-    let knowledge = own(alloc)?;
-    assert!(rt; knowledge.fragments() == 1 && knowledge.knows(picture(5), version(0, 1)));
-    assert!(rt;
-        !knowledge.knows(picture(5), version(0, 2)) && !knowledge.knows(picture(5), version(1, 1))
-    );
+    assert!(rt; own_is_the_star(rt.alloc()));
     Ok(())
 }
 
@@ -137,13 +204,8 @@ struct Case {
     pairs: BTreeSet<(u32, (u16, u32))>,
 }
 
-/// Tells a case some versions of a picture.
-fn tell(alloc: Global, case: &mut Case, seed: &mut u32) -> Result<(), Fail> {
-    let number = 1 + (next(seed) % 3) as u32;
-    let device = (next(seed) % 3) as u16;
-    let n = 1 + (next(seed) % 3) as u32;
-    case.knowledge
-        .learn(picture(number), &up_to(alloc, device, n)?)?;
+/// A picture's first pairs of a device, up to the `n`th.
+fn insert_up_to(case: &mut Case, number: u32, device: u16, n: u32) -> Result<(), AllocError> {
     for k in 1..4u32 {
         if k <= n {
             case.pairs.insert((number, (device, k)))?;
@@ -152,23 +214,58 @@ fn tell(alloc: Global, case: &mut Case, seed: &mut u32) -> Result<(), Fail> {
     Ok(())
 }
 
-/// A case that was told a few things, and of every picture the first version of one device or none.
-fn some_case(alloc: Global, seed: &mut u32) -> Result<Case, Fail> {
+/// Tells a case some versions of a picture.
+fn tell(alloc: Global, case: &mut Case, seed: &mut u32) -> Result<(), AllocError> {
+    let number = 1 + (next(seed) % 3) as u32;
+    let device = (next(seed) % 3) as u16;
+    let n = 1 + (next(seed) % 3) as u32;
+    let vector = up_to(alloc, device, n)?;
+    case.knowledge.learn(picture(number), &vector)?;
+    insert_up_to(case, number, device, n)
+}
+
+/// Tells a case a few things.
+fn tell_some(alloc: Global, case: &mut Case, seed: &mut u32) -> Result<(), AllocError> {
+    for _ in 0..next(seed) % 6 {
+        tell(alloc, case, seed)?;
+    }
+    Ok(())
+}
+
+/// Each picture's first pair of a device.
+fn insert_first(case: &mut Case, device: u16) -> Result<(), AllocError> {
+    for number in 1..5u32 {
+        case.pairs.insert((number, (device, 1)))?;
+    }
+    Ok(())
+}
+
+/// A case that was told of every picture the first version of a device, or nothing where it is none of the three.
+fn first_case(alloc: Global, device: u16) -> Result<Case, AllocError> {
     let mut case = Case {
         knowledge: Knowledge::new(alloc)?,
         pairs: BTreeSet::new(alloc),
     };
-    let device = (next(seed) % 4) as u16;
     if device < 3 {
         case.knowledge.learn_own(version(device, 1))?;
-        for number in 1..5u32 {
-            case.pairs.insert((number, (device, 1)))?;
-        }
-    }
-    for _ in 0..next(seed) % 6 {
-        tell(alloc, &mut case, seed)?;
+        insert_first(&mut case, device)?;
     }
     Ok(case)
+}
+
+/// A case that was told a few things, and of every picture the first version of one device or none.
+fn some_case(alloc: Global, seed: &mut u32) -> Result<Case, AllocError> {
+    let device = (next(seed) % 4) as u16;
+    let mut case = first_case(alloc, device)?;
+    tell_some(alloc, &mut case, seed)?;
+    Ok(case)
+}
+
+/// Two cases, one after the other.
+fn two_cases(alloc: Global, seed: &mut u32) -> Result<(Case, Case), AllocError> {
+    let one = some_case(alloc, seed)?;
+    let other = some_case(alloc, seed)?;
+    Ok((one, other))
 }
 
 /// Whether a case knows just the pairs of its set.
@@ -186,54 +283,88 @@ fn agrees(case: &Case) -> bool {
     true
 }
 
-/// Whether the vectors of a case's pictures have just the pairs of its set.
-fn vectors_agree(case: &Case) -> Result<bool, Fail> {
-    for number in 1..5u32 {
-        let vector = case.knowledge.of(picture(number))?;
-        for device in 0..3u16 {
-            for k in 1..5u32 {
-                if vector.has(version(device, k)) != case.pairs.contains(&(number, (device, k))) {
-                    return Ok(false);
-                }
+/// Whether a vector has just the pairs of a case's picture.
+fn vector_agrees(case: &Case, number: u32, vector: &Vector) -> bool {
+    for device in 0..3u16 {
+        for k in 1..5u32 {
+            if vector.has(version(device, k)) != case.pairs.contains(&(number, (device, k))) {
+                return false;
             }
         }
     }
-    Ok(true)
+    true
 }
 
-/// Whether a case, once it learned all that another knows, knows just the pairs of both.
-fn becomes_the_union(one: &mut Case, other: &Case) -> Result<bool, Fail> {
-    one.knowledge.learn_all(&other.knowledge)?;
+/// Whether the vector of a case's picture has just the pairs of its set.
+fn picture_agrees(case: &Case, number: u32) -> bool
+    requires { IsPicNo number }
+{
+    match case.knowledge.of(picture(number)) {
+        Ok(vector) => vector_agrees(case, number, &vector),
+        Err(_) => false,
+    }
+}
+
+/// Whether the vectors of a case's pictures have just the pairs of its set.
+fn vectors_agree(case: &Case) -> bool {
+    for number in 1..5u32 {
+        if !picture_agrees(case, number) {
+            return false;
+        }
+    }
+    true
+}
+
+/// A case's pairs come to another's.
+fn insert_pairs(one: &mut Case, other: &Case) -> Result<(), AllocError> {
     for pair in &other.pairs {
         one.pairs.insert(*pair)?;
     }
-    Ok(agrees(one) && vectors_agree(other)?)
+    Ok(())
+}
+
+/// Whether a case, once it learned all that another knows, knows just the pairs of both.
+fn becomes_the_union(one: &mut Case, other: &Case) -> bool {
+    if one.knowledge.learn_all(&other.knowledge).is_err() || insert_pairs(one, other).is_err() {
+        return false;
+    }
+    agrees(one) && vectors_agree(other)
 }
 
 /// Whether the next case becomes the union of itself and the case after it.
-fn next_becomes_the_union(alloc: Global, seed: &mut u32) -> Result<bool, Fail> {
-    let mut one = some_case(alloc, seed)?;
-    let other = some_case(alloc, seed)?;
-    becomes_the_union(&mut one, &other)
+fn next_becomes_the_union(alloc: Global, seed: &mut u32) -> bool {
+    match two_cases(alloc, seed) {
+        Ok((mut one, other)) => becomes_the_union(&mut one, &other),
+        Err(_) => false,
+    }
 }
 
 #[test]
 fn learning_all_is_the_union_of_the_pairs(rt: HostRuntime) -> Result<(), Fail> {
     let mut seed = 1;
     for _ in 0..300 {
-        assert!(rt; next_becomes_the_union(rt.alloc(), &mut seed)?);
+        assert!(rt; next_becomes_the_union(rt.alloc(), &mut seed));
     }
     Ok(())
 }
 
+/// Whether two cases know the same just where they have the same pairs.
+fn are_alike_in_both(one: &Case, other: &Case) -> bool {
+    one.knowledge.same(&other.knowledge) == (one.pairs == other.pairs)
+}
+
+fn next_are_alike_in_both(alloc: Global, seed: &mut u32) -> bool {
+    match two_cases(alloc, seed) {
+        Ok((one, other)) => are_alike_in_both(&one, &other),
+        Err(_) => false,
+    }
+}
+
 #[test]
 fn the_same_pairs_are_the_same_knowledge(rt: HostRuntime) -> Result<(), Fail> {
-    let alloc = rt.alloc();
     let mut seed = 7;
     for _ in 0..300 {
-        let one = some_case(alloc, &mut seed)?;
-        let other = some_case(alloc, &mut seed)?;
-        assert!(rt; one.knowledge.same(&other.knowledge) == (one.pairs == other.pairs));
+        assert!(rt; next_are_alike_in_both(rt.alloc(), &mut seed));
     }
     Ok(())
 }
@@ -249,14 +380,22 @@ fn agrees_on_all(one: &Case, other: &Case) -> bool {
     has
 }
 
+fn agree_on_all(one: &Case, other: &Case) -> bool {
+    agrees_on_all(one, other) && agrees_on_all(other, one)
+}
+
+fn next_agree_on_all(alloc: Global, seed: &mut u32) -> bool {
+    match two_cases(alloc, seed) {
+        Ok((one, other)) => agree_on_all(&one, &other),
+        Err(_) => false,
+    }
+}
+
 #[test]
 fn a_knowledge_has_all_of_another_where_the_pairs_do(rt: HostRuntime) -> Result<(), Fail> {
-    let alloc = rt.alloc();
     let mut seed = 5;
     for _ in 0..300 {
-        let one = some_case(alloc, &mut seed)?;
-        let other = some_case(alloc, &mut seed)?;
-        assert!(rt; agrees_on_all(&one, &other) && agrees_on_all(&other, &one));
+        assert!(rt; next_agree_on_all(rt.alloc(), &mut seed));
     }
     Ok(())
 }
@@ -278,56 +417,105 @@ fn agrees_near(case: &Case, hint: usize) -> bool {
     true
 }
 
-#[test]
-fn any_hint_will_do(rt: HostRuntime) -> Result<(), Fail> {
+fn next_agrees_near(alloc: Global, seed: &mut u32, hint: usize) -> bool {
+    match some_case(alloc, seed) {
+        Ok(case) => agrees_near(&case, hint),
+        Err(_) => false,
+    }
+}
+
+/// Whether sixty cases know the same with this hint and with none.
+fn all_agree_near(alloc: Global, hint: usize) -> bool {
     let mut seed = 3;
     for _ in 0..60 {
-        let case = some_case(rt.alloc(), &mut seed)?;
-        for hint in [0, 1, 2, 3, 4, 5, 12, usize::MAX] {
-            assert!(rt; agrees_near(&case, hint), "at {hint}");
+        if !next_agrees_near(alloc, &mut seed, hint) {
+            return false;
         }
+    }
+    true
+}
+
+const HINTS: &[usize] = &[0, 1, 2, 3, 4, 5, 12, usize::MAX];
+
+#[test]
+fn any_hint_will_do(rt: HostRuntime) -> Result<(), Fail> {
+    for hint in HINTS {
+        assert!(rt; all_agree_near(rt.alloc(), *hint), "at {hint}");
     }
     Ok(())
 }
 
 /// Two pictures, of both of which the same version is told.
-fn table(alloc: Global) -> Result<Vec<(PicNo, Vector)>, Fail>
+fn table(alloc: Global) -> Result<Vec<(PicNo, Vector)>, AllocError>
     ensures { IfOk result (λ table. in_order table.items ≡ true) }
 {
+    let seven = up_to(alloc, 0, 1)?;
+    let nine = up_to(alloc, 0, 1)?;
     let mut table = Vec::new(alloc);
-    let vector = up_to(alloc, 0, 1)?;
-    table.push((picture(7), vector.try_clone()?))?;
-    table.push((picture(9), vector))?;
+    table.push((picture(7), seven))?;
+    table.push((picture(9), nine))?;
     Ok(table)
+}
+
+/// Whether what a table tells is known once it was learned.
+fn learns(knowledge: &mut Knowledge, table: &[(PicNo, Vector)]) -> bool
+    requires { in_order table.now ≡ true }
+{
+    knowledge.learn_table(table).is_ok()
+        && knowledge.fragments() == 2
+        && knowledge.knows(picture(9), version(0, 1))
+}
+
+fn learns_from_nothing(alloc: Global, table: &[(PicNo, Vector)]) -> bool
+    requires { in_order table.now ≡ true }
+{
+    match Knowledge::new(alloc) {
+        Ok(mut knowledge) => learns(&mut knowledge, table),
+        Err(_) => false,
+    }
+}
+
+fn learns_a_table(alloc: Global) -> bool {
+    match table(alloc) {
+        Ok(table) => learns_from_nothing(alloc, &table),
+        Err(_) => false,
+    }
 }
 
 #[test]
 fn a_table_is_learned_at_once(rt: HostRuntime) -> Result<(), Fail> {
-    let alloc = rt.alloc();
-    let mut knowledge = Knowledge::new(alloc)?;
-    let table = table(alloc)?;
-    knowledge.learn_table(&table)?;
-    assert!(rt; knowledge.fragments() == 2 && knowledge.knows(picture(9), version(0, 1)));
+    assert!(rt; learns_a_table(rt.alloc()));
     Ok(())
+}
+
+fn own_comes_to_each(alloc: Global) -> bool {
+    let Ok(mut knowledge) = of_two(alloc) else {
+        return false;
+    };
+    knowledge.learn_own(version(1, 1)).is_ok()
+        && knowledge.fragments() == 2
+        && knowledge.knows(picture(8), version(1, 1))
+        && knowledge.knows(picture(9), version(1, 1))
+        && knowledge.knows(picture(9), version(0, 1))
 }
 
 #[test]
 fn own_versions_come_to_each_fragment(rt: HostRuntime) -> Result<(), Fail> {
-    let alloc = rt.alloc();
-    let mut knowledge = of_two(alloc)?;
-    knowledge.learn_own(version(1, 1))?;
-    assert!(rt; knowledge.fragments() == 2 && knowledge.knows(picture(8), version(1, 1)));
-    assert!(rt;
-        knowledge.knows(picture(9), version(1, 1)) && knowledge.knows(picture(9), version(0, 1))
-    );
+    assert!(rt; own_comes_to_each(rt.alloc()));
     Ok(())
+}
+
+fn own_was_had(alloc: Global) -> bool {
+    let Ok(mut knowledge) = of_two(alloc) else {
+        return false;
+    };
+    knowledge.learn_own(version(0, 1)).is_ok()
+        && knowledge.fragments() == 1
+        && knowledge.knows(picture(8), version(0, 1))
 }
 
 #[test]
 fn an_own_version_that_a_fragment_had(rt: HostRuntime) -> Result<(), Fail> {
-    let alloc = rt.alloc();
-    let mut knowledge = of_two(alloc)?;
-    knowledge.learn_own(version(0, 1))?;
-    assert!(rt; knowledge.fragments() == 1 && knowledge.knows(picture(8), version(0, 1)));
+    assert!(rt; own_was_had(rt.alloc()));
     Ok(())
 }

@@ -56,6 +56,26 @@ fn place_told(
     Ok(())
 }
 
+/// The rows of a star alone, with room for so many rows.
+pub(crate) fn star_alone(alloc: Global, star: &[u64], count: usize) -> Result<Rows, AllocError>
+    ensures { IfOk result (λ rows. rows ≡ [] ∷ star.now ∷ []) }
+{
+    let mut rows = Rows::with_room(alloc, count)?;
+    rows.place(&[])?;
+    rows.place(star)?;
+    Ok(rows)
+}
+
+/// The rows of what is told of one picture.
+pub(crate) fn told_one(alloc: Global, picture: u64, vector: &Vector) -> Result<Rows, AllocError>
+    ensures rows { IfOk result (λ rows. rows ≡ [] ∷ [] ∷ (picture ∷ []) ∷ flat (spec.entries_of vector.now) ∷ []) }
+    ensures vector { OnOk result (is_vector (spec.entries_of vector.now) ≡ true) }
+{
+    let mut rows = star_alone(alloc, &[], 4)?;
+    place_told(&mut rows, picture, vector, &mut Vec::new(alloc))?;
+    Ok(rows)
+}
+
 /// The rows of what is told of pictures, with their index.
 pub(crate) fn told(
     alloc: Global,
@@ -67,14 +87,13 @@ pub(crate) fn told(
     ensures vectors { IfOk result (λ all. list_all (λ t. is_vector (spec.entries_of t.1)) table.now ≡ true) }
 {
     let count = table.len().saturating_mul(2).saturating_add(2);
-    let mut rows = Rows::with_room(alloc, count)?;
+    let mut rows = star_alone(alloc, &[], count)?;
     let mut index = Vec::with_capacity(alloc, table.len())?;
     let mut row = Vec::new(alloc);
-    rows.place(&[])?;
-    rows.place(&[])?;
     for i in 0..table.len() {
-        let picture = u64::from(table[i].0.value());
-        place_told(&mut rows, picture, &table[i].1, &mut row)?;
+        let one = &table[i];
+        let picture = u64::from(one.0.value());
+        place_told(&mut rows, picture, &one.1, &mut row)?;
         index.push((picture, i + 1))?;
     }
     Ok((rows, index))

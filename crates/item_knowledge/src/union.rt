@@ -73,6 +73,21 @@ fn write(star: &[u64], groups: &[Group], places: &Places, out: &mut Rows) -> Res
     Ok(())
 }
 
+/// No groups yet and no index, with room for so many.
+fn no_groups(
+    alloc: Global,
+    count: usize,
+) -> Result<(Vec<Group>, Places, Vec<(u64, usize)>), AllocError>
+    ensures groups { IfOk result (λ all. all.0.items ≡ []) }
+    ensures placed { IfOk result (λ all. Placed all.1 all.0.items) }
+    ensures index { IfOk result (λ all. all.2.items ≡ []) }
+{
+    let places = Places::new(alloc, count)?;
+    let groups = Vec::with_capacity(alloc, count)?;
+    let index = Vec::with_capacity(alloc, count)?;
+    Ok((groups, places, index))
+}
+
 /// The groups of the union of two sides, whose star is given, and their index.
 fn groups(
     alloc: Global,
@@ -93,9 +108,7 @@ fn groups(
     ensures index { IfOk result (λ all. all.2.items ≡ index_of (fragments_of left.now) (fragments_of right.now) left_index.now right_index.now) }
 {
     let table = paired_numbers(alloc, left_index, right_index)?;
-    let mut groups = Vec::with_capacity(alloc, table.len())?;
-    let mut places = Places::new(alloc, table.len())?;
-    let mut index = Vec::with_capacity(alloc, table.len())?;
+    let (mut groups, mut places, mut index) = no_groups(alloc, table.len())?;
     let mut room = Vec::new(alloc);
     for i in 0..table.len() {
         let (picture, (a, b)) = table[i];

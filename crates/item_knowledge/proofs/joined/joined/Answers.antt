@@ -1,9 +1,16 @@
 use Rattle.std.proofs.Common.{rules, ◌≡◌, ◌+◌, ◌++◌, ◌∷◌, [], max, get_or, length, take, drop, ◌-◌, arith, sym, subst, ap, ◌∙◌}
 use Rattle.std.proofs.lemmas.List.{take_rest}
 use Rattle.item_knowledge.specs.Entries.{joined}
-use Rattle.item_knowledge.specs.Rows.{pairs, IsRow}
+use Rattle.item_knowledge.specs.Rows.{pairs, flat, IsRow}
 use Rattle.item_knowledge.proofs.RowLemmas.{row_step, left_taken, right_taken, both_taken, rows_merged, flat_row, pairs_flat}
 use Rattle.item_knowledge.proofs.joined.joined.Goals as goal
+
+pub loop-i-init : goal.loop-i-init
+loop-i-init c = record {
+  rows = record { done = ap (λ ws. ws ++ flat (joined (pairs c.args.xs.now) (pairs c.args.ys.now))) c.clear.ensures.items; left = c.requires.left; right = c.requires.right; left_row = c.requires.left_row; right_row = c.requires.right_row };
+  left = omega arith;
+  right = omega arith;
+}
 
 pub loop-i-preserved-then-a-b : goal.loop-i-preserved-then-a-b
 loop-i-preserved-then-a-b c =

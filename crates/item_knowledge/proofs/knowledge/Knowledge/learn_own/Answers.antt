@@ -1,26 +1,39 @@
-use Rattle.std.proofs.Common.{rules, ◌≡◌, ◌||◌, max, ◌+◌, [], ◌∷◌, sym, subst, ap, ◌∙◌}
+use Rattle.std.proofs.Common.{rules, ◌≡◌, ◌<◌, ◌||◌, max, ◌+◌, [], ◌∷◌, refl, sym, subst, ap, ◌∙◌, arith}
 use Rattle.photo_version.specs.Author.{author_word}
 use Rattle.photo_version.specs.Version.{same_version}
 use Rattle.item_knowledge.specs.Entries.{denotes, bound}
 use Rattle.item_knowledge.specs.Fragments.{knows, entries_at}
-use Rattle.item_knowledge.specs.Rows.{fragments_of}
-use Rattle.item_knowledge.specs.Gathering.{vector_of}
+use Rattle.item_knowledge.specs.Rows.{fragments_of, AreRows}
+use Rattle.item_knowledge.specs.Gathering.{vector_of, IsSide}
 use Rattle.item_knowledge.specs.Kept.{star_bound}
 use Rattle.item_knowledge.proofs.KeptLemmas.{kept_side, next_known, star_next}
-use Rattle.item_knowledge.proofs.UnionLemmas.{entries_order}
+use Rattle.item_knowledge.proofs.ToldLemmas.{got_entry}
+use Rattle.item_knowledge.proofs.UnionLemmas.{entries_order, one_star}
 use Rattle.item_knowledge.proofs.knowledge.Knowledge.learn_own.Goals as goal
 
 pub is_level-requires-clause-order : goal.is_level-requires-clause-order
 is_level-requires-clause-order c k l = entries_order (fragments_of c.self.inside.live) c.self.inside.index.items k (kept_side c.self.inside.live c.self.inside.index.items c.self.invariant) l
 
+pub take_union-requires-clause-rows : goal.take_union-requires-clause-rows
+take_union-requires-clause-rows c =
+    let rows : c.in_ok-rows.rows ≡ [] ∷ (c.word-author.result ∷ c.from-n.result ∷ []) ∷ [] = c.in_ok-rows.ensures in
+    subst AreRows (sym rows) refl
+
+pub take_union-requires-clause-side : goal.take_union-requires-clause-side
+take_union-requires-clause-side c =
+    let rows : c.in_ok-rows.rows ≡ [] ∷ (c.word-author.result ∷ c.from-n.result ∷ []) ∷ [] = c.in_ok-rows.ensures in
+    let above : 0 < c.from-n.result = omega arith in
+    let below : c.from-n.result < 4294967296 = omega arith in
+    subst (λ rs. IsSide (fragments_of rs) []) (sym rows) (one_star c.word-author.result c.from-n.result (got_entry c.word-author.result c.from-n.result c.word-author.ensures.of_author above below))
+
 pub returns-clause-learned : goal.returns-clause-learned
 returns-clause-learned c p v z =
     let w = c.args.version in
     let e : w.number ≡ star_bound (fragments_of c.self-2.inside.live) w.author + 1 = subst (λ fs. w.number ≡ star_bound fs w.author + 1) (sym c.self-2.view_is) c.requires in
-    let l : knows c.take_union.new.self p v ≡ (knows c.args.self.now p v || denotes (vector_of (fragments_of c.place-2.new.self) [] p) v) = c.in_ok-take_union.ensures.learned p v z in
+    let l : knows c.take_union.new.self p v ≡ (knows c.args.self.now p v || denotes (vector_of (fragments_of c.in_ok-rows.rows) [] p) v) = c.in_ok-take_union.ensures.learned p v z in
     let word : c.word-author.result ≡ author_word w.author = search rules in
     let n : c.from-n.result ≡ w.number = search rules in
-    let rows : c.place-2.new.self ≡ [] ∷ (c.word-author.result ∷ c.from-n.result ∷ []) ∷ [] = search rules in
+    let rows : c.in_ok-rows.rows ≡ [] ∷ (c.word-author.result ∷ c.from-n.result ∷ []) ∷ [] = c.in_ok-rows.ensures in
     l
     ∙ (ap (λ rs. knows c.args.self.now p v || denotes (vector_of (fragments_of rs) [] p) v) rows
     ∙ ((λ i. knows (sym c.self-2.view_is i) p v || denotes ((word i, n i) ∷ []) v)
@@ -32,8 +45,8 @@ returns-clause-star c a =
     let w = c.args.version in
     let word : c.word-author.result ≡ author_word w.author = search rules in
     let n : c.from-n.result ≡ w.number = search rules in
-    let rows : c.place-2.new.self ≡ [] ∷ (c.word-author.result ∷ c.from-n.result ∷ []) ∷ [] = search rules in
-    let l : star_bound c.take_union.new.self a ≡ max (star_bound c.args.self.now a) (bound (entries_at (fragments_of c.place-2.new.self) 0) (author_word a)) = c.in_ok-take_union.ensures.star a in
+    let rows : c.in_ok-rows.rows ≡ [] ∷ (c.word-author.result ∷ c.from-n.result ∷ []) ∷ [] = c.in_ok-rows.ensures in
+    let l : star_bound c.take_union.new.self a ≡ max (star_bound c.args.self.now a) (bound (entries_at (fragments_of c.in_ok-rows.rows) 0) (author_word a)) = c.in_ok-take_union.ensures.star a in
     l
     ∙ (ap (λ rs. max (star_bound c.args.self.now a) (bound (entries_at (fragments_of rs) 0) (author_word a))) rows
     ∙ ((λ i. max (star_bound c.args.self.now a) (bound ((word i, n i) ∷ []) (author_word a)))

@@ -1,4 +1,5 @@
 use Rattle.std.proofs.Common.{rules, ◌≡◌, ◌<◌, true, length, sym, subst, ap, ◌∙◌}
+use Rattle.photo_version.specs.Version.{Version}
 use Rattle.photo_version.specs.Vector as vectors
 use Rattle.item_knowledge.specs.Tables.{at}
 use Rattle.item_knowledge.specs.Entries.{denotes, is_vector}
@@ -8,7 +9,7 @@ use Rattle.item_knowledge.specs.Gathering.{vector_of}
 use Rattle.item_knowledge.specs.Told.{bounds_of}
 use Rattle.item_knowledge.proofs.UnionLemmas.{side_vector}
 use Rattle.item_knowledge.proofs.KeptLemmas.{kept_side, number_below, kept_knows}
-use Rattle.item_knowledge.proofs.ToldLemmas.{bounds_denote}
+use Rattle.item_knowledge.proofs.ToldLemmas.{bounds_denote, if_ok}
 use Rattle.item_knowledge.proofs.knowledge.Knowledge.of.Goals as goal
 
 pub entries-requires-clause-number : goal.entries-requires-clause-number
@@ -23,11 +24,13 @@ vector_of-requires-clause-vector c =
     subst (λ es. is_vector es ≡ true) (sym row) (side_vector (fragments_of c.self.inside.live) c.self.inside.index.items c.args.picture (kept_side c.self.inside.live c.self.inside.index.items c.self.invariant))
 
 pub returns : goal.returns
-returns c v =
+returns c =
     let row : pairs c.entries.result.now ≡ vector_of (fragments_of c.self.inside.live) c.self.inside.index.items c.args.picture = search rules in
-    let is : c.in_ok-vector.vector ≡ bounds_of (pairs c.entries.result.now) = search rules in
-    ap (λ bs. vectors.denotes bs v) is
+    if_ok c.vector_of.result (λ bs. bs ≡ bounds_of (pairs c.entries.result.now)) (λ bs. (v : Version) → vectors.denotes bs v ≡ knows c.args.self.now c.args.picture v)
+    (λ bs is v.
+    ap (λ cs. vectors.denotes cs v) is
     ∙ (bounds_denote (pairs c.entries.result.now) v
     ∙ (ap (λ es. denotes es v) row
     ∙ (sym (kept_knows c.self.inside.live c.self.inside.index.items c.args.picture v c.self.invariant)
-    ∙ ap (λ fs. knows fs c.args.picture v) c.self.view_is)))
+    ∙ ap (λ fs. knows fs c.args.picture v) c.self.view_is))))
+    c.vector_of.ensures
