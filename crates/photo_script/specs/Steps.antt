@@ -1,6 +1,6 @@
 -- Machinery of the proofs, which only contracts of private functions cite: how what a reader does is tied to what lines
 -- say, where memory may be refused instead.
-use Rattle.std.specs.Prelude.{◌≡◌, ℕ, Bool, true, false, ◌||◌, ◌==◌, nat_le, if◌then◌else◌, List, [], ◌++◌, length, map, Option, Some, option_to_list, Result, Ok, Err}
+use Rattle.std.specs.Prelude.{◌≡◌, ℕ, true, false, ◌||◌, ◌==◌, nat_le, if◌then◌else◌, List, [], ◌++◌, length, map, Option, Some, option_to_list, Result, Ok, Err}
 use Rattle.std.specs.Borrow.{Bor}
 use Rattle.std.specs.BTreeSet.{contains}
 use Rattle.std.specs.List.{list_any}
