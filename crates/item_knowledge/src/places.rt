@@ -50,13 +50,13 @@ fn share(hash: u64, count: usize) -> usize
 }
 
 impl Places {
-    /// No rows, and room for about so many.
-    pub(crate) fn new(alloc: Global, count: usize) -> Result<Places, AllocError>
+    /// No rows, and room for about so many, which have about so many words together.
+    pub(crate) fn new(alloc: Global, count: usize, words: usize) -> Result<Places, AllocError>
         ensures rows { IfOk result (λ places. places.rows ≡ []) }
         ensures placed { IfOk result (λ places. spec.IsPlaced places.heads.items places.before.items places.rows) }
     {
         Ok(Places {
-            rows: Rows::with_room(alloc, count)?,
+            rows: Rows::with_room(alloc, count, words)?,
             heads: vec![in alloc; 0; count.max(1).min(MOST_BUCKETS)]?,
             before: Vec::with_capacity(alloc, count)?,
         })

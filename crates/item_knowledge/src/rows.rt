@@ -37,15 +37,29 @@ impl Rows {
         }
     }
 
-    /// No rows, and room for so many rows of two words each.
-    pub(crate) fn with_room(alloc: Global, count: usize) -> Result<Rows, AllocError>
+    /// No rows, and room for so many, which have so many words together.
+    pub(crate) fn with_room(alloc: Global, count: usize, words: usize) -> Result<Rows, AllocError>
         ensures { IfOk result (λ rows. rows ≡ []) }
     {
         Ok(Rows {
             alloc,
-            words: Vec::with_capacity(alloc, count.saturating_mul(2))?,
+            words: Vec::with_capacity(alloc, words)?,
             spans: Vec::with_capacity(alloc, count)?,
         })
+    }
+
+    /// Makes room for so many rows more, which have so many words together.
+    pub(crate) fn reserve(&mut self, count: usize, words: usize) -> Result<(), AllocError>
+        ensures { self.new ≡ self.old }
+    {
+        self.words.reserve(words)?;
+        self.spans.reserve(count)?;
+        Ok(())
+    }
+
+    /// How many words all rows have together, or some more.
+    pub(crate) fn words(&self) -> usize {
+        self.words.len()
     }
 
     /// One row more, at the end; gives its place. A refusal changes nothing.

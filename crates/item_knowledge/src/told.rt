@@ -60,7 +60,7 @@ fn place_told(
 pub(crate) fn star_alone(alloc: Global, star: &[u64], count: usize) -> Result<Rows, AllocError>
     ensures { IfOk result (λ rows. rows ≡ [] ∷ star.now ∷ []) }
 {
-    let mut rows = Rows::with_room(alloc, count)?;
+    let mut rows = Rows::with_room(alloc, count, count.saturating_mul(2))?;
     rows.place(&[])?;
     rows.place(star)?;
     Ok(rows)

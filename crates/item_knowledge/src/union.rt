@@ -57,13 +57,24 @@ fn pair<'a>(
     Ok(room)
 }
 
-/// The rows of a star and of groups, in place of those that were there.
-fn write(star: &[u64], groups: &[Group], places: &Places, out: &mut Rows) -> Result<(), AllocError>
+/// The rows of a star and of groups of so many pictures together, in place of those that were there.
+fn write(
+    star: &[u64],
+    groups: &[Group],
+    pictures: usize,
+    places: &Places,
+    out: &mut Rows,
+) -> Result<(), AllocError>
     requires star { IsRow star.now }
     requires placed { Placed places.now groups.now }
     ensures { OnOk result (out.new ≡ rows_of (star_first (pairs star.now) (grouped groups.now places.now.rows))) }
 {
     out.clear();
+    let words = star.len().saturating_add(pictures);
+    out.reserve(
+        groups.len().saturating_mul(2).saturating_add(2),
+        words.saturating_add(places.rows.words()),
+    )?;
     out.place(&[])?;
     out.place(star)?;
     for k in 0..groups.len() {
@@ -73,16 +84,17 @@ fn write(star: &[u64], groups: &[Group], places: &Places, out: &mut Rows) -> Res
     Ok(())
 }
 
-/// No groups yet and no index, with room for so many.
+/// No groups yet and no index, with room for so many, whose rows have about so many words together.
 fn no_groups(
     alloc: Global,
     count: usize,
+    words: usize,
 ) -> Result<(Vec<Group>, Places, Vec<(u64, usize)>), AllocError>
     ensures groups { IfOk result (λ all. all.0.items ≡ []) }
     ensures placed { IfOk result (λ all. Placed all.1 all.0.items) }
     ensures index { IfOk result (λ all. all.2.items ≡ []) }
 {
-    let places = Places::new(alloc, count)?;
+    let places = Places::new(alloc, count, words)?;
     let groups = Vec::with_capacity(alloc, count)?;
     let index = Vec::with_capacity(alloc, count)?;
     Ok((groups, places, index))
@@ -108,7 +120,11 @@ fn groups(
     ensures index { IfOk result (λ all. all.2.items ≡ index_of (fragments_of left.now) (fragments_of right.now) left_index.now right_index.now) }
 {
     let table = paired_numbers(alloc, left_index, right_index)?;
-    let (mut groups, mut places, mut index) = no_groups(alloc, table.len())?;
+    let (mut groups, mut places, mut index) = no_groups(
+        alloc,
+        table.len(),
+        left.words().max(right.words()),
+    )?;
     let mut room = Vec::new(alloc);
     for i in 0..table.len() {
         let (picture, (a, b)) = table[i];
@@ -141,7 +157,7 @@ pub(crate) fn union(
     let mut room = Vec::new(alloc);
     let star = pair(left, left_index, right, right_index, 0, 0, &mut room)?;
     let (listed, places, index) = groups(alloc, left, left_index, right, right_index, star)?;
-    write(star, &listed, &places, out)?;
+    write(star, &listed, index.len(), &places, out)?;
     Ok(index)
 }
 
