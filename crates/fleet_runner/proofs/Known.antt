@@ -4,7 +4,7 @@ use Rattle.std.specs.Prelude.{Option}
 use Rattle.std.specs.Io.KnownBytes.{Appends, Consumes}
 use Rattle.std.proofs.KnownBytes.{Appends-trans, Consumes-trans}
 use Rattle.std.proofs.lemmas.List.{take-append-drop, take_all, length-drop}
-use Rattle.fleet_runner.specs.Outcomes.{TakesAtMost}
+use Rattle.fleet_runner.specs.Outputs.{TakesAtMost}
 
 -- of the text a front has been written, and the rest is left
 pub record IsWrittenTo (before here : Option (List ℕ)) (rest text : List ℕ) : Type 0 where

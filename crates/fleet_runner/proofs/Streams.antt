@@ -6,8 +6,9 @@ use Rattle.photo_script.specs.Contents.{Contents}
 use Rattle.photo_script.specs.Reading.{script_of}
 use Rattle.photo_script.specs.Reports.{Answer, Tells}
 use Rattle.photo_script.specs.Runs.{run, reports_of}
-use Rattle.fleet_runner.specs.Outcomes.{AreRight, AppendsFirst, WritesFirst}
-use Rattle.fleet_runner.proofs.Zipped.{zip_take}
+use Rattle.fleet_steps.specs.Outcomes.{AreRight}
+use Rattle.fleet_runner.specs.Outputs.{AppendsFirst, WritesFirst}
+use Rattle.fleet_steps.proofs.Zipped.{zip_take}
 
 -- nothing
 pub nothing_first : (input writer : Option (List ℕ)) (script : Contents) → IfSome input (λ bytes. script_of bytes ≡ Ok script) → IfSome input (WritesFirst writer writer)

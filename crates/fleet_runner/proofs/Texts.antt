@@ -7,7 +7,7 @@ use Rattle.std.proofs.lemmas.List.{take_more, take-append-drop, length-take-le, 
 use Rattle.photo_script.specs.declared.report.Report.{Report}
 use Rattle.photo_script.specs.Contents.{Contents}
 use Rattle.photo_script.specs.Reports.{Answer, answer_of, text_of, texts_from}
-use Rattle.fleet_runner.specs.Outcomes.{AppendsFront}
+use Rattle.fleet_runner.specs.Outputs.{AppendsFront}
 
 texts_from-append : (script : Contents) (n : ℕ) (xs ys : List Answer) → texts_from script n (xs ++ ys) ≡ texts_from script n xs ++ texts_from script (n + length xs) ys
 texts_from-append script n [] ys = rw add-zero refl

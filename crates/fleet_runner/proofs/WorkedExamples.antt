@@ -11,7 +11,7 @@ use Rattle.photo_script.specs.Contents.{Contents}
 use Rattle.photo_script.specs.Reading.{script_of}
 use Rattle.photo_script.specs.Reports.{Answer, ModelReport, KnowledgeOf, Exactly, KnowledgeIs, text_of}
 use Rattle.photo_script.specs.Runs.{run, reports_of}
-use Rattle.fleet_runner.specs.Outcomes.{IsOutput, WritesOutput}
+use Rattle.fleet_runner.specs.Outputs.{IsOutput, WritesOutput}
 use Rattle.fleet_runner.specs.Examples.{AreAsTold, stored_text, stored_run, printed, below_the_filter, printed_below, with_the_word, changes, printed_changes, two_versions, printed_two_versions, narrower, printed_narrower, never_made}
 use Rattle.fleet_runner.proofs.Outputs.{one_output}
 

@@ -12,7 +12,7 @@ use Rattle.photo_script.specs.Reading.{script_of}
 use Rattle.photo_script.specs.Runs.{run}
 use Rattle.photo_script.specs.Tallies.{totals_of}
 use Rattle.photo_script.specs.Examples.{totals}
-use Rattle.fleet_runner.specs.Outcomes.{IsOutput, WritesOutput}
+use Rattle.fleet_runner.specs.Outputs.{IsOutput, WritesOutput}
 
 -- the text of a script
 abbrev pub stored_text : List ℕ

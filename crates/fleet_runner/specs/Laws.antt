@@ -1,21 +1,8 @@
--- What holds of all outputs, and of all runs.
-use Rattle.std.specs.Prelude.{◌≡◌, ◌≤◌, ℕ, List}
-use Rattle.std.specs.List.{AllByRecursion}
-use Rattle.photo_script.specs.Contents.{Contents, IsScript}
-use Rattle.photo_script.specs.Reports.{Answer}
-use Rattle.photo_script.specs.Runs.{run_in_order, numbers_to}
-use Rattle.photo_script.specs.Tallies.{moved_by, max_moved}
-use Rattle.fleet_runner.specs.Outcomes.{AreRight, IsOutput}
-use Rattle.fleet_runner.specs.Sound.{IsSoundAndKept}
+-- What holds of all outputs.
+use Rattle.std.specs.Prelude.{◌≡◌, ℕ, List}
+use Rattle.photo_script.specs.Contents.{Contents}
+use Rattle.fleet_runner.specs.Outputs.{IsOutput}
 
 -- a script's run has at most one output
 abbrev pub OutputsAreOne : Type 0
 OutputsAreOne = (script : Contents) (first second : List ℕ) → IsOutput script first → IsOutput script second → first ≡ second
-
--- before the first command of a script, and after each, the devices are sound and lose nothing that is current
-abbrev pub StaysSoundAndKept : Type 0
-StaysSoundAndKept = (script : Contents) (n : ℕ) → IsScript script → IsSoundAndKept (run_in_order script (numbers_to n))
-
--- no pull of a run moves more versions than the run can make and move
-abbrev pub PullsMoveFew : Type 0
-PullsMoveFew = (script : Contents) (answers : List Answer) → IsScript script → AreRight script answers → AllByRecursion (λ a. moved_by a ≤ max_moved) answers

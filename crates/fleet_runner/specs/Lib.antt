@@ -1,10 +1,3 @@
-pub mod Changes
-pub mod Outcomes
+pub mod Outputs
 pub mod Laws
 pub mod Examples
-pub mod Members
-pub mod Ready
-pub mod Sound
-pub mod Between
-pub mod SoundExamples
-pub mod Issued

@@ -2,7 +2,7 @@ ghost use Rattle.std.specs.Prelude.{◌≡◌, ◌≢◌, ◌⊎◌, ◌+◌, �
 ghost use Rattle.photo_script.specs.Limits.{max_text_bytes};
 ghost use Rattle.photo_script.specs.Reading.{script_of};
 ghost use Rattle.photo_script.specs.declared.fault.ScriptFault.TheVariants.{Read, NoMemory, TooLarge};
-ghost use Rattle.fleet_runner.specs.Outcomes.{TakesAtMost};
+ghost use Rattle.fleet_runner.specs.Outputs.{TakesAtMost};
 
 use photo_script::{MAX_TEXT_BYTES, Script, ScriptFault, read_script};
 use std::alloc::Global;

@@ -3,8 +3,8 @@ ghost use Rattle.photo_script.specs.Limits.{max_text_bytes};
 ghost use Rattle.photo_script.specs.Reading.{script_of};
 ghost use Rattle.photo_script.specs.declared.fault.ScriptFault.{ScriptFault};
 ghost use Rattle.photo_script.specs.declared.fault.ScriptFault.TheVariants as script;
-ghost use Rattle.fleet_runner.specs.declared.fault.RunError.TheVariants.{NoMemory, Script, Write};
-ghost use Rattle.fleet_runner.specs.Outcomes.{TakesAtMost, WritesOutput, WritesFirst, WritesFront};
+ghost use Rattle.fleet_steps.specs.declared.fault.RunError.TheVariants.{NoMemory, Script, Write};
+ghost use Rattle.fleet_runner.specs.Outputs.{TakesAtMost, WritesOutput, WritesFirst, WritesFront};
 
 use crate::{RunError, read_source, run_plain, write_reports};
 use std::alloc::Global;

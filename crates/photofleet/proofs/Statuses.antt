@@ -1,8 +1,8 @@
 -- From the status of a run to what it came to.
 use Rattle.std.proofs.Common.{◌≡◌, Result, Ok, Err, refl, arith}
 use Rattle.std.specs.Prelude.{OnOk}
-use Rattle.fleet_runner.specs.declared.fault.RunError.{RunError}
-use Rattle.fleet_runner.specs.declared.fault.RunError.TheVariants.{NoMemory, Script, Write}
+use Rattle.fleet_steps.specs.declared.fault.RunError.{RunError}
+use Rattle.fleet_steps.specs.declared.fault.RunError.TheVariants.{NoMemory, Script, Write}
 use Rattle.photofleet.specs.Status.{status_of}
 
 pub on_done : {A : Type 0} (done : Result A RunError) (P : Type 0) → OnOk done P → status_of done ≡ 0 → P

@@ -1,7 +1,7 @@
 -- Exit statuses.
 use Rattle.std.specs.Prelude.{ℕ, Bool, ◌||◌, ◌==◌, Result, Ok, Err}
-use Rattle.fleet_runner.specs.declared.fault.RunError.{RunError}
-use Rattle.fleet_runner.specs.declared.fault.RunError.TheVariants.{NoMemory, Script, Write}
+use Rattle.fleet_steps.specs.declared.fault.RunError.{RunError}
+use Rattle.fleet_steps.specs.declared.fault.RunError.TheVariants.{NoMemory, Script, Write}
 
 -- done, bad words, no script, no run, or no output
 abbrev pub is_status : ℕ → Bool

@@ -4,9 +4,9 @@ ghost use Rattle.std.specs.declared.io.ErrorKind.TheVariants.{OutOfMemory};
 ghost use Rattle.clap.specs.Words.{app_of, kind_of, subcommand_rows_of};
 ghost use Rattle.photo_script.specs.declared.fault.ScriptFault as script;
 ghost use Rattle.photofleet.specs.Status.{is_status, status_of};
-ghost use Rattle.fleet_runner.specs.Outcomes.{WritesOutput, WritesFirst, WritesFront};
+ghost use Rattle.fleet_runner.specs.Outputs.{WritesOutput, WritesFirst, WritesFront};
 ghost use Rattle.photofleet.specs.CommandLine.{program, file_in, AsksForHelp, AreRefused, IsRefusal, Asks, AsksJob, OfFile};
-ghost use Rattle.fleet_runner.specs.declared.fault.RunError.TheVariants.{NoMemory, Script, Write};
+ghost use Rattle.fleet_steps.specs.declared.fault.RunError.TheVariants.{NoMemory, Script, Write};
 
 use clap::error::ErrorKind;
 use clap::{Arg, ArgAction, ArgMatches, Command};

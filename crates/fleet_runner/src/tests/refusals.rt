@@ -2,7 +2,7 @@
 //! `tools/refuse-pull` refuses each in turn.
 ghost use Rattle.std.specs.Prelude.{◌≡◌, nat_lt, true, None, length, IfOk};
 ghost use Rattle.std.specs.List.{list_all};
-ghost use Rattle.fleet_runner.specs.Between.{AreReady};
+ghost use Rattle.fleet_steps.specs.Between.{AreReady};
 
 use crate::{RunError, run_on, run_plain};
 use photo_device::{Device, HeldSet};

@@ -1,7 +1,7 @@
 use Rattle.std.proofs.Common.{List, map, sym, subst}
 use Rattle.photo_script.specs.declared.report.Report.{Report}
 use Rattle.photo_script.specs.Reports.{answer_of}
-use Rattle.fleet_runner.specs.Outcomes.{AreRight}
+use Rattle.fleet_steps.specs.Outcomes.{AreRight}
 use Rattle.fleet_runner.proofs.Streams.{nothing_first, some_first}
 use Rattle.fleet_runner.proofs.stream.plain_stream.Goals as goal
 

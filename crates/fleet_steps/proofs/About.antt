@@ -1,0 +1,300 @@
+-- The answers of a run speak of devices of its script.
+use Rattle.std.proofs.Common.{◌≡◌, ◌⊎◌, ℕ, zero, suc, ◌+◌, ◌<◌, ◌≤◌, Bool, true, false, not, ◌&&◌, ◌||◌, eqb, ltb, cond, List, [], ◌∷◌, ◌++◌, length, get_or, set, map, inl, inr, refl, sym, ◌∙◌, subst, arith}
+use Rattle.std.proofs.lemmas.Bool.{and_parts, or_cases, or_left, or_right, eqb-true}
+use Rattle.std.specs.Prelude.{filter, Option, Some, None, IfSome}
+use Rattle.photo_record.specs.declared.record.Record.{Record}
+use Rattle.photo_record.specs.declared.record.Record.TheVariants.{Removed}
+use Rattle.std.specs.List.{AllByRecursion, list_any}
+use Rattle.photo_filter_text.specs.Tree.{Tree}
+use Rattle.photo_filter_rules.specs.Matching.{matches}
+use Rattle.photo_filter_rules.specs.Covers.{covers}
+use Rattle.photo_version.specs.Author.{device_of_author, same_author}
+use Rattle.photo_version.specs.Version.{Version, same_version}
+use Rattle.item_knowledge.specs.Fragments.{knows}
+use Rattle.photo_device.specs.Ordered.{put}
+use Rattle.photo_device.specs.Entry.{Entry, entry_before, others, put_entry_if, put_entries, is_of_other, supersedes}
+use Rattle.photo_device.specs.Device.{ModelDevice, known, holds, knows_entry, selects, new_entry, next_version, made, is_held, narrowed, moved}
+use Rattle.photo_device.specs.Conflicts.{conflicts_of, versions_of, pictures_of}
+use Rattle.photo_pull.specs.Pull.{taken, handed, noticed, told, learns_all, leaves_store, leaves_out, tell, pulled, handed_over}
+use Rattle.photo_script.specs.declared.command.Command.{Command}
+use Rattle.photo_script.specs.declared.command.Command.TheVariants as command
+use Rattle.photo_script.specs.Contents.{Contents, devices_of}
+use Rattle.photo_script.specs.Reports.{Answer, NotHeld, NotNarrower, Narrowed, Exactly, Tells, TellsKnowledge, IsOfScript, AreOfScript, IsConflictOfScript, AreConflictsOfScript, IsAbout}
+use Rattle.photo_script.specs.Runs.{Effect, effect, making, telling, changing, narrowing, pulling, opening_from}
+use Rattle.fleet_steps.proofs.KnownLemmas.{each_known}
+
+-- the entry's version is of a device of the script, and so is each version that it was made with
+pub record IsOfRun (script : Contents) (e : Entry) : Type 0 where
+  pub itself : IsOfScript script e.version
+  pub history : (v : Version) → e.history v ≡ true → IsOfScript script v
+
+-- the device is of the script, and so is all that it holds, and each version that it knows
+pub record IsOfFleet (script : Contents) (d : ModelDevice) : Type 0 where
+  pub author : device_of_author d.author < length script.names
+  pub store : AllByRecursion (IsOfRun script) d.store
+  pub out : AllByRecursion (IsOfRun script) d.out
+  pub knows : (picture : ℕ) (v : Version) → known d picture v ≡ true → IsOfScript script v
+
+all_filter : {X : Type 0} (P : X → Type 0) (q : X → Bool) (xs : List X) → AllByRecursion P xs → AllByRecursion P (filter q xs)
+all_filter P q [] all = tt
+all_filter P q (x ∷ xs) all =
+    elim (q x) as (λ b. AllByRecursion P (cond b (x ∷ filter q xs) (filter q xs))) [
+      | true ↦ (all.0, all_filter P q xs all.1)
+      | false ↦ all_filter P q xs all.1
+    ]
+
+all_put : {X : Type 0} (P : X → Type 0) (before : X → X → Bool) (x : X) (ys : List X) → P x → AllByRecursion P ys → AllByRecursion P (put before x ys)
+all_put P before x [] p all = (p, tt)
+all_put P before x (y ∷ ys) p all =
+    elim (before y x) as (λ b. AllByRecursion P (cond b (y ∷ put before x ys) (x ∷ y ∷ ys))) [
+      | true ↦ (all.0, all_put P before x ys p all.1)
+      | false ↦ (p, all)
+    ]
+
+all_puts : (P : Entry → Type 0) (es entries : List Entry) → AllByRecursion P es → AllByRecursion P entries → AllByRecursion P (put_entries es entries)
+all_puts P [] entries new all = all
+all_puts P (e ∷ es) entries new all = all_put P entry_before e _ new.0 (all_puts P es entries new.1 all)
+
+all_append : {X : Type 0} (P : X → Type 0) (xs ys : List X) → AllByRecursion P xs → AllByRecursion P ys → AllByRecursion P (xs ++ ys)
+all_append P [] ys first second = second
+all_append P (x ∷ xs) ys first second = (first.0, all_append P xs ys first.1 second)
+
+all_map : {X Y : Type 0} (P : X → Type 0) (Q : Y → Type 0) (f : X → Y) (xs : List X) → ((x : X) → P x → Q (f x)) → AllByRecursion P xs → AllByRecursion Q (map f xs)
+all_map P Q f [] each all = tt
+all_map P Q f (x ∷ xs) each all = (each x all.0, all_map P Q f xs each all.1)
+
+pub all_are : {X : Type 0} (P Q : X → Type 0) (xs : List X) → ((x : X) → P x → Q x) → AllByRecursion P xs → AllByRecursion Q xs
+all_are P Q [] each all = tt
+all_are P Q (x ∷ xs) each all = (each x all.0, all_are P Q xs each all.1)
+
+-- what follows of an item that passes a test
+any_passes : {X : Type 0} (P : X → Type 0) (R : Type 0) (q : X → Bool) (xs : List X) → ((x : X) → P x → q x ≡ true → R) → AllByRecursion P xs → list_any q xs ≡ true → R
+any_passes P R q [] each all h = cc
+any_passes P R q (x ∷ xs) each all h = elim (or_cases (q x) (list_any q xs) h) [
+  | inl here ↦ each x all.0 here
+  | inr later ↦ any_passes P R q xs each all.1 later
+]
+
+-- a new entry into either place, and nothing else of its picture
+all_made : (P : Entry → Type 0) (b : Bool) (e : Entry) (picture : ℕ) (entries : List Entry) → P e → AllByRecursion P entries → AllByRecursion P (put_entry_if b e (others picture entries))
+all_made P true e picture entries p all = all_put P entry_before e _ p (all_filter P (is_of_other picture) entries all)
+all_made P false e picture entries p all = all_filter P (is_of_other picture) entries all
+
+pub all_push : {X : Type 0} (P : X → Type 0) (xs : List X) (x : X) → AllByRecursion P xs → P x → AllByRecursion P (xs ++ x ∷ [])
+all_push P [] x all p = (p, tt)
+all_push P (y ∷ ys) x all p = (all.0, all_push P ys x all.1 p)
+
+pub all_set : {X : Type 0} (P : X → Type 0) (xs : List X) (k : ℕ) (x : X) → AllByRecursion P xs → P x → AllByRecursion P (set xs k x)
+all_set P [] k x all p = tt
+all_set P (y ∷ ys) zero x all p = (p, all.1)
+all_set P (y ∷ ys) (suc k) x all p = (all.0, all_set P ys k x all.1 p)
+
+pub all_at : {X : Type 0} (P : X → Type 0) (xs : List X) (k : ℕ) (d : X) → AllByRecursion P xs → k < length xs → P (get_or xs k d)
+all_at P [] k d all h = absurd (omega arith)
+all_at P (y ∷ ys) zero d all h = all.0
+all_at P (y ∷ ys) (suc k) d all h = all_at P ys k d all.1 (omega arith)
+
+-- the devices that a script opens with
+opening_of_fleet : (script : Contents) (n : ℕ) (filters : List Tree) → n + length filters ≤ length script.names → AllByRecursion (IsOfFleet script) (opening_from n filters)
+opening_of_fleet script n [] h = tt
+opening_of_fleet script n (x ∷ xs) h = (record { author = omega arith; store = tt; out = tt; knows = λ p v none. cc }, opening_of_fleet script (n + 1) xs (omega arith))
+
+pub opening_known : (script : Contents) → length script.filters ≤ length script.names → AllByRecursion (IsOfFleet script) (opening_from 0 script.filters)
+opening_known script h = opening_of_fleet script 0 script.filters (omega arith)
+
+one_of_three : (a b c : Bool) → ((a || b) || c) ≡ true → ((a || c) ≡ true) ⊎ (b ≡ true)
+one_of_three true b c h = inl refl
+one_of_three false true c h = inr refl
+one_of_three false false c h = inl h
+
+-- what is known after a version was made is that version, or was known before
+one_known : (script : Contents) (d : ModelDevice) (p : ℕ) (v : Version) → IsOfFleet script d → ((d.every v || same_version (next_version d) v) || d.of p v) ≡ true → IsOfScript script v
+one_known script d p v of here =
+    elim (one_of_three (d.every v) (same_version (next_version d) v) (d.of p v) here) [
+      | inl before ↦ of.knows p v before
+      | inr new ↦ subst (λ n. n < length script.names) (eqb-true d.author.device v.author.device (and_parts (same_author d.author v.author) (eqb (d.counter + 1) v.number) new).0) of.author
+    ]
+
+-- a device that makes a version stays of the script
+made_known : (script : Contents) (d : ModelDevice) (picture : ℕ) (content : Record) → IsOfFleet script d → IsOfFleet script (made d picture content)
+made_known script d picture content of =
+    let new : IsOfRun script (new_entry d picture content) = record { itself = of.author; history = λ v here. of.knows picture v here } in
+    record {
+      author = of.author;
+      store = all_made (IsOfRun script) (matches d.tree content) (new_entry d picture content) picture d.store new of.store;
+      out = all_made (IsOfRun script) (not (matches d.tree content)) (new_entry d picture content) picture d.out new of.out;
+      knows = λ p v here. one_known script d p v of here;
+    }
+
+-- and so does one that makes it only where it holds the picture
+changing_known : (script : Contents) (d : ModelDevice) (other : Option ModelDevice) (picture : ℕ) (content : Record) → IsOfFleet script d → IsOfFleet script (changing d other picture content).first
+changing_known script d other picture content of =
+    elim (is_held d picture) as (λ b. IsOfFleet script (cond b (making d other picture content) (telling d other (Exactly NotHeld))).first) [
+      | true ↦ made_known script d picture content of
+      | false ↦ of
+    ]
+
+-- what entries tell of
+told_known : (script : Contents) (es : List Entry) (p : ℕ) (v : Version) → AllByRecursion (IsOfRun script) es → tell es p v ≡ true → IsOfScript script v
+told_known script es p v all h = any_passes (IsOfRun script) (IsOfScript script v) (λ e. (eqb e.picture p) && (e.history v || same_version e.version v)) es
+    (λ e of here. elim (or_cases (e.history v) (same_version e.version v) (and_parts (eqb e.picture p) (e.history v || same_version e.version v) here).1) [
+      | inl in_history ↦ of.history v in_history
+      | inr itself ↦ subst (λ n. n < length script.names) (eqb-true e.version.author.device v.author.device (and_parts (same_author e.version.author v.author) (eqb e.version.number v.number) itself).0) of.itself
+    ]) all h
+
+module _ (script : Contents) (t s : ModelDevice) (of_t : IsOfFleet script t) (of_s : IsOfFleet script s) where
+  taken_known : AllByRecursion (IsOfRun script) (taken t s)
+  taken_known = all_filter (IsOfRun script) (λ e. not (knows_entry t e) && selects t e) s.store of_s.store
+
+  handed_known : AllByRecursion (IsOfRun script) (handed t s)
+  handed_known = all_filter (IsOfRun script) (λ e. not (knows_entry t e)) s.out of_s.out
+
+  noticed_known : AllByRecursion (IsOfRun script) (noticed t s)
+  noticed_known = all_filter (IsOfRun script) (λ e. not (knows_entry t e) && (not (selects t e) && list_any (supersedes e) (holds t))) s.store of_s.store
+
+  coming_known : AllByRecursion (IsOfRun script) (taken t s ++ handed t s)
+  coming_known = all_append (IsOfRun script) (taken t s) (handed t s) taken_known handed_known
+
+  all_told : AllByRecursion (IsOfRun script) (told t s)
+  all_told = all_append (IsOfRun script) (taken t s ++ handed t s) (noticed t s) coming_known noticed_known
+
+  -- what the target knows after a pull it knew before it, or was told of, or the source knew
+  learned_known : (p : ℕ) (v : Version) → known (pulled t s) p v ≡ true → IsOfScript script v
+  learned_known p v h = elim (or_cases (t.every v || (learns_all t s && s.every v)) (t.of p v || (tell (told t s) p v || (learns_all t s && s.of p v))) h) [
+    | inl every ↦ elim (or_cases (t.every v) (learns_all t s && s.every v) every) [
+      | inl own ↦ of_t.knows p v (or_left (t.every v) (t.of p v) own)
+      | inr others ↦ of_s.knows p v (or_left (s.every v) (s.of p v) (and_parts (learns_all t s) (s.every v) others).1)
+    ]
+    | inr of_picture ↦ elim (or_cases (t.of p v) (tell (told t s) p v || (learns_all t s && s.of p v)) of_picture) [
+      | inl own ↦ of_t.knows p v (or_right (t.every v) (t.of p v) own)
+      | inr more ↦ elim (or_cases (tell (told t s) p v) (learns_all t s && s.of p v) more) [
+        | inl tells ↦ told_known script (told t s) p v all_told tells
+        | inr others ↦ of_s.knows p v (or_right (s.every v) (s.of p v) (and_parts (learns_all t s) (s.of p v) others).1)
+      ]
+    ]
+  ]
+
+  -- a device that pulls from another stays of the script
+  pub pulled_known : IsOfFleet script (pulled t s)
+  pulled_known = record {
+    author = of_t.author;
+    store = all_puts (IsOfRun script) (filter (selects t) (taken t s ++ handed t s)) (filter (λ e. not (leaves_store t s e)) t.store)
+        (all_filter (IsOfRun script) (selects t) (taken t s ++ handed t s) coming_known) (all_filter (IsOfRun script) (λ e. not (leaves_store t s e)) t.store of_t.store);
+    out = all_puts (IsOfRun script) (filter (λ e. not (selects t e)) (taken t s ++ handed t s)) (filter (λ e. not (leaves_out t s e)) t.out)
+        (all_filter (IsOfRun script) (λ e. not (selects t e)) (taken t s ++ handed t s) coming_known) (all_filter (IsOfRun script) (λ e. not (leaves_out t s e)) t.out of_t.out);
+    knows = learned_known;
+  }
+
+  -- and so does the other
+  pub handed_over_known : IsOfFleet script (handed_over t s)
+  handed_over_known = record { author = of_s.author; store = of_s.store; out = all_filter (IsOfRun script) (knows_entry t) s.out of_s.out; knows = of_s.knows }
+
+-- a device that gets another filter stays of the script
+narrowed_known : (script : Contents) (d : ModelDevice) (tree : Tree) → IsOfFleet script d → IsOfFleet script (narrowed tree d)
+narrowed_known script d tree of = record {
+  author = of.author;
+  store = all_filter (IsOfRun script) (λ e. matches tree e.content) d.store of.store;
+  out = all_puts (IsOfRun script) (filter (λ e. not (matches tree e.content)) d.store) d.out (all_filter (IsOfRun script) (λ e. not (matches tree e.content)) d.store of.store) of.out;
+  knows = of.knows;
+}
+
+-- the effect where the filter is narrowed
+abbrev pub narrowed_effect : ModelDevice → Option ModelDevice → Tree → Effect
+narrowed_effect d other tree = record { first = narrowed tree d; second = other; report = Exactly (Narrowed (moved tree d)); entries = [] }
+
+narrowing_known : (script : Contents) (d : ModelDevice) (other : Option ModelDevice) (tree : Tree) → IsOfFleet script d → IsOfFleet script (narrowing d other tree).first
+narrowing_known script d other tree of =
+    elim (covers d.tree tree) as (λ b. IsOfFleet script (cond b (narrowed_effect d other tree) (telling d other (Exactly NotNarrower))).first) [
+      | true ↦ narrowed_known script d tree of
+      | false ↦ of
+    ]
+
+-- what is told of a device
+
+entries_about : (script : Contents) (es : List Entry) → AllByRecursion (IsOfRun script) es → AreOfScript script es
+entries_about script es all = all_are (IsOfRun script) (λ e. IsOfScript script e.version) es (λ e of. of.itself) all
+
+changing_about : (script : Contents) (d : ModelDevice) (other : Option ModelDevice) (picture : ℕ) (content : Record) → IsOfFleet script d
+    → (answer : Answer) → Tells answer (changing d other picture content).report → IsAbout script answer
+changing_about script d other picture content of answer tells =
+    elim (is_held d picture) as (λ b. Tells answer (cond b (making d other picture content) (telling d other (Exactly NotHeld))).report → IsAbout script answer) [
+      | true ↦ λ is. subst (IsAbout script) (sym is) of.author
+      | false ↦ λ is. subst (IsAbout script) (sym is) tt
+    ] tells
+
+-- what is told of all that a device knows
+knowledge_about : (script : Contents) (d : ModelDevice) (n : ℕ) → n < length script.names → IsOfFleet script d → (answer : Answer) → TellsKnowledge answer n (known d) → IsAbout script answer
+knowledge_about script d n h of answer tells =
+    let each = λ (p : ℕ) (v : Version) (above : 0 < p) (here : knows tells.fragments p v ≡ true). of.knows p v (sym (tells.denoted p above v) ∙ here) in
+    subst (IsAbout script) (sym tells.given) (h, each_known tells.fragments (IsOfScript script) tells.normal each)
+
+narrowing_about : (script : Contents) (d : ModelDevice) (other : Option ModelDevice) (tree : Tree) (answer : Answer) → Tells answer (narrowing d other tree).report → IsAbout script answer
+narrowing_about script d other tree answer tells =
+    elim (covers d.tree tree) as (λ b. Tells answer (cond b (narrowed_effect d other tree) (telling d other (Exactly NotNarrower))).report → IsAbout script answer) [
+      | true ↦ λ is. subst (IsAbout script) (sym is) tt
+      | false ↦ λ is. subst (IsAbout script) (sym is) tt
+    ] tells
+
+pulling_about : (script : Contents) (d : ModelDevice) (other : Option ModelDevice) (answer : Answer) → Tells answer (pulling d other).report → IsAbout script answer
+pulling_about script d None answer tells = subst (IsAbout script) (sym tells) tt
+pulling_about script d (Some s) answer tells = subst (IsAbout script) (sym tells) tt
+
+-- the versions of a picture
+conflict_about : (script : Contents) (es : List Entry) (p : ℕ) → AllByRecursion (IsOfRun script) es → IsConflictOfScript script (versions_of es p)
+conflict_about script es p all = all_map (IsOfRun script) (IsOfScript script) (λ e. e.version) (filter (λ e. eqb e.picture p) es) (λ e of. of.itself) (all_filter (IsOfRun script) (λ e. eqb e.picture p) es all)
+
+each_about : (script : Contents) (es : List Entry) (ps : List ℕ) → AllByRecursion (IsOfRun script) es → AreConflictsOfScript script (map (versions_of es) ps)
+each_about script es [] all = tt
+each_about script es (p ∷ ps) all = (conflict_about script es p all, each_about script es ps all)
+
+conflicts_about : (script : Contents) (d : ModelDevice) → IsOfFleet script d → AreConflictsOfScript script (conflicts_of d)
+conflicts_about script d of =
+    let es = put_entries d.store d.out in
+    all_filter (IsConflictOfScript script) (λ c. ltb 1 (length c.versions)) (map (versions_of es) (pictures_of es)) (each_about script es (pictures_of es) (all_puts (IsOfRun script) d.store d.out of.store of.out))
+
+-- a command keeps this of its devices, and the right answer is about the script
+
+pub effect_known : (script : Contents) (c : Command) (d : ModelDevice) (other : Option ModelDevice) → IsOfFleet script d → IfSome other (IsOfFleet script) → IsOfFleet script (effect c d other).first
+effect_known script (command.New n picture content) d other of more = made_known script d picture content of
+effect_known script (command.Edit n picture content) d other of more = changing_known script d other picture content of
+effect_known script (command.Remove n picture) d other of more = changing_known script d other picture Removed of
+effect_known script (command.Pull target source) d None of more = of
+effect_known script (command.Pull target source) d (Some s) of more = pulled_known script d s of more
+effect_known script (command.Narrow n tree) d other of more = narrowing_known script d other tree of
+effect_known script (command.List n) d other of more = of
+effect_known script (command.Conflicts n) d other of more = of
+effect_known script (command.Knowledge n) d other of more = of
+effect_known script (command.Knows n picture v) d other of more = of
+
+-- a command on one device leaves a second as it was
+pub changing_second : (d : ModelDevice) (other : Option ModelDevice) (picture : ℕ) (content : Record) → (changing d other picture content).second ≡ other
+changing_second d other picture content =
+    elim (is_held d picture) as (λ b. (cond b (making d other picture content) (telling d other (Exactly NotHeld))).second ≡ other) [ true ↦ refl | false ↦ refl ]
+
+pub narrowing_second : (d : ModelDevice) (other : Option ModelDevice) (tree : Tree) → (narrowing d other tree).second ≡ other
+narrowing_second d other tree =
+    elim (covers d.tree tree) as (λ b. (cond b (narrowed_effect d other tree) (telling d other (Exactly NotNarrower))).second ≡ other) [ true ↦ refl | false ↦ refl ]
+
+pub effect_known_second : (script : Contents) (c : Command) (d : ModelDevice) (other : Option ModelDevice) → IsOfFleet script d → IfSome other (IsOfFleet script) → IfSome (effect c d other).second (IsOfFleet script)
+effect_known_second script (command.New n picture content) d other of more = more
+effect_known_second script (command.Edit n picture content) d other of more = subst (λ o. IfSome o (IsOfFleet script)) (sym (changing_second d other picture content)) more
+effect_known_second script (command.Remove n picture) d other of more = subst (λ o. IfSome o (IsOfFleet script)) (sym (changing_second d other picture Removed)) more
+effect_known_second script (command.Pull target source) d None of more = tt
+effect_known_second script (command.Pull target source) d (Some s) of more = handed_over_known script d s of more
+effect_known_second script (command.Narrow n tree) d other of more = subst (λ o. IfSome o (IsOfFleet script)) (sym (narrowing_second d other tree)) more
+effect_known_second script (command.List n) d other of more = more
+effect_known_second script (command.Conflicts n) d other of more = more
+effect_known_second script (command.Knowledge n) d other of more = more
+effect_known_second script (command.Knows n picture v) d other of more = more
+
+pub effect_about : (script : Contents) (c : Command) (d : ModelDevice) (other : Option ModelDevice) → (devices_of c).0 < length script.names → IsOfFleet script d
+    → (answer : Answer) → Tells answer (effect c d other).report → IsAbout script answer
+effect_about script (command.New n picture content) d other h of answer tells = subst (IsAbout script) (sym tells) of.author
+effect_about script (command.Edit n picture content) d other h of answer tells = changing_about script d other picture content of answer tells
+effect_about script (command.Remove n picture) d other h of answer tells = changing_about script d other picture Removed of answer tells
+effect_about script (command.Pull target source) d other h of answer tells = pulling_about script d other answer tells
+effect_about script (command.Narrow n tree) d other h of answer tells = narrowing_about script d other tree answer tells
+effect_about script (command.List n) d other h of answer tells = subst (IsAbout script) (sym tells) (h, entries_about script d.store of.store, entries_about script d.out of.out)
+effect_about script (command.Conflicts n) d other h of answer tells = subst (IsAbout script) (sym tells) (h, conflicts_about script d of)
+effect_about script (command.Knowledge n) d other h of answer tells = knowledge_about script d n h of answer tells
+effect_about script (command.Knows n picture v) d other h of answer tells = subst (IsAbout script) (sym tells) tt

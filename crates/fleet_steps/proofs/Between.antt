@@ -1,0 +1,170 @@
+-- A pull between two devices of a run.
+use Rattle.std.proofs.Common.{◌≡◌, ◌≢◌, ℕ, ◌+◌, ◌-◌, ◌<◌, Bool, true, false, cond, eqb, List, [], ◌∷◌, ◌++◌, length, get_or, set, take, drop, refl, sym, ap, ◌∙◌, subst, arith}
+use Rattle.std.specs.Prelude.{Option, Some, None, Result, Ok, Err, OnOk, IfOk}
+use Rattle.std.specs.Option.{option_map}
+use Rattle.std.specs.List.{AllZip}
+use Rattle.std.proofs.lemmas.List.{append-nil, take_all, drop_all, get_or_append_left, get_or-append-add, set-append_left, set-append_right, length-set, map-append}
+use Rattle.std.proofs.lemmas.Bool.{and_parts, eqb-true, ne_eqb}
+use Rattle.photo_filter_text.specs.Tree.{All}
+use Rattle.photo_version.specs.Author.{author, same_author}
+use Rattle.photo_version.specs.Version.{Version, version, same_version}
+use Rattle.photo_device.specs.declared.held.Held.{Held}
+use Rattle.photo_device.specs.Entry.{Entry}
+use Rattle.photo_device.specs.Held.{find_version, entry_of, entries_of}
+use Rattle.photo_device.specs.Device.{Kept, ModelDevice, Shows, holds, known, opening}
+use Rattle.photo_pull.specs.Pull.{pulled, handed_over, counts_of}
+use Rattle.photo_script.specs.Runs.{effect, device_at, with_second}
+use Rattle.fleet_steps.specs.Members.{In, here, there}
+use Rattle.photo_script.specs.declared.command.Command.{Command}
+use Rattle.photo_script.specs.declared.report.Report.{Report}
+use Rattle.photo_script.specs.Contents.{devices_of}
+use Rattle.photo_script.specs.Reports.{Pulled, Tells, answer_of}
+use Rattle.fleet_steps.specs.Between.{MayPull, AreReady, after_pull, devices_after, effect_on}
+use Rattle.fleet_steps.proofs.Zipped.{zip_at, zip_set, zip_long}
+
+-- what was found
+record IsFound (v : Version) (helds : List Held) (h : Held) : Type 0 where
+  held : In (entry_of h) (entries_of helds)
+  is : h.version ≡ v
+
+same_is : (v w : Version) → same_version v w ≡ true → v ≡ w
+same_is v w h =
+    let both = and_parts (same_author v.author w.author) (eqb v.number w.number) h in
+    let by : v.author.device ≡ w.author.device = eqb-true v.author.device w.author.device both.0 in
+    let number : v.number ≡ w.number = eqb-true v.number w.number both.1 in
+    λ i. version (author (by i)) (number i)
+
+found : (v : Version) (helds : List Held) (h : Held) → find_version v helds ≡ Some h → IsFound v helds h
+found v [] h e = cc
+found v (x ∷ xs) h e = by_test (same_version x.version v) (same_is x.version v) (found v xs h) e
+  where
+    by_test : (b : Bool) → (b ≡ true → x.version ≡ v) → (find_version v xs ≡ Some h → IsFound v xs h) → cond b (Some x) (find_version v xs) ≡ Some h → IsFound v (x ∷ xs) h
+    by_test true here_is more e =
+        let same : x ≡ h = cc in
+        record { held = here (ap entry_of (sym same)); is = ap (λ (y : Held). y.version) (sym same) ∙ here_is refl }
+    by_test false here_is more e = let later = more e in record { held = there later.held; is = later.is }
+
+-- what a device holds, by what it shows
+held_by : (d : Kept) (m : ModelDevice) → Shows d m → entries_of (d.store ++ d.out) ≡ holds m
+held_by d m shows = map-append entry_of d.store d.out ∙ (λ i. shows.store i ++ shows.out i)
+
+-- of devices that are ready, each may pull from each other
+pub may_pull : (devices : List Kept) (t s : ℕ) (d e : Kept) → AreReady devices → t < length devices → s < length devices → s ≢ t → MayPull (get_or devices t d) (get_or devices s e)
+may_pull devices t s d e are ht hs other =
+    let models = are.models in
+    let long = zip_long Shows devices models are.shown in
+    let target = get_or devices t d in
+    let source = get_or devices s e in
+    let tm = device_at models t in
+    let sm = device_at models s in
+    let t_shows : Shows target tm = zip_at Shows devices models t d (opening (author t) All) are.shown ht in
+    let s_shows : Shows source sm = zip_at Shows devices models s e (opening (author s) All) are.shown hs in
+    let tin : t < length models = omega arith in
+    let sin : s < length models = omega arith in
+    let by_t : target.author ≡ author t = t_shows.author ∙ are.ready.author t tin in
+    let by_s : source.author ≡ author s = s_shows.author ∙ are.ready.author s sin in
+    record {
+      differ = (λ i. same_author (by_t i) (by_s i)) ∙ ne_eqb t s (λ e. other (sym e));
+      one = λ v h g ft fs.
+          let th = found v (target.store ++ target.out) h ft in
+          let sh = found v (source.store ++ source.out) g fs in
+          let th_in : In (entry_of h) (holds tm) = subst (In (entry_of h)) (held_by target tm t_shows) th.held in
+          let sh_in : In (entry_of g) (holds sm) = subst (In (entry_of g)) (held_by source sm s_shows) sh.held in
+          ap (λ (x : Entry). x.picture) (are.ready.one t s tin sin (entry_of h) (entry_of g) th_in sh_in (th.is ∙ sym sh.is));
+      own = λ p n above k.
+          let known_too : known sm p (version tm.author n) ≡ true = ap (λ a. known sm p (version a n)) (sym t_shows.author) ∙ sym (s_shows.known p above (version target.author n)) ∙ k in
+          let counted = are.ready.own t s p n tin sin known_too in
+          let same = t_shows.counter in
+          omega arith;
+    }
+
+-- a list that is cut in two: an item of the front, and the first one of the back
+
+pub front_at : {A : Type 0} (xs front back : List A) (i : ℕ) (d : A) → xs ≡ front ++ back → i < length front → get_or front i d ≡ get_or xs i d
+front_at xs front back i d cut h = sym (ap (λ l. get_or l i d) cut ∙ get_or_append_left front back d i h)
+
+pub back_at : {A : Type 0} (xs front back : List A) (k : ℕ) (d : A) → xs ≡ front ++ back → length front ≡ k → get_or back 0 d ≡ get_or xs k d
+back_at xs front back k d cut long =
+    let place : length front + 0 ≡ k = omega arith in
+    sym (ap (λ l. get_or l k d) cut ∙ ap (λ n. get_or (front ++ back) n d) (sym place) ∙ get_or-append-add front back 0 d)
+
+pub both_set : {A : Type 0} (xs front back : List A) (i k : ℕ) (a b : A) → xs ≡ front ++ back → length front ≡ k → i < k → set front i a ++ set back 0 b ≡ set (set xs i a) k b
+both_set xs front back i k a b cut long h =
+    let none : k - k ≡ 0 = omega arith in
+    let same : length (set front i a) ≡ k = omega (arith, long, length-set front i a) in
+    sym (ap (λ l. set (set l i a) k b) cut ∙ ap (λ l. set l k b) (set-append_left front back i a (omega arith)) ∙ set-append_right (set front i a) back k k b same (omega arith) ∙ ap (λ n. set front i a ++ set back n b) none)
+
+-- the items of a list that is as long as what it is written over
+pub written_back : {A : Type 0} (new items : List A) (n : ℕ) → length new ≡ length items → n ≡ length items → take n (new ++ drop (length new) items) ≡ new
+written_back new items n same long =
+    ap (λ l. take n (new ++ l)) (drop_all (length new) items (omega arith)) ∙ ap (take n) (append-nil new) ∙ take_all n new (omega arith)
+
+-- so the target may pull from the source, where it stands in front of it
+pub may_pull_behind : (devices front back : List Kept) (t s : ℕ) (d e : Kept) → AreReady devices → devices ≡ front ++ back → length front ≡ s → t < s → s < length devices → MayPull (get_or front t d) (get_or back 0 e)
+may_pull_behind devices front back t s d e are cut long h hs =
+    subst (λ (x : Kept). MayPull x (get_or back 0 e)) (sym (front_at devices front back t d cut (omega arith)))
+    (subst (MayPull (get_or devices t d)) (sym (back_at devices front back s e cut long)) (may_pull devices t s d e are (omega arith) hs (omega arith)))
+
+-- and where it stands behind it
+pub may_pull_ahead : (devices front back : List Kept) (t s : ℕ) (d e : Kept) → AreReady devices → devices ≡ front ++ back → length front ≡ t → s < t → t < length devices → MayPull (get_or back 0 d) (get_or front s e)
+may_pull_ahead devices front back t s d e are cut long h ht =
+    subst (λ (x : Kept). MayPull x (get_or front s e)) (sym (back_at devices front back t d cut long))
+    (subst (MayPull (get_or devices t d)) (sym (front_at devices front back s e cut (omega arith))) (may_pull devices t s d e are ht (omega arith) (omega arith)))
+
+-- the devices after a pull
+pub pull_shows : {E : Type 0} (r : Result Report E) (devices new : List Kept) (t s : ℕ) (d e target source a b : Kept) → target ≡ get_or devices t d → source ≡ get_or devices s e → t < length devices → s < length devices → new ≡ set (set devices t a) s b
+    → OnOk r ((tm sm : ModelDevice) → Shows target tm → Shows source sm → Shows a (pulled tm sm))
+    → OnOk r ((tm sm : ModelDevice) → Shows target tm → Shows source sm → Shows b (handed_over tm sm))
+    → OnOk r ((models : List ModelDevice) → AllZip Shows devices models → AllZip Shows new (after_pull t s models))
+pull_shows (Err refused) devices new t s d e target source a b is_t is_s ht hs is_new first second = tt
+pull_shows (Ok report) devices new t s d e target source a b is_t is_s ht hs is_new first second = λ models shown.
+    let tm = device_at models t in
+    let sm = device_at models s in
+    let t_shows : Shows target tm = subst (λ (x : Kept). Shows x tm) (sym is_t) (zip_at Shows devices models t d (opening (author t) All) shown ht) in
+    let s_shows : Shows source sm = subst (λ (x : Kept). Shows x sm) (sym is_s) (zip_at Shows devices models s e (opening (author s) All) shown hs) in
+    subst (λ (l : List Kept). AllZip Shows l (after_pull t s models)) (sym is_new)
+    (zip_set Shows (set devices t a) (set models t (pulled tm sm)) s b (handed_over tm sm) (zip_set Shows devices models t a (pulled tm sm) shown (first tm sm t_shows s_shows)) (second tm sm t_shows s_shows))
+
+-- and the report
+pub pull_tells : {E : Type 0} (r : Result Report E) (devices : List Kept) (t s : ℕ) (d e target source : Kept) → target ≡ get_or devices t d → source ≡ get_or devices s e → t < length devices → s < length devices
+    → IfOk r (λ report. (tm sm : ModelDevice) → Shows target tm → Shows source sm → answer_of report ≡ Pulled (counts_of tm sm))
+    → IfOk r (λ report. (models : List ModelDevice) → AllZip Shows devices models → answer_of report ≡ Pulled (counts_of (device_at models t) (device_at models s)))
+pull_tells (Err refused) devices t s d e target source is_t is_s ht hs tells = tt
+pull_tells (Ok report) devices t s d e target source is_t is_s ht hs tells = λ models shown.
+    let tm = device_at models t in
+    let sm = device_at models s in
+    let t_shows : Shows target tm = subst (λ (x : Kept). Shows x tm) (sym is_t) (zip_at Shows devices models t d (opening (author t) All) shown ht) in
+    let s_shows : Shows source sm = subst (λ (x : Kept). Shows x sm) (sym is_s) (zip_at Shows devices models s e (opening (author s) All) shown hs) in
+    tells tm sm t_shows s_shows
+
+-- a command on one device
+
+pub no_author : (place : Option ℕ) → option_map author place ≡ None → place ≡ None
+no_author (Some k) e = cc
+no_author None e = refl
+
+alone_after : (c : Command) (models : List ModelDevice) → (devices_of c).1 ≡ None → devices_after models c ≡ set models (devices_of c).0 (effect c (device_at models (devices_of c).0) None).first
+alone_after c models alone = λ i.
+    let done = effect c (device_at models (devices_of c).0) (option_map (device_at models) (alone i)) in
+    with_second (alone i) done.second (set models (devices_of c).0 done.first)
+
+pub one_shows : {E : Type 0} (r : Result Report E) (devices : List Kept) (c : Command) (k : ℕ) (d old new : Kept) → (devices_of c).1 ≡ None → k ≡ (devices_of c).0 → old ≡ get_or devices k d → k < length devices
+    → OnOk r ((m : ModelDevice) → Shows old m → Shows new (effect c m None).first)
+    → OnOk r ((models : List ModelDevice) → AllZip Shows devices models → AllZip Shows (set devices k new) (devices_after models c))
+one_shows (Err refused) devices c k d old new alone place is h shows = tt
+one_shows (Ok report) devices c k d old new alone place is h shows = λ models shown.
+    let m = device_at models k in
+    let before : Shows old m = subst (λ (x : Kept). Shows x m) (sym is) (zip_at Shows devices models k d (opening (author k) All) shown h) in
+    let after : AllZip Shows (set devices k new) (set models k (effect c m None).first) = zip_set Shows devices models k new (effect c m None).first shown (shows m before) in
+    let same : set models k (effect c m None).first ≡ devices_after models c = ap (λ j. set models j (effect c (device_at models j) None).first) place ∙ sym (alone_after c models alone) in
+    subst (AllZip Shows (set devices k new)) same after
+
+pub one_tells : {E : Type 0} (r : Result Report E) (devices : List Kept) (c : Command) (k : ℕ) (d old : Kept) → (devices_of c).1 ≡ None → k ≡ (devices_of c).0 → old ≡ get_or devices k d → k < length devices
+    → IfOk r (λ report. (m : ModelDevice) → Shows old m → Tells (answer_of report) (effect c m None).report)
+    → IfOk r (λ report. (models : List ModelDevice) → AllZip Shows devices models → Tells (answer_of report) (effect_on models c).report)
+one_tells (Err refused) devices c k d old alone place is h tells = tt
+one_tells (Ok report) devices c k d old alone place is h tells = λ models shown.
+    let m = device_at models k in
+    let before : Shows old m = subst (λ (x : Kept). Shows x m) (sym is) (zip_at Shows devices models k d (opening (author k) All) shown h) in
+    let same : (effect c m None).report ≡ (effect_on models c).report = ap (λ j. (effect c (device_at models j) None).report) place ∙ (λ i. (effect c (device_at models (devices_of c).0) (option_map (device_at models) (sym alone i))).report) in
+    subst (Tells (answer_of report)) same (tells m before)

@@ -1,0 +1,56 @@
+-- After each first part of a script's commands each device is sound, and nothing current is lost.
+use Rattle.std.proofs.Common.{ℕ, List, [], sym, subst}
+use Rattle.photo_filter_text.specs.Tree.{Tree}
+use Rattle.photo_filter_rules.specs.Laws.{IsInRange}
+use Rattle.photo_version.specs.Author.{author}
+use Rattle.photo_device.specs.Device.{opening}
+use Rattle.photo_script.specs.Contents.{Contents, IsScript}
+use Rattle.photo_script.specs.Runs.{opening_from, run_in_order, numbers_to}
+use Rattle.fleet_steps.specs.Sound.{is_sound}
+use Rattle.fleet_steps.specs.Laws.{StaysSoundAndKept}
+use Rattle.fleet_steps.proofs.Members.{in_nothing, all_from}
+use Rattle.fleet_steps.proofs.EachCommand.{IsKept, after_each}
+use Rattle.fleet_steps.proofs.ReadyRuns.{opened_at, opening_traced}
+use Rattle.fleet_steps.proofs.SoundFacts.{IsSoundDevice, IsSoundFleet}
+use Rattle.fleet_steps.proofs.SoundTests.{each_is_sound, fleet_is_kept, held_is_logged}
+use Rattle.fleet_steps.proofs.SoundFleets.{making_sound, narrowing_sound, pulling_sound}
+
+nothing_sound : (n : ℕ) (tree : Tree) → IsSoundDevice [] (opening (author n) tree)
+nothing_sound n tree = record {
+  held_known = λ e i. in_nothing i;
+  closed = λ w i. in_nothing i;
+  no_older = λ w v i. in_nothing i;
+  selected = λ e i. in_nothing i;
+  unselected = λ e i. in_nothing i;
+  stored = λ e i. in_nothing i;
+  newest = λ e w i. in_nothing i;
+}
+
+pub opening_sound : (filters : List Tree) → IsSoundFleet [] (opening_from 0 filters)
+opening_sound filters = record {
+  traced = opening_traced filters;
+  orderly = record { transitive = λ w x i. in_nothing i; in_range = λ e i. in_nothing i };
+  each = λ k h. let r = opened_at k filters h in subst (IsSoundDevice []) (sym r.1) (nothing_sound k r.0);
+  kept = λ e i. in_nothing i;
+}
+
+pub sound_kept : IsKept IsInRange IsSoundFleet
+sound_kept = record {
+  removed = tt;
+  making = λ log ds k p r H h fits. making_sound log ds H k p r h fits;
+  narrowing = λ log ds k tree H h covered. narrowing_sound log ds H k tree h covered;
+  pulling = λ log ds t s H h k apart. pulling_sound log ds H t s h k apart;
+}
+
+pub run_is_sound : (script : Contents) (n : ℕ) → IsScript script → IsSoundFleet (run_in_order script (numbers_to n)).log (run_in_order script (numbers_to n)).devices
+run_is_sound script n is = (after_each IsInRange IsSoundFleet sound_kept script is is.in_range (opening_sound script.filters) n).fact
+
+pub stays_sound_and_kept : StaysSoundAndKept
+stays_sound_and_kept script n is =
+    let fleet = run_in_order script (numbers_to n) in
+    let facts = run_is_sound script n is in
+    record {
+      sound = all_from (is_sound fleet.log) fleet.devices (each_is_sound fleet.log fleet.devices facts);
+      kept = fleet_is_kept fleet.log fleet.devices facts;
+      logged = held_is_logged fleet.log fleet.devices facts;
+    }

@@ -1,0 +1,18 @@
+-- The worked devices, computed.
+use Rattle.std.proofs.Common.{refl}
+use Rattle.fleet_steps.specs.SoundExamples.{SoundIsAsTold}
+
+pub sound_as_told : SoundIsAsTold
+sound_as_told = record {
+  stored = refl;
+  not_stored = refl;
+  not_selected = refl;
+  outdated = refl;
+  newer_unknown = refl;
+  nothing_known = refl;
+  unknown_stored = refl;
+  kept_waiting = refl;
+  lost = refl;
+  older_gone = refl;
+  newer_lost = refl;
+}

@@ -1,0 +1,105 @@
+-- A device that makes a version, pulls, hands over or narrows its filter knows and holds what the log has, and no more.
+use Rattle.std.proofs.Common.{◌≡◌, ℕ, ◌+◌, ◌≤◌, true, List, [], ◌∷◌, ◌++◌, ◌⊎◌, inl, inr, refl, sym, ap, ◌∙◌, subst, arith}
+use Rattle.photo_record.specs.declared.record.Record.{Record}
+use Rattle.photo_filter_text.specs.Tree.{Tree}
+use Rattle.photo_version.specs.Version.{Version}
+use Rattle.photo_device.specs.Entry.{Entry}
+use Rattle.photo_device.specs.Device.{ModelDevice, known, holds, new_entry, next_version, made, narrowed}
+use Rattle.photo_pull.specs.Pull.{tell, told, pulled, handed_over}
+use Rattle.fleet_steps.specs.Members.{In, here}
+use Rattle.fleet_steps.proofs.Members.{in_one, in_left, in_right, in_either}
+use Rattle.fleet_steps.proofs.Superseding.{tell_is}
+use Rattle.fleet_steps.proofs.Traced.{IsMade, IsTracedLog, IsTracedDevice}
+use Rattle.fleet_steps.proofs.Making.{known_is, in_holds_made}
+use Rattle.fleet_steps.proofs.Pulling.{after_is, in_holds_pulled, told_held, coming_is_told, in_holds_handed}
+use Rattle.fleet_steps.proofs.Narrowing.{in_holds_narrowed}
+
+pub still_made : {log : List Entry} {v : Version} (more : List Entry) → IsMade log v → IsMade (log ++ more) v
+still_made more m = record { entry = m.entry; logged = in_left more m.logged; is = m.is }
+
+-- a longer log
+pub others_traced : (log more : List Entry) (d : ModelDevice) → IsTracedDevice log d → IsTracedDevice (log ++ more) d
+others_traced log more d D = record {
+  made_only = λ p v h. still_made more (D.made_only p v h);
+  logged = λ e i. in_left more (D.logged e i);
+}
+
+-- making
+module _ (log : List Entry) (d : ModelDevice) (p : ℕ) (r : Record) (L : IsTracedLog log) (D : IsTracedDevice log d) (bounded : (e : Entry) → In e log → e.version.author ≡ d.author → e.version.number ≤ d.counter) where
+  pub fresh : (e : Entry) → In e log → e.version ≡ next_version d → ⊥
+  fresh e i h =
+      let a : e.version.number ≤ d.counter = bounded e i (ap (λ (v : Version). v.author) h) in
+      let b : e.version.number ≡ d.counter + 1 = ap (λ (v : Version). v.number) h in
+      omega arith
+
+  pub not_in_history : (w : Entry) → In w log → w.history (next_version d) ≡ true → ⊥
+  not_in_history w i h = let m = L.made_only w i (next_version d) h in fresh m.entry m.logged m.is
+
+  pub not_known : (q : ℕ) → known d q (next_version d) ≡ true → ⊥
+  not_known q h = let m = D.made_only q (next_version d) h in fresh m.entry m.logged m.is
+
+  pub in_longer : {e : Entry} → In e (log ++ new_entry d p r ∷ []) → In e log ⊎ (e ≡ new_entry d p r)
+  in_longer i = elim (in_either log i) [ inl a ↦ inl a | inr b ↦ inr (in_one b) ]
+
+  pub new_logged : In (new_entry d p r) (log ++ new_entry d p r ∷ [])
+  new_logged = in_right log (here refl)
+
+  pub longer_traced : IsTracedLog (log ++ new_entry d p r ∷ [])
+  longer_traced = record {
+    distinct = λ e f i j h. elim (in_longer i) [
+      | inl a ↦ elim (in_longer j) [ inl b ↦ L.distinct e f a b h | inr b ↦ absurd (fresh e a (h ∙ ap (λ (x : Entry). x.version) b)) ]
+      | inr a ↦ elim (in_longer j) [ inl b ↦ absurd (fresh f b (sym h ∙ ap (λ (x : Entry). x.version) a)) | inr b ↦ a ∙ sym b ]
+    ];
+    made_only = λ w i v h. elim (in_longer i) [
+      | inl a ↦ still_made (new_entry d p r ∷ []) (L.made_only w a v h)
+      | inr a ↦ still_made (new_entry d p r ∷ []) (D.made_only p v (subst (λ (y : Entry). y.history v ≡ true) a h))
+    ];
+  }
+
+  pub made_logged : (e : Entry) → In e (holds (made d p r)) → In e (log ++ new_entry d p r ∷ [])
+  made_logged e i = elim (in_holds_made d p r i) [
+    | inl a ↦ subst (λ (y : Entry). In y (log ++ new_entry d p r ∷ [])) (sym a) new_logged
+    | inr b ↦ in_left (new_entry d p r ∷ []) (D.logged e b.0)
+  ]
+
+  pub made_traced : IsTracedDevice (log ++ new_entry d p r ∷ []) (made d p r)
+  made_traced = record {
+    made_only = λ q v h. elim (known_is d p r q v h) [
+      | inl a ↦ still_made (new_entry d p r ∷ []) (D.made_only q v a)
+      | inr b ↦ record { entry = new_entry d p r; logged = new_logged; is = sym b }
+    ];
+    logged = made_logged;
+  }
+
+-- pulling
+module _ (log : List Entry) (t s : ModelDevice) (L : IsTracedLog log) (T : IsTracedDevice log t) (S : IsTracedDevice log s) where
+  pub told_logged : {e : Entry} → In e (told t s) → In e log
+  told_logged {e = e} i = S.logged e (told_held t s i)
+
+  told_made : (p : ℕ) (v : Version) → tell (told t s) p v ≡ true → IsMade log v
+  told_made p v h = let r = tell_is (told t s) p v h in elim r.tells [
+    | inl d ↦ L.made_only r.entry (told_logged r.among) v d
+    | inr d ↦ record { entry = r.entry; logged = told_logged r.among; is = d }
+  ]
+
+  pub pulled_traced : IsTracedDevice log (pulled t s)
+  pulled_traced = record {
+    made_only = λ p v h. elim (after_is t s p v h) [
+      | inl a ↦ T.made_only p v a
+      | inr b ↦ elim b [ inl c ↦ told_made p v c | inr c ↦ S.made_only p v c.1 ]
+    ];
+    logged = λ e i. elim (in_holds_pulled t s i) [ inl a ↦ T.logged e a.0 | inr b ↦ told_logged (coming_is_told t s b) ];
+  }
+
+  pub handed_traced : IsTracedDevice log (handed_over t s)
+  handed_traced = record {
+    made_only = S.made_only;
+    logged = λ e i. S.logged e (in_holds_handed t s i);
+  }
+
+-- narrowing
+pub narrowed_traced : (log : List Entry) (tree : Tree) (d : ModelDevice) → IsTracedDevice log d → IsTracedDevice log (narrowed tree d)
+narrowed_traced log tree d D = record {
+  made_only = D.made_only;
+  logged = λ e i. D.logged e (in_holds_narrowed tree d i);
+}

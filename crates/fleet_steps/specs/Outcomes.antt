@@ -1,0 +1,29 @@
+-- What a run gives.
+use Rattle.std.specs.Prelude.{◌≡◌, ◌≤◌, List, length, map}
+use Rattle.std.specs.List.{AllZip, AllByRecursion}
+use Rattle.photo_device.specs.Held.{entries_of}
+use Rattle.photo_device.specs.Device.{Shows}
+use Rattle.photo_script.specs.Limits.{max_commands}
+use Rattle.photo_script.specs.Contents.{Contents}
+use Rattle.photo_script.specs.Reports.{Answer, Tells, answer_of, IsAbout}
+use Rattle.photo_script.specs.Runs.{run, reports_of}
+use Rattle.photo_script.specs.Tallies.{totals_of}
+use Rattle.fleet_steps.specs.declared.outcome.Outcome.{Outcome}
+use Rattle.fleet_steps.specs.Sound.{IsSoundAndKept}
+
+-- the answers are the right ones to a script's commands, in the order of their numbers
+abbrev pub AreRight : Contents → List Answer → Type 0
+AreRight script answers = AllZip Tells answers (reports_of (run script))
+
+-- the devices show those of the script's run, the reports give the right answers, one for each command, in the order of
+-- their numbers, the totals are the run's, and the log shows the run's log; and the run's devices are sound and lose nothing
+-- that is current
+pub record IsOutcome (script : Contents) (o : Outcome) : Type 0 where
+  pub devices : AllZip Shows o.devices.items (run script).devices
+  pub reports : AreRight script (map answer_of o.reports.items)
+  pub each : length o.reports.items ≡ length script.commands
+  pub about : AllByRecursion (IsAbout script) (map answer_of o.reports.items)
+  pub few : length o.reports.items ≤ max_commands
+  pub totals : o.totals ≡ totals_of script (run script)
+  pub log : entries_of o.log ≡ (run script).log
+  pub sound : IsSoundAndKept (run script)

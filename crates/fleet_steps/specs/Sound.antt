@@ -1,0 +1,40 @@
+-- What is promised of devices for a log of all versions made: each stores what it is to store and nothing else, and
+-- none that is current is lost.
+use Rattle.std.specs.Prelude.{◌≡◌, Bool, true, not, ◌&&◌, List, filter}
+use Rattle.std.specs.List.{list_any, list_all}
+use Rattle.photo_device.specs.Entry.{Entry, superseded_by, is_among}
+use Rattle.photo_device.specs.Device.{ModelDevice, holds, knows_entry, selects}
+use Rattle.photo_script.specs.Runs.{Fleet}
+use Rattle.fleet_steps.specs.Members.{In}
+
+-- the device knows nothing of the log that supersedes the entry
+abbrev pub is_newest : List Entry → ModelDevice → Entry → Bool
+is_newest log d e = not (superseded_by (filter (knows_entry d) log) e)
+
+-- the device is to store the entry: it knows it, is to keep it by its filter, and knows nothing newer
+abbrev pub is_wanted : List Entry → ModelDevice → Entry → Bool
+is_wanted log d e = knows_entry d e && (selects d e && is_newest log d e)
+
+-- of each entry of the log that it is to store it stores the version, and it stores nothing else
+abbrev pub is_sound : List Entry → ModelDevice → Bool
+is_sound log d =
+    list_all (λ e. is_among d.store e.version) (filter (is_wanted log d) log)
+    && list_all (is_wanted log d) d.store
+
+-- the entries that nothing of the log supersedes
+abbrev pub current : List Entry → List Entry
+current log = filter (λ e. not (superseded_by log e)) log
+
+-- some device holds the version, in its store or in its out
+abbrev pub is_held_by : List ModelDevice → Entry → Bool
+is_held_by devices e = list_any (λ d. is_among (holds d) e.version) devices
+
+abbrev pub is_kept : List Entry → List ModelDevice → Bool
+is_kept log devices = list_all (is_held_by devices) (current log)
+
+-- each device stores of the log what it is to store, and nothing else; no current version is lost; and what a device
+-- holds is the log's
+pub record IsSoundAndKept (fleet : Fleet) : Type 0 where
+  pub sound : list_all (is_sound fleet.log) fleet.devices ≡ true
+  pub kept : is_kept fleet.log fleet.devices ≡ true
+  pub logged : (d : ModelDevice) (e : Entry) → In d fleet.devices → In e (holds d) → In e fleet.log

@@ -1,0 +1,155 @@
+ghost use Rattle.std.specs.Prelude.{◌≡◌, true, ◌<◌, Some, None, Err, IfOk, IfSome, OnOk, OnErr};
+ghost use Rattle.photo_device.specs.Device.{ModelDevice, Shows};
+ghost use Rattle.item_knowledge.specs.Fragments.{is_normal, knows};
+ghost use Rattle.photo_script.specs.Contents.{devices_of};
+ghost use Rattle.photo_script.specs.Reports.{KnowledgeOf, Knows, Tells, answer_of};
+ghost use Rattle.photo_script.specs.Runs.{effect, changing, narrowing, pulling};
+ghost use Rattle.photo_record.specs.declared.record.Record.TheVariants.{Removed};
+ghost use Rattle.photo_device.specs.declared.fault.ChangeFault.TheVariants.{NoMemory};
+ghost use Rattle.fleet_steps.specs.Changes.{told_of};
+ghost use Rattle.fleet_steps.specs.Between.{MayPull};
+
+use item_knowledge::Knowledge;
+use photo_device::{ChangeFault, ConflictList, Device, NarrowFault, Place};
+use photo_filter_rules::Filter;
+use photo_pull::pull;
+use photo_record::{PicNo, Record};
+use photo_script::{Command, Report};
+use photo_version::Version;
+use std::alloc::{AllocError, Global};
+
+/// Runs a command that works on one device, and gives the report. After want of memory the device is as it was.
+pub fn run_command(
+    alloc: Global,
+    command: &Command,
+    device: &mut Device,
+) -> Result<Report, AllocError>
+    requires alone { (devices_of command.now).1 ≡ None }
+    requires room { device.old.counter < 4_294_967_295 }
+    ensures device { OnOk result ((m : ModelDevice) → Shows device.old m → Shows device.new (effect command.now m None).first) }
+    ensures report { IfOk result (λ report. (m : ModelDevice) → Shows device.old m → Tells (answer_of report) (effect command.now m None).report) }
+    ensures err { OnErr result (device.new ≡ device.old) }
+{
+    match command {
+        Command::New {
+            picture,
+            record,
+            ..
+        } => {
+            let (version, place) = device.make(*picture, record)?;
+            Ok(Report::Made { version, place })
+        }
+        Command::Edit {
+            picture,
+            record,
+            ..
+        } => run_edit(device, *picture, record),
+        Command::Remove { picture, .. } => run_remove(device, *picture),
+        Command::Pull { .. } => unreachable!(),
+        Command::Narrow { filter, .. } => run_narrow(device, filter),
+        Command::List { device: number } => {
+            let store = device.store().to_list(alloc)?;
+            let out = device.out().to_list(alloc)?;
+            Ok(Report::Listed {
+                device: *number,
+                store,
+                out,
+            })
+        }
+        Command::Conflicts { device: number } => {
+            let pictures = ConflictList::new(device.conflicts(alloc)?);
+            Ok(Report::Conflicts {
+                device: *number,
+                pictures,
+            })
+        }
+        Command::Knowledge { device: number } => knowledge_of(*number, device.knowledge()),
+        Command::Knows {
+            picture,
+            version,
+            ..
+        } => Ok(knows_of(device.knowledge(), *picture, *version)),
+    }
+}
+
+/// Runs a pull of one device from another, and gives the report. After want of memory both are as they were.
+pub fn run_pull(
+    alloc: Global,
+    target: &mut Device,
+    source: &mut Device,
+) -> Result<Report, AllocError>
+    requires { MayPull target.old source.old }
+    ensures target { OnOk result ((t s : ModelDevice) → Shows target.old t → Shows source.old s → Shows target.new (pulling t (Some s)).first) }
+    ensures source { OnOk result ((t s : ModelDevice) → Shows target.old t → Shows source.old s → IfSome (pulling t (Some s)).second (Shows source.new)) }
+    ensures report { IfOk result (λ report. (t s : ModelDevice) → Shows target.old t → Shows source.old s → Tells (answer_of report) (pulling t (Some s)).report) }
+    ensures target_kept { OnErr result (target.new ≡ target.old) }
+    ensures source_kept { OnErr result (source.new ≡ source.old) }
+{
+    let counts = pull(alloc, target, source)?;
+    Ok(Report::Pulled(counts))
+}
+
+// The report on whether a version of a picture is known.
+fn knows_of(knowledge: &Knowledge, picture: PicNo, version: Version) -> Report
+    ensures given { answer_of result ≡ Knows (knows knowledge.now picture version) }
+    ensures above_zero { 0 < picture }
+{
+    Report::Knows(knowledge.knows(picture, version))
+}
+
+// The report on a knowledge, which is in normal form. Its only error is want of memory.
+fn knowledge_of(device: u16, knowledge: &Knowledge) -> Result<Report, AllocError>
+    ensures given { IfOk result (λ report. answer_of report ≡ KnowledgeOf device knowledge.now) }
+    ensures normal { is_normal knowledge.now ≡ true }
+{
+    let _count = knowledge.fragments();
+    Ok(Report::KnowledgeOf {
+        device,
+        knowledge: knowledge.try_clone()?,
+    })
+}
+
+#[tactic(auto, using(crate::proofs::Changed::change_device, crate::proofs::Changed::change_report, crate::proofs::Changed::change_err))]
+fn run_edit(device: &mut Device, picture: PicNo, content: &Record) -> Result<Report, AllocError>
+    requires { device.old.counter < 4_294_967_295 }
+    ensures device { OnOk result ((m : ModelDevice) → Shows device.old m → Shows device.new (changing m None picture content.now).first) }
+    ensures report { IfOk result (λ report. (m : ModelDevice) → Shows device.old m → Tells (answer_of report) (changing m None picture content.now).report) }
+    ensures err { OnErr result (device.new ≡ device.old) }
+{
+    report_on(device.edit(picture, content))
+}
+
+#[tactic(auto, using(crate::proofs::Changed::change_device, crate::proofs::Changed::change_report, crate::proofs::Changed::change_err))]
+fn run_remove(device: &mut Device, picture: PicNo) -> Result<Report, AllocError>
+    requires { device.old.counter < 4_294_967_295 }
+    ensures device { OnOk result ((m : ModelDevice) → Shows device.old m → Shows device.new (changing m None picture Removed).first) }
+    ensures report { IfOk result (λ report. (m : ModelDevice) → Shows device.old m → Tells (answer_of report) (changing m None picture Removed).report) }
+    ensures err { OnErr result (device.new ≡ device.old) }
+{
+    report_on(device.remove(picture))
+}
+
+// The filter stays the script's, so the device gets a copy.
+fn run_narrow(device: &mut Device, filter: &Filter) -> Result<Report, AllocError>
+    ensures device { OnOk result ((m : ModelDevice) → Shows device.old m → Shows device.new (narrowing m None filter.now).first) }
+    ensures report { IfOk result (λ report. (m : ModelDevice) → Shows device.old m → Tells (answer_of report) (narrowing m None filter.now).report) }
+    ensures err { OnErr result (device.new ≡ device.old) }
+{
+    match device.narrow(filter.try_clone()?) {
+        Ok(count) => Ok(Report::Narrowed(count)),
+        Err((_, NarrowFault::NotNarrower)) => Ok(Report::NotNarrower),
+        Err((_, NarrowFault::NoMemory)) => Err(AllocError),
+    }
+}
+
+// The report on a change of a picture. Its only error is want of memory.
+fn report_on(change: Result<(Version, Place), ChangeFault>) -> Result<Report, AllocError>
+    ensures ok { IfOk result (λ report. told_of change ≡ Some (answer_of report)) }
+    ensures err { OnErr result (change ≡ Err NoMemory) }
+{
+    match change {
+        Ok((version, place)) => Ok(Report::Made { version, place }),
+        Err(ChangeFault::NotHeld) => Ok(Report::NotHeld),
+        Err(ChangeFault::NoMemory) => Err(AllocError),
+    }
+}

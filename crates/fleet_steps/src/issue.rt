@@ -1,0 +1,87 @@
+ghost use Rattle.std.specs.Prelude.{◌≡◌, ◌++◌, List, length, OnOk, IfOk};
+ghost use Rattle.std.specs.List.{AllZip};
+ghost use Rattle.std.specs.Option.{option_copied, option_to_list};
+ghost use Rattle.photo_device.specs.Held.{entries_of};
+ghost use Rattle.photo_device.specs.Device.{ModelDevice, Shows};
+ghost use Rattle.photo_script.specs.Contents.{IsWithin};
+ghost use Rattle.photo_script.specs.Reports.{Tells, answer_of};
+ghost use Rattle.fleet_steps.specs.Between.{AreReady, HaveRoom, devices_after, effect_on};
+ghost use Rattle.fleet_steps.specs.Issued.{picture_of, version_told};
+
+use crate::IssueLog;
+use crate::fleet::run_on;
+use photo_device::{Device, Held};
+use photo_record::PicNo;
+use photo_script::{Command, Report, devices_of};
+use photo_version::Version;
+use std::alloc::{AllocError, Global};
+
+/// Runs one command on the one or two of the devices that it works on, puts the version that it makes behind the log, and
+/// gives the report. After want of memory the command may have run: there is no outcome then.
+pub fn run_and_log(
+    alloc: Global,
+    command: &Command,
+    devices: &mut [Device],
+    log: &mut IssueLog,
+) -> Result<Report, AllocError>
+    requires within { IsWithin (length devices.old) command.now }
+    requires ready { AreReady devices.old }
+    requires room { HaveRoom devices.old }
+    ensures devices { OnOk result ((models : List ModelDevice) → AllZip Shows devices.old models → AllZip Shows devices.new (devices_after models command.now)) }
+    ensures report { IfOk result (λ report. (models : List ModelDevice) → AllZip Shows devices.old models → Tells (answer_of report) (effect_on models command.now).report) }
+    ensures log { OnOk result ((models : List ModelDevice) → AllZip Shows devices.old models → entries_of log.new ≡ entries_of log.old ++ (effect_on models command.now).entries) }
+{
+    let report = run_on(alloc, command, devices)?;
+    log_issued(log, command, &report, devices)?;
+    Ok(report)
+}
+
+// Puts the version that a command has made, if it has made one, behind the log, as its device holds it. The report is the
+// one on the command, and the devices are those after it.
+fn log_issued(
+    log: &mut IssueLog,
+    command: &Command,
+    report: &Report,
+    devices: &[Device],
+) -> Result<(), AllocError>
+    requires { IsWithin (length devices.now) command.now }
+    ensures { OnOk result ((models : List ModelDevice) → AllZip Shows devices.now (devices_after models command.now) → Tells (answer_of report.now) (effect_on models command.now).report → entries_of log.new ≡ entries_of log.old ++ (effect_on models command.now).entries) }
+{
+    match issued(command, report, devices) {
+        Some(held) => log.push(held.try_clone()?),
+        None => Ok(()),
+    }
+}
+
+// What a device holds of the version that a command has just made on it.
+fn issued<'a>(command: &Command, report: &Report, devices: &'a [Device]) -> Option<&'a Held>
+    requires { IsWithin (length devices.now) command.now }
+    ensures { (models : List ModelDevice) → AllZip Shows devices.now (devices_after models command.now) → Tells (answer_of report.now) (effect_on models command.now).report → entries_of (option_to_list (option_copied result)) ≡ (effect_on models command.now).entries }
+{
+    let picture = picture_of(command)?;
+    let version = version_told(report)?;
+    let (device, _) = devices_of(command);
+    devices[usize::from(device.value())].held_of(picture, version)
+}
+
+// The picture of which a command makes a version.
+fn picture_of(command: &Command) -> Option<PicNo>
+    ensures { result ≡ picture_of command.now }
+{
+    match command {
+        Command::New { picture, .. }
+        | Command::Edit { picture, .. }
+        | Command::Remove { picture, .. } => Some(*picture),
+        _ => None,
+    }
+}
+
+// The version that a report tells to have been made.
+fn version_told(report: &Report) -> Option<Version>
+    ensures { result ≡ version_told (answer_of report.now) }
+{
+    match report {
+        Report::Made { version, .. } => Some(*version),
+        _ => None,
+    }
+}
