@@ -1,6 +1,6 @@
 use Rattle.std.proofs.Common.{rules, ◌≡◌, ◌+◌, ◌++◌, ◌∷◌, []}
-use Rattle.measure.proofs.TableLemmas.{one_more}
-use Rattle.measure.proofs.table.table.Goals as goal
+use Rattle.knowledge_bench.proofs.TableLemmas.{one_more}
+use Rattle.knowledge_bench.proofs.table.table.Goals as goal
 
 pub loop-i-preserved : goal.loop-i-preserved
 loop-i-preserved c =

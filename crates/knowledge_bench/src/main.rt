@@ -1,5 +1,5 @@
 //! Works a knowledge of many pictures, to be measured: reads a line such as `learn_all 1000 5`, a kind of work, a number
-//! of pictures and how often, and does it. `tools/measure-knowledge` builds and runs it.
+//! of pictures and how often, and does it. `tools/measure-knowledge` builds it, runs it and takes its time.
 #![tactic(auto)]
 
 mod one;
