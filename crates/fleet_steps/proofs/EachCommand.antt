@@ -1,6 +1,6 @@
 -- What making, narrowing and pulling keep is true of a run after each of its commands.
 use Rattle.std.proofs.Common.{◌≡◌, ℕ, zero, suc, ◌+◌, ◌<◌, Bool, true, false, if◌then◌else◌, List, [], ◌∷◌, ◌++◌, inl, inr, length, get_or, set, refl, sym, ap, ◌∙◌, subst, subst₂, length-set, arith}
-use Rattle.std.specs.Prelude.{Some, None, IfSome, slice_get}
+use Rattle.std.specs.Prelude.{Some, None, IfSome, slice_get, fold}
 use Rattle.std.specs.List.{AllByRecursion}
 use Rattle.std.proofs.lemmas.List.{append-nil, set-get_or}
 use Rattle.std.proofs.lemmas.List.Sums.{fold-append}
@@ -130,3 +130,12 @@ module _ (Fits : Record → Type 0) (P : List Entry → List ModelDevice → Typ
     after_each (suc n) =
         subst (λ (f : Fleet). IsAfter P (length script.names) f.log f.devices) (sym (fold-append (step script) (opening_fleet script) (numbers_to n) (suc n ∷ [])))
         (by_step n (run_in_order script (numbers_to n)) (after_each n))
+
+    -- the same of any numbers, in any order
+    after_from : (numbers : List ℕ) (fleet : Fleet) → IsAfter P (length script.names) fleet.log fleet.devices → IsAfter P (length script.names) (fold (step script) fleet numbers).log (fold (step script) fleet numbers).devices
+    after_from [] fleet old = old
+    after_from (zero ∷ more) fleet old = after_from more fleet old
+    after_from (suc n ∷ more) fleet old = after_from more (step script fleet (suc n)) (by_step n fleet old)
+
+    pub after_all_of : (numbers : List ℕ) → IsAfter P (length script.names) (run_in_order script numbers).log (run_in_order script numbers).devices
+    after_all_of numbers = after_from numbers (opening_fleet script) (record { fact = first; long = length_opening 0 script.filters ∙ is.filtered })

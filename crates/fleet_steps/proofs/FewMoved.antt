@@ -27,7 +27,8 @@ use Rattle.fleet_steps.proofs.ReadyRuns.{opened_at}
 use Rattle.fleet_steps.proofs.SoundFacts.{IsSoundFleet}
 use Rattle.fleet_steps.proofs.SoundRuns.{sound_kept, opening_sound}
 use Rattle.fleet_steps.proofs.TracedFleets.{bounded}
-use Rattle.fleet_steps.proofs.Once.{AreOnce, made_once, narrowed_once, pulled_once, handed_once, no_more}
+use Rattle.fleet_steps.proofs.Times.{AreOnce}
+use Rattle.fleet_steps.proofs.Once.{made_once, narrowed_once, pulled_once, handed_once, no_more}
 
 -- sound, and no device holds a version twice
 record IsOnceFleet (log : List Entry) (devices : List ModelDevice) : Type 0 where

@@ -25,6 +25,7 @@ pub mod SoundRuns
 pub mod Between
 pub mod SoundTests
 pub mod SoundWorked
+pub mod Times
 pub mod Once
 pub mod FewMoved
 pub mod Issued

@@ -1,29 +1,24 @@
 -- No device holds a version twice, so none holds more versions than were made.
 use Rattle.std.proofs.Common.{◌≡◌, ℕ, ◌+◌, ◌≤◌, Bool, true, false, cond, not, ◌&&◌, List, [], ◌∷◌, ◌++◌, ◌⊎◌, inl, inr, length, filter, refl, sym, ap, ◌∙◌, subst, arith}
-use Rattle.std.specs.List.{sum_by, count_by}
+use Rattle.std.specs.List.{sum_by}
 use Rattle.std.proofs.lemmas.Bool.{cases_Bool, not-true}
 use Rattle.std.proofs.lemmas.List.Sums.{sum_by-cons, sum_by-append, length-filter}
 use Rattle.std.proofs.lemmas.List.Filters.{sum_by-filter_both, length-filter_both}
 use Rattle.photo_record.specs.declared.record.Record.{Record}
 use Rattle.photo_filter_text.specs.Tree.{Tree}
 use Rattle.photo_filter_rules.specs.Matching.{matches}
-use Rattle.photo_version.specs.Version.{Version, same_version}
+use Rattle.photo_version.specs.Version.{Version}
 use Rattle.photo_device.specs.Entry.{Entry, entry_before, put_entry, put_entry_if, put_entries, others, is_of_other}
 use Rattle.photo_device.specs.Device.{ModelDevice, holds, knows_entry, selects, new_entry, made, narrowed}
 use Rattle.photo_pull.specs.Pull.{taken, handed, leaves_store, leaves_out, pulled, handed_over}
 use Rattle.fleet_steps.specs.Members.{In, here, there}
+use Rattle.fleet_steps.specs.Sound.{times}
 use Rattle.fleet_steps.proofs.Members.{in_nothing, in_passed}
 use Rattle.fleet_steps.proofs.Superseding.{clash, same_version_is, is_same_version}
 use Rattle.fleet_steps.proofs.Pulling.{coming_is_told, told_held, told_unknown}
 use Rattle.fleet_steps.proofs.Traced.{IsTracedLog, IsTracedDevice}
 use Rattle.fleet_steps.proofs.TracedSteps.{fresh}
-
-abbrev pub is_of : Version → Entry → Bool
-is_of v e = same_version e.version v
-
--- how often the version stands in a list
-abbrev pub times : Version → List Entry → ℕ
-times v entries = count_by (is_of v) entries
+use Rattle.fleet_steps.proofs.Times.{is_of, AreOnce, one_or_none, none_of, found}
 
 -- a weight of what is held, before and after
 module _ (f : Entry → ℕ) where
@@ -107,32 +102,6 @@ module _ (f : Entry → ℕ) where
       let right : sum_by f (filter (knows_entry t) s.out) ≤ sum_by f s.out = sum_passed (knows_entry t) s.out in
       let old : sum_by f (holds s) ≡ sum_by f s.store + sum_by f s.out = sum_by-append f s.store s.out in
       omega arith
-
-one_or_none : (b : Bool) → cond b 1 0 ≤ 1
-one_or_none true = omega arith
-one_or_none false = omega arith
-
-none_of : (b : Bool) → b ≡ false → cond b 1 0 ≤ 0
-none_of true h = cc
-none_of false h = omega arith
-
--- a version stands in a list, or nowhere
-found : (v : Version) (xs : List Entry) → (times v xs ≡ 0) ⊎ ((x : Entry) × In x xs × (x.version ≡ v))
-found v [] = inl refl
-found v (x ∷ xs) = elim (cases_Bool (is_of v x)) [
-  | inl same ↦ inr (x, here refl, same_version_is x.version v same)
-  | inr other ↦ elim (found v xs) [
-    | inl none ↦
-        let a : times v (x ∷ xs) ≡ cond (is_of v x) 1 0 + times v xs = sum_by-cons (λ e. cond (is_of v e) 1 0) x xs in
-        let b : cond (is_of v x) 1 0 ≤ 0 = none_of (is_of v x) other in
-        inl (omega arith)
-    | inr some ↦ inr (some.0, there some.1, some.2)
-  ]
-]
-
--- none stands twice
-abbrev pub AreOnce : List Entry → Type 0
-AreOnce entries = (v : Version) → times v entries ≤ 1
 
 module _ (log : List Entry) (d : ModelDevice) (p : ℕ) (r : Record) (L : IsTracedLog log) (D : IsTracedDevice log d) (bounded : (e : Entry) → In e log → e.version.author ≡ d.author → e.version.number ≤ d.counter) (once : AreOnce (holds d)) where
   pub made_once : AreOnce (holds (made d p r))

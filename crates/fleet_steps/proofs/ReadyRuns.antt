@@ -13,7 +13,7 @@ use Rattle.fleet_steps.specs.Ready.{IsReady}
 use Rattle.fleet_steps.proofs.Members.{in_nothing}
 use Rattle.fleet_steps.proofs.Traced.{IsTracedDevice, IsTraced}
 use Rattle.fleet_steps.proofs.TracedFleets.{is_ready, making_traced, narrowing_traced, pulling_traced}
-use Rattle.fleet_steps.proofs.EachCommand.{IsKept, FitsAll, after_each}
+use Rattle.fleet_steps.proofs.EachCommand.{IsKept, FitsAll, after_each, after_all_of}
 
 -- the device at a place of those that a script opens with
 opened_or : (n k : ℕ) (filters : List Tree) (d : ModelDevice) → k < length (opening_from n filters) → (tree : Tree) × (get_or (opening_from n filters) k d ≡ opening (author (n + k)) tree)
@@ -36,7 +36,7 @@ opening_knows n tree = record {
 
 pub opening_traced : (filters : List Tree) → IsTraced [] (opening_from 0 filters)
 opening_traced filters = record {
-  log_is = record { distinct = λ e f i. in_nothing i; made_only = λ w i. in_nothing i };
+  log_is = record { once = λ v. omega arith; distinct = λ e f i. in_nothing i; made_only = λ w i. in_nothing i };
   author = λ k h. let r = opened_at k filters h in ap (λ (d : ModelDevice). d.author) r.1;
   counted = λ e i. in_nothing i;
   each = λ k h. let r = opened_at k filters h in subst (IsTracedDevice []) (sym r.1) (opening_knows k r.0);
@@ -63,3 +63,7 @@ run_is_traced script n is = (after_each (λ r. Unit {0}) IsTraced traced_kept sc
 
 pub run_is_ready : (script : Contents) (n : ℕ) → IsScript script → IsReady (run_in_order script (numbers_to n)).devices
 run_is_ready script n is = is_ready (run_in_order script (numbers_to n)).log (run_in_order script (numbers_to n)).devices (run_is_traced script n is)
+
+-- the same after any commands in any order
+pub ready_in_order : (script : Contents) (numbers : List ℕ) → IsScript script → IsReady (run_in_order script numbers).devices
+ready_in_order script numbers is = is_ready (run_in_order script numbers).log (run_in_order script numbers).devices (after_all_of (λ r. Unit {0}) IsTraced traced_kept script is (all_fit script.commands) (opening_traced script.filters) numbers).fact

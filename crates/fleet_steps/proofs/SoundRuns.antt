@@ -1,4 +1,4 @@
--- After each first part of a script's commands each device is sound, and nothing current is lost.
+-- After commands of a script, in whatever order, each device is sound, and nothing current is lost.
 use Rattle.std.proofs.Common.{ℕ, List, [], sym, subst}
 use Rattle.photo_filter_text.specs.Tree.{Tree}
 use Rattle.photo_filter_rules.specs.Laws.{IsInRange}
@@ -7,9 +7,9 @@ use Rattle.photo_device.specs.Device.{opening}
 use Rattle.photo_script.specs.Contents.{Contents, IsScript}
 use Rattle.photo_script.specs.Runs.{opening_from, run_in_order, numbers_to}
 use Rattle.fleet_steps.specs.Sound.{is_sound}
-use Rattle.fleet_steps.specs.Laws.{StaysSoundAndKept}
+use Rattle.fleet_steps.specs.Laws.{StaysSoundAndKept, StaysSoundInAnyOrder}
 use Rattle.fleet_steps.proofs.Members.{in_nothing, all_from}
-use Rattle.fleet_steps.proofs.EachCommand.{IsKept, after_each}
+use Rattle.fleet_steps.proofs.EachCommand.{IsKept, after_all_of}
 use Rattle.fleet_steps.proofs.ReadyRuns.{opened_at, opening_traced}
 use Rattle.fleet_steps.proofs.SoundFacts.{IsSoundDevice, IsSoundFleet}
 use Rattle.fleet_steps.proofs.SoundTests.{each_is_sound, fleet_is_kept, held_is_logged}
@@ -42,15 +42,17 @@ sound_kept = record {
   pulling = λ log ds t s H h k apart. pulling_sound log ds H t s h k apart;
 }
 
-pub run_is_sound : (script : Contents) (n : ℕ) → IsScript script → IsSoundFleet (run_in_order script (numbers_to n)).log (run_in_order script (numbers_to n)).devices
-run_is_sound script n is = (after_each IsInRange IsSoundFleet sound_kept script is is.in_range (opening_sound script.filters) n).fact
-
-pub stays_sound_and_kept : StaysSoundAndKept
-stays_sound_and_kept script n is =
-    let fleet = run_in_order script (numbers_to n) in
-    let facts = run_is_sound script n is in
+-- after any commands in any order, with the log in that order
+pub stays_sound_in_any_order : StaysSoundInAnyOrder
+stays_sound_in_any_order script numbers is =
+    let fleet = run_in_order script numbers in
+    let facts : IsSoundFleet fleet.log fleet.devices = (after_all_of IsInRange IsSoundFleet sound_kept script is is.in_range (opening_sound script.filters) numbers).fact in
     record {
       sound = all_from (is_sound fleet.log) fleet.devices (each_is_sound fleet.log fleet.devices facts);
       kept = fleet_is_kept fleet.log fleet.devices facts;
       logged = held_is_logged fleet.log fleet.devices facts;
+      once = facts.traced.log_is.once;
     }
+
+pub stays_sound_and_kept : StaysSoundAndKept
+stays_sound_and_kept script n is = stays_sound_in_any_order script (numbers_to n) is

@@ -6,6 +6,7 @@ use Rattle.photo_device.specs.Entry.{Entry}
 use Rattle.photo_device.specs.Device.{ModelDevice, known, holds}
 use Rattle.photo_script.specs.Runs.{device_at}
 use Rattle.fleet_steps.specs.Members.{In}
+use Rattle.fleet_steps.specs.Sound.{times}
 
 -- the version is one of the log's
 pub record IsMade (log : List Entry) (v : Version) : Type 0 where
@@ -13,8 +14,9 @@ pub record IsMade (log : List Entry) (v : Version) : Type 0 where
   pub logged : In entry log
   pub is : entry.version ≡ v
 
--- a version stands once in the log, and each history has versions of the log alone
+-- no version stands in the log twice, and each history has versions of the log alone
 pub record IsTracedLog (log : List Entry) : Type 0 where
+  pub once : (v : Version) → times v log ≤ 1
   pub distinct : (e f : Entry) → In e log → In f log → e.version ≡ f.version → e ≡ f
   pub made_only : (w : Entry) → In w log → (v : Version) → w.history v ≡ true → IsMade log v
 

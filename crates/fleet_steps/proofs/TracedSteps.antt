@@ -1,5 +1,7 @@
 -- A device that makes a version, pulls, hands over or narrows its filter knows and holds what the log has, and no more.
-use Rattle.std.proofs.Common.{◌≡◌, ℕ, ◌+◌, ◌≤◌, true, List, [], ◌∷◌, ◌++◌, ◌⊎◌, inl, inr, refl, sym, ap, ◌∙◌, subst, arith}
+use Rattle.std.proofs.Common.{◌≡◌, ℕ, ◌+◌, ◌≤◌, true, cond, List, [], ◌∷◌, ◌++◌, ◌⊎◌, inl, inr, refl, sym, ap, ◌∙◌, subst, arith}
+use Rattle.std.proofs.lemmas.Bool.{cases_Bool}
+use Rattle.std.proofs.lemmas.List.Sums.{sum_by-cons, sum_by-append}
 use Rattle.photo_record.specs.declared.record.Record.{Record}
 use Rattle.photo_filter_text.specs.Tree.{Tree}
 use Rattle.photo_version.specs.Version.{Version}
@@ -8,7 +10,9 @@ use Rattle.photo_device.specs.Device.{ModelDevice, known, holds, new_entry, next
 use Rattle.photo_pull.specs.Pull.{tell, told, pulled, handed_over}
 use Rattle.fleet_steps.specs.Members.{In, here}
 use Rattle.fleet_steps.proofs.Members.{in_one, in_left, in_right, in_either}
-use Rattle.fleet_steps.proofs.Superseding.{tell_is}
+use Rattle.fleet_steps.specs.Sound.{times}
+use Rattle.fleet_steps.proofs.Superseding.{tell_is, same_version_is}
+use Rattle.fleet_steps.proofs.Times.{is_of, one_or_none, none_of, found}
 use Rattle.fleet_steps.proofs.Traced.{IsMade, IsTracedLog, IsTracedDevice}
 use Rattle.fleet_steps.proofs.Making.{known_is, in_holds_made}
 use Rattle.fleet_steps.proofs.Pulling.{after_is, in_holds_pulled, told_held, coming_is_told, in_holds_handed}
@@ -44,8 +48,25 @@ module _ (log : List Entry) (d : ModelDevice) (p : ℕ) (r : Record) (L : IsTrac
   pub new_logged : In (new_entry d p r) (log ++ new_entry d p r ∷ [])
   new_logged = in_right log (here refl)
 
+  made_once : (v : Version) → times v (log ++ new_entry d p r ∷ []) ≤ 1
+  made_once v =
+      let n = new_entry d p r in
+      let all : times v (log ++ n ∷ []) ≡ times v log + times v (n ∷ []) = sum_by-append (λ e. cond (is_of v e) 1 0) log (n ∷ []) in
+      let one : times v (n ∷ []) ≡ cond (is_of v n) 1 0 + 0 = sum_by-cons (λ e. cond (is_of v e) 1 0) n [] in
+      elim (found v log) [
+        | inl none ↦ let few : cond (is_of v n) 1 0 ≤ 1 = one_or_none (is_of v n) in omega arith
+        | inr some ↦ elim (cases_Bool (is_of v n)) [
+          | inl same ↦ absurd (fresh some.0 some.1 (some.2 ∙ sym (same_version_is n.version v same)))
+          | inr other ↦
+              let none : cond (is_of v n) 1 0 ≤ 0 = none_of (is_of v n) other in
+              let old : times v log ≤ 1 = L.once v in
+              omega arith
+        ]
+      ]
+
   pub longer_traced : IsTracedLog (log ++ new_entry d p r ∷ [])
   longer_traced = record {
+    once = made_once;
     distinct = λ e f i j h. elim (in_longer i) [
       | inl a ↦ elim (in_longer j) [ inl b ↦ L.distinct e f a b h | inr b ↦ absurd (fresh e a (h ∙ ap (λ (x : Entry). x.version) b)) ]
       | inr a ↦ elim (in_longer j) [ inl b ↦ absurd (fresh f b (sym h ∙ ap (λ (x : Entry). x.version) a)) | inr b ↦ a ∙ sym b ]

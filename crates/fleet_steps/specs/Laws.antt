@@ -8,9 +8,14 @@ use Rattle.photo_script.specs.Tallies.{moved_by, max_moved}
 use Rattle.fleet_steps.specs.Outcomes.{AreRight}
 use Rattle.fleet_steps.specs.Sound.{IsSoundAndKept}
 
--- before the first command of a script, and after each, the devices are sound and lose nothing that is current
+-- before the first command of a script, and after each, the devices are sound and lose nothing that is current, what they
+-- hold was made, and nothing was made twice
 abbrev pub StaysSoundAndKept : Type 0
 StaysSoundAndKept = (script : Contents) (n : ℕ) → IsScript script → IsSoundAndKept (run_in_order script (numbers_to n))
+
+-- so it is after any commands of the script in any order
+abbrev pub StaysSoundInAnyOrder : Type 0
+StaysSoundInAnyOrder = (script : Contents) (numbers : List ℕ) → IsScript script → IsSoundAndKept (run_in_order script numbers)
 
 -- no pull of a run moves more versions than the run can make and move
 abbrev pub PullsMoveFew : Type 0

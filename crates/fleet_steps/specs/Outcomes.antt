@@ -1,5 +1,5 @@
 -- What a run gives.
-use Rattle.std.specs.Prelude.{◌≡◌, ◌≤◌, List, length, map}
+use Rattle.std.specs.Prelude.{◌≡◌, ◌≤◌, List, length, map, IsPermutation}
 use Rattle.std.specs.List.{AllZip, AllByRecursion}
 use Rattle.photo_device.specs.Held.{entries_of}
 use Rattle.photo_device.specs.Device.{Shows}
@@ -9,15 +9,16 @@ use Rattle.photo_script.specs.Reports.{Answer, Tells, answer_of, IsAbout}
 use Rattle.photo_script.specs.Runs.{run, reports_of}
 use Rattle.photo_script.specs.Tallies.{totals_of}
 use Rattle.fleet_steps.specs.declared.outcome.Outcome.{Outcome}
-use Rattle.fleet_steps.specs.Sound.{IsSoundAndKept}
+use Rattle.fleet_steps.specs.Sound.{IsSoundThroughout}
 
 -- the answers are the right ones to a script's commands, in the order of their numbers
 abbrev pub AreRight : Contents → List Answer → Type 0
 AreRight script answers = AllZip Tells answers (reports_of (run script))
 
--- the devices show those of the script's run, the reports give the right answers, one for each command, in the order of
--- their numbers, the totals are the run's, and the log shows the run's log; and the run's devices are sound and lose nothing
--- that is current
+-- What every run of a script gives, whatever lawful order its commands ran in. The devices show those of the run in the
+-- order of the numbers; the reports give its right answers, one for each command, in the order of their numbers; the
+-- totals are its own; and the log has its entries, each as often, in whatever order. After each command of that run each
+-- device is sound, nothing that is current is lost, and no version was made twice
 pub record IsOutcome (script : Contents) (o : Outcome) : Type 0 where
   pub devices : AllZip Shows o.devices.items (run script).devices
   pub reports : AreRight script (map answer_of o.reports.items)
@@ -25,5 +26,5 @@ pub record IsOutcome (script : Contents) (o : Outcome) : Type 0 where
   pub about : AllByRecursion (IsAbout script) (map answer_of o.reports.items)
   pub few : length o.reports.items ≤ max_commands
   pub totals : o.totals ≡ totals_of script (run script)
-  pub log : entries_of o.log ≡ (run script).log
-  pub sound : IsSoundAndKept (run script)
+  pub log : IsPermutation (run script).log (entries_of o.log)
+  pub sound : IsSoundThroughout script

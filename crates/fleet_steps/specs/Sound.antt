@@ -1,10 +1,12 @@
 -- What is promised of devices for a log of all versions made: each stores what it is to store and nothing else, and
 -- none that is current is lost.
-use Rattle.std.specs.Prelude.{◌≡◌, Bool, true, not, ◌&&◌, List, filter}
+use Rattle.std.specs.Prelude.{◌≡◌, ℕ, ◌≤◌, Bool, true, not, ◌&&◌, List, filter, count_by}
 use Rattle.std.specs.List.{list_any, list_all}
+use Rattle.photo_version.specs.Version.{Version, same_version}
 use Rattle.photo_device.specs.Entry.{Entry, superseded_by, is_among}
 use Rattle.photo_device.specs.Device.{ModelDevice, holds, knows_entry, selects}
-use Rattle.photo_script.specs.Runs.{Fleet}
+use Rattle.photo_script.specs.Contents.{Contents}
+use Rattle.photo_script.specs.Runs.{Fleet, run_in_order, numbers_to}
 use Rattle.fleet_steps.specs.Members.{In}
 
 -- the device knows nothing of the log that supersedes the entry
@@ -32,9 +34,18 @@ is_held_by devices e = list_any (λ d. is_among (holds d) e.version) devices
 abbrev pub is_kept : List Entry → List ModelDevice → Bool
 is_kept log devices = list_all (is_held_by devices) (current log)
 
--- each device stores of the log what it is to store, and nothing else; no current version is lost; and what a device
--- holds is the log's
+-- how often a version stands in a list
+abbrev pub times : Version → List Entry → ℕ
+times v entries = count_by (λ e. same_version e.version v) entries
+
+-- each device stores of the log what it is to store, and nothing else; no current version is lost; what a device holds
+-- is the log's; and no version stands in the log twice
 pub record IsSoundAndKept (fleet : Fleet) : Type 0 where
   pub sound : list_all (is_sound fleet.log) fleet.devices ≡ true
   pub kept : is_kept fleet.log fleet.devices ≡ true
   pub logged : (d : ModelDevice) (e : Entry) → In d fleet.devices → In e (holds d) → In e fleet.log
+  pub once : (v : Version) → times v fleet.log ≤ 1
+
+-- so it is before the first command of the script, and after each
+abbrev pub IsSoundThroughout : Contents → Type 0
+IsSoundThroughout script = (n : ℕ) → IsSoundAndKept (run_in_order script (numbers_to n))

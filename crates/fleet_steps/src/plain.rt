@@ -1,8 +1,9 @@
 ghost use Rattle.std.specs.Prelude.{◌≡◌, IfOk, IfErr, ◌^◌, ◌<◌, ◌≤◌, length};
 ghost use Rattle.std.specs.List.{AllZip};
+ghost use Rattle.photo_device.specs.Held.{entries_of};
 ghost use Rattle.photo_device.specs.Device.{Shows};
 ghost use Rattle.photo_script.specs.Limits.{max_devices};
-ghost use Rattle.photo_script.specs.Runs.{opening_from};
+ghost use Rattle.photo_script.specs.Runs.{opening_from, run};
 ghost use Rattle.fleet_steps.specs.Outcomes.{IsOutcome};
 ghost use Rattle.fleet_steps.specs.declared.fault.RunError.TheVariants.{NoMemory};
 
@@ -13,9 +14,11 @@ use photo_script::{Script, totals_of};
 use photo_version::Author;
 use std::alloc::{AllocError, Global};
 
-/// Runs a script, command by command in the order of their numbers. Its only error is want of memory.
+/// Runs a script, command by command in the order of their numbers, so the log is in the order in which the versions were
+/// made. Its only error is want of memory.
 pub fn run_plain(alloc: Global, script: &Script) -> Result<Outcome, RunError>
     ensures ok { IfOk result (IsOutcome script.now) }
+    ensures log { IfOk result (λ outcome. entries_of outcome.log ≡ (run script.now).log) }
     ensures err { IfErr result (λ e. e ≡ NoMemory) }
 {
     match run(alloc, script) {
@@ -25,7 +28,8 @@ pub fn run_plain(alloc: Global, script: &Script) -> Result<Outcome, RunError>
 }
 
 fn run(alloc: Global, script: &Script) -> Result<Outcome, AllocError>
-    ensures { IfOk result (IsOutcome script.now) }
+    ensures ok { IfOk result (IsOutcome script.now) }
+    ensures log { IfOk result (λ outcome. entries_of outcome.log ≡ (run script.now).log) }
 {
     let mut devices = opening_devices(alloc, script)?;
     let mut reports = Vec::new(alloc);

@@ -1,6 +1,7 @@
 use Rattle.std.proofs.Common.{◌≡◌, ◌∙◌, List, ◌++◌, ◌≤◌, length, map, take, drop, subst, sym, ap, arith}
-use Rattle.std.specs.Prelude.{slice_get, Some}
+use Rattle.std.specs.Prelude.{slice_get, Some, IsPermutation}
 use Rattle.std.specs.List.{AllZip, AllByRecursion}
+use Rattle.std.proofs.lemmas.List.Sorted.{IsPermutation-refl}
 use Rattle.photo_device.specs.Held.{entries_of}
 use Rattle.photo_device.specs.Device.{Kept, ModelDevice, Shows}
 use Rattle.photo_script.specs.Contents.{IsScript}
@@ -56,8 +57,14 @@ totals_of-totals-requires-clause-each c =
     subst (λ (l : List Report). AllByRecursion (λ a. moved_by a ≤ max_moved) (map answer_of l)) (sym c.as_slice.ensures.value)
     (pulls_move_few script (map answer_of c.loop-place.reports.items) is (runs_all script c.loop-place.place _ _ _ c.loop-place.invariant all))
 
-pub returns : goal.returns
-returns c =
+pub returns-clause-log : goal.returns-clause-log
+returns-clause-log c =
+    let script = c.args.script.now in
+    let all : c.loop-place.place ≡ length script.commands = omega arith in
+    subst (λ n. entries_of c.loop-place.log ≡ (fleet_after script n).log) all c.loop-place.invariant.logged
+
+pub returns-clause-ok : goal.returns-clause-ok
+returns-clause-ok c =
     let script = c.args.script.now in
     let opened = c.in_ok-devices.ensures in
     let is : IsScript script = record { devices = opened.few; filtered = opened.filtered; commands = omega arith; known = c.commands-place-end.ensures.known; in_range = c.commands-place-end.ensures.in_range } in
@@ -70,6 +77,6 @@ returns c =
       about = c.loop-place.invariant.about;
       few = omega arith;
       totals = c.totals_of-totals.ensures (run script) (subst (λ (l : List Report). AllZip Tells (map answer_of l) (reports_of (run script))) (sym c.as_slice.ensures.value) reports);
-      sound = stays_sound_and_kept script (length script.commands) is;
-      log = subst (λ n. entries_of c.loop-place.log ≡ (fleet_after script n).log) all c.loop-place.invariant.logged;
+      log = subst (λ n. IsPermutation (fleet_after script n).log (entries_of c.loop-place.log)) all (subst (IsPermutation (fleet_after script c.loop-place.place).log) (sym c.loop-place.invariant.logged) (IsPermutation-refl _));
+      sound = λ n. stays_sound_and_kept script n is;
     }
