@@ -10,3 +10,4 @@ pub mod Checked
 pub mod Grouped
 pub mod Drafts
 pub mod OnePlan
+pub mod WorkedExamples

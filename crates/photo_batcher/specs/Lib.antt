@@ -6,3 +6,4 @@ pub mod Coding
 pub mod Greedy
 pub mod Steps
 pub mod Laws
+pub mod Examples

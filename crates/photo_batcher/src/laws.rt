@@ -1,4 +1,5 @@
 //! Laws of the definitions. Each function's contract is a law, and its body does nothing.
+ghost use Rattle.photo_batcher.specs.Examples.{FourBatches, FourInOrder, NamedInAVersion, NothingPlanned};
 ghost use Rattle.photo_batcher.specs.Laws.{LawfulOrdersAreTheRun, SameRunsHaveOneTotal, BatchesAreOne, BatchesAreASchedule, BatchesAreLeast, BatchesAreApart, BatchesInTurnAreLawful, FollowedChainsAreLongest, PlansAreOne, NoScheduleHasFewer, PlansInTurnAreLawful};
 
 /// In a lawful order the commands give the devices and the reports that they give in the order of their numbers, and a log
@@ -55,4 +56,13 @@ pub fn no_schedule_has_fewer()
 /// The batches of a plan in turn, each in whatever order, are a lawful order.
 pub fn plans_in_turn_are_lawful()
     ensures { PlansInTurnAreLawful }
+{}
+
+/// The definitions at some scripts: the plan of one with four devices, and its chains; orders of its commands, lawful and
+/// not, and what a run in another order gives; a device that only a version names; and scripts with no commands.
+pub fn examples()
+    ensures four_batches { FourBatches }
+    ensures four_in_order { FourInOrder }
+    ensures named_in_a_version { NamedInAVersion }
+    ensures nothing_planned { NothingPlanned }
 {}
