@@ -5,7 +5,7 @@ use Rattle.std.specs.List.{AllByRecursion}
 use Rattle.std.proofs.lemmas.Bool.{cases_order}
 use Rattle.photo_script.specs.Contents.{Contents}
 use Rattle.photo_batcher.specs.Related.{IsNumber, AreRelated}
-use Rattle.photo_batcher.specs.Batches.{IsChain, last_of, IsBatch, IsChainTo, IsLongestChainTo, AreBatches, IsSchedule, IsAfter, IsLinked, IsFollowed, HaveRisingPlaces, TakesPlaces}
+use Rattle.photo_batcher.specs.Batches.{IsChain, last_of, IsBatch, IsChainTo, AreBatches, IsSchedule, IsAfter, IsLinked, IsFollowed, HaveRisingPlaces, TakesPlaces}
 use Rattle.photo_batcher.specs.Greedy.{IsGreedyTo}
 use Rattle.photo_batcher.specs.Laws.{BatchesAreOne, BatchesAreASchedule, BatchesAreLeast, FollowedChainsAreLongest}
 use Rattle.photo_batcher.proofs.Counting.{all_map}

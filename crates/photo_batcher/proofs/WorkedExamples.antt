@@ -1,5 +1,5 @@
 -- The worked examples: what computes does so by the definitions alone, and plans and lawful orders are got command by command.
-use Rattle.std.proofs.Common.{◌≡◌, ℕ, suc, ◌<◌, ◌≤◌, List, [], ◌∷◌, ◌++◌, length, set, refl, sym, ap, ◌∙◌, arith}
+use Rattle.std.proofs.Common.{◌≡◌, ℕ, suc, ◌<◌, List, [], ◌∷◌, ◌++◌, length, set, refl, arith}
 use Rattle.std.specs.Prelude.{Option, Some, None, IfSome, slice_index, codes}
 use Rattle.std.specs.Str.{chars, is_utf8}
 use lib.Utf8.{encode}
@@ -13,12 +13,10 @@ use Rattle.photo_script.specs.Contents.{Contents, contents, command_of, devices_
 use Rattle.photo_script.specs.declared.command.Command.{Command}
 use Rattle.photo_script.specs.Saying.{said, fields_said, command_line_said, question_line_said, device_line_said, filter_said, declaration_said, new_line_said, creation_said, command_said, device_said, new_picture_said, record_said, list_line_said, pulling_said, pull_line_said}
 use Rattle.photo_script.specs.Reading.{script_of}
-use Rattle.photo_batcher.specs.Related.{AreRelated}
 use Rattle.photo_batcher.specs.Orders.{IsLawful}
-use Rattle.photo_batcher.specs.Batches.{IsFollowed, IsLongestChainTo}
 use Rattle.photo_batcher.specs.Greedy.{first_free, before_it}
-use Rattle.photo_batcher.specs.Plans.{Planned, planned, entry_of, after_in, IsPlan}
-use Rattle.photo_batcher.specs.Steps.{ArePlaces, read_second, with_place, with_member, IsAbove, IsDraft, IsCheckedTo}
+use Rattle.photo_batcher.specs.Plans.{planned, entry_of, IsPlan}
+use Rattle.photo_batcher.specs.Steps.{ArePlaces, read_second, with_place, with_member, IsDraft}
 use Rattle.photo_batcher.specs.Examples.{four_devices, four_planned, named, FourBatches, FourInOrder, NamedInAVersion, NothingPlanned}
 use Rattle.photo_batcher.proofs.Planned.{planned_more}
 use Rattle.photo_batcher.proofs.Drafts.{draft_none, draft_more, draft_all}

@@ -10,3 +10,6 @@ mod planning;
 pub use batches::Plan;
 pub use order::lawful;
 pub use planning::plan;
+
+#[cfg(test)]
+mod tests;
