@@ -9,6 +9,7 @@ use Rattle.photo_script.specs.Runs.{run, reports_of}
 use Rattle.fleet_steps.specs.declared.fault.RunError.{RunError}
 use Rattle.fleet_steps.specs.declared.fault.RunError.TheVariants.{NoMemory, Write}
 use Rattle.fleet_steps.specs.Outcomes.{AreRight}
+use Rattle.fleet_steps.specs.Sound.{IsSoundThroughout}
 
 -- what a script's run prints: the texts of the right answers. There is at most one such output
 pub record IsOutput (script : Contents) (output : List ℕ) : Type 0 where
@@ -34,10 +35,12 @@ pub record AppendsFront (old new : Option (List ℕ)) (all : List ℕ) : Type 0 
   pub whole : front ++ rest ≡ all
   pub written : Appends old new front
 
--- the input is the text of a script, and what its run prints has been written behind what was there, and nothing else
+-- the input is the text of a script, and what its run prints has been written behind what was there, and nothing else; and
+-- after each command of that run each device is sound, and nothing that is current is lost
 pub record WritesOutput (old new : Option (List ℕ)) (input : List ℕ) : Type 0 where
   pub script : Contents
   pub read : script_of input ≡ Ok script
+  pub sound : IsSoundThroughout script
   pub output : List ℕ
   pub printed : IsOutput script output
   pub written : Appends old new output
@@ -46,6 +49,7 @@ pub record WritesOutput (old new : Option (List ℕ)) (input : List ℕ) : Type 
 pub record WritesFirst (old new : Option (List ℕ)) (input : List ℕ) : Type 0 where
   pub script : Contents
   pub read : script_of input ≡ Ok script
+  pub sound : IsSoundThroughout script
   pub answers : List Answer
   pub right : AllZip Tells answers (take (length answers) (reports_of (run script)))
   pub written : Appends old new (texts_from script 1 answers)
@@ -54,6 +58,7 @@ pub record WritesFirst (old new : Option (List ℕ)) (input : List ℕ) : Type 0
 pub record WritesFront (old new : Option (List ℕ)) (input : List ℕ) : Type 0 where
   pub script : Contents
   pub read : script_of input ≡ Ok script
+  pub sound : IsSoundThroughout script
   pub output : List ℕ
   pub printed : IsOutput script output
   pub written : AppendsFront old new output

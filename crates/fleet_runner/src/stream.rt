@@ -7,6 +7,7 @@ ghost use Rattle.fleet_steps.specs.declared.fault.RunError.TheVariants.{NoMemory
 ghost use Rattle.fleet_runner.specs.Outputs.{TakesAtMost, WritesOutput, WritesFirst, WritesFront};
 
 use crate::{RunError, read_source, run_plain, write_reports};
+use fleet_steps::laws::accepted_stays_sound;
 use std::alloc::Global;
 use std::io::{Read, Write};
 
@@ -14,7 +15,8 @@ use std::io::{Read, Write};
 ///
 /// Nothing is written before the run has succeeded: a `Script` fault leaves the writer as it was. The fault is the
 /// first one of the bytes read, unless reading or memory failed. After `NoMemory` the whole texts of some first
-/// reports are written, perhaps of none, and after `Write` a front of all texts. At most 8,388,609 bytes are read.
+/// reports are written, perhaps of none, and after `Write` a front of all texts. At most 8,388,609 bytes are read. After
+/// each command of the script its devices are sound, and nothing that is current is lost.
 pub fn plain_stream<R: Read, W: Write>(
     alloc: Global,
     reader: &mut R,
@@ -27,6 +29,8 @@ pub fn plain_stream<R: Read, W: Write>(
     ensures nothing { (fault : ScriptFault) → result ≡ Err (Script fault) → writer.new ≡ writer.old }
     ensures taken { TakesAtMost (R.remaining reader.old) (R.remaining reader.new) (max_text_bytes + 1) }
 {
+    // The law that the contract's 'sound' rests on. It does nothing.
+    accepted_stays_sound();
     let script = match read_source(alloc, reader) {
         Ok(script) => script,
         Err(fault) => return Err(RunError::Script(fault)),

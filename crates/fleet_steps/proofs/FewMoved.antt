@@ -1,6 +1,6 @@
--- No pull of a run moves more versions than the run makes, so what reports say was moved is small.
-use Rattle.std.proofs.Common.{◌≡◌, ℕ, zero, suc, ◌+◌, ◌-◌, ◌<◌, ◌≤◌, Bool, true, false, if◌then◌else◌, not, ◌&&◌, List, [], ◌∷◌, ◌++◌, inl, inr, length, filter, replicate, set, refl, sym, subst, arith, length-append}
-use Rattle.std.specs.Prelude.{Option, Some, None, IfSome}
+-- No pull moves more versions than were made before it, so what reports say was moved is small.
+use Rattle.std.proofs.Common.{◌≡◌, ℕ, zero, suc, ◌+◌, ◌-◌, ◌<◌, ◌≤◌, Bool, true, false, if◌then◌else◌, not, ◌&&◌, List, [], ◌∷◌, ◌++◌, inl, inr, length, filter, replicate, set, refl, sym, ap, ◌∙◌, subst, arith, length-append}
+use Rattle.std.specs.Prelude.{Option, Some, None, IfSome, fold}
 use Rattle.std.specs.List.{AllByRecursion, AllZip, flat_map}
 use Rattle.std.specs.Option.{option_map, option_to_list}
 use Rattle.std.proofs.lemmas.List.Sums.{fold-append}
@@ -20,9 +20,10 @@ use Rattle.photo_script.specs.Contents.{Contents, IsWithin, IsScript, devices_of
 use Rattle.photo_script.specs.Reports.{Answer, ModelReport, Exactly, KnowledgeIs, NotHeld, NotNarrower, Narrowed, Tells}
 use Rattle.photo_script.specs.Runs.{device_at, Fleet, Effect, effect, making, telling, opening_from, opening_fleet, step, run_in_order, numbers_to, run, reports_of}
 use Rattle.photo_script.specs.Tallies.{moved_by, moved_by_report, max_moved}
-use Rattle.fleet_steps.specs.Laws.{PullsMoveFew}
+use Rattle.fleet_steps.specs.Between.{effect_on}
+use Rattle.fleet_steps.specs.Laws.{PullsMoveWhatWasMade, PullsMoveFew}
 use Rattle.fleet_steps.proofs.Places.{each_changed, each_two_changed}
-use Rattle.fleet_steps.proofs.EachCommand.{IsKept, after_each, stepped, not_stepped, all_got, narrowed_effect}
+use Rattle.fleet_steps.proofs.EachCommand.{IsKept, IsAfter, after_all_of, stepped, not_stepped, all_got, narrowed_effect}
 use Rattle.fleet_steps.proofs.ReadyRuns.{opened_at}
 use Rattle.fleet_steps.proofs.SoundFacts.{IsSoundFleet}
 use Rattle.fleet_steps.proofs.SoundRuns.{sound_kept, opening_sound}
@@ -82,73 +83,98 @@ few_entries (command.Conflicts k) d other = omega arith
 few_entries (command.Knowledge k) d other = omega arith
 few_entries (command.Knows k p v) d other = omega arith
 
-short_log : (script : Contents) (n : ℕ) → length (run_in_order script (numbers_to n)).log ≤ n
-short_log script zero = omega arith
-short_log script (suc n) =
-    let fleet = run_in_order script (numbers_to n) in
-    let old : length fleet.log ≤ n = short_log script n in
-    subst (λ (f : Fleet). length f.log ≤ suc n) (sym (fold-append (step script) (opening_fleet script) (numbers_to n) (suc n ∷ []))) (
+-- a log of a few commands more
+log_grows : (script : Contents) (numbers : List ℕ) (fleet : Fleet) → length (fold (step script) fleet numbers).log ≤ length fleet.log + length numbers
+log_grows script [] fleet = omega arith
+log_grows script (zero ∷ more) fleet = let rest : length (fold (step script) fleet more).log ≤ length fleet.log + length more = log_grows script more fleet in omega arith
+log_grows script (suc n ∷ more) fleet =
+    let rest : length (fold (step script) (step script fleet (suc n)) more).log ≤ length (step script fleet (suc n)).log + length more = log_grows script more (step script fleet (suc n)) in
     elim (slice_get_cases script.commands n).1 [
       | inl here ↦
           let c = here.0 in
-          let places = devices_of c in
-          let d = device_at fleet.devices places.0 in
-          let other = option_map (device_at fleet.devices) places.1 in
-          let few : length (effect c d other).entries ≤ 1 = few_entries c d other in
-          let all : length (fleet.log ++ (effect c d other).entries) ≡ length fleet.log + length (effect c d other).entries = length-append fleet.log (effect c d other).entries in
-          subst (λ (f : Fleet). length f.log ≤ suc n) (sym (stepped script fleet n c here.2)) (omega arith)
-      | inr past ↦ subst (λ (f : Fleet). length f.log ≤ suc n) (sym (not_stepped script fleet n past.1)) (omega arith)
-    ])
+          let done = effect_on fleet.devices c in
+          let few : length done.entries ≤ 1 = few_entries c (device_at fleet.devices (devices_of c).0) (option_map (device_at fleet.devices) (devices_of c).1) in
+          let longer : length (step script fleet (suc n)).log ≡ length fleet.log + length done.entries = ap (λ (f : Fleet). length f.log) (stepped script fleet n c here.2) ∙ length-append fleet.log done.entries in
+          omega (arith, rest, few, longer)
+      | inr past ↦
+          let same : length (step script fleet (suc n)).log ≡ length fleet.log = ap (λ (f : Fleet). length f.log) (not_stepped script fleet n past.1) in
+          omega (arith, rest, same)
+    ]
 
 -- what a report says was moved
 
-small_of : (b : Bool) (x y : Effect) → moved_by_report x.report ≤ max_moved → moved_by_report y.report ≤ max_moved → moved_by_report (if b then x else y).report ≤ max_moved
-small_of true x y a b = a
-small_of false x y a b = b
+small_of : (most : ℕ) (b : Bool) (x y : Effect) → moved_by_report x.report ≤ most → moved_by_report y.report ≤ most → moved_by_report (if b then x else y).report ≤ most
+small_of most true x y a b = a
+small_of most false x y a b = b
 
 shorter : (p : Entry → Bool) (xs : List Entry) → length (filter p xs) ≤ length xs
 shorter p xs = let both : length (filter p xs) + length (filter (λ x. not (p x)) xs) ≡ length xs = length-filter_both p (λ x. not (p x)) (λ _. refl) xs in omega arith
 
-pull_is_small : (t s : ModelDevice) → length (holds s) ≤ max_commands → length (taken t s) + length (handed t s) ≤ max_moved
-pull_is_small t s few =
+-- taken are some of what the source stores, and handed over some of what waits with it
+pull_is_small : (most : ℕ) (t s : ModelDevice) → length (holds s) ≤ most → length (taken t s) + length (handed t s) ≤ most
+pull_is_small most t s few =
     let store : length (taken t s) ≤ length s.store = shorter (λ (e : Entry). not (knows_entry t e) && selects t e) s.store in
     let out : length (handed t s) ≤ length s.out = shorter (λ (e : Entry). not (knows_entry t e)) s.out in
     let all : length (holds s) ≡ length s.store + length s.out = length-append s.store s.out in
     omega arith
 
-moves_few : (devices : List ModelDevice) (c : Command) → IsWithin (length devices) c → ((k : ℕ) → k < length devices → length (holds (device_at devices k)) ≤ max_commands)
-    → moved_by_report (effect c (device_at devices (devices_of c).0) (option_map (device_at devices) (devices_of c).1)).report ≤ max_moved
-moves_few ds (command.New k p r) w few = omega arith
-moves_few ds (command.Edit k p r) w few = small_of (is_held (device_at ds k) p) (making (device_at ds k) None p r) (telling (device_at ds k) None (Exactly NotHeld)) (omega arith) (omega arith)
-moves_few ds (command.Remove k p) w few = small_of (is_held (device_at ds k) p) (making (device_at ds k) None p Removed) (telling (device_at ds k) None (Exactly NotHeld)) (omega arith) (omega arith)
-moves_few ds (command.Pull t s) w few = pull_is_small (device_at ds t) (device_at ds s) (few s w.1.0)
-moves_few ds (command.Narrow k tree) w few = small_of (covers (device_at ds k).tree tree) (narrowed_effect (device_at ds k) tree) (telling (device_at ds k) None (Exactly NotNarrower)) (omega arith) (omega arith)
-moves_few ds (command.List k) w few = omega arith
-moves_few ds (command.Conflicts k) w few = omega arith
-moves_few ds (command.Knowledge k) w few = omega arith
-moves_few ds (command.Knows k p v) w few = omega arith
+moves_few : (most : ℕ) (devices : List ModelDevice) (c : Command) → IsWithin (length devices) c → ((k : ℕ) → k < length devices → length (holds (device_at devices k)) ≤ most)
+    → moved_by_report (effect_on devices c).report ≤ most
+moves_few most ds (command.New k p r) w few = omega arith
+moves_few most ds (command.Edit k p r) w few = small_of most (is_held (device_at ds k) p) (making (device_at ds k) None p r) (telling (device_at ds k) None (Exactly NotHeld)) (omega arith) (omega arith)
+moves_few most ds (command.Remove k p) w few = small_of most (is_held (device_at ds k) p) (making (device_at ds k) None p Removed) (telling (device_at ds k) None (Exactly NotHeld)) (omega arith) (omega arith)
+moves_few most ds (command.Pull t s) w few = pull_is_small most (device_at ds t) (device_at ds s) (few s w.1.0)
+moves_few most ds (command.Narrow k tree) w few = small_of most (covers (device_at ds k).tree tree) (narrowed_effect (device_at ds k) tree) (telling (device_at ds k) None (Exactly NotNarrower)) (omega arith) (omega arith)
+moves_few most ds (command.List k) w few = omega arith
+moves_few most ds (command.Conflicts k) w few = omega arith
+moves_few most ds (command.Knowledge k) w few = omega arith
+moves_few most ds (command.Knows k p v) w few = omega arith
+
+told_small : (most : ℕ) (a : Answer) (r : ModelReport) → Tells a r → moved_by_report r ≤ most → moved_by a ≤ most
+told_small most a (Exactly right) told small = subst (λ (x : Answer). moved_by x ≤ most) (sym told) small
+told_small most a (KnowledgeIs device known) told small = subst (λ (x : Answer). moved_by x ≤ most) (sym told.given) (omega arith)
+
+module _ (script : Contents) (is : IsScript script) where
+  after : (numbers : List ℕ) → IsAfter IsOnceFleet (length script.names) (run_in_order script numbers).log (run_in_order script numbers).devices
+  after = after_all_of IsInRange IsOnceFleet once_kept script is is.in_range (opening_once script.filters)
+
+  few_held : (numbers : List ℕ) (k : ℕ) → k < length (run_in_order script numbers).devices → length (holds (device_at (run_in_order script numbers).devices k)) ≤ length numbers
+  few_held numbers k h =
+      let fleet = run_in_order script numbers in
+      let facts : IsOnceFleet fleet.log fleet.devices = (after numbers).fact in
+      let made : length (holds (device_at fleet.devices k)) ≤ length fleet.log = no_more fleet.log (holds (device_at fleet.devices k)) (facts.sound.traced.each k h).logged (facts.once k h) in
+      let log : length fleet.log ≤ 0 + length numbers = log_grows script numbers (opening_fleet script) in
+      omega (arith, made, log)
+
+  -- a command after others
+  next_moves_few : (numbers : List ℕ) (c : Command) → IsWithin (length script.names) c → moved_by_report (effect_on (run_in_order script numbers).devices c).report ≤ length numbers
+  next_moves_few numbers c within =
+      let fleet = run_in_order script numbers in
+      let long : length fleet.devices ≡ length script.names = (after numbers).long in
+      moves_few (length numbers) fleet.devices c (subst (λ (m : ℕ). IsWithin m c) (sym long) within) (few_held numbers)
+
+pub pulls_move_what_was_made : PullsMoveWhatWasMade
+pulls_move_what_was_made script numbers c answer is within told = told_small (length numbers) answer (effect_on (run_in_order script numbers).devices c).report told (next_moves_few script is numbers c within)
+
+-- the reports of a run
 
 abbrev IsSmall : Option ModelReport → Type 0
-IsSmall report = IfSome report (λ r. moved_by_report r ≤ max_moved)
+IsSmall report = IfSome report (λ r. moved_by_report r ≤ max_commands)
 
 none_small : (n : ℕ) → AllByRecursion IsSmall (replicate n None)
 none_small zero = tt
 none_small (suc n) = (tt, none_small n)
 
-set_small : (reports : List (Option ModelReport)) (k : ℕ) (r : ModelReport) → AllByRecursion IsSmall reports → moved_by_report r ≤ max_moved → AllByRecursion IsSmall (set reports k (Some r))
+set_small : (reports : List (Option ModelReport)) (k : ℕ) (r : ModelReport) → AllByRecursion IsSmall reports → moved_by_report r ≤ max_commands → AllByRecursion IsSmall (set reports k (Some r))
 set_small [] k r all here = tt
 set_small (x ∷ xs) zero r all here = (here, all.1)
 set_small (x ∷ xs) (suc k) r all here = (all.0, set_small xs k r all.1 here)
 
-module _ (script : Contents) (is : IsScript script) where
-  few_held : (n : ℕ) → n ≤ max_commands → (k : ℕ) → k < length (run_in_order script (numbers_to n)).devices → length (holds (device_at (run_in_order script (numbers_to n)).devices k)) ≤ max_commands
-  few_held n few k h =
-      let fleet = run_in_order script (numbers_to n) in
-      let facts : IsOnceFleet fleet.log fleet.devices = (after_each IsInRange IsOnceFleet once_kept script is is.in_range (opening_once script.filters) n).fact in
-      let made : length (holds (device_at fleet.devices k)) ≤ length fleet.log = no_more fleet.log (holds (device_at fleet.devices k)) (facts.sound.traced.each k h).logged (facts.once k h) in
-      let log : length fleet.log ≤ n = short_log script n in
-      omega arith
+length_numbers : (n : ℕ) → length (numbers_to n) ≡ n
+length_numbers zero = refl
+length_numbers (suc n) = let longer : length (numbers_to n ++ suc n ∷ []) ≡ length (numbers_to n) + 1 = length-append (numbers_to n) (suc n ∷ []) in let rest : length (numbers_to n) ≡ n = length_numbers n in omega arith
 
+module _ (script : Contents) (is : IsScript script) where
   reports_small : (n : ℕ) → AllByRecursion IsSmall (run_in_order script (numbers_to n)).reports
   reports_small zero = none_small (length script.commands)
   reports_small (suc n) =
@@ -157,32 +183,32 @@ module _ (script : Contents) (is : IsScript script) where
       elim (slice_get_cases script.commands n).1 [
         | inl here ↦
             let c = here.0 in
-            let places = devices_of c in
-            let long : length fleet.devices ≡ length script.names = (after_each IsInRange IsOnceFleet once_kept script is is.in_range (opening_once script.filters) n).long in
-            let within : IsWithin (length fleet.devices) c = subst (λ (m : ℕ). IsWithin m c) (sym long) (all_got (IsWithin (length script.names)) script.commands n c is.known here.2) in
+            let within : IsWithin (length script.names) c = all_got (IsWithin (length script.names)) script.commands n c is.known here.2 in
             let below : n < length script.commands = slice_get_within script.commands n c here.2 in
             let commands : length script.commands ≤ max_commands = is.commands in
-            let early : n ≤ max_commands = omega arith in
-            let small = moves_few fleet.devices c within (few_held n early) in
+            let count : length (numbers_to n) ≡ n = length_numbers n in
+            let moved : moved_by_report (effect_on fleet.devices c).report ≤ length (numbers_to n) = next_moves_few script is (numbers_to n) c within in
+            let small : moved_by_report (effect_on fleet.devices c).report ≤ max_commands = omega (arith, below, commands, count, moved) in
             subst (λ (f : Fleet). AllByRecursion IsSmall f.reports) (sym (stepped script fleet n c here.2))
-            (set_small fleet.reports (suc n - 1) (effect c (device_at fleet.devices places.0) (option_map (device_at fleet.devices) places.1)).report (reports_small n) small)
+            (set_small fleet.reports (suc n - 1) (effect_on fleet.devices c).report (reports_small n) small)
         | inr past ↦ subst (λ (f : Fleet). AllByRecursion IsSmall f.reports) (sym (not_stepped script fleet n past.1)) (reports_small n)
       ])
 
-all_small : (reports : List (Option ModelReport)) → AllByRecursion IsSmall reports → AllByRecursion (λ r. moved_by_report r ≤ max_moved) (flat_map option_to_list reports)
+all_small : (reports : List (Option ModelReport)) → AllByRecursion IsSmall reports → AllByRecursion (λ r. moved_by_report r ≤ max_commands) (flat_map option_to_list reports)
 all_small [] all = tt
 all_small (None ∷ more) all = all_small more all.1
 all_small (Some r ∷ more) all = (all.0, all_small more all.1)
 
-told_small : (a : Answer) (r : ModelReport) → Tells a r → moved_by_report r ≤ max_moved → moved_by a ≤ max_moved
-told_small a (Exactly right) told small = subst (λ (x : Answer). moved_by x ≤ max_moved) (sym told) small
-told_small a (KnowledgeIs device known) told small = subst (λ (x : Answer). moved_by x ≤ max_moved) (sym told.given) (omega arith)
-
-all_told_small : (answers : List Answer) (reports : List ModelReport) → AllZip Tells answers reports → AllByRecursion (λ r. moved_by_report r ≤ max_moved) reports → AllByRecursion (λ a. moved_by a ≤ max_moved) answers
+all_told_small : (answers : List Answer) (reports : List ModelReport) → AllZip Tells answers reports → AllByRecursion (λ r. moved_by_report r ≤ max_commands) reports → AllByRecursion (λ a. moved_by a ≤ max_commands) answers
 all_told_small [] [] told small = tt
 all_told_small [] (r ∷ rs) told small = absurd told
 all_told_small (a ∷ more) [] told small = absurd told
-all_told_small (a ∷ more) (r ∷ rs) told small = (told_small a r told.0 small.0, all_told_small more rs told.1 small.1)
+all_told_small (a ∷ more) (r ∷ rs) told small = (told_small max_commands a r told.0 small.0, all_told_small more rs told.1 small.1)
 
 pub pulls_move_few : PullsMoveFew
 pulls_move_few script answers is right = all_told_small answers (reports_of (run script)) right (all_small (run script).reports (reports_small script is (length script.commands)))
+
+-- as the totals ask for it
+pub small_enough : (answers : List Answer) → AllByRecursion (λ a. moved_by a ≤ max_commands) answers → AllByRecursion (λ a. moved_by a ≤ max_moved) answers
+small_enough [] all = tt
+small_enough (a ∷ more) all = let few : moved_by a ≤ max_commands = all.0 in (omega arith, small_enough more all.1)

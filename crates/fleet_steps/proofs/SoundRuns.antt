@@ -4,7 +4,6 @@ use Rattle.photo_filter_text.specs.Tree.{Tree}
 use Rattle.photo_filter_rules.specs.Laws.{IsInRange}
 use Rattle.photo_version.specs.Author.{author}
 use Rattle.photo_device.specs.Device.{opening}
-use Rattle.photo_script.specs.Contents.{Contents, IsScript}
 use Rattle.photo_script.specs.Runs.{opening_from, run_in_order, numbers_to}
 use Rattle.fleet_steps.specs.Sound.{is_sound}
 use Rattle.fleet_steps.specs.Laws.{StaysSoundAndKept, StaysSoundInAnyOrder}

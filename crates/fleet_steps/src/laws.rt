@@ -1,5 +1,5 @@
 //! Laws of the definitions.
-ghost use Rattle.fleet_steps.specs.Laws.{StaysSoundAndKept, StaysSoundInAnyOrder, PullsMoveFew};
+ghost use Rattle.fleet_steps.specs.Laws.{StaysSoundAndKept, AcceptedStaysSound, StaysSoundInAnyOrder, PullsMoveWhatWasMade, PullsMoveFew};
 ghost use Rattle.fleet_steps.specs.SoundExamples.{SoundIsAsTold};
 
 /// Before the first command of a script and after each, each device stores just what its filter selects of the newest
@@ -8,13 +8,25 @@ pub fn stays_sound_and_kept()
     ensures { StaysSoundAndKept }
 {}
 
+/// So it is of whatever is accepted as the text of a script.
+pub fn accepted_stays_sound()
+    ensures { AcceptedStaysSound }
+{
+    photo_script::laws::accepted_are_scripts();
+}
+
 /// So it is after any commands of a script in any order, with the log in that order.
 pub fn stays_sound_in_any_order()
     ensures { StaysSoundInAnyOrder }
 {}
 
-/// What the right reports of a run say that a pull moved is at most 200,000: no device holds more versions than were
-/// made, so a pull takes no more and is handed no more.
+/// A pull moves no more versions than commands have run before it, in whatever order: what it takes and what is handed
+/// over are different versions that its source holds, and no device holds more than were made.
+pub fn pulls_move_what_was_made()
+    ensures { PullsMoveWhatWasMade }
+{}
+
+/// So what the right report on a pull of a run says was taken and handed over is at most 100,000 together.
 pub fn pulls_move_few()
     ensures { PullsMoveFew }
 {}

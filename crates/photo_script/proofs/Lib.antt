@@ -1,3 +1,4 @@
+mod Accepted
 mod Arguments
 mod WorkedExamples
 mod Changing

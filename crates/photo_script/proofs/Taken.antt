@@ -40,19 +40,19 @@ HasTaken-none r first = record {
 pub seen-earlier : (lines : List (List ℕ)) (r : Reader) → HasTaken lines r → seen r ≡ earlier lines
 seen-earlier lines r h = λ i. record { names = h.names i; makes = λ p. h.makes p i; commands = h.counted i }
 
-names_of-push : (lines : List (List ℕ)) (line : List ℕ) → names_of (lines ++ line ∷ []) ≡ names_of lines ++ declared_by (fields_of line)
+pub names_of-push : (lines : List (List ℕ)) (line : List ℕ) → names_of (lines ++ line ∷ []) ≡ names_of lines ++ declared_by (fields_of line)
 names_of-push lines line = flat_map-append (λ l. declared_by (fields_of l)) lines (line ∷ []) ∙ ap (λ n. names_of lines ++ n) (append-nil (declared_by (fields_of line)))
 
-abbrev filter_by : List ℕ → List Tree
+abbrev pub filter_by : List ℕ → List Tree
 filter_by line = filter_declared_by (fields_of line) (third_field_on line)
 
-filters_of-push : (lines : List (List ℕ)) (line : List ℕ) → filters_of (lines ++ line ∷ []) ≡ filters_of lines ++ filter_by line
+pub filters_of-push : (lines : List (List ℕ)) (line : List ℕ) → filters_of (lines ++ line ∷ []) ≡ filters_of lines ++ filter_by line
 filters_of-push lines line = flat_map-append filter_by lines (line ∷ []) ∙ ap (λ n. filters_of lines ++ n) (append-nil (filter_by line))
 
 pictures_of-push : (lines : List (List ℕ)) (line : List ℕ) → pictures_of (lines ++ line ∷ []) ≡ pictures_of lines ++ made_by (fields_of line)
 pictures_of-push lines line = flat_map-append (λ l. made_by (fields_of l)) lines (line ∷ []) ∙ ap (λ n. pictures_of lines ++ n) (append-nil (made_by (fields_of line)))
 
-commands_of-push : (lines : List (List ℕ)) (line : List ℕ) → commands_of (lines ++ line ∷ []) ≡ commands_of lines + cond (is_command (fields_of line)) 1 0
+pub commands_of-push : (lines : List (List ℕ)) (line : List ℕ) → commands_of (lines ++ line ∷ []) ≡ commands_of lines + cond (is_command (fields_of line)) 1 0
 commands_of-push lines line = sum_by-append (λ l. cond (is_command (fields_of l)) 1 0) lines (line ∷ []) ∙ ap (λ n. commands_of lines + n) (zero-add _)
 
 -- and after one line more that is so of one line more

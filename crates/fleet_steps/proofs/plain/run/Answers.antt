@@ -13,7 +13,7 @@ use Rattle.fleet_steps.specs.Between.{AreReady, HaveRoom, devices_after, effect_
 use Rattle.fleet_steps.proofs.Between.{written_back}
 use Rattle.fleet_steps.proofs.Runs.{fleet_after, runs_none, runs_more, runs_all, have_room}
 use Rattle.fleet_steps.proofs.ReadyRuns.{run_is_ready}
-use Rattle.fleet_steps.proofs.FewMoved.{pulls_move_few}
+use Rattle.fleet_steps.proofs.FewMoved.{pulls_move_few, small_enough}
 use Rattle.fleet_steps.proofs.SoundRuns.{stays_sound_and_kept}
 use Rattle.fleet_steps.proofs.plain.run.Goals as goal
 
@@ -55,7 +55,7 @@ totals_of-totals-requires-clause-each c =
     let opened = c.in_ok-devices.ensures in
     let is : IsScript script = record { devices = opened.few; filtered = opened.filtered; commands = omega arith; known = c.commands-place-end.ensures.known; in_range = c.commands-place-end.ensures.in_range } in
     subst (λ (l : List Report). AllByRecursion (λ a. moved_by a ≤ max_moved) (map answer_of l)) (sym c.as_slice.ensures.value)
-    (pulls_move_few script (map answer_of c.loop-place.reports.items) is (runs_all script c.loop-place.place _ _ _ c.loop-place.invariant all))
+    (small_enough _ (pulls_move_few script (map answer_of c.loop-place.reports.items) is (runs_all script c.loop-place.place _ _ _ c.loop-place.invariant all)))
 
 pub returns-clause-log : goal.returns-clause-log
 returns-clause-log c =
