@@ -76,6 +76,7 @@ const FALLING: &[(u32, Shape)] = &[
     (128, (2, 64)),
     (129, (2, 65)),
     (192, (3, 64)),
+    (1_024, (16, 64)),
 ];
 
 fn wrong_fall(alloc: Global) -> Option<u32> {
@@ -105,6 +106,7 @@ const RISING: &[(u32, Shape)] = &[
     (128, (2, 127)),
     (254, (2, 127)),
     (255, (3, 127)),
+    (2_000, (16, 127)),
 ];
 
 fn wrong_rise(alloc: Global) -> Option<u32> {
@@ -256,6 +258,7 @@ const ROOMS: &[(u32, Shape)] = &[
     (256, (1, 256)),
     (257, (2, 256)),
     (2_000, (8, 256)),
+    (5_000, (20, 256)),
 ];
 
 fn wrong_room(alloc: Global) -> Option<u32> {
@@ -386,6 +389,27 @@ fn wrong_replacement(alloc: Global) -> Option<(u32, u32)> {
 fn an_element_takes_the_place_of_those_between(rt: HostRuntime) {
     let wrong = wrong_replacement(rt.alloc());
     assert!(rt; wrong.is_none(), "{wrong:?}");
+}
+
+/// Puts the numbers from 0 up to before 2,000 in, each where it would stand among the others.
+fn put_in(list: &mut BlockList<u32>) -> bool {
+    for i in 0..2_000u32 {
+        let before = |item: &u32| *item < i;
+        if list.replace_between(&before, &before, i).is_err() {
+            return false;
+        }
+    }
+    true
+}
+
+fn puts_in(alloc: Global) -> bool {
+    let mut list = BlockList::new(alloc);
+    put_in(&mut list) && counts_to(&list, 2_000, (16, 127))
+}
+
+#[test]
+fn elements_are_put_into_many_blocks(rt: HostRuntime) {
+    assert!(rt; puts_in(rt.alloc()));
 }
 
 /// Whether the first number that isn't below `wanted` is found, also from that hint on.

@@ -1,5 +1,5 @@
 //! Laws of what fragments denote. Each function's contract is a law, and its body does nothing.
-ghost use Rattle.item_knowledge.specs.Laws.{VectorsAreOne, NormalFormsAreOne, StarIsOfEvery};
+ghost use Rattle.item_knowledge.specs.Laws.{VectorsAreOne, NormalFormsAreOne, StarIsOfEvery, EachHasOneNormalForm};
 ghost use Rattle.item_knowledge.specs.Examples.{TheLibrary, TheNormalForms, TheVectors};
 
 /// A vector is determined by the versions that it denotes.
@@ -10,6 +10,11 @@ pub fn vectors_are_one()
 /// A normal form is determined by the pairs that it denotes.
 pub fn normal_forms_are_one()
     ensures { NormalFormsAreOne }
+{}
+
+/// What is known of every picture, and of some pictures besides, has exactly one normal form.
+pub fn each_has_one_normal_form()
+    ensures { EachHasOneNormalForm }
 {}
 
 /// The star is what is known of every picture.

@@ -22,4 +22,6 @@ pub use knowledge::Knowledge;
 #[cfg(test)]
 mod own_tests;
 #[cfg(test)]
+mod size_tests;
+#[cfg(test)]
 mod tests;

@@ -1,3 +1,5 @@
+ghost use Rattle.std.specs.Prelude.{◌≤◌};
+
 use crate::{Author, Vector, Version};
 use std::alloc::Global;
 use std::test::Fail;
@@ -81,4 +83,56 @@ fn a_vector_has_versions_up_to_its_bounds(rt: HostRuntime) -> Result<(), Fail> {
     drop(two);
     assert!(rt; has_entries(&copy, &[(0, 2)]) && has_entries(&copy.join(&empty)?, &[(0, 2)]));
     Ok(())
+}
+
+/// The vector of every second of forty authors, from that one on, each with as many versions as its number and one.
+fn every_second(alloc: Global, first: u16) -> Option<Vector>
+    requires { first ≤ 1 }
+{
+    let mut vector = Vector::new(alloc);
+    for i in 0..20u16 {
+        let author = first + 2 * i;
+        let version = Version::new(Author::new(author), u32::from(author) + 1)?;
+        vector = vector.with(version).ok()?;
+    }
+    Some(vector)
+}
+
+/// Whether a vector has all forty authors, each with as many versions as its number and one.
+fn has_forty(vector: &Vector) -> bool {
+    if vector.len() != 40 {
+        return false;
+    }
+    for i in 0..40u16 {
+        if vector.entry(usize::from(i)) != (Author::new(i), u32::from(i) + 1) {
+            return false;
+        }
+    }
+    true
+}
+
+fn join_to_forty(even: &Vector, odd: &Vector) -> bool {
+    match even.join(odd) {
+        Ok(both) => has_forty(&both),
+        Err(_) => false,
+    }
+}
+
+fn joins_to_forty(alloc: Global, even: &Vector) -> bool {
+    match every_second(alloc, 1) {
+        Some(odd) => join_to_forty(even, &odd) && join_to_forty(&odd, even),
+        None => false,
+    }
+}
+
+fn has_forty_authors(alloc: Global) -> bool {
+    match every_second(alloc, 0) {
+        Some(even) => joins_to_forty(alloc, &even),
+        None => false,
+    }
+}
+
+#[test]
+fn a_union_may_have_many_authors(rt: HostRuntime) {
+    assert!(rt; has_forty_authors(rt.alloc()));
 }
