@@ -1,0 +1,6 @@
+pub mod Sharing
+pub mod Crosses
+pub mod Memory
+pub mod BlockLayout
+pub mod RowLemmas
+pub mod RunLemmas

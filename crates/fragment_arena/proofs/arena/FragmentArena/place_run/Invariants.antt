@@ -1,0 +1,5 @@
+use Rattle.fragment_arena.proofs.RunLemmas.{IsPlaced}
+use Rattle.fragment_arena.proofs.arena.FragmentArena.place_run.Given as goal
+
+abbrev pub invariant-loop-place : goal.invariant-loop-place
+invariant-loop-place l = IsPlaced l.other.rows l.from l.to l.place l.initial.self.rows l.self.rows l.initial.self.reserved_words l.self.reserved_words l.initial.self.reserved_rows l.self.reserved_rows

@@ -1,0 +1,172 @@
+use crate::blocks;
+use crate::raw_words::RawWords;
+use crate::row::{Row, Span};
+use std::alloc::{AllocError, Global};
+use std::fmt;
+use std::marker::Model;
+
+/// Rows of words, each at its place from 0, in blocks that never move while rows stand. A row lies whole in one block.
+/// Room for rows and words can be reserved, and rows placed in it take no memory.
+#[derive(Drop)]
+pub struct FragmentArena {
+    alloc: Global,
+    blocks: Vec<RawWords>,
+    spans: Vec<Span>,
+    reserved_words: usize,
+    reserved_rows: usize,
+}
+
+impl Model for FragmentArena {
+    ghost use Rattle.std.specs.Prelude.{vec_len, vec_capacity};
+    ghost use Rattle.fragment_arena.specs.Arena.{Arena, arena_code};
+    ghost use Rattle.fragment_arena.specs.Rows.{rows_of, IsArena};
+
+    ghost Value = { Arena };
+
+    ghost coded = { arena_code };
+
+    ghost view = { λ a. record { rows = rows_of a.blocks.items a.spans.items; reserved_words = a.reserved_words; reserved_rows = a.reserved_rows } };
+
+    ghost invariant = { λ a. IsArena a.blocks.items a.spans.items (vec_len a.spans) (vec_capacity a.spans) a.reserved_words a.reserved_rows };
+}
+
+impl FragmentArena {
+    ghost use Rattle.std.specs.Prelude.{◌≡◌, ℕ, ◌+◌, ◌-◌, ◌^◌, ◌<◌, ◌≤◌, max, [], ◌∷◌, ◌++◌, length, get_or, set, IfOk, IfSome, OnOk, OnErr};
+    ghost use Rattle.fragment_arena.specs.Arena.{arena, run, words_in};
+
+    /// No rows, and nothing reserved. Takes no memory.
+    pub fn new(alloc: Global) -> FragmentArena
+        ensures { result ≡ arena [] 0 0 }
+    {
+        FragmentArena {
+            alloc,
+            blocks: Vec::new(alloc),
+            spans: Vec::new(alloc),
+            reserved_words: 0,
+            reserved_rows: 0,
+        }
+    }
+
+    /// Reserves room for at least so many words and so many rows. A refusal changes nothing.
+    pub fn reserve(&mut self, words: usize, rows: usize) -> Result<(), AllocError>
+        ensures reserved { OnOk result (self.new ≡ arena self.old.rows (max self.old.reserved_words words) (max self.old.reserved_rows rows)) }
+        ensures refused { OnErr result (self.new ≡ self.old) }
+    {
+        let words = self.reserved_words.max(words);
+        let rows = self.reserved_rows.max(rows);
+        self.spans.reserve(rows)?;
+        blocks::make_room(self.alloc, &mut self.blocks, &self.spans, words)?;
+        self.reserved_words = words;
+        self.reserved_rows = rows;
+        Ok(())
+    }
+
+    /// One row more, at the end; gives its place, and leaves nothing reserved. A refusal changes nothing.
+    pub fn place(&mut self, words: &[u64]) -> Result<Row, AllocError>
+        ensures row { IfOk result (λ row. row ≡ length self.old.rows) }
+        ensures placed { OnOk result (self.new ≡ arena (self.old.rows ++ words.now ∷ []) 0 0) }
+        ensures refused { OnErr result (self.new ≡ self.old) }
+    {
+        self.spans.reserve(1)?;
+        blocks::make_room(self.alloc, &mut self.blocks, &self.spans, words.len())?;
+        self.reserved_words = 0;
+        self.reserved_rows = 0;
+        let place = self.spans.len();
+        blocks::lay(&mut self.blocks, &mut self.spans, words);
+        Ok(Row::at(place))
+    }
+
+    /// One row more, at the end, in room that was reserved; gives its place. Takes no memory.
+    pub fn place_reserved(&mut self, words: &[u64]) -> Row
+        requires words { length words.now ≤ self.old.reserved_words }
+        requires row { 0 < self.old.reserved_rows }
+        ensures row { result ≡ length self.old.rows }
+        ensures rows { self.new.rows ≡ self.old.rows ++ words.now ∷ [] }
+        ensures words { self.new.reserved_words + length words.now ≡ self.old.reserved_words }
+        ensures slots { self.new.reserved_rows + 1 ≡ self.old.reserved_rows }
+    {
+        self.reserved_words -= words.len();
+        self.reserved_rows -= 1;
+        let place = self.spans.len();
+        blocks::lay(&mut self.blocks, &mut self.spans, words);
+        Row::at(place)
+    }
+
+    /// The rows of another arena from one place up to another, at the end, in room that was reserved. Takes no memory.
+    pub fn place_run(&mut self, other: &FragmentArena, from: usize, to: usize)
+        requires order { from ≤ to }
+        requires there { to ≤ length other.now.rows }
+        requires words { words_in (run other.now.rows from to) ≤ self.old.reserved_words }
+        requires slots { to - from ≤ self.old.reserved_rows }
+        ensures rows { self.new.rows ≡ self.old.rows ++ run other.now.rows from to }
+        ensures words { self.new.reserved_words + words_in (run other.now.rows from to) ≡ self.old.reserved_words }
+        ensures slots { self.new.reserved_rows + (to - from) ≡ self.old.reserved_rows }
+    {
+        for place in from..to {
+            self.place_reserved(other.row(Row::at(place)));
+        }
+    }
+
+    /// How many words the rows from one place up to another have together; none where that is no `usize`.
+    pub fn words_of_run(&self, from: usize, to: usize) -> Option<usize>
+        requires order { from ≤ to }
+        requires there { to ≤ length self.now.rows }
+        ensures { IfSome result (λ words. words ≡ words_in (run self.now.rows from to)) }
+    {
+        let mut words: usize = 0;
+        for place in from..to {
+            words = words.checked_add(self.row(Row::at(place)).len())?;
+        }
+        Some(words)
+    }
+
+    /// The words of a row.
+    pub fn row(&self, row: Row) -> &[u64]
+        requires { row < length self.now.rows }
+        ensures { result.now ≡ get_or self.now.rows row [] }
+    {
+        blocks::row(&self.blocks, &self.spans, row.place())
+    }
+
+    /// Writes a word of a row in place of the one that is there. Takes no memory.
+    pub fn put(&mut self, row: Row, i: usize, word: u64)
+        requires row { row < length self.old.rows }
+        requires inside { i < length (get_or self.old.rows row []) }
+        ensures { self.new ≡ arena (set self.old.rows row (set (get_or self.old.rows row []) i word)) self.old.reserved_words self.old.reserved_rows }
+    {
+        blocks::put(&mut self.blocks, &self.spans, row.place(), i, word);
+    }
+
+    /// The number of rows.
+    pub fn rows(&self) -> usize
+        ensures value { result ≡ length self.now.rows }
+        ensures fits { result < 2 ^ 63 }
+    {
+        self.spans.len()
+    }
+
+    /// How many blocks it has, and how many words the last one has with those that are not written yet.
+    #[cfg(test)]
+    pub(crate) fn memory(&self) -> (usize, usize) {
+        match self.blocks.last() {
+            Some(last) => (self.blocks.len(), last.capacity()),
+            None => (0, 0),
+        }
+    }
+
+    /// No rows any more, and nothing reserved. The largest block stays, for the rows to come.
+    pub fn clear(&mut self)
+        ensures { self.new ≡ arena [] 0 0 }
+    {
+        self.spans.clear();
+        blocks::clear(&mut self.blocks);
+        self.reserved_words = 0;
+        self.reserved_rows = 0;
+    }
+}
+
+impl fmt::Debug for FragmentArena {
+    fn fmt<W: fmt::Write>(&self, f: &mut fmt::Formatter<W>) -> fmt::Result {
+        f.write_str("FragmentArena")
+    }
+}

@@ -1,0 +1,209 @@
+ghost use Rattle.std.specs.Prelude.{◌≡◌, ◌<◌, IfOk};
+
+use crate::{FragmentArena, RawWords, Row};
+use std::alloc::{AllocError, Global};
+use std::snapshot::Snapshot;
+use std::test::Fail;
+use std::thread;
+use std::thread::{Promise, Threads};
+
+/// Whether a row has these words.
+fn has_row(arena: &FragmentArena, place: usize, words: &[u64]) -> bool {
+    place < arena.rows() && arena.row(Row::at(place)) == words
+}
+
+/// Whether two rows stand at their places, and one that is placed once they are gone.
+fn places_rows(arena: &mut FragmentArena) -> Option<bool> {
+    let first = arena.place(&[3, 5]).ok()?;
+    let second = arena.place(&[]).ok()?;
+    let both = first.place() == 0 && second.place() == 1 && arena.rows() == 2;
+    let read = has_row(arena, 0, &[3, 5]) && has_row(arena, 1, &[]);
+    arena.clear();
+    let none = arena.rows() == 0;
+    arena.reserve(2, 1).ok()?;
+    let row = arena.place_reserved(&[9, 9]);
+    Some(both && read && none && row.place() == 0 && has_row(arena, 0, &[9, 9]))
+}
+
+fn rows_are_placed(alloc: Global) -> bool {
+    let mut arena = FragmentArena::new(alloc);
+    places_rows(&mut arena) == Some(true)
+}
+
+#[test]
+fn rows_stand_at_their_places(rt: HostRuntime) -> Result<(), Fail> {
+    assert!(rt; rows_are_placed(rt.alloc()));
+    Ok(())
+}
+
+/// Places rows of 0 to 299 words, each of its own number.
+fn place_stairs(alloc: Global, arena: &mut FragmentArena) -> Result<(), AllocError> {
+    for i in 0..300 {
+        let row = vec![in alloc; i as u64; i]?;
+        arena.place(&row)?;
+    }
+    Ok(())
+}
+
+/// Whether the rows are those of the stairs, of which the first stands at a place.
+fn are_stairs(arena: &FragmentArena, first: usize) -> bool
+    requires { first < 1000 }
+{
+    if arena.rows() < first + 300 {
+        return false;
+    }
+    for i in 0..300 {
+        let row = arena.row(Row::at(first + i));
+        if row.len() != i || !row.iter().all(|word| *word == i as u64) {
+            return false;
+        }
+    }
+    true
+}
+
+/// Whether rows in several blocks are read back, round after round, and rounds of one size take no more memory.
+fn climbs(alloc: Global, arena: &mut FragmentArena) -> bool {
+    let mut memory = (0, 0);
+    for round in 0..5 {
+        arena.clear();
+        if place_stairs(alloc, arena).is_err() || !are_stairs(arena, 0) {
+            return false;
+        }
+        if round > 2 && arena.memory() != memory {
+            return false;
+        }
+        memory = arena.memory();
+    }
+    true
+}
+
+fn stairs_are_climbed(alloc: Global) -> bool {
+    let mut arena = FragmentArena::new(alloc);
+    climbs(alloc, &mut arena)
+}
+
+#[test]
+fn rows_lie_in_many_blocks(rt: HostRuntime) -> Result<(), Fail> {
+    assert!(rt; stairs_are_climbed(rt.alloc()));
+    Ok(())
+}
+
+/// Whether 10,000 rounds of one size take no more memory than the first of them.
+fn rounds_take_no_more(alloc: Global) -> bool {
+    let mut arena = FragmentArena::new(alloc);
+    let mut first = (0, 0);
+    for round in 0..10_000 {
+        arena.clear();
+        if arena.reserve(40, 2).is_err() || arena.place(&[round, 7]).is_err() {
+            return false;
+        }
+        if round == 0 {
+            first = arena.memory();
+        }
+    }
+    arena.memory() == first
+}
+
+#[test]
+fn memory_does_not_grow(rt: HostRuntime) -> Result<(), Fail> {
+    assert!(rt; rounds_take_no_more(rt.alloc()));
+    Ok(())
+}
+
+/// Whether a word is written over in its row alone.
+fn writes_over(arena: &mut FragmentArena) -> Option<bool> {
+    arena.place(&[1, 2]).ok()?;
+    let row = arena.place(&[3, 4, 5]).ok()?;
+    arena.place(&[6]).ok()?;
+    if arena.rows() < 3 || arena.row(row).len() < 3 {
+        return None;
+    }
+    arena.put(row, 2, 77);
+    Some(has_row(arena, 0, &[1, 2]) && has_row(arena, 1, &[3, 4, 77]) && has_row(arena, 2, &[6]))
+}
+
+/// Whether the rows of one arena come to another, behind its rows.
+fn takes_all(alloc: Global, arena: &FragmentArena) -> Option<bool> {
+    let mut other = FragmentArena::new(alloc);
+    other.place(&[8]).ok()?;
+    let count = arena.rows();
+    let words = arena.words_of_run(0, count)?;
+    other.reserve(words, count).ok()?;
+    other.place_run(arena, 0, count);
+    Some(
+        words == 6
+            && has_row(&other, 0, &[8])
+            && has_row(&other, 2, &[3, 4, 77])
+            && other.rows() == 4,
+    )
+}
+
+fn words_are_written_over(alloc: Global) -> bool {
+    let mut arena = FragmentArena::new(alloc);
+    writes_over(&mut arena) == Some(true) && takes_all(alloc, &arena) == Some(true)
+}
+
+#[test]
+fn a_word_is_written_over(rt: HostRuntime) -> Result<(), Fail> {
+    assert!(rt; words_are_written_over(rt.alloc()));
+    Ok(())
+}
+
+/// Whether raw words are read back as they were written.
+fn raw_words_are_read(alloc: Global) -> bool {
+    let Ok(mut words) = RawWords::make(alloc, 4) else {
+        return false;
+    };
+    words.write(&[5, 6]);
+    words.write(&[7]);
+    words.set(1, 60);
+    let read = words.slice(1, 2) == [60, 7].as_slice();
+    words.clear();
+    read && words.len() == 0 && words.room() == 4
+}
+
+#[test]
+fn raw_words_stand(rt: HostRuntime) -> Result<(), Fail> {
+    assert!(rt; raw_words_are_read(rt.alloc()));
+    Ok(())
+}
+
+#[derive(Drop)]
+struct Same(Snapshot<FragmentArena>);
+
+impl Promise<FragmentArena> for Same {
+    ghost kept_by = { λ p r. r ≡ p.0.value };
+}
+
+/// An arena goes to another thread, and comes back.
+fn there_and_back<R: Threads>(rt: &R, arena: FragmentArena) -> Result<FragmentArena, AllocError>
+    ensures { IfOk result (λ a. a ≡ arena) }
+{
+    let promise = Same(Snapshot::of(&arena));
+    let child = thread::spawn_with(rt, promise, move || arena)?;
+    Ok(child.join(rt))
+}
+
+fn stairs(alloc: Global) -> Result<FragmentArena, AllocError> {
+    let mut arena = FragmentArena::new(alloc);
+    match place_stairs(alloc, &mut arena) {
+        Ok(()) => Ok(arena),
+        Err(error) => Err(error),
+    }
+}
+
+fn stands_after_a_thread<R: Threads>(rt: &R, alloc: Global) -> bool {
+    let Ok(arena) = stairs(alloc) else {
+        return false;
+    };
+    match there_and_back(rt, arena) {
+        Ok(arena) => are_stairs(&arena, 0),
+        Err(_) => false,
+    }
+}
+
+#[test]
+fn an_arena_crosses_threads(rt: HostRuntime) -> Result<(), Fail> {
+    assert!(rt; stands_after_a_thread(&rt, rt.alloc()));
+    Ok(())
+}
