@@ -17,7 +17,7 @@ use Rattle.fleet_steps.proofs.SoundRuns.{stays_sound_and_kept}
 use Rattle.fleet_steps.proofs.plain.run.Goals as goal
 
 pub loop-place-init : goal.loop-place-init
-loop-place-init c = runs_none _ _ _ _ c.in_ok-devices.ensures.shown c.in_ok-devices.ensures.long c.new-reports.ensures.items c.new-log.ensures
+loop-place-init c = runs_none _ _ _ _ c.in_ok-devices.ensures.shown c.in_ok-devices.ensures.long c.new-reports.ensures.items c.new-issued.ensures.items
 
 pub run_and_log-requires-clause-ready : goal.run_and_log-requires-clause-ready
 run_and_log-requires-clause-ready c =
@@ -44,8 +44,8 @@ loop-place-preserved c =
     let whole : take c.loop-place.devices.len (new ++ drop (length new) items) ≡ new = written_back new items c.loop-place.devices.len same (sym given.len ∙ ap length given.value) in
     let shows = subst (λ (l : List Kept). (models : List ModelDevice) → AllZip Shows l models → AllZip Shows new (devices_after models command)) given.value c.in_ok-report.ensures.devices in
     let tells = subst (λ (l : List Kept). (models : List ModelDevice) → AllZip Shows l models → Tells (answer_of c.in_ok-report.report) (effect_on models command).report) given.value c.in_ok-report.ensures.report in
-    let logs = subst (λ (l : List Kept). (models : List ModelDevice) → AllZip Shows l models → entries_of c.run_and_log.new.log ≡ entries_of c.loop-place.log ++ (effect_on models command).entries) given.value c.in_ok-report.ensures.log in
-    rw (whole, c.in_ok-push.ensures.items) (runs_more script n items new c.loop-place.reports.items c.loop-place.log c.run_and_log.new.log command c.in_ok-report.report c.loop-place.invariant here c.command-command.ensures.known shows tells logs)
+    let logs = subst (λ (l : List Kept). (models : List ModelDevice) → AllZip Shows l models → entries_of c.run_and_log.new.log.items ≡ entries_of c.loop-place.issued.items ++ (effect_on models command).entries) given.value c.in_ok-report.ensures.log in
+    rw (whole, c.in_ok-push.ensures.items) (runs_more script n items new c.loop-place.reports.items c.loop-place.issued.items c.run_and_log.new.log.items command c.in_ok-report.report c.loop-place.invariant here c.command-command.ensures.known shows tells logs)
 
 pub totals_of-totals-requires-clause-each : goal.totals_of-totals-requires-clause-each
 totals_of-totals-requires-clause-each c =
@@ -71,5 +71,5 @@ returns c =
       few = omega arith;
       totals = c.totals_of-totals.ensures (run script) (subst (λ (l : List Report). AllZip Tells (map answer_of l) (reports_of (run script))) (sym c.as_slice.ensures.value) reports);
       sound = stays_sound_and_kept script (length script.commands) is;
-      log = subst (λ n. entries_of c.loop-place.log ≡ (fleet_after script n).log) all c.loop-place.invariant.logged;
+      log = ap entries_of c.in_ok-log.ensures ∙ subst (λ n. entries_of c.loop-place.issued.items ≡ (fleet_after script n).log) all c.loop-place.invariant.logged;
     }
