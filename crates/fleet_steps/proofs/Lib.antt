@@ -1,3 +1,4 @@
+mod Logged
 pub mod Zipped
 pub mod Shown
 pub mod KnownLemmas

@@ -8,7 +8,6 @@ ghost use Rattle.photo_script.specs.Reports.{Tells, answer_of};
 ghost use Rattle.fleet_steps.specs.Between.{AreReady, HaveRoom, devices_after, effect_on};
 ghost use Rattle.fleet_steps.specs.Issued.{picture_of, version_told};
 
-use crate::IssueLog;
 use crate::fleet::run_on;
 use photo_device::{Device, Held};
 use photo_record::PicNo;
@@ -22,14 +21,14 @@ pub fn run_and_log(
     alloc: Global,
     command: &Command,
     devices: &mut [Device],
-    log: &mut IssueLog,
+    log: &mut Vec<Held>,
 ) -> Result<Report, AllocError>
     requires within { IsWithin (length devices.old) command.now }
     requires ready { AreReady devices.old }
     requires room { HaveRoom devices.old }
     ensures devices { OnOk result ((models : List ModelDevice) → AllZip Shows devices.old models → AllZip Shows devices.new (devices_after models command.now)) }
     ensures report { IfOk result (λ report. (models : List ModelDevice) → AllZip Shows devices.old models → Tells (answer_of report) (effect_on models command.now).report) }
-    ensures log { OnOk result ((models : List ModelDevice) → AllZip Shows devices.old models → entries_of log.new ≡ entries_of log.old ++ (effect_on models command.now).entries) }
+    ensures log { OnOk result ((models : List ModelDevice) → AllZip Shows devices.old models → entries_of log.new.items ≡ entries_of log.old.items ++ (effect_on models command.now).entries) }
 {
     let report = run_on(alloc, command, devices)?;
     log_issued(log, command, &report, devices)?;
@@ -39,16 +38,19 @@ pub fn run_and_log(
 // Puts the version that a command has made, if it has made one, behind the log, as its device holds it. The report is the
 // one on the command, and the devices are those after it.
 fn log_issued(
-    log: &mut IssueLog,
+    log: &mut Vec<Held>,
     command: &Command,
     report: &Report,
     devices: &[Device],
 ) -> Result<(), AllocError>
     requires { IsWithin (length devices.now) command.now }
-    ensures { OnOk result ((models : List ModelDevice) → AllZip Shows devices.now (devices_after models command.now) → Tells (answer_of report.now) (effect_on models command.now).report → entries_of log.new ≡ entries_of log.old ++ (effect_on models command.now).entries) }
+    ensures { OnOk result ((models : List ModelDevice) → AllZip Shows devices.now (devices_after models command.now) → Tells (answer_of report.now) (effect_on models command.now).report → entries_of log.new.items ≡ entries_of log.old.items ++ (effect_on models command.now).entries) }
 {
     match issued(command, report, devices) {
-        Some(held) => log.push(held.try_clone()?),
+        Some(held) => {
+            log.push(held.try_clone()?)?;
+            Ok(())
+        }
         None => Ok(()),
     }
 }

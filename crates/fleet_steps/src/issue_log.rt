@@ -1,41 +1,44 @@
+ghost use Rattle.std.specs.Prelude.{◌≡◌, IfOk};
+ghost use Rattle.fleet_steps.specs.Logged.{IsIndex};
+
 use photo_device::Held;
+use photo_record::PicNo;
 use std::alloc::{AllocError, Global};
 use std::marker::Model;
 
 /// The versions that a run made, oldest first, each as the device held it that made it. Contracts see it as their list.
+///
+/// It has them in the order of pictures as well, so that all of one picture are found by a search.
 #[derive(Debug, Drop)]
 pub struct IssueLog {
     issued: Vec<Held>,
+    by_picture: Vec<Held>,
 }
 
 impl Model for IssueLog {
     ghost use Rattle.std.specs.Prelude.{List};
     ghost use Rattle.photo_device.specs.declared.held.Held.{Held};
+    ghost use Rattle.fleet_steps.specs.Logged.{IsIndex};
 
     ghost Value = { List Held };
 
     ghost view = { λ l. l.issued.items };
+
+    ghost invariant = { λ l. IsIndex l.issued.items l.by_picture.items };
 }
 
 impl IssueLog {
-    ghost use Rattle.std.specs.Prelude.{◌≡◌, ◌<◌, ◌==◌, ◌++◌, [], ◌∷◌, length, slice_get, Some, OnOk, OnErr};
+    ghost use Rattle.std.specs.Prelude.{◌≡◌, ◌<◌, ◌==◌, ◌&&◌, Bool, length, slice_get, Some, IfOk};
+    ghost use Rattle.std.specs.List.{list_any};
+    ghost use Rattle.photo_device.specs.declared.held.Held as spec;
+    ghost use Rattle.fleet_steps.specs.Logged.{IsIndex};
 
-    /// A log of no versions.
-    pub fn new(alloc: Global) -> IssueLog
-        ensures { result ≡ [] }
+    /// The log of those versions. Its only error is want of memory.
+    pub fn new(alloc: Global, issued: Vec<Held>) -> Result<IssueLog, AllocError>
+        ensures { IfOk result (λ log. log ≡ issued.items) }
     {
-        IssueLog {
-            issued: Vec::new(alloc),
-        }
-    }
-
-    /// One version more. After want of memory the log is as it was.
-    pub fn push(&mut self, held: Held) -> Result<(), AllocError>
-        ensures ok { OnOk result (self.new ≡ self.old ++ held ∷ []) }
-        ensures err { OnErr result (self.new ≡ self.old) }
-    {
-        self.issued.push(held)?;
-        Ok(())
+        let by_picture = by_picture(alloc, issued.as_slice())?;
+        Ok(IssueLog { issued, by_picture })
     }
 
     /// How many versions were made.
@@ -59,4 +62,42 @@ impl IssueLog {
     {
         &self.issued[i]
     }
+
+    /// The versions in the order of pictures, and those of a picture in the order of versions.
+    pub fn by_picture(&self) -> &[Held]
+        ensures { IsIndex self.now result.now }
+    {
+        self.by_picture.as_slice()
+    }
+
+    /// The versions of a picture, in their order. They are found by a search, which takes no memory.
+    pub fn of_picture(&self, picture: PicNo) -> &[Held]
+        ensures { (test : spec.Held → Bool) → list_any test result.now ≡ list_any (λ h. (h.picture == picture) && test h) self.now }
+    {
+        let index = self.by_picture();
+        let from = index.partition_point(|held| held.picture < picture);
+        let to = index.partition_point(|held| held.picture <= picture);
+        &index[from..to]
+    }
+}
+
+/// The versions in the order of pictures, and those of a picture in the order of versions. Its only error is want of
+/// memory.
+fn by_picture(alloc: Global, issued: &[Held]) -> Result<Vec<Held>, AllocError>
+    ensures { IfOk result (λ index. IsIndex issued.now index.items) }
+{
+    let mut index = copies(alloc, issued)?;
+    index.sort_unstable_by_key(|held| (held.picture, held.version));
+    Ok(index)
+}
+
+/// Copies of versions, which share what they carry. Its only error is want of memory.
+fn copies(alloc: Global, issued: &[Held]) -> Result<Vec<Held>, AllocError>
+    ensures { IfOk result (λ list. list.items ≡ issued.now) }
+{
+    let mut list = Vec::with_capacity(alloc, issued.len())?;
+    for held in issued {
+        list.push(held.try_clone()?)?;
+    }
+    Ok(list)
 }

@@ -33,13 +33,14 @@ fn run(alloc: Global, script: &Script) -> Result<Outcome, AllocError>
 {
     let mut devices = opening_devices(alloc, script)?;
     let mut reports = Vec::new(alloc);
-    let mut log = IssueLog::new(alloc);
+    let mut issued = Vec::new(alloc);
     for place in 0..script.commands() {
         let command = script.command(place as u32 + 1);
-        let report = run_and_log(alloc, command, devices.as_mut_slice(), &mut log)?;
+        let report = run_and_log(alloc, command, devices.as_mut_slice(), &mut issued)?;
         reports.push(report)?;
     }
     let totals = totals_of(script, reports.as_slice());
+    let log = IssueLog::new(alloc, issued)?;
     Ok(Outcome {
         devices,
         reports,

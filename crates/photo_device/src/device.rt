@@ -44,7 +44,7 @@ impl Device {
     ghost use Rattle.std.specs.Option.{option_copied, option_map};
     ghost use Rattle.photo_device.specs.Entry.{find_entry};
     ghost use Rattle.photo_device.specs.Held.{find_version, find_version_of, has_picture, count_of, entry_of, entries_of};
-    ghost use Rattle.photo_device.specs.Own.{HasEarlier, HasMade, IsDevice, IsKnownBy, IsNext};
+    ghost use Rattle.photo_device.specs.Own.{HasEarlier, HasMade, IsDevice, IsKnownBy, IsNext, KnowsItsOwn};
     ghost use Rattle.photo_device.specs.Taking.{HasTaken, MayTake};
     ghost use Rattle.photo_version.specs.Version as versions;
     ghost use Rattle.item_knowledge.specs.Fragments.{knows};
@@ -319,6 +319,18 @@ impl Device {
         self.store.keep_matched(&filter);
         self.filter = filter;
         Ok((before - self.store.len()) as u64)
+    }
+
+    /// The same device with another knowledge, which has what every device has to know.
+    pub(crate) fn with(self, knowledge: Knowledge) -> Device
+        requires own { KnowsItsOwn self.author self.counter knowledge }
+        requires store { AllByRecursion (IsKnownBy knowledge) self.store }
+        requires out { AllByRecursion (IsKnownBy knowledge) self.out }
+        ensures { result ≡ record self { knowledge = knowledge } }
+    {
+        let mut device = self;
+        device.knowledge = knowledge;
+        device
     }
 
     // Whether a version of a picture is held, in the store or in the out.

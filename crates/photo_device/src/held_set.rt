@@ -129,8 +129,8 @@ impl HeldSet {
         Ok(HeldList::new(items))
     }
 
-    /// The one of that version. It looks through all of them, since they are in the order of their pictures.
-    pub(crate) fn find(&self, version: Version) -> Option<&Held>
+    /// The one of that version, if it has it. It looks through all of them, since they are in the order of their pictures.
+    pub fn find(&self, version: Version) -> Option<&Held>
         ensures { option_copied result ≡ find_version version self.now }
     {
         for block in self.items.as_blocks() {

@@ -9,6 +9,7 @@ mod fault;
 mod held;
 mod held_set;
 mod item_list;
+pub mod laws;
 mod place;
 mod range;
 mod sought;

@@ -18,7 +18,7 @@ use Rattle.fleet_steps.proofs.SoundRuns.{stays_sound_and_kept}
 use Rattle.fleet_steps.proofs.plain.run.Goals as goal
 
 pub loop-place-init : goal.loop-place-init
-loop-place-init c = runs_none _ _ _ _ c.in_ok-devices.ensures.shown c.in_ok-devices.ensures.long c.new-reports.ensures.items c.new-log.ensures
+loop-place-init c = runs_none _ _ _ _ c.in_ok-devices.ensures.shown c.in_ok-devices.ensures.long c.new-reports.ensures.items c.new-issued.ensures.items
 
 pub run_and_log-requires-clause-ready : goal.run_and_log-requires-clause-ready
 run_and_log-requires-clause-ready c =
@@ -45,8 +45,8 @@ loop-place-preserved c =
     let whole : take c.loop-place.devices.len (new ++ drop (length new) items) ≡ new = written_back new items c.loop-place.devices.len same (sym given.len ∙ ap length given.value) in
     let shows = subst (λ (l : List Kept). (models : List ModelDevice) → AllZip Shows l models → AllZip Shows new (devices_after models command)) given.value c.in_ok-report.ensures.devices in
     let tells = subst (λ (l : List Kept). (models : List ModelDevice) → AllZip Shows l models → Tells (answer_of c.in_ok-report.report) (effect_on models command).report) given.value c.in_ok-report.ensures.report in
-    let logs = subst (λ (l : List Kept). (models : List ModelDevice) → AllZip Shows l models → entries_of c.run_and_log.new.log ≡ entries_of c.loop-place.log ++ (effect_on models command).entries) given.value c.in_ok-report.ensures.log in
-    rw (whole, c.in_ok-push.ensures.items) (runs_more script n items new c.loop-place.reports.items c.loop-place.log c.run_and_log.new.log command c.in_ok-report.report c.loop-place.invariant here c.command-command.ensures.known shows tells logs)
+    let logs = subst (λ (l : List Kept). (models : List ModelDevice) → AllZip Shows l models → entries_of c.run_and_log.new.log.items ≡ entries_of c.loop-place.issued.items ++ (effect_on models command).entries) given.value c.in_ok-report.ensures.log in
+    rw (whole, c.in_ok-push.ensures.items) (runs_more script n items new c.loop-place.reports.items c.loop-place.issued.items c.run_and_log.new.log.items command c.in_ok-report.report c.loop-place.invariant here c.command-command.ensures.known shows tells logs)
 
 pub totals_of-totals-requires-clause-each : goal.totals_of-totals-requires-clause-each
 totals_of-totals-requires-clause-each c =
@@ -61,7 +61,7 @@ pub returns-clause-log : goal.returns-clause-log
 returns-clause-log c =
     let script = c.args.script.now in
     let all : c.loop-place.place ≡ length script.commands = omega arith in
-    subst (λ n. entries_of c.loop-place.log ≡ (fleet_after script n).log) all c.loop-place.invariant.logged
+    ap entries_of c.in_ok-log.ensures ∙ subst (λ n. entries_of c.loop-place.issued.items ≡ (fleet_after script n).log) all c.loop-place.invariant.logged
 
 pub returns-clause-ok : goal.returns-clause-ok
 returns-clause-ok c =
@@ -77,6 +77,6 @@ returns-clause-ok c =
       about = c.loop-place.invariant.about;
       few = omega arith;
       totals = c.totals_of-totals.ensures (run script) (subst (λ (l : List Report). AllZip Tells (map answer_of l) (reports_of (run script))) (sym c.as_slice.ensures.value) reports);
-      log = subst (λ n. IsPermutation (fleet_after script n).log (entries_of c.loop-place.log)) all (subst (IsPermutation (fleet_after script c.loop-place.place).log) (sym c.loop-place.invariant.logged) (IsPermutation-refl _));
+      log = subst (IsPermutation (run script).log) (sym (ap entries_of c.in_ok-log.ensures ∙ subst (λ n. entries_of c.loop-place.issued.items ≡ (fleet_after script n).log) all c.loop-place.invariant.logged)) (IsPermutation-refl _);
       sound = λ n. stays_sound_and_kept script n is;
     }

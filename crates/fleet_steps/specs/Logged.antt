@@ -1,0 +1,9 @@
+-- A log in the order of pictures, beside the log itself.
+use Rattle.std.specs.Prelude.{List}
+use Rattle.std.specs.List.Sorted.{IsPermutation, IsNonDecreasingBy}
+use Rattle.photo_device.specs.declared.held.Held.{Held}
+
+-- the same versions, and the pictures don't fall
+pub record IsIndex (issued index : List Held) : Type 0 where
+  pub same : IsPermutation issued index
+  pub rising : IsNonDecreasingBy (λ h. h.picture) index
