@@ -181,7 +181,7 @@ fn conflicts_are_told_of_both_sets(rt: HostRuntime) {
 
 fn has_no_conflict(alloc: Global, device: &mut Device) -> bool {
     made_all(alloc, device, &[(7, 5), (3, 2), (7, 1), (5, 4)])
-        && device.conflicts(alloc).is_ok_and(|list| list.is_empty())
+        && device.conflicts().is_ok_and(|list| list.is_empty())
 }
 
 #[test]
