@@ -48,8 +48,8 @@ pub fn run_command(
         Command::Pull { .. } => unreachable!(),
         Command::Narrow { filter, .. } => run_narrow(device, filter),
         Command::List { device: number } => {
-            let store = device.store().to_list(alloc)?;
-            let out = device.out().to_list(alloc)?;
+            let store = device.store().to_list()?;
+            let out = device.out().to_list()?;
             Ok(Report::Listed {
                 device: *number,
                 store,
@@ -57,7 +57,7 @@ pub fn run_command(
             })
         }
         Command::Conflicts { device: number } => {
-            let pictures = ConflictList::new(device.conflicts(alloc)?);
+            let pictures = ConflictList::new(device.conflicts()?);
             Ok(Report::Conflicts {
                 device: *number,
                 pictures,

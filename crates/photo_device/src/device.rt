@@ -342,10 +342,10 @@ impl Device {
 
     /// The pictures of which it holds two or more versions, in the store and the out together, each with them in order.
     /// Its only error is want of memory.
-    pub fn conflicts(&self, alloc: Global) -> Result<Vec<Conflict>, AllocError>
+    pub fn conflicts(&self) -> Result<Vec<Conflict>, AllocError>
         ensures { IfOk result (λ list. (m : ModelDevice) → Shows self.now m → list.items ≡ conflicts_of m) }
     {
-        let list = conflicts::conflicts_of(alloc, &self.store, &self.out)?;
+        let list = conflicts::conflicts_of(self.store.alloc(), &self.store, &self.out)?;
         Ok(list)
     }
 }

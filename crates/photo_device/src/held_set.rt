@@ -18,6 +18,7 @@ use std::marker::Model;
 #[derive(Debug, Drop)]
 pub struct HeldSet {
     items: BlockList<Held>,
+    alloc: Global,
 }
 
 impl Model for HeldSet {
@@ -45,7 +46,13 @@ impl HeldSet {
     {
         HeldSet {
             items: BlockList::new(alloc),
+            alloc,
         }
+    }
+
+    /// The allocator of what is made of it.
+    pub(crate) fn alloc(&self) -> Global {
+        self.alloc
     }
 
     /// How many versions it has.
@@ -117,10 +124,10 @@ impl HeldSet {
     }
 
     /// The held versions as a list. Its only error is want of memory.
-    pub fn to_list(&self, alloc: Global) -> Result<HeldList, AllocError>
+    pub fn to_list(&self) -> Result<HeldList, AllocError>
         ensures { IfOk result (λ list. list ≡ self.now) }
     {
-        let mut items = Vec::with_capacity(alloc, self.items.len())?;
+        let mut items = Vec::with_capacity(self.alloc, self.items.len())?;
         for block in self.items.as_blocks() {
             for held in block {
                 items.push(held.try_clone()?)?;

@@ -208,8 +208,8 @@ fn is_like(list: &HeldList, set: &HeldSet) -> bool {
 }
 
 /// Whether a set's list has that many copies of what it has, also as a list that is made of its vector.
-fn is_copied(alloc: Global, set: &HeldSet, length: usize) -> bool {
-    match set.to_list(alloc) {
+fn is_copied(set: &HeldSet, length: usize) -> bool {
+    match set.to_list() {
         Ok(list) => {
             let is_copy = list.as_slice().len() == length && is_like(&list, set);
             let again = HeldList::new(list.into_vec());
@@ -221,8 +221,8 @@ fn is_copied(alloc: Global, set: &HeldSet, length: usize) -> bool {
 
 fn copies(alloc: Global, device: &mut Device) -> bool {
     made_all(alloc, device, FOUR_PICTURES)
-        && is_copied(alloc, device.store(), 4)
-        && is_copied(alloc, device.out(), 0)
+        && is_copied(device.store(), 4)
+        && is_copied(device.out(), 0)
 }
 
 #[test]

@@ -20,13 +20,13 @@ fn gives_back(alloc: Global, device: &mut Device, text: &str, rating: u8) -> Opt
     }
 }
 
-/// Whether a device of three versions keeps just the third, and the others wait in its out.
+/// Whether a device of four versions keeps just the third, and the others wait in its out.
 fn keeps_the_third(device: &Device) -> bool {
-    lists(device.store(), &[(3, 3)]) && lists(device.out(), &[(1, 1), (2, 2)])
+    lists(device.store(), &[(3, 3)]) && lists(device.out(), &[(1, 1), (2, 2), (4, 4)])
 }
 
 fn narrows(alloc: Global, device: &mut Device) -> bool {
-    made_all(alloc, device, &[(1, 2), (2, 3), (3, 5)])
+    made_all(alloc, device, &[(1, 2), (2, 3), (3, 5), (4, 1)])
         && narrowed(alloc, device, "rating >= 4") == Some(2)
         && keeps_the_third(device)
         && gives_back(alloc, device, "rating >= 3", 3) == Some(true)

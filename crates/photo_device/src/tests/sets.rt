@@ -1,4 +1,6 @@
-use super::{filter_of, lists, made_all, on_device, rated};
+ghost use Rattle.std.specs.Prelude.{◌≤◌};
+
+use super::{filter_of, is_copied, lists, made_all, on_device, rated};
 use crate::conflicts::conflicts_of;
 use crate::{Conflict, Device, Held, HeldSet};
 use photo_record::PicNo;
@@ -179,9 +181,46 @@ fn conflicts_are_told_of_both_sets(rt: HostRuntime) {
     assert!(rt; two_sets_conflict(rt.alloc()));
 }
 
+/// Puts a version of each of the pictures 1 to 45, and then picture 46's of two authors, from that one on.
+fn put_many(alloc: Global, set: &mut HeldSet, first: u16) -> bool
+    requires { first ≤ 100 }
+{
+    for n in 1..46u32 {
+        if !put(alloc, set, (n, first, n, 5)) {
+            return false;
+        }
+    }
+    put_all(alloc, set, &[(46, first, 46, 5), (46, first + 1, 1, 5)])
+}
+
+/// Whether two sets together have so many conflicts, of which the last is that of picture 46 in five versions.
+fn conflict_in_five(alloc: Global, store: &HeldSet, out: &HeldSet) -> bool {
+    match conflicts_of(alloc, store, out) {
+        Ok(list) => {
+            list.len() == 46 && is_of(&list[45], 46, &[(0, 46), (1, 1), (2, 46), (3, 1), (4, 1)])
+        }
+        Err(_) => false,
+    }
+}
+
+fn many_conflict(alloc: Global) -> bool {
+    let mut store = HeldSet::new(alloc);
+    let mut out = HeldSet::new(alloc);
+    put_many(alloc, &mut store, 0)
+        && put_many(alloc, &mut out, 2)
+        && put(alloc, &mut out, (46, 4, 1, 5))
+        && conflict_in_five(alloc, &store, &out)
+        && is_copied(&store, 47)
+}
+
+#[test]
+fn many_versions_conflict(rt: HostRuntime) {
+    assert!(rt; many_conflict(rt.alloc()));
+}
+
 fn has_no_conflict(alloc: Global, device: &mut Device) -> bool {
     made_all(alloc, device, &[(7, 5), (3, 2), (7, 1), (5, 4)])
-        && device.conflicts(alloc).is_ok_and(|list| list.is_empty())
+        && device.conflicts().is_ok_and(|list| list.is_empty())
 }
 
 #[test]
