@@ -5,7 +5,7 @@ pub mod TableLemmas
 pub mod MergeLemmas
 pub mod JoinLemmas
 pub mod RowLemmas
-pub mod SpanLemmas
+pub mod AlikeLemmas
 pub mod AddLemmas
 pub mod GatherLemmas
 pub mod ChainLemmas

@@ -1,4 +1,4 @@
--- A word is put into a row in place: into rows that are cut out of one list, and into those of fragments.
+-- A word is put in place into a row of a fragment.
 use Rattle.std.proofs.Common.{◌≡◌, ℕ, zero, suc, ◌+◌, ◌-◌, ◌*◌, ◌<◌, ◌≤◌, true, leb, ltb, max, ◌&&◌, List, [], ◌∷◌, length, get_or, set, take, drop, refl, sym, subst, ap, ◌∙◌, arith}
 use Rattle.std.specs.List.{list_all}
 use Rattle.std.proofs.Math.Seq.{take-set-lt}
@@ -9,92 +9,9 @@ use Rattle.item_knowledge.specs.Entries.{Entry, bound, joined}
 use Rattle.item_knowledge.specs.Fragments.{Fragment, entries_at}
 use Rattle.item_knowledge.specs.Rows.{pairs, flat, AreRows, fragments_of, rows_of}
 use Rattle.item_knowledge.specs.Raising.{raised, all_raised, is_risen, are_risen}
-use Rattle.item_knowledge.specs.Spans.{cut, cuts, is_span, are_spans, are_apart, IsCut}
 use Rattle.item_knowledge.proofs.MergeLemmas.{drop_none, drop_next}
 use Rattle.item_knowledge.proofs.RowLemmas.{fragments_rows, rows_rows, rows_length, entries_row}
-use Rattle.item_knowledge.proofs.SpanLemmas.{span_at, row_at, cuts_length}
 use Rattle.item_knowledge.proofs.TableLemmas.{merge_left, merge_both}
-
--- A word of one row is none of another
-
-cut_before : (ws : List ℕ) (k w : ℕ) (s : ℕ × ℕ) → k < s.0 → cut (set ws k w) s ≡ cut ws s
-cut_before ws k w s l = ap (take (s.1 - s.0)) (drop-set-lt s.0 ws k w l)
-
-cut_behind : (ws : List ℕ) (k w : ℕ) (s : ℕ × ℕ) → s.0 ≤ s.1 → s.1 ≤ k → cut (set ws k w) s ≡ cut ws s
-cut_behind ws k w s l m =
-    let is : k ≡ s.0 + (k - s.0) = omega arith in
-    ap (λ j. take (s.1 - s.0) (drop s.0 (set ws j w))) is
-    ∙ (ap (take (s.1 - s.0)) (drop-set-add s.0 ws (k - s.0) w)
-    ∙ take-set-le (s.1 - s.0) (drop s.0 ws) (k - s.0) w (omega arith))
-
-cut_here : (ws : List ℕ) (i w : ℕ) (s : ℕ × ℕ) → i < s.1 - s.0 → cut (set ws (s.0 + i) w) s ≡ set (cut ws s) i w
-cut_here ws i w s l = ap (take (s.1 - s.0)) (drop-set-add s.0 ws i w) ∙ take-set-lt (s.1 - s.0) (drop s.0 ws) i w l
-
-cuts_before : (ws : List ℕ) (k w n : ℕ) (ss : List (ℕ × ℕ)) → k < n → list_all (λ t. leb n t.0) ss ≡ true → cuts (set ws k w) ss ≡ cuts ws ss
-cuts_before ws k w n [] l h = refl
-cuts_before ws k w n (s ∷ ss) l h =
-    let a = and_parts (leb n s.0) (list_all (λ t. leb n t.0) ss) h in
-    let le = leb-true n s.0 a.0 in
-    λ j. cut_before ws k w s (omega arith) j ∷ cuts_before ws k w n ss l a.1 j
-
-from_all : (n : ℕ) (ss : List (ℕ × ℕ)) (i : ℕ) → list_all (λ t. leb n t.0) ss ≡ true → i < length ss → n ≤ (get_or ss i (0, 0)).0
-from_all n [] i h l = absurd (omega arith)
-from_all n (s ∷ ss) zero h l = leb-true n s.0 (and_parts (leb n s.0) (list_all (λ t. leb n t.0) ss) h).0
-from_all n (s ∷ ss) (suc i) h l = from_all n ss i (and_parts (leb n s.0) (list_all (λ t. leb n t.0) ss) h).1 (omega arith)
-
-cuts_put : (ws : List ℕ) (spans : List (ℕ × ℕ)) (place i w : ℕ) → are_spans ws spans ≡ true → are_apart spans ≡ true → place < length spans → i < (get_or spans place (0, 0)).1 - (get_or spans place (0, 0)).0 → cuts (set ws ((get_or spans place (0, 0)).0 + i) w) spans ≡ set (cuts ws spans) place (set (cut ws (get_or spans place (0, 0))) i w)
-cuts_put ws [] place i w h p l m = absurd (omega arith)
-cuts_put ws (s ∷ ss) zero i w h p l m =
-    let b = and_parts (list_all (λ t. leb s.1 t.0) ss) (are_apart ss) p in
-    λ j. cut_here ws i w s m j ∷ cuts_before ws (s.0 + i) w s.1 ss (omega arith) b.0 j
-cuts_put ws (s ∷ ss) (suc place) i w h p l m =
-    let a = and_parts (is_span (length ws) s) (are_spans ws ss) h in
-    let b = and_parts (list_all (λ t. leb s.1 t.0) ss) (are_apart ss) p in
-    let less : place < length ss = omega arith in
-    let from = from_all s.1 ss place b.0 less in
-    let span = span_at ws (s ∷ ss) 0 (0, 0) h (omega arith) in
-    λ j. cut_behind ws ((get_or ss place (0, 0)).0 + i) w s span.0 (omega arith) j ∷ cuts_put ws ss place i w a.1 b.1 less m j
-
-row_size : (ws : List ℕ) (spans : List (ℕ × ℕ)) (place i : ℕ) → are_spans ws spans ≡ true → place < length spans → i < length (get_or (cuts ws spans) place []) → i < (get_or spans place (0, 0)).1 - (get_or spans place (0, 0)).0
-row_size ws spans place i h l m =
-    let s = get_or spans place (0, 0) in
-    let is = ap length (row_at ws spans place (0, 0) l) in
-    let size = length-take (s.1 - s.0) (drop s.0 ws) in
-    omega arith
-
--- what a row's word, put in place, makes of the rows
-pub record IsPut (ws new : List ℕ) (spans : List (ℕ × ℕ)) (place i w : ℕ) : Type 0 where
-  pub shown : cuts new spans ≡ set (cuts ws spans) place (set (get_or (cuts ws spans) place []) i w)
-  pub within : IsCut new spans
-
-pub word_within : (ws : List ℕ) (spans : List (ℕ × ℕ)) (place i : ℕ) → IsCut ws spans → place < length (cuts ws spans) → i < length (get_or (cuts ws spans) place []) → (place < length spans) × ((get_or spans place (0, 0)).0 + i < length ws)
-word_within ws spans place i h l m =
-    let n = cuts_length ws spans in
-    let less : place < length spans = omega arith in
-    let size = row_size ws spans place i h.within less m in
-    let span = span_at ws spans place (0, 0) h.within less in
-    let high = span.1 in
-    (less, omega arith)
-
-pub word_put : (ws new : List ℕ) (spans : List (ℕ × ℕ)) (place i k w : ℕ) → IsCut ws spans → place < length (cuts ws spans) → i < length (get_or (cuts ws spans) place []) → k ≡ (get_or spans place (0, 0)).0 + i → new ≡ set ws k w → IsPut ws new spans place i w
-word_put ws new spans place i k w h l m at is =
-    let less = (word_within ws spans place i h l m).0 in
-    let made : new ≡ set ws ((get_or spans place (0, 0)).0 + i) w = is ∙ ap (λ j. set ws j w) at in
-    subst (λ zs. IsPut ws zs spans place i w) (sym made) (record {
-      shown =
-          cuts_put ws spans place i w h.within h.apart less (row_size ws spans place i h.within less m)
-          ∙ ap (λ row. set (cuts ws spans) place (set row i w)) (sym (row_at ws spans place (0, 0) less));
-      within = record {
-        within = subst (λ n. list_all (λ s. is_span n s) spans ≡ true) (sym (length-set ws ((get_or spans place (0, 0)).0 + i) w)) h.within;
-        apart = h.apart;
-      };
-    })
-
--- a place within has no need of the other value
-pub same_span : (ss : List (ℕ × ℕ)) (i : ℕ) (d e : ℕ × ℕ) → i < length ss → get_or ss i d ≡ get_or ss i e
-same_span [] i d e l = absurd (omega arith)
-same_span (s ∷ ss) zero d e l = refl
-same_span (s ∷ ss) (suc i) d e l = same_span ss i d e (omega arith)
 
 -- The entry of an author who has one
 

@@ -2,7 +2,6 @@ pub mod Tables
 pub mod Entries
 pub mod Fragments
 pub mod Rows
-pub mod Spans
 pub mod Gathering
 pub mod Raising
 pub mod Places

@@ -1,26 +1,25 @@
+use fragment_arena::{FragmentArena, Row};
 use std::alloc::{AllocError, Global};
 use std::marker::Model;
 
-/// Rows of words, each at its place from 0. All words stand in one list, out of which each row is cut.
+/// Rows of words, each at its place from 0, in an arena.
 #[derive(Debug, Drop)]
 pub(crate) struct Rows {
     alloc: Global,
-    words: Vec<u64>,
-    spans: Vec<(usize, usize)>,
+    arena: FragmentArena,
+    /// How many words all rows have together, which only a guess at what has to be reserved goes by.
+    words: usize,
 }
 
 impl Model for Rows {
     ghost use Rattle.std.specs.Prelude.{ℕ, List};
     ghost use Rattle.std.specs.Coded.{coded_ℕ, coded_list};
-    ghost use Rattle.item_knowledge.specs.Spans.{cuts, IsCut};
 
     ghost Value = { List (List ℕ) };
 
     ghost coded = { coded_list (coded_list coded_ℕ) };
 
-    ghost view = { λ r. cuts r.words.items r.spans.items };
-
-    ghost invariant = { λ r. IsCut r.words.items r.spans.items };
+    ghost view = { λ r. r.arena.rows };
 }
 
 impl Rows {
@@ -32,8 +31,8 @@ impl Rows {
     {
         Rows {
             alloc,
-            words: Vec::new(alloc),
-            spans: Vec::new(alloc),
+            arena: FragmentArena::new(alloc),
+            words: 0,
         }
     }
 
@@ -41,10 +40,12 @@ impl Rows {
     pub(crate) fn with_room(alloc: Global, count: usize, words: usize) -> Result<Rows, AllocError>
         ensures { IfOk result (λ rows. rows ≡ []) }
     {
+        let mut arena = FragmentArena::new(alloc);
+        arena.reserve(words, count)?;
         Ok(Rows {
             alloc,
-            words: Vec::with_capacity(alloc, words)?,
-            spans: Vec::with_capacity(alloc, count)?,
+            arena,
+            words: 0,
         })
     }
 
@@ -52,14 +53,13 @@ impl Rows {
     pub(crate) fn reserve(&mut self, count: usize, words: usize) -> Result<(), AllocError>
         ensures { self.new ≡ self.old }
     {
-        self.words.reserve(words)?;
-        self.spans.reserve(count)?;
+        self.arena.reserve(words, count)?;
         Ok(())
     }
 
     /// How many words all rows have together, or some more.
     pub(crate) fn words(&self) -> usize {
-        self.words.len()
+        self.words
     }
 
     /// One row more, at the end; gives its place. A refusal changes nothing.
@@ -68,12 +68,9 @@ impl Rows {
         ensures placed { OnOk result (self.new ≡ self.old ++ words.now ∷ []) }
         ensures refused { OnErr result (self.new ≡ self.old) }
     {
-        let place = self.spans.len();
-        let start = self.words.len();
-        self.words.extend_from_slice(words)?;
-        let end = self.words.len();
-        self.spans.push((start, end))?;
-        Ok(place)
+        let row = self.arena.place(words)?;
+        self.words = self.words.saturating_add(words.len());
+        Ok(row.place())
     }
 
     /// One row more, at the end, of a word and others behind it; gives its place.
@@ -81,13 +78,13 @@ impl Rows {
         ensures place { IfOk result (λ place. place ≡ length self.old) }
         ensures placed { OnOk result (self.new ≡ self.old ++ (first ∷ others.now) ∷ []) }
     {
-        let place = self.spans.len();
-        let start = self.words.len();
-        self.words.push(first)?;
-        self.words.extend_from_slice(others)?;
-        let end = self.words.len();
-        self.spans.push((start, end))?;
-        Ok(place)
+        if others.is_empty() {
+            return self.place(&[first]);
+        }
+        let mut row = Vec::with_capacity(self.alloc, others.len().saturating_add(1))?;
+        row.push(first)?;
+        row.extend_from_slice(others)?;
+        self.place(&row)
     }
 
     /// The row at a place.
@@ -95,8 +92,7 @@ impl Rows {
         requires { place < length self.now }
         ensures { result.now ≡ get_or self.now place [] }
     {
-        let (start, end) = self.spans[place];
-        &self.words[start..end]
+        self.arena.row(Row::at(place))
     }
 
     /// Puts a word into a row, in place of the one that is there. Takes no memory.
@@ -105,23 +101,22 @@ impl Rows {
         requires inside { i < length (get_or self.old place []) }
         ensures { self.new ≡ set self.old place (set (get_or self.old place []) i word) }
     {
-        let (start, _end) = self.spans[place];
-        self.words[start + i] = word;
+        self.arena.put(Row::at(place), i, word);
     }
 
     /// The number of rows.
     pub(crate) fn rows(&self) -> usize
         ensures { result ≡ length self.now }
     {
-        self.spans.len()
+        self.arena.rows()
     }
 
-    /// No rows any more. The room stays.
+    /// No rows any more. The largest block stays, for the rows to come; no word of those that stood is kept.
     pub(crate) fn clear(&mut self)
         ensures { self.new ≡ [] }
     {
-        self.spans.clear();
-        self.words.clear();
+        self.arena.clear();
+        self.words = 0;
     }
 
     /// Whether both have the same rows.
@@ -143,12 +138,10 @@ impl Rows {
     pub(crate) fn try_clone(&self) -> Result<Rows, AllocError>
         ensures { IfOk result (λ copy. copy ≡ self.now) }
     {
-        let words = self.words.to_vec(self.alloc)?;
-        let spans = self.spans.to_vec(self.alloc)?;
-        Ok(Rows {
-            alloc: self.alloc,
-            words,
-            spans,
-        })
+        let mut copy = Rows::with_room(self.alloc, self.rows(), self.words)?;
+        for i in 0..self.rows() {
+            copy.place(self.row(i))?;
+        }
+        Ok(copy)
     }
 }

@@ -1,6 +1,6 @@
 use Rattle.std.proofs.Common.{◌≡◌, ◌∙◌, true, refl, sym, arith}
 use Rattle.item_knowledge.proofs.RowLemmas.{same_lists}
-use Rattle.item_knowledge.proofs.SpanLemmas.{same_rows, rows_end}
+use Rattle.item_knowledge.proofs.AlikeLemmas.{same_rows, rows_end}
 use Rattle.item_knowledge.proofs.rows.Rows.same.Goals as goal
 
 pub returns : goal.returns

@@ -1,5 +1,5 @@
 use Rattle.std.proofs.Common.{◌≡◌, drop, length}
-use Rattle.item_knowledge.proofs.SpanLemmas.{same_rows}
+use Rattle.item_knowledge.proofs.AlikeLemmas.{same_rows}
 use Rattle.item_knowledge.proofs.rows.Rows.same.Given as goal
 
 abbrev pub invariant-loop-i : goal.invariant-loop-i
