@@ -7,3 +7,4 @@ pub mod Sound
 pub mod Between
 pub mod SoundExamples
 pub mod Issued
+pub mod Wanting
