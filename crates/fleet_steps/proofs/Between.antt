@@ -1,6 +1,6 @@
 -- A pull between two devices of a run.
 use Rattle.std.proofs.Common.{◌≡◌, ◌≢◌, ℕ, ◌+◌, ◌-◌, ◌<◌, Bool, true, false, cond, eqb, List, [], ◌∷◌, ◌++◌, length, get_or, set, take, drop, refl, sym, ap, ◌∙◌, subst, arith}
-use Rattle.std.specs.Prelude.{Option, Some, None, Result, Ok, Err, OnOk, IfOk}
+use Rattle.std.specs.Prelude.{Option, Some, None, Result, Ok, Err, OnOk, OnErr, IfOk}
 use Rattle.std.specs.Option.{option_map}
 use Rattle.std.specs.List.{AllZip}
 use Rattle.std.proofs.lemmas.List.{append-nil, take_all, drop_all, get_or_append_left, get_or-append-add, set-append_left, set-append_right, length-set, map-append}
@@ -16,10 +16,12 @@ use Rattle.photo_pull.specs.Pull.{pulled, handed_over, counts_of}
 use Rattle.photo_script.specs.Runs.{effect, device_at, with_second}
 use Rattle.fleet_steps.specs.Members.{In, here, there}
 use Rattle.photo_script.specs.declared.command.Command.{Command}
+use Rattle.photo_script.specs.declared.command.Command.TheVariants as command
 use Rattle.photo_script.specs.declared.report.Report.{Report}
 use Rattle.photo_script.specs.Contents.{devices_of}
 use Rattle.photo_script.specs.Reports.{Pulled, Tells, answer_of}
 use Rattle.fleet_steps.specs.Between.{MayPull, AreReady, after_pull, devices_after, effect_on}
+use Rattle.fleet_steps.specs.Wanting.{MayWantMemory}
 use Rattle.fleet_steps.proofs.Zipped.{zip_at, zip_set, zip_long}
 
 -- what was found
@@ -168,3 +170,25 @@ one_tells (Ok report) devices c k d old alone place is h tells = λ models shown
     let before : Shows old m = subst (λ (x : Kept). Shows x m) (sym is) (zip_at Shows devices models k d (opening (author k) All) shown h) in
     let same : (effect c m None).report ≡ (effect_on models c).report = ap (λ j. (effect c (device_at models j) None).report) place ∙ (λ i. (effect c (device_at models (devices_of c).0) (option_map (device_at models) (sym alone i))).report) in
     subst (Tells (answer_of report)) same (tells m before)
+
+-- where a command on one device wants memory, and where one on two may
+pub one_wants : {E : Type 0} (r : Result Report E) (devices : List Kept) (c : Command) (k : ℕ) (d old : Kept) → k ≡ (devices_of c).0 → old ≡ get_or devices k d → k < length devices
+    → OnErr r ((m : ModelDevice) → Shows old m → MayWantMemory c m)
+    → OnErr r ((models : List ModelDevice) → AllZip Shows devices models → MayWantMemory c (device_at models (devices_of c).0))
+one_wants (Ok report) devices c k d old place is h wants = tt
+one_wants (Err refused) devices c k d old place is h wants = λ models shown.
+    let m = device_at models k in
+    let before : Shows old m = subst (λ (x : Kept). Shows x m) (sym is) (zip_at Shows devices models k d (opening (author k) All) shown h) in
+    subst (λ (j : ℕ). MayWantMemory c (device_at models j)) place (wants m before)
+
+pub two_want : {E : Type 0} (r : Result Report E) (devices : List Kept) (c : Command) (s : ℕ) → (devices_of c).1 ≡ Some s → OnErr r ((models : List ModelDevice) → AllZip Shows devices models → MayWantMemory c (device_at models (devices_of c).0))
+two_want (Ok report) devices c s two = tt
+two_want (Err refused) devices (command.New k p r) s two = cc
+two_want (Err refused) devices (command.Edit k p r) s two = cc
+two_want (Err refused) devices (command.Remove k p) s two = cc
+two_want (Err refused) devices (command.Pull t k) s two = λ models shown. tt
+two_want (Err refused) devices (command.Narrow k tree) s two = cc
+two_want (Err refused) devices (command.List k) s two = cc
+two_want (Err refused) devices (command.Conflicts k) s two = cc
+two_want (Err refused) devices (command.Knowledge k) s two = cc
+two_want (Err refused) devices (command.Knows k p v) s two = cc

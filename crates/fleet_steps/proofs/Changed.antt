@@ -67,3 +67,13 @@ pub change_err : {E : Type 0} (r : Result Report E) (done : Result (Version × P
     → OnErr done (new ≡ old) → OnErr r (done ≡ Err change.NoMemory) → OnErr r (new ≡ old)
 change_err (Ok report) done old new err none = tt
 change_err (Err e) done old new err none = subst (λ (x : Result (Version × Place) ChangeFault). OnErr x (new ≡ old)) none err
+
+not_both : {A : Type 0} (r : Result A ChangeFault) → r ≡ Err change.NoMemory → r ≡ Err change.NotHeld → ⊥
+not_both r wanting refused = cc
+
+-- a change that is refused wants no memory
+pub change_wants : {E : Type 0} (r : Result Report E) (done : Result (Version × Place) ChangeFault) (old : Kept) (p : ℕ)
+    → ((done ≡ Err change.NotHeld → ⊥) → (m : ModelDevice) → Shows old m → is_held m p ≡ true)
+    → OnErr r (done ≡ Err change.NoMemory) → OnErr r ((m : ModelDevice) → Shows old m → is_held m p ≡ true)
+change_wants (Ok report) done old p held none = tt
+change_wants (Err e) done old p held none = held (not_both done none)

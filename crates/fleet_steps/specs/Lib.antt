@@ -8,3 +8,4 @@ pub mod Between
 pub mod SoundExamples
 pub mod Issued
 pub mod Logged
+pub mod Wanting

@@ -1,5 +1,6 @@
 ghost use Rattle.std.specs.Prelude.{◌≡◌, true, ◌<◌, Some, None, Err, IfOk, IfSome, OnOk, OnErr};
-ghost use Rattle.photo_device.specs.Device.{ModelDevice, Shows};
+ghost use Rattle.photo_filter_rules.specs.Covers.{covers};
+ghost use Rattle.photo_device.specs.Device.{ModelDevice, Shows, is_held};
 ghost use Rattle.item_knowledge.specs.Fragments.{is_normal, knows};
 ghost use Rattle.photo_script.specs.Contents.{devices_of};
 ghost use Rattle.photo_script.specs.Reports.{KnowledgeOf, Knows, Tells, answer_of};
@@ -8,17 +9,19 @@ ghost use Rattle.photo_record.specs.declared.record.Record.TheVariants.{Removed}
 ghost use Rattle.photo_device.specs.declared.fault.ChangeFault.TheVariants.{NoMemory};
 ghost use Rattle.fleet_steps.specs.Changes.{told_of};
 ghost use Rattle.fleet_steps.specs.Between.{MayPull};
+ghost use Rattle.fleet_steps.specs.Wanting.{MayWantMemory};
 
 use item_knowledge::Knowledge;
 use photo_device::{ChangeFault, ConflictList, Device, NarrowFault, Place};
-use photo_filter_rules::Filter;
+use photo_filter_rules::{Filter, covers};
 use photo_pull::pull;
 use photo_record::{PicNo, Record};
 use photo_script::{Command, Report};
 use photo_version::Version;
 use std::alloc::{AllocError, Global};
 
-/// Runs a command that works on one device, and gives the report. After want of memory the device is as it was.
+/// Runs a command that works on one device, and gives the report. After want of memory the device is as it was; a change
+/// that is refused wants none, nor does the question whether a version is known.
 pub fn run_command(
     alloc: Global,
     command: &Command,
@@ -29,6 +32,7 @@ pub fn run_command(
     ensures device { OnOk result ((m : ModelDevice) → Shows device.old m → Shows device.new (effect command.now m None).first) }
     ensures report { IfOk result (λ report. (m : ModelDevice) → Shows device.old m → Tells (answer_of report) (effect command.now m None).report) }
     ensures err { OnErr result (device.new ≡ device.old) }
+    ensures memory { OnErr result ((m : ModelDevice) → Shows device.old m → MayWantMemory command.now m) }
 {
     match command {
         Command::New {
@@ -109,35 +113,41 @@ fn knowledge_of(device: u16, knowledge: &Knowledge) -> Result<Report, AllocError
     })
 }
 
-#[tactic(auto, using(crate::proofs::Changed::change_device, crate::proofs::Changed::change_report, crate::proofs::Changed::change_err))]
+#[tactic(auto, using(crate::proofs::Changed::change_device, crate::proofs::Changed::change_report, crate::proofs::Changed::change_err, crate::proofs::Changed::change_wants))]
 fn run_edit(device: &mut Device, picture: PicNo, content: &Record) -> Result<Report, AllocError>
     requires { device.old.counter < 4_294_967_295 }
     ensures device { OnOk result ((m : ModelDevice) → Shows device.old m → Shows device.new (changing m None picture content.now).first) }
     ensures report { IfOk result (λ report. (m : ModelDevice) → Shows device.old m → Tells (answer_of report) (changing m None picture content.now).report) }
     ensures err { OnErr result (device.new ≡ device.old) }
+    ensures memory { OnErr result ((m : ModelDevice) → Shows device.old m → is_held m picture ≡ true) }
 {
     report_on(device.edit(picture, content))
 }
 
-#[tactic(auto, using(crate::proofs::Changed::change_device, crate::proofs::Changed::change_report, crate::proofs::Changed::change_err))]
+#[tactic(auto, using(crate::proofs::Changed::change_device, crate::proofs::Changed::change_report, crate::proofs::Changed::change_err, crate::proofs::Changed::change_wants))]
 fn run_remove(device: &mut Device, picture: PicNo) -> Result<Report, AllocError>
     requires { device.old.counter < 4_294_967_295 }
     ensures device { OnOk result ((m : ModelDevice) → Shows device.old m → Shows device.new (changing m None picture Removed).first) }
     ensures report { IfOk result (λ report. (m : ModelDevice) → Shows device.old m → Tells (answer_of report) (changing m None picture Removed).report) }
     ensures err { OnErr result (device.new ≡ device.old) }
+    ensures memory { OnErr result ((m : ModelDevice) → Shows device.old m → is_held m picture ≡ true) }
 {
     report_on(device.remove(picture))
 }
 
-// The filter stays the script's, so the device gets a copy.
+// The filter stays the script's, so the device gets a copy, made once it is known to be narrower.
 fn run_narrow(device: &mut Device, filter: &Filter) -> Result<Report, AllocError>
     ensures device { OnOk result ((m : ModelDevice) → Shows device.old m → Shows device.new (narrowing m None filter.now).first) }
     ensures report { IfOk result (λ report. (m : ModelDevice) → Shows device.old m → Tells (answer_of report) (narrowing m None filter.now).report) }
     ensures err { OnErr result (device.new ≡ device.old) }
+    ensures memory { OnErr result (covers device.old.tree filter.now ≡ true) }
 {
+    if !covers(device.filter(), filter) {
+        return Ok(Report::NotNarrower);
+    }
     match device.narrow(filter.try_clone()?) {
         Ok(count) => Ok(Report::Narrowed(count)),
-        Err((_, NarrowFault::NotNarrower)) => Ok(Report::NotNarrower),
+        Err((_, NarrowFault::NotNarrower)) => unreachable!(),
         Err((_, NarrowFault::NoMemory)) => Err(AllocError),
     }
 }

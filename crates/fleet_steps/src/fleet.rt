@@ -2,10 +2,11 @@ ghost use Rattle.std.specs.Prelude.{◌≡◌, ◌≢◌, ◌<◌, List, length,
 ghost use Rattle.std.specs.List.{AllZip};
 ghost use Rattle.photo_device.specs.Device.{ModelDevice, Shows};
 ghost use Rattle.photo_pull.specs.Pull.{counts_of};
-ghost use Rattle.photo_script.specs.Contents.{IsWithin};
+ghost use Rattle.photo_script.specs.Contents.{IsWithin, devices_of};
 ghost use Rattle.photo_script.specs.Reports.{Pulled, Tells, answer_of};
 ghost use Rattle.photo_script.specs.Runs.{device_at};
 ghost use Rattle.fleet_steps.specs.Between.{AreReady, HaveRoom, after_pull, devices_after, effect_on};
+ghost use Rattle.fleet_steps.specs.Wanting.{MayWantMemory};
 
 use crate::command::{run_command, run_pull};
 use photo_device::Device;
@@ -13,7 +14,7 @@ use photo_script::{Command, Report, devices_of};
 use std::alloc::{AllocError, Global};
 
 /// Runs one command on the one or two of the devices that it works on, and gives the report. After want of memory all
-/// devices are as they were.
+/// devices are as they were; a change that is refused wants none.
 pub fn run_on(
     alloc: Global,
     command: &Command,
@@ -25,6 +26,7 @@ pub fn run_on(
     ensures devices { OnOk result ((models : List ModelDevice) → AllZip Shows devices.old models → AllZip Shows devices.new (devices_after models command.now)) }
     ensures report { IfOk result (λ report. (models : List ModelDevice) → AllZip Shows devices.old models → Tells (answer_of report) (effect_on models command.now).report) }
     ensures err { OnErr result (devices.new ≡ devices.old) }
+    ensures memory { OnErr result ((models : List ModelDevice) → AllZip Shows devices.old models → MayWantMemory command.now (device_at models (devices_of command.now).0)) }
 {
     match devices_of(command) {
         (device, None) => run_command(alloc, command, &mut devices[usize::from(device.value())]),

@@ -1,6 +1,7 @@
 -- What a command line asks for, as `clap` says of the program's commands.
-use Rattle.std.specs.Prelude.{◌≡◌, ◌≢◌, ◌⊎◌, ℕ, List, [], Option, Some, None, true, IfSome, codes, if◌then◌else◌, option_and_then}
+use Rattle.std.specs.Prelude.{◌≡◌, ◌≢◌, ◌⊎◌, ℕ, ◌<◌, List, [], length, Option, Some, None, true, IfSome, codes, if◌then◌else◌, option_and_then}
 use Rattle.std.specs.Str.{bytes_eq}
+use Rattle.std.specs.Io.KnownBytes.{Appends}
 use Rattle.clap.specs.Words.{App, Row, Rule, Text, Kinds, IsAmong, new_app, new_rule, with_rule, with_subcommand, subcommand_of, first_of, fault_of}
 use Rattle.clap.specs.declared.builder.action.ArgAction.TheVariants.{Set}
 use Rattle.clap.specs.declared.error.kind.ErrorKind.{ErrorKind}
@@ -45,6 +46,12 @@ AsksJob words (Plain file) = Asks words file.now
 -- the words ask for help
 abbrev pub AsksForHelp : List Text → Type 0
 AsksForHelp words = IsAmong DisplayHelp (errors_of words)
+
+-- some bytes were written behind what was there, at least one
+pub record AppendsSome (old new : Option (List ℕ)) : Type 0 where
+  pub bytes : List ℕ
+  pub some : 0 < length bytes
+  pub written : Appends old new bytes
 
 -- the words may be answered by an error of that kind
 abbrev pub IsRefusal : List Text → ErrorKind → Type 0

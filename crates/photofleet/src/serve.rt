@@ -1,11 +1,10 @@
 ghost use Rattle.std.specs.Prelude.{◌≡◌, ◌≢◌, ◌⊎◌, ℕ, List, Option, Some, None, true, map, Err, OnOk, IfOk, IfErr, IfSome, option_map, option_and_then};
-ghost use Rattle.std.specs.Io.KnownBytes.{Appends};
 ghost use Rattle.std.specs.declared.io.ErrorKind.TheVariants.{OutOfMemory};
 ghost use Rattle.clap.specs.Words.{app_of, kind_of, subcommand_rows_of};
 ghost use Rattle.photo_script.specs.declared.fault.ScriptFault as script;
 ghost use Rattle.photofleet.specs.Status.{is_status, status_of};
 ghost use Rattle.fleet_runner.specs.Outputs.{WritesOutput, WritesFirst, WritesFront};
-ghost use Rattle.photofleet.specs.CommandLine.{program, file_in, AsksForHelp, AreRefused, IsRefusal, Asks, AsksJob, OfFile};
+ghost use Rattle.photofleet.specs.CommandLine.{program, file_in, AppendsSome, AsksForHelp, AreRefused, IsRefusal, Asks, AsksJob, OfFile};
 ghost use Rattle.fleet_steps.specs.declared.fault.RunError.TheVariants.{NoMemory, Script, Write};
 
 use clap::error::ErrorKind;
@@ -120,8 +119,8 @@ pub enum Job<'a> {
 
 /// Does what a command line asks for, and gives the exit status. `words` begins with the program's name.
 ///
-/// - 0: the words asked for help, and some was written to `out`; or they named a file whose bytes are a script, and
-///   what its run prints was written, and nothing else.
+/// - 0: the words asked for help, and some was written to `out`, at least a byte; or they named a file whose bytes are a
+///   script, and what its run prints was written, and nothing else.
 /// - 2: the words were refused. Nothing was written to `out`.
 /// - 3: the words named a file that can't be opened or read, or that has no script. Nothing was written to `out`.
 /// - 4: memory was refused. Nothing was written to `out`, or the whole texts of some first reports.
@@ -137,7 +136,7 @@ pub fn serve<S: AsStr, O: Opener, W: Write, E: Write>(
     err: &mut E,
 ) -> u8
     ensures status { is_status result ≡ true }
-    ensures done { result ≡ 0 → (AsksForHelp (map S.text words.now) × ((help : List ℕ) × Appends (W.contents out.old) (W.contents out.new) help)) ⊎ OfFile (O.content opener.old) (map S.text words.now) (WritesOutput (W.contents out.old) (W.contents out.new)) }
+    ensures done { result ≡ 0 → (AsksForHelp (map S.text words.now) × AppendsSome (W.contents out.old) (W.contents out.new)) ⊎ OfFile (O.content opener.old) (map S.text words.now) (WritesOutput (W.contents out.old) (W.contents out.new)) }
     ensures refused { result ≡ 2 → AreRefused (map S.text words.now) }
     ensures file { result ≡ 3 → (file : List ℕ) × Asks (map S.text words.now) file }
     ensures nothing { (result ≡ 2) ⊎ (result ≡ 3) → out.new ≡ out.old }
@@ -222,7 +221,7 @@ fn refused<W: Write, E: Write>(alloc: Global, refusal: &clap::Error, out: &mut W
     ensures status { is_status result ≡ true }
     ensures of_words { result ≢ 3 }
     ensures help { (result ≡ 0) ⊎ (result ≡ 5) → kind_of refusal.now ≡ ErrorKind.DisplayHelp }
-    ensures done { result ≡ 0 → (help : List ℕ) × Appends (W.contents out.old) (W.contents out.new) help }
+    ensures done { result ≡ 0 → AppendsSome (W.contents out.old) (W.contents out.new) }
     ensures words { result ≡ 2 → (kind_of refusal.now ≢ ErrorKind.DisplayHelp) × (kind_of refusal.now ≢ ErrorKind.OutOfMemory) }
     ensures nothing { (result ≡ 2) ⊎ (result ≡ 4) → out.new ≡ out.old }
 {
@@ -235,13 +234,19 @@ fn refused<W: Write, E: Write>(alloc: Global, refusal: &clap::Error, out: &mut W
 
 fn help<W: Write, E: Write>(alloc: Global, help: &clap::Error, out: &mut W, err: &mut E) -> u8
     ensures status { (result ≡ 0) ⊎ ((result ≡ 4) ⊎ (result ≡ 5)) }
-    ensures done { result ≡ 0 → (help : List ℕ) × Appends (W.contents out.old) (W.contents out.new) help }
+    ensures done { result ≡ 0 → AppendsSome (W.contents out.old) (W.contents out.new) }
     ensures nothing { result ≡ 4 → out.new ≡ out.old }
 {
     let Ok(text) = help.to_string(alloc) else {
         return without_memory(err);
     };
-    if out.write_all(text.as_bytes()).is_err() || out.flush().is_err() {
+    // No contract of `clap` says that its help is not empty.
+    let shown = if text.is_empty() {
+        OVERVIEW
+    } else {
+        text.as_str()
+    };
+    if out.write_all(shown.as_bytes()).is_err() || out.flush().is_err() {
         return status_of(Err(RunError::Write), err);
     }
     DONE

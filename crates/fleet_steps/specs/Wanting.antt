@@ -1,0 +1,18 @@
+-- Where a command on one device may want memory: no command that is refused does, and no question whose answer is a yes or a
+-- no.
+use Rattle.std.specs.Prelude.{◌≡◌, true}
+use Rattle.photo_filter_rules.specs.Covers.{covers}
+use Rattle.photo_device.specs.Device.{ModelDevice, is_held}
+use Rattle.photo_script.specs.declared.command.Command.{Command}
+use Rattle.photo_script.specs.declared.command.Command.TheVariants as command
+
+abbrev pub MayWantMemory : Command → ModelDevice → Type 0
+MayWantMemory (command.New device picture content) m = Unit {0}
+MayWantMemory (command.Edit device picture content) m = is_held m picture ≡ true
+MayWantMemory (command.Remove device picture) m = is_held m picture ≡ true
+MayWantMemory (command.Pull target source) m = Unit {0}
+MayWantMemory (command.Narrow device tree) m = covers m.tree tree ≡ true
+MayWantMemory (command.List device) m = Unit {0}
+MayWantMemory (command.Conflicts device) m = Unit {0}
+MayWantMemory (command.Knowledge device) m = Unit {0}
+MayWantMemory (command.Knows device picture v) m = ⊥
