@@ -5,6 +5,8 @@ pub mod KnownLemmas
 pub mod About
 pub mod Changed
 pub mod Runs
+pub mod InOrder
+pub mod NumberOrder
 pub mod Members
 pub mod Superseding
 pub mod Traced

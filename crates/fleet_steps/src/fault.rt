@@ -7,6 +7,9 @@ pub enum RunError {
     /// Memory was refused.
     #[error("E1 NoMemory")]
     NoMemory,
+    /// The commands may not run in the order that was asked for.
+    #[error("E3 NotLawful")]
+    NotLawful,
     /// The source is no script, or could not be read.
     #[error("{0}")]
     Script(ScriptFault),

@@ -7,8 +7,10 @@ mod fleet;
 mod issue;
 mod issue_log;
 pub mod laws;
+mod ordered;
 mod outcome;
 mod plain;
+mod replaying;
 
 pub use command::{run_command, run_pull};
 pub use fault::RunError;
@@ -16,3 +18,4 @@ pub use fleet::run_on;
 pub use issue_log::IssueLog;
 pub use outcome::Outcome;
 pub use plain::run_plain;
+pub use replaying::replay;

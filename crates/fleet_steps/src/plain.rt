@@ -1,17 +1,13 @@
-ghost use Rattle.std.specs.Prelude.{◌≡◌, IfOk, IfErr, ◌^◌, ◌<◌, ◌≤◌, length};
-ghost use Rattle.std.specs.List.{AllZip};
+ghost use Rattle.std.specs.Prelude.{◌≡◌, ◌≤◌, IfOk, IfErr};
 ghost use Rattle.photo_device.specs.Held.{entries_of};
-ghost use Rattle.photo_device.specs.Device.{Shows};
-ghost use Rattle.photo_script.specs.Limits.{max_devices};
-ghost use Rattle.photo_script.specs.Runs.{opening_from, run};
+ghost use Rattle.photo_script.specs.Limits.{max_commands};
+ghost use Rattle.photo_script.specs.Runs.{numbers_to, run};
 ghost use Rattle.fleet_steps.specs.Outcomes.{IsOutcome};
 ghost use Rattle.fleet_steps.specs.declared.fault.RunError.TheVariants.{NoMemory};
 
-use crate::issue::run_and_log;
-use crate::{IssueLog, Outcome, RunError};
-use photo_device::Device;
-use photo_script::{Script, totals_of};
-use photo_version::Author;
+use crate::ordered::run_ordered;
+use crate::{Outcome, RunError};
+use photo_script::Script;
 use std::alloc::{AllocError, Global};
 
 /// Runs a script, command by command in the order of their numbers, so the log is in the order in which the versions were
@@ -21,49 +17,23 @@ pub fn run_plain(alloc: Global, script: &Script) -> Result<Outcome, RunError>
     ensures log { IfOk result (λ outcome. entries_of outcome.log ≡ (run script.now).log) }
     ensures err { IfErr result (λ e. e ≡ NoMemory) }
 {
-    match run(alloc, script) {
+    let Ok(numbers) = numbers_to(alloc, script.commands()) else {
+        return Err(RunError::NoMemory);
+    };
+    match run_ordered(alloc, script, numbers.as_slice()) {
         Ok(outcome) => Ok(outcome),
         Err(_) => Err(RunError::NoMemory),
     }
 }
 
-fn run(alloc: Global, script: &Script) -> Result<Outcome, AllocError>
-    ensures ok { IfOk result (IsOutcome script.now) }
-    ensures log { IfOk result (λ outcome. entries_of outcome.log ≡ (run script.now).log) }
+// The numbers from 1 to that one.
+fn numbers_to(alloc: Global, last: usize) -> Result<Vec<u32>, AllocError>
+    requires { last ≤ max_commands }
+    ensures { IfOk result (λ numbers. numbers.items ≡ numbers_to last) }
 {
-    let mut devices = opening_devices(alloc, script)?;
-    let mut reports = Vec::new(alloc);
-    let mut issued = Vec::new(alloc);
-    for place in 0..script.commands() {
-        let command = script.command(place as u32 + 1);
-        let report = run_and_log(alloc, command, devices.as_mut_slice(), &mut issued)?;
-        reports.push(report)?;
+    let mut numbers = Vec::new(alloc);
+    for place in 0..last {
+        numbers.push(place as u32 + 1)?;
     }
-    let totals = totals_of(script, reports.as_slice());
-    let log = IssueLog::new(alloc, issued)?;
-    Ok(Outcome {
-        devices,
-        reports,
-        totals,
-        log,
-    })
-}
-
-// The devices of a script, none of which has made or holds anything.
-fn opening_devices(alloc: Global, script: &Script) -> Result<Vec<Device>, AllocError>
-    ensures shown { IfOk result (λ devices. AllZip Shows devices.items (opening_from 0 script.now.filters)) }
-    ensures long { IfOk result (λ devices. length devices.items ≡ length script.now.names) }
-    ensures few { length script.now.names ≤ max_devices }
-    ensures filtered { length script.now.filters ≡ length script.now.names }
-{
-    let mut devices = Vec::new(alloc);
-    for place in 0..script.devices() {
-        let author = Author::new(place as u16);
-        let filter = script.filter(place as u16).try_clone()?;
-        let Ok(device) = Device::new(alloc, author, filter) else {
-            return Err(AllocError);
-        };
-        devices.push(device)?;
-    }
-    Ok(devices)
+    Ok(numbers)
 }

@@ -49,7 +49,7 @@ times_above (suc n) k h =
     let here : counts k (suc n) ≡ 0 = not_counts (suc n) k (omega arith) in
     times_append k (numbers_to n) (suc n ∷ []) ∙ ap (λ (t : ℕ). times k (numbers_to n) + t) (times_one k (suc n)) ∙ omega arith
 
-times_numbers : (n k : ℕ) → 0 < k → k ≤ n → times k (numbers_to n) ≡ 1
+pub times_numbers : (n k : ℕ) → 0 < k → k ≤ n → times k (numbers_to n) ≡ 1
 times_numbers zero k h few = absurd (omega arith)
 times_numbers (suc n) k h few = go (cases_order k (suc n)) (times_numbers n k h)
   where

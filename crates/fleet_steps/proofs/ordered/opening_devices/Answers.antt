@@ -3,7 +3,7 @@ use Rattle.photo_filter_text.specs.Tree.{Tree}
 use Rattle.photo_version.specs.Author.{author}
 use Rattle.photo_device.specs.Device.{Shows, opening}
 use Rattle.fleet_steps.proofs.Shown.{opening_more, opening_all, opening_long}
-use Rattle.fleet_steps.proofs.plain.opening_devices.Goals as goal
+use Rattle.fleet_steps.proofs.ordered.opening_devices.Goals as goal
 
 pub loop-place-preserved : goal.loop-place-preserved
 loop-place-preserved c =

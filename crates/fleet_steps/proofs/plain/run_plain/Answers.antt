@@ -1,0 +1,12 @@
+use Rattle.std.proofs.Common.{◌≡◌, ◌∙◌, List, ℕ, length, sym, subst, ap}
+use Rattle.photo_script.specs.Runs.{numbers_to, run_in_order}
+use Rattle.photo_device.specs.Held.{entries_of}
+use Rattle.photo_batcher.specs.Orders.{IsLawful}
+use Rattle.fleet_steps.proofs.NumberOrder.{in_number_order}
+use Rattle.fleet_steps.proofs.plain.run_plain.Goals as goal
+
+pub run_ordered-requires : goal.run_ordered-requires
+run_ordered-requires c =
+    let script = c.args.script.now in
+    let given : c.as_slice.result.now ≡ numbers_to (length script.commands) = c.as_slice.ensures.value ∙ c.in-Ok.ensures ∙ ap numbers_to c.commands.ensures.count in
+    subst (IsLawful script) (sym given) (in_number_order script)

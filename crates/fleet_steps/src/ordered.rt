@@ -1,0 +1,77 @@
+ghost use Rattle.std.specs.Prelude.{◌≡◌, ◌≤◌, length, replicate, IfOk};
+ghost use Rattle.std.specs.List.{AllZip};
+ghost use Rattle.photo_device.specs.Held.{entries_of};
+ghost use Rattle.photo_device.specs.Device.{Shows};
+ghost use Rattle.photo_script.specs.Limits.{max_devices};
+ghost use Rattle.photo_script.specs.Runs.{opening_from, run_in_order};
+ghost use Rattle.photo_script.specs.declared.report.Report.TheVariants.{NotHeld};
+ghost use Rattle.photo_batcher.specs.Orders.{IsLawful};
+ghost use Rattle.fleet_steps.specs.Outcomes.{IsOutcome};
+
+use crate::issue::run_and_log;
+use crate::{IssueLog, Outcome};
+use photo_batcher::laws::lawful_orders_are_the_run;
+use photo_device::Device;
+use photo_script::{Report, Script, totals_of};
+use photo_version::Author;
+use std::alloc::{AllocError, Global};
+
+/// Runs the commands of a script in a lawful order, one after another. The reports stand by the commands' numbers, and the
+/// log is in the order in which the versions were made.
+pub(crate) fn run_ordered(
+    alloc: Global,
+    script: &Script,
+    order: &[u32],
+) -> Result<Outcome, AllocError>
+    requires { IsLawful script.now order.now }
+    ensures ok { IfOk result (IsOutcome script.now) }
+    ensures log { IfOk result (λ outcome. entries_of outcome.log ≡ (run_in_order script.now order.now).log) }
+{
+    lawful_orders_are_the_run();
+    let mut devices = opening_devices(alloc, script)?;
+    let mut reports = no_reports(alloc, script.commands())?;
+    let mut issued = Vec::new(alloc);
+    for number in order {
+        let command = script.command(*number);
+        let report = run_and_log(alloc, command, devices.as_mut_slice(), &mut issued)?;
+        reports[*number as usize - 1] = report;
+    }
+    let totals = totals_of(script, reports.as_slice());
+    let log = IssueLog::new(alloc, issued)?;
+    Ok(Outcome {
+        devices,
+        reports,
+        totals,
+        log,
+    })
+}
+
+// A place for each report, all of which are written before the run ends.
+fn no_reports(alloc: Global, count: usize) -> Result<Vec<Report>, AllocError>
+    ensures { IfOk result (λ reports. reports.items ≡ replicate count NotHeld) }
+{
+    let mut reports = Vec::new(alloc);
+    for _ in 0..count {
+        reports.push(Report::NotHeld)?;
+    }
+    Ok(reports)
+}
+
+// The devices of a script, none of which has made or holds anything.
+fn opening_devices(alloc: Global, script: &Script) -> Result<Vec<Device>, AllocError>
+    ensures shown { IfOk result (λ devices. AllZip Shows devices.items (opening_from 0 script.now.filters)) }
+    ensures long { IfOk result (λ devices. length devices.items ≡ length script.now.names) }
+    ensures few { length script.now.names ≤ max_devices }
+    ensures filtered { length script.now.filters ≡ length script.now.names }
+{
+    let mut devices = Vec::new(alloc);
+    for place in 0..script.devices() {
+        let author = Author::new(place as u16);
+        let filter = script.filter(place as u16).try_clone()?;
+        let Ok(device) = Device::new(alloc, author, filter) else {
+            return Err(AllocError);
+        };
+        devices.push(device)?;
+    }
+    Ok(devices)
+}
