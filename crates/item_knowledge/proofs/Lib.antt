@@ -21,3 +21,4 @@ pub mod ToldLemmas
 pub mod HadLemmas
 pub mod PutLemmas
 pub mod NextLemmas
+pub mod CarryLemmas
