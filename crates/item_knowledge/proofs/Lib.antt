@@ -22,3 +22,4 @@ pub mod HadLemmas
 pub mod PutLemmas
 pub mod NextLemmas
 pub mod NormalLemmas
+pub mod CarryLemmas

@@ -10,3 +10,4 @@ pub mod Kept
 pub mod Told
 pub mod Laws
 pub mod Examples
+pub mod Carrying

@@ -1,10 +1,11 @@
-ghost use Rattle.std.specs.Prelude.{◌≡◌, ◌<◌, [], true, length, IfOk, OnOk};
-ghost use Rattle.item_knowledge.specs.Fragments.{entries_at};
+ghost use Rattle.std.specs.Prelude.{◌≡◌, ◌<◌, [], ◌∷◌, true, length, IfOk, OnOk};
+ghost use Rattle.item_knowledge.specs.Fragments.{entries_at, is_normal};
 ghost use Rattle.item_knowledge.specs.Gathering.{IsSide, IsUnion, pair_vector, groups_of, index_of, star_first};
 ghost use Rattle.item_knowledge.specs.Kept.{is_side_within};
 ghost use Rattle.item_knowledge.specs.Places.{Placed};
 ghost use Rattle.item_knowledge.specs.Rows.{pairs, IsRow, AreRows, fragments_of, rows_of, grouped};
 
+use crate::carry::carried;
 use crate::gather::{add, same_row};
 use crate::group::Group;
 use crate::joined::joined;
@@ -27,7 +28,7 @@ pub(crate) fn entries(rows: &Rows, number: usize) -> &[u64]
 
 /// What two fragments of the two sides give together, as a row of words: the row of the one side that holds the other's,
 /// or else their join, which is written into `room`.
-fn pair<'a>(
+pub(crate) fn pair<'a>(
     left: &'a Rows,
     left_index: &[(u64, usize)],
     right: &'a Rows,
@@ -57,6 +58,25 @@ fn pair<'a>(
     Ok(room)
 }
 
+/// The rows of a star alone, in place of those that were there, and room for so many fragments of so many words together.
+pub(crate) fn begin(
+    star: &[u64],
+    count: usize,
+    words: usize,
+    out: &mut Rows,
+) -> Result<(), AllocError>
+    ensures { OnOk result (out.new ≡ [] ∷ star.now ∷ []) }
+{
+    out.clear();
+    out.reserve(
+        count.saturating_mul(2).saturating_add(2),
+        words.saturating_add(star.len()),
+    )?;
+    out.place(&[])?;
+    out.place(star)?;
+    Ok(())
+}
+
 /// The rows of a star and of groups of so many pictures together, in place of those that were there.
 fn write(
     star: &[u64],
@@ -69,14 +89,8 @@ fn write(
     requires placed { Placed places.now groups.now }
     ensures { OnOk result (out.new ≡ rows_of (star_first (pairs star.now) (grouped groups.now places.now.rows))) }
 {
-    out.clear();
-    let words = star.len().saturating_add(pictures);
-    out.reserve(
-        groups.len().saturating_mul(2).saturating_add(2),
-        words.saturating_add(places.rows.words()),
-    )?;
-    out.place(&[])?;
-    out.place(star)?;
+    let words = pictures.saturating_add(places.rows.words());
+    begin(star, groups.len(), words, out)?;
     for k in 0..groups.len() {
         groups[k].place(out)?;
         out.place(places.rows.row(k))?;
@@ -151,11 +165,15 @@ pub(crate) fn union(
     requires right_rows { AreRows right.now }
     requires left { IsSide (fragments_of left.now) left_index.now }
     requires right { IsSide (fragments_of right.now) right_index.now }
+    requires normal { is_normal (fragments_of left.now) ≡ true }
     ensures rows { OnOk result (AreRows out.new) }
     ensures union { IfOk result (λ index. IsUnion (fragments_of left.now) left_index.now (fragments_of right.now) right_index.now (fragments_of out.new) index.items) }
 {
     let mut room = Vec::new(alloc);
     let star = pair(left, left_index, right, right_index, 0, 0, &mut room)?;
+    if let Some(index) = carried(alloc, left, left_index, right, right_index, star, out)? {
+        return Ok(index);
+    }
     let (listed, places, index) = groups(alloc, left, left_index, right, right_index, star)?;
     write(star, &listed, index.len(), &places, out)?;
     Ok(index)

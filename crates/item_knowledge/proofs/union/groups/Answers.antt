@@ -1,4 +1,4 @@
-use Rattle.std.proofs.Common.{rules, ◌≡◌, ◌<◌, ◌+◌, ◌++◌, ◌∷◌, [], true, false, Some, length, drop, sym, ap, ◌∙◌, arith}
+use Rattle.std.proofs.Common.{rules, ◌≡◌, ◌<◌, ◌+◌, ◌∷◌, true, false, Some, length, drop, sym, ap, ◌∙◌, arith}
 use Rattle.item_knowledge.specs.Entries.{same_entries}
 use Rattle.item_knowledge.specs.Gathering.{paired, pair_vector, groups_of, index_of, add, place}
 use Rattle.item_knowledge.specs.Rows.{fragments_of, grouped, pairs}

@@ -4,7 +4,7 @@ use Rattle.item_knowledge.proofs.union.write.Goals as goal
 
 pub loop-k-init : goal.loop-k-init
 loop-k-init c =
-    let rows : c.place-2.new.self ≡ [] ∷ c.args.star.now ∷ [] = search rules in
+    let rows : c.begin.new.out ≡ [] ∷ c.args.star.now ∷ [] = search rules in
     record {
       rest = ap (λ rs. rs ++ interleaved c.args.groups.now c.args.places.now.rows) rows
           ∙ (λ i. [] ∷ sym c.requires.star i ∷ interleaved_rows c.args.groups.now c.args.places.now.rows c.requires.placed.whole i);

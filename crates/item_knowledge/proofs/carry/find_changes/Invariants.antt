@@ -1,0 +1,5 @@
+use Rattle.item_knowledge.specs.Carrying.{IsFound}
+use Rattle.item_knowledge.proofs.carry.find_changes.Given as goal
+
+abbrev pub invariant-loop-i : goal.invariant-loop-i
+invariant-loop-i l = record { found : IsFound l.changed }

@@ -1,0 +1,40 @@
+-- Machinery of the proofs: a union in which fragments of the left are carried over, and other rows are among those changed.
+use Rattle.std.specs.Prelude.{◌≡◌, ℕ, ◌+◌, ◌<◌, ◌≤◌, ◌⊎◌, List, [], length, get_or, drop}
+use Rattle.item_knowledge.specs.declared.places.Places.{Places}
+use Rattle.item_knowledge.specs.Entries.{Entry}
+use Rattle.item_knowledge.specs.Fragments.{Fragment, entries_at}
+use Rattle.item_knowledge.specs.Places.{IsPlaced, is_new}
+use Rattle.item_knowledge.specs.Rows.{pairs, flat, fragments_of}
+
+-- rows that are found by their words
+abbrev pub IsFound : Places → Type 0
+IsFound places = IsPlaced places.heads.items places.before.items places.rows
+
+-- the vector of a fragment of the left, up to the one that came last, which no changed row has
+pub record FromLeft (fs : List Fragment) (changed : List (List ℕ)) (last : ℕ) (v : List Entry) : Type 0 where
+  pub number : ℕ
+  pub beside : 0 < number
+  pub came : number ≤ last
+  pub there : number < length fs
+  pub is : entries_at fs number ≡ v
+  pub new : is_new changed (flat v)
+
+-- a changed row, before the next one
+pub record FromChanged (changed : List (List ℕ)) (next : ℕ) (v : List Entry) : Type 0 where
+  pub place : ℕ
+  pub came : place < next
+  pub there : place < length changed
+  pub is : get_or changed place [] ≡ flat v
+
+abbrev pub Origin : List Fragment → List (List ℕ) → ℕ → ℕ → List Entry → Type 0
+Origin fs changed last next v = FromLeft fs changed last v ⊎ FromChanged changed next v
+
+-- a row is that of a later fragment of the left, which no changed row equals, or it is the next changed one
+abbrev pub HasCome : List Fragment → List (List ℕ) → List ℕ → ℕ → ℕ → ℕ → ℕ → Type 0
+HasCome fs changed row last next last_then next_then =
+    ((last < last_then) × (next_then ≡ next) × (last_then < length fs) × (entries_at fs last_then ≡ pairs row) × is_new changed row)
+    ⊎ ((last_then ≡ last) × (next_then ≡ next + 1) × (next < length changed) × (get_or changed next [] ≡ row))
+
+-- the groups of rows, without the star
+abbrev pub groups_in : List (List ℕ) → List Fragment
+groups_in rows = drop 1 (fragments_of rows)

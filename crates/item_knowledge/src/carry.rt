@@ -1,0 +1,182 @@
+// A union in which most fragments of the left stay as they are, each with one picture. What changes is found first; a row
+// that stays is compared with the few that changed, in place of all.
+ghost use Rattle.std.specs.Prelude.{◌≡◌, ◌<◌, [], ◌∷◌, true, length, IfOk, IfSome, OnOk};
+ghost use Rattle.item_knowledge.specs.Carrying.{IsFound, HasCome};
+ghost use Rattle.item_knowledge.specs.Fragments.{is_normal};
+ghost use Rattle.item_knowledge.specs.Gathering.{IsSide, paired, pair_vector, groups_of, index_of, star_first};
+ghost use Rattle.item_knowledge.specs.Rows.{pairs, IsRow, AreRows, fragments_of, rows_of};
+
+use crate::gather::same_row;
+use crate::paired::paired as paired_numbers;
+use crate::places::Places;
+use crate::rows::Rows;
+use crate::search::number_near;
+use crate::union::{begin, entries, pair};
+use std::alloc::{AllocError, Global};
+
+/// Where a row comes from that no earlier one equals: it is that of the left's fragment `a`, which lies behind those that
+/// came, and no changed row equals it; or it is the next changed row. Gives how far both came then.
+fn origin(
+    left: &Rows,
+    changed: &Places,
+    a: usize,
+    row: &[u64],
+    last: usize,
+    next: usize,
+) -> Option<(usize, usize)>
+    requires left { AreRows left.now }
+    requires changed { IsFound changed.now }
+    requires a { a < length (fragments_of left.now) }
+    requires row { IsRow row.now }
+    ensures { IfSome result (λ r. HasCome (fragments_of left.now) changed.now.rows row.now last next r.0 r.1) }
+{
+    let bucket = changed.bucket(row);
+    if let Some(k) = changed.find(bucket, row) {
+        if k != next {
+            return None;
+        }
+        return Some((last, k + 1));
+    }
+    if a <= last {
+        return None;
+    }
+    if !same_row(entries(left, a), row) {
+        return None;
+    }
+    Some((a, next))
+}
+
+/// Writes the rows of the union behind its star, and its index, as long as each row comes from the left or is the next
+/// changed one; whether that was so to the end.
+fn carry(
+    left: &Rows,
+    left_index: &[(u64, usize)],
+    right: &Rows,
+    right_index: &[(u64, usize)],
+    star: &[u64],
+    changed: &Places,
+    table: &[(u64, (usize, usize))],
+    room: &mut Vec<u64>,
+    index: &mut Vec<(u64, usize)>,
+    out: &mut Rows,
+) -> Result<bool, AllocError>
+    requires left_rows { AreRows left.now }
+    requires right_rows { AreRows right.now }
+    requires left { IsSide (fragments_of left.now) left_index.now }
+    requires right { IsSide (fragments_of right.now) right_index.now }
+    requires normal { is_normal (fragments_of left.now) ≡ true }
+    requires star_row { IsRow star.now }
+    requires star { pairs star.now ≡ pair_vector (fragments_of left.now) (fragments_of right.now) (0, 0) }
+    requires changed { IsFound changed.now }
+    requires table { table.now ≡ paired left_index.now right_index.now }
+    requires index { index.old.items ≡ [] }
+    requires out { out.old ≡ [] ∷ star.now ∷ [] }
+    ensures rows { IfOk result (λ whole. whole ≡ true → out.new ≡ rows_of (star_first (pairs star.now) (groups_of (fragments_of left.now) (fragments_of right.now) left_index.now right_index.now))) }
+    ensures index { IfOk result (λ whole. whole ≡ true → index.new.items ≡ index_of (fragments_of left.now) (fragments_of right.now) left_index.now right_index.now) }
+{
+    let mut last = 0;
+    let mut next = 0;
+    for i in 0..table.len() {
+        let (picture, (a, b)) = table[i];
+        let row = pair(left, left_index, right, right_index, a, b, room)?;
+        if same_row(star, row) {
+            continue;
+        }
+        let Some((came, changes)) = origin(left, changed, a, row, last, next) else {
+            return Ok(false);
+        };
+        out.place(&[picture])?;
+        out.place(row)?;
+        index.push((picture, index.len() + 1))?;
+        last = came;
+        next = changes;
+    }
+    Ok(true)
+}
+
+/// Finds the rows of the union that are not those of the left at the same picture, in the order of their pictures, each
+/// once.
+fn find_changes(
+    left: &Rows,
+    left_index: &[(u64, usize)],
+    right: &Rows,
+    right_index: &[(u64, usize)],
+    room: &mut Vec<u64>,
+    changed: &mut Places,
+) -> Result<(), AllocError>
+    requires left_rows { AreRows left.now }
+    requires right_rows { AreRows right.now }
+    requires left { IsSide (fragments_of left.now) left_index.now }
+    requires right { IsSide (fragments_of right.now) right_index.now }
+    requires changed { IsFound changed.old }
+    ensures { OnOk result (IsFound changed.new) }
+{
+    let mut hint = 0;
+    for i in 0..right_index.len() {
+        let (picture, b) = right_index[i];
+        let (a, near) = number_near(left_index, hint, picture);
+        hint = near;
+        let row = pair(left, left_index, right, right_index, a, b, room)?;
+        if same_row(entries(left, a), row) {
+            continue;
+        }
+        let bucket = changed.bucket(row);
+        if changed.find(bucket, row).is_some() {
+            continue;
+        }
+        changed.push(bucket, row)?;
+    }
+    Ok(())
+}
+
+/// Writes the normal form of what either side denotes, and gives its index, where the right lists few pictures and has
+/// nothing beyond the left's star, and no two pictures have the same vector then. It gives none where that isn't so, and
+/// what was written is of no use.
+pub(crate) fn carried(
+    alloc: Global,
+    left: &Rows,
+    left_index: &[(u64, usize)],
+    right: &Rows,
+    right_index: &[(u64, usize)],
+    star: &[u64],
+    out: &mut Rows,
+) -> Result<Option<Vec<(u64, usize)>>, AllocError>
+    requires left_rows { AreRows left.now }
+    requires right_rows { AreRows right.now }
+    requires left { IsSide (fragments_of left.now) left_index.now }
+    requires right { IsSide (fragments_of right.now) right_index.now }
+    requires normal { is_normal (fragments_of left.now) ≡ true }
+    requires star_row { IsRow star.now }
+    requires star { pairs star.now ≡ pair_vector (fragments_of left.now) (fragments_of right.now) (0, 0) }
+    ensures rows { IfOk result (λ found. IfSome found (λ _. out.new ≡ rows_of (star_first (pairs star.now) (groups_of (fragments_of left.now) (fragments_of right.now) left_index.now right_index.now)))) }
+    ensures index { IfOk result (λ found. IfSome found (λ index. index.items ≡ index_of (fragments_of left.now) (fragments_of right.now) left_index.now right_index.now)) }
+{
+    if right_index.len() > left_index.len() / 2 {
+        return Ok(None);
+    }
+    if !same_row(star, entries(left, 0)) {
+        return Ok(None);
+    }
+    let mut room = Vec::new(alloc);
+    let mut changed = Places::new(alloc, right_index.len(), right.words())?;
+    find_changes(left, left_index, right, right_index, &mut room, &mut changed)?;
+    let table = paired_numbers(alloc, left_index, right_index)?;
+    let mut index = Vec::with_capacity(alloc, table.len())?;
+    begin(star, table.len(), left.words().saturating_add(changed.rows.words()), out)?;
+    let whole = carry(
+        left,
+        left_index,
+        right,
+        right_index,
+        star,
+        &changed,
+        &table,
+        &mut room,
+        &mut index,
+        out,
+    )?;
+    if whole {
+        return Ok(Some(index));
+    }
+    Ok(None)
+}
