@@ -22,7 +22,7 @@
 //!   ```
 //!
 //! - Its caller calls it at `Brand`, as `count_all::<Brand, R>(rt, alloc, Blanks::new(), tally)`, and says in its
-//!   `Invariants.antt` what the names and the tally are (a caller with no type parameter writes no `g`):
+//!   `Invariants.antt` what the names and the tally are:
 //!
 //!   ```text
 //!   abbrev pub ghosts-count_all-B-Names : goal.ghosts-count_all-B-Names
