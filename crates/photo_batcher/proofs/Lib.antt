@@ -1,0 +1,13 @@
+pub mod Exchange
+pub mod Counting
+pub mod Reordered
+pub mod Lasts
+pub mod Chains
+pub mod Befores
+pub mod Turns
+pub mod Planned
+pub mod Checked
+pub mod Grouped
+pub mod Drafts
+pub mod OnePlan
+pub mod WorkedExamples

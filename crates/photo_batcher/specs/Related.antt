@@ -1,0 +1,31 @@
+-- Which commands of a script work on a common device.
+use Rattle.std.specs.Prelude.{◌≡◌, ℕ, ◌<◌, ◌≤◌, Bool, true, false, ◌||◌, ◌==◌, length, Option, Some, None}
+use Rattle.photo_script.specs.Contents.{Contents, command_of, devices_of}
+use Rattle.photo_script.specs.declared.command.Command.{Command}
+
+-- a command of the script has that number
+abbrev pub IsNumber : Contents → ℕ → Type 0
+IsNumber script n = (0 < n) × (n ≤ length script.commands)
+
+-- there is a device, and it is that one
+abbrev pub is_device : Option ℕ → ℕ → Bool
+is_device None device = false
+is_device (Some k) device = k == device
+
+-- the device is one of the one or two that a command works on
+abbrev pub works_on : Command → ℕ → Bool
+works_on c device = (devices_of c).0 == device || is_device (devices_of c).1 device
+
+-- there is a command of that number, and it works on the device
+abbrev pub uses : Contents → ℕ → ℕ → Bool
+uses script n device = by_cases (command_of script n)
+  where
+    by_cases : Option Command → Bool
+    by_cases None = false
+    by_cases (Some c) = works_on c device
+
+-- two commands work on a common device
+pub record AreRelated (script : Contents) (m n : ℕ) : Type 0 where
+  pub device : ℕ
+  pub first : uses script m device ≡ true
+  pub second : uses script n device ≡ true

@@ -1,0 +1,107 @@
+ghost use Rattle.std.specs.Prelude.{◌≡◌, ◌<◌, ◌≤◌, ◌-◌, ◌++◌, ℕ, length, IfSome, IfOk, Some, slice_get, slice_index};
+ghost use Rattle.photo_script.specs.Contents.{Contents};
+ghost use Rattle.photo_script.specs.Limits.{max_commands};
+ghost use Rattle.photo_batcher.specs.Batches.{IsFollowed, IsLongestChainTo};
+ghost use Rattle.photo_batcher.specs.Plans.{entry_of, batch_in, after_in, IsShaped, IsPlan};
+
+use std::alloc::{AllocError, Global};
+use std::marker::Model;
+
+/// The batches of a script: commands of one batch work on no common device, and may run in any order once the batches
+/// before theirs have run.
+///
+/// Of each command it has the batch, which is one less than the length of the longest chain of related commands that
+/// ends with it, and the command that it goes after in such a chain. Two commands are related where they work on a
+/// common device.
+#[derive(Debug, Drop)]
+pub struct Plan {
+    pub(crate) batches: Vec<u32>,
+    // What each command goes after, or 0.
+    pub(crate) afters: Vec<u32>,
+    pub(crate) members: Vec<Vec<u32>>,
+}
+
+impl Model for Plan {
+    ghost use Rattle.std.specs.Prelude.{map};
+    ghost use Rattle.photo_batcher.specs.Plans.{Planned, planned, IsShaped};
+    ghost use Rattle.photo_batcher.specs.Coding.{planned_code};
+
+    ghost Value = { Planned };
+
+    ghost coded = { planned_code };
+
+    ghost view = { λ p. planned p.batches.items p.afters.items (map (λ v. v.items) p.members.items) };
+
+    ghost invariant = { λ p. IsShaped (planned p.batches.items p.afters.items (map (λ v. v.items) p.members.items)) };
+}
+
+impl Plan {
+    /// How many commands are planned, at most 100,000.
+    pub fn commands(&self) -> u32
+        ensures count { result ≡ length self.now.batches }
+        ensures at_most { result ≤ max_commands }
+    {
+        self.batches.len() as u32
+    }
+
+    /// How many batches there are.
+    pub fn batches(&self) -> u32
+        ensures count { result ≡ length self.now.members }
+        ensures at_most { result ≤ max_commands }
+    {
+        self.members.len() as u32
+    }
+
+    /// The commands of a batch, from 0, in the order of their numbers.
+    pub fn members(&self, batch: u32) -> &[u32]
+        requires { batch < length self.now.members }
+        ensures { slice_get self.now.members batch ≡ Some result.now }
+    {
+        self.members[batch as usize].as_slice()
+    }
+
+    /// The batch of a command, by its number from 1.
+    pub fn batch_of(&self, number: u32) -> u32
+        requires first { 0 < number }
+        requires within { number ≤ length self.now.batches }
+        ensures { result ≡ batch_in self.now number }
+    {
+        self.batches[number as usize - 1]
+    }
+
+    /// The command that a command goes after: the greatest earlier one that is related to it and stands in the batch just
+    /// below. One of the first batch goes after none.
+    pub fn after(&self, number: u32) -> Option<u32>
+        requires first { 0 < number }
+        requires within { number ≤ length self.now.batches }
+        ensures after { result ≡ after_in self.now number }
+        ensures earlier { IfSome result (λ m. m < number) }
+        ensures some { IfSome result (λ m. 0 < m) }
+    {
+        match self.afters[number as usize - 1] {
+            0 => None,
+            before => Some(before),
+        }
+    }
+
+    /// The longest chain that ends with a command, as it is got by going back from command to command.
+    ///
+    /// It has one command of each batch up to that of the last one. In a script whose plan this is no longer chain ends
+    /// with the command.
+    pub fn chain_of(&self, alloc: Global, number: u32) -> Result<Vec<u32>, AllocError>
+        requires first { 0 < number }
+        requires within { number ≤ length self.now.batches }
+        ensures followed { IfOk result (λ chain. IsFollowed (after_in self.now) number chain.items) }
+        ensures longest { IfOk result (λ chain. (script : Contents) → IsPlan script self.now → IsLongestChainTo script number chain.items) }
+    {
+        let mut chain = Vec::new(alloc);
+        let mut last = number;
+        chain.push(last)?;
+        while let Some(before) = self.after(last) {
+            chain.push(before)?;
+            last = before;
+        }
+        chain.reverse();
+        Ok(chain)
+    }
+}

@@ -1,0 +1,15 @@
+//! Which commands of a script may run side by side, and in which orders its commands may run.
+#![tactic(auto)]
+
+mod batches;
+pub mod laws;
+mod order;
+mod places;
+mod planning;
+
+pub use batches::Plan;
+pub use order::lawful;
+pub use planning::plan;
+
+#[cfg(test)]
+mod tests;

@@ -1,0 +1,44 @@
+ghost use Rattle.std.specs.Prelude.{◌≡◌, ◌<◌, ◌↔◌, true, length, IfSome, IfOk};
+ghost use Rattle.photo_batcher.specs.Orders.{IsLawful};
+ghost use Rattle.photo_batcher.specs.Steps.{IsAbove};
+
+use crate::places::{note, places_of};
+use photo_script::Script;
+use std::alloc::{AllocError, Global};
+
+/// Whether the commands of a script may run in that order: it has each of their numbers once and no other, and of two
+/// commands that work on a common device the earlier one first.
+pub fn lawful(alloc: Global, script: &Script, order: &[u32]) -> Result<bool, AllocError>
+    ensures { IfOk result (λ answer. (answer ≡ true) ↔ IsLawful script.now order.now) }
+{
+    if order.len() != script.commands() {
+        return Ok(false);
+    }
+    let mut last = vec![in alloc; 0; script.devices()]?;
+    for number in order {
+        if *number == 0 || *number as usize > script.commands() {
+            return Ok(false);
+        }
+        let (first, second) = places_of(script, *number);
+        if !is_above(last.as_slice(), *number, first, second) {
+            return Ok(false);
+        }
+        note(last.as_mut_slice(), *number, first, second);
+    }
+    Ok(true)
+}
+
+// Whether the command comes later than the last ones on its devices.
+fn is_above(last: &[u32], number: u32, first: usize, second: Option<usize>) -> bool
+    requires first { first < length last.now }
+    requires second { IfSome second (λ k. k < length last.now) }
+    ensures { (result ≡ true) ↔ IsAbove last.now number first second }
+{
+    if last[first] >= number {
+        return false;
+    }
+    match second {
+        Some(place) => last[place] < number,
+        None => true,
+    }
+}

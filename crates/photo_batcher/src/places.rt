@@ -1,0 +1,43 @@
+//! The devices of a command, and the last command on each device.
+ghost use Rattle.std.specs.Prelude.{◌≡◌, ◌<◌, ◌≤◌, length, IfSome, slice_set};
+ghost use Rattle.photo_batcher.specs.Steps.{ArePlaces, read_second, with_place};
+
+use photo_script::{Script, devices_of};
+
+/// The places of the devices that the command of a number works on.
+pub(crate) fn places_of(script: &Script, number: u32) -> (usize, Option<usize>)
+    requires first { 0 < number }
+    requires within { number ≤ length script.now.commands }
+    ensures { ArePlaces script.now number result.0 result.1 }
+{
+    match devices_of(script.command(number)) {
+        (first, None) => (usize::from(first.value()), None),
+        (first, Some(second)) => (
+            usize::from(first.value()),
+            Some(usize::from(second.value())),
+        ),
+    }
+}
+
+/// The last command on a second device, if there is one.
+pub(crate) fn last_on(last: &[u32], second: Option<usize>) -> Option<u32>
+    requires { IfSome second (λ k. k < length last.now) }
+    ensures { result ≡ read_second last.now second }
+{
+    match second {
+        Some(place) => Some(last[place]),
+        None => None,
+    }
+}
+
+/// The command is the last one on its devices.
+pub(crate) fn note(last: &mut [u32], number: u32, first: usize, second: Option<usize>)
+    requires first { first < length last.old }
+    requires second { IfSome second (λ k. k < length last.old) }
+    ensures { last.new ≡ with_place second number (slice_set last.old first number) }
+{
+    last[first] = number;
+    if let Some(place) = second {
+        last[place] = number;
+    }
+}
