@@ -1,5 +1,5 @@
 // The ledger, which threads share.
-ghost use Rattle.std.specs.Prelude.{◌≡◌, ◌<◌, IfOk};
+ghost use Rattle.std.specs.Prelude.{◌≡◌, IfOk};
 ghost use Rattle.work_ledger.specs.Counting.{CanCount, counted};
 ghost use Rattle.work_ledger.specs.Ledgers.{all_parts};
 ghost use Rattle.work_ledger.specs.Stakes.{AtMost, IsCountable, Within, given, kinds_of, nothing_done, stake};
@@ -8,11 +8,10 @@ use crate::blanks::Blanks;
 use crate::kind::Kind;
 use crate::names::Books;
 use crate::page::Page;
-use crate::share::{NOTHING, Share};
+use crate::share::Share;
 use photo_script::{Tally, Totals};
 use std::alloc::{AllocError, Global};
-use std::sync::ledger::{Blank, Book};
-use std::sync::{Arc, Mutex, Wait, ledger};
+use std::sync::{Arc, Mutex, Wait};
 
 /// The book of all shares, behind a lock.
 ///
@@ -38,7 +37,7 @@ pub fn open<B: Books>(
     requires countable { IsCountable tally }
     ensures { IfOk result (λ r. r.1 ≡ stake all_parts tally nothing_done) }
 {
-    let (page, share) = blank_page(blanks, tally);
+    let (page, share) = blanks.open(tally);
     let ledger = Arc::new(
         alloc,
         Ledger {
@@ -46,66 +45,6 @@ pub fn open<B: Books>(
         },
     )?;
     Ok((ledger, share))
-}
-
-// A standard ledger's book at an amount, and the one share, which has it.
-fn opened_at<L: ledger::Ledger>(blank: Blank, amount: u64) -> (Book<L>, ledger::Share<L>)
-    requires name { blank.name ≡ L.name }
-    requires parts { (blank.parts ≡ L.parts) × (0 < L.parts) }
-    ensures book { result.0.total ≡ amount }
-    ensures share { (result.1.parts ≡ L.parts) × (result.1.amount ≡ amount) }
-{
-    let (mut book, mut share) = blank.open();
-    book.add(&mut share, amount);
-    (book, share)
-}
-
-// A book that stands at nothing, and the share of all parts.
-fn blank_page<B: Books>(blanks: Blanks, tally: Tally) -> (Page<B>, Share<B>)
-    requires names { blanks ≡ B.names }
-    requires tally { tally ≡ B.tally }
-    requires countable { IsCountable tally }
-    ensures { result.1 ≡ stake all_parts tally nothing_done }
-{
-    let Blanks {
-        changes_done,
-        changes_left,
-        pulls_done,
-        pulls_left,
-        reports_done,
-        reports_left,
-        moved,
-    } = blanks;
-    let (changes_done_book, changes_done) = opened_at(changes_done, 0);
-    let (changes_left_book, changes_left) = opened_at(changes_left, tally.changes);
-    let (pulls_done_book, pulls_done) = opened_at(pulls_done, 0);
-    let (pulls_left_book, pulls_left) = opened_at(pulls_left, tally.pulls);
-    let (reports_done_book, reports_done) = opened_at(reports_done, 0);
-    let (reports_left_book, reports_left) = opened_at(reports_left, tally.reports);
-    let (moved_book, moved) = opened_at(moved, 0);
-    let page = Page {
-        totals: NOTHING,
-        changes_done: changes_done_book,
-        changes_left: changes_left_book,
-        pulls_done: pulls_done_book,
-        pulls_left: pulls_left_book,
-        reports_done: reports_done_book,
-        reports_left: reports_left_book,
-        moved: moved_book,
-    };
-    let share = Share {
-        parts: 1000,
-        left: tally,
-        done: NOTHING,
-        changes_done,
-        changes_left,
-        pulls_done,
-        pulls_left,
-        reports_done,
-        reports_left,
-        moved,
-    };
-    (page, share)
 }
 
 impl<B: Books> Ledger<B> {
