@@ -29,3 +29,6 @@ pub mod Times
 pub mod Once
 pub mod FewMoved
 pub mod Issued
+pub mod Replayed
+pub mod MadeAlone
+pub mod InAnyOrder

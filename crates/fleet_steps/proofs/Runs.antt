@@ -46,12 +46,12 @@ with_second_all P (Some k) (Some d) models all here = all_set P models k d all h
 with_second_all P (Some k) None models all here = all
 with_second_all P None second models all here = all
 
-after_all : (P : ModelDevice → Type 0) (c : Command) (models : List ModelDevice) → AllByRecursion P models → P (effect_on models c).first → IfSome (effect_on models c).second P → AllByRecursion P (devices_after models c)
+pub after_all : (P : ModelDevice → Type 0) (c : Command) (models : List ModelDevice) → AllByRecursion P models → P (effect_on models c).first → IfSome (effect_on models c).second P → AllByRecursion P (devices_after models c)
 after_all P c models all first second =
     with_second_all P (devices_of c).1 (effect_on models c).second (set models (devices_of c).0 (effect_on models c).first) (all_set P models (devices_of c).0 (effect_on models c).first all first) second
 
 -- so do all devices the second one of a command
-second_all : (P : ModelDevice → Type 0) (models : List ModelDevice) (place : Option ℕ) (first count : ℕ) → count ≤ length models → AllByRecursion P models → IfSome place (λ k. (k < count) × (k ≡ first → ⊥)) → IfSome (option_map (device_at models) place) P
+pub second_all : (P : ModelDevice → Type 0) (models : List ModelDevice) (place : Option ℕ) (first count : ℕ) → count ≤ length models → AllByRecursion P models → IfSome place (λ k. (k < count) × (k ≡ first → ⊥)) → IfSome (option_map (device_at models) place) P
 second_all P models None first count long all within = tt
 second_all P models (Some k) first count long all within = let below = within.0 in all_at P models k (opening (author k) All) all (omega arith)
 
@@ -60,7 +60,7 @@ with_second_long (Some k) (Some d) models = length-set models k d
 with_second_long (Some k) None models = refl
 with_second_long None second models = refl
 
-long_after : (c : Command) (models : List ModelDevice) → length (devices_after models c) ≡ length models
+pub long_after : (c : Command) (models : List ModelDevice) → length (devices_after models c) ≡ length models
 long_after c models = with_second_long (devices_of c).1 (effect_on models c).second (set models (devices_of c).0 (effect_on models c).first) ∙ length-set models (devices_of c).0 (effect_on models c).first
 
 -- the device has made so many versions at most
@@ -77,7 +77,7 @@ narrowing_counts : (d : ModelDevice) (other : Option ModelDevice) (tree : Tree) 
 narrowing_counts d other tree n most =
     elim (covers d.tree tree) as (λ b. HasMadeAtMost (n + 1) (cond b (narrowed_effect d other tree) (telling d other (Exactly NotNarrower))).first) [ true ↦ omega arith | false ↦ omega arith ]
 
-effect_counts : (c : Command) (d : ModelDevice) (other : Option ModelDevice) (n : ℕ) → HasMadeAtMost n d → HasMadeAtMost (n + 1) (effect c d other).first
+pub effect_counts : (c : Command) (d : ModelDevice) (other : Option ModelDevice) (n : ℕ) → HasMadeAtMost n d → HasMadeAtMost (n + 1) (effect c d other).first
 effect_counts (command.New k picture content) d other n most = omega arith
 effect_counts (command.Edit k picture content) d other n most = changing_counts d other picture content n most
 effect_counts (command.Remove k picture) d other n most = changing_counts d other picture Removed n most
@@ -89,7 +89,7 @@ effect_counts (command.Conflicts k) d other n most = omega arith
 effect_counts (command.Knowledge k) d other n most = omega arith
 effect_counts (command.Knows k picture v) d other n most = omega arith
 
-effect_counts_second : (c : Command) (d : ModelDevice) (other : Option ModelDevice) (n : ℕ) → IfSome other (HasMadeAtMost n) → IfSome (effect c d other).second (HasMadeAtMost n)
+pub effect_counts_second : (c : Command) (d : ModelDevice) (other : Option ModelDevice) (n : ℕ) → IfSome other (HasMadeAtMost n) → IfSome (effect c d other).second (HasMadeAtMost n)
 effect_counts_second (command.New k picture content) d other n most = most
 effect_counts_second (command.Edit k picture content) d other n most = subst (λ o. IfSome o (HasMadeAtMost n)) (sym (changing_second d other picture content)) most
 effect_counts_second (command.Remove k picture) d other n most = subst (λ o. IfSome o (HasMadeAtMost n)) (sym (changing_second d other picture Removed)) most
@@ -101,7 +101,7 @@ effect_counts_second (command.Conflicts k) d other n most = most
 effect_counts_second (command.Knowledge k) d other n most = most
 effect_counts_second (command.Knows k picture v) d other n most = most
 
-one_more : (n : ℕ) (o : Option ModelDevice) → IfSome o (HasMadeAtMost n) → IfSome o (HasMadeAtMost (n + 1))
+pub one_more : (n : ℕ) (o : Option ModelDevice) → IfSome o (HasMadeAtMost n) → IfSome o (HasMadeAtMost (n + 1))
 one_more n None most = tt
 one_more n (Some m) most = omega arith
 
@@ -200,7 +200,7 @@ runs_none script devices reports log all long none none_logged =
     }
 
 -- the reports of a run that gave them all
-told_again : (models : List ModelReport) → flat_map option_to_list (map Some models) ≡ models
+pub told_again : (models : List ModelReport) → flat_map option_to_list (map Some models) ≡ models
 told_again [] = refl
 told_again (r ∷ rs) = ap (λ l. r ∷ l) (told_again rs)
 

@@ -7,3 +7,5 @@ pub mod Sound
 pub mod Between
 pub mod SoundExamples
 pub mod Issued
+pub mod Replays
+pub mod Moved

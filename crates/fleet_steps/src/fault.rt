@@ -7,6 +7,9 @@ pub enum RunError {
     /// Memory was refused.
     #[error("E1 NoMemory")]
     NoMemory,
+    /// A thread could not be started for a worker.
+    #[error("E2 NoWorker")]
+    NoWorker,
     /// The source is no script, or could not be read.
     #[error("{0}")]
     Script(ScriptFault),

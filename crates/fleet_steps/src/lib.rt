@@ -13,6 +13,7 @@ mod plain;
 pub use command::{run_command, run_pull};
 pub use fault::RunError;
 pub use fleet::run_on;
+pub use issue::made_on;
 pub use issue_log::IssueLog;
 pub use outcome::Outcome;
-pub use plain::run_plain;
+pub use plain::{opening_devices, run_plain};
