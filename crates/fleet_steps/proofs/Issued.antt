@@ -68,7 +68,7 @@ made_found d m p r shows =
     (λ g i same. only_new m p r g (subst (In g) all i) same)
 
 -- a command that makes a version
-making_issued : (d : Kept) (m : ModelDevice) (other : Option ModelDevice) (p : ℕ) (r : Record) (a : Answer) (v : Version) → a ≡ Made (next_version m) (new_place m r) → version_told a ≡ Some v → Shows d (made m p r)
+pub making_issued : (d : Kept) (m : ModelDevice) (other : Option ModelDevice) (p : ℕ) (r : Record) (a : Answer) (v : Version) → a ≡ Made (next_version m) (new_place m r) → version_told a ≡ Some v → Shows d (made m p r)
     → entries_of (option_to_list (find_version_of p v (d.store ++ d.out))) ≡ (making m other p r).entries
 making_issued d m other p r a v told is shows =
     let same : Some v ≡ Some (next_version m) = sym is ∙ ap version_told told in
@@ -116,7 +116,7 @@ issued_is devices models d0 (command.Conflicts k) a p v h of is shown told = cc
 issued_is devices models d0 (command.Knowledge k) a p v h of is shown told = cc
 issued_is devices models d0 (command.Knows k q w) a p v h of is shown told = cc
 
-narrowing_logs : (d : ModelDevice) (other : Option ModelDevice) (tree : Tree) → (narrowing d other tree).entries ≡ []
+pub narrowing_logs : (d : ModelDevice) (other : Option ModelDevice) (tree : Tree) → (narrowing d other tree).entries ≡ []
 narrowing_logs d other tree =
     elim (covers d.tree tree) as (λ b. (cond b (narrowed_effect d other tree) (telling d other (Exactly NotNarrower))).entries ≡ []) [ true ↦ refl | false ↦ refl ]
 
@@ -136,7 +136,7 @@ none_named models (command.Conflicts k) of = refl
 none_named models (command.Knowledge k) of = refl
 none_named models (command.Knows k q w) of = refl
 
-change_not_told : (m : ModelDevice) (q : ℕ) (r : Record) (a : Answer) → Tells a (changing m None q r).report → version_told a ≡ None → (changing m None q r).entries ≡ []
+pub change_not_told : (m : ModelDevice) (q : ℕ) (r : Record) (a : Answer) → Tells a (changing m None q r).report → version_told a ≡ None → (changing m None q r).entries ≡ []
 change_not_told m q r a told is = by_test (is_held m q) told
   where
     by_test : (b : Bool) → Tells a (cond b (making m None q r) (telling m None (Exactly NotHeld))).report → (cond b (making m None q r) (telling m None (Exactly NotHeld))).entries ≡ []

@@ -32,3 +32,5 @@ pub mod Times
 pub mod Once
 pub mod FewMoved
 pub mod Issued
+pub mod MadeAlone
+pub mod InAnyOrder

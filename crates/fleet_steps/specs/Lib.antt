@@ -9,3 +9,4 @@ pub mod SoundExamples
 pub mod Issued
 pub mod Logged
 pub mod Wanting
+pub mod Moved

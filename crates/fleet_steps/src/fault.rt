@@ -7,6 +7,9 @@ pub enum RunError {
     /// Memory was refused.
     #[error("E1 NoMemory")]
     NoMemory,
+    /// A thread could not be started for a worker.
+    #[error("E2 NoWorker")]
+    NoWorker,
     /// The commands may not run in the order that was asked for.
     #[error("E3 NotLawful")]
     NotLawful,

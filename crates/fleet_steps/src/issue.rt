@@ -1,10 +1,11 @@
-ghost use Rattle.std.specs.Prelude.{◌≡◌, ◌++◌, List, length, OnOk, IfOk};
+ghost use Rattle.std.specs.Prelude.{◌≡◌, ◌++◌, List, length, None, OnOk, IfOk};
 ghost use Rattle.std.specs.List.{AllZip};
 ghost use Rattle.std.specs.Option.{option_copied, option_to_list};
 ghost use Rattle.photo_device.specs.Held.{entries_of};
 ghost use Rattle.photo_device.specs.Device.{ModelDevice, Shows};
 ghost use Rattle.photo_script.specs.Contents.{IsWithin};
 ghost use Rattle.photo_script.specs.Reports.{Tells, answer_of};
+ghost use Rattle.photo_script.specs.Runs.{effect};
 ghost use Rattle.fleet_steps.specs.Between.{AreReady, HaveRoom, devices_after, effect_on};
 ghost use Rattle.fleet_steps.specs.Issued.{picture_of, version_told};
 
@@ -64,6 +65,16 @@ fn issued<'a>(command: &Command, report: &Report, devices: &'a [Device]) -> Opti
     let version = version_told(report)?;
     let (device, _) = devices_of(command);
     devices[usize::from(device.value())].held_of(picture, version)
+}
+
+/// What a device holds of the version that a command on it alone has just made, if the command has made one. The report is
+/// the one on the command.
+pub fn made_on<'a>(command: &Command, report: &Report, device: &'a Device) -> Option<&'a Held>
+    ensures { (m : ModelDevice) → Shows device.now (effect command.now m None).first → Tells (answer_of report.now) (effect command.now m None).report → entries_of (option_to_list (option_copied result)) ≡ (effect command.now m None).entries }
+{
+    let picture = picture_of(command)?;
+    let version = version_told(report)?;
+    device.held_of(picture, version)
 }
 
 // The picture of which a command makes a version.

@@ -57,8 +57,8 @@ fn no_reports(alloc: Global, count: usize) -> Result<Vec<Report>, AllocError>
     Ok(reports)
 }
 
-// The devices of a script, none of which has made or holds anything.
-fn opening_devices(alloc: Global, script: &Script) -> Result<Vec<Device>, AllocError>
+/// The devices of a script in order of declaration, none of which has made or holds anything.
+pub fn opening_devices(alloc: Global, script: &Script) -> Result<Vec<Device>, AllocError>
     ensures shown { IfOk result (λ devices. AllZip Shows devices.items (opening_from 0 script.now.filters)) }
     ensures long { IfOk result (λ devices. length devices.items ≡ length script.now.names) }
     ensures few { length script.now.names ≤ max_devices }

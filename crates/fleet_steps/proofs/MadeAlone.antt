@@ -1,0 +1,73 @@
+-- What a device holds of the version that a command on it alone has just made.
+use Rattle.std.proofs.Common.{◌≡◌, ℕ, Bool, true, false, cond, List, [], ◌++◌, refl, ap, subst}
+use Rattle.std.specs.Prelude.{Option, Some, None}
+use Rattle.std.specs.Option.{option_to_list}
+use Rattle.photo_record.specs.declared.record.Record.{Record}
+use Rattle.photo_record.specs.declared.record.Record.TheVariants.{Removed}
+use Rattle.photo_version.specs.Version.{Version}
+use Rattle.photo_device.specs.declared.held.Held.{Held}
+use Rattle.photo_device.specs.Held.{entries_of, find_version_of}
+use Rattle.photo_device.specs.Device.{Kept, ModelDevice, Shows, is_held, made}
+use Rattle.photo_script.specs.declared.command.Command.{Command}
+use Rattle.photo_script.specs.declared.command.Command.TheVariants as command
+use Rattle.photo_script.specs.Reports.{Answer, Exactly, NotHeld, Tells, answer_of}
+use Rattle.photo_script.specs.Runs.{effect, making, telling, changing, pulling}
+use Rattle.fleet_steps.specs.Issued.{picture_of, version_told}
+use Rattle.fleet_steps.proofs.Issued.{making_issued, change_not_told, narrowing_logs}
+use Rattle.fleet_steps.proofs.About.{changing_second, narrowing_second}
+
+abbrev IsFound : Kept → ℕ → Version → Command → ModelDevice → Type 0
+IsFound d p v c m = entries_of (option_to_list (find_version_of p v (d.store ++ d.out))) ≡ (effect c m None).entries
+
+either_made : (d : Kept) (m : ModelDevice) (q : ℕ) (r : Record) (a : Answer) (v : Version) (b : Bool)
+    → Shows d (cond b (making m None q r) (telling m None (Exactly NotHeld))).first → Tells a (cond b (making m None q r) (telling m None (Exactly NotHeld))).report → version_told a ≡ Some v
+    → entries_of (option_to_list (find_version_of q v (d.store ++ d.out))) ≡ (cond b (making m None q r) (telling m None (Exactly NotHeld))).entries
+either_made d m q r a v true shown told is = making_issued d m None q r a v told is shown
+either_made d m q r a v false shown told is = let not_made = ap version_told told in cc
+
+-- what the device holds of the version that a command is told to have made is what the log gains
+pub made_is : (d : Kept) (m : ModelDevice) (c : Command) (a : Answer) (p : ℕ) (v : Version) → picture_of c ≡ Some p → version_told a ≡ Some v → Shows d (effect c m None).first → Tells a (effect c m None).report → IsFound d p v c m
+made_is d m (command.New k q r) a p v of is shown told = let same : q ≡ p = cc in subst (λ x. entries_of (option_to_list (find_version_of x v (d.store ++ d.out))) ≡ (making m None q r).entries) same (making_issued d m None q r a v told is shown)
+made_is d m (command.Edit k q r) a p v of is shown told = let same : q ≡ p = cc in subst (λ x. entries_of (option_to_list (find_version_of x v (d.store ++ d.out))) ≡ (changing m None q r).entries) same (either_made d m q r a v (is_held m q) shown told is)
+made_is d m (command.Remove k q) a p v of is shown told = let same : q ≡ p = cc in subst (λ x. entries_of (option_to_list (find_version_of x v (d.store ++ d.out))) ≡ (changing m None q Removed).entries) same (either_made d m q Removed a v (is_held m q) shown told is)
+made_is d m (command.Pull t s) a p v of is shown told = cc
+made_is d m (command.Narrow k tree) a p v of is shown told = cc
+made_is d m (command.List k) a p v of is shown told = cc
+made_is d m (command.Conflicts k) a p v of is shown told = cc
+made_is d m (command.Knowledge k) a p v of is shown told = cc
+made_is d m (command.Knows k q w) a p v of is shown told = cc
+
+pub none_made : (m : ModelDevice) (c : Command) → picture_of c ≡ None → (effect c m None).entries ≡ []
+none_made m (command.New k q r) of = cc
+none_made m (command.Edit k q r) of = cc
+none_made m (command.Remove k q) of = cc
+none_made m (command.Pull t s) of = refl
+none_made m (command.Narrow k tree) of = narrowing_logs m None tree
+none_made m (command.List k) of = refl
+none_made m (command.Conflicts k) of = refl
+none_made m (command.Knowledge k) of = refl
+none_made m (command.Knows k q w) of = refl
+
+pub none_told : (m : ModelDevice) (c : Command) (a : Answer) → Tells a (effect c m None).report → version_told a ≡ None → (effect c m None).entries ≡ []
+none_told m (command.New k q r) a told is = let was_made = ap version_told told in cc
+none_told m (command.Edit k q r) a told is = change_not_told m q r a told is
+none_told m (command.Remove k q) a told is = change_not_told m q Removed a told is
+none_told m (command.Pull t s) a told is = refl
+none_told m (command.Narrow k tree) a told is = narrowing_logs m None tree
+none_told m (command.List k) a told is = refl
+none_told m (command.Conflicts k) a told is = refl
+none_told m (command.Knowledge k) a told is = refl
+none_told m (command.Knows k q w) a told is = refl
+
+-- a command on one device leaves no second one
+pub alone_second : (m : ModelDevice) (c : Command) → (effect c m None).second ≡ None
+alone_second m (command.New k q r) = refl
+alone_second m (command.Edit k q r) = changing_second m None q r
+alone_second m (command.Remove k q) = changing_second m None q Removed
+alone_second m (command.Pull t s) = refl
+alone_second m (command.Narrow k tree) = narrowing_second m None tree
+alone_second m (command.List k) = refl
+alone_second m (command.Conflicts k) = refl
+alone_second m (command.Knowledge k) = refl
+alone_second m (command.Knows k q w) = refl
+

@@ -1,0 +1,9 @@
+-- What a report may say that a pull moved.
+use Rattle.std.specs.Prelude.{◌≡◌, ◌≤◌}
+use Rattle.photo_pull.specs.declared.counts.PullCounts.{PullCounts}
+use Rattle.photo_script.specs.Limits.{max_commands}
+use Rattle.photo_script.specs.Reports.{ModelReport, Exactly, Pulled}
+
+-- if a pull is told, it took no more versions than there can be commands, and was handed no more
+abbrev pub MovesFew : ModelReport → Type 0
+MovesFew report = (counts : PullCounts) → report ≡ Exactly (Pulled counts) → (counts.taken ≤ max_commands) × (counts.handed ≤ max_commands)
