@@ -1,21 +1,22 @@
 -- The tests of an audit on what devices keep are the definitions' tests on the model devices that they show.
-use Rattle.std.proofs.Common.{◌≡◌, ℕ, zero, suc, ◌<◌, Bool, true, false, cond, not, ◌==◌, ◌&&◌, ◌||◌, List, [], ◌∷◌, ◌++◌, length, get_or, refl, sym, ap, ap₂, ◌∙◌, arith}
-use Rattle.std.specs.Prelude.{filter, map, Some, None}
+use Rattle.std.proofs.Common.{◌≡◌, ℕ, suc, ◌<◌, Bool, true, false, cond, not, ◌==◌, ◌&&◌, ◌||◌, List, [], ◌∷◌, ◌++◌, length, get_or, take, ◌+◌, ◌≤◌, refl, sym, subst, ap, ap₂, ◌∙◌, arith}
+use Rattle.std.specs.Prelude.{filter, Some, None}
 use Rattle.std.specs.List.{list_any, list_all, AllZip, AllByRecursion}
-use Rattle.std.proofs.lemmas.List.{map-append}
-use Rattle.std.proofs.lemmas.List.Folds.{list_all-map}
+use Rattle.std.proofs.lemmas.List.{map-append, take_all}
+use Rattle.std.proofs.lemmas.List.Folds.{list_all-map, list_all_at, list_all_more}
 use Rattle.photo_version.specs.Version.{Version, same_version}
 use Rattle.photo_version.specs.Vector.{denotes}
-use Rattle.photo_filter_text.specs.Tree.{Tree}
+use Rattle.photo_version.specs.Author.{author}
+use Rattle.photo_filter_text.specs.Tree.{All}
 use Rattle.photo_filter_rules.specs.Matching.{matches}
 use Rattle.item_knowledge.specs.Fragments.{knows}
 use Rattle.photo_device.specs.declared.held.Held.{Held}
 use Rattle.photo_device.specs.Entry.{Entry, superseded_by, is_among}
 use Rattle.photo_device.specs.Held.{entry_of, entries_of}
-use Rattle.photo_device.specs.Device.{Kept, ModelDevice, Shows, holds, knows_entry, selects}
-use Rattle.photo_device.specs.Own.{IsKnownBy}
+use Rattle.photo_device.specs.Device.{Kept, ModelDevice, Shows, holds, knows_entry, selects, opening}
 use Rattle.photo_pull.proofs.Members.{any_filter, any_map}
 use Rattle.fleet_steps.specs.Sound as sound
+use Rattle.fleet_steps.proofs.Zipped.{zip_at, zip_long}
 use Rattle.fleet_audit.specs.Current.{is_outdated}
 use Rattle.fleet_audit.specs.Audited.{has, is_placed, is_wanted, is_sound, is_held, is_kept}
 
@@ -93,11 +94,11 @@ module _ (log : List Held) (above : AllByRecursion IsAbove log) (d : Kept) (m : 
   sound_alike stored =
       ap₂ (λ s t. s && t)
       (all_alike IsAbove _ _ log above placed_alike
-        ∙ sym (list_all-map (λ (e : Entry). not (sound.is_wanted (entries_of log) m e) || is_among m.store e.version) entry_of log)
-        ∙ sym (all_filter (λ (e : Entry). is_among m.store e.version) (sound.is_wanted (entries_of log) m) (entries_of log)))
+      ∙ sym (list_all-map (λ (e : Entry). not (sound.is_wanted (entries_of log) m e) || is_among m.store e.version) entry_of log)
+      ∙ sym (all_filter (λ (e : Entry). is_among m.store e.version) (sound.is_wanted (entries_of log) m) (entries_of log)))
       (all_alike IsAbove _ _ d.store stored wanted_alike
-        ∙ sym (list_all-map (sound.is_wanted (entries_of log) m) entry_of d.store)
-        ∙ ap (list_all (sound.is_wanted (entries_of log) m)) shows.store)
+      ∙ sym (list_all-map (sound.is_wanted (entries_of log) m) entry_of d.store)
+      ∙ ap (list_all (sound.is_wanted (entries_of log) m)) shows.store)
 
 held_alike : (devices : List Kept) (models : List ModelDevice) → AllZip Shows devices models → (v : Version) → list_any (λ d. has (d.store ++ d.out) v) devices ≡ list_any (λ m. is_among (holds m) v) models
 held_alike [] [] all v = refl
@@ -117,3 +118,28 @@ kept_alike log devices models all =
     same_all : (p q : Held → Bool) (xs : List Held) → ((h : Held) → p h ≡ q h) → list_all p xs ≡ list_all q xs
     same_all p q [] same = refl
     same_all p q (x ∷ xs) same = ap₂ (λ s t. s && t) (same x) (same_all p q xs same)
+
+-- devices gone along
+module _ (log : List Entry) (devices : List Kept) (models : List ModelDevice) (all : AllZip Shows devices models) where
+  other : ModelDevice
+  other = opening (author 0) All
+
+  module _ (i : ℕ) (d : Kept) (l : i < length devices) (is : get_or devices i d ≡ d) (r : Bool) (told : (m : ModelDevice) → Shows d m → r ≡ sound.is_sound log m) where
+    within : i < length models
+    within = omega (arith, zip_long Shows devices models all)
+
+    here : r ≡ sound.is_sound log (get_or models i other)
+    here = told (get_or models i other) (subst (λ (x : Kept). Shows x (get_or models i other)) is (zip_at Shows devices models i d other all l))
+
+    pub one_fails : r ≡ false → (rest : Bool) → false ≡ (list_all (sound.is_sound log) models && rest)
+    one_fails failed rest = sym (ap (λ b. b && rest) (list_all_at (sound.is_sound log) models i other within (sym here ∙ failed)))
+
+    pub one_more : r ≡ true → list_all (sound.is_sound log) (take i models) ≡ true → list_all (sound.is_sound log) (take (i + 1) models) ≡ true
+    one_more passed before =
+        list_all_more (sound.is_sound log) models i other within
+        ∙ ap₂ (λ s t. s && t) before (sym here ∙ passed)
+
+  pub all_passed : (n : ℕ) → length devices ≤ n → list_all (sound.is_sound log) (take n models) ≡ true → (rest : Bool) → rest ≡ (list_all (sound.is_sound log) models && rest)
+  all_passed n enough passed rest =
+      let whole : take n models ≡ models = take_all n models (omega (arith, zip_long Shows devices models all)) in
+      ap (λ b. b && rest) (sym passed ∙ ap (list_all (sound.is_sound log)) whole)

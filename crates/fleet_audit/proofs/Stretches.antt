@@ -4,7 +4,7 @@ use Rattle.std.specs.Prelude.{filter, not, Option}
 use Rattle.std.specs.List.{list_any, AllAdjacentBelow}
 use Rattle.std.specs.List.Sorted.{IsPartitionedBy}
 use Rattle.std.proofs.lemmas.Bool.{and_parts, and_from, leb-true, le-leb, cases_eq, cases_Bool}
-use Rattle.std.proofs.lemmas.List.{get_or-take, length-take-le, take_all}
+use Rattle.std.proofs.lemmas.List.{get_or-take, length-take-le}
 use Rattle.std.proofs.lemmas.List.Folds.{list_any_more}
 use Rattle.photo_version.specs.Author.{same_author}
 use Rattle.photo_version.specs.Version.{Version}
@@ -94,6 +94,6 @@ pub last_current : (viewer : Option Kept) (log made stretch : List Held) (p coun
     → drop count stretch ≡ filter (λ h. not (is_outdated viewer log h)) stretch
 last_current viewer log made stretch p count is first of passed =
     rest_fails (is_outdated viewer log) stretch count (λ k d l.
-      passed k d l
-      ∙ of (λ w. counts viewer w && denotes w.made_with (get_or stretch k d).version)
-      ∙ ap (λ q. list_any (λ w. (w.picture == q) && (counts viewer w && denotes w.made_with (get_or stretch k d).version)) log) (sym (first d) ∙ sym (same_picture stretch is k d l)))
+    passed k d l
+    ∙ of (λ w. counts viewer w && denotes w.made_with (get_or stretch k d).version)
+    ∙ ap (λ q. list_any (λ w. (w.picture == q) && (counts viewer w && denotes w.made_with (get_or stretch k d).version)) log) (sym (first d) ∙ sym (same_picture stretch is k d l)))

@@ -1,4 +1,5 @@
-ghost use Rattle.std.specs.Prelude.{◌≡◌, ℕ, ◌<◌, ◌≤◌, not, nat_lt, length, filter, slice_index_or};
+ghost use Rattle.std.specs.Prelude.{◌≡◌, ℕ, ◌<◌, ◌≤◌, ◌==◌, ◌&&◌, Bool, not, nat_lt, length, filter, slice_index_or};
+ghost use Rattle.std.specs.List.{list_any};
 ghost use Rattle.std.specs.Option.{option_copied};
 ghost use Rattle.photo_version.specs.Vector.{denotes};
 ghost use Rattle.photo_device.specs.declared.held.Held as spec;
@@ -14,7 +15,14 @@ use photo_version::Vector;
 pub fn is_outdated(viewer: Option<&Device>, log: &IssueLog, held: &Held) -> bool
     ensures { result ≡ is_outdated (option_copied viewer.entry) log.now held.now }
 {
-    is_passed(viewer, log.of_picture(held.picture), held)
+    is_passed(viewer, of_same(log, held), held)
+}
+
+// The versions of the log that are of the same picture.
+fn of_same<'a>(log: &'a IssueLog, held: &Held) -> &'a [Held]
+    ensures { (test : spec.Held → Bool) → list_any test result.now ≡ list_any (λ h. (h.picture == held.now.picture) && test h) log.now }
+{
+    log.of_picture(held.picture)
 }
 
 fn is_passed(viewer: Option<&Device>, made: &[Held], held: &Held) -> bool
@@ -44,7 +52,7 @@ pub fn current_of<'a>(viewer: Option<&Device>, log: &IssueLog, stretch: &'a [Hel
     requires stretch { IsStretch stretch.now }
     ensures { result.now ≡ filter (λ h. not (is_outdated (option_copied viewer.entry) log.now h)) stretch.now }
 {
-    let made = log.of_picture(stretch[0].picture);
+    let made = of_same(log, &stretch[0]);
     let count = outdated(viewer, made, stretch);
     &stretch[count..]
 }
