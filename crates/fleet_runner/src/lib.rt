@@ -6,6 +6,7 @@ mod reports;
 mod source;
 mod stream;
 
+pub use fleet_audit::audit;
 pub use fleet_steps::{IssueLog, Outcome, RunError, run_command, run_on, run_plain, run_pull};
 pub use reports::write_reports;
 pub use source::read_source;

@@ -1,4 +1,6 @@
+mod audits;
 mod changes;
+mod drawn;
 mod filters;
 mod knowing;
 mod memory;

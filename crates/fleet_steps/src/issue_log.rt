@@ -1,5 +1,5 @@
-ghost use Rattle.std.specs.Prelude.{◌≡◌, IfOk};
-ghost use Rattle.fleet_steps.specs.Logged.{IsIndex};
+ghost use Rattle.std.specs.Prelude.{◌≡◌, ◌<◌, IfOk, OnOk};
+ghost use Rattle.fleet_steps.specs.Logged.{AreAbove, IsIndex};
 
 use photo_device::Held;
 use photo_record::PicNo;
@@ -93,11 +93,20 @@ fn by_picture(alloc: Global, issued: &[Held]) -> Result<Vec<Held>, AllocError>
 
 /// Copies of versions, which share what they carry. Its only error is want of memory.
 fn copies(alloc: Global, issued: &[Held]) -> Result<Vec<Held>, AllocError>
-    ensures { IfOk result (λ list. list.items ≡ issued.now) }
+    ensures list { IfOk result (λ list. list.items ≡ issued.now) }
+    ensures above { OnOk result (AreAbove issued.now) }
 {
     let mut list = Vec::with_capacity(alloc, issued.len())?;
     for held in issued {
-        list.push(held.try_clone()?)?;
+        list.push(copy_of(held)?)?;
     }
     Ok(list)
+}
+
+fn copy_of(held: &Held) -> Result<Held, AllocError>
+    ensures copy { IfOk result (λ copy. copy ≡ held.now) }
+    ensures above { 0 < held.now.picture }
+{
+    let _number = held.picture.value();
+    held.try_clone()
 }

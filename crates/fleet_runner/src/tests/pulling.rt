@@ -1,6 +1,6 @@
 use super::memory::runs;
 
-const PULLS: &[(&str, &str)] = &[
+pub const PULLS: &[(&str, &str)] = &[
     // two versions of one picture, neither of which was made with the other; then one that was made with both
     (
         "device a rating >= 1\ndevice b rating <= 4\nnew a 7 3 2024-01-01 -\npull b a\nedit a 7 4 2024-01-01 -\nedit b 7 2 2024-01-01 -\npull a b\nconflicts a\nknowledge a\nedit a 7 3 2024-01-01 -\npull b a\n",
@@ -50,7 +50,7 @@ fn pulls_between_devices(rt: HostRuntime) {
     }
 }
 
-const NARROWED: &[(&str, &str)] = &[
+pub const NARROWED: &[(&str, &str)] = &[
     // what the new filter does not select waits in the out, and a filter that is not covered is refused
     (
         "device a rating >= 2\nnew a 1 2 2024-01-01 -\nnew a 2 3 2024-01-01 -\nnew a 3 5 2024-01-01 -\nnarrow a rating >= 4\nlist a\nnarrow a rating >= 3\nedit a 9 5 2024-01-01 -\nremove a 1\n",

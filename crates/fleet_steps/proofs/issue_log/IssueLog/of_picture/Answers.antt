@@ -1,5 +1,4 @@
-use Rattle.std.proofs.Common.{◌≡◌, ◌≤◌, ltb, leb, rules, sym, subst, List}
-use Rattle.std.specs.List.Sorted.{IsPermutation, IsNonDecreasingBy}
+use Rattle.std.proofs.Common.{◌≤◌, ltb, leb, rules, sym}
 use Rattle.std.proofs.lemmas.List.Sorted.{IsPartitionedBy-ltb, IsPartitionedBy-leb, IsPartitionPoint-from_clause}
 use Rattle.photo_device.specs.declared.held.Held.{Held}
 use Rattle.photo_pull.proofs.Ranges.{no_turn, of_range}
