@@ -1,5 +1,5 @@
 -- A run of rows of another arena, placed row by row.
-use Rattle.std.proofs.Common.{◌≡◌, ℕ, zero, suc, ◌+◌, ◌-◌, ◌<◌, ◌≤◌, List, [], ◌∷◌, ◌++◌, length, take, drop, get_or, refl, sym, ap, ◌∙◌, arith, append-nil, append_assoc}
+use Rattle.std.proofs.Common.{◌≡◌, ℕ, zero, suc, ◌+◌, ◌-◌, ◌<◌, ◌≤◌, List, [], ◌∷◌, ◌++◌, length, take, drop, get_or, sym, ap, ◌∙◌, arith, append-nil, append_assoc}
 use Rattle.fragment_arena.specs.Arena.{run, words_in}
 
 pub run-next : (rows : List (List ℕ)) (from to : ℕ) → from < to → to ≤ length rows → run rows from to ≡ get_or rows from [] ∷ run rows (from + 1) to

@@ -145,6 +145,21 @@ impl FragmentArena {
         self.spans.len()
     }
 
+    /// An arena with equal rows, and nothing reserved. Its only error is want of memory.
+    pub fn try_clone(&self) -> Result<FragmentArena, AllocError>
+        ensures { IfOk result (λ copy. copy ≡ arena self.now.rows 0 0) }
+    {
+        let spans = self.spans.to_vec(self.alloc)?;
+        let blocks = blocks::copies_of(self.alloc, &self.blocks)?;
+        Ok(FragmentArena {
+            alloc: self.alloc,
+            blocks,
+            spans,
+            reserved_words: 0,
+            reserved_rows: 0,
+        })
+    }
+
     /// How many blocks it has, and how many words the last one has with those that are not written yet.
     #[cfg(test)]
     pub(crate) fn memory(&self) -> (usize, usize) {

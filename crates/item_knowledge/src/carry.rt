@@ -159,10 +159,22 @@ pub(crate) fn carried(
     }
     let mut room = Vec::new(alloc);
     let mut changed = Places::new(alloc, right_index.len(), right.words())?;
-    find_changes(left, left_index, right, right_index, &mut room, &mut changed)?;
+    find_changes(
+        left,
+        left_index,
+        right,
+        right_index,
+        &mut room,
+        &mut changed,
+    )?;
     let table = paired_numbers(alloc, left_index, right_index)?;
     let mut index = Vec::with_capacity(alloc, table.len())?;
-    begin(star, table.len(), left.words().saturating_add(changed.rows.words()), out)?;
+    begin(
+        star,
+        table.len(),
+        left.words().saturating_add(changed.rows.words()),
+        out,
+    )?;
     let whole = carry(
         left,
         left_index,

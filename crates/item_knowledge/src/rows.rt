@@ -138,10 +138,11 @@ impl Rows {
     pub(crate) fn try_clone(&self) -> Result<Rows, AllocError>
         ensures { IfOk result (λ copy. copy ≡ self.now) }
     {
-        let mut copy = Rows::with_room(self.alloc, self.rows(), self.words)?;
-        for i in 0..self.rows() {
-            copy.place(self.row(i))?;
-        }
-        Ok(copy)
+        let arena = self.arena.try_clone()?;
+        Ok(Rows {
+            alloc: self.alloc,
+            arena,
+            words: self.words,
+        })
     }
 }

@@ -1,4 +1,4 @@
-use Rattle.std.proofs.Common.{rules, ◌≡◌, ◌<◌, ◌≤◌, [], get_or, ap, ◌∙◌, arith}
+use Rattle.std.proofs.Common.{rules, ◌≡◌, ◌<◌, ◌≤◌, [], get_or, ap, ◌∙◌}
 use Rattle.fragment_arena.proofs.RunLemmas.{one-placed, room-next}
 use Rattle.fragment_arena.proofs.arena.FragmentArena.place_run.Goals as goal
 
