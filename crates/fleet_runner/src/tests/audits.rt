@@ -1,4 +1,8 @@
-ghost use Rattle.std.specs.Prelude.{◌≡◌};
+ghost use Rattle.std.specs.Prelude.{◌≡◌, ℕ, ◌<◌, IfSome, if◌then◌else◌};
+ghost use Rattle.photo_version.specs.Author as authors;
+ghost use Rattle.photo_version.specs.Version as versions;
+ghost use Rattle.item_knowledge.specs.Fragments.{knows};
+ghost use Rattle.item_knowledge.specs.Kept.{star_bound};
 
 use super::drawn::{COMMANDS, drawn};
 use super::pulling::{NARROWED, PULLS};
@@ -86,7 +90,10 @@ const REMOVAL: &str =
     "device cam all\ndevice srv all\ndevice tab all\ndevice frame rating >= 4\nnew cam 7 5 2024-01-01 -\npull srv cam\npull tab cam\npull frame srv\nremove cam 7\npull srv cam\npull frame srv\npull tab cam\nlist frame\nlist tab\n";
 
 // The knowledge of a camera that stopped after its first version.
-fn first_known(alloc: Global) -> Option<Knowledge> {
+fn first_known(alloc: Global) -> Option<Knowledge>
+    ensures star { IfSome result (λ k. (a : authors.Author) → star_bound k a ≡ (if authors.same_author (authors.author 0) a then 1 else 0)) }
+    ensures known { IfSome result (λ k. (p : ℕ) (v : versions.Version) → 0 < p → knows k p v ≡ versions.same_version (versions.version (authors.author 0) 1) v) }
+{
     let version = Version::new(Author::new(0), 1)?;
     let mut knowledge = Knowledge::new(alloc).ok()?;
     knowledge.learn_own(version).ok()?;
@@ -94,8 +101,11 @@ fn first_known(alloc: Global) -> Option<Knowledge> {
 }
 
 // A device that made and holds nothing, with that knowledge.
-fn knowing(device: Device, knowledge: Knowledge) -> Option<Device> {
-    if device.author() == Author::new(0) || device.counter() != 0 {
+fn knowing(device: Device, knowledge: Knowledge) -> Option<Device>
+    requires star { (a : authors.Author) → star_bound knowledge a ≡ (if authors.same_author (authors.author 0) a then 1 else 0) }
+    requires known { (p : ℕ) (v : versions.Version) → 0 < p → knows knowledge p v ≡ versions.same_version (versions.version (authors.author 0) 1) v }
+{
+    if device.author().value() == 0 || device.counter() != 0 {
         return None;
     }
     if !device.store().is_empty() || !device.out().is_empty() {
