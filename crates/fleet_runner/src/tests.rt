@@ -2,6 +2,7 @@ mod changes;
 mod filters;
 mod knowing;
 mod memory;
+mod orders;
 mod pulling;
 mod refusals;
 mod streams;
