@@ -4,3 +4,4 @@ pub mod Texts
 pub mod Streams
 pub mod Outputs
 pub mod WorkedExamples
+pub mod PlanLines

@@ -1,5 +1,5 @@
 -- What a stream has written where memory was refused.
-use Rattle.std.proofs.Common.{◌≡◌, ℕ, List, [], take, Ok}
+use Rattle.std.proofs.Common.{◌≡◌, ◌≢◌, inl, inr, ℕ, List, [], take, Ok}
 use Rattle.std.specs.Prelude.{Option, Some, None, IfSome}
 use Rattle.std.proofs.KnownBytes.{Appends-nil}
 use Rattle.photo_script.specs.Contents.{Contents}
@@ -8,7 +8,9 @@ use Rattle.photo_script.specs.Reports.{Answer, Tells}
 use Rattle.photo_script.specs.Runs.{run, reports_of}
 use Rattle.fleet_steps.specs.Outcomes.{AreRight}
 use Rattle.fleet_steps.specs.Laws.{AcceptedStaysSound}
-use Rattle.fleet_runner.specs.Outputs.{AppendsFirst, WritesFirst}
+use Rattle.fleet_steps.specs.declared.fault.RunError.{RunError}
+use Rattle.fleet_steps.specs.declared.fault.RunError.TheVariants.{NotLawful}
+use Rattle.fleet_runner.specs.Outputs.{AppendsFirst, WritesFirst, IsOfWriting}
 use Rattle.fleet_steps.proofs.Zipped.{zip_take}
 
 -- nothing
@@ -27,3 +29,8 @@ some_first law (Some bytes) old new script answers read right first = record {
   right = zip_take Tells first.count answers (reports_of (run script)) right;
   written = first.written;
 }
+
+-- an error of writing is none of an order
+pub not_of_order : (e : RunError) → IsOfWriting e → e ≢ NotLawful
+not_of_order e (inl memory) order = cc
+not_of_order e (inr write) order = cc

@@ -1,3 +1,4 @@
 pub mod Outputs
+pub mod PlanTexts
 pub mod Laws
 pub mod Examples

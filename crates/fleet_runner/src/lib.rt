@@ -2,12 +2,16 @@
 #![tactic(auto)]
 
 pub mod laws;
+mod plans;
 mod reports;
 mod source;
 mod stream;
 
 pub use fleet_audit::audit;
-pub use fleet_steps::{IssueLog, Outcome, RunError, run_command, run_on, run_plain, run_pull};
+pub use fleet_steps::{
+    IssueLog, Outcome, RunError, replay, run_command, run_on, run_plain, run_pull,
+};
+pub use plans::write_plan;
 pub use reports::write_reports;
 pub use source::read_source;
 pub use stream::plain_stream;

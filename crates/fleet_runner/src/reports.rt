@@ -61,7 +61,8 @@ fn write_texts<W: Write>(
     Ok(())
 }
 
-fn write_text<W: Write>(writer: &mut W, text: &[u8]) -> Result<(), RunError>
+// Writes a text, in whatever pieces the writer takes.
+pub(crate) fn write_text<W: Write>(writer: &mut W, text: &[u8]) -> Result<(), RunError>
     ensures written { OnOk result (Appends (W.contents writer.old) (W.contents writer.new) text.now) }
     ensures front { OnErr result (AppendsFront (W.contents writer.old) (W.contents writer.new) text.now) }
     ensures err { IfErr result (λ e. e ≡ Write) }

@@ -4,6 +4,7 @@ mod drawn;
 mod filters;
 mod knowing;
 mod memory;
+mod orders;
 mod pulling;
 mod refusals;
 mod streams;

@@ -20,7 +20,8 @@ fn logs(log: &IssueLog, wanted: &[(u32, u16, u32)]) -> bool {
     true
 }
 
-fn is_outcome(outcome: &Outcome, totals: [u64; 4], log: &[(u32, u16, u32)]) -> bool {
+/// Whether an outcome has those totals (changes, pulls, reports, moved) and that log.
+pub fn is_outcome(outcome: &Outcome, totals: [u64; 4], log: &[(u32, u16, u32)]) -> bool {
     let [changes, pulls, reports, moved] = totals;
     let wanted = Totals {
         changes,

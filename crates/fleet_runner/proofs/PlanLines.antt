@@ -1,0 +1,69 @@
+-- The lines of a plan, as they are written.
+use Rattle.std.proofs.Common.{◌≡◌, ℕ, suc, ◌+◌, ◌-◌, ◌<◌, List, [], ◌++◌, length, refl, sym, ap, ◌∙◌, subst, append_assoc, arith}
+use Rattle.std.proofs.lemmas.List.{append-nil}
+use Rattle.std.specs.Prelude.{Option, Result, Ok, Err, OnErr}
+use Rattle.std.specs.Io.KnownBytes.{Appends}
+use Rattle.std.proofs.KnownBytes.{Appends-trans}
+use Rattle.photo_batcher.specs.Plans.{Planned}
+use Rattle.fleet_runner.specs.Outputs.{AppendsFront}
+use Rattle.fleet_runner.specs.PlanTexts.{command_line, count_line, lines_from}
+use Rattle.fleet_runner.proofs.Known.{IsWrittenTo}
+
+-- a piece of what is left has been written
+piece_written : (before here after : Option (List ℕ)) (piece rest text : List ℕ) → IsWrittenTo before here (piece ++ rest) text → Appends here after piece → IsWrittenTo before after rest text
+piece_written before here after piece rest text so_far more = record {
+  front = so_far.front ++ piece;
+  whole = append_assoc so_far.front piece rest ∙ so_far.whole;
+  written = Appends-trans before here after so_far.front piece so_far.written more;
+}
+
+piece_cut : (before here after : Option (List ℕ)) (piece rest text : List ℕ) → IsWrittenTo before here (piece ++ rest) text → AppendsFront here after piece → AppendsFront before after text
+piece_cut before here after piece rest text so_far part = record {
+  front = so_far.front ++ part.front;
+  rest = part.rest ++ rest;
+  whole = append_assoc so_far.front part.front (part.rest ++ rest)
+      ∙ ap (λ l. so_far.front ++ l) (sym (append_assoc part.front part.rest rest) ∙ ap (λ l. l ++ rest) part.whole)
+      ∙ so_far.whole;
+  written = Appends-trans before here after so_far.front part.front so_far.written part.written;
+}
+
+-- nothing more is written
+pub left_off : (before here : Option (List ℕ)) (rest text : List ℕ) → IsWrittenTo before here rest text → AppendsFront before here text
+left_off before here rest text so_far = record { front = so_far.front; rest = rest; whole = so_far.whole; written = so_far.written }
+
+-- of so many commands the line of one is next
+next_line : (p : Planned) (place count : ℕ) → place < count → lines_from p (place + 1) (count - place) ≡ command_line p (place + 1) ++ lines_from p ((place + 1) + 1) (count - (place + 1))
+next_line p place count h = let left : count - place ≡ suc (count - (place + 1)) = omega arith in ap (lines_from p (place + 1)) left
+
+pub line_written : (before here after : Option (List ℕ)) (p : Planned) (place count : ℕ) (line text : List ℕ) → place < count → line ≡ command_line p (place + 1)
+    → IsWrittenTo before here (lines_from p (place + 1) (count - place)) text → Appends here after line → IsWrittenTo before after (lines_from p ((place + 1) + 1) (count - (place + 1))) text
+line_written before here after p place count line text h is so_far more =
+    piece_written before here after (command_line p (place + 1)) (lines_from p ((place + 1) + 1) (count - (place + 1))) text
+    (subst (λ (l : List ℕ). IsWrittenTo before here l text) (next_line p place count h) so_far) (subst (Appends here after) is more)
+
+pub line_cut : (before here after : Option (List ℕ)) (p : Planned) (place count : ℕ) (line text : List ℕ) → place < count → line ≡ command_line p (place + 1)
+    → IsWrittenTo before here (lines_from p (place + 1) (count - place)) text → AppendsFront here after line → AppendsFront before after text
+line_cut before here after p place count line text h is so_far part =
+    piece_cut before here after (command_line p (place + 1)) (lines_from p ((place + 1) + 1) (count - (place + 1))) text
+    (subst (λ (l : List ℕ). IsWrittenTo before here l text) (next_line p place count h) so_far) (subst (AppendsFront here after) is part)
+
+-- after the last command only the last line is left
+last_line : (p : Planned) (place count : ℕ) → place ≡ count → lines_from p (place + 1) (count - place) ≡ count_line p
+last_line p place count all = let none : count - place ≡ 0 = omega arith in ap (lines_from p (place + 1)) none
+
+pub last_written : (before here after : Option (List ℕ)) (p : Planned) (place count : ℕ) (line text : List ℕ) → place ≡ count → line ≡ count_line p
+    → IsWrittenTo before here (lines_from p (place + 1) (count - place)) text → Appends here after line → Appends before after text
+last_written before here after p place count line text all is so_far more =
+    let to = subst (λ (l : List ℕ). IsWrittenTo before here l text) (last_line p place count all) so_far in
+    subst (Appends before after) to.whole (Appends-trans before here after to.front (count_line p) to.written (subst (Appends here after) is more))
+
+pub last_cut : (before here after : Option (List ℕ)) (p : Planned) (place count : ℕ) (line text : List ℕ) → place ≡ count → line ≡ count_line p
+    → IsWrittenTo before here (lines_from p (place + 1) (count - place)) text → AppendsFront here after line → AppendsFront before after text
+last_cut before here after p place count line text all is so_far part =
+    piece_cut before here after (count_line p) [] text
+    (subst (λ (l : List ℕ). IsWrittenTo before here l text) (last_line p place count all ∙ sym (append-nil (count_line p))) so_far) (subst (AppendsFront here after) is part)
+
+-- what a failed call leaves
+pub on_err : {T E : Type 0} (r : Result T E) (P : Type 0) → P → OnErr r P
+on_err (Ok x) P is = tt
+on_err (Err e) P is = is
