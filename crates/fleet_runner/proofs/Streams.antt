@@ -9,8 +9,8 @@ use Rattle.photo_script.specs.Runs.{run, reports_of}
 use Rattle.fleet_steps.specs.Outcomes.{AreRight}
 use Rattle.fleet_steps.specs.Laws.{AcceptedStaysSound}
 use Rattle.fleet_steps.specs.declared.fault.RunError.{RunError}
-use Rattle.fleet_steps.specs.declared.fault.RunError.TheVariants.{NotLawful}
-use Rattle.fleet_runner.specs.Outputs.{AppendsFirst, WritesFirst, IsOfWriting}
+use Rattle.fleet_steps.specs.declared.fault.RunError.TheVariants.{NotLawful, NoWorker}
+use Rattle.fleet_runner.specs.Outputs.{AppendsFirst, WritesFirst, IsOfWriting, IsOfPlainRun}
 use Rattle.fleet_steps.proofs.Zipped.{zip_take}
 
 -- nothing
@@ -30,7 +30,7 @@ some_first law (Some bytes) old new script answers read right first = record {
   written = first.written;
 }
 
--- an error of writing is none of an order
-pub not_of_order : (e : RunError) → IsOfWriting e → e ≢ NotLawful
-not_of_order e (inl memory) order = cc
-not_of_order e (inr write) order = cc
+-- an error of writing is none of an order or of a worker
+pub of_plain_run : (e : RunError) → IsOfWriting e → IsOfPlainRun e
+of_plain_run e (inl memory) = (λ order. cc, λ worker. cc)
+of_plain_run e (inr write) = (λ order. cc, λ worker. cc)

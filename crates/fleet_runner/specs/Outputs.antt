@@ -1,5 +1,5 @@
 -- What a stream takes from its source and writes.
-use Rattle.std.specs.Prelude.{◌≡◌, ◌⊎◌, ℕ, ◌≤◌, List, ◌++◌, length, take, Option, Ok}
+use Rattle.std.specs.Prelude.{◌≡◌, ◌≢◌, ◌⊎◌, ℕ, ◌≤◌, List, ◌++◌, length, take, Option, Ok}
 use Rattle.std.specs.List.{AllZip}
 use Rattle.std.specs.Io.KnownBytes.{Appends, Consumes}
 use Rattle.photo_script.specs.Contents.{Contents}
@@ -7,7 +7,7 @@ use Rattle.photo_script.specs.Reading.{script_of}
 use Rattle.photo_script.specs.Reports.{Answer, Tells, texts_from}
 use Rattle.photo_script.specs.Runs.{run, reports_of}
 use Rattle.fleet_steps.specs.declared.fault.RunError.{RunError}
-use Rattle.fleet_steps.specs.declared.fault.RunError.TheVariants.{NoMemory, Write}
+use Rattle.fleet_steps.specs.declared.fault.RunError.TheVariants.{NoMemory, NoWorker, NotLawful, Write}
 use Rattle.fleet_steps.specs.Outcomes.{AreRight}
 use Rattle.fleet_steps.specs.Sound.{IsSoundThroughout}
 
@@ -62,6 +62,10 @@ pub record WritesFront (old new : Option (List ℕ)) (input : List ℕ) : Type 0
   pub output : List ℕ
   pub printed : IsOutput script output
   pub written : AppendsFront old new output
+
+-- the error is one that a run command by command can have: no order was asked for, and no worker
+abbrev pub IsOfPlainRun : RunError → Type 0
+IsOfPlainRun e = (e ≢ NotLawful) × (e ≢ NoWorker)
 
 -- the error is one of writing: it is not the script's
 abbrev pub IsOfWriting : RunError → Type 0

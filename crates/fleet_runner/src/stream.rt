@@ -3,8 +3,8 @@ ghost use Rattle.photo_script.specs.Limits.{max_text_bytes};
 ghost use Rattle.photo_script.specs.Reading.{script_of};
 ghost use Rattle.photo_script.specs.declared.fault.ScriptFault.{ScriptFault};
 ghost use Rattle.photo_script.specs.declared.fault.ScriptFault.TheVariants as script;
-ghost use Rattle.fleet_steps.specs.declared.fault.RunError.TheVariants.{NoMemory, NotLawful, Script, Write};
-ghost use Rattle.fleet_runner.specs.Outputs.{TakesAtMost, WritesOutput, WritesFirst, WritesFront};
+ghost use Rattle.fleet_steps.specs.declared.fault.RunError.TheVariants.{NoMemory, Script, Write};
+ghost use Rattle.fleet_runner.specs.Outputs.{IsOfPlainRun, TakesAtMost, WritesOutput, WritesFirst, WritesFront};
 
 use crate::{RunError, read_source, run_plain, write_reports};
 use fleet_steps::laws::accepted_stays_sound;
@@ -28,7 +28,7 @@ pub fn plain_stream<R: Read, W: Write>(
     ensures refused { (fault : ScriptFault) → result ≡ Err (Script fault) → fault ≢ script.Read → fault ≢ script.NoMemory → IfSome (R.remaining reader.old) (λ input. script_of input ≡ Err fault) }
     ensures nothing { (fault : ScriptFault) → result ≡ Err (Script fault) → writer.new ≡ writer.old }
     ensures taken { TakesAtMost (R.remaining reader.old) (R.remaining reader.new) (max_text_bytes + 1) }
-    ensures order { IfErr result (λ e. e ≢ NotLawful) }
+    ensures err { IfErr result IsOfPlainRun }
 {
     // The law that the contract's 'sound' rests on. It does nothing.
     accepted_stays_sound();

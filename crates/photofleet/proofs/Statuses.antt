@@ -2,7 +2,8 @@
 use Rattle.std.proofs.Common.{◌≡◌, ◌≢◌, Result, Ok, Err, refl, arith}
 use Rattle.std.specs.Prelude.{OnOk, IfErr}
 use Rattle.fleet_steps.specs.declared.fault.RunError.{RunError}
-use Rattle.fleet_steps.specs.declared.fault.RunError.TheVariants.{NoMemory, NotLawful, Script, Write}
+use Rattle.fleet_steps.specs.declared.fault.RunError.TheVariants.{NoMemory, NoWorker, NotLawful, Script, Write}
+use Rattle.fleet_runner.specs.Outputs.{IsOfPlainRun}
 use Rattle.photofleet.specs.Status.{status_of}
 
 pub on_done : {A : Type 0} (done : Result A RunError) (P : Type 0) → OnOk done P → status_of done ≡ 0 → P
@@ -10,13 +11,15 @@ on_done (Ok x) P p e = p
 on_done (Err (Script fault)) P p e = absurd (omega arith)
 on_done (Err NoMemory) P p e = absurd (omega arith)
 on_done (Err NotLawful) P p e = absurd (omega arith)
+on_done (Err NoWorker) P p e = absurd (omega arith)
 on_done (Err Write) P p e = absurd (omega arith)
 
-pub on_no_run : {A : Type 0} (done : Result A RunError) → IfErr done (λ e. e ≢ NotLawful) → status_of done ≡ 4 → done ≡ Err NoMemory
+pub on_no_run : {A : Type 0} (done : Result A RunError) → IfErr done IsOfPlainRun → status_of done ≡ 4 → done ≡ Err NoMemory
 on_no_run (Ok x) other e = absurd (omega arith)
 on_no_run (Err (Script fault)) other e = absurd (omega arith)
 on_no_run (Err NoMemory) other e = refl
-on_no_run (Err NotLawful) other e = absurd (other refl)
+on_no_run (Err NotLawful) other e = absurd (other.0 refl)
+on_no_run (Err NoWorker) other e = absurd (other.1 refl)
 on_no_run (Err Write) other e = absurd (omega arith)
 
 pub on_bad_output : {A : Type 0} (done : Result A RunError) → status_of done ≡ 5 → done ≡ Err Write
@@ -24,4 +27,5 @@ on_bad_output (Ok x) e = absurd (omega arith)
 on_bad_output (Err (Script fault)) e = absurd (omega arith)
 on_bad_output (Err NoMemory) e = absurd (omega arith)
 on_bad_output (Err NotLawful) e = absurd (omega arith)
+on_bad_output (Err NoWorker) e = absurd (omega arith)
 on_bad_output (Err Write) e = refl

@@ -1,7 +1,7 @@
 -- Exit statuses.
 use Rattle.std.specs.Prelude.{ℕ, Bool, ◌||◌, ◌==◌, Result, Ok, Err}
 use Rattle.fleet_steps.specs.declared.fault.RunError.{RunError}
-use Rattle.fleet_steps.specs.declared.fault.RunError.TheVariants.{NoMemory, NotLawful, Script, Write}
+use Rattle.fleet_steps.specs.declared.fault.RunError.TheVariants.{NoMemory, NoWorker, NotLawful, Script, Write}
 
 -- done, bad words, no script, no run, or no output
 abbrev pub is_status : ℕ → Bool
@@ -12,5 +12,6 @@ abbrev pub status_of : {A : Type 0} → Result A RunError → ℕ
 status_of (Ok done) = 0
 status_of (Err (Script fault)) = 3
 status_of (Err NoMemory) = 4
+status_of (Err NoWorker) = 4
 status_of (Err NotLawful) = 4
 status_of (Err Write) = 5

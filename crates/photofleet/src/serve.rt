@@ -3,9 +3,9 @@ ghost use Rattle.std.specs.declared.io.ErrorKind.TheVariants.{OutOfMemory};
 ghost use Rattle.clap.specs.Words.{app_of, kind_of, subcommand_rows_of};
 ghost use Rattle.photo_script.specs.declared.fault.ScriptFault as script;
 ghost use Rattle.photofleet.specs.Status.{is_status, status_of};
-ghost use Rattle.fleet_runner.specs.Outputs.{WritesOutput, WritesFirst, WritesFront};
+ghost use Rattle.fleet_runner.specs.Outputs.{IsOfPlainRun, WritesOutput, WritesFirst, WritesFront};
 ghost use Rattle.photofleet.specs.CommandLine.{program, file_in, AppendsSome, AsksForHelp, AreRefused, IsRefusal, Asks, AsksJob, OfFile};
-ghost use Rattle.fleet_steps.specs.declared.fault.RunError.TheVariants.{NoMemory, NotLawful, Script, Write};
+ghost use Rattle.fleet_steps.specs.declared.fault.RunError.TheVariants.{NoMemory, Script, Write};
 
 use clap::error::ErrorKind;
 use clap::{Arg, ArgAction, ArgMatches, Command};
@@ -162,7 +162,7 @@ fn plain<O: Opener, W: Write>(
     ensures first { result ≡ Err NoMemory → IfSome (O.content opener.old file.now) (WritesFirst (W.contents out.old) (W.contents out.new)) }
     ensures front { result ≡ Err Write → IfSome (O.content opener.old file.now) (WritesFront (W.contents out.old) (W.contents out.new)) }
     ensures nothing { (fault : script.ScriptFault) → result ≡ Err (Script fault) → out.new ≡ out.old }
-    ensures order { IfErr result (λ e. e ≢ NotLawful) }
+    ensures of_run { IfErr result IsOfPlainRun }
 {
     let mut source = opener.open(file).map_err(RunError::Script)?;
     plain_stream(alloc, &mut source, out)
@@ -178,7 +178,7 @@ fn status_of<E: Write>(done: Result<(), RunError>, err: &mut E) -> u8
             let _ = writeln!(err, "script fault: {fault}");
             BAD_SCRIPT
         }
-        Err(error @ (RunError::NoMemory | RunError::NotLawful)) => {
+        Err(error @ (RunError::NoMemory | RunError::NoWorker | RunError::NotLawful)) => {
             let _ = writeln!(err, "run error: {error}");
             NO_RUN
         }

@@ -3,7 +3,7 @@ use Rattle.std.proofs.lemmas.Result.{IfErr-weaker}
 use Rattle.photo_script.specs.declared.report.Report.{Report}
 use Rattle.photo_script.specs.Reports.{answer_of}
 use Rattle.fleet_steps.specs.Outcomes.{AreRight}
-use Rattle.fleet_runner.proofs.Streams.{nothing_first, some_first, not_of_order}
+use Rattle.fleet_runner.proofs.Streams.{nothing_first, some_first, of_plain_run}
 use Rattle.fleet_runner.proofs.stream.plain_stream.Goals as goal
 
 pub returns-in_err-outcome-clause-first : goal.returns-in_err-outcome-clause-first
@@ -14,5 +14,5 @@ returns-clause-first g c = λ e.
     let right = subst (λ (reports : List Report). AreRight c.in-Ok.script (map answer_of reports)) (sym c.as_slice.ensures.value) c.in_ok-outcome.ensures.ok.reports in
     some_first c.accepted_stays_sound.ensures _ _ _ c.in-Ok.script (map answer_of c.as_slice.result.now) c.in-Ok.ensures.read right (c.write_reports.ensures.first e)
 
-pub returns-clause-order : goal.returns-clause-order
-returns-clause-order g c = IfErr-weaker c.write_reports.result _ _ not_of_order c.write_reports.ensures.err
+pub returns-clause-err : goal.returns-clause-err
+returns-clause-err g c = IfErr-weaker c.write_reports.result _ _ of_plain_run c.write_reports.ensures.err
