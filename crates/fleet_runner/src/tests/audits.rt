@@ -94,10 +94,16 @@ fn first_known(alloc: Global) -> Option<Knowledge>
     ensures star { IfSome result (λ k. (a : authors.Author) → star_bound k a ≡ (if authors.same_author (authors.author 0) a then 1 else 0)) }
     ensures known { IfSome result (λ k. (p : ℕ) (v : versions.Version) → 0 < p → knows k p v ≡ versions.same_version (versions.version (authors.author 0) 1) v) }
 {
-    let version = Version::new(Author::new(0), 1)?;
-    let mut knowledge = Knowledge::new(alloc).ok()?;
-    knowledge.learn_own(version).ok()?;
-    Some(knowledge)
+    let Some(version) = Version::new(Author::new(0), 1) else {
+        return None;
+    };
+    let Ok(mut knowledge) = Knowledge::new(alloc) else {
+        return None;
+    };
+    match knowledge.learn_own(version) {
+        Ok(()) => Some(knowledge),
+        Err(_) => None,
+    }
 }
 
 // A device that made and holds nothing, with that knowledge.

@@ -1,4 +1,6 @@
 //! Scripts drawn by chance from a seed: five devices, and as many commands as are asked for. Equal ones on every machine.
+ghost use Rattle.std.specs.Prelude.{◌<◌};
+
 use std::alloc::{AllocError, Global};
 
 /// How many commands a drawn script has at most.
@@ -15,8 +17,6 @@ struct Chance {
 }
 
 impl Chance {
-    ghost use Rattle.std.specs.Prelude.{◌<◌};
-
     fn new(seed: u16) -> Chance {
         Chance {
             state: u64::from(seed),
