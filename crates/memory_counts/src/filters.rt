@@ -1,0 +1,43 @@
+use photo_filter_rules::{Filter, covers};
+use photo_record::{Day, Rating, Record, Words};
+use std::alloc::Global;
+
+/// The filter of a text.
+pub fn filter_of(alloc: Global, text: &str) -> Option<Filter> {
+    let tree = photo_filter_text::read(alloc, text).ok()?;
+    Filter::build(alloc, tree).ok()
+}
+
+/// A record of that rating.
+pub fn rated(alloc: Global, rating: u8) -> Option<Record> {
+    Some(Record::Picture {
+        rating: Rating::new(rating)?,
+        day: Day::read("2024-01-01")?,
+        words: Words::read(alloc, "sea,ball,sun").ok()?,
+    })
+}
+
+/// `matches`, `covers` and `alternatives`.
+pub fn answer(alloc: Global, times: u32) -> Option<bool> {
+    let wide = filter_of(alloc, "rating >= 3 or keyword sea or day >= 2024-06-01")?;
+    let narrow = filter_of(alloc, "rating >= 4 and not keyword ball")?;
+    let record = rated(alloc, 4)?;
+    Some(answer_of(&wide, &narrow, &record, times))
+}
+
+fn answer_of(wide: &Filter, narrow: &Filter, record: &Record, times: u32) -> bool {
+    for _ in 0..times {
+        if !select(wide, narrow, record) {
+            return false;
+        }
+    }
+    true
+}
+
+fn select(wide: &Filter, narrow: &Filter, record: &Record) -> bool {
+    covers(wide, narrow)
+        && !covers(narrow, wide)
+        && wide.matches(record)
+        && !narrow.matches(record)
+        && wide.alternatives() == 3
+}

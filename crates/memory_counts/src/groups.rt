@@ -1,0 +1,39 @@
+//! Groups of calls by their names.
+use crate::{devices, filters, knowledges, records, scripts, vectors};
+use std::alloc::Global;
+
+/// Whether each of the calls that a line names answered as it has to, so many times. None where the line names none, or
+/// where the values for them can't be made.
+pub fn of_line(alloc: Global, line: &str) -> Option<bool> {
+    let (group, times) = line.split_once(' ')?;
+    let times = times.parse::<u32>().ok()?;
+    match group {
+        "fields" => Some(records::answer_fields(times)),
+        "words" => records::answer_words(alloc, times),
+        "versions" => Some(vectors::answer_versions(times)),
+        "vector" => vectors::answer(alloc, times),
+        "filter" => filters::answer(alloc, times),
+        _ => of_others(alloc, group, times),
+    }
+}
+
+fn of_others(alloc: Global, group: &str, times: u32) -> Option<bool> {
+    match group {
+        "knowledge" => knowledges::answer(alloc, times),
+        "fragment" => knowledges::answer_fragment(alloc, times),
+        "device" => devices::answer(alloc, times),
+        "held_set" => devices::answer_sets(alloc, times),
+        "script" => scripts::answer(alloc, times),
+        _ => of_takers(alloc, group, times),
+    }
+}
+
+// Calls that do take memory: where these aren't seen to, the others say nothing.
+fn of_takers(alloc: Global, group: &str, times: u32) -> Option<bool> {
+    match group {
+        "vector_with" => vectors::answer_with(alloc, times),
+        "knowledge_copy" => knowledges::answer_copy(alloc, times),
+        "conflicts" => devices::answer_conflicts(alloc, times),
+        _ => None,
+    }
+}
