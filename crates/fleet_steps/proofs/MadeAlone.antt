@@ -70,4 +70,3 @@ alone_second m (command.List k) = refl
 alone_second m (command.Conflicts k) = refl
 alone_second m (command.Knowledge k) = refl
 alone_second m (command.Knows k q w) = refl
-

@@ -17,7 +17,7 @@ pub use fault::RunError;
 pub use fleet::run_on;
 pub use issue::made_on;
 pub use issue_log::IssueLog;
-pub use outcome::Outcome;
 pub use ordered::opening_devices;
+pub use outcome::Outcome;
 pub use plain::run_plain;
 pub use replaying::replay;
