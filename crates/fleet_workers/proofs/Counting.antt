@@ -1,0 +1,130 @@
+-- A command counts once.
+use Rattle.std.proofs.Common.{◌≡◌, ℕ, zero, suc, ◌+◌, ◌-◌, ◌<◌, ◌≤◌, Bool, true, false, cond, List, [], ◌∷◌, ◌++◌, map, refl, sym, ap, ◌∙◌, subst, arith}
+use Rattle.std.specs.Prelude.{Option, Some, None, IsPermutation}
+use Rattle.std.specs.List.{sum_by}
+use Rattle.std.proofs.lemmas.List.Sums.{sum_by-append, sum_by-cons}
+use Rattle.std.proofs.lemmas.List.Sorted.{sum_by-IsPermutation}
+use Rattle.photo_device.specs.Device.{ModelDevice, is_held, narrowed, moved}
+use Rattle.photo_filter_rules.specs.Covers.{covers}
+use Rattle.photo_record.specs.declared.record.Record.TheVariants.{Removed}
+use Rattle.photo_script.specs.Limits.{max_commands}
+use Rattle.photo_script.specs.declared.tally.Tally.{Tally}
+use Rattle.photo_script.specs.declared.tally.Totals.{Totals}
+use Rattle.photo_script.specs.declared.command.Command.{Command}
+use Rattle.photo_script.specs.declared.command.Command.TheVariants as command
+use Rattle.photo_script.specs.Contents.{Contents, command_of}
+use Rattle.photo_script.specs.Reports.{Answer, ModelReport, Exactly, KnowledgeIs, NotHeld, NotNarrower, Narrowed, Pulled, KnowledgeOf, Tells, answer_of}
+use Rattle.photo_script.specs.Runs.{Effect, effect, making, telling}
+use Rattle.photo_script.specs.Tallies.{kind_of, moved_by}
+use Rattle.photo_script.specs.Tallies as kind
+use Rattle.work_ledger.specs.declared.kind.Kind.{Kind}
+use Rattle.work_ledger.specs.declared.kind.Kind.TheVariants.{Change, Pull, Report}
+use Rattle.work_ledger.specs.Stakes.{Stake, stake, tally, totals, none_left, nothing_done, plus, less, both, kinds_of, given, Within, IsCountable}
+use Rattle.work_ledger.specs.Counting.{CanCount, counted}
+use Rattle.fleet_steps.specs.Moved.{MovesFew}
+use Rattle.fleet_workers.specs.Counting.{one_of, one_at, tally_at, kind_told, moved_in, worked}
+use Rattle.fleet_workers.specs.declared.work.Done.{Done}
+
+pub tally_same : (a a' b b' c c' : ℕ) → a ≡ a' → b ≡ b' → c ≡ c' → tally a b c ≡ tally a' b' c'
+tally_same a a' b b' c c' e f g = λ i. tally (e i) (f i) (g i)
+
+pub totals_same : (a a' b b' c c' d d' : ℕ) → a ≡ a' → b ≡ b' → c ≡ c' → d ≡ d' → totals a b c d ≡ totals a' b' c' d'
+totals_same a a' b b' c c' d d' e f g h = λ i. totals (e i) (f i) (g i) (h i)
+
+pub tally-cons : (script : Contents) (n : ℕ) (ns : List ℕ) → tally_at script (n ∷ ns) ≡ plus (one_at script n) (tally_at script ns)
+tally-cons script n ns = tally_same _ _ _ _ _ _ (sum_by-cons (λ (k : ℕ). (one_at script k).changes) n ns) (sum_by-cons (λ (k : ℕ). (one_at script k).pulls) n ns) (sum_by-cons (λ (k : ℕ). (one_at script k).reports) n ns)
+
+pub tally-append : (script : Contents) (xs ys : List ℕ) → tally_at script (xs ++ ys) ≡ plus (tally_at script xs) (tally_at script ys)
+tally-append script xs ys = tally_same _ _ _ _ _ _ (sum_by-append (λ (k : ℕ). (one_at script k).changes) xs ys) (sum_by-append (λ (k : ℕ). (one_at script k).pulls) xs ys) (sum_by-append (λ (k : ℕ). (one_at script k).reports) xs ys)
+
+pub tally-permuted : (script : Contents) (xs ys : List ℕ) → IsPermutation xs ys → tally_at script ys ≡ tally_at script xs
+tally-permuted script xs ys perm = tally_same _ _ _ _ _ _ (sum_by-IsPermutation (λ (k : ℕ). (one_at script k).changes) xs ys perm) (sum_by-IsPermutation (λ (k : ℕ). (one_at script k).pulls) xs ys perm) (sum_by-IsPermutation (λ (k : ℕ). (one_at script k).reports) xs ys perm)
+
+pub moved-append : (xs ys : List Done) → moved_in (xs ++ ys) ≡ moved_in xs + moved_in ys
+moved-append xs ys = sum_by-append (λ (d : Done). moved_by (answer_of d.report)) xs ys
+
+pub moved-one : (d : Done) → moved_in (d ∷ []) ≡ moved_by (answer_of d.report)
+moved-one d = let h = sum_by-cons (λ (x : Done). moved_by (answer_of x.report)) d [] in omega (arith, h)
+
+pub one_is : (script : Contents) (n : ℕ) (c : Command) → command_of script n ≡ Some c → one_at script n ≡ one_of (kind_of c)
+one_is script n c is = rw is refl
+
+-- the answer counts as the command's kind: what it moved it tells, and few
+pub record CountsAs (k : kind.Kind) (a : Answer) : Type 0 where
+  pub can : (left : Tally) → CanCount (kind_told a) (plus (one_of k) left)
+  pub by : (parts : ℕ) (left : Tally) (done : Totals) → counted (kind_told a) (stake parts (plus (one_of k) left) done) ≡ stake parts left (both done (worked (one_of k) (moved_by a)))
+
+stake_same : (p a a' b b' c c' : ℕ) (d d' e e' f f' g g' : ℕ) → a ≡ a' → b ≡ b' → c ≡ c' → d ≡ d' → e ≡ e' → f ≡ f' → g ≡ g' → stake p (tally a b c) (totals d e f g) ≡ stake p (tally a' b' c') (totals d' e' f' g')
+stake_same p a a' b b' c c' d d' e e' f f' g g' h i j k l m n = λ t. stake p (tally (h t) (i t) (j t)) (totals (k t) (l t) (m t) (n t))
+
+as_change : (a : Answer) → kind_told a ≡ Change → moved_by a ≡ 0 → CountsAs kind.Change a
+as_change a told none = record {
+  can = λ left. subst (λ k. CanCount k (plus (tally 1 0 0) left)) (sym told) (omega arith);
+  by = λ parts left done. ap (λ k. counted k (stake parts (plus (tally 1 0 0) left) done)) told
+      ∙ stake_same parts _ _ _ _ _ _ _ _ _ _ _ _ _ _ (omega arith) (omega arith) (omega arith) (omega arith) (omega arith) (omega arith) (omega (arith, none));
+}
+
+as_question : (a : Answer) → kind_told a ≡ Report → moved_by a ≡ 0 → CountsAs kind.Question a
+as_question a told none = record {
+  can = λ left. subst (λ k. CanCount k (plus (tally 0 0 1) left)) (sym told) (omega arith);
+  by = λ parts left done. ap (λ k. counted k (stake parts (plus (tally 0 0 1) left) done)) told
+      ∙ stake_same parts _ _ _ _ _ _ _ _ _ _ _ _ _ _ (omega arith) (omega arith) (omega arith) (omega arith) (omega arith) (omega arith) (omega (arith, none));
+}
+
+as_pull : (a : Answer) (counts : _) → a ≡ Pulled counts → MovesFew (Exactly a) → CountsAs kind.Pull a
+as_pull a counts is few =
+    let most = few counts (ap Exactly is) in
+    subst (CountsAs kind.Pull) (sym is) (record {
+      can = λ left. (omega arith, most.0, most.1);
+      by = λ parts left done. stake_same parts _ _ _ _ _ _ _ _ _ _ _ _ _ _ (omega arith) (omega arith) (omega arith) (omega arith) (omega arith) (omega arith) (omega arith);
+    })
+
+either : (k : kind.Kind) (a : Answer) (b : Bool) (x y : Effect) → (Tells a x.report → CountsAs k a) → (Tells a y.report → CountsAs k a) → Tells a (cond b x y).report → CountsAs k a
+either k a true x y f g told = f told
+either k a false x y f g told = g told
+
+changes_as : (a right : Answer) → kind_told right ≡ Change → moved_by right ≡ 0 → Tells a (Exactly right) → CountsAs kind.Change a
+changes_as a right told none is = as_change a (ap kind_told is ∙ told) (ap moved_by is ∙ none)
+
+asks_as : (a right : Answer) → kind_told right ≡ Report → moved_by right ≡ 0 → Tells a (Exactly right) → CountsAs kind.Question a
+asks_as a right told none is = as_question a (ap kind_told is ∙ told) (ap moved_by is ∙ none)
+
+pub counts_as : (c : Command) (d : ModelDevice) (other : Option ModelDevice) (a : Answer) → MovesFew (effect c d other).report → Tells a (effect c d other).report → CountsAs (kind_of c) a
+counts_as (command.New k p r) d other a few told = changes_as a _ refl refl told
+counts_as (command.Edit k p r) d other a few told = either kind.Change a (is_held d p) (making d other p r) (telling d other (Exactly NotHeld)) (changes_as a _ refl refl) (changes_as a _ refl refl) told
+counts_as (command.Remove k p) d other a few told = either kind.Change a (is_held d p) (making d other p Removed) (telling d other (Exactly NotHeld)) (changes_as a _ refl refl) (changes_as a _ refl refl) told
+counts_as (command.Pull t s) d None a few told = as_pull a _ told (subst (λ x. MovesFew (Exactly x)) (sym told) few)
+counts_as (command.Pull t s) d (Some x) a few told = as_pull a _ told (subst (λ x. MovesFew (Exactly x)) (sym told) few)
+counts_as (command.Narrow k tree) d other a few told = either kind.Change a (covers d.tree tree) (record { first = narrowed tree d; second = other; report = Exactly (Narrowed (moved tree d)); entries = [] }) (telling d other (Exactly NotNarrower)) (changes_as a _ refl refl) (changes_as a _ refl refl) told
+counts_as (command.List k) d other a few told = asks_as a _ refl refl told
+counts_as (command.Conflicts k) d other a few told = asks_as a _ refl refl told
+counts_as (command.Knowledge k) d other a few told = as_question a (ap kind_told told.given) (ap moved_by told.given)
+counts_as (command.Knows k p v) d other a few told = asks_as a _ refl refl told
+
+-- one command more is counted by a worker that has counted some
+pub counts_more : (script : Contents) (n : ℕ) (c : Command) (rest : List ℕ) (done : List Done) (d : Done) (share new : Stake) (all : Tally)
+    → command_of script n ≡ Some c → CountsAs (kind_of c) (answer_of d.report) → share.left ≡ tally_at script (n ∷ rest) → both share.done (worked (tally_at script (n ∷ rest)) 0) ≡ worked all (moved_in done)
+    → new ≡ counted (kind_told (answer_of d.report)) share
+    → (new.parts ≡ share.parts) × (new.left ≡ tally_at script rest) × (both new.done (worked (tally_at script rest) 0) ≡ worked all (moved_in (done ++ d ∷ [])))
+counts_more script n c rest done d share new all is counting left sum now =
+    let one = one_of (kind_of c) in
+    let t = tally_at script rest in
+    let a = answer_of d.report in
+    let cons : tally_at script (n ∷ rest) ≡ plus one t = tally-cons script n rest ∙ ap (λ (x : Tally). plus x t) (one_is script n c is) in
+    let new_is : new ≡ stake share.parts t (both share.done (worked one (moved_by a))) = now ∙ (λ i. counted (kind_told a) (stake share.parts ((left ∙ cons) i) share.done)) ∙ counting.by share.parts t share.done in
+    let before : both share.done (worked (plus one t) 0) ≡ worked all (moved_in done) = ap (λ (x : Tally). both share.done (worked x 0)) (sym cons) ∙ sum in
+    let e1 = ap (λ (x : Totals). x.changes) before in
+    let e2 = ap (λ (x : Totals). x.pulls) before in
+    let e3 = ap (λ (x : Totals). x.reports) before in
+    let e4 = ap (λ (x : Totals). x.moved) before in
+    let more = moved-append done (d ∷ []) in
+    let last = moved-one d in (
+      ap (λ (s : Stake). s.parts) new_is,
+      ap (λ (s : Stake). s.left) new_is,
+      ap (λ (s : Stake). both s.done (worked t 0)) new_is ∙ totals_same _ _ _ _ _ _ _ _ (omega (arith, e1)) (omega (arith, e2)) (omega (arith, e3)) (omega (arith, e4, more, last)),
+    )
+
+pub may_count : (script : Contents) (n : ℕ) (c : Command) (rest : List ℕ) (a : Answer) (left : Tally) → command_of script n ≡ Some c → CountsAs (kind_of c) a → left ≡ tally_at script (n ∷ rest) → CanCount (kind_told a) left
+may_count script n c rest a left is counting here =
+    let cons : tally_at script (n ∷ rest) ≡ plus (one_of (kind_of c)) (tally_at script rest) = tally-cons script n rest ∙ ap (λ (x : Tally). plus x (tally_at script rest)) (one_is script n c is) in
+    subst (CanCount (kind_told a)) (sym (here ∙ cons)) (counting.can (tally_at script rest))

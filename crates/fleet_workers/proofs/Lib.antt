@@ -1,0 +1,10 @@
+pub mod Owned
+pub mod Counting
+pub mod Workings
+pub mod Batched
+pub mod Dealt
+pub mod Crewed
+pub mod Progressed
+pub mod Lawful
+pub mod Planned
+pub mod Opened

@@ -1,0 +1,52 @@
+-- How commands count.
+use Rattle.std.specs.Prelude.{ℕ, List, Option, Some, None}
+use Rattle.std.specs.List.{sum_by}
+use Rattle.photo_script.specs.declared.tally.Tally.{Tally}
+use Rattle.photo_script.specs.declared.tally.Totals.{Totals}
+use Rattle.photo_script.specs.declared.command.Command.{Command}
+use Rattle.photo_script.specs.Contents.{Contents, command_of}
+use Rattle.photo_script.specs.Reports.{Answer, Made, NotHeld, NotNarrower, Narrowed, Pulled, Listed, Conflicts, KnowledgeOf, Knows, answer_of}
+use Rattle.photo_script.specs.Tallies.{kind_of, moved_by}
+use Rattle.photo_script.specs.Tallies as kind
+use Rattle.work_ledger.specs.declared.kind.Kind.{Kind}
+use Rattle.work_ledger.specs.declared.kind.Kind.TheVariants.{Change, Pull, Report}
+use Rattle.work_ledger.specs.Stakes.{tally, totals, none_left}
+use Rattle.fleet_workers.specs.declared.work.Done.{Done}
+
+-- one command of a kind
+abbrev pub one_of : kind.Kind → Tally
+one_of kind.Change = tally 1 0 0
+one_of kind.Pull = tally 0 1 0
+one_of kind.Question = tally 0 0 1
+
+-- the command of that number, if there is one
+abbrev pub one_at : Contents → ℕ → Tally
+one_at script n = by_cases (command_of script n)
+  where
+    by_cases : Option Command → Tally
+    by_cases None = none_left
+    by_cases (Some c) = one_of (kind_of c)
+
+-- how many commands of each kind have these numbers
+abbrev pub tally_at : Contents → List ℕ → Tally
+tally_at script ns = tally (sum_by (λ n. (one_at script n).changes) ns) (sum_by (λ n. (one_at script n).pulls) ns) (sum_by (λ n. (one_at script n).reports) ns)
+
+-- how a command counts, by the report on it
+abbrev pub kind_told : Answer → Kind
+kind_told (Made v place) = Change
+kind_told NotHeld = Change
+kind_told NotNarrower = Change
+kind_told (Narrowed count) = Change
+kind_told (Pulled counts) = Pull counts.taken counts.handed
+kind_told (Listed n store out) = Report
+kind_told (Conflicts n pictures) = Report
+kind_told (KnowledgeOf n fragments) = Report
+kind_told (Knows known) = Report
+
+-- how many versions were moved, by all reports
+abbrev pub moved_in : List Done → ℕ
+moved_in done = sum_by (λ d. moved_by (answer_of d.report)) done
+
+-- commands that were run, and what they moved
+abbrev pub worked : Tally → ℕ → Totals
+worked t moved = totals t.changes t.pulls t.reports moved

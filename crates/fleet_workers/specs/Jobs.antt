@@ -1,0 +1,82 @@
+-- What a worker's jobs have to be, and what it gives back.
+use Rattle.std.specs.Prelude.{◌≡◌, ℕ, ◌<◌, List, Option, Some, None, IfSome, is_some, map, Vec}
+use Rattle.std.specs.List.{AllZip, AllByRecursion, flat_map}
+use Rattle.std.specs.Option.{option_to_list}
+use Rattle.photo_device.specs.Held.{entries_of}
+use Rattle.photo_device.specs.Device.{Kept, ModelDevice, Shows}
+use Rattle.photo_script.specs.declared.command.Command.{Command}
+use Rattle.photo_script.specs.Contents.{Contents, command_of, devices_of}
+use Rattle.photo_script.specs.Reports.{Tells, answer_of}
+use Rattle.photo_script.specs.Runs.{Effect, effect}
+use Rattle.work_ledger.specs.Stakes.{Stake, stake, none_left, nothing_done}
+use Rattle.fleet_steps.specs.Between.{MayPull}
+use Rattle.fleet_steps.specs.Moved.{MovesFew}
+use Rattle.fleet_workers.specs.declared.work.Job.{Job}
+use Rattle.fleet_workers.specs.declared.work.Done.{Done}
+use Rattle.fleet_workers.specs.Counting.{tally_at, worked, moved_in}
+
+-- a second device shows a second model device, where there is one
+abbrev pub ShowsSecond : Option Kept → Option ModelDevice → Type 0
+ShowsSecond None None = Unit {0}
+ShowsSecond None (Some m) = ⊥
+ShowsSecond (Some d) None = ⊥
+ShowsSecond (Some d) (Some m) = Shows d m
+
+-- the command has a second device where the job has one, and may pull from it
+abbrev pub MayWork : Option ℕ → Kept → Option Kept → Type 0
+MayWork None first None = Unit {0}
+MayWork None first (Some second) = ⊥
+MayWork (Some place) first None = ⊥
+MayWork (Some place) first (Some second) = MayPull first second
+
+-- the job has what the command needs, and a pull moves no more than the ledger counts
+pub record IsFor (c : Command) (job : Job) : Type 0 where
+  pub room : job.first.counter < 4_294_967_295
+  pub second : MayWork (devices_of c).1 job.first job.second
+  pub model : ModelDevice
+  pub other : Option ModelDevice
+  pub shown : Shows job.first model
+  pub other_shown : ShowsSecond job.second other
+  pub few : MovesFew (effect c model other).report
+
+-- what was given back shows an effect
+pub record ShowsEffect (done : Done) (e : Effect) : Type 0 where
+  pub first : Shows done.first e.first
+  pub second : ShowsSecond done.second e.second
+  pub report : Tells (answer_of done.report) e.report
+  pub entries : entries_of (option_to_list done.entry) ≡ e.entries
+
+-- the job is done: whatever model devices its devices showed, what was given back shows the command's effect on those
+pub record IsDone (c : Command) (job : Job) (done : Done) : Type 0 where
+  pub number : done.number ≡ job.number
+  pub both : is_some done.second ≡ is_some job.second
+  pub shows : (m : ModelDevice) (other : Option ModelDevice) → Shows job.first m → ShowsSecond job.second other → ShowsEffect done (effect c m other)
+
+-- the same of a job of a script, by its number
+abbrev pub IsReadyJob : Contents → Job → Type 0
+IsReadyJob script job = (c : Command) × (command_of script job.number ≡ Some c) × IsFor c job
+
+abbrev pub IsDoneJob : Contents → Job → Done → Type 0
+IsDoneJob script job done = IfSome (command_of script job.number) (λ c. IsDone c job done)
+
+abbrev pub AreReadyJobs : Contents → List Job → Type 0
+AreReadyJobs script jobs = AllByRecursion (IsReadyJob script) jobs
+
+abbrev pub AreDoneJobs : Contents → List Job → List Done → Type 0
+AreDoneJobs script jobs done = AllZip (IsDoneJob script) jobs done
+
+abbrev pub numbers_of : List Job → List ℕ
+numbers_of jobs = map (λ j. j.number) jobs
+
+-- a worker may start: its jobs are ready, and its share may count just them
+abbrev pub MayStart : Contents → List Job → Stake → Type 0
+MayStart script jobs share = AreReadyJobs script jobs × (share ≡ stake 1 (tally_at script (numbers_of jobs)) nothing_done)
+
+-- a worker has run its jobs, in order, and its share has counted each once
+abbrev pub HasWorked : Contents → List Job → List Done → Stake → Type 0
+HasWorked script jobs done share =
+    AreDoneJobs script jobs done × (share ≡ stake 1 none_left (worked (tally_at script (numbers_of jobs)) (moved_in done)))
+
+-- the jobs of all groups, one group after another
+abbrev pub jobs_of : {Z : Type 0} → List (Vec Job Z) → List Job
+jobs_of groups = flat_map (λ v. v.items) groups

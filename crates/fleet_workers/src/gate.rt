@@ -1,0 +1,21 @@
+use photo_script::Totals;
+
+/// What a worker calls before and after each of its commands, in its own thread.
+pub trait Gate: Send + Sync + Drop {
+    /// The command of that number is about to run.
+    fn before(&self, number: u32);
+
+    /// The command of that number has run and was counted. `seen` is what all workers together had counted at some moment
+    /// since: this command at least, and what the worker had counted before it.
+    fn after(&self, number: u32, seen: Totals);
+}
+
+/// A gate that does nothing.
+#[derive(Debug, Drop)]
+pub struct OpenGate;
+
+impl Gate for OpenGate {
+    fn before(&self, _number: u32) {}
+
+    fn after(&self, _number: u32, _seen: Totals) {}
+}

@@ -1,0 +1,29 @@
+// What a worker gets, and what it gives back.
+use photo_device::{Device, Held};
+use photo_script::Report;
+use work_ledger::{Books, Share};
+
+// A command's number with the one or two devices that it works on.
+#[derive(Debug, Drop)]
+pub(crate) struct Job {
+    pub number: u32,
+    pub first: Device,
+    pub second: Option<Device>,
+}
+
+// What a command gave: its devices after it, its report, and what the log gains.
+#[derive(Debug, Drop)]
+pub(crate) struct Done {
+    pub number: u32,
+    pub first: Device,
+    pub second: Option<Device>,
+    pub report: Report,
+    pub entry: Option<Held>,
+}
+
+// What a worker gives back: its share of the ledger, and what its commands gave, in order.
+#[derive(Drop)]
+pub(crate) struct Finished<B: Books> {
+    pub share: Share<B>,
+    pub done: Vec<Done>,
+}
