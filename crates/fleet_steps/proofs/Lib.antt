@@ -18,7 +18,6 @@ pub mod Places
 pub mod TracedFleets
 pub mod EachCommand
 pub mod ReadyRuns
-pub mod Refusals
 pub mod SoundFacts
 pub mod SoundMaking
 pub mod SoundPulling
