@@ -46,16 +46,16 @@ ArePairwise script (n ∷ more) = AllByRecursion (λ m. AreRelated script n m �
 pairwise : (script : Contents) (order : List ℕ) → AreApart script order → ArePairwise script order
 pairwise script [] apart = tt
 pairwise script (x ∷ xs) apart = (
-    all_by_times (λ m. AreRelated script x m → ⊥) xs (λ m stands.
-        let here = times_cons x x xs in
-        let there = times_cons m x xs in
-        let self = self_counts x in
-        let once = apart.once x in
-        apart.apart x m (omega (arith, here, self)) (omega (arith, there, stands)) (λ same. let again = subst (λ n. 0 < times n xs) (sym same) stands in omega (arith, here, self, once, again))),
-    pairwise script xs (record {
-      once = λ n. let more = times_cons n x xs in let once = apart.once n in omega (arith, more, once);
-      apart = λ m n a b. let one = times_cons m x xs in let two = times_cons n x xs in apart.apart m n (omega (arith, one, a)) (omega (arith, two, b));
-    }),
+  all_by_times (λ m. AreRelated script x m → ⊥) xs (λ m stands.
+      let here = times_cons x x xs in
+      let there = times_cons m x xs in
+      let self = self_counts x in
+      let once = apart.once x in
+      apart.apart x m (omega (arith, here, self)) (omega (arith, there, stands)) (λ same. let again = subst (λ n. 0 < times n xs) (sym same) stands in omega (arith, here, self, once, again))),
+  pairwise script xs (record {
+    once = λ n. let more = times_cons n x xs in let once = apart.once n in omega (arith, more, once);
+    apart = λ m n a b. let one = times_cons m x xs in let two = times_cons n x xs in apart.apart m n (omega (arith, one, a)) (omega (arith, two, b));
+  }),
 )
 
 -- in whatever order
@@ -119,12 +119,12 @@ put_one script front devices reports log more job done to at h logged =
     (subst (λ (n : ℕ). RunsTo script (front ++ job.number ∷ []) new (set reports (n - 1) done.report) more) (sym same)
     (runs_more script front job.number devices new reports log more c done.report (some_number script job.number c at.is) to (at_place script job.number c at.is) within
     (λ models all.
-        let e = shows_effect script devices models job done at h all in
-        with_shown (devices_of c).1 done.second (effect_on models c).second (set devices (devices_of c).0 done.first) (set models (devices_of c).0 (effect_on models c).first) (zip_set Shows devices models (devices_of c).0 done.first (effect_on models c).first all e.first) e.second)
+    let e = shows_effect script devices models job done at h all in
+    with_shown (devices_of c).1 done.second (effect_on models c).second (set devices (devices_of c).0 done.first) (set models (devices_of c).0 (effect_on models c).first) (zip_set Shows devices models (devices_of c).0 done.first (effect_on models c).first all e.first) e.second)
     (λ models all. (shows_effect script devices models job done at h all).report)
     (λ models all.
-        let e = shows_effect script devices models job done at h all in
-        ap entries_of logged ∙ map-append entry_of log (option_to_list done.entry) ∙ ap (λ l. entries_of log ++ l) e.entries)))
+    let e = shows_effect script devices models job done at h all in
+    ap entries_of logged ∙ map-append entry_of log (option_to_list done.entry) ∙ ap (λ l. entries_of log ++ l) e.entries)))
 
 -- a job that is not related is as it was
 
@@ -195,16 +195,19 @@ ready_job script front devices reports log job is to few at =
     let c = at.command in
     let k = (devices_of c).0 in
     let models = (run_in_order script front).devices in
-    let room = runs_room script front devices reports log (omega (arith, few)) to in
-    (c, at.is, record {
-      room = subst (λ (d : Kept). d.counter < 4_294_967_295) (at.first job.first) (all_at (λ d. d.counter < 4_294_967_295) devices k job.first room at.within.0);
-      second = may_work (devices_of c).1 k devices job.first job.second (runs_ready script front devices reports log is to) at.within.0 at.first at.within.1 at.second;
-      model = device_at models k;
-      other = option_map (device_at models) (devices_of c).1;
-      shown = first_shown script devices models job at to.shown;
-      other_shown = second_shown (devices_of c).1 k devices models job.second to.shown at.within.1 at.second;
-      few = moves_few_after script front c is few (subst (λ (n : ℕ). IsWithin n c) to.long at.within);
-    })
+    let room = runs_room script front devices reports log (omega (arith, few)) to in (
+      c,
+      at.is,
+      record {
+        room = subst (λ (d : Kept). d.counter < 4_294_967_295) (at.first job.first) (all_at (λ d. d.counter < 4_294_967_295) devices k job.first room at.within.0);
+        second = may_work (devices_of c).1 k devices job.first job.second (runs_ready script front devices reports log is to) at.within.0 at.first at.within.1 at.second;
+        model = device_at models k;
+        other = option_map (device_at models) (devices_of c).1;
+        shown = first_shown script devices models job at to.shown;
+        other_shown = second_shown (devices_of c).1 k devices models job.second to.shown at.within.1 at.second;
+        few = moves_few_after script front c is few (subst (λ (n : ℕ). IsWithin n c) to.long at.within);
+      },
+    )
 
 pub ready_jobs : (script : Contents) (front : List ℕ) (devices : List Kept) (reports : List Report) (log : List Held) (jobs : List Job) → IsScript script → RunsTo script front devices reports log → length front ≤ max_commands → AllByRecursion (IsJobAt script devices) jobs → AreReadyJobs script jobs
 ready_jobs script front devices reports log [] is to few at = tt

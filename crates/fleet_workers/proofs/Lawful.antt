@@ -36,7 +36,7 @@ nothing_in (x ∷ xs) none = absurd (none x (let c = times_cons x x xs in let s 
 below_or : (k n : ℕ) → k ≤ suc n → (k ≤ n) ⊎ (k ≡ suc n)
 below_or zero n h = inl (omega arith)
 below_or (suc k) zero h = inr (omega (arith, h))
-below_or (suc k) (suc n) h = elim (below_or k n (omega (arith, h))) [ | inl a ↦ inl (omega (arith, a)) | inr b ↦ inr (omega (arith, b)) ]
+below_or (suc k) (suc n) h = elim (below_or k n (omega (arith, h))) [ inl a ↦ inl (omega (arith, a)) | inr b ↦ inr (omega (arith, b)) ]
 
 -- a number that stands beside the last one is not the last one
 not_last : (n k x y : ℕ) → k ≤ suc n → 0 < x → y ≡ x + cond (suc n == k) 1 0 → y ≡ 1 → k ≤ n
@@ -54,14 +54,14 @@ each_sum f (suc n) order each =
     let s = split (suc n) order (omega (arith, last)) in
     let rest = s.before ++ s.after in
     let counted : (k : ℕ) → times k order ≡ times k rest + cond (suc n == k) 1 0 = λ k.
-        let a = ap (times k) s.whole ∙ times_append k s.before (suc n ∷ s.after) in
-        let b = times_cons k (suc n) s.after in
-        let c = times_append k s.before s.after in
-        omega (arith, a, b, c) in
+    let a = ap (times k) s.whole ∙ times_append k s.before (suc n ∷ s.after) in
+    let b = times_cons k (suc n) s.after in
+    let c = times_append k s.before s.after in
+    omega (arith, a, b, c) in
     let low : (k : ℕ) → 0 < times k rest → (0 < k) × (k ≤ n) = λ k stands.
-        let all = counted k in
-        let w = each.within k (omega (arith, all, stands)) in
-        (w.0, not_last n k (times k rest) (times k order) w.1 stands all (each.once k w.0 w.1)) in
+    let all = counted k in
+    let w = each.within k (omega (arith, all, stands)) in
+    (w.0, not_last n k (times k rest) (times k order) w.1 stands all (each.once k w.0 w.1)) in
     let smaller : HasEach n rest = record {
       within = low;
       once = λ k above below. let all = counted k in let one = each.once k above (omega (arith, below)) in let not : cond (suc n == k) 1 0 ≡ 0 = not_counts (suc n) k (λ e. omega (arith, e, below)) in omega (arith, all, one, not);

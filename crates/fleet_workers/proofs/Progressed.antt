@@ -70,14 +70,17 @@ after_batch script front members old new mid share after count groups done is fe
     let ready = ready_groups script front members old mid share count groups is few r dealt in
     let numbers = done_numbers script jobs done ready h in
     let tally : tally_at script (front ++ order) ≡ plus (tally_at script front) (tally_at script order) = tally-append script front order in
-    let moved : moved_in (r.done ++ done) ≡ moved_in r.done + moved_in done = moved-append r.done done in
-    (order, dealt.all, record {
-      devices = all_devices script done r.devices;
-      here = slots ∙ back;
-      to = subst (λ (l : List Report). RunsTo script (front ++ order) (all_devices script done r.devices) l new.log.items) (sym reports) (subst (RunsTo script (front ++ order) (all_devices script done r.devices) (all_reports done old.reports.items)) (sym log) put);
-      done = r.done ++ done;
-      numbers = map-append (λ (d : Done). d.number) r.done done ∙ (λ i. r.numbers i ++ numbers i);
-      reports = reports ∙ ap (all_reports done) r.reports ∙ sym (reports_both r.done done (replicate (length script.commands) NotHeld));
-      counted = counted_more (tally_of script) (tally_at script front) (tally_at script order) (moved_in r.done) (moved_in done) share after r.counted counted
-          ∙ (λ i. stake all_parts (less (tally_of script) (sym tally i)) (worked (sym tally i) (sym moved i)));
-    })
+    let moved : moved_in (r.done ++ done) ≡ moved_in r.done + moved_in done = moved-append r.done done in (
+      order,
+      dealt.all,
+      record {
+        devices = all_devices script done r.devices;
+        here = slots ∙ back;
+        to = subst (λ (l : List Report). RunsTo script (front ++ order) (all_devices script done r.devices) l new.log.items) (sym reports) (subst (RunsTo script (front ++ order) (all_devices script done r.devices) (all_reports done old.reports.items)) (sym log) put);
+        done = r.done ++ done;
+        numbers = map-append (λ (d : Done). d.number) r.done done ∙ (λ i. r.numbers i ++ numbers i);
+        reports = reports ∙ ap (all_reports done) r.reports ∙ sym (reports_both r.done done (replicate (length script.commands) NotHeld));
+        counted = counted_more (tally_of script) (tally_at script front) (tally_at script order) (moved_in r.done) (moved_in done) share after r.counted counted
+            ∙ (λ i. stake all_parts (less (tally_of script) (sym tally i)) (worked (sym tally i) (sym moved i)));
+      },
+    )

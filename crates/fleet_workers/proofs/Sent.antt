@@ -14,6 +14,7 @@ use Rattle.photo_version.proofs.author.Author.TheSendSync as author
 use Rattle.photo_record.proofs.word.Word.TheSendSync as word
 use Rattle.photo_record.proofs.record.Record.TheSendSync as record_
 use Rattle.photo_filter_rules.proofs.choice.Choice.TheSendSync as choice
+use Rattle.photo_filter_rules.proofs.span.Span.TheSendSync as span
 use Rattle.item_knowledge.proofs.knowledge.Knowledge.TheSendSync as knowledge
 use Rattle.photo_device.proofs.held.Held.TheSendSync as held
 use Rattle.photo_device.proofs.held_set.HeldSet.TheSendSync as held_set
@@ -40,10 +41,16 @@ tree_sync = first_of (
 )
 
 pub filter_send : IsSend filter_.the_row
-filter_send = search (memory.the_field_send, memory.the_send, memory.the_field_sync, memory.the_sync, global.the_field_send, global.the_send, global.the_field_sync, global.the_sync, vec.the_send, vec.the_sync, string.the_field_send, string.the_send, string.the_field_sync, string.the_sync, box.the_send, box.the_sync, crosses, tree_send, choice.the_send, sendable) depth 60 fits 20000
+filter_send = first_of (
+  search (memory.the_field_send, memory.the_send, memory.the_field_sync, memory.the_sync, global.the_field_send, global.the_send, global.the_field_sync, global.the_sync, vec.the_send, vec.the_sync, string.the_field_send, string.the_send, string.the_field_sync, string.the_sync, box.the_send, box.the_sync, choice.the_send, choice.the_sync, span.the_field_send, span.the_send, span.the_field_sync, span.the_sync, cmp.the_field_send, cmp.the_send, cmp.the_field_sync, cmp.the_sync, day.the_send, day.the_sync, rating.the_send, rating.the_sync, word.the_send, word.the_sync, crosses, knot.crosses, sendable) depth 60 fits 20000,
+  search (memory.the_field_send, memory.the_send, memory.the_field_sync, memory.the_sync, global.the_field_send, global.the_send, global.the_field_sync, global.the_sync, vec.the_send, vec.the_sync, string.the_field_send, string.the_send, string.the_field_sync, string.the_sync, box.the_send, box.the_sync, choice.the_send, choice.the_sync, span.the_field_send, span.the_send, span.the_field_sync, span.the_sync, cmp.the_field_send, cmp.the_send, cmp.the_field_sync, cmp.the_sync, day.the_send, day.the_sync, rating.the_send, rating.the_sync, word.the_send, word.the_sync, crosses, knot.crosses_both, sendable) depth 60 fits 20000,
+)
 
 pub filter_sync : IsSync filter_.the_row
-filter_sync = search (memory.the_field_send, memory.the_send, memory.the_field_sync, memory.the_sync, global.the_field_send, global.the_send, global.the_field_sync, global.the_sync, vec.the_send, vec.the_sync, string.the_field_send, string.the_send, string.the_field_sync, string.the_sync, box.the_send, box.the_sync, crosses, tree_sync, choice.the_sync, sendable) depth 60 fits 20000
+filter_sync = first_of (
+  search (memory.the_field_send, memory.the_send, memory.the_field_sync, memory.the_sync, global.the_field_send, global.the_send, global.the_field_sync, global.the_sync, vec.the_send, vec.the_sync, string.the_field_send, string.the_send, string.the_field_sync, string.the_sync, box.the_send, box.the_sync, choice.the_send, choice.the_sync, span.the_field_send, span.the_send, span.the_field_sync, span.the_sync, cmp.the_field_send, cmp.the_send, cmp.the_field_sync, cmp.the_sync, day.the_send, day.the_sync, rating.the_send, rating.the_sync, word.the_send, word.the_sync, crosses, knot.crosses, sendable) depth 60 fits 20000,
+  search (memory.the_field_send, memory.the_send, memory.the_field_sync, memory.the_sync, global.the_field_send, global.the_send, global.the_field_sync, global.the_sync, vec.the_send, vec.the_sync, string.the_field_send, string.the_send, string.the_field_sync, string.the_sync, box.the_send, box.the_sync, choice.the_send, choice.the_sync, span.the_field_send, span.the_send, span.the_field_sync, span.the_sync, cmp.the_field_send, cmp.the_send, cmp.the_field_sync, cmp.the_sync, day.the_send, day.the_sync, rating.the_send, rating.the_sync, word.the_send, word.the_sync, crosses, knot.crosses_both, sendable) depth 60 fits 20000,
+)
 
 pub device_send : IsSend device.the_row
 device_send = search (memory.the_field_send, memory.the_send, memory.the_field_sync, memory.the_sync, global.the_field_send, global.the_send, global.the_field_sync, global.the_sync, vec.the_send, vec.the_sync, string.the_field_send, string.the_send, string.the_field_sync, string.the_sync, box.the_send, box.the_sync, crosses, filter_send, held_set.the_send, knowledge.the_send, sendable) depth 60 fits 20000

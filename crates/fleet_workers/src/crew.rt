@@ -7,8 +7,8 @@ ghost use Rattle.fleet_workers.specs.Counting.{tally_at, worked, moved_in};
 ghost use Rattle.fleet_workers.specs.Jobs.{AreReadyJobs, AreDoneJobs, MayStart, HasWorked, jobs_of, numbers_of};
 
 use crate::gate::Gate;
-use crate::work::{Done, Finished, Job};
 use crate::tally::tally;
+use crate::work::{Done, Finished, Job};
 use crate::worker::run_jobs;
 use fleet_steps::RunError;
 use photo_script::Script;
@@ -119,15 +119,7 @@ pub(crate) fn run_crew<
     };
     let _left = share.left();
     let mine = share.split(tally(&**script, &jobs));
-    let running = start(
-        rt,
-        alloc,
-        script_copy,
-        ledger_copy,
-        gate_copy,
-        mine,
-        jobs,
-    )?;
+    let running = start(rt, alloc, script_copy, ledger_copy, gate_copy, mine, jobs)?;
     let others = run_crew(rt, alloc, script, ledger, gate, share, groups);
     let finished = running.join(&rt);
     let done = others?;

@@ -52,9 +52,9 @@ loop-job-preserved g c =
     let is : command_of script job.number ≡ _ = number_of script job.number command (numbered script job ready.0) c.command.ensures.command in
     let is_for = ready_command script job command ready.0 is in
     let step = counts_more script job.number command (numbers_of rest) c.loop-job.done.items d c.loop-job.share c.glance.new.share (tally_at script (numbers_of c.args.jobs.items)) is (job_counts command job d is_for c.in_ok-it.ensures)
-        (inv.left ∙ ap (λ (js : List Job). tally_at script (numbers_of js)) next)
-        (ap (λ (js : List Job). both c.loop-job.share.done (worked (tally_at script (numbers_of js)) 0)) (sym next) ∙ inv.counted)
-        (c.glance.ensures.same ∙ c.count.ensures ∙ ap (λ k. counted k c.loop-job.share) c.kind_of.ensures) in
+    (inv.left ∙ ap (λ (js : List Job). tally_at script (numbers_of js)) next)
+    (ap (λ (js : List Job). both c.loop-job.share.done (worked (tally_at script (numbers_of js)) 0)) (sym next) ∙ inv.counted)
+    (c.glance.ensures.same ∙ c.count.ensures ∙ ap (λ k. counted k c.loop-job.share) c.kind_of.ensures) in
     record {
       ready = ready.1;
       done = λ more by.
@@ -87,5 +87,5 @@ returns g c =
     let none : into_iter_items c.loop-job.job-iterator ≡ [] = grind (arith, common_steps) in (
       subst (AreDoneJobs script c.args.jobs.items) (append-nil c.loop-job.done.items) (inv.done [] (subst (λ (js : List Job). AreDoneJobs script js []) (sym none) tt)),
       all_counted script (tally_at script (numbers_of c.args.jobs.items)) (moved_in c.loop-job.done.items) c.loop-job.share inv.parts (inv.left ∙ ap (λ (js : List Job). tally_at script (numbers_of js)) none)
-        (ap (λ (js : List Job). both c.loop-job.share.done (worked (tally_at script (numbers_of js)) 0)) (sym none) ∙ inv.counted),
+          (ap (λ (js : List Job). both c.loop-job.share.done (worked (tally_at script (numbers_of js)) 0)) (sym none) ∙ inv.counted),
     )
