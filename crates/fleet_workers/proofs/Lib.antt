@@ -8,3 +8,4 @@ pub mod Progressed
 pub mod Lawful
 pub mod Planned
 pub mod Opened
+pub mod Sent

@@ -1,15 +1,67 @@
-// What workers gave back is put in its places.
-ghost use Rattle.std.specs.Prelude.{◌≡◌, ◌-◌, ◌<◌, ◌++◌, Some, length, slice_set, IfSome, OnOk, ◌∷◌, []};
+// One batch: it is dealt to workers, and what they gave back is put in its places.
+ghost use Rattle.std.specs.Prelude.{◌≡◌, ◌⊎◌, ◌-◌, ◌<◌, ◌≤◌, ◌++◌, ℕ, List, Some, length, map, slice_set, IsPermutation, IfSome, IfOk, IfErr, OnOk, ◌∷◌, []};
+ghost use Rattle.std.specs.Arc.{arc_value};
 ghost use Rattle.std.specs.List.{AllByRecursion};
 ghost use Rattle.std.specs.Option.{option_to_list};
-ghost use Rattle.fleet_workers.specs.Batch.{IsOfCommand, with_other, some_second, put_slots, all_slots, all_reports, all_logged};
+ghost use Rattle.work_ledger.specs.Stakes.{Within};
+ghost use Rattle.photo_script.specs.Contents.{IsScript};
+ghost use Rattle.photo_script.specs.Limits.{max_commands};
+ghost use Rattle.photo_batcher.specs.Related.{IsNumber};
+ghost use Rattle.fleet_steps.specs.declared.fault.RunError.TheVariants.{NoMemory, NoWorker};
+ghost use Rattle.fleet_workers.specs.Batch.{AreApart, IsOfCommand, with_other, some_second, put_slots, all_slots, all_reports, all_logged};
+ghost use Rattle.fleet_workers.specs.Counting.{tally_at};
+ghost use Rattle.fleet_workers.specs.Progress.{HasRun};
 
-use crate::deal::places_of;
+use crate::crew::run_crew;
+use crate::deal::{deal, places_of};
+use crate::gate::Gate;
 use crate::slots::Slots;
 use crate::work::Done;
+use fleet_steps::RunError;
 use photo_device::{Device, Held};
 use photo_script::{Report, Script};
-use std::alloc::AllocError;
+use std::alloc::{AllocError, Global};
+use std::sync::{Arc, Wait};
+use std::thread::Threads;
+use work_ledger::{Books, Ledger, Share};
+
+// Runs one batch, whose commands work on no common device, by as many workers as there are or as it has commands: the slots
+// are as after the run of its commands in some order, and the share has counted them.
+pub(crate) fn run_batch<
+    B: Books + Send + Sync + 'static,
+    G: Gate + 'static,
+    R: Threads + Wait + Copy + Send + 'static,
+>(
+    rt: R,
+    alloc: Global,
+    script: &Arc<Script>,
+    ledger: &Arc<Ledger<B>>,
+    gate: &Arc<G>,
+    share: &mut Share<B>,
+    slots: Slots,
+    members: &[u32],
+    workers: usize,
+) -> Result<Slots, RunError>
+    requires script { IsScript (arc_value script.now) }
+    requires numbers { AllByRecursion (IsNumber (arc_value script.now)) members.now }
+    requires apart { AreApart (arc_value script.now) members.now }
+    requires workers { (0 < workers) × (workers < share.old.parts) }
+    requires left { Within (tally_at (arc_value script.now) members.now) share.old.left }
+    requires state { (front : List ℕ) × (length front ≤ max_commands) × HasRun (arc_value script.now) front slots share.old }
+    ensures ok { IfOk result (λ new. (front : List ℕ) → length front ≤ max_commands → HasRun (arc_value script.now) front slots share.old → (order : List ℕ) × IsPermutation members.now order × HasRun (arc_value script.now) (front ++ order) new share.new) }
+    ensures err { IfErr result (λ e. (e ≡ NoMemory) ⊎ (e ≡ NoWorker)) }
+{
+    let mut slots = slots;
+    let count = workers.min(members.len());
+    let Ok(groups) = deal(alloc, &**script, &mut slots.devices, members, count) else {
+        return Err(RunError::NoMemory);
+    };
+    let done = run_crew(rt, alloc, script, ledger, gate, share, groups)?;
+    let Ok(()) = take_back(&**script, &mut slots, done) else {
+        return Err(RunError::NoMemory);
+    };
+    Ok(slots)
+}
 
 // Puts all back, one after another.
 fn take_back(script: &Script, slots: &mut Slots, done: Vec<Done>) -> Result<(), AllocError>

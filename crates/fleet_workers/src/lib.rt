@@ -2,7 +2,9 @@
 #![tactic(auto)]
 
 mod batch;
+mod crew;
 mod deal;
+mod fleet;
 mod gate;
 mod number;
 mod one;
@@ -11,5 +13,6 @@ mod tally;
 mod work;
 mod worker;
 
+pub use fleet::run_fleet;
 pub use gate::{Gate, OpenGate};
 pub use number::Workers;

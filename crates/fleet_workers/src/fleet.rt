@@ -1,0 +1,195 @@
+// All batches, one after another.
+ghost use Rattle.std.specs.Prelude.{◌≡◌, ◌⊎◌, ◌<◌, ◌≤◌, [], ℕ, List, length, map, replicate, Some, IfOk, IfErr};
+ghost use Rattle.std.specs.Arc.{arc_value};
+ghost use Rattle.photo_device.specs.Device.{Kept};
+ghost use Rattle.photo_script.specs.Contents.{IsScript};
+ghost use Rattle.photo_script.specs.Tallies.{tally_of};
+ghost use Rattle.photo_script.specs.declared.report.Report.TheVariants.{NotHeld};
+ghost use Rattle.photo_batcher.specs.Plans.{IsPlan};
+ghost use Rattle.photo_batcher.specs.Batches.{InTurn};
+ghost use Rattle.work_ledger.specs.Ledgers.{all_parts};
+ghost use Rattle.work_ledger.specs.Stakes.{Stake, stake, nothing_done, IsCountable};
+ghost use Rattle.fleet_steps.specs.Outcomes.{IsOutcome};
+ghost use Rattle.fleet_steps.specs.declared.fault.RunError.TheVariants.{NoMemory, NoWorker};
+ghost use Rattle.fleet_workers.specs.Limits.{max_workers};
+ghost use Rattle.fleet_workers.specs.Progress.{HasRun};
+
+use crate::batch::run_batch;
+use crate::gate::Gate;
+use crate::number::Workers;
+use crate::slots::Slots;
+use fleet_steps::{IssueLog, Outcome, RunError, opening_devices};
+use photo_batcher::{Plan, plan};
+use photo_device::Device;
+use photo_script::{Report, Script, Tally, Totals};
+use std::alloc::{AllocError, Global};
+use std::marker::Brand;
+use std::sync::{Arc, Wait};
+use std::thread::Threads;
+use work_ledger::{Blanks, Books, open};
+
+/// Runs a script by several workers, each in a thread of its own, batch by batch. The commands of a batch work on no common
+/// device. Of a batch of `m` commands the one at place `i`, from 0, goes to worker `i mod min(workers, m)`, which takes its
+/// commands in the order of their numbers; for each it calls the gate, runs the command, counts it in a ledger, and calls the
+/// gate with what all workers together had then counted. No lock is held meanwhile. All workers of a batch are joined before
+/// the next one begins.
+///
+/// The outcome is that of the run command by command, but for the order of the log. Its totals are what the ledger counted.
+/// Where memory was refused (E1) or a thread could not be started (E2), all workers that were started have been joined, and
+/// there is no outcome.
+pub fn run_fleet<G: Gate + 'static, R: Threads + Wait + Copy + Send + 'static>(
+    rt: R,
+    alloc: Global,
+    script: &Arc<Script>,
+    workers: Workers,
+    gate: Arc<G>,
+) -> Result<Outcome, RunError>
+    ensures ok { IfOk result (IsOutcome (arc_value script.now)) }
+    ensures err { IfErr result (λ e. (e ≡ NoMemory) ⊎ (e ≡ NoWorker)) }
+{
+    let source = &**script;
+    let count = commands_of(source);
+    let tally = source.tally();
+    let Ok(plan) = plan(alloc, source) else {
+        return Err(RunError::NoMemory);
+    };
+    let Ok(slots) = opening_slots(alloc, source, count) else {
+        return Err(RunError::NoMemory);
+    };
+    let (slots, totals) = run_batches::<Brand, G, R>(
+        rt,
+        alloc,
+        Blanks::new(),
+        tally,
+        script,
+        &gate,
+        &plan,
+        slots,
+        workers.count(),
+    )?;
+    let Slots {
+        devices,
+        reports,
+        log,
+    } = slots;
+    let Ok(devices) = all_devices(alloc, devices) else {
+        return Err(RunError::NoMemory);
+    };
+    let Ok(log) = IssueLog::new(alloc, log) else {
+        return Err(RunError::NoMemory);
+    };
+    Ok(Outcome {
+        devices,
+        reports,
+        totals,
+        log,
+    })
+}
+
+// Runs the batches of a plan, and counts in the ledgers of the blanks.
+fn run_batches<
+    B: Books + Send + Sync + 'static,
+    G: Gate + 'static,
+    R: Threads + Wait + Copy + Send + 'static,
+>(
+    rt: R,
+    alloc: Global,
+    blanks: Blanks,
+    tally: Tally,
+    script: &Arc<Script>,
+    gate: &Arc<G>,
+    plan: &Plan,
+    slots: Slots,
+    workers: usize,
+) -> Result<(Slots, Totals), RunError>
+    requires names { blanks ≡ B.names }
+    requires ledger { tally ≡ B.tally }
+    requires countable { IsCountable tally }
+    requires tally { tally ≡ tally_of (arc_value script.now) }
+    requires script { IsScript (arc_value script.now) }
+    requires plan { IsPlan (arc_value script.now) plan.now }
+    requires start { HasRun (arc_value script.now) [] slots (stake all_parts tally nothing_done) }
+    requires workers { (0 < workers) × (workers ≤ max_workers) }
+    ensures ok { IfOk result (λ r. (order : List ℕ) × (share : Stake) × InTurn plan.now.members order × HasRun (arc_value script.now) order r.0 share × (r.1 ≡ share.done)) }
+    ensures err { IfErr result (λ e. (e ≡ NoMemory) ⊎ (e ≡ NoWorker)) }
+{
+    let Ok((ledger, mut share)) = open::<B>(alloc, blanks, tally) else {
+        return Err(RunError::NoMemory);
+    };
+    let mut slots = slots;
+    for batch in 0..plan.batches() {
+        slots = run_batch(
+            rt,
+            alloc,
+            script,
+            &ledger,
+            gate,
+            &mut share,
+            slots,
+            plan.members(batch),
+            workers,
+        )?;
+    }
+    let totals = ledger.close(&rt, share);
+    Ok((slots, totals))
+}
+
+// How many commands a script has. What is true of every script is true of it.
+fn commands_of(script: &Script) -> usize
+    ensures count { result ≡ length script.now.commands }
+    ensures script { IsScript script.now }
+{
+    let _devices = script.devices();
+    script.commands()
+}
+
+// The slots before any command.
+fn opening_slots(alloc: Global, script: &Script, commands: usize) -> Result<Slots, AllocError>
+    requires script { IsScript script.now }
+    requires commands { commands ≡ length script.now.commands }
+    ensures { IfOk result (λ slots. HasRun script.now [] slots (stake all_parts (tally_of script.now) nothing_done)) }
+{
+    let devices = opening_devices(alloc, script)?;
+    let devices = all_slots(alloc, devices)?;
+    let reports = no_reports(alloc, commands)?;
+    Ok(Slots {
+        devices,
+        reports,
+        log: Vec::new(alloc),
+    })
+}
+
+// A slot for each device.
+fn all_slots(alloc: Global, devices: Vec<Device>) -> Result<Vec<Option<Device>>, AllocError>
+    ensures { IfOk result (λ slots. slots.items ≡ map Some devices.items) }
+{
+    let mut slots = Vec::new(alloc);
+    for device in devices {
+        slots.push(Some(device))?;
+    }
+    Ok(slots)
+}
+
+// A place for each report, all of which are written before the run ends.
+fn no_reports(alloc: Global, count: usize) -> Result<Vec<Report>, AllocError>
+    ensures { IfOk result (λ reports. reports.items ≡ replicate count NotHeld) }
+{
+    let mut reports = Vec::new(alloc);
+    for _ in 0..count {
+        reports.push(Report::NotHeld)?;
+    }
+    Ok(reports)
+}
+
+// The devices of slots none of which is empty.
+fn all_devices(alloc: Global, slots: Vec<Option<Device>>) -> Result<Vec<Device>, AllocError>
+    requires { (devices : List Kept) × (slots.items ≡ map Some devices) }
+    ensures { IfOk result (λ all. slots.items ≡ map Some all.items) }
+{
+    let mut all = Vec::new(alloc);
+    for slot in slots {
+        let Some(device) = slot else { unreachable!() };
+        all.push(device)?;
+    }
+    Ok(all)
+}
