@@ -1,5 +1,5 @@
 -- What a stream has written where memory was refused.
-use Rattle.std.proofs.Common.{◌≡◌, ◌≢◌, inl, inr, ℕ, List, [], take, Ok}
+use Rattle.std.proofs.Common.{◌≡◌, inl, inr, ℕ, List, [], take, Ok}
 use Rattle.std.specs.Prelude.{Option, Some, None, IfSome}
 use Rattle.std.proofs.KnownBytes.{Appends-nil}
 use Rattle.photo_script.specs.Contents.{Contents}
@@ -9,7 +9,6 @@ use Rattle.photo_script.specs.Runs.{run, reports_of}
 use Rattle.fleet_steps.specs.Outcomes.{AreRight}
 use Rattle.fleet_steps.specs.Laws.{AcceptedStaysSound}
 use Rattle.fleet_steps.specs.declared.fault.RunError.{RunError}
-use Rattle.fleet_steps.specs.declared.fault.RunError.TheVariants.{NotLawful, NoWorker}
 use Rattle.fleet_runner.specs.Outputs.{AppendsFirst, WritesFirst, IsOfWriting, IsOfPlainRun}
 use Rattle.fleet_steps.proofs.Zipped.{zip_take}
 

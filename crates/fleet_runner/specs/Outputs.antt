@@ -6,8 +6,9 @@ use Rattle.photo_script.specs.Contents.{Contents}
 use Rattle.photo_script.specs.Reading.{script_of}
 use Rattle.photo_script.specs.Reports.{Answer, Tells, texts_from}
 use Rattle.photo_script.specs.Runs.{run, reports_of}
+use Rattle.photo_script.specs.declared.fault.ScriptFault.{ScriptFault}
 use Rattle.fleet_steps.specs.declared.fault.RunError.{RunError}
-use Rattle.fleet_steps.specs.declared.fault.RunError.TheVariants.{NoMemory, NoWorker, NotLawful, Write}
+use Rattle.fleet_steps.specs.declared.fault.RunError.TheVariants.{NoMemory, NoWorker, NotLawful, Script, Write}
 use Rattle.fleet_steps.specs.Outcomes.{AreRight}
 use Rattle.fleet_steps.specs.Sound.{IsSoundThroughout}
 
@@ -66,6 +67,14 @@ pub record WritesFront (old new : Option (List ℕ)) (input : List ℕ) : Type 0
 -- the error is one that a run command by command can have: no order was asked for, and no worker
 abbrev pub IsOfPlainRun : RunError → Type 0
 IsOfPlainRun e = (e ≢ NotLawful) × (e ≢ NoWorker)
+
+-- the error is one that a run by workers can have: no order was asked for
+abbrev pub IsOfWorkersRun : RunError → Type 0
+IsOfWorkersRun e = e ≢ NotLawful
+
+-- the error is the script's
+abbrev pub IsOfReading : RunError → Type 0
+IsOfReading e = (fault : ScriptFault) × (e ≡ Script fault)
 
 -- the error is one of writing: it is not the script's
 abbrev pub IsOfWriting : RunError → Type 0

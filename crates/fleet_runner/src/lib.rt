@@ -1,4 +1,4 @@
-//! Runs of scripts, from a reader's bytes to the bytes of the reports.
+//! Runs of scripts, on one thread or by several workers, from a reader's bytes to the bytes of the reports.
 #![tactic(auto)]
 
 pub mod laws;
@@ -11,10 +11,11 @@ pub use fleet_audit::audit;
 pub use fleet_steps::{
     IssueLog, Outcome, RunError, replay, run_command, run_on, run_plain, run_pull,
 };
+pub use fleet_workers::{Gate, OpenGate, Workers, run_fleet};
 pub use plans::write_plan;
 pub use reports::write_reports;
 pub use source::read_source;
-pub use stream::plain_stream;
+pub use stream::{plain_stream, run_stream};
 
 #[cfg(test)]
 mod tests;

@@ -1,15 +1,18 @@
-ghost use Rattle.std.specs.Prelude.{◌≡◌, ◌≢◌, ◌+◌, OnOk, IfErr, IfSome, Err};
+ghost use Rattle.std.specs.Prelude.{◌≡◌, ◌≢◌, ◌+◌, OnOk, IfOk, IfErr, IfSome, Ok, Err};
 ghost use Rattle.photo_script.specs.Limits.{max_text_bytes};
 ghost use Rattle.photo_script.specs.Reading.{script_of};
 ghost use Rattle.photo_script.specs.declared.fault.ScriptFault.{ScriptFault};
 ghost use Rattle.photo_script.specs.declared.fault.ScriptFault.TheVariants as script;
-ghost use Rattle.fleet_steps.specs.declared.fault.RunError.TheVariants.{NoMemory, Script, Write};
-ghost use Rattle.fleet_runner.specs.Outputs.{IsOfPlainRun, TakesAtMost, WritesOutput, WritesFirst, WritesFront};
+ghost use Rattle.fleet_steps.specs.Laws.{AcceptedStaysSound};
+ghost use Rattle.fleet_steps.specs.declared.fault.RunError.TheVariants.{NoMemory, NoWorker, Script, Write};
+ghost use Rattle.fleet_runner.specs.Outputs.{IsOfReading, IsOfPlainRun, IsOfWorkersRun, TakesAtMost, WritesOutput, WritesFirst, WritesFront};
 
-use crate::{RunError, read_source, run_plain, write_reports};
+use crate::{Gate, RunError, Workers, read_source, run_fleet, run_plain, write_reports};
 use fleet_steps::laws::accepted_stays_sound;
 use std::alloc::Global;
 use std::io::{Read, Write};
+use std::sync::{Arc, Wait};
+use std::thread::Threads;
 
 /// Reads a script, runs it command by command, and then writes its reports.
 ///
@@ -30,12 +33,55 @@ pub fn plain_stream<R: Read, W: Write>(
     ensures taken { TakesAtMost (R.remaining reader.old) (R.remaining reader.new) (max_text_bytes + 1) }
     ensures err { IfErr result IsOfPlainRun }
 {
-    // The law that the contract's 'sound' rests on. It does nothing.
-    accepted_stays_sound();
-    let script = match read_source(alloc, reader) {
-        Ok(script) => script,
-        Err(fault) => return Err(RunError::Script(fault)),
-    };
+    let script = script_read(alloc, reader)?;
     let outcome = run_plain(alloc, &script)?;
     write_reports(alloc, writer, &script, outcome.reports.as_slice())
+}
+
+/// Reads a script, runs it by several workers, each in a thread of its own, and then writes its reports. The bytes
+/// written are those of [`plain_stream`].
+///
+/// Nothing is written before the run has succeeded: a `Script` fault leaves the writer as it was, and so does
+/// `NoWorker`, where a thread could not be started. The fault is the first one of the bytes read, unless reading or
+/// memory failed. After `NoMemory` the whole texts of some first reports are written, perhaps of none, and after
+/// `Write` a front of all texts. At most 8,388,609 bytes are read.
+pub fn run_stream<R: Read, W: Write, G: Gate + 'static, T: Threads + Wait + Copy + Send + 'static>(
+    rt: T,
+    alloc: Global,
+    reader: &mut R,
+    writer: &mut W,
+    workers: Workers,
+    gate: Arc<G>,
+) -> Result<(), RunError>
+    ensures written { OnOk result (IfSome (R.remaining reader.old) (WritesOutput (W.contents writer.old) (W.contents writer.new))) }
+    ensures first { result ≡ Err NoMemory → IfSome (R.remaining reader.old) (WritesFirst (W.contents writer.old) (W.contents writer.new)) }
+    ensures front { result ≡ Err Write → IfSome (R.remaining reader.old) (WritesFront (W.contents writer.old) (W.contents writer.new)) }
+    ensures refused { (fault : ScriptFault) → result ≡ Err (Script fault) → fault ≢ script.Read → fault ≢ script.NoMemory → IfSome (R.remaining reader.old) (λ input. script_of input ≡ Err fault) }
+    ensures nothing { (fault : ScriptFault) → result ≡ Err (Script fault) → writer.new ≡ writer.old }
+    ensures nothing_without_worker { result ≡ Err NoWorker → writer.new ≡ writer.old }
+    ensures taken { TakesAtMost (R.remaining reader.old) (R.remaining reader.new) (max_text_bytes + 1) }
+    ensures err { IfErr result IsOfWorkersRun }
+{
+    let script = script_read(alloc, reader)?;
+    let Ok(script) = Arc::new(alloc, script) else {
+        return Err(RunError::NoMemory);
+    };
+    let outcome = run_fleet(rt, alloc, &script, workers, gate)?;
+    write_reports(alloc, writer, &*script, outcome.reports.as_slice())
+}
+
+// Reads a script, and tells that every accepted script stays sound.
+fn script_read<R: Read>(alloc: Global, reader: &mut R) -> Result<photo_script::Script, RunError>
+    ensures read { IfOk result (λ script. IfSome (R.remaining reader.old) (λ input. script_of input ≡ Ok script)) }
+    ensures sound { AcceptedStaysSound }
+    ensures refused { (fault : ScriptFault) → result ≡ Err (Script fault) → fault ≢ script.Read → fault ≢ script.NoMemory → IfSome (R.remaining reader.old) (λ input. script_of input ≡ Err fault) }
+    ensures taken { TakesAtMost (R.remaining reader.old) (R.remaining reader.new) (max_text_bytes + 1) }
+    ensures err { IfErr result IsOfReading }
+{
+    // The law that the contract's 'sound' rests on. It does nothing.
+    accepted_stays_sound();
+    match read_source(alloc, reader) {
+        Ok(script) => Ok(script),
+        Err(fault) => Err(RunError::Script(fault)),
+    }
 }

@@ -67,7 +67,7 @@ fn drawn_scripts_stay_right(rt: HostRuntime) {
     }
 }
 
-const HOUSEHOLD: &str =
+pub const HOUSEHOLD: &str =
     "# A phone and a camera take pictures, a server keeps them all, a frame in the hall shows the good ones, and the\n# children's tablet shows what is not private.\ndevice phone all\ndevice camera rating >= 3\ndevice server all\ndevice hall rating >= 4\ndevice tablet rating >= 2 and not keyword private\n\nnew phone 1 5 2026-07-01 beach\nnew phone 2 4 2026-07-01 beach,private\nnew camera 3 4 2026-07-02 mountains\n# Below the camera's own filter: it goes to the camera's out, and the next one that pulls takes it along.\nnew camera 4 1 2026-07-02 blurred\n\npull server phone\npull server camera\npull hall server\npull tablet server\nlist hall\nlist tablet\n\n# On the server a picture becomes private. The tablet's next pull lets go of it.\nedit server 1 5 2026-07-01 beach,private\npull tablet server\nlist tablet\n\n# The phone and the server change one picture without knowing of each other, and the server sees the conflict.\nedit phone 2 3 2026-07-01 beach,private\nedit server 2 5 2026-07-01 beach,private\npull server phone\nconflicts server\nedit server 2 4 2026-07-01 beach,private,chosen\nconflicts server\npull phone server\nconflicts phone\n\n# A picture is removed, and leaves the hall by way of the server.\nremove phone 1\npull server phone\npull hall server\nlist hall\n\n# The hall is to show the best alone from now on.\nnarrow hall rating = 5\nnarrow hall rating >= 4\nknowledge camera\nknowledge hall\n";
 
 fn are_right(alloc: Global, scripts: &[(&str, &str)]) -> bool {

@@ -1,6 +1,6 @@
 use super::memory::runs;
 
-const VERSIONS: &[(&str, &str)] = &[
+pub const VERSIONS: &[(&str, &str)] = &[
     (
         "device a rating >= 2\nnew a 7 5 2024-01-01 -\nedit a 7 1 2024-01-01 -\nremove a 7\nedit a 7 4 2024-01-01 -\nremove a 9\nlist a\n",
         "1 made a:1 store\n2 made a:2 out\n3 made a:3 out\n4 made a:4 store\n5 refused C1 NotHeld\n6 list a store 1 out 0\n  store 7 a:4 rating 4 day 2024-01-01 words -\n",
@@ -20,7 +20,7 @@ const VERSIONS: &[(&str, &str)] = &[
 #[test]
 fn versions_of_a_picture(rt: HostRuntime) {
     for (script, reports) in VERSIONS {
-        assert!(rt; runs(rt.alloc(), script, reports, ""), "{script}");
+        assert!(rt; runs(rt, rt.alloc(), script, reports, ""), "{script}");
     }
 }
 
@@ -61,6 +61,6 @@ const REFUSED_LINES: &[(&str, &str)] = &[
 #[test]
 fn lines_that_are_refused(rt: HostRuntime) {
     for (script, error) in REFUSED_LINES {
-        assert!(rt; runs(rt.alloc(), script, "", error), "{script}");
+        assert!(rt; runs(rt, rt.alloc(), script, "", error), "{script}");
     }
 }

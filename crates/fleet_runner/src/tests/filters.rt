@@ -26,7 +26,7 @@ const PLACES: &[(&str, &str)] = &[
 #[test]
 fn places_of_new_versions(rt: HostRuntime) {
     for (script, reports) in PLACES {
-        assert!(rt; runs(rt.alloc(), script, reports, ""), "{script}");
+        assert!(rt; runs(rt, rt.alloc(), script, reports, ""), "{script}");
     }
 }
 
@@ -44,7 +44,7 @@ const REFUSED_FILTERS: &[(&str, &str)] = &[
 #[test]
 fn filters_that_are_refused(rt: HostRuntime) {
     for (script, error) in REFUSED_FILTERS {
-        assert!(rt; runs(rt.alloc(), script, "", error), "{script}");
+        assert!(rt; runs(rt, rt.alloc(), script, "", error), "{script}");
     }
 }
 
@@ -62,7 +62,7 @@ fn high_script(alloc: Global, count: usize) -> Result<String, Fail> {
 fn heights_of_filters(rt: HostRuntime) -> Result<(), Fail> {
     for (count, error) in [(31, ""), (32, "line 1: F15 BadFilter")] {
         let script = high_script(rt.alloc(), count)?;
-        assert!(rt; runs(rt.alloc(), script.as_str(), "", error), "{count}");
+        assert!(rt; runs(rt, rt.alloc(), script.as_str(), "", error), "{count}");
     }
     Ok(())
 }
@@ -98,7 +98,7 @@ fn widths_of_filters(rt: HostRuntime) -> Result<(), Fail> {
     ] {
         let script = wide_script(rt.alloc(), left, right)?;
         assert!(rt;
-            runs(rt.alloc(), script.as_str(), output, error),
+            runs(rt, rt.alloc(), script.as_str(), output, error),
             "{left} by {right}"
         );
     }

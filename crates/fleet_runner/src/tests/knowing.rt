@@ -1,5 +1,7 @@
 use super::memory::runs;
 use std::alloc::Global;
+use std::sync::Wait;
+use std::thread::Threads;
 
 #[test]
 fn what_devices_know(rt: HostRuntime) {
@@ -20,7 +22,7 @@ fn what_devices_know(rt: HostRuntime) {
             "1 knows no\n2 knowledge b 1\n  * -\n3 made cam:1 store\n4 knows no\n5 knows yes\n6 knowledge cam 1\n  * cam:1\n",
         ),
     ] {
-        assert!(rt; runs(rt.alloc(), script, reports, ""), "{script}");
+        assert!(rt; runs(rt, rt.alloc(), script, reports, ""), "{script}");
     }
 }
 
@@ -44,17 +46,22 @@ fn questions_that_are_refused(rt: HostRuntime) {
         ("knows a 7 a:1:1", "F11 BadNumber"),
         ("knows a 7 a:100001", "F11 BadNumber"),
     ] {
-        assert!(rt; is_refused(rt.alloc(), line, fault), "{line}");
+        assert!(rt; is_refused(rt, rt.alloc(), line, fault), "{line}");
     }
 }
 
 /// Whether a script of one device and that line is refused for that fault of the line.
-fn is_refused(alloc: Global, line: &str, fault: &str) -> bool {
+fn is_refused<T: Threads + Wait + Copy + Send + 'static>(
+    rt: T,
+    alloc: Global,
+    line: &str,
+    fault: &str,
+) -> bool {
     let Ok(script) = format!(in alloc; "device a all\n{line}\n") else {
         return false;
     };
     let Ok(error) = format!(in alloc; "line 2: {fault}") else {
         return false;
     };
-    runs(alloc, &script, "", &error)
+    runs(rt, alloc, &script, "", &error)
 }

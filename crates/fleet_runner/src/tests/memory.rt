@@ -1,7 +1,9 @@
 //! Readers and writers in memory, and runs between them.
-use crate::{RunError, plain_stream};
+use crate::{OpenGate, RunError, Workers, plain_stream, run_stream};
 use std::alloc::Global;
 use std::io::{self, ErrorKind, Read, Write};
+use std::sync::{Arc, Wait};
+use std::thread::Threads;
 
 /// The stored run's script.
 pub const SCRIPT: &str = "device cam all\nnew cam 7 5 2024-05-01 sun,beach\nlist cam\n";
@@ -10,12 +12,12 @@ pub const SCRIPT: &str = "device cam all\nnew cam 7 5 2024-05-01 sun,beach\nlist
 pub const OUTPUT: &str =
     "1 made cam:1 store\n2 list cam store 1 out 0\n  store 7 cam:1 rating 5 day 2024-05-01 words beach,sun\n";
 
-/// Gives its bytes in pieces of at most `step`, and then an error in place of the end where `fails`.
+/// Gives its bytes in pieces of at most `step`, and then an error in place of the end where it has one.
 #[derive(Drop)]
 pub struct Source<'a> {
     pub left: &'a [u8],
     pub step: usize,
-    pub fails: bool,
+    pub error: Option<ErrorKind>,
 }
 
 impl<'a> Source<'a> {
@@ -24,7 +26,7 @@ impl<'a> Source<'a> {
         Source {
             left,
             step: usize::MAX,
-            fails: false,
+            error: None,
         }
     }
 }
@@ -32,8 +34,10 @@ impl<'a> Source<'a> {
 impl Read for Source<'_> {
     fn read(&mut self, buf: &mut [u8]) -> io::Result<usize> {
         let count = self.left.len().min(buf.len()).min(self.step);
-        if count == 0 && self.fails {
-            return Err(ErrorKind::BrokenPipe.into());
+        if count == 0 {
+            if let Some(kind) = self.error {
+                return Err(kind.into());
+            }
         }
         let (piece, left) = self.left.split_at(count);
         buf[..count].copy_from_slice(piece);
@@ -111,11 +115,87 @@ impl Write for Sink {
     }
 }
 
-/// Whether a run of the script writes that output, and ends with an error of that text, or with none where it is empty.
-pub fn runs(alloc: Global, script: &str, output: &str, error: &str) -> bool {
-    let mut source = Source::new(script.as_bytes());
+/// Who runs the commands of a script.
+#[derive(Clone, Copy)]
+pub enum Way {
+    /// Nobody else, one after another.
+    Plain,
+    /// So many workers.
+    By(u8),
+}
+
+/// The ways that have to give the same.
+pub const WAYS: &[Way] = &[Way::Plain, Way::By(1), Way::By(2), Way::By(7), Way::By(64)];
+
+/// The stream of that way.
+pub fn stream<R: Read, W: Write, T: Threads + Wait + Copy + Send + 'static>(
+    rt: T,
+    alloc: Global,
+    way: Way,
+    reader: &mut R,
+    writer: &mut W,
+) -> Result<(), RunError> {
+    match way {
+        Way::Plain => plain_stream(alloc, reader, writer),
+        Way::By(count) => stream_by(rt, alloc, count, reader, writer),
+    }
+}
+
+fn stream_by<R: Read, W: Write, T: Threads + Wait + Copy + Send + 'static>(
+    rt: T,
+    alloc: Global,
+    count: u8,
+    reader: &mut R,
+    writer: &mut W,
+) -> Result<(), RunError> {
+    let Some(workers) = Workers::new(count) else {
+        return Err(RunError::NoWorker);
+    };
+    let Ok(gate) = Arc::new(alloc, OpenGate) else {
+        return Err(RunError::NoMemory);
+    };
+    run_stream(rt, alloc, reader, writer, workers, gate)
+}
+
+/// Whether each way's run of the script writes that output, and ends with an error of that text, or with none where it is
+/// empty.
+pub fn runs<T: Threads + Wait + Copy + Send + 'static>(
+    rt: T,
+    alloc: Global,
+    script: &str,
+    output: &str,
+    error: &str,
+) -> bool {
+    runs_bytes(rt, alloc, script.as_bytes(), output, error)
+}
+
+/// The same of a script's bytes.
+pub fn runs_bytes<T: Threads + Wait + Copy + Send + 'static>(
+    rt: T,
+    alloc: Global,
+    script: &[u8],
+    output: &str,
+    error: &str,
+) -> bool {
+    for way in WAYS {
+        if !runs_so(rt, alloc, *way, script, output, error) {
+            return false;
+        }
+    }
+    true
+}
+
+fn runs_so<T: Threads + Wait + Copy + Send + 'static>(
+    rt: T,
+    alloc: Global,
+    way: Way,
+    script: &[u8],
+    output: &str,
+    error: &str,
+) -> bool {
+    let mut source = Source::new(script);
     let mut sink = Sink::new(alloc);
-    let answer = plain_stream(alloc, &mut source, &mut sink);
+    let answer = stream(rt, alloc, way, &mut source, &mut sink);
     sink.taken.as_slice() == output.as_bytes() && is_told(alloc, answer, error)
 }
 
@@ -135,12 +215,14 @@ fn is_written(alloc: Global, told: RunError, error: &str) -> bool {
 }
 
 /// Whether a run from that reader to that writer gives an answer and leaves those bytes written.
-pub fn streams<R: Read + Drop>(
+pub fn streams<R: Read + Drop, T: Threads + Wait + Copy + Send + 'static>(
+    rt: T,
     alloc: Global,
+    way: Way,
     mut source: R,
     mut sink: Sink,
     answer: Result<(), RunError>,
     output: &[u8],
 ) -> bool {
-    plain_stream(alloc, &mut source, &mut sink) == answer && sink.taken.as_slice() == output
+    stream(rt, alloc, way, &mut source, &mut sink) == answer && sink.taken.as_slice() == output
 }

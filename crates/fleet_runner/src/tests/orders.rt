@@ -5,11 +5,12 @@ use photo_batcher::plan;
 use photo_script::{Script, read_script};
 use std::alloc::Global;
 
-// Two devices make a picture each. Each is pulled by another, and then by a third.
-const FOUR_DEVICES: &str =
+/// Two devices make a picture each. Each is pulled by another, and then by a third.
+pub const FOUR_DEVICES: &str =
     "device a all\ndevice b all\ndevice c all\ndevice d all\nnew a 1 5 2024-01-01 -\nnew c 2 4 2024-01-01 -\npull b a\npull d c\npull c b\nlist a\npull d a\n";
 
-const REPORTS: &str =
+/// What it prints.
+pub const REPORTS: &str =
     "1 made a:1 store\n2 made c:1 store\n3 pulled taken 1 handed 0 notices 0 dropped 0 learned yes\n4 pulled taken 1 handed 0 notices 0 dropped 0 learned yes\n5 pulled taken 1 handed 0 notices 0 dropped 0 learned yes\n6 list a store 1 out 0\n  store 1 a:1 rating 5 day 2024-01-01 words -\n7 pulled taken 1 handed 0 notices 0 dropped 0 learned yes\n";
 
 const PLAN: &str =

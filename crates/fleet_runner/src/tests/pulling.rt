@@ -46,7 +46,7 @@ pub const PULLS: &[(&str, &str)] = &[
 #[test]
 fn pulls_between_devices(rt: HostRuntime) {
     for (script, reports) in PULLS {
-        assert!(rt; runs(rt.alloc(), script, reports, ""), "{script}");
+        assert!(rt; runs(rt, rt.alloc(), script, reports, ""), "{script}");
     }
 }
 
@@ -66,7 +66,7 @@ pub const NARROWED: &[(&str, &str)] = &[
 #[test]
 fn narrower_filters(rt: HostRuntime) {
     for (script, reports) in NARROWED {
-        assert!(rt; runs(rt.alloc(), script, reports, ""), "{script}");
+        assert!(rt; runs(rt, rt.alloc(), script, reports, ""), "{script}");
     }
 }
 
@@ -79,6 +79,6 @@ const REFUSED_PULLS: &[(&str, &str)] = &[
 #[test]
 fn pulls_that_are_refused(rt: HostRuntime) {
     for (script, error) in REFUSED_PULLS {
-        assert!(rt; runs(rt.alloc(), script, "", error), "{script}");
+        assert!(rt; runs(rt, rt.alloc(), script, "", error), "{script}");
     }
 }

@@ -60,7 +60,8 @@ fn same(one: &Device, other: &Device) -> bool {
         && one.knowledge().same(other.knowledge())
 }
 
-fn all_same(devices: &[Device], others: &[Device]) -> bool {
+/// Whether two lists of devices are the same, as far as public readers tell.
+pub fn all_same(devices: &[Device], others: &[Device]) -> bool {
     if devices.len() != others.len() {
         return false;
     }
