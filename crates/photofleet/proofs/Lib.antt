@@ -1,3 +1,5 @@
 pub mod CommandLines
-pub mod Statuses
+pub mod Numbers
+pub mod Outputs
+pub mod StatusLemmas
 pub mod WordExamples

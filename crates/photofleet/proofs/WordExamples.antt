@@ -1,7 +1,7 @@
 -- The worked command lines are computed by `clap`'s definitions.
 use Rattle.std.proofs.Common.{refl}
 use Rattle.clap.proofs.OnLiterals.{clap_on_literals}
-use Rattle.photofleet.specs.Examples.{WordsAreAsTold}
+use Rattle.photofleet.specs.Examples.{WordsAreAsTold, BatchesAreAsked, OrdersAreAsked}
 
 pub words_as_told : WordsAreAsTold
 unfolding clap_on_literals
@@ -15,4 +15,30 @@ words_as_told = record {
   no_file = refl;
   two_files = refl;
   flag = refl;
+}
+
+pub batches_asked : BatchesAreAsked
+unfolding clap_on_literals
+batches_asked = record {
+  asked = record { accepted = refl; named = refl };
+  help = refl;
+  no_file = refl;
+  two_files = refl;
+}
+
+pub orders_asked : OrdersAreAsked
+unfolding clap_on_literals
+orders_asked = record {
+  asked = record { accepted = refl; named = refl };
+  none = record { accepted = refl; named = refl };
+  least_and_most = record { accepted = refl; named = refl };
+  signed = record { accepted = refl; named = refl };
+  zero_number = refl;
+  too_large = refl;
+  huge = refl;
+  later = refl;
+  no_number = refl;
+  negative = refl;
+  help = refl;
+  no_file = refl;
 }

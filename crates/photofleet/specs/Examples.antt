@@ -1,15 +1,16 @@
 -- Command lines, worked.
 use Rattle.std.specs.Prelude.{◌≡◌, ℕ, List, [], ◌∷◌, codes}
-use Rattle.clap.specs.declared.error.kind.ErrorKind.TheVariants.{DisplayHelp, MissingSubcommand, UnknownArgument, InvalidSubcommand, MissingRequiredArgument}
-use Rattle.photofleet.specs.CommandLine.{Asks, errors_of}
+use Rattle.clap.specs.declared.error.kind.ErrorKind.TheVariants.{DisplayHelp, MissingSubcommand, UnknownArgument, InvalidSubcommand, MissingRequiredArgument, ValueValidation}
+use Rattle.photofleet.specs.CommandLine.{errors_of}
+use Rattle.photofleet.specs.Asked.{Asks, plain, replay, batches}
 
 abbrev pub words_of : List (List ℕ) → List (List ℕ)
 words_of more = codes "photofleet" ∷ more
 
 -- command lines that ask for a run, for help, and for nothing that the program does
 pub record WordsAreAsTold : Type 0 where
-  pub run : Asks (words_of (codes "plain" ∷ codes "script" ∷ [])) (codes "script")
-  pub dashed : Asks (words_of (codes "plain" ∷ codes "--" ∷ codes "--help" ∷ [])) (codes "--help")
+  pub run : Asks (words_of (codes "plain" ∷ codes "script" ∷ [])) (codes "script") plain
+  pub dashed : Asks (words_of (codes "plain" ∷ codes "--" ∷ codes "--help" ∷ [])) (codes "--help") plain
   pub help : errors_of (words_of (codes "--help" ∷ [])) ≡ DisplayHelp ∷ []
   pub help_of_plain : errors_of (words_of (codes "plain" ∷ codes "--help" ∷ [])) ≡ DisplayHelp ∷ []
   pub none : errors_of (words_of []) ≡ MissingSubcommand ∷ []
@@ -17,3 +18,30 @@ pub record WordsAreAsTold : Type 0 where
   pub no_file : errors_of (words_of (codes "plain" ∷ [])) ≡ MissingRequiredArgument ∷ []
   pub two_files : errors_of (words_of (codes "plain" ∷ codes "script" ∷ codes "more" ∷ [])) ≡ UnknownArgument ∷ []
   pub flag : errors_of (words_of (codes "plain" ∷ codes "--frob" ∷ codes "script" ∷ [])) ≡ UnknownArgument ∷ []
+
+-- command lines that ask for a plan
+pub record BatchesAreAsked : Type 0 where
+  pub asked : Asks (words_of (codes "batches" ∷ codes "script" ∷ [])) (codes "script") batches
+  pub help : errors_of (words_of (codes "batches" ∷ codes "--help" ∷ [])) ≡ DisplayHelp ∷ []
+  pub no_file : errors_of (words_of (codes "batches" ∷ [])) ≡ MissingRequiredArgument ∷ []
+  pub two_files : errors_of (words_of (codes "batches" ∷ codes "script" ∷ codes "1" ∷ [])) ≡ UnknownArgument ∷ []
+
+-- the words of a run in an order
+abbrev pub replay_words : List (List ℕ) → List (List ℕ)
+replay_words order = words_of (codes "replay" ∷ codes "script" ∷ order)
+
+-- command lines that ask for a run in an order: its numbers are from 1 to 100,000, in whatever order and as often as it
+-- says, perhaps none
+pub record OrdersAreAsked : Type 0 where
+  pub asked : Asks (replay_words (codes "2" ∷ codes "1" ∷ codes "2" ∷ [])) (codes "script") (replay (2 ∷ 1 ∷ 2 ∷ []))
+  pub none : Asks (replay_words []) (codes "script") (replay [])
+  pub least_and_most : Asks (replay_words (codes "1" ∷ codes "100000" ∷ [])) (codes "script") (replay (1 ∷ 100000 ∷ []))
+  pub signed : Asks (replay_words (codes "+7" ∷ codes "007" ∷ [])) (codes "script") (replay (7 ∷ 7 ∷ []))
+  pub zero_number : errors_of (replay_words (codes "0" ∷ [])) ≡ ValueValidation ∷ []
+  pub too_large : errors_of (replay_words (codes "100001" ∷ [])) ≡ ValueValidation ∷ []
+  pub huge : errors_of (replay_words (codes "18446744073709551617" ∷ [])) ≡ ValueValidation ∷ []
+  pub later : errors_of (replay_words (codes "1" ∷ codes "100001" ∷ [])) ≡ ValueValidation ∷ []
+  pub no_number : errors_of (replay_words (codes "one" ∷ [])) ≡ ValueValidation ∷ []
+  pub negative : errors_of (replay_words (codes "-1" ∷ [])) ≡ UnknownArgument ∷ []
+  pub help : errors_of (words_of (codes "replay" ∷ codes "--help" ∷ [])) ≡ DisplayHelp ∷ []
+  pub no_file : errors_of (words_of (codes "replay" ∷ [])) ≡ MissingRequiredArgument ∷ []

@@ -1,3 +1,5 @@
 pub mod Status
 pub mod CommandLine
+pub mod Asked
+pub mod Doing
 pub mod Examples

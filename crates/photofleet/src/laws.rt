@@ -1,7 +1,9 @@
 //! Laws of the definitions.
-ghost use Rattle.photofleet.specs.Examples.{WordsAreAsTold};
+ghost use Rattle.photofleet.specs.Examples.{BatchesAreAsked, OrdersAreAsked, WordsAreAsTold};
 
 /// What command lines ask for is as it is told, by `clap`'s definitions alone.
 pub fn words()
-    ensures { WordsAreAsTold }
+    ensures run { WordsAreAsTold }
+    ensures batches { BatchesAreAsked }
+    ensures orders { OrdersAreAsked }
 {}

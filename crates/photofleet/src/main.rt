@@ -1,10 +1,19 @@
-//! Runs scripts of a photo collection, and prints the reports.
+//! Runs scripts of a photo collection and prints the reports, or tells which of their commands can run at once.
 #![tactic(auto)]
 
+mod helps;
 mod laws;
+mod opener;
+mod refusals;
 mod serve;
+mod statuses;
+mod streams;
+mod words;
 
-use serve::{FileOpener, serve, without_memory, without_words};
+use opener::FileOpener;
+use refusals::without_words;
+use serve::serve;
+use statuses::without_memory;
 use std::alloc::AllocError;
 use std::env;
 use std::io::BufWriter;

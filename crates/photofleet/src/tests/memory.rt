@@ -2,7 +2,8 @@
 ghost use Rattle.std.specs.Prelude.{Some, None, codes, if◌then◌else◌};
 ghost use Rattle.std.specs.Str.{bytes_eq};
 
-use crate::serve::{Opener, serve};
+use crate::opener::Opener;
+use crate::serve::serve;
 use photo_script::ScriptFault;
 use std::alloc::Global;
 use std::io::{self, ErrorKind, Write};
@@ -103,6 +104,28 @@ pub fn runs(alloc: Global, script: &str, status: u8, output: &str, error: &str) 
     serves(
         alloc,
         words.as_slice(),
+        script.as_bytes(),
+        status,
+        output.as_bytes(),
+        error.as_bytes(),
+    )
+}
+
+/// The same of words behind the program's name.
+pub fn does(
+    alloc: Global,
+    words: &[&str],
+    script: &str,
+    status: u8,
+    output: &str,
+    error: &str,
+) -> bool {
+    let mut line = ["photofleet"; 8];
+    let count = words.len().min(7);
+    line[1..=count].copy_from_slice(&words[..count]);
+    serves(
+        alloc,
+        &line[..=count],
         script.as_bytes(),
         status,
         output.as_bytes(),

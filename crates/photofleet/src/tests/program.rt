@@ -1,5 +1,6 @@
-use super::memory::{Full, OUTPUT, SCRIPT, Shelf, Sink, runs, serves};
-use crate::serve::{serve, without_words};
+use super::memory::{Full, OUTPUT, SCRIPT, Shelf, Sink, does, runs, serves};
+use crate::refusals::without_words;
+use crate::serve::serve;
 use std::alloc::Global;
 use std::io::{self, BufWriter};
 use std::test::Fail;
@@ -34,6 +35,80 @@ fn statuses_and_texts(rt: HostRuntime) {
         assert!(rt;
             runs(rt.alloc(), script, *status, output, error),
             "{script}"
+        );
+    }
+}
+
+// What a makes and what b makes are apart, and may change places.
+const APART: &str =
+    "device a all\ndevice b all\nnew a 1 5 2024-01-01 -\nnew b 2 4 2024-01-01 -\npull b a\nlist a\n";
+
+const APART_REPORTS: &str =
+    "1 made a:1 store\n2 made b:1 store\n3 pulled taken 1 handed 0 notices 0 dropped 0 learned yes
+4 list a store 1 out 0\n  store 1 a:1 rating 5 day 2024-01-01 words -\n";
+
+const APART_PLAN: &str =
+    "1 batch 0 after -\n2 batch 0 after -\n3 batch 1 after 2\n4 batch 2 after 3\nbatches 3\n";
+
+const UNLAWFUL: &str = "run error: E3 NotLawful\n";
+
+// Words behind the program's name, the script, the status, what is printed, and what is told.
+const WORK: &[(&[&str], &str, u8, &str, &str)] = &[
+    (&["batches", "script"], APART, 0, APART_PLAN, ""),
+    (&["batches", "script"], "", 0, "batches 0\n", ""),
+    (
+        &["replay", "script", "2", "1", "3", "4"],
+        APART,
+        0,
+        APART_REPORTS,
+        "",
+    ),
+    (&["replay", "script"], "device a all", 0, "", ""),
+    (&["replay", "script"], APART, 4, "", UNLAWFUL),
+    (&["replay", "script", "1"], "", 4, "", UNLAWFUL),
+    (
+        &["replay", "script", "1", "3", "2", "4"],
+        APART,
+        4,
+        "",
+        UNLAWFUL,
+    ),
+    (
+        &["replay", "script", "1", "2", "3", "100000"],
+        APART,
+        4,
+        "",
+        UNLAWFUL,
+    ),
+    (
+        &["replay", "script", "1"],
+        "frob",
+        3,
+        "",
+        "script fault: line 1: F5 UnknownCommand\n",
+    ),
+    (
+        &["replay", "elsewhere", "1"],
+        APART,
+        3,
+        "",
+        "script fault: F1 Read\n",
+    ),
+    (
+        &["batches", "elsewhere"],
+        APART,
+        3,
+        "",
+        "script fault: F1 Read\n",
+    ),
+];
+
+#[test]
+fn plans_and_orders(rt: HostRuntime) {
+    for (words, script, status, output, error) in WORK {
+        assert!(rt;
+            does(rt.alloc(), words, script, *status, output, error),
+            "{words:?} {script}"
         );
     }
 }
@@ -74,6 +149,20 @@ fn files_that_give_no_text(rt: HostRuntime) {
     }
 }
 
+const REFUSED: &[&[&str]] = &[
+    &["photofleet"],
+    &["photofleet", "frob"],
+    &["photofleet", "plain"],
+    &["photofleet", "plain", "script", "more"],
+    &["photofleet", "plain", "--frob", "script"],
+    &["photofleet", "batches"],
+    &["photofleet", "batches", "script", "1"],
+    &["photofleet", "replay"],
+    &["photofleet", "replay", "script", "0"],
+    &["photofleet", "replay", "script", "1", "100001"],
+    &["photofleet", "replay", "elsewhere", "one"],
+];
+
 // Whether the words are refused by a text of `clap`, and nothing is written to the output.
 fn refuses(alloc: Global, words: &[&str]) -> bool {
     let mut out = Sink::new(alloc);
@@ -85,14 +174,7 @@ fn refuses(alloc: Global, words: &[&str]) -> bool {
 
 #[test]
 fn words_that_are_refused(rt: HostRuntime) {
-    let lines: [&[&str]; 5] = [
-        &["photofleet"],
-        &["photofleet", "frob"],
-        &["photofleet", "plain"],
-        &["photofleet", "plain", "script", "more"],
-        &["photofleet", "plain", "--frob", "script"],
-    ];
-    for words in lines {
+    for words in REFUSED {
         assert!(rt; refuses(rt.alloc(), words), "{words:?}");
     }
 }
@@ -120,14 +202,17 @@ fn helped(alloc: Global, words: &[&str], out: &mut Sink, error: &[u8]) -> Option
     (err.taken.as_slice() == error).then_some(status)
 }
 
+const HELPS: &[&[&str]] = &[
+    &["photofleet", "--help"],
+    &["photofleet", "plain", "--help"],
+    &["photofleet", "batches", "--help"],
+    &["photofleet", "replay", "--help"],
+];
+
 #[test]
 fn help(rt: HostRuntime) {
     let alloc = rt.alloc();
-    let lines: [&[&str]; 2] = [
-        &["photofleet", "--help"],
-        &["photofleet", "plain", "--help"],
-    ];
-    for words in lines {
+    for words in HELPS {
         let mut out = Sink::new(alloc);
         assert!(rt; helped(alloc, words, &mut out, b"") == Some(0) && !out.taken.is_empty());
         let mut full = Sink::of_room(alloc, 5, Full::Error);
@@ -135,24 +220,51 @@ fn help(rt: HostRuntime) {
     }
 }
 
-// The status of a run whose output has so much room, where it leaves a front of the output, and says so.
-fn filled(alloc: Global, room: usize, full: Full) -> bool {
+// Whether an output with so much room, which then fails, keeps a front of what is printed, with that status and text.
+fn filled(alloc: Global, words: &[&str], room: usize, full: Full, printed: &str) -> bool {
     let mut out = Sink::of_room(alloc, room, full);
     let mut err = Sink::new(alloc);
-    let words = ["photofleet", "plain", "script"];
     let mut shelf = Shelf {
-        script: SCRIPT.as_bytes(),
+        script: APART.as_bytes(),
     };
-    serve(alloc, words.as_slice(), &mut shelf, &mut out, &mut err) == 5
-        && out.taken.as_slice() == &OUTPUT.as_bytes()[..room.min(OUTPUT.len())]
+    serve(alloc, words, &mut shelf, &mut out, &mut err) == 5
+        && out.taken.as_slice() == &printed.as_bytes()[..room.min(printed.len())]
         && err.taken.as_slice() == b"write fault: E5 Write\n".as_slice()
 }
 
+const PRINTED: &[(&[&str], &str)] = &[
+    (&["photofleet", "plain", "script"], APART_REPORTS),
+    (&["photofleet", "batches", "script"], APART_PLAN),
+    (
+        &["photofleet", "replay", "script", "2", "1", "3", "4"],
+        APART_REPORTS,
+    ),
+];
+
 #[test]
 fn an_output_that_is_full(rt: HostRuntime) {
-    for full in [Full::Error, Full::Zero] {
-        assert!(rt; filled(rt.alloc(), 30, full));
+    for (words, printed) in PRINTED {
+        for full in [Full::Error, Full::Zero] {
+            assert!(rt; filled(rt.alloc(), words, 30, full, printed), "{words:?}");
+        }
     }
+}
+
+// Whether an order that is refused is told before the output is tried.
+fn is_refused_first(alloc: Global) -> bool {
+    let mut out = Sink::of_room(alloc, 0, Full::Error);
+    let mut err = Sink::new(alloc);
+    let words = ["photofleet", "replay", "script", "1"];
+    let mut shelf = Shelf {
+        script: APART.as_bytes(),
+    };
+    serve(alloc, words.as_slice(), &mut shelf, &mut out, &mut err) == 4
+        && err.taken.as_slice() == UNLAWFUL.as_bytes()
+}
+
+#[test]
+fn an_order_is_judged_before_the_output(rt: HostRuntime) {
+    assert!(rt; is_refused_first(rt.alloc()));
 }
 
 // Whether a run whose output is gathered before a writer takes it has that status, and the writer took so many bytes.

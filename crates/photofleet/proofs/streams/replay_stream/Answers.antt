@@ -1,0 +1,13 @@
+use Rattle.std.proofs.Common.{List, map, sym, subst, inr}
+use Rattle.photo_script.specs.declared.report.Report.{Report}
+use Rattle.photo_script.specs.Reports.{answer_of}
+use Rattle.fleet_steps.specs.Outcomes.{AreRight}
+use Rattle.photofleet.proofs.Outputs.{some_printed}
+use Rattle.photofleet.proofs.streams.replay_stream.Goals as goal
+
+pub returns-clause-first : goal.returns-clause-first
+returns-clause-first g c = λ e.
+    let outcome = c.in_ok-outcome.ensures in
+    let right = subst (λ (reports : List Report). AreRight c.in-Ok.script (map answer_of reports)) (sym c.as_slice.ensures.value) outcome.ok.reports in
+    inr (some_printed _ _ _ c.in-Ok.script c.args.order.now (map answer_of c.as_slice.result.now)
+    (record { read = c.in-Ok.ensures.read; lawful = outcome.lawful; sound = outcome.ok.sound; right = right }) (c.write_reports.ensures.first e))
