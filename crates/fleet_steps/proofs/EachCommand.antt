@@ -55,7 +55,7 @@ stepped script fleet n c here = rw here refl
 pub not_stepped : (script : Contents) (fleet : Fleet) (n : ℕ) → slice_get script.commands n ≡ None → step script fleet (suc n) ≡ fleet
 not_stepped script fleet n past = rw past refl
 
-length_opening : (n : ℕ) (filters : List Tree) → length (opening_from n filters) ≡ length filters
+pub length_opening : (n : ℕ) (filters : List Tree) → length (opening_from n filters) ≡ length filters
 length_opening n [] = refl
 length_opening n (tree ∷ filters) = ap suc (length_opening (n + 1) filters)
 
@@ -104,7 +104,7 @@ module _ (Fits : Record → Type 0) (P : List Entry → List ModelDevice → Typ
         long = length_two ds t s x y;
       }
 
-  by_command : (fleet : Fleet) (number : ℕ) (c : Command) → P fleet.log fleet.devices → IsWithin (length fleet.devices) c → FitsAll Fits c → IsAfter P (length fleet.devices) (after_command fleet number c).log (after_command fleet number c).devices
+  pub by_command : (fleet : Fleet) (number : ℕ) (c : Command) → P fleet.log fleet.devices → IsWithin (length fleet.devices) c → FitsAll Fits c → IsAfter P (length fleet.devices) (after_command fleet number c).log (after_command fleet number c).devices
   by_command fleet number (command.New k p r) old w fits = by_making fleet.log fleet.devices k p r old w.0 fits
   by_command fleet number (command.Edit k p r) old w fits = by_changing fleet.log fleet.devices k p r old w.0 fits
   by_command fleet number (command.Remove k p) old w fits = by_changing fleet.log fleet.devices k p Removed old w.0 K.removed

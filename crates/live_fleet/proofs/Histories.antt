@@ -1,0 +1,207 @@
+-- What commands lead to, command by command.
+use Rattle.std.proofs.Common.{◌≡◌, ℕ, zero, suc, ◌+◌, ◌<◌, ◌≤◌, List, [], ◌∷◌, ◌++◌, inl, inr, length, take, refl, sym, ap, ◌∙◌, subst, subst₂, add-one, le_refl, length-append, arith}
+use Rattle.std.specs.Prelude.{IfSome, fold}
+use Rattle.std.specs.List.{AllZip, AllByRecursion}
+use Rattle.std.specs.Option.{option_map}
+use Rattle.std.proofs.lemmas.List.{take_more, take_all}
+use Rattle.std.proofs.lemmas.List.Sums.{fold-append}
+use Rattle.std.proofs.lemmas.Option.{slice_get_cases}
+use Rattle.photo_record.specs.declared.record.Record.{Record}
+use Rattle.photo_filter_text.specs.Tree.{Tree, All}
+use Rattle.photo_filter_rules.specs.Laws.{IsInRange}
+use Rattle.photo_version.specs.Author.{author}
+use Rattle.photo_device.specs.declared.held.Held.{Held}
+use Rattle.photo_device.specs.Entry.{Entry}
+use Rattle.photo_device.specs.Held.{entries_of}
+use Rattle.photo_device.specs.Device.{Kept, ModelDevice, Shows, opening}
+use Rattle.photo_script.specs.declared.command.Command.{Command}
+use Rattle.photo_script.specs.Contents.{Contents, contents, devices_of, IsWithin}
+use Rattle.photo_script.specs.Runs.{Fleet, device_at, opening_from, opening_fleet, after_command, step, run_in_order, numbers_to}
+use Rattle.fleet_steps.specs.Between.{AreReady, HaveRoom, effect_on, devices_after}
+use Rattle.fleet_steps.specs.Sound.{is_sound}
+use Rattle.fleet_steps.proofs.Members.{all_from}
+use Rattle.fleet_steps.proofs.Zipped.{zip_long}
+use Rattle.fleet_steps.proofs.About.{all_at, all_are, all_push}
+use Rattle.fleet_steps.proofs.Shown.{opening_counts}
+use Rattle.fleet_steps.proofs.Runs.{HasMadeAtMost, have_room, after_all, second_all, long_after, effect_counts, effect_counts_second, one_more}
+use Rattle.fleet_steps.proofs.EachCommand.{IsKept, FitsAll, IsAfter, length_opening, stepped, by_command}
+use Rattle.fleet_steps.proofs.TracedFleets.{is_ready}
+use Rattle.fleet_steps.proofs.SoundFacts.{IsSoundFleet}
+use Rattle.fleet_steps.proofs.SoundTests.{each_is_sound, fleet_is_kept, held_is_logged}
+use Rattle.fleet_steps.proofs.SoundRuns.{opening_sound, sound_kept}
+use Rattle.live_fleet.specs.Fleets.{KeptFleet, ShowsFleet, after_commands, CameAbout, HasSoundHistory}
+
+-- two model fleets with the same devices and the same log
+pub record AreAlike (f g : Fleet) : Type 0 where
+  pub devices : f.devices ≡ g.devices
+  pub log : f.log ≡ g.log
+
+-- are so after one command more, whatever number it has
+alike_after : (f g : Fleet) (j k : ℕ) (c : Command) → AreAlike f g → AreAlike (after_command f j c) (after_command g k c)
+alike_after f g j k c same = record {
+  devices = ap (λ ds. devices_after ds c) same.devices;
+  log = λ i. same.log i ++ (effect_on (same.devices i) c).entries;
+}
+
+-- commands one after another, none of which has a report
+abbrev ran : Fleet → Command → Fleet
+ran fleet c = after_command fleet 0 c
+
+abbrev opened : List Tree → Fleet
+opened filters = opening_fleet (contents [] filters [])
+
+-- the first commands of a run
+begins : (filters : List Tree) (commands : List Command) (n : ℕ) → n ≤ length commands → AreAlike (run_in_order (contents [] filters commands) (numbers_to n)) (fold ran (opened filters) (take n commands))
+begins filters commands zero few = record { devices = refl; log = refl }
+begins filters commands (suc n) few = elim (slice_get_cases commands n).1 [
+  | inl found ↦
+      let script : Contents = contents [] filters commands in
+      let c = found.0 in
+      let before = run_in_order script (numbers_to n) in
+      let folded = fold ran (opened filters) (take n commands) in
+      let left : run_in_order script (numbers_to (suc n)) ≡ after_command before (suc n) c = fold-append (step script) (opening_fleet script) (numbers_to n) (suc n ∷ []) ∙ stepped script before n c found.2 in
+      let grown : take (suc n) commands ≡ take n commands ++ c ∷ [] = ap (λ (m : ℕ). take m commands) (sym (add-one n)) ∙ take_more commands n c found.1 ∙ ap (λ x. take n commands ++ x ∷ []) found.3 in
+      let right : fold ran (opened filters) (take (suc n) commands) ≡ after_command folded 0 c = ap (fold ran (opened filters)) grown ∙ fold-append ran (opened filters) (take n commands) (c ∷ []) in
+      let both = alike_after before folded (suc n) 0 c (begins filters commands n (omega arith)) in
+      record {
+        devices = ap (λ (f : Fleet). f.devices) left ∙ both.devices ∙ sym (ap (λ (f : Fleet). f.devices) right);
+        log = ap (λ (f : Fleet). f.log) left ∙ both.log ∙ sym (ap (λ (f : Fleet). f.log) right);
+      }
+  | inr past ↦ let far = past.0 in absurd (omega arith)
+]
+
+is_folded : (filters : List Tree) (commands : List Command) → AreAlike (after_commands filters commands) (fold ran (opened filters) commands)
+is_folded filters commands =
+    subst (λ (cs : List Command). AreAlike (after_commands filters commands) (fold ran (opened filters) cs)) (take_all (length commands) commands (le_refl _)) (begins filters commands (length commands) (le_refl _))
+
+-- one command more
+one_later : (filters : List Tree) (commands : List Command) (k : ℕ) (c : Command) → AreAlike (after_commands filters (commands ++ c ∷ [])) (after_command (after_commands filters commands) k c)
+one_later filters commands k c =
+    let all = is_folded filters (commands ++ c ∷ []) in
+    let last : fold ran (opened filters) (commands ++ c ∷ []) ≡ after_command (fold ran (opened filters) commands) 0 c = fold-append ran (opened filters) commands (c ∷ []) in
+    let same = alike_after (after_commands filters commands) (fold ran (opened filters) commands) k 0 c (is_folded filters commands) in
+    record {
+      devices = all.devices ∙ ap (λ (f : Fleet). f.devices) last ∙ sym same.devices;
+      log = all.log ∙ ap (λ (f : Fleet). f.log) last ∙ sym same.log;
+    }
+
+-- what making, narrowing and pulling keep
+module _ (Fits : Record → Type 0) (P : List Entry → List ModelDevice → Type 0) (K : IsKept Fits P) where
+  kept_along : (fleet : Fleet) (commands : List Command) → P fleet.log fleet.devices → AllByRecursion (IsWithin (length fleet.devices)) commands → AllByRecursion (FitsAll Fits) commands
+      → IsAfter P (length fleet.devices) (fold ran fleet commands).log (fold ran fleet commands).devices
+  kept_along fleet [] old within fits = record { fact = old; long = refl }
+  kept_along fleet (c ∷ commands) old within fits =
+      let done = by_command Fits P K fleet 0 c old within.0 fits.0 in
+      let rest = kept_along (ran fleet c) commands done.fact (subst (λ (n : ℕ). AllByRecursion (IsWithin n) commands) (sym done.long) within.1) fits.1 in
+      record { fact = rest.fact; long = rest.long ∙ done.long }
+
+within_opened : (filters : List Tree) (commands : List Command) → AllByRecursion (IsWithin (length filters)) commands → AllByRecursion (IsWithin (length (opening_from 0 filters))) commands
+within_opened filters commands within = subst (λ (n : ℕ). AllByRecursion (IsWithin n) commands) (sym (length_opening 0 filters)) within
+
+pub sound_after : (filters : List Tree) (commands : List Command) → AllByRecursion (IsWithin (length filters)) commands → AllByRecursion (FitsAll IsInRange) commands
+    → IsAfter IsSoundFleet (length filters) (after_commands filters commands).log (after_commands filters commands).devices
+sound_after filters commands within fits =
+    let all = kept_along IsInRange IsSoundFleet sound_kept (opened filters) commands (opening_sound filters) (within_opened filters commands within) fits in
+    let same = is_folded filters commands in
+    record {
+      fact = subst₂ IsSoundFleet (sym same.log) (sym same.devices) all.fact;
+      long = ap length same.devices ∙ all.long ∙ length_opening 0 filters;
+    }
+
+-- no device has made more versions than commands have run
+counted_along : (fleet : Fleet) (n : ℕ) (commands : List Command) → AllByRecursion (HasMadeAtMost n) fleet.devices → AllByRecursion (IsWithin (length fleet.devices)) commands
+    → AllByRecursion (HasMadeAtMost (n + length commands)) (fold ran fleet commands).devices
+counted_along fleet n [] most within = subst (λ (j : ℕ). AllByRecursion (HasMadeAtMost j) fleet.devices) (omega arith) most
+counted_along fleet n (c ∷ commands) most within =
+    let models = fleet.devices in
+    let k = (devices_of c).0 in
+    let second = option_map (device_at models) (devices_of c).1 in
+    let here = within.0.0 in
+    let most_first : HasMadeAtMost n (device_at models k) = all_at (HasMadeAtMost n) models k (opening (author k) All) most here in
+    let most_second : IfSome second (HasMadeAtMost n) = second_all (HasMadeAtMost n) models (devices_of c).1 k (length models) (le_refl _) most within.0.1 in
+    let after : AllByRecursion (HasMadeAtMost (n + 1)) (devices_after models c) =
+    after_all (HasMadeAtMost (n + 1)) c models (all_are (HasMadeAtMost n) (HasMadeAtMost (n + 1)) models (λ m few. omega arith) most)
+    (effect_counts c (device_at models k) second n most_first) (one_more n (effect_on models c).second (effect_counts_second c (device_at models k) second n most_second)) in
+    let rest = counted_along (ran fleet c) (n + 1) commands after (subst (λ (j : ℕ). AllByRecursion (IsWithin j) commands) (sym (long_after c models)) within.1) in
+    subst (λ (j : ℕ). AllByRecursion (HasMadeAtMost j) (fold ran (ran fleet c) commands).devices) (omega arith) rest
+
+pub counted_after : (filters : List Tree) (commands : List Command) → AllByRecursion (IsWithin (length filters)) commands → AllByRecursion (HasMadeAtMost (length commands)) (after_commands filters commands).devices
+counted_after filters commands within =
+    let all = counted_along (opened filters) 0 commands (opening_counts filters 0) (within_opened filters commands within) in
+    let few : AllByRecursion (HasMadeAtMost (length commands)) (fold ran (opened filters) commands).devices = subst (λ (j : ℕ). AllByRecursion (HasMadeAtMost j) (fold ran (opened filters) commands).devices) (omega arith) all in
+    subst (AllByRecursion (HasMadeAtMost (length commands))) (sym (is_folded filters commands).devices) few
+
+-- what the next command asks of the devices
+
+pub came_ready : (f : KeptFleet) → CameAbout f → AreReady f.devices
+came_ready f came =
+    let fleet = after_commands came.filters came.commands in
+    record {
+      models = fleet.devices;
+      shown = came.shown.devices;
+      ready = is_ready fleet.log fleet.devices (sound_after came.filters came.commands came.within came.in_range).fact.traced;
+    }
+
+pub came_room : (f : KeptFleet) → CameAbout f → f.commands < 4_294_967_295 → HaveRoom f.devices
+came_room f came few =
+    let count = came.count in
+    have_room f.devices (after_commands came.filters came.commands).devices (length came.commands) (omega arith) came.shown.devices (counted_after came.filters came.commands came.within)
+
+-- each fleet is sound
+pub came_sound : (f : KeptFleet) → CameAbout f → HasSoundHistory f
+came_sound f came =
+    let fleet = after_commands came.filters came.commands in
+    let facts : IsSoundFleet fleet.log fleet.devices = (sound_after came.filters came.commands came.within came.in_range).fact in
+    record {
+      came = came;
+      sound = record {
+        sound = all_from (is_sound fleet.log) fleet.devices (each_is_sound fleet.log fleet.devices facts);
+        kept = fleet_is_kept fleet.log fleet.devices facts;
+        logged = held_is_logged fleet.log fleet.devices facts;
+        once = facts.traced.log_is.once;
+      };
+    }
+
+-- before the first command
+pub came_first : (f : KeptFleet) (filters : List Tree) → AllZip Shows f.devices (opening_from 0 filters) → f.log ≡ [] → f.commands ≡ 0 → CameAbout f
+came_first f filters shown logged none = record {
+  filters = filters;
+  commands = [];
+  within = tt;
+  in_range = tt;
+  shown = record { devices = shown; log = ap (λ helds. entries_of helds) logged };
+  count = none;
+}
+
+-- after one command more
+pub came_more : (f new : KeptFleet) (k : ℕ) (c : Command) → CameAbout f → IsWithin (length f.devices) c → FitsAll IsInRange c
+    → ((m : Fleet) → ShowsFleet f m → ShowsFleet new (after_command m k c)) → new.commands ≡ f.commands + 1 → CameAbout new
+came_more f new k c came within fits shows count =
+    let fleet = after_commands came.filters came.commands in
+    let next = shows fleet came.shown in
+    let same = one_later came.filters came.commands k c in
+    let long : length f.devices ≡ length came.filters = zip_long Shows f.devices fleet.devices came.shown.devices ∙ (sound_after came.filters came.commands came.within came.in_range).long in
+    let counted = came.count in
+    record {
+      filters = came.filters;
+      commands = came.commands ++ c ∷ [];
+      within = all_push (IsWithin (length came.filters)) came.commands c came.within (subst (λ (n : ℕ). IsWithin n c) long within);
+      in_range = all_push (FitsAll IsInRange) came.commands c came.in_range fits;
+      shown = record {
+        devices = subst (AllZip Shows new.devices) (sym same.devices) next.devices;
+        log = next.log ∙ sym same.log;
+      };
+      count = omega (arith, length-append came.commands (c ∷ []));
+    }
+
+-- what a command has made of the devices and of the log
+pub run_shows : (f : KeptFleet) (given new written : List Kept) (log : List Held) (count k : ℕ) (c : Command) → given ≡ f.devices → written ≡ new
+    → ((models : List ModelDevice) → AllZip Shows given models → AllZip Shows new (devices_after models c))
+    → ((models : List ModelDevice) → AllZip Shows given models → entries_of log ≡ entries_of f.log ++ (effect_on models c).entries)
+    → (m : Fleet) → ShowsFleet f m → ShowsFleet (record { devices = written; log = log; commands = count }) (after_command m k c)
+run_shows f given new written log count k c same whole shows logs m old =
+    let before : AllZip Shows given m.devices = subst (λ (ds : List Kept). AllZip Shows ds m.devices) (sym same) old.devices in
+    record {
+      devices = subst (λ (ds : List Kept). AllZip Shows ds (devices_after m.devices c)) (sym whole) (shows m.devices before);
+      log = logs m.devices before ∙ ap (λ es. es ++ (effect_on m.devices c).entries) old.log;
+    }

@@ -1,0 +1,25 @@
+-- What a command puts into the log, if it makes a version.
+use Rattle.std.specs.Prelude.{Option, Some, None, is_some, List, [], if◌then◌else◌}
+use Rattle.photo_record.specs.declared.record.Record.TheVariants.{Removed}
+use Rattle.photo_device.specs.Entry.{Entry}
+use Rattle.photo_device.specs.Device.{ModelDevice, new_entry}
+use Rattle.photo_script.specs.declared.command.Command.{Command}
+use Rattle.photo_script.specs.declared.command.Command.TheVariants as command
+use Rattle.photo_script.specs.Reports.{Answer}
+use Rattle.fleet_steps.specs.Issued.{version_told}
+
+-- the entry of the version that the command makes on the device, unless it is refused
+abbrev pub entry_if_made : Command → ModelDevice → Option Entry
+entry_if_made (command.New k picture content) d = Some (new_entry d picture content)
+entry_if_made (command.Edit k picture content) d = Some (new_entry d picture content)
+entry_if_made (command.Remove k picture) d = Some (new_entry d picture Removed)
+entry_if_made (command.Pull target source) d = None
+entry_if_made (command.Narrow k filter) d = None
+entry_if_made (command.List k) d = None
+entry_if_made (command.Conflicts k) d = None
+entry_if_made (command.Knowledge k) d = None
+entry_if_made (command.Knows k picture v) d = None
+
+-- those of a list, where the answer tells of a version
+abbrev pub if_told : {X : Type 0} → Answer → List X → List X
+if_told answer xs = if is_some (version_told answer) then xs else []

@@ -1,0 +1,61 @@
+-- Fleets that commands are given to, one after another.
+use Rattle.std.specs.Prelude.{◌≡◌, ℕ, ◌+◌, List, [], length, IfSome}
+use Rattle.std.specs.List.{AllZip, AllByRecursion}
+use Rattle.photo_filter_text.specs.Tree.{Tree}
+use Rattle.photo_filter_rules.specs.Laws.{IsInRange}
+use Rattle.photo_device.specs.declared.held.Held.{Held}
+use Rattle.photo_device.specs.Held.{entries_of}
+use Rattle.photo_device.specs.Device.{Kept, Shows}
+use Rattle.photo_script.specs.declared.command.Command.{Command}
+use Rattle.photo_script.specs.Contents.{contents, IsWithin, record_of}
+use Rattle.photo_script.specs.Reports.{Answer, Tells}
+use Rattle.photo_script.specs.Runs.{Fleet, after_command, run}
+use Rattle.fleet_steps.specs.Between.{effect_on}
+use Rattle.fleet_steps.specs.Sound.{IsSoundAndKept}
+
+-- what a fleet of the program keeps: its devices in order of declaration, the versions that were made, oldest first, and
+-- how many commands have run
+pub record KeptFleet : Type 0 where
+  pub devices : List Kept
+  pub log : List Held
+  pub commands : ℕ
+
+-- a model fleet, as runs of scripts have it
+abbrev pub ModelFleet : Type 0
+ModelFleet = Fleet
+
+-- the fleet shows the model fleet, but for the reports, which it doesn't keep
+pub record ShowsFleet (f : KeptFleet) (m : ModelFleet) : Type 0 where
+  pub devices : AllZip Shows f.devices m.devices
+  pub log : entries_of f.log ≡ m.log
+
+-- the model fleet after commands in their order, from devices with those filters that have made nothing: what a run of a
+-- script gives. The devices' names play no part in it
+abbrev pub after_commands : List Tree → List Command → ModelFleet
+after_commands filters commands = run (contents [] filters commands)
+
+-- a fleet to which commands have led, one after another: each works on devices that there are, and says a rating and a day
+-- that there are if it says any
+pub record CameAbout (f : KeptFleet) : Type 0 where
+  pub filters : List Tree
+  pub commands : List Command
+  pub within : AllByRecursion (IsWithin (length filters)) commands
+  pub in_range : AllByRecursion (λ c. IfSome (record_of c) IsInRange) commands
+  pub shown : ShowsFleet f (after_commands filters commands)
+  pub count : f.commands ≡ length commands
+
+-- such a fleet, in which each device is sound, nothing that is current is lost, what is held is logged, and nothing is
+-- logged twice
+pub record HasSoundHistory (f : KeptFleet) : Type 0 where
+  pub came : CameAbout f
+  pub sound : IsSoundAndKept (after_commands came.filters came.commands)
+
+-- the command has run: whatever model fleet the old fleet shows, the new one shows what the command makes of that, and one
+-- command more has run
+pub record HasRun (c : Command) (old new : KeptFleet) : Type 0 where
+  pub shows : (m : ModelFleet) → ShowsFleet old m → ShowsFleet new (after_command m new.commands c)
+  pub count : new.commands ≡ old.commands + 1
+
+-- the answer is the right one to the command, where it is given to that fleet
+abbrev pub IsAnswerTo : Command → KeptFleet → Answer → Type 0
+IsAnswerTo c old answer = (m : ModelFleet) → ShowsFleet old m → Tells answer (effect_on m.devices c).report

@@ -1,0 +1,4 @@
+pub mod Fleets
+pub mod Coding
+pub mod Entries
+pub mod Answers

@@ -1,0 +1,39 @@
+// Reports as the values that a fleet's methods give.
+ghost use Rattle.std.specs.Prelude.{◌≡◌};
+ghost use Rattle.photo_script.specs.Reports.{answer_of};
+ghost use Rattle.live_fleet.specs.Answers.{made_in, narrowed_in, pulled_in};
+
+use photo_device::Place;
+use photo_pull::PullCounts;
+use photo_script::Report;
+use photo_version::Version;
+
+/// The version that a report tells to have been made, and where it went.
+pub(crate) fn made_in(report: Report) -> Option<(Version, Place)>
+    ensures { result ≡ made_in (answer_of report) }
+{
+    match report {
+        Report::Made { version, place } => Some((version, place)),
+        _ => None,
+    }
+}
+
+/// How many versions left the store by a narrowing that a report tells of.
+pub(crate) fn narrowed_in(report: Report) -> Option<u64>
+    ensures { result ≡ narrowed_in (answer_of report) }
+{
+    match report {
+        Report::Narrowed(count) => Some(count),
+        _ => None,
+    }
+}
+
+/// What the pull moved that a report tells of.
+pub(crate) fn pulled_in(report: Report) -> Option<PullCounts>
+    ensures { result ≡ pulled_in (answer_of report) }
+{
+    match report {
+        Report::Pulled(counts) => Some(counts),
+        _ => None,
+    }
+}

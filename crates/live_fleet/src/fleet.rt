@@ -1,0 +1,244 @@
+use crate::answer::{made_in, narrowed_in, pulled_in};
+use crate::opening::opening_devices;
+use crate::ranges::command_in_range;
+use crate::step::run_and_keep;
+use photo_device::{Device, Held, Place};
+use photo_filter_rules::Filter;
+use photo_pull::PullCounts;
+use photo_record::{PicNo, Record};
+use photo_script::{Command, Report, devices_of};
+use photo_version::Version;
+use std::alloc::{AllocError, Global};
+use std::marker::Model;
+
+/// Devices to which commands are given one after another, with the log of the versions that they have made.
+///
+/// Contracts see what it keeps, and by [`ShowsFleet`] the model fleet of a run of those commands. Whatever commands were
+/// given, each device is sound and nothing that is current is lost: [`crate::laws::each_fleet_is_sound`].
+#[derive(Debug, Drop)]
+pub struct Fleet {
+    devices: Vec<Device>,
+    log: Vec<Held>,
+    commands: u32,
+    alloc: Global,
+}
+
+impl Model for Fleet {
+    ghost use Rattle.live_fleet.specs.Fleets.{KeptFleet, CameAbout};
+    ghost use Rattle.live_fleet.specs.Coding.{fleet_code};
+
+    ghost Value = { KeptFleet };
+
+    ghost coded = { fleet_code };
+
+    ghost view = { λ f. record { devices = f.devices.items; log = f.log.items; commands = f.commands } };
+
+    ghost invariant = { λ f. CameAbout (record { devices = f.devices.items; log = f.log.items; commands = f.commands }) };
+}
+
+impl Fleet {
+    ghost use Rattle.std.specs.Prelude.{◌≡◌, ◌≢◌, ◌+◌, ◌<◌, ◌≤◌, ◌↔◌, [], length, IsTrue, IfOk, OnOk, OnErr};
+    ghost use Rattle.photo_script.specs.Contents.{IsWithin};
+    ghost use Rattle.photo_script.specs.Reports.{Made, Pulled, answer_of};
+    ghost use Rattle.photo_script.specs.declared.command.Command.TheVariants.{New, Edit, Remove, Pull, Narrow};
+    ghost use Rattle.live_fleet.specs.Answers.{change_answer, narrow_answer};
+    ghost use Rattle.live_fleet.specs.Fleets.{CameAbout, HasRun, IsAnswerTo, ShowsFleet, after_commands};
+
+    /// A device for each filter, in their order, none of which has made or holds anything. There may be 65,536 of them.
+    /// Its only error is want of memory.
+    pub fn new(alloc: Global, filters: &[Filter]) -> Result<Fleet, AllocError>
+        requires few { length filters.now ≤ 65_536 }
+        ensures fleet { IfOk result (λ fleet. ShowsFleet fleet (after_commands filters.now [])) }
+        ensures long { IfOk result (λ fleet. length fleet.devices ≡ length filters.now) }
+        ensures count { IfOk result (λ fleet. fleet.commands ≡ 0) }
+    {
+        let devices = opening_devices(alloc, filters)?;
+        Ok(Fleet {
+            devices,
+            log: Vec::new(alloc),
+            commands: 0,
+            alloc,
+        })
+    }
+
+    /// Runs one command on the one or two of the devices that it works on, puts the version that it makes behind the log,
+    /// and gives the report. Its only error is want of memory, after which the fleet is as it was.
+    ///
+    /// [`Fleet::takes`] tells whether the command's devices are there, and [`Fleet::is_full`] whether there is room for
+    /// one command more. `new` may name a picture that has been made: it makes a further version of it.
+    pub fn run(&mut self, command: &Command) -> Result<Report, AllocError>
+        requires within { IsWithin (length self.old.devices) command.now }
+        requires room { self.old.commands < 4_294_967_295 }
+        ensures ran { OnOk result (HasRun command.now self.old self.new) }
+        ensures report { IfOk result (λ report. IsAnswerTo command.now self.old (answer_of report)) }
+        ensures err { OnErr result (self.new ≡ self.old) }
+        ensures long { length self.new.devices ≡ length self.old.devices }
+        ensures count { self.new.commands ≤ self.old.commands + 1 }
+        ensures came { CameAbout self.old }
+    {
+        command_in_range(command);
+        let devices = self.devices.as_mut_slice();
+        let report = run_and_keep(self.alloc, command, devices, &mut self.log)?;
+        self.commands += 1;
+        Ok(report)
+    }
+
+    // Runs one command, and gives it up.
+    fn give(&mut self, command: Command) -> Result<Report, AllocError>
+        requires within { IsWithin (length self.old.devices) command }
+        requires room { self.old.commands < 4_294_967_295 }
+        ensures ran { OnOk result (HasRun command self.old self.new) }
+        ensures report { IfOk result (λ report. IsAnswerTo command self.old (answer_of report)) }
+        ensures err { OnErr result (self.new ≡ self.old) }
+        ensures long { length self.new.devices ≡ length self.old.devices }
+        ensures count { self.new.commands ≤ self.old.commands + 1 }
+        ensures came { CameAbout self.old }
+    {
+        self.run(&command)
+    }
+
+    /// A device makes a version of a picture, whether or not there was one, as by `new`. Gives the version and where it
+    /// went. Its only error is want of memory, after which the fleet is as it was.
+    pub fn make(
+        &mut self,
+        device: u16,
+        picture: PicNo,
+        content: &Record,
+    ) -> Result<(Version, Place), AllocError>
+        requires within { device < length self.old.devices }
+        requires room { self.old.commands < 4_294_967_295 }
+        ensures ran { OnOk result (HasRun (New device picture content.now) self.old self.new) }
+        ensures answer { IfOk result (λ made. IsAnswerTo (New device picture content.now) self.old (Made made.0 made.1)) }
+        ensures err { OnErr result (self.new ≡ self.old) }
+        ensures long { length self.new.devices ≡ length self.old.devices }
+        ensures count { self.new.commands ≤ self.old.commands + 1 }
+    {
+        let record = content.try_clone()?;
+        let report = self.give(Command::New {
+            device,
+            picture,
+            record,
+        })?;
+        Ok(made_in(report).unwrap())
+    }
+
+    /// A device makes a version of a picture of which it holds one. Gives the version and where it went, and `None` where
+    /// it holds none. Its only error is want of memory, after which the fleet is as it was.
+    pub fn edit(
+        &mut self,
+        device: u16,
+        picture: PicNo,
+        content: &Record,
+    ) -> Result<Option<(Version, Place)>, AllocError>
+        requires within { device < length self.old.devices }
+        requires room { self.old.commands < 4_294_967_295 }
+        ensures ran { OnOk result (HasRun (Edit device picture content.now) self.old self.new) }
+        ensures answer { IfOk result (λ made. IsAnswerTo (Edit device picture content.now) self.old (change_answer made)) }
+        ensures err { OnErr result (self.new ≡ self.old) }
+        ensures long { length self.new.devices ≡ length self.old.devices }
+        ensures count { self.new.commands ≤ self.old.commands + 1 }
+    {
+        let record = content.try_clone()?;
+        let report = self.give(Command::Edit {
+            device,
+            picture,
+            record,
+        })?;
+        Ok(made_in(report))
+    }
+
+    /// A device makes a version that removes a picture of which it holds one. Gives the version and where it went, and
+    /// `None` where it holds none. Its only error is want of memory, after which the fleet is as it was.
+    pub fn remove(
+        &mut self,
+        device: u16,
+        picture: PicNo,
+    ) -> Result<Option<(Version, Place)>, AllocError>
+        requires within { device < length self.old.devices }
+        requires room { self.old.commands < 4_294_967_295 }
+        ensures ran { OnOk result (HasRun (Remove device picture) self.old self.new) }
+        ensures answer { IfOk result (λ made. IsAnswerTo (Remove device picture) self.old (change_answer made)) }
+        ensures err { OnErr result (self.new ≡ self.old) }
+        ensures long { length self.new.devices ≡ length self.old.devices }
+        ensures count { self.new.commands ≤ self.old.commands + 1 }
+    {
+        let report = self.give(Command::Remove { device, picture })?;
+        Ok(made_in(report))
+    }
+
+    /// The target takes and learns from the source, which is another device. Gives what was moved. Its only error is want
+    /// of memory, after which the fleet is as it was.
+    pub fn pull(&mut self, target: u16, source: u16) -> Result<PullCounts, AllocError>
+        requires target { target < length self.old.devices }
+        requires source { source < length self.old.devices }
+        requires differ { source ≢ target }
+        requires room { self.old.commands < 4_294_967_295 }
+        ensures ran { OnOk result (HasRun (Pull target source) self.old self.new) }
+        ensures answer { IfOk result (λ counts. IsAnswerTo (Pull target source) self.old (Pulled counts)) }
+        ensures err { OnErr result (self.new ≡ self.old) }
+        ensures long { length self.new.devices ≡ length self.old.devices }
+        ensures count { self.new.commands ≤ self.old.commands + 1 }
+    {
+        let report = self.give(Command::Pull { target, source })?;
+        Ok(pulled_in(report).unwrap())
+    }
+
+    /// A device gets a filter that its own covers, and what that doesn't match goes from its store to its out. Gives how
+    /// many versions went, and `None` where its own doesn't cover it. Its only error is want of memory, after which the
+    /// fleet is as it was.
+    pub fn narrow(&mut self, device: u16, filter: &Filter) -> Result<Option<u64>, AllocError>
+        requires within { device < length self.old.devices }
+        requires room { self.old.commands < 4_294_967_295 }
+        ensures ran { OnOk result (HasRun (Narrow device filter.now) self.old self.new) }
+        ensures answer { IfOk result (λ count. IsAnswerTo (Narrow device filter.now) self.old (narrow_answer count)) }
+        ensures err { OnErr result (self.new ≡ self.old) }
+        ensures long { length self.new.devices ≡ length self.old.devices }
+        ensures count { self.new.commands ≤ self.old.commands + 1 }
+    {
+        let filter = filter.try_clone()?;
+        let report = self.give(Command::Narrow { device, filter })?;
+        Ok(narrowed_in(report))
+    }
+
+    /// Whether the devices of a command are there, two different ones if it has two.
+    pub fn takes(&self, command: &Command) -> bool
+        ensures { IsTrue result ↔ IsWithin (length self.now.devices) command.now }
+    {
+        let (first, second) = devices_of(command);
+        let count = self.devices.len();
+        let within = usize::from(first.value()) < count;
+        match second {
+            None => within,
+            Some(second) => within && usize::from(second.value()) < count && second != first,
+        }
+    }
+
+    /// Whether so many commands have run that there is no room for one more: 4,294,967,295.
+    pub fn is_full(&self) -> bool
+        ensures { IsTrue result ↔ (self.now.commands ≡ 4_294_967_295) }
+    {
+        self.commands == u32::MAX
+    }
+
+    /// The devices, in order of declaration. What they hold and know is asked of them.
+    pub fn devices(&self) -> &[Device]
+        ensures value { result.now ≡ self.now.devices }
+        ensures came { CameAbout self.now }
+    {
+        self.devices.as_slice()
+    }
+
+    /// The versions that were made, oldest first, each as the device held it that made it.
+    pub fn log(&self) -> &[Held]
+        ensures { result.now ≡ self.now.log }
+    {
+        self.log.as_slice()
+    }
+
+    /// How many commands have run. Questions count.
+    pub fn commands(&self) -> u32
+        ensures { result ≡ self.now.commands }
+    {
+        self.commands
+    }
+}
