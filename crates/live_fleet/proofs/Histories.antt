@@ -29,14 +29,9 @@ use Rattle.fleet_steps.proofs.TracedFleets.{is_ready}
 use Rattle.fleet_steps.proofs.SoundFacts.{IsSoundFleet}
 use Rattle.fleet_steps.proofs.SoundTests.{each_is_sound, fleet_is_kept, held_is_logged}
 use Rattle.fleet_steps.proofs.SoundRuns.{opening_sound, sound_kept}
-use Rattle.live_fleet.specs.Fleets.{KeptFleet, ShowsFleet, after_commands, CameAbout, HasSoundHistory}
+use Rattle.live_fleet.specs.Fleets.{KeptFleet, ShowsFleet, AreAlike, RunsGrowByCommands, after_commands, CameAbout, HasSoundHistory}
 
--- two model fleets with the same devices and the same log
-pub record AreAlike (f g : Fleet) : Type 0 where
-  pub devices : f.devices ≡ g.devices
-  pub log : f.log ≡ g.log
-
--- are so after one command more, whatever number it has
+-- two that are alike are so after one command more, whatever number it has
 alike_after : (f g : Fleet) (j k : ℕ) (c : Command) → AreAlike f g → AreAlike (after_command f j c) (after_command g k c)
 alike_after f g j k c same = record {
   devices = ap (λ ds. devices_after ds c) same.devices;
@@ -75,7 +70,7 @@ is_folded filters commands =
     subst (λ (cs : List Command). AreAlike (after_commands filters commands) (fold ran (opened filters) cs)) (take_all (length commands) commands (le_refl _)) (begins filters commands (length commands) (le_refl _))
 
 -- one command more
-one_later : (filters : List Tree) (commands : List Command) (k : ℕ) (c : Command) → AreAlike (after_commands filters (commands ++ c ∷ [])) (after_command (after_commands filters commands) k c)
+pub one_later : RunsGrowByCommands
 one_later filters commands k c =
     let all = is_folded filters (commands ++ c ∷ []) in
     let last : fold ran (opened filters) (commands ++ c ∷ []) ≡ after_command (fold ran (opened filters) commands) 0 c = fold-append ran (opened filters) commands (c ∷ []) in

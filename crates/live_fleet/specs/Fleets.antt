@@ -1,5 +1,5 @@
 -- Fleets that commands are given to, one after another.
-use Rattle.std.specs.Prelude.{◌≡◌, ℕ, ◌+◌, List, [], length, IfSome}
+use Rattle.std.specs.Prelude.{◌≡◌, ℕ, ◌+◌, List, [], ◌∷◌, ◌++◌, length, IfSome}
 use Rattle.std.specs.List.{AllZip, AllByRecursion}
 use Rattle.photo_filter_text.specs.Tree.{Tree}
 use Rattle.photo_filter_rules.specs.Laws.{IsInRange}
@@ -33,6 +33,15 @@ pub record ShowsFleet (f : KeptFleet) (m : ModelFleet) : Type 0 where
 -- script gives. The devices' names play no part in it
 abbrev pub after_commands : List Tree → List Command → ModelFleet
 after_commands filters commands = run (contents [] filters commands)
+
+-- two model fleets with the same devices and the same log
+pub record AreAlike (f g : ModelFleet) : Type 0 where
+  pub devices : f.devices ≡ g.devices
+  pub log : f.log ≡ g.log
+
+-- a run of one command more, whatever number that has, gives what the command makes of the run before it
+abbrev pub RunsGrowByCommands : Type 0
+RunsGrowByCommands = (filters : List Tree) (commands : List Command) (number : ℕ) (c : Command) → AreAlike (after_commands filters (commands ++ c ∷ [])) (after_command (after_commands filters commands) number c)
 
 -- a fleet to which commands have led, one after another: each works on devices that there are, and says a rating and a day
 -- that there are if it says any

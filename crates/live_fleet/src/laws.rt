@@ -1,5 +1,5 @@
-//! What holds of every fleet.
-ghost use Rattle.live_fleet.specs.Fleets.{HasSoundHistory};
+//! What holds of every fleet, and of runs that grow by commands.
+ghost use Rattle.live_fleet.specs.Fleets.{HasSoundHistory, RunsGrowByCommands};
 
 use crate::Fleet;
 
@@ -11,3 +11,9 @@ pub fn each_fleet_is_sound(fleet: &Fleet)
 {
     let _devices = fleet.devices();
 }
+
+/// A run of a script with one command more gives the devices and the log that the command makes of the run before it. So
+/// whoever knows the filters of a fleet and the commands that it was given knows that it shows the run of that script.
+pub fn runs_grow_by_commands()
+    ensures { RunsGrowByCommands }
+{}

@@ -10,3 +10,6 @@ mod ranges;
 mod step;
 
 pub use fleet::Fleet;
+
+#[cfg(test)]
+mod tests;

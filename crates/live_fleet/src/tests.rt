@@ -1,0 +1,144 @@
+ghost use Rattle.std.specs.Prelude.{◌≡◌, ◌+◌, ◌<◌, ◌≤◌, length, IfSome};
+
+use crate::Fleet;
+use photo_device::Place;
+use photo_filter_rules::Filter;
+use photo_filter_text::read;
+use photo_record::{Day, PicNo, Rating, Record, Words};
+use photo_script::{Command, Report};
+use std::alloc::Global;
+
+#[test]
+fn a_fleet_narrows_and_removes(rt: HostRuntime) {
+    assert!(rt; on_fleet(rt.alloc(), 0));
+}
+
+#[test]
+fn a_fleet_answers_questions(rt: HostRuntime) {
+    assert!(rt; on_fleet(rt.alloc(), 1));
+}
+
+fn on_fleet(alloc: Global, test: usize) -> bool {
+    match two_devices(alloc) {
+        Some(mut fleet) => told(alloc, &mut fleet, test) == Some(true),
+        None => false,
+    }
+}
+
+fn told(alloc: Global, fleet: &mut Fleet, test: usize) -> Option<bool>
+    requires devices { length fleet.old.devices ≡ 2 }
+    requires fresh { fleet.old.commands ≡ 0 }
+{
+    if test == 0 {
+        narrows_and_removes(alloc, fleet)
+    } else {
+        answers(fleet)
+    }
+}
+
+// Two devices that keep all.
+fn two_devices(alloc: Global) -> Option<Fleet>
+    ensures { IfSome result (λ fleet. (length fleet.devices ≡ 2) × (fleet.commands ≡ 0)) }
+{
+    let filters = [filter_of(alloc, "all")?, filter_of(alloc, "all")?];
+    Fleet::new(alloc, &filters).ok()
+}
+
+fn filter_of(alloc: Global, text: &str) -> Option<Filter> {
+    let tree = read(alloc, text).ok()?;
+    Filter::build(alloc, tree).ok()
+}
+
+fn rated(alloc: Global, rating: u8) -> Option<Record> {
+    Some(Record::Picture {
+        rating: Rating::new(rating)?,
+        day: Day::read("2024-05-01")?,
+        words: Words::read(alloc, "-").ok()?,
+    })
+}
+
+fn narrows_and_removes(alloc: Global, fleet: &mut Fleet) -> Option<bool>
+    requires devices { length fleet.old.devices ≡ 2 }
+    requires fresh { fleet.old.commands ≡ 0 }
+{
+    let picture = PicNo::new(7)?;
+    let unmade = removes(fleet, picture)?;
+    let first = makes(alloc, fleet, picture)?;
+    let narrowed = narrows(alloc, fleet, "rating >= 4")?;
+    let wider = narrows(alloc, fleet, "rating >= 3")?;
+    let second = removes(fleet, picture)?;
+    Some(
+        unmade.is_none()
+            && first == (1, Place::Store)
+            && narrowed == Some(1)
+            && wider.is_none()
+            && second == Some((2, Place::Out))
+            && fleet.log().len() == 2
+            && fleet.commands() == 5,
+    )
+}
+
+// The number of the version that is made, and where it goes.
+fn makes(alloc: Global, fleet: &mut Fleet, picture: PicNo) -> Option<(u32, Place)>
+    requires devices { length fleet.old.devices ≡ 2 }
+    requires room { fleet.old.commands < 100 }
+    ensures devices { length fleet.new.devices ≡ 2 }
+    ensures count { fleet.new.commands ≤ fleet.old.commands + 1 }
+{
+    let record = rated(alloc, 3)?;
+    let (version, place) = fleet.make(0, picture, &record).ok()?;
+    Some((version.n(), place))
+}
+
+fn removes(fleet: &mut Fleet, picture: PicNo) -> Option<Option<(u32, Place)>>
+    requires devices { length fleet.old.devices ≡ 2 }
+    requires room { fleet.old.commands < 100 }
+    ensures devices { length fleet.new.devices ≡ 2 }
+    ensures count { fleet.new.commands ≤ fleet.old.commands + 1 }
+{
+    match fleet.remove(0, picture).ok()? {
+        Some((version, place)) => Some(Some((version.n(), place))),
+        None => Some(None),
+    }
+}
+
+fn narrows(alloc: Global, fleet: &mut Fleet, text: &str) -> Option<Option<u64>>
+    requires devices { length fleet.old.devices ≡ 2 }
+    requires room { fleet.old.commands < 100 }
+    ensures devices { length fleet.new.devices ≡ 2 }
+    ensures count { fleet.new.commands ≤ fleet.old.commands + 1 }
+{
+    let filter = filter_of(alloc, text)?;
+    fleet.narrow(0, &filter).ok()
+}
+
+fn answers(fleet: &mut Fleet) -> Option<bool>
+    requires devices { length fleet.old.devices ≡ 2 }
+    requires fresh { fleet.old.commands ≡ 0 }
+{
+    let refused = fleet.takes(&Command::Pull {
+        target: 1,
+        source: 1,
+    }) || fleet.takes(&Command::Pull {
+        target: 0,
+        source: 2,
+    }) || fleet.takes(&Command::List { device: 2 });
+    let taken = fleet.takes(&Command::Pull {
+        target: 1,
+        source: 0,
+    });
+    let lists = lists_nothing(fleet)?;
+    Some(!refused && taken && lists && !fleet.is_full() && fleet.commands() == 1)
+}
+
+fn lists_nothing(fleet: &mut Fleet) -> Option<bool>
+    requires devices { length fleet.old.devices ≡ 2 }
+    requires room { fleet.old.commands < 100 }
+{
+    match fleet.run(&Command::List { device: 1 }).ok()? {
+        Report::Listed { device, store, out } => {
+            Some(device == 1 && store.is_empty() && out.is_empty())
+        }
+        _ => Some(false),
+    }
+}
