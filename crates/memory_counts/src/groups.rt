@@ -1,5 +1,5 @@
 //! Groups of calls by their names.
-use crate::{devices, filters, knowledges, records, scripts, vectors};
+use crate::{devices, filters, knowledges, lists, records, scripts, vectors};
 use std::alloc::Global;
 
 /// Whether each of the calls that a line names answered as it has to, so many times. None where the line names none, or
@@ -24,6 +24,8 @@ fn of_others(alloc: Global, group: &str, times: u32) -> Option<bool> {
         "device" => devices::answer(alloc, times),
         "held_set" => devices::answer_sets(alloc, times),
         "script" => scripts::answer(alloc, times),
+        "list" => lists::answer(alloc, times),
+        "list_removing" => lists::answer_removing(alloc, times),
         _ => of_takers(alloc, group, times),
     }
 }
@@ -34,6 +36,7 @@ fn of_takers(alloc: Global, group: &str, times: u32) -> Option<bool> {
         "vector_with" => vectors::answer_with(alloc, times),
         "knowledge_copy" => knowledges::answer_copy(alloc, times),
         "conflicts" => devices::answer_conflicts(alloc, times),
+        "list_cut" => lists::answer_cut(alloc, times),
         _ => None,
     }
 }

@@ -6,6 +6,7 @@ mod devices;
 mod filters;
 mod groups;
 mod knowledges;
+mod lists;
 mod records;
 mod scripts;
 mod vectors;

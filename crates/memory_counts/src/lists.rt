@@ -1,0 +1,77 @@
+use block_list::{BlockList, Spot};
+use std::alloc::Global;
+
+/// The numbers 0 to n - 1.
+fn list_of(alloc: Global, n: u32) -> Option<BlockList<u32>> {
+    let mut list = BlockList::new(alloc);
+    for i in 0..n {
+        let end = list.len();
+        list.insert(end, i).ok()?;
+    }
+    Some(list)
+}
+
+/// `set` and the readers of a list of blocks.
+pub fn answer(alloc: Global, times: u32) -> Option<bool> {
+    let mut list = list_of(alloc, 1_500)?;
+    Some(answer_of(&mut list, times))
+}
+
+fn answer_of(list: &mut BlockList<u32>, times: u32) -> bool {
+    for _ in 0..times {
+        if !sets(list) || !finds(list) || list.as_blocks().is_empty() {
+            return false;
+        }
+    }
+    true
+}
+
+// Puts a number in the place of one of them.
+fn sets(list: &mut BlockList<u32>) -> bool {
+    if list.len() != 1_500 {
+        return false;
+    }
+    list.set(700, 700);
+    *list.get(700) == 700
+}
+
+fn finds(list: &BlockList<u32>) -> bool {
+    let (found, _spot) = list.find_failing_near(Spot::start(), |x| *x < 1_000);
+    found == Some(&1_000)
+        && list.find_failing(|x| *x < 1_000) == Some(&1_000)
+        && list.partition_point(|x| *x < 1_000) == 1_000
+        && list.any_between(|x| *x < 1_000, |x| *x <= 1_000)
+}
+
+/// `pop`, `remove_range` and `retain`: a round takes one number away by each of the first two.
+pub fn answer_removing(alloc: Global, times: u32) -> Option<bool> {
+    let mut list = list_of(alloc, 2_500)?;
+    Some(answer_of_removals(&mut list, times))
+}
+
+fn answer_of_removals(list: &mut BlockList<u32>, times: u32) -> bool {
+    for _ in 0..times {
+        if list.len() < 2 || list.pop().is_none() {
+            return false;
+        }
+        removes_first(list);
+        list.retain(|x| *x != 1_000);
+    }
+    true
+}
+
+fn removes_first(list: &mut BlockList<u32>) {
+    if !list.is_empty() {
+        list.remove_range(0, 1);
+    }
+}
+
+/// `insert`, which takes memory where a block has grown long and is halved.
+pub fn answer_cut(alloc: Global, times: u32) -> Option<bool> {
+    let mut list = list_of(alloc, 1_500)?;
+    for n in 0..times {
+        let middle = list.len() / 2;
+        list.insert(middle, n).ok()?;
+    }
+    Some(!list.is_empty())
+}
