@@ -8,6 +8,7 @@ mod Cuts
 mod Everywhere
 mod FilterTexts
 mod Gathered
+mod HasField
 mod Joined
 mod Knowing
 pub mod Listing

@@ -1,9 +1,9 @@
 -- The script of a text.
-use Rattle.std.specs.Prelude.{◌≡◌, ℕ, ◌+◌, ◌≤◌, true, not, nat_lt, if◌then◌else◌, List, [], ◌∷◌, ◌++◌, length, Option, option_to_list, Result, Ok, Err, IsOk, map}
+use Rattle.std.specs.Prelude.{◌≡◌, ◌≢◌, ℕ, ◌+◌, ◌≤◌, true, not, nat_lt, if◌then◌else◌, List, [], ◌∷◌, ◌++◌, length, Option, option_to_list, Result, Ok, Err, IsOk, map}
 use Rattle.std.specs.Str.{is_utf8}
 use Rattle.std.specs.Str.Lines.{strip_carriage_return}
 use Rattle.photo_script.specs.Limits.{max_text_bytes, max_line_bytes}
-use Rattle.photo_script.specs.Lines.{pieces_of, lines_of}
+use Rattle.photo_script.specs.Lines.{pieces_of, lines_of, fields_of}
 use Rattle.photo_filter_text.specs.Tree.{Tree}
 use Rattle.photo_script.specs.Earlier.{earlier, names_of, filters_of}
 use Rattle.photo_script.specs.Saying.{said}
@@ -43,8 +43,8 @@ script_of text =
     else (if not (is_utf8 text) then Err NotUtf8
     else script_of_lines (lines_of text))
 
--- reading the text comes to a line that isn't too long, with no fault before it: memory may be asked for there. What
--- stands behind the last LF counts as a line here, also where it is empty
+-- reading the text comes to a line that isn't too long and has a field, with no fault before it: memory may be asked for
+-- there
 pub record MayWantMemory (text : List ℕ) : Type 0 where
   pub small : length text ≤ max_text_bytes
   pub utf8 : is_utf8 text ≡ true
@@ -54,3 +54,4 @@ pub record MayWantMemory (text : List ℕ) : Type 0 where
   pub whole : map strip_carriage_return (pieces_of text) ≡ before ++ line ∷ more
   pub no_fault : IsOk (script_of_lines before)
   pub short : length line ≤ max_line_bytes
+  pub has_field : fields_of line ≢ []

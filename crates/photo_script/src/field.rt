@@ -1,4 +1,4 @@
-ghost use Rattle.std.specs.Prelude.{◌≡◌, ◌<◌, ◌^◌, true, None, Some, IfSome, SomeIff, MatchOption, map, OnOk};
+ghost use Rattle.std.specs.Prelude.{◌≡◌, ◌≢◌, ◌<◌, ◌^◌, [], true, None, Some, IfSome, SomeIff, MatchOption, map, OnOk, OnErr};
 ghost use Rattle.photo_script.specs.Lines.{fields_of, without_spaces, behind_field, third_field_on};
 ghost use Rattle.photo_script.specs.Fields.{is_name, cut_at_colon, is_decimal, number_of, picture_of, version_number_of};
 ghost use Rattle.photo_script.specs.Saying.{filter_said};
@@ -14,7 +14,8 @@ use std::alloc::{AllocError, Global};
 
 /// Puts the fields of a line, what stands between runs of spaces, in place of those that the list has.
 pub fn put_fields<'a>(fields: &mut Vec<&'a str>, line: &'a str) -> Result<(), AllocError>
-    ensures { OnOk result (map (λ f. f.now) fields.new.items ≡ fields_of line.now) }
+    ensures fields { OnOk result (map (λ f. f.now) fields.new.items ≡ fields_of line.now) }
+    ensures memory { OnErr result (fields_of line.now ≢ []) }
 {
     fields.clear();
     for piece in line.split(' ') {

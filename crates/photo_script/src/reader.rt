@@ -109,6 +109,7 @@ impl Reader {
     fn read_line<'a>(&mut self, line: &'a str, fields: &mut Vec<&'a str>) -> Result<(), Refusal>
         ensures reads { Reads self.old (fields_of line.now) (third_field_on line.now) (said (seen self.old) line.now) result self.new }
         ensures memory { result ≡ Err Memory → length line.now ≤ max_line_bytes }
+        ensures has_field { result ≡ Err Memory → fields_of line.now ≢ [] }
     {
         if line.len() > MAX_LINE_BYTES {
             return Err(Refusal::Fault(LineFault::LineTooLong));
@@ -119,7 +120,8 @@ impl Reader {
 
     #[tactic(auto, unfolding(crate::specs::Saying::fields_said))]
     fn read_fields(&mut self, line: &str, fields: &[&str]) -> Result<(), Refusal>
-        ensures { Reads self.old (texts fields.now) (third_field_on line.now) (fields_said (seen self.old) (texts fields.now) (third_field_on line.now)) result self.new }
+        ensures reads { Reads self.old (texts fields.now) (third_field_on line.now) (fields_said (seen self.old) (texts fields.now) (third_field_on line.now)) result self.new }
+        ensures has_field { result ≡ Err Memory → texts fields.now ≢ [] }
     {
         let Some((word, arguments)) = fields.split_first() else {
             return Ok(());

@@ -2,8 +2,9 @@ use Rattle.std.proofs.Common.{◌≡◌, ◌+◌, length, refl, ap, ◌∙◌, l
 use Rattle.std.proofs.lemmas.Iterator.Consumers.{YieldsList-so_far, YieldsList-turn, YieldsList-end}
 use Rattle.std.proofs.lemmas.Iterator.Splits.{YieldsList-from_str_split}
 use Rattle.std.proofs.lemmas.List.{length_push}
-use Rattle.std.proofs.Common.{◌≤◌, Err}
+use Rattle.std.proofs.Common.{◌≢◌, ◌≤◌, [], Err}
 use Rattle.photo_script.specs.Limits.{max_line_bytes}
+use Rattle.photo_script.specs.Lines.{fields_of}
 use Rattle.photo_script.specs.declared.refusal.Refusal.TheVariants.{Memory}
 use Rattle.photo_script.specs.Steps.{Refuses, seen}
 use Rattle.photo_script.specs.Saying.{said}
@@ -32,8 +33,9 @@ returns-in-Err-clause-no_memory c =
     let front = YieldsList-so_far road c.loop-piece.yielded _ c.loop-piece.yielded_by in
     let line = c.without_return.result.now in
     let short : c.in-Err.refusal ≡ Memory → length line ≤ max_line_bytes = λ e. c.read_line.ensures.memory (c.in-Err.is ∙ ap Err e) in
+    let has_field : c.in-Err.refusal ≡ Memory → fields_of line ≢ [] = λ e. c.read_line.ensures.has_field (c.in-Err.is ∙ ap Err e) in
     rw c.in_line.ensures (wants-turn c.args.text.now c.loop-piece.yielded c.in-Some.piece.now line c.loop-piece.self c.in-Err.refusal (c.loop-piece.number + 1) c.requires.small c.utf8.text c.loop-piece.invariant.taken
-    front turn.0 turn.1 c.without_return.ensures short)
+    front turn.0 turn.1 c.without_return.ensures short has_field)
 
 pub loop-piece-preserved : goal.loop-piece-preserved
 loop-piece-preserved c =
