@@ -1,4 +1,4 @@
--- The tests of an audit on what devices keep and a log has.
+-- Machinery of the proofs: the tests of an audit on what devices keep and a log has. What is sound and kept says `Sound`.
 use Rattle.std.specs.Prelude.{Bool, not, ◌&&◌, ◌||◌, List, ◌++◌, Some, None}
 use Rattle.std.specs.List.{list_any, list_all}
 use Rattle.photo_version.specs.Version.{Version, same_version}

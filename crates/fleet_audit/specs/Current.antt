@@ -1,4 +1,4 @@
--- Which of a log's versions count, and which of them are outdated by those that do.
+-- Machinery of the proofs: which of a log's versions count, and which of them are outdated by those that do.
 use Rattle.std.specs.Prelude.{Bool, true, ◌&&◌, ◌==◌, List, Option, Some, None}
 use Rattle.std.specs.List.{list_any}
 use Rattle.photo_version.specs.Version.{Version}

@@ -1,4 +1,4 @@
--- Versions of one picture by one author, in rising order.
+-- Machinery of the proofs: versions of one picture by one author, in rising order.
 use Rattle.std.specs.Prelude.{◌≡◌, ◌<◌, ◌≤◌, List, length}
 use Rattle.std.specs.List.{AllAdjacentBelow}
 use Rattle.photo_device.specs.declared.held.Held.{Held}

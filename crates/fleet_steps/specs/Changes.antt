@@ -1,4 +1,4 @@
--- The answer to a change of a picture.
+-- Machinery of the proofs: the answer to a change of a picture.
 use Rattle.std.specs.Prelude.{Option, Some, None, Result, Ok, Err}
 use Rattle.photo_version.specs.Version.{Version}
 use Rattle.photo_device.specs.declared.place.Place.{Place}

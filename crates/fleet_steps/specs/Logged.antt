@@ -1,4 +1,4 @@
--- A log in the order of pictures, beside the log itself.
+-- Machinery of the proofs: a log in the order of pictures, beside the log itself.
 use Rattle.std.specs.Prelude.{◌<◌, List}
 use Rattle.std.specs.List.{All}
 use Rattle.std.specs.List.Sorted.{IsPermutation, IsNonDecreasingBy}

@@ -1,4 +1,4 @@
--- What a report may say that a pull moved.
+-- Machinery of the proofs: what a report may say that a pull moved.
 use Rattle.std.specs.Prelude.{◌≡◌, ◌≤◌}
 use Rattle.photo_pull.specs.declared.counts.PullCounts.{PullCounts}
 use Rattle.photo_script.specs.Limits.{max_commands}

@@ -1,4 +1,4 @@
--- What is known, after an author's next version is known of every picture.
+-- Machinery of the proofs: what is known, after an author's next version is known of every picture.
 use Rattle.std.specs.Prelude.{◌≡◌, ℕ, ◌<◌, ◌||◌, if◌then◌else◌, List}
 use Rattle.photo_version.specs.Author.{Author, same_author}
 use Rattle.photo_version.specs.Version.{Version, same_version}

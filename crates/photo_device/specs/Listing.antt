@@ -1,4 +1,4 @@
--- Versions with their pictures alone. They are seen as entries of which nothing else is known.
+-- Machinery of the proofs: versions with their pictures alone, seen as entries of which nothing else is known.
 use Rattle.std.specs.Prelude.{ℕ, Bool, not, false, List, map}
 use Rattle.photo_version.specs.Version.{Version}
 use Rattle.photo_record.specs.declared.record.Record.TheVariants.{Removed}

@@ -1,4 +1,4 @@
--- Versions in order.
+-- Machinery of the proofs: versions in order.
 use Rattle.std.specs.Prelude.{Bool, not, List}
 use Rattle.photo_version.specs.Version.{Version, version_before}
 use Rattle.photo_device.specs.Ordered.{in_order}

@@ -1,4 +1,4 @@
--- What a set takes of versions, and what a device that takes them has to know.
+-- Machinery of the proofs: what a set takes of versions, and what a device that takes them has to know.
 use Rattle.std.specs.Prelude.{◌≡◌, ℕ, ◌≤◌, ◌<◌, Bool, true, false, not, ◌||◌, List, ◌++◌, map, filter, None}
 use Rattle.std.specs.List.{AllByRecursion}
 use Rattle.photo_filter_text.specs.Tree.{Tree}

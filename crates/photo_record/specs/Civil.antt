@@ -1,4 +1,4 @@
--- For the private call that takes a day apart: a date of `jiff_core` against its parts.
+-- Machinery of the proofs: a date of `jiff_core` against its parts, for the private call that takes a day apart.
 use Rattle.std.specs.Prelude.{◌≡◌, pos}
 use Rattle.jiff_core.specs.declared.civil.date.Date.{Date}
 use Rattle.photo_record.specs.Calendar.{Civil}

@@ -1,4 +1,4 @@
--- For `Words` itself: the words behind its shared pointer. No pointer stands for no word.
+-- Machinery of the proofs: the words behind the shared pointer of `Words`. No pointer stands for no word.
 use Rattle.std.specs.Prelude.{ℕ, List, [], Option, Some, None}
 use Rattle.std.specs.Arc.{arc_value}
 use Rattle.std.specs.declared.sync.Arc.{Arc}
