@@ -1,4 +1,5 @@
-//! Runs of scripts, on one thread or by several workers, from a reader's bytes to the bytes of the reports.
+//! Runs of scripts, on one thread or by several workers, from a reader's bytes to the bytes of the reports; and, for
+//! programs of one's own, the fleet that is driven by hand.
 #![tactic(auto)]
 
 pub mod laws;
@@ -12,6 +13,7 @@ pub use fleet_steps::{
     IssueLog, Outcome, RunError, replay, run_command, run_on, run_plain, run_pull,
 };
 pub use fleet_workers::{Gate, OpenGate, Workers, run_fleet};
+pub use live_fleet::Fleet;
 pub use plans::write_plan;
 pub use reports::write_reports;
 pub use source::read_source;

@@ -16,3 +16,6 @@ fn main(rt: HostRuntime) -> io::Result<()> {
     }
     Ok(())
 }
+
+#[cfg(test)]
+mod tests;

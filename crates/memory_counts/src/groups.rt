@@ -1,18 +1,21 @@
 //! Groups of calls by their names.
-use crate::{devices, filters, knowledges, lists, records, scripts, vectors};
+use crate::{arenas, devices, filters, knowledges, ledgers, lists, records, runs, scripts, vectors};
 use std::alloc::Global;
+use std::sync::Wait;
 
 /// Whether each of the calls that a line names answered as it has to, so many times. None where the line names none, or
 /// where the values for them can't be made.
-pub fn of_line(alloc: Global, line: &str) -> Option<bool> {
+pub fn of_line<R: Wait>(rt: &R, alloc: Global, line: &str) -> Option<bool> {
     let (group, times) = line.split_once(' ')?;
     let times = times.parse::<u32>().ok()?;
     match group {
+        "ledger" => ledgers::answer(rt, alloc, times),
         "fields" => Some(records::answer_fields(times)),
         "words" => records::answer_words(alloc, times),
         "versions" => Some(vectors::answer_versions(times)),
         "vector" => vectors::answer(alloc, times),
         "filter" => filters::answer(alloc, times),
+        "arena" => arenas::answer(alloc, times),
         _ => of_others(alloc, group, times),
     }
 }
@@ -26,6 +29,15 @@ fn of_others(alloc: Global, group: &str, times: u32) -> Option<bool> {
         "script" => scripts::answer(alloc, times),
         "list" => lists::answer(alloc, times),
         "list_removing" => lists::answer_removing(alloc, times),
+        _ => of_runs(alloc, group, times),
+    }
+}
+
+fn of_runs(alloc: Global, group: &str, times: u32) -> Option<bool> {
+    match group {
+        "plan" => runs::answer_plan(alloc, times),
+        "audit" => runs::answer_audit(alloc, times),
+        "workers" => Some(runs::answer_workers(times)),
         _ => of_takers(alloc, group, times),
     }
 }

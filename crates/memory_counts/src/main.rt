@@ -2,12 +2,15 @@
 //! them, and prints whether each answered as it has to. `tools/count-allocations` runs it and counts its allocations.
 #![tactic(auto)]
 
+mod arenas;
 mod devices;
 mod filters;
 mod groups;
 mod knowledges;
+mod ledgers;
 mod lists;
 mod records;
+mod runs;
 mod scripts;
 mod vectors;
 
@@ -16,7 +19,7 @@ use std::io;
 fn main(rt: HostRuntime) -> io::Result<()> {
     for line in rt.lines(rt.alloc()) {
         let line = line?;
-        let answered = groups::of_line(rt.alloc(), line.as_str()) == Some(true);
+        let answered = groups::of_line(&rt, rt.alloc(), line.as_str()) == Some(true);
         println!(rt; "{answered}")?;
     }
     Ok(())

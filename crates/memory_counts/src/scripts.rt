@@ -6,9 +6,14 @@ use std::alloc::Global;
 const TEXT: &str =
     "device cam all\ndevice frame rating >= 3\nnew cam 1 4 2024-01-01 sea\nknows frame 1 cam:1\npull frame cam\nlist cam\n";
 
+/// That script.
+pub fn small(alloc: Global) -> Option<Script> {
+    read_script(alloc, TEXT.as_bytes()).ok()
+}
+
 /// `devices_of` and the readers of a script.
 pub fn answer(alloc: Global, times: u32) -> Option<bool> {
-    let script = read_script(alloc, TEXT.as_bytes()).ok()?;
+    let script = small(alloc)?;
     Some(answer_of(&script, times))
 }
 

@@ -1,0 +1,49 @@
+ghost use Rattle.std.specs.Prelude.{◌≡◌, ◌≤◌, length};
+
+use fragment_arena::{FragmentArena, Row};
+use std::alloc::Global;
+
+/// An arena of two rows.
+fn two_rows(alloc: Global) -> Option<FragmentArena> {
+    let mut arena = FragmentArena::new(alloc);
+    arena.place(&[1, 2, 3]).ok()?;
+    arena.place(&[4]).ok()?;
+    Some(arena)
+}
+
+/// The calls of an arena but `place`, `try_clone`, and a reservation of more than it ever had room for.
+pub fn answer(alloc: Global, times: u32) -> Option<bool> {
+    let arena = two_rows(alloc)?;
+    let mut other = FragmentArena::new(alloc);
+    Some(is_worked(&arena, &mut other) && answer_of(&arena, &mut other, times))
+}
+
+fn answer_of(arena: &FragmentArena, other: &mut FragmentArena, times: u32) -> bool {
+    for _ in 0..times {
+        if !is_worked(arena, other) {
+            return false;
+        }
+    }
+    true
+}
+
+// Clears the other arena, reserves what it has had room for, and places a row of its own and both of the first there.
+fn is_worked(arena: &FragmentArena, other: &mut FragmentArena) -> bool {
+    other.clear();
+    if arena.rows() != 2 || arena.words_of_run(0, 2) != Some(4) || other.reserve(6, 3).is_err() {
+        return false;
+    }
+    other.place_reserved(&[5, 6]);
+    other.place_run(arena, 0, 2);
+    other.rows() == 3 && has_rows(other)
+}
+
+fn has_rows(arena: &mut FragmentArena) -> bool
+    requires { 3 ≤ length arena.old.rows }
+{
+    if arena.row(Row::at(1)).len() != 3 {
+        return false;
+    }
+    arena.put(Row::at(1), 2, 7);
+    arena.row(Row::at(1)) == [1, 2, 7].as_slice() && arena.row(Row::at(2)).len() == 1
+}

@@ -1,0 +1,54 @@
+use crate::scripts::small;
+use fleet_runner::{Outcome, Workers, audit, run_plain};
+use photo_batcher::{Plan, plan};
+use std::alloc::Global;
+
+/// The readers of a plan.
+pub fn answer_plan(alloc: Global, times: u32) -> Option<bool> {
+    let script = small(alloc)?;
+    let plan = plan(alloc, &script).ok()?;
+    Some(answer_of_plan(&plan, times))
+}
+
+fn answer_of_plan(plan: &Plan, times: u32) -> bool {
+    for _ in 0..times {
+        if !has_batches(plan) || !has_last(plan) {
+            return false;
+        }
+    }
+    true
+}
+
+fn has_batches(plan: &Plan) -> bool {
+    plan.batches() == 3 && plan.members(0) == [1, 2].as_slice()
+}
+
+fn has_last(plan: &Plan) -> bool {
+    plan.commands() == 4 && plan.batch_of(4) == 2 && plan.after(4) == Some(3)
+}
+
+/// `audit`.
+pub fn answer_audit(alloc: Global, times: u32) -> Option<bool> {
+    let script = small(alloc)?;
+    let outcome = run_plain(alloc, &script).ok()?;
+    Some(answer_of_audits(&outcome, times))
+}
+
+fn answer_of_audits(outcome: &Outcome, times: u32) -> bool {
+    for _ in 0..times {
+        if !audit(outcome.devices.as_slice(), &outcome.log) {
+            return false;
+        }
+    }
+    true
+}
+
+/// `Workers::new`.
+pub fn answer_workers(times: u32) -> bool {
+    for _ in 0..times {
+        if Workers::new(0).is_some() || Workers::new(64).is_none() || Workers::new(65).is_some() {
+            return false;
+        }
+    }
+    true
+}
