@@ -1,5 +1,7 @@
 //! Groups of calls by their names.
-use crate::{arenas, devices, filters, knowledges, ledgers, lists, records, runs, scripts, vectors};
+use crate::{
+    arenas, devices, filters, knowledges, ledgers, lists, records, runs, scripts, vectors,
+};
 use std::alloc::Global;
 use std::sync::Wait;
 
