@@ -1,4 +1,4 @@
-ghost use Rattle.std.specs.Prelude.{◌≡◌, ◌+◌, ◌<◌, ◌≤◌, length, IfSome};
+ghost use Rattle.std.specs.Prelude.{◌≡◌, ◌+◌, ◌<◌, ◌≤◌, length, IsTrue};
 
 use crate::Fleet;
 use photo_device::Place;
@@ -10,36 +10,41 @@ use std::alloc::Global;
 
 #[test]
 fn a_fleet_narrows_and_removes(rt: HostRuntime) {
-    assert!(rt; on_fleet(rt.alloc(), 0));
+    assert!(rt; on_fleet(rt.alloc(), narrows_and_removes));
 }
 
 #[test]
 fn a_fleet_answers_questions(rt: HostRuntime) {
-    assert!(rt; on_fleet(rt.alloc(), 1));
+    assert!(rt; on_fleet(rt.alloc(), answers_questions));
 }
 
-fn on_fleet(alloc: Global, test: usize) -> bool {
+// Whether a fleet of two devices that have made nothing passes a test.
+fn on_fleet<F: FnOnce(Global, &mut Fleet) -> bool>(alloc: Global, test: F) -> bool
+    requires { F.IsAlwaysCallable test }
+{
     match two_devices(alloc) {
-        Some(mut fleet) => told(alloc, &mut fleet, test) == Some(true),
+        Some(mut fleet) => test(alloc, &mut fleet),
         None => false,
     }
 }
 
-fn told(alloc: Global, fleet: &mut Fleet, test: usize) -> Option<bool>
-    requires devices { length fleet.old.devices ≡ 2 }
-    requires fresh { fleet.old.commands ≡ 0 }
+fn narrows_and_removes(alloc: Global, fleet: &mut Fleet) -> bool {
+    is_fresh(fleet) && changes(alloc, fleet) == Some(true)
+}
+
+fn answers_questions(_alloc: Global, fleet: &mut Fleet) -> bool {
+    is_fresh(fleet) && answers(fleet) == Some(true)
+}
+
+fn is_fresh(fleet: &Fleet) -> bool
+    ensures devices { IsTrue result → length fleet.now.devices ≡ 2 }
+    ensures fresh { IsTrue result → fleet.now.commands ≡ 0 }
 {
-    if test == 0 {
-        narrows_and_removes(alloc, fleet)
-    } else {
-        answers(fleet)
-    }
+    fleet.devices().len() == 2 && fleet.commands() == 0
 }
 
 // Two devices that keep all.
-fn two_devices(alloc: Global) -> Option<Fleet>
-    ensures { IfSome result (λ fleet. (length fleet.devices ≡ 2) × (fleet.commands ≡ 0)) }
-{
+fn two_devices(alloc: Global) -> Option<Fleet> {
     let filters = [filter_of(alloc, "all")?, filter_of(alloc, "all")?];
     Fleet::new(alloc, &filters).ok()
 }
@@ -57,7 +62,7 @@ fn rated(alloc: Global, rating: u8) -> Option<Record> {
     })
 }
 
-fn narrows_and_removes(alloc: Global, fleet: &mut Fleet) -> Option<bool>
+fn changes(alloc: Global, fleet: &mut Fleet) -> Option<bool>
     requires devices { length fleet.old.devices ≡ 2 }
     requires fresh { fleet.old.commands ≡ 0 }
 {
