@@ -15,8 +15,8 @@ use photo_script::{Script, read_script};
 use photo_version::{Author, Version};
 use std::alloc::Global;
 
-/// Whether a script and what its run gives pass a test.
-pub fn on_run<F: Fn(Global, &Script, Outcome) -> bool>(alloc: Global, text: &str, test: F) -> bool
+/// Whether what a script's run gives passes a test.
+pub fn on_run<F: FnOnce(Global, &mut Outcome) -> bool>(alloc: Global, text: &str, test: F) -> bool
     requires { F.IsAlwaysCallable test }
 {
     match read_script(alloc, text.as_bytes()) {
@@ -25,7 +25,7 @@ pub fn on_run<F: Fn(Global, &Script, Outcome) -> bool>(alloc: Global, text: &str
     }
 }
 
-fn on_outcome<F: Fn(Global, &Script, Outcome) -> bool>(
+fn on_outcome<F: FnOnce(Global, &mut Outcome) -> bool>(
     alloc: Global,
     script: &Script,
     test: F,
@@ -33,13 +33,13 @@ fn on_outcome<F: Fn(Global, &Script, Outcome) -> bool>(
     requires { F.IsAlwaysCallable test }
 {
     match run_plain(alloc, script) {
-        Ok(outcome) => test(alloc, script, outcome),
+        Ok(mut outcome) => test(alloc, &mut outcome),
         Err(_) => false,
     }
 }
 
 // What has to hold of each run.
-fn is_right(_alloc: Global, _script: &Script, outcome: Outcome) -> bool {
+fn is_right(_alloc: Global, outcome: &mut Outcome) -> bool {
     audit(outcome.devices.as_slice(), &outcome.log)
 }
 
@@ -120,23 +120,23 @@ fn knowing(device: Device, knowledge: Knowledge) -> Option<Device>
     Some(with_knowledge(device, knowledge))
 }
 
-fn forgets(alloc: Global, devices: &mut Vec<Device>) -> Option<()> {
+// The third of four devices forgets all but the camera's first version. It is the last one then.
+fn forgets(alloc: Global, devices: &mut Vec<Device>) -> bool {
     if devices.len() != 4 {
-        return None;
+        return false;
     }
-    let tab = devices.swap_remove(2);
-    let knowledge = first_known(alloc)?;
-    devices.push(knowing(tab, knowledge)?).ok()?;
-    Some(())
+    let Some(knowledge) = first_known(alloc) else {
+        return false;
+    };
+    match knowing(devices.swap_remove(2), knowledge) {
+        Some(device) => devices.push(device).is_ok(),
+        None => false,
+    }
 }
 
 // The tablet knows the picture, knows nothing of its removal, and doesn't store it.
-fn forgetting_is_seen(alloc: Global, _script: &Script, outcome: Outcome) -> bool {
-    let mut devices = outcome.devices;
-    if forgets(alloc, &mut devices).is_none() {
-        return false;
-    }
-    !audit(devices.as_slice(), &outcome.log)
+fn forgetting_is_seen(alloc: Global, outcome: &mut Outcome) -> bool {
+    forgets(alloc, &mut outcome.devices) && !audit(outcome.devices.as_slice(), &outcome.log)
 }
 
 const MADE: &str = "device a all\ndevice b all\nnew a 7 5 2024-01-01 -\npull b a\n";
@@ -152,11 +152,10 @@ fn remove_first(devices: &mut [Device]) -> bool {
 }
 
 // A device makes a version that the log hasn't: it knows the logged one, and nothing of the log that supersedes it.
-fn removal_is_seen(_alloc: Global, _script: &Script, outcome: Outcome) -> bool {
-    let mut devices = outcome.devices;
-    audit(devices.as_slice(), &outcome.log)
-        && remove_first(devices.as_mut_slice())
-        && !audit(devices.as_slice(), &outcome.log)
+fn removal_is_seen(_alloc: Global, outcome: &mut Outcome) -> bool {
+    audit(outcome.devices.as_slice(), &outcome.log)
+        && remove_first(outcome.devices.as_mut_slice())
+        && !audit(outcome.devices.as_slice(), &outcome.log)
 }
 
 #[test]

@@ -20,16 +20,19 @@ fn logs(log: &IssueLog, wanted: &[(u32, u16, u32)]) -> bool {
     true
 }
 
-/// Whether an outcome has those totals (changes, pulls, reports, moved) and that log.
-pub fn is_outcome(outcome: &Outcome, totals: [u64; 4], log: &[(u32, u16, u32)]) -> bool {
-    let [changes, pulls, reports, moved] = totals;
-    let wanted = Totals {
+/// Totals as changes, pulls, reports and moved versions.
+pub fn totals([changes, pulls, reports, moved]: [u64; 4]) -> Totals {
+    Totals {
         changes,
         pulls,
         reports,
         moved,
-    };
-    outcome.totals == wanted && logs(&outcome.log, log)
+    }
+}
+
+/// Whether an outcome has those totals and that log.
+pub fn is_outcome(outcome: &Outcome, wanted: [u64; 4], log: &[(u32, u16, u32)]) -> bool {
+    outcome.totals == totals(wanted) && logs(&outcome.log, log)
 }
 
 fn ends_in(alloc: Global, script: &Script, totals: [u64; 4], log: &[(u32, u16, u32)]) -> bool {

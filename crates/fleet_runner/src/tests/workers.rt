@@ -11,12 +11,13 @@ use super::memory::Sink;
 use super::orders::FOUR_DEVICES;
 use super::pulling::{NARROWED, PULLS};
 use super::refusals::all_same;
+use super::totals::totals;
 use crate::{
     Gate, IssueLog, OpenGate, Outcome, Workers, replay, run_fleet, run_plain, write_reports,
 };
 use photo_batcher::{Plan, plan};
 use photo_device::Held;
-use photo_script::{Script, Totals, read_script};
+use photo_script::{Script, read_script};
 use std::alloc::{AllocError, Global};
 use std::sync::{Arc, Wait};
 use std::thread::Threads;
@@ -73,21 +74,14 @@ pub fn prints_by<G: Gate + 'static, R: Threads + Wait + Copy + Send + 'static>(
     count: u8,
     gate: &Arc<G>,
     output: &str,
-    totals: [u64; 4],
+    wanted: [u64; 4],
 ) -> bool {
     let Some(script) = shared(alloc, text) else {
         return false;
     };
-    let [changes, pulls, reports, moved] = totals;
-    let wanted = Totals {
-        changes,
-        pulls,
-        reports,
-        moved,
-    };
     match run_by(rt, alloc, &script, count, gate) {
         Some(outcome) => {
-            outcome.totals == wanted && is_printed(alloc, &*script, &outcome, output)
+            outcome.totals == totals(wanted) && is_printed(alloc, &*script, &outcome, output)
         }
         None => false,
     }
