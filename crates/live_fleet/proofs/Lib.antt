@@ -1,2 +1,3 @@
 mod Histories
 mod Entries
+mod WorkedExamples

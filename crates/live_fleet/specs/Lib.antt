@@ -2,3 +2,4 @@ pub mod Fleets
 pub mod Coding
 pub mod Entries
 pub mod Answers
+pub mod Examples

@@ -1,4 +1,5 @@
 //! What holds of every fleet, and of runs that grow by commands.
+ghost use Rattle.live_fleet.specs.Examples.{EditedOnBoth, ChangedByHand, ComesAboutAsTold};
 ghost use Rattle.live_fleet.specs.Fleets.{HasSoundHistory, RunsGrowByCommands};
 
 use crate::Fleet;
@@ -16,4 +17,12 @@ pub fn each_fleet_is_sound(fleet: &Fleet)
 /// whoever knows the filters of a fleet and the commands that it was given knows that it shows the run of that script.
 pub fn runs_grow_by_commands()
     ensures { RunsGrowByCommands }
+{}
+
+/// The definitions at some fleets: two devices that edit one picture, a device that is given narrower filters, and which
+/// fleets come about.
+pub fn examples()
+    ensures edited { EditedOnBoth }
+    ensures changed { ChangedByHand }
+    ensures came { ComesAboutAsTold }
 {}

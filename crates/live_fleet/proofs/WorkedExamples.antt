@@ -1,0 +1,87 @@
+-- The worked fleets: what computes does so by the definitions alone.
+use Rattle.std.proofs.Common.{◌≡◌, ℕ, ◌≤◌, Bool, true, false, eqb, leb, ◌&&◌, ◌||◌, List, [], ◌∷◌, refl, sym, ap, ◌∙◌, subst, arith}
+use Rattle.std.specs.List.{AllZip}
+use Rattle.photo_filter_text.specs.Tree.{All}
+use Rattle.photo_device.proofs.OwnLemmas.{one_more, none_up_to}
+use Rattle.photo_device.specs.Entry.{Entry}
+use Rattle.photo_device.specs.Held.{entry_of, entries_of}
+use Rattle.photo_device.specs.Device.{Kept, ModelDevice, Shows, holds}
+use Rattle.photo_script.specs.declared.command.Command.TheVariants as command
+use Rattle.fleet_steps.specs.Members.{In, here}
+use Rattle.fleet_steps.specs.Sound.{times}
+use Rattle.fleet_steps.proofs.Members.{in_nothing, in_left}
+use Rattle.live_fleet.specs.Fleets.{CameAbout, after_commands}
+use Rattle.live_fleet.specs.Examples.{EditedOnBoth, ChangedByHand, ComesAboutAsTold, rated, nth, first_held, first_device, second_device, with_log}
+use Rattle.live_fleet.proofs.Histories.{came_sound}
+
+pub edited_on_both : EditedOnBoth
+edited_on_both = record {
+  reports = refl;
+  log = refl;
+  made_with = refl;
+  made_without = refl;
+  conflict = refl;
+  none = refl;
+  sound = refl;
+  kept = refl;
+}
+
+pub changed_by_hand : ChangedByHand
+changed_by_hand = record {
+  reports = refl;
+  log = refl;
+  tree = refl;
+  store = refl;
+  out = refl;
+  sound = refl;
+  kept = refl;
+}
+
+or_false : (b : Bool) → (b || false) ≡ b
+or_false true = refl
+or_false false = refl
+
+-- one version was made
+up_to_one : (b : Bool) (n : ℕ) → (((b && (leb 1 n && leb n 1)) || false) || false) ≡ ((false || (b && eqb 1 n)) || false)
+up_to_one false n = refl
+up_to_one true n =
+    let one : (false || eqb 1 n) ≡ (leb 1 n && leb n 1) = ap (λ x. x || eqb 1 n) (none_up_to n) ∙ one_more n 0 in
+    or_false ((leb 1 n && leb n 1) || false) ∙ ap (λ x. x || false) (sym one)
+
+came : CameAbout (with_log (first_held ∷ []))
+came = record {
+  filters = All ∷ All ∷ [];
+  commands = command.New 0 7 (rated 3) ∷ [];
+  within = ((omega arith, tt), tt);
+  in_range = (record { rating = omega arith; day = (omega arith, omega arith) }, tt);
+  shown = record {
+    devices = (
+      record { author = refl; tree = refl; counter = refl; store = refl; out = refl; known = λ p above v. up_to_one (eqb 0 v.author.device) v.number },
+      (record { author = refl; tree = refl; counter = refl; store = refl; out = refl; known = λ p above v. refl }, tt),
+    );
+    log = refl;
+  };
+  count = refl;
+}
+
+-- what the first device of a fleet holds stands in the log
+first_logged : (d : Kept) (ds : List Kept) (ms : List ModelDevice) (log : List Entry) (e : Entry) → In e (entries_of d.store) → AllZip Shows (d ∷ ds) ms
+    → ((m : ModelDevice) (e : Entry) → In m ms → In e (holds m) → In e log) → In e log
+first_logged d ds [] log e i shown logged = absurd shown
+first_logged d ds (m ∷ ms) log e i shown logged = logged m e (here refl) (in_left m.out (subst (In e) shown.0.store i))
+
+unlogged : CameAbout (with_log []) → ⊥
+unlogged came =
+    let history = came_sound _ came in
+    let fleet = after_commands history.came.filters history.came.commands in
+    let logged : In (entry_of first_held) fleet.log = first_logged first_device (second_device ∷ []) fleet.devices fleet.log (entry_of first_held) (here refl) history.came.shown.devices history.sound.logged in
+    in_nothing (subst (In (entry_of first_held)) (sym history.came.shown.log) logged)
+
+twice : CameAbout (with_log (first_held ∷ first_held ∷ [])) → ⊥
+twice came =
+    let history = came_sound _ came in
+    let once : times (nth 0 1) (entries_of (first_held ∷ first_held ∷ [])) ≤ 1 = subst (λ (log : List Entry). times (nth 0 1) log ≤ 1) (sym history.came.shown.log) (history.sound.once (nth 0 1)) in
+    omega arith
+
+pub comes_about_as_told : ComesAboutAsTold
+comes_about_as_told = record { logged = came; unlogged = unlogged; twice = twice }

@@ -1,0 +1,11 @@
+use Rattle.live_fleet.proofs.WorkedExamples.{edited_on_both, changed_by_hand, comes_about_as_told}
+use Rattle.live_fleet.proofs.laws.examples.Goals as goal
+
+pub returns-clause-edited : goal.returns-clause-edited
+returns-clause-edited c = edited_on_both
+
+pub returns-clause-changed : goal.returns-clause-changed
+returns-clause-changed c = changed_by_hand
+
+pub returns-clause-came : goal.returns-clause-came
+returns-clause-came c = comes_about_as_told
