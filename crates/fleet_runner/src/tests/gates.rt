@@ -4,6 +4,7 @@ ghost use Rattle.std.specs.Prelude.{◌<◌};
 
 use super::memory::{OUTPUT, SCRIPT, Sink, Source};
 use super::orders::{FOUR_DEVICES, REPORTS};
+use super::totals::totals;
 use super::workers::prints_by;
 use crate::{Gate, Workers, run_stream};
 use photo_script::Totals;
@@ -21,14 +22,7 @@ const MOST_TURNS: u32 = 10_000_000;
 const ALL: [u64; 4] = [2, 4, 1, 4];
 
 fn is_shown(shown: Option<Totals>, wanted: [u64; 4]) -> bool {
-    let [changes, pulls, reports, moved] = wanted;
-    shown
-        == Some(Totals {
-            changes,
-            pulls,
-            reports,
-            moved,
-        })
+    shown == Some(totals(wanted))
 }
 
 /// What was shown after some commands, and whether the first one waited until the second had been shown something.
