@@ -1,0 +1,310 @@
+ghost use Rattle.std.specs.Prelude.{◌≡◌, ◌<◌, IfSome};
+ghost use Rattle.photo_version.specs.Author.{author};
+
+use crate::filters::{filter_of, same_filter};
+use crate::fleets::divided;
+use crate::knowledges::told;
+use crate::records::rated;
+use crate::verdict::{Verdict, judged, mark};
+use photo_device::{Change, ChangeFault, Device, Held, HeldList, HeldSet, NarrowFault, Place, VersionList};
+use photo_filter_rules::Filter;
+use photo_record::{PicNo, Record};
+use photo_version::{Author, Version};
+use std::alloc::Global;
+
+/// What came of a call of `photo_device`.
+pub fn verdict(alloc: Global, call: &str) -> Option<Verdict> {
+    match call {
+        "Device::new" => new(alloc),
+        "Device::make first" => make(alloc, 0),
+        "Device::make" => make(alloc, 2),
+        "Device::edit" => edit(alloc),
+        "Device::remove" => remove(alloc),
+        _ => verdict_on_others(alloc, call),
+    }
+}
+
+fn verdict_on_others(alloc: Global, call: &str) -> Option<Verdict> {
+    match call {
+        "Device::apply" => apply(alloc),
+        "Device::narrow" => narrow(alloc),
+        "Device::conflicts" => conflicts(alloc),
+        "Held::try_clone" => held_copy(alloc),
+        "HeldSet::to_list" => list(alloc),
+        _ => None,
+    }
+}
+
+fn same_held(one: &HeldSet, other: &HeldSet) -> bool {
+    if one.len() != other.len() {
+        return false;
+    }
+    for i in 0..one.len() {
+        if one.get(i) != other.get(i) {
+            return false;
+        }
+    }
+    true
+}
+
+/// Whether two devices are the same, as far as public readers tell.
+pub fn same_device(one: &Device, other: &Device) -> bool {
+    one.author() == other.author()
+        && one.counter() == other.counter()
+        && same_filter(one.filter(), other.filter())
+        && same_held(one.store(), other.store())
+        && same_held(one.out(), other.out())
+        && one.knowledge().same(other.knowledge())
+}
+
+/// Whether two lists of devices are the same, as far as public readers tell.
+pub fn same_devices(devices: &[Device], others: &[Device]) -> bool {
+    if devices.len() != others.len() {
+        return false;
+    }
+    for i in 0..devices.len() {
+        if !same_device(&devices[i], &others[i]) {
+            return false;
+        }
+    }
+    true
+}
+
+// Makes a version of each of the first so many pictures, of falling rating.
+fn make_all(alloc: Global, device: &mut Device, count: u8) -> Option<()> {
+    for n in 0..count {
+        if device.counter() == u32::MAX {
+            return None;
+        }
+        let content = rated(alloc, 5u8.saturating_sub(n))?;
+        device.make(PicNo::new(u32::from(n) + 1)?, &content).ok()?;
+    }
+    Some(())
+}
+
+fn opened(alloc: Global, text: &str) -> Option<Device> {
+    Device::new(alloc, Author::new(0), filter_of(alloc, text)?).ok()
+}
+
+/// A device that made so many versions, of the pictures 1 and more, and keeps those of a rating of 4 or more.
+pub fn device(alloc: Global, count: u8) -> Option<Device> {
+    let mut device = opened(alloc, "rating >= 4")?;
+    make_all(alloc, &mut device, count)?;
+    Some(device)
+}
+
+fn new(alloc: Global) -> Option<Verdict> {
+    let filter = filter_of(alloc, "rating >= 4")?;
+    let twin = filter_of(alloc, "rating >= 4")?;
+    mark(alloc);
+    let device = Device::new(alloc, Author::new(0), filter);
+    mark(alloc);
+    Some(match device {
+        Ok(device) => judged(Some(is_fresh(&device, &twin)), true),
+        Err((filter, _)) => judged(None, same_filter(&filter, &twin)),
+    })
+}
+
+fn is_fresh(device: &Device, filter: &Filter) -> bool {
+    device.author() == Author::new(0)
+        && device.counter() == 0
+        && same_filter(device.filter(), filter)
+        && device.store().is_empty()
+        && device.out().is_empty()
+        && device.knowledge().fragments() == 1
+}
+
+/// Whether a device has made a version of that number, of that picture, and holds it at that place.
+pub fn has_made(device: &Device, made: (Version, Place), n: u32, picture: PicNo, place: Place) -> bool {
+    let set = match place {
+        Place::Store => device.store(),
+        Place::Out => device.out(),
+    };
+    made.0.n() == n
+        && made.1 == place
+        && device.counter() == n
+        && set.has(picture, made.0)
+        && device.knowledge().knows(picture, made.0)
+}
+
+fn make(alloc: Global, count: u8) -> Option<Verdict> {
+    let mut device = device(alloc, count)?;
+    let twin = self::device(alloc, count)?;
+    let content = rated(alloc, 4)?;
+    let right = makes(alloc, &mut device, &content);
+    let unchanged = same_device(&device, &twin) && content == rated(alloc, 4)?;
+    Some(judged(right, unchanged))
+}
+
+fn makes(alloc: Global, device: &mut Device, content: &Record) -> Option<bool> {
+    let picture = PicNo::new(9)?;
+    let next = device.counter().checked_add(1)?;
+    mark(alloc);
+    let made = device.make(picture, content);
+    mark(alloc);
+    Some(has_made(device, made.ok()?, next, picture, Place::Store))
+}
+
+fn edit(alloc: Global) -> Option<Verdict> {
+    let mut device = device(alloc, 2)?;
+    let twin = self::device(alloc, 2)?;
+    let content = rated(alloc, 1)?;
+    let right = edits(alloc, &mut device, &content);
+    let unchanged = same_device(&device, &twin) && content == rated(alloc, 1)?;
+    Some(judged(right, unchanged))
+}
+
+fn edits(alloc: Global, device: &mut Device, content: &Record) -> Option<bool> {
+    let picture = PicNo::new(1)?;
+    let next = device.counter().checked_add(1)?;
+    mark(alloc);
+    let made = device.edit(picture, content);
+    mark(alloc);
+    has_changed(device, made, next, picture)
+}
+
+// Whether a change went into the out, and nothing else of the picture is held. None where memory was wanted.
+fn has_changed(
+    device: &Device,
+    made: Result<(Version, Place), ChangeFault>,
+    next: u32,
+    picture: PicNo,
+) -> Option<bool> {
+    match made {
+        Ok(made) => Some(
+            has_made(device, made, next, picture, Place::Out)
+                && device.store().len() == 1
+                && device.out().len() == 1,
+        ),
+        Err(ChangeFault::NoMemory) => None,
+        Err(ChangeFault::NotHeld) => Some(false),
+    }
+}
+
+fn remove(alloc: Global) -> Option<Verdict> {
+    let mut device = device(alloc, 2)?;
+    let twin = self::device(alloc, 2)?;
+    let right = removes(alloc, &mut device);
+    let unchanged = same_device(&device, &twin);
+    Some(judged(right, unchanged))
+}
+
+fn removes(alloc: Global, device: &mut Device) -> Option<bool> {
+    let picture = PicNo::new(1)?;
+    let next = device.counter().checked_add(1)?;
+    mark(alloc);
+    let made = device.remove(picture);
+    mark(alloc);
+    has_changed(device, made, next, picture)
+}
+
+// What tells a device of one version of another one's, and has it take and give up nothing.
+fn change(alloc: Global) -> Option<Change> {
+    let gain = told(alloc, 7, 3)?;
+    Some(Change {
+        drops: VersionList::new(Vec::new(alloc)),
+        takes: HeldList::new(Vec::new(alloc)),
+        gain,
+    })
+}
+
+fn apply(alloc: Global) -> Option<Verdict> {
+    let mut device = device(alloc, 2)?;
+    let twin = self::device(alloc, 2)?;
+    let change = change(alloc)?;
+    mark(alloc);
+    let done = device.apply(change);
+    mark(alloc);
+    Some(match done {
+        Ok(()) => judged(Some(has_learned(alloc, &device, &twin)), true),
+        Err((change, _)) => judged(None, same_device(&device, &twin) && is_change(alloc, &change)),
+    })
+}
+
+fn has_learned(alloc: Global, device: &Device, twin: &Device) -> bool {
+    match told(alloc, 7, 3) {
+        Some(gain) => {
+            device.knowledge().has_all(&gain)
+                && device.knowledge().has_all(twin.knowledge())
+                && !device.knowledge().same(twin.knowledge())
+                && same_held(device.store(), twin.store())
+        }
+        None => false,
+    }
+}
+
+fn is_change(alloc: Global, change: &Change) -> bool {
+    match told(alloc, 7, 3) {
+        Some(gain) => {
+            change.gain.same(&gain) && change.drops.is_empty() && change.takes.is_empty()
+        }
+        None => false,
+    }
+}
+
+fn narrow(alloc: Global) -> Option<Verdict> {
+    let mut device = device(alloc, 2)?;
+    let twin = self::device(alloc, 2)?;
+    let filter = filter_of(alloc, "rating >= 5")?;
+    mark(alloc);
+    let moved = device.narrow(filter);
+    mark(alloc);
+    Some(match moved {
+        Ok(count) => judged(Some(count == 1 && device.store().len() == 1 && device.out().len() == 1), true),
+        Err((filter, NarrowFault::NoMemory)) => judged(
+            None,
+            same_device(&device, &twin) && same_filter(&filter, &filter_of(alloc, "rating >= 5")?),
+        ),
+        Err(_) => Verdict::Wrong,
+    })
+}
+
+fn conflicts(alloc: Global) -> Option<Verdict> {
+    let fleet = divided(alloc)?;
+    let twin = divided(alloc)?;
+    let right = finds_conflicts(alloc, fleet.devices().first()?);
+    Some(judged(right, same_devices(fleet.devices(), twin.devices())))
+}
+
+fn finds_conflicts(alloc: Global, device: &Device) -> Option<bool> {
+    mark(alloc);
+    let found = device.conflicts();
+    mark(alloc);
+    let found = found.ok()?;
+    match found.as_slice() {
+        [conflict] => Some(conflict.picture.value() == 7 && conflict.versions.len() == 2),
+        _ => Some(false),
+    }
+}
+
+fn held_copy(alloc: Global) -> Option<Verdict> {
+    let device = device(alloc, 1)?;
+    let twin = self::device(alloc, 1)?;
+    if device.store().is_empty() {
+        return None;
+    }
+    let right = copies_held(alloc, device.store().get(0));
+    Some(judged(right, same_device(&device, &twin)))
+}
+
+fn copies_held(alloc: Global, held: &Held) -> Option<bool> {
+    mark(alloc);
+    let copy = held.try_clone();
+    mark(alloc);
+    Some(copy.ok()? == *held)
+}
+
+fn list(alloc: Global) -> Option<Verdict> {
+    let device = device(alloc, 2)?;
+    let twin = self::device(alloc, 2)?;
+    let right = lists(alloc, device.store());
+    Some(judged(right, same_device(&device, &twin)))
+}
+
+fn lists(alloc: Global, set: &HeldSet) -> Option<bool> {
+    mark(alloc);
+    let list = set.to_list();
+    mark(alloc);
+    let list = list.ok()?;
+    Some(list.len() == 2 && set.len() == 2 && list.get(0) == set.get(0) && list.get(1) == set.get(1))
+}

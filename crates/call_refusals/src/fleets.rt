@@ -1,0 +1,221 @@
+ghost use Rattle.std.specs.Prelude.{◌≡◌, ◌+◌, ◌≤◌, length, IfSome};
+
+use crate::devices::same_devices;
+use crate::filters::filter_of;
+use crate::records::rated;
+use crate::verdict::{Verdict, judged, mark};
+use live_fleet::Fleet;
+use photo_device::Place;
+use photo_pull::PullCounts;
+use photo_record::{PicNo, Record};
+use photo_script::{Command, Report};
+use photo_version::Version;
+use std::alloc::Global;
+
+/// What came of a call of `live_fleet`.
+pub fn verdict(alloc: Global, call: &str) -> Option<Verdict> {
+    match call {
+        "Fleet::new" => new(alloc),
+        "Fleet::pull" => on_fleet(alloc, Call::Pull),
+        "Fleet::run" => on_fleet(alloc, Call::Run),
+        "Fleet::make" => on_fleet(alloc, Call::Make),
+        "Fleet::edit" => on_fleet(alloc, Call::Edit),
+        _ => verdict_on_others(alloc, call),
+    }
+}
+
+fn verdict_on_others(alloc: Global, call: &str) -> Option<Verdict> {
+    match call {
+        "Fleet::remove" => on_fleet(alloc, Call::Remove),
+        "Fleet::narrow" => on_fleet(alloc, Call::Narrow),
+        _ => None,
+    }
+}
+
+#[derive(Clone, Copy)]
+enum Call {
+    Run,
+    Make,
+    Edit,
+    Remove,
+    Pull,
+    Narrow,
+}
+
+fn new(alloc: Global) -> Option<Verdict> {
+    let filters = [filter_of(alloc, "all")?, filter_of(alloc, "rating >= 4")?];
+    mark(alloc);
+    let fleet = Fleet::new(alloc, &filters);
+    mark(alloc);
+    Some(match fleet {
+        Ok(fleet) => judged(Some(is_fresh(&fleet)), true),
+        Err(_) => judged(None, filters[0].alternatives() == 1 && filters[1].alternatives() == 1),
+    })
+}
+
+fn is_fresh(fleet: &Fleet) -> bool {
+    fleet.devices().len() == 2 && fleet.log().is_empty() && fleet.commands() == 0
+}
+
+fn two_devices(alloc: Global) -> Option<Fleet>
+    ensures { IfSome result (λ fleet. (length fleet.devices ≡ 2) × (fleet.commands ≡ 0)) }
+{
+    let filters = [filter_of(alloc, "all")?, filter_of(alloc, "all")?];
+    Fleet::new(alloc, &filters).ok()
+}
+
+// The first device makes a picture, the second pulls it, and both edit it.
+fn edit_on_both(alloc: Global, fleet: &mut Fleet) -> Option<()>
+    requires devices { length fleet.old.devices ≡ 2 }
+    requires fresh { fleet.old.commands ≡ 0 }
+    ensures devices { length fleet.new.devices ≡ 2 }
+    ensures commands { fleet.new.commands ≤ 4 }
+{
+    let picture = PicNo::new(7)?;
+    let better = rated(alloc, 4)?;
+    fleet.make(0, picture, &better).ok()?;
+    fleet.pull(1, 0).ok()?;
+    fleet.edit(0, picture, &better).ok()?;
+    fleet.edit(1, picture, &better).ok()?;
+    Some(())
+}
+
+// Two devices that hold different versions of a picture.
+fn apart(alloc: Global) -> Option<Fleet>
+    ensures devices { IfSome result (λ fleet. length fleet.devices ≡ 2) }
+    ensures commands { IfSome result (λ fleet. fleet.commands ≤ 4) }
+{
+    let mut fleet = two_devices(alloc)?;
+    edit_on_both(alloc, &mut fleet)?;
+    Some(fleet)
+}
+
+/// Two devices, the first of which holds two versions of picture 7.
+pub fn divided(alloc: Global) -> Option<Fleet> {
+    let mut fleet = apart(alloc)?;
+    fleet.pull(0, 1).ok()?;
+    Some(fleet)
+}
+
+fn on_fleet(alloc: Global, call: Call) -> Option<Verdict> {
+    let mut fleet = apart(alloc)?;
+    let twin = apart(alloc)?;
+    let right = calls(alloc, &mut fleet, call);
+    let unchanged = same_fleet(&fleet, &twin);
+    Some(judged(right, unchanged))
+}
+
+fn same_fleet(one: &Fleet, other: &Fleet) -> bool {
+    one.commands() == other.commands()
+        && one.log() == other.log()
+        && same_devices(one.devices(), other.devices())
+}
+
+fn calls(alloc: Global, fleet: &mut Fleet, call: Call) -> Option<bool>
+    requires devices { length fleet.old.devices ≡ 2 }
+    requires commands { fleet.old.commands ≤ 4 }
+{
+    match call {
+        Call::Run => runs(alloc, fleet),
+        Call::Make => makes(alloc, fleet),
+        Call::Edit => edits(alloc, fleet),
+        Call::Remove => removes(alloc, fleet),
+        Call::Pull => pulls(alloc, fleet),
+        Call::Narrow => narrows(alloc, fleet),
+    }
+}
+
+fn runs(alloc: Global, fleet: &mut Fleet) -> Option<bool>
+    requires devices { length fleet.old.devices ≡ 2 }
+    requires commands { fleet.old.commands ≤ 4 }
+{
+    let command = Command::Remove {
+        device: 1,
+        picture: PicNo::new(7)?,
+    };
+    mark(alloc);
+    let report = fleet.run(&command);
+    mark(alloc);
+    let report = report.ok()?;
+    Some(is_made(&report, 2) && fleet.commands() == 5 && fleet.log().len() == 4)
+}
+
+fn is_made(report: &Report, n: u32) -> bool {
+    match report {
+        Report::Made { version, .. } => version.n() == n,
+        _ => false,
+    }
+}
+
+fn has_made(fleet: &Fleet, made: (Version, Place), n: u32, place: Place) -> bool {
+    made.0.n() == n && made.1 == place && fleet.commands() == 5 && fleet.log().len() == 4
+}
+
+fn makes(alloc: Global, fleet: &mut Fleet) -> Option<bool>
+    requires devices { length fleet.old.devices ≡ 2 }
+    requires commands { fleet.old.commands ≤ 4 }
+{
+    let (picture, content) = (PicNo::new(9)?, rated(alloc, 3)?);
+    mark(alloc);
+    let made = fleet.make(0, picture, &content);
+    mark(alloc);
+    Some(has_made(fleet, made.ok()?, 3, Place::Store))
+}
+
+fn edits(alloc: Global, fleet: &mut Fleet) -> Option<bool>
+    requires devices { length fleet.old.devices ≡ 2 }
+    requires commands { fleet.old.commands ≤ 4 }
+{
+    let (picture, content): (PicNo, Record) = (PicNo::new(7)?, rated(alloc, 3)?);
+    mark(alloc);
+    let made = fleet.edit(0, picture, &content);
+    mark(alloc);
+    match made.ok()? {
+        Some(made) => Some(has_made(fleet, made, 3, Place::Store)),
+        None => Some(false),
+    }
+}
+
+fn removes(alloc: Global, fleet: &mut Fleet) -> Option<bool>
+    requires devices { length fleet.old.devices ≡ 2 }
+    requires commands { fleet.old.commands ≤ 4 }
+{
+    let picture = PicNo::new(7)?;
+    mark(alloc);
+    let made = fleet.remove(1, picture);
+    mark(alloc);
+    match made.ok()? {
+        Some(made) => Some(has_made(fleet, made, 2, Place::Out)),
+        None => Some(false),
+    }
+}
+
+// It takes the other's version beside its own.
+const TAKEN: PullCounts = PullCounts {
+    taken: 1,
+    handed: 0,
+    notices: 0,
+    dropped: 0,
+    learned: true,
+};
+
+fn pulls(alloc: Global, fleet: &mut Fleet) -> Option<bool>
+    requires devices { length fleet.old.devices ≡ 2 }
+    requires commands { fleet.old.commands ≤ 4 }
+{
+    mark(alloc);
+    let counts = fleet.pull(0, 1);
+    mark(alloc);
+    Some(counts.ok()? == TAKEN && fleet.commands() == 5 && fleet.log().len() == 3)
+}
+
+fn narrows(alloc: Global, fleet: &mut Fleet) -> Option<bool>
+    requires devices { length fleet.old.devices ≡ 2 }
+    requires commands { fleet.old.commands ≤ 4 }
+{
+    let filter = filter_of(alloc, "rating >= 5")?;
+    mark(alloc);
+    let moved = fleet.narrow(0, &filter);
+    mark(alloc);
+    Some(moved.ok()? == Some(1) && fleet.commands() == 5 && fleet.log().len() == 3)
+}

@@ -1,0 +1,80 @@
+use crate::verdict::{Verdict, judged, mark};
+use block_list::{BlockList, Room};
+use std::alloc::Global;
+
+/// What came of a call of `block_list`.
+pub fn verdict(alloc: Global, call: &str) -> Option<Verdict> {
+    match call {
+        "BlockList::insert" => insert(alloc, 0),
+        "BlockList::insert halving" => insert(alloc, 128),
+        "BlockList::replace_between" => replace(alloc),
+        "Room::new" => Some(judged(makes_room(alloc), true)),
+        _ => None,
+    }
+}
+
+// The even numbers from 0 on, so many of them.
+fn evens(alloc: Global, count: u32) -> Option<BlockList<u32>> {
+    let mut list = BlockList::new(alloc);
+    for i in 0..count {
+        let end = list.len();
+        list.insert(end, i.saturating_mul(2)).ok()?;
+    }
+    Some(list)
+}
+
+fn has_evens(list: &BlockList<u32>, count: usize) -> bool {
+    if list.len() != count {
+        return false;
+    }
+    let mut wanted: u32 = 0;
+    for i in 0..list.len() {
+        if *list.get(i) != wanted {
+            return false;
+        }
+        wanted = wanted.saturating_add(2);
+    }
+    true
+}
+
+fn insert(alloc: Global, count: u32) -> Option<Verdict> {
+    let mut list = evens(alloc, count)?;
+    let right = inserts(alloc, &mut list, count);
+    let unchanged = has_evens(&list, count as usize);
+    Some(judged(right, unchanged))
+}
+
+// Puts the next even number behind the others.
+fn inserts(alloc: Global, list: &mut BlockList<u32>, count: u32) -> Option<bool> {
+    let end = list.len();
+    mark(alloc);
+    let done = list.insert(end, count.saturating_mul(2));
+    mark(alloc);
+    done.ok()?;
+    Some(has_evens(list, count as usize + 1))
+}
+
+fn replace(alloc: Global) -> Option<Verdict> {
+    let mut list = BlockList::new(alloc);
+    let right = replaces(alloc, &mut list);
+    let unchanged = list.is_empty();
+    Some(judged(right, unchanged))
+}
+
+fn replaces(alloc: Global, list: &mut BlockList<u32>) -> Option<bool> {
+    mark(alloc);
+    let done = list.replace_between(|x| *x < 7, |x| *x <= 7, 7);
+    mark(alloc);
+    done.ok()?;
+    Some(list.len() == 1 && *list.get(0) == 7)
+}
+
+fn makes_room(alloc: Global) -> Option<bool> {
+    mark(alloc);
+    let room = Room::new(alloc, 300);
+    mark(alloc);
+    let mut room = room.ok()?;
+    room.put_first(7);
+    let list: BlockList<u32> = room.into_list();
+    Some(list.len() == 1 && *list.get(0) == 7)
+}

@@ -1,0 +1,32 @@
+//! Makes calls that may want memory: reads a line such as `photo_version::Vector::join`, a call by its name, makes it on
+//! values of its own, and prints the line with what came of it. `tools/refuse-calls` runs it and refuses the requests for
+//! memory of each call in turn.
+#![tactic(auto)]
+
+mod arenas;
+mod calls;
+mod devices;
+mod filters;
+mod fleets;
+mod knowledges;
+mod ledgers;
+mod lists;
+mod plans;
+mod pulls;
+mod records;
+mod runs;
+mod scripts;
+mod streams;
+mod vectors;
+mod verdict;
+
+use std::io;
+
+fn main(rt: HostRuntime) -> io::Result<()> {
+    for line in rt.lines(rt.alloc()) {
+        let line = line?;
+        let said = verdict::word_of(calls::of_line(rt, rt.alloc(), line.as_str()));
+        println!(rt; "{line}: {said}")?;
+    }
+    Ok(())
+}
