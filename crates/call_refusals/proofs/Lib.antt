@@ -1,1 +1,1 @@
-pub mod Pulls
+pub mod Ready

@@ -1,6 +1,9 @@
 //! Calls by their names.
 use crate::verdict::Verdict;
-use crate::{arenas, devices, filters, fleets, knowledges, ledgers, lists, plans, pulls, records, runs, scripts, streams, vectors};
+use crate::{
+    arenas, devices, filters, fleets, knowledges, ledgers, lists, plans, pulls, records, runs,
+    scripts, streams, vectors,
+};
 use std::alloc::Global;
 use std::sync::Wait;
 use std::thread::Threads;

@@ -6,7 +6,9 @@ use crate::fleets::divided;
 use crate::knowledges::told;
 use crate::records::rated;
 use crate::verdict::{Verdict, judged, mark};
-use photo_device::{Change, ChangeFault, Device, Held, HeldList, HeldSet, NarrowFault, Place, VersionList};
+use photo_device::{
+    Change, ChangeFault, Device, Held, HeldList, HeldSet, NarrowFault, Place, VersionList,
+};
 use photo_filter_rules::Filter;
 use photo_record::{PicNo, Record};
 use photo_version::{Author, Version};
@@ -115,7 +117,13 @@ fn is_fresh(device: &Device, filter: &Filter) -> bool {
 }
 
 /// Whether a device has made a version of that number, of that picture, and holds it at that place.
-pub fn has_made(device: &Device, made: (Version, Place), n: u32, picture: PicNo, place: Place) -> bool {
+pub fn has_made(
+    device: &Device,
+    made: (Version, Place),
+    n: u32,
+    picture: PicNo,
+    place: Place,
+) -> bool {
     let set = match place {
         Place::Store => device.store(),
         Place::Out => device.out(),
@@ -217,7 +225,10 @@ fn apply(alloc: Global) -> Option<Verdict> {
     mark(alloc);
     Some(match done {
         Ok(()) => judged(Some(has_learned(alloc, &device, &twin)), true),
-        Err((change, _)) => judged(None, same_device(&device, &twin) && is_change(alloc, &change)),
+        Err((change, _)) => judged(
+            None,
+            same_device(&device, &twin) && is_change(alloc, &change),
+        ),
     })
 }
 
@@ -250,7 +261,10 @@ fn narrow(alloc: Global) -> Option<Verdict> {
     let moved = device.narrow(filter);
     mark(alloc);
     Some(match moved {
-        Ok(count) => judged(Some(count == 1 && device.store().len() == 1 && device.out().len() == 1), true),
+        Ok(count) => judged(
+            Some(count == 1 && device.store().len() == 1 && device.out().len() == 1),
+            true,
+        ),
         Err((filter, NarrowFault::NoMemory)) => judged(
             None,
             same_device(&device, &twin) && same_filter(&filter, &filter_of(alloc, "rating >= 5")?),
@@ -306,5 +320,7 @@ fn lists(alloc: Global, set: &HeldSet) -> Option<bool> {
     let list = set.to_list();
     mark(alloc);
     let list = list.ok()?;
-    Some(list.len() == 2 && set.len() == 2 && list.get(0) == set.get(0) && list.get(1) == set.get(1))
+    Some(
+        list.len() == 2 && set.len() == 2 && list.get(0) == set.get(0) && list.get(1) == set.get(1),
+    )
 }

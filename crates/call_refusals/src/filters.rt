@@ -38,7 +38,7 @@ fn reads(alloc: Global) -> Option<bool> {
 // Whether a tree is printed as the text with all brackets.
 fn is_text_of(alloc: Global, tree: &FilterTree) -> bool {
     match print(alloc, tree) {
-        Ok(text) => text.as_str() == "(rating >= 4 and not keyword ball)",
+        Ok(text) => text.as_str() == "( rating >= 4 and not keyword ball )",
         Err(_) => false,
     }
 }
@@ -53,7 +53,7 @@ fn prints(alloc: Global, tree: &FilterTree) -> Option<bool> {
     mark(alloc);
     let text = print(alloc, tree);
     mark(alloc);
-    Some(text.ok()?.as_str() == "(rating >= 4 and not keyword ball)")
+    Some(text.ok()?.as_str() == "( rating >= 4 and not keyword ball )")
 }
 
 fn tree_copy(alloc: Global) -> Option<Verdict> {
@@ -76,7 +76,10 @@ fn build(alloc: Global) -> Option<Verdict> {
     let filter = Filter::build(alloc, tree);
     mark(alloc);
     Some(match filter {
-        Ok(filter) => judged(Some(filter.alternatives() == 1 && *filter.tree() == twin), true),
+        Ok(filter) => judged(
+            Some(filter.alternatives() == 1 && *filter.tree() == twin),
+            true,
+        ),
         Err((tree, BuildFault::NoMemory)) => judged(None, tree == twin),
         Err(_) => Verdict::Wrong,
     })

@@ -49,7 +49,10 @@ fn new(alloc: Global) -> Option<Verdict> {
     mark(alloc);
     Some(match fleet {
         Ok(fleet) => judged(Some(is_fresh(&fleet)), true),
-        Err(_) => judged(None, filters[0].alternatives() == 1 && filters[1].alternatives() == 1),
+        Err(_) => judged(
+            None,
+            filters[0].alternatives() == 1 && filters[1].alternatives() == 1,
+        ),
     })
 }
 

@@ -93,7 +93,12 @@ fn learn(alloc: Global) -> Option<Verdict> {
     Some(judged(right, unchanged))
 }
 
-fn learns(alloc: Global, knowledge: &mut Knowledge, picture: PicNo, vector: &Vector) -> Option<bool> {
+fn learns(
+    alloc: Global,
+    knowledge: &mut Knowledge,
+    picture: PicNo,
+    vector: &Vector,
+) -> Option<bool> {
     mark(alloc);
     let done = knowledge.learn(picture, vector);
     mark(alloc);
@@ -170,5 +175,9 @@ fn learns_own(alloc: Global, knowledge: &mut Knowledge, version: Version) -> Opt
     let done = knowledge.learn_own(version);
     mark(alloc);
     done.ok()?;
-    Some(knowledge.knows(PicNo::new(8)?, version) && knows(knowledge, 7, 3) && !knows(knowledge, 8, 1))
+    Some(
+        knowledge.knows(PicNo::new(8)?, version)
+            && knows(knowledge, 7, 3)
+            && !knows(knowledge, 8, 1),
+    )
 }

@@ -6,7 +6,7 @@ use std::alloc::Global;
 pub fn verdict(alloc: Global, call: &str) -> Option<Verdict> {
     match call {
         "BlockList::insert" => insert(alloc, 0),
-        "BlockList::insert halving" => insert(alloc, 128),
+        "BlockList::insert halving" => insert(alloc, 127),
         "BlockList::replace_between" => replace(alloc),
         "Room::new" => Some(judged(makes_room(alloc), true)),
         _ => None,

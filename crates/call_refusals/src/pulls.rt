@@ -35,7 +35,7 @@ const BEFORE: &str =
     "device cam rating >= 4\ndevice srv all\ndevice tab all\nnew cam 7 5 2024-01-01 -\npull tab cam\nedit cam 7 1 2024-01-01 -\npull srv cam\nedit tab 7 4 2024-01-01 -\npull cam tab\nedit cam 7 5 2024-01-01 -\n";
 
 // The devices before `srv` pulls from `cam`.
-#[tactic(auto, using(crate::proofs::Pulls::ready_after))]
+#[tactic(auto, using(crate::proofs::Ready::ready_after))]
 fn devices_before(alloc: Global) -> Option<Vec<Device>>
     ensures { IfSome result (λ devices. AreReady devices.items) }
 {
@@ -96,7 +96,7 @@ fn have_room(devices: &[Device]) -> bool
     devices.iter().all(|device| device.counter() < u32::MAX)
 }
 
-#[tactic(auto, using(crate::proofs::Pulls::room_for_all))]
+#[tactic(auto, using(crate::proofs::Ready::room_for_all))]
 fn runs_on(alloc: Global, devices: &mut [Device]) -> Option<bool>
     requires three { length devices.old ≡ 3 }
     requires ready { AreReady devices.old }

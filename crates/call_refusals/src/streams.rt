@@ -1,5 +1,4 @@
-use crate::plans::four_planned;
-use crate::plans::is_planned;
+use crate::plans::{four_planned, is_planned};
 use crate::pulls::COUNTS;
 use crate::runs::is_run;
 use crate::scripts::{FOUR_DEVICES, is_four, script_of};
@@ -90,7 +89,8 @@ fn reports(alloc: Global) -> Option<Verdict> {
 
 // Whether it is the text of the first report, or of none.
 fn is_first_of_two(output: &[u8]) -> bool {
-    output.is_empty() || output == "1 pulled taken 1 handed 0 notices 0 dropped 1 learned no\n".as_bytes()
+    output.is_empty()
+        || output == "1 pulled taken 1 handed 0 notices 0 dropped 1 learned no\n".as_bytes()
 }
 
 fn writes(alloc: Global, script: &Script, output: &mut Vec<u8>) -> Option<bool> {
