@@ -122,20 +122,17 @@ const TAKEN: PullCounts = PullCounts {
 fn is_outcome(outcome: &Outcome) -> bool {
     outcome.totals == TOTALS
         && outcome.log.len() == 2
-        && outcome.reports.len() == 7
         && have_pulled(outcome.reports.as_slice())
         && hold_so_many(outcome.devices.as_slice())
 }
 
-// Whether four of the reports are of pulls that took one version.
+// Whether the third, fourth, fifth and seventh report are of pulls that took one version.
 fn have_pulled(reports: &[Report]) -> bool {
-    let mut count = 0;
-    for report in reports {
-        if has_pulled(report) {
-            count += 1;
-        }
-    }
-    count == 4usize
+    reports.len() == 7
+        && has_pulled(&reports[2])
+        && has_pulled(&reports[3])
+        && has_pulled(&reports[4])
+        && has_pulled(&reports[6])
 }
 
 fn has_pulled(report: &Report) -> bool {
