@@ -23,3 +23,4 @@ pub mod PutLemmas
 pub mod NextLemmas
 pub mod NormalLemmas
 pub mod CarryLemmas
+pub mod SpanLemmas

@@ -1,5 +1,5 @@
 -- Machinery of the proofs: a union in which fragments of the left are carried over, and other rows are among those changed.
-use Rattle.std.specs.Prelude.{◌≡◌, ℕ, ◌+◌, ◌<◌, ◌≤◌, ◌⊎◌, List, [], length, get_or, drop}
+use Rattle.std.specs.Prelude.{◌≡◌, ℕ, ◌+◌, ◌*◌, ◌<◌, ◌≤◌, ◌⊎◌, List, [], ◌∷◌, length, get_or, drop}
 use Rattle.item_knowledge.specs.declared.places.Places.{Places}
 use Rattle.item_knowledge.specs.Entries.{Entry}
 use Rattle.item_knowledge.specs.Fragments.{Fragment, entries_at}
@@ -34,6 +34,14 @@ abbrev pub HasCome : List Fragment → List (List ℕ) → List ℕ → ℕ → 
 HasCome fs changed row last next last_then next_then =
     ((last < last_then) × (next_then ≡ next) × (last_then < length fs) × (entries_at fs last_then ≡ pairs row) × is_new changed row)
     ⊎ ((last_then ≡ last) × (next_then ≡ next + 1) × (next < length changed) × (get_or changed next [] ≡ row))
+
+-- the left's fragment a comes as it stands: it lies behind those that came, it has this picture alone, of which the right
+-- says nothing, and no changed row equals its own
+pub record Stays (rows changed : List (List ℕ)) (last picture a b : ℕ) : Type 0 where
+  pub later : last < a
+  pub untold : b ≡ 0
+  pub alone : get_or rows (2 * a) [] ≡ picture ∷ []
+  pub new : is_new changed (get_or rows (2 * a + 1) [])
 
 -- the groups of rows, without the star
 abbrev pub groups_in : List (List ℕ) → List Fragment

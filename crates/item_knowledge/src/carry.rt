@@ -1,8 +1,9 @@
 // A union in which most fragments of the left stay as they are, each with one picture. What changes is found first; a row
-// that stays is compared with the few that changed, in place of all.
-ghost use Rattle.std.specs.Prelude.{◌≡◌, ◌<◌, [], ◌∷◌, true, length, IfOk, IfSome, OnOk};
-ghost use Rattle.item_knowledge.specs.Carrying.{IsFound, HasCome};
-ghost use Rattle.item_knowledge.specs.Fragments.{is_normal};
+// that stays is compared with the few that changed, in place of all. Neighbours that stay are written as one run.
+ghost use Rattle.std.specs.Prelude.{◌≡◌, ◌+◌, ◌*◌, ◌<◌, ◌≤◌, [], ◌∷◌, ◌++◌, true, length, IfOk, IfSome, OnOk};
+ghost use Rattle.fragment_arena.specs.Arena.{run};
+ghost use Rattle.item_knowledge.specs.Carrying.{IsFound, HasCome, Stays};
+ghost use Rattle.item_knowledge.specs.Fragments.{is_normal, entries_at};
 ghost use Rattle.item_knowledge.specs.Gathering.{IsSide, paired, pair_vector, groups_of, index_of, star_first};
 ghost use Rattle.item_knowledge.specs.Rows.{pairs, IsRow, AreRows, fragments_of, rows_of};
 
@@ -46,8 +47,88 @@ fn origin(
     Some((a, next))
 }
 
+/// Whether the left's fragment `a` comes as it stands: it lies behind those that came, it has this picture alone, the right
+/// says nothing of that, and no changed row equals its own.
+fn stays(left: &Rows, changed: &Places, last: usize, picture: u64, a: usize, b: usize) -> bool
+    requires left { AreRows left.now }
+    requires changed { IsFound changed.now }
+    requires a { a < length (fragments_of left.now) }
+    ensures { result ≡ true → Stays left.now changed.now.rows last picture a b }
+{
+    if b != 0 {
+        return false;
+    }
+    if a <= last {
+        return false;
+    }
+    let _count = left.rows();
+    let pictures = left.row(2 * a);
+    if pictures.len() != 1 {
+        return false;
+    }
+    if pictures[0] != picture {
+        return false;
+    }
+    let row = entries(left, a);
+    let bucket = changed.bucket(row);
+    changed.find(bucket, row).is_none()
+}
+
+/// The left's fragment `a` comes behind a run of others from one number up to another, all of which are still to be
+/// written. Where it doesn't follow the last of them the run is written. Gives where the run of `a` begins.
+fn run_to(
+    left: &Rows,
+    from: usize,
+    to: usize,
+    a: usize,
+    out: &mut Rows,
+) -> Result<usize, AllocError>
+    requires left { AreRows left.now }
+    requires order { from ≤ to }
+    requires later { to ≤ a }
+    requires there { a < length (fragments_of left.now) }
+    ensures order { IfOk result (λ start. start ≤ a) }
+    ensures run { IfOk result (λ start. out.new ++ run left.now (2 * start) (2 * a) ≡ out.old ++ run left.now (2 * from) (2 * to)) }
+{
+    if a == to {
+        return Ok(from);
+    }
+    let _count = left.rows();
+    out.place_run(left, 2 * from, 2 * to)?;
+    Ok(a)
+}
+
+/// Writes a run of the left's fragments from one number up to another, and behind it a fragment of one picture.
+fn place_behind(
+    left: &Rows,
+    from: usize,
+    to: usize,
+    picture: u64,
+    row: &[u64],
+    out: &mut Rows,
+) -> Result<(), AllocError>
+    requires left { AreRows left.now }
+    requires order { from ≤ to }
+    requires there { to ≤ length (fragments_of left.now) }
+    ensures { OnOk result (out.new ≡ ((out.old ++ run left.now (2 * from) (2 * to)) ++ (picture ∷ []) ∷ []) ++ row.now ∷ []) }
+{
+    let _count = left.rows();
+    out.place_run(left, 2 * from, 2 * to)?;
+    out.place(&[picture])?;
+    out.place(row)?;
+    Ok(())
+}
+
+/// One picture more in the index, with the number of the next fragment.
+fn add_number(picture: u64, index: &mut Vec<(u64, usize)>) -> Result<(), AllocError>
+    ensures { OnOk result (index.new.items ≡ index.old.items ++ (picture, length index.old.items + 1) ∷ []) }
+{
+    index.push((picture, index.len() + 1))?;
+    Ok(())
+}
+
 /// Writes the rows of the union behind its star, and its index, as long as each row comes from the left or is the next
-/// changed one; whether that was so to the end.
+/// changed one; whether that was so to the end. Fragments that come as they stand are written in runs.
 fn carry(
     left: &Rows,
     left_index: &[(u64, usize)],
@@ -67,6 +148,7 @@ fn carry(
     requires normal { is_normal (fragments_of left.now) ≡ true }
     requires star_row { IsRow star.now }
     requires star { pairs star.now ≡ pair_vector (fragments_of left.now) (fragments_of right.now) (0, 0) }
+    requires left_star { pairs star.now ≡ entries_at (fragments_of left.now) 0 }
     requires changed { IsFound changed.now }
     requires table { table.now ≡ paired left_index.now right_index.now }
     requires index { index.old.items ≡ [] }
@@ -74,10 +156,18 @@ fn carry(
     ensures rows { IfOk result (λ whole. whole ≡ true → out.new ≡ rows_of (star_first (pairs star.now) (groups_of (fragments_of left.now) (fragments_of right.now) left_index.now right_index.now))) }
     ensures index { IfOk result (λ whole. whole ≡ true → index.new.items ≡ index_of (fragments_of left.now) (fragments_of right.now) left_index.now right_index.now) }
 {
+    let _count = left.rows();
+    let mut from = 1;
     let mut last = 0;
     let mut next = 0;
     for i in 0..table.len() {
         let (picture, (a, b)) = table[i];
+        if stays(left, changed, last, picture, a, b) {
+            from = run_to(left, from, last + 1, a, out)?;
+            add_number(picture, index)?;
+            last = a;
+            continue;
+        }
         let row = pair(left, left_index, right, right_index, a, b, room)?;
         if same_row(star, row) {
             continue;
@@ -85,12 +175,13 @@ fn carry(
         let Some((came, changes)) = origin(left, changed, a, row, last, next) else {
             return Ok(false);
         };
-        out.place(&[picture])?;
-        out.place(row)?;
-        index.push((picture, index.len() + 1))?;
+        place_behind(left, from, last + 1, picture, row, out)?;
+        add_number(picture, index)?;
+        from = came + 1;
         last = came;
         next = changes;
     }
+    out.place_run(left, 2 * from, 2 * (last + 1))?;
     Ok(true)
 }
 

@@ -1,0 +1,29 @@
+use Rattle.std.proofs.Common.{rules, ◌≡◌, ◌+◌, ◌*◌, [], get_or, subst, sym, ap, ◌∙◌, arith, None}
+use Rattle.item_knowledge.specs.Places.{is_new}
+use Rattle.item_knowledge.specs.Rows.{flat}
+use Rattle.item_knowledge.proofs.RowLemmas.{rows_read, entries_read}
+use Rattle.item_knowledge.proofs.SpanLemmas.{one_word}
+use Rattle.item_knowledge.proofs.carry.stays.Goals as goal
+
+pub overflow_mul-a : goal.overflow_mul-a
+overflow_mul-a c =
+    let rows = rows_read c.args.left.now c.requires.left in
+    omega arith
+
+pub row-pictures-requires : goal.row-pictures-requires
+row-pictures-requires c =
+    let rows = rows_read c.args.left.now c.requires.left in
+    omega arith
+
+pub returns : goal.returns
+returns c h =
+    let none : c.find.result ≡ None = search rules in
+    let new : is_new c.args.changed.now.rows c.entries-row.result.now = c.find.ensures.absent none in
+    let row : c.entries-row.result.now ≡ get_or c.args.left.now (2 * c.args.a + 1) [] =
+    sym c.entries-row.ensures.row ∙ ap flat c.entries-row.ensures.entries ∙ sym (entries_read c.args.left.now c.args.a c.requires.left c.requires.a) in
+    record {
+      later = c.if-a-last.false;
+      untold = search rules;
+      alone = sym c.row-pictures.ensures ∙ one_word c.row-pictures.result.now c.args.picture (search rules) (search rules);
+      new = subst (is_new c.args.changed.now.rows) row new;
+    }
