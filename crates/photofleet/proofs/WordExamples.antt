@@ -1,7 +1,7 @@
 -- The worked command lines are computed by `clap`'s definitions.
 use Rattle.std.proofs.Common.{refl}
 use Rattle.clap.proofs.OnLiterals.{clap_on_literals}
-use Rattle.photofleet.specs.Examples.{WordsAreAsTold, BatchesAreAsked, OrdersAreAsked}
+use Rattle.photofleet.specs.Examples.{WordsAreAsTold, WorkersAreAsked, BatchesAreAsked, OrdersAreAsked}
 
 pub words_as_told : WordsAreAsTold
 unfolding clap_on_literals
@@ -15,6 +15,27 @@ words_as_told = record {
   no_file = refl;
   two_files = refl;
   flag = refl;
+}
+
+pub workers_asked : WorkersAreAsked
+unfolding clap_on_literals
+workers_asked = record {
+  asked = record { accepted = refl; named = refl };
+  least = record { accepted = refl; named = refl };
+  most = record { accepted = refl; named = refl };
+  signed = record { accepted = refl; named = refl };
+  joined = record { accepted = refl; named = refl };
+  zero_workers = refl;
+  too_many = refl;
+  huge = refl;
+  negative = refl;
+  negative_joined = refl;
+  no_number = refl;
+  empty = refl;
+  twice = refl;
+  help = refl;
+  no_workers = refl;
+  no_file = refl;
 }
 
 pub batches_asked : BatchesAreAsked

@@ -4,17 +4,19 @@ use Rattle.std.specs.Borrow.{Bor}
 use Rattle.std.specs.Str.{bytes_eq}
 use Rattle.std.specs.Str.Parse.{digits_value, without_leading_plus}
 use Rattle.clap.specs.ValueTests.{is_unsigned_in}
-use Rattle.clap.specs.Words.{Row, Text, IsAmong, all_of, subcommand_of, first_of}
+use Rattle.clap.specs.Words.{Row, Text, IsAmong, all_of, subcommand_of, first_of, one_of}
 use Rattle.clap.specs.declared.error.kind.ErrorKind.{ErrorKind}
 use Rattle.clap.specs.declared.error.kind.ErrorKind.TheVariants.{DisplayHelp, MissingSubcommand}
+use Rattle.fleet_workers.specs.Limits.{max_workers}
 use Rattle.photofleet.specs.CommandLine.{program, errors_of}
 use Rattle.photofleet.specs.declared.words.Job.{Job}
 use Rattle.photofleet.specs.declared.words.Job.TheVariants as job
 use Rattle.photofleet.specs.declared.words.Request.{Request}
 
--- what is done with a script: its run command by command, its run in an order, or its plan
+-- what is done with a script: its run command by command, its run by so many workers, its run in an order, or its plan
 pub data Work : Type 0 where
   plain : Work
+  run : ℕ → Work
   replay : List ℕ → Work
   batches : Work
 
@@ -31,12 +33,21 @@ numbers_in (word ∷ more) = option_and_then (λ n. option_map (λ ns. n ∷ ns)
 abbrev pub order_in : List Row → Option (List ℕ)
 order_in rows = numbers_in (unwrap_or (all_of (codes "ORDER") rows) [])
 
+-- the number of workers that a word writes, where there may be so many
+abbrev pub workers_of : Text → Option ℕ
+workers_of word = if is_unsigned_in 1 max_workers word then Some (digits_value 10 (without_leading_plus word)) else None
+
+-- the number of workers that `run` was given
+abbrev pub workers_in : List Row → Option ℕ
+workers_in rows = option_and_then workers_of (one_of (codes "workers") rows)
+
 -- what the command of that name does, with its arguments
 abbrev pub work_in : Text → List Row → Option Work
 work_in name rows =
     if bytes_eq name (codes "plain") then Some plain
+    else (if bytes_eq name (codes "run") then option_map run (workers_in rows)
     else (if bytes_eq name (codes "replay") then option_map replay (order_in rows)
-    else (if bytes_eq name (codes "batches") then Some batches else None))
+    else (if bytes_eq name (codes "batches") then Some batches else None)))
 
 -- the file that it was given, and what it does with the script
 abbrev pub asked_in : Text × List Row → Option (Text × Work)
@@ -73,6 +84,7 @@ pub record OfFile (content : List ℕ → Option (List ℕ)) (words : List Text)
 -- the code's values as the definitions see them
 abbrev pub work_of : Job → Work
 work_of job.Plain = plain
+work_of (job.Run workers) = run workers
 work_of (job.Replay order) = replay order.items
 work_of job.Batches = batches
 

@@ -3,10 +3,21 @@ use Rattle.std.specs.Prelude.{List, Some, true, pos, codes}
 use Rattle.clap.specs.Words.{App, Rule, Text, Kinds, new_app, new_rule, with_rule, with_subcommand, fault_of}
 use Rattle.clap.specs.declared.builder.action.ArgAction.TheVariants.{Set, Append}
 use Rattle.clap.specs.declared.builder.value_parser.ValueParser.TheVariants.{Signed}
+use Rattle.fleet_workers.specs.Limits.{max_workers}
 
 -- the file with the script
 abbrev pub file_argument : Rule
 file_argument = record (new_rule (codes "FILE")) { required = true; action = Some Set }
+
+-- `--workers N`, which is to be there, N being the number of workers
+abbrev pub workers_argument : Rule
+workers_argument = record (new_rule (codes "workers")) {
+  long = Some (codes "workers");
+  value_names = 1;
+  required = true;
+  action = Some Set;
+  parser = Some (Signed (pos 1) (pos max_workers));
+}
 
 -- numbers from 1 to 100,000, perhaps none
 abbrev pub order_argument : Rule
@@ -15,6 +26,10 @@ order_argument = record (new_rule (codes "ORDER")) { action = Some Append; parse
 -- `plain FILE`
 abbrev pub plain_command : App
 plain_command = with_rule (new_app (codes "plain")) file_argument
+
+-- `run --workers N FILE`
+abbrev pub run_command : App
+run_command = with_rule (with_rule (new_app (codes "run")) workers_argument) file_argument
 
 -- `batches FILE`
 abbrev pub batches_command : App
@@ -32,7 +47,9 @@ bare_program =
 
 -- `photofleet` with its commands
 abbrev pub program : App
-program = with_subcommand (with_subcommand (with_subcommand bare_program plain_command.top) batches_command.top) replay_command.top
+program =
+    with_subcommand (with_subcommand (with_subcommand (with_subcommand bare_program plain_command.top) run_command.top)
+    batches_command.top) replay_command.top
 
 -- the kinds of error that the words may have; none where they are accepted
 abbrev pub errors_of : List Text → Kinds

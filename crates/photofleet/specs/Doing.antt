@@ -7,7 +7,7 @@ use Rattle.photo_batcher.specs.Orders.{IsLawful}
 use Rattle.photo_batcher.specs.Plans.{Planned, IsPlan}
 use Rattle.fleet_runner.specs.Outputs.{WritesOutput, WritesFirst, WritesFront, AppendsFront}
 use Rattle.fleet_runner.specs.PlanTexts.{plan_text}
-use Rattle.photofleet.specs.Asked.{Work, plain, replay, batches}
+use Rattle.photofleet.specs.Asked.{Work, plain, run, replay, batches}
 
 -- some bytes were written behind what was there, at least one
 pub record AppendsSome (old new : Option (List ℕ)) : Type 0 where
@@ -43,21 +43,24 @@ pub record WritesPlanFront (old new : Option (List ℕ)) (input : List ℕ) : Ty
   pub is_plan : IsPlan script plan
   pub written : AppendsFront old new (plan_text plan)
 
--- all that the work on a file of those bytes prints has been written behind what was there, and nothing else: a run in an
--- order, which is lawful, prints what the run command by command does
+-- all that the work on a file of those bytes prints has been written behind what was there, and nothing else: a run by
+-- workers, however many, and a run in an order, which is lawful, print what the run command by command does
 abbrev pub WritesAll : Option (List ℕ) → Option (List ℕ) → Work → List ℕ → Type 0
 WritesAll old new plain input = WritesOutput old new input
+WritesAll old new (run workers) input = WritesOutput old new input
 WritesAll old new (replay order) input = IsLawfulFor input order × WritesOutput old new input
 WritesAll old new batches input = WritesPlan old new input
 
 -- the same, of a part that want of memory may leave: the whole texts of some first reports, or a front of a plan
 abbrev pub WritesSome : Option (List ℕ) → Option (List ℕ) → Work → List ℕ → Type 0
 WritesSome old new plain input = WritesFirst old new input
+WritesSome old new (run workers) input = WritesFirst old new input
 WritesSome old new (replay order) input = IsLawfulFor input order × WritesFirst old new input
 WritesSome old new batches input = WritesPlanFront old new input
 
 -- the same, of a part that a failed write may leave: a front
 abbrev pub WritesPart : Option (List ℕ) → Option (List ℕ) → Work → List ℕ → Type 0
 WritesPart old new plain input = WritesFront old new input
+WritesPart old new (run workers) input = WritesFront old new input
 WritesPart old new (replay order) input = IsLawfulFor input order × WritesFront old new input
 WritesPart old new batches input = WritesPlanFront old new input

@@ -1,8 +1,8 @@
 -- Command lines, worked.
 use Rattle.std.specs.Prelude.{◌≡◌, ℕ, List, [], ◌∷◌, codes}
-use Rattle.clap.specs.declared.error.kind.ErrorKind.TheVariants.{DisplayHelp, MissingSubcommand, UnknownArgument, InvalidSubcommand, MissingRequiredArgument, ValueValidation}
+use Rattle.clap.specs.declared.error.kind.ErrorKind.TheVariants.{DisplayHelp, MissingSubcommand, UnknownArgument, InvalidSubcommand, MissingRequiredArgument, ArgumentConflict, ValueValidation}
 use Rattle.photofleet.specs.CommandLine.{errors_of}
-use Rattle.photofleet.specs.Asked.{Asks, plain, replay, batches}
+use Rattle.photofleet.specs.Asked.{Asks, plain, run, replay, batches}
 
 abbrev pub words_of : List (List ℕ) → List (List ℕ)
 words_of more = codes "photofleet" ∷ more
@@ -18,6 +18,29 @@ pub record WordsAreAsTold : Type 0 where
   pub no_file : errors_of (words_of (codes "plain" ∷ [])) ≡ MissingRequiredArgument ∷ []
   pub two_files : errors_of (words_of (codes "plain" ∷ codes "script" ∷ codes "more" ∷ [])) ≡ UnknownArgument ∷ []
   pub flag : errors_of (words_of (codes "plain" ∷ codes "--frob" ∷ codes "script" ∷ [])) ≡ UnknownArgument ∷ []
+
+-- the words of a run by workers, whose number is said by that word
+abbrev pub run_words : List ℕ → List (List ℕ)
+run_words number = words_of (codes "run" ∷ codes "--workers" ∷ number ∷ codes "script" ∷ [])
+
+-- command lines that ask for a run by workers: their number is to be said, and is one from 1 to 64
+pub record WorkersAreAsked : Type 0 where
+  pub asked : Asks (run_words (codes "4")) (codes "script") (run 4)
+  pub least : Asks (run_words (codes "1")) (codes "script") (run 1)
+  pub most : Asks (run_words (codes "64")) (codes "script") (run 64)
+  pub signed : Asks (run_words (codes "+07")) (codes "script") (run 7)
+  pub joined : Asks (words_of (codes "run" ∷ codes "script" ∷ codes "--workers=2" ∷ [])) (codes "script") (run 2)
+  pub zero_workers : errors_of (run_words (codes "0")) ≡ ValueValidation ∷ []
+  pub too_many : errors_of (run_words (codes "65")) ≡ ValueValidation ∷ []
+  pub huge : errors_of (run_words (codes "18446744073709551617")) ≡ ValueValidation ∷ []
+  pub negative : errors_of (run_words (codes "-1")) ≡ UnknownArgument ∷ []
+  pub negative_joined : errors_of (words_of (codes "run" ∷ codes "--workers=-1" ∷ codes "script" ∷ [])) ≡ ValueValidation ∷ []
+  pub no_number : errors_of (run_words (codes "four")) ≡ ValueValidation ∷ []
+  pub empty : errors_of (run_words []) ≡ ValueValidation ∷ []
+  pub twice : errors_of (words_of (codes "run" ∷ codes "--workers" ∷ codes "1" ∷ codes "--workers" ∷ codes "1" ∷ codes "script" ∷ [])) ≡ ArgumentConflict ∷ []
+  pub help : errors_of (words_of (codes "run" ∷ codes "--help" ∷ [])) ≡ DisplayHelp ∷ []
+  pub no_workers : errors_of (words_of (codes "run" ∷ codes "script" ∷ [])) ≡ MissingRequiredArgument ∷ []
+  pub no_file : errors_of (words_of (codes "run" ∷ codes "--workers" ∷ codes "4" ∷ [])) ≡ MissingRequiredArgument ∷ []
 
 -- command lines that ask for a plan
 pub record BatchesAreAsked : Type 0 where

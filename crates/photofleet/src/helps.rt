@@ -12,7 +12,11 @@ A file with a script is run by
 
     photofleet plain FILE
 
-and 'photofleet plain --help' tells all lines. Which of its commands can run at once is told by
+and 'photofleet plain --help' tells all lines. By four workers at once, to the same reports, by
+
+    photofleet run --workers 4 FILE
+
+Which of its commands can run at once is told by
 
     photofleet batches FILE
 
@@ -53,6 +57,30 @@ Example: a phone's picture comes to a frame that shows good ones.
     list hall
 
 Written to the file my.script, it is run by 'photofleet plain my.script'.";
+
+/// The end of the help of `run`.
+pub const RUN: &str =
+    "Each worker is a thread of its own. The batches, which 'photofleet batches FILE' tells, run one
+after another, and of each batch the commands are dealt to the workers in turn.
+
+The reports are those of 'photofleet plain FILE', however many workers there are, in the order of
+the commands' numbers. They are written when all commands have run.
+
+Exit status: 0 done, 2 refused words, 3 script fault, 4 no memory or no thread, 5 output not
+written.
+
+Example: two devices take pictures at once, and then a server collects them.
+
+    device phone all
+    device camera all
+    device server all
+    new phone 1 5 2026-07-01 beach
+    new camera 2 4 2026-07-01 -
+    pull server phone
+    pull server camera
+    list server
+
+Written to the file my.script, it is run by 'photofleet run --workers 2 my.script'.";
 
 /// The end of the help of `batches`.
 pub const BATCHES: &str =

@@ -18,13 +18,16 @@ use std::alloc::AllocError;
 use std::env;
 use std::io::BufWriter;
 use std::process::ExitCode;
+use std::sync::Wait;
+use std::thread::Threads;
 
 fn main(rt: HostRuntime) -> ExitCode {
-    ExitCode::from(status(&rt))
+    ExitCode::from(status(&rt, rt))
 }
 
-// The exit status of the program on the words of its command line. Output is gathered before it is written.
-fn status(rt: &HostRuntime) -> u8 {
+// The exit status of the program on the words of its command line. Output is gathered before it is written, and workers
+// run in `threads`.
+fn status<T: Threads + Wait + Copy + Send + 'static>(rt: &HostRuntime, threads: T) -> u8 {
     let mut err = rt.stderr();
     let words = match env::args(rt) {
         Ok(words) => words,
@@ -39,6 +42,7 @@ fn status(rt: &HostRuntime) -> u8 {
     };
     let mut opener = FileOpener::new(rt);
     serve(
+        threads,
         rt.alloc(),
         words.as_slice(),
         &mut opener,

@@ -8,27 +8,30 @@ ghost use Rattle.photofleet.specs.Doing.{AppendsSome, WritesAll, WritesSome, Wri
 use crate::opener::Opener;
 use crate::refusals::refused;
 use crate::statuses::status_of;
-use crate::streams::{plan_stream, replay_stream};
+use crate::streams::{plan_stream, replay_stream, workers_stream};
 use crate::words::{Job, Request, request_of};
 use fleet_runner::{RunError, plain_stream};
 use std::alloc::Global;
 use std::convert::AsStr;
 use std::io::Write;
+use std::sync::Wait;
+use std::thread::Threads;
 
 /// Does what a command line asks for, and gives the exit status. `words` begins with the program's name.
 ///
 /// - 0: the words asked for help, and some was written to `out`, at least a byte; or they named a file whose bytes are a
-///   script, and all that was asked for was written, and nothing else: what its run prints, also where it ran in an order
-///   that was named, which is then lawful; or its plan.
+///   script, and all that was asked for was written, and nothing else: what its run prints, also where it ran by several
+///   workers, or in an order that was named, which is then lawful; or its plan.
 /// - 2: the words were refused. Nothing was written to `out`.
 /// - 3: the words named a file that can't be opened or read, or that has no script. Nothing was written to `out`.
-/// - 4: memory was refused, or the order isn't lawful. Nothing was written to `out`, or the whole texts of some first
-///   reports, or a front of the plan's text.
+/// - 4: memory was refused, or a worker's thread could not be started, or the order isn't lawful. Nothing was written to
+///   `out`, or the whole texts of some first reports, or a front of the plan's text.
 /// - 5: a write failed. A front of what was asked for was written, or of help.
 ///
 /// What went wrong is told to `err`; a failed write to `err` changes no status. Which words ask for help, are refused
 /// or name a file is as `clap` says of the program's command line.
-pub fn serve<S: AsStr, O: Opener, W: Write, E: Write>(
+pub fn serve<S: AsStr, O: Opener, W: Write, E: Write, T: Threads + Wait + Copy + Send + 'static>(
+    rt: T,
     alloc: Global,
     words: &[S],
     opener: &mut O,
@@ -45,7 +48,7 @@ pub fn serve<S: AsStr, O: Opener, W: Write, E: Write>(
 {
     match request_of(alloc, words) {
         Ok(request) => {
-            let done = perform(alloc, &request, opener, out);
+            let done = perform(rt, alloc, &request, opener, out);
             status_of(done, err)
         }
         Err(refusal) => refused(alloc, &refusal, out, err),
@@ -53,7 +56,8 @@ pub fn serve<S: AsStr, O: Opener, W: Write, E: Write>(
 }
 
 // Does what was asked for, and writes what comes of it.
-fn perform<O: Opener, W: Write>(
+fn perform<O: Opener, W: Write, T: Threads + Wait + Copy + Send + 'static>(
+    rt: T,
     alloc: Global,
     request: &Request<'_>,
     opener: &mut O,
@@ -67,6 +71,7 @@ fn perform<O: Opener, W: Write>(
     let mut source = opener.open(request.file).map_err(RunError::Script)?;
     match &request.job {
         Job::Plain => plain_stream(alloc, &mut source, out),
+        Job::Run(workers) => workers_stream(rt, alloc, &mut source, out, *workers),
         Job::Replay(order) => replay_stream(alloc, &mut source, out, order.as_slice()),
         Job::Batches => plan_stream(alloc, &mut source, out),
     }

@@ -1,12 +1,13 @@
 //! The words of the command line, and what they ask for.
 ghost use Rattle.std.specs.Prelude.{◌≡◌, ◌≢◌, false, Some, map, IfOk, IfErr, option_map, option_and_then};
 ghost use Rattle.clap.specs.Words.{app_of, found_of, kind_of, rows_of, rule_of, subcommand_rows_of};
-ghost use Rattle.photofleet.specs.CommandLine.{program, plain_command, replay_command, batches_command, file_argument, order_argument};
-ghost use Rattle.photofleet.specs.Asked.{asked_in, numbers_in, order_in, request_shown, texts, work_in, work_of, AsksRequest, IsRefusal};
+ghost use Rattle.photofleet.specs.CommandLine.{program, plain_command, run_command, replay_command, batches_command, file_argument, workers_argument, order_argument};
+ghost use Rattle.photofleet.specs.Asked.{asked_in, numbers_in, order_in, request_shown, texts, work_in, work_of, workers_in, AsksRequest, IsRefusal};
 
-use crate::helps::{BATCHES, OVERVIEW, PLAIN, REPLAY};
+use crate::helps::{BATCHES, OVERVIEW, PLAIN, REPLAY, RUN};
 use clap::error::ErrorKind;
 use clap::{Arg, ArgAction, ArgMatches, Command, value_parser};
+use fleet_runner::Workers;
 use std::alloc::{AllocError, Global};
 use std::convert::AsStr;
 
@@ -22,6 +23,8 @@ pub struct Request<'a> {
 pub enum Job {
     /// Its run command by command.
     Plain,
+    /// Its run by so many workers.
+    Run(Workers),
     /// Its run in that order.
     Replay(Vec<u32>),
     /// Its plan.
@@ -79,6 +82,7 @@ fn job_in(alloc: Global, name: &str, given: &ArgMatches<'_>) -> Result<Option<Jo
 {
     match name {
         "plain" => Ok(Some(Job::Plain)),
+        "run" => Ok(workers_in(given).map(Job::Run)),
         "replay" => match order_in(alloc, given)? {
             Some(order) => Ok(Some(Job::Replay(order))),
             None => Ok(None),
@@ -86,6 +90,13 @@ fn job_in(alloc: Global, name: &str, given: &ArgMatches<'_>) -> Result<Option<Jo
         "batches" => Ok(Some(Job::Batches)),
         _ => Ok(None),
     }
+}
+
+// How many workers are to run.
+fn workers_in(given: &ArgMatches<'_>) -> Option<Workers>
+    ensures { result ≡ workers_in (rows_of (found_of given.now)) }
+{
+    Workers::new(given.get_one::<u8>("workers")?)
 }
 
 // The numbers of an order, perhaps none.
@@ -120,7 +131,8 @@ pub fn command_line<'a>(alloc: Global) -> Result<Command<'a>, AllocError>
         .about("Runs scripts of a photo collection")
         .after_help(OVERVIEW)
         .subcommand_required(true)
-        .subcommand(plain_command(alloc)?)?;
+        .subcommand(plain_command(alloc)?)?
+        .subcommand(run_command(alloc)?)?;
     command
         .subcommand(batches_command(alloc)?)?
         .subcommand(replay_command(alloc)?)
@@ -133,6 +145,17 @@ fn plain_command<'a>(alloc: Global) -> Result<Command<'a>, AllocError>
     Command::new(alloc, "plain")
         .about("Runs a script command by command and prints the reports")
         .after_help(PLAIN)
+        .arg(file_argument(alloc))
+}
+
+// `run --workers N FILE`
+fn run_command<'a>(alloc: Global) -> Result<Command<'a>, AllocError>
+    ensures { IfOk result (λ command. app_of command ≡ run_command) }
+{
+    Command::new(alloc, "run")
+        .about("Runs a script by several workers at once and prints the same reports")
+        .after_help(RUN)
+        .arg(workers_argument(alloc))?
         .arg(file_argument(alloc))
 }
 
@@ -159,6 +182,19 @@ fn replay_command<'a>(alloc: Global) -> Result<Command<'a>, AllocError>
         .after_help(REPLAY)
         .arg(file_argument(alloc))?
         .arg(order)
+}
+
+fn workers_argument<'a>(alloc: Global) -> Arg<'a>
+    ensures rule { rule_of result ≡ workers_argument }
+    ensures own { result.global ≡ false }
+{
+    Arg::new(alloc, "workers")
+        .long("workers")
+        .value_name("N")
+        .help("How many workers run, 1 to 64, each in a thread of its own")
+        .required(true)
+        .value_parser(value_parser!(u8).range(1..=64))
+        .action(ArgAction::Set)
 }
 
 fn file_argument<'a>(alloc: Global) -> Arg<'a>

@@ -7,6 +7,8 @@ use crate::serve::serve;
 use photo_script::ScriptFault;
 use std::alloc::Global;
 use std::io::{self, ErrorKind, Write};
+use std::sync::Wait;
+use std::thread::Threads;
 
 /// The stored run's script.
 pub const SCRIPT: &str = "device cam all\nnew cam 7 5 2024-05-01 sun,beach\nlist cam\n";
@@ -82,7 +84,8 @@ impl<'a> Opener for Shelf<'a> {
 }
 
 /// Whether the program on those words, with the script in the one file, gives a status, an output and an error's text.
-pub fn serves(
+pub fn serves<T: Threads + Wait + Copy + Send + 'static>(
+    rt: T,
     alloc: Global,
     words: &[&str],
     script: &[u8],
@@ -93,15 +96,23 @@ pub fn serves(
     let mut shelf = Shelf { script };
     let mut out = Sink::new(alloc);
     let mut err = Sink::new(alloc);
-    serve(alloc, words, &mut shelf, &mut out, &mut err) == status
+    serve(rt, alloc, words, &mut shelf, &mut out, &mut err) == status
         && out.taken.as_slice() == output
         && err.taken.as_slice() == error
 }
 
 /// The same of the words that run the script.
-pub fn runs(alloc: Global, script: &str, status: u8, output: &str, error: &str) -> bool {
+pub fn runs<T: Threads + Wait + Copy + Send + 'static>(
+    rt: T,
+    alloc: Global,
+    script: &str,
+    status: u8,
+    output: &str,
+    error: &str,
+) -> bool {
     let words = ["photofleet", "plain", "script"];
     serves(
+        rt,
         alloc,
         words.as_slice(),
         script.as_bytes(),
@@ -112,7 +123,8 @@ pub fn runs(alloc: Global, script: &str, status: u8, output: &str, error: &str) 
 }
 
 /// The same of words behind the program's name.
-pub fn does(
+pub fn does<T: Threads + Wait + Copy + Send + 'static>(
+    rt: T,
     alloc: Global,
     words: &[&str],
     script: &str,
@@ -124,6 +136,7 @@ pub fn does(
     let count = words.len().min(7);
     line[1..=count].copy_from_slice(&words[..count]);
     serves(
+        rt,
         alloc,
         &line[..=count],
         script.as_bytes(),

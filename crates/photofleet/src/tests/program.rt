@@ -3,7 +3,9 @@ use crate::refusals::without_words;
 use crate::serve::serve;
 use std::alloc::Global;
 use std::io::{self, BufWriter};
+use std::sync::Wait;
 use std::test::Fail;
+use std::thread::Threads;
 
 const STATUSES: &[(&str, u8, &str, &str)] = &[
     (SCRIPT, 0, OUTPUT, ""),
@@ -33,7 +35,7 @@ const STATUSES: &[(&str, u8, &str, &str)] = &[
 fn statuses_and_texts(rt: HostRuntime) {
     for (script, status, output, error) in STATUSES {
         assert!(rt;
-            runs(rt.alloc(), script, *status, output, error),
+            runs(rt, rt.alloc(), script, *status, output, error),
             "{script}"
         );
     }
@@ -56,6 +58,35 @@ const UNLAWFUL: &str = "run error: E3 NotLawful\n";
 const WORK: &[(&[&str], &str, u8, &str, &str)] = &[
     (&["batches", "script"], APART, 0, APART_PLAN, ""),
     (&["batches", "script"], "", 0, "batches 0\n", ""),
+    (
+        &["run", "--workers", "1", "script"],
+        APART,
+        0,
+        APART_REPORTS,
+        "",
+    ),
+    (
+        &["run", "script", "--workers=64"],
+        APART,
+        0,
+        APART_REPORTS,
+        "",
+    ),
+    (&["run", "--workers", "7", "script"], "", 0, "", ""),
+    (
+        &["run", "--workers", "2", "script"],
+        "frob",
+        3,
+        "",
+        "script fault: line 1: F5 UnknownCommand\n",
+    ),
+    (
+        &["run", "--workers", "2", "elsewhere"],
+        APART,
+        3,
+        "",
+        "script fault: F1 Read\n",
+    ),
     (
         &["replay", "script", "2", "1", "3", "4"],
         APART,
@@ -104,10 +135,10 @@ const WORK: &[(&[&str], &str, u8, &str, &str)] = &[
 ];
 
 #[test]
-fn plans_and_orders(rt: HostRuntime) {
+fn workers_plans_and_orders(rt: HostRuntime) {
     for (words, script, status, output, error) in WORK {
         assert!(rt;
-            does(rt.alloc(), words, script, *status, output, error),
+            does(rt, rt.alloc(), words, script, *status, output, error),
             "{words:?} {script}"
         );
     }
@@ -120,10 +151,11 @@ fn more_devices_than_a_script_may_have(rt: HostRuntime) -> Result<(), Fail> {
     for n in 0..64 {
         writeln!(script, "device d{n} all")?;
     }
-    assert!(rt; runs(alloc, script.as_str(), 0, "", ""));
+    assert!(rt; runs(rt, alloc, script.as_str(), 0, "", ""));
     script.push_str("device d64 all\n")?;
     assert!(rt;
         runs(
+            rt,
             alloc,
             script.as_str(),
             3,
@@ -143,7 +175,15 @@ fn files_that_give_no_text(rt: HostRuntime) {
     ] {
         let words = ["photofleet", "plain", file];
         assert!(rt;
-            serves(alloc, words.as_slice(), script, 3, b"", error.as_bytes()),
+            serves(
+                rt,
+                alloc,
+                words.as_slice(),
+                script,
+                3,
+                b"",
+                error.as_bytes()
+            ),
             "{error}"
         );
     }
@@ -155,6 +195,12 @@ const REFUSED: &[&[&str]] = &[
     &["photofleet", "plain"],
     &["photofleet", "plain", "script", "more"],
     &["photofleet", "plain", "--frob", "script"],
+    &["photofleet", "run", "--workers", "2"],
+    &["photofleet", "run", "script"],
+    &["photofleet", "run", "--workers", "0", "script"],
+    &["photofleet", "run", "--workers", "65", "script"],
+    &["photofleet", "run", "--workers", "", "script"],
+    &["photofleet", "run", "--workers", "two", "elsewhere"],
     &["photofleet", "batches"],
     &["photofleet", "batches", "script", "1"],
     &["photofleet", "replay"],
@@ -164,10 +210,21 @@ const REFUSED: &[&[&str]] = &[
 ];
 
 // Whether the words are refused by a text of `clap`, and nothing is written to the output.
-fn refuses(alloc: Global, words: &[&str]) -> bool {
+fn refuses<T: Threads + Wait + Copy + Send + 'static>(
+    rt: T,
+    alloc: Global,
+    words: &[&str],
+) -> bool {
     let mut out = Sink::new(alloc);
     let mut err = Sink::new(alloc);
-    serve(alloc, words, &mut Shelf { script: b"" }, &mut out, &mut err) == 2
+    serve(
+        rt,
+        alloc,
+        words,
+        &mut Shelf { script: b"" },
+        &mut out,
+        &mut err,
+    ) == 2
         && out.taken.is_empty()
         && err.taken.as_slice().starts_with(b"error: ")
 }
@@ -175,7 +232,7 @@ fn refuses(alloc: Global, words: &[&str]) -> bool {
 #[test]
 fn words_that_are_refused(rt: HostRuntime) {
     for words in REFUSED {
-        assert!(rt; refuses(rt.alloc(), words), "{words:?}");
+        assert!(rt; refuses(rt, rt.alloc(), words), "{words:?}");
     }
 }
 
@@ -196,15 +253,22 @@ fn words_that_are_no_text(rt: HostRuntime) {
 }
 
 // The status of a wish for help, whose text is written to that writer, with what is told of it.
-fn helped(alloc: Global, words: &[&str], out: &mut Sink, error: &[u8]) -> Option<u8> {
+fn helped<T: Threads + Wait + Copy + Send + 'static>(
+    rt: T,
+    alloc: Global,
+    words: &[&str],
+    out: &mut Sink,
+    error: &[u8],
+) -> Option<u8> {
     let mut err = Sink::new(alloc);
-    let status = serve(alloc, words, &mut Shelf { script: b"" }, out, &mut err);
+    let status = serve(rt, alloc, words, &mut Shelf { script: b"" }, out, &mut err);
     (err.taken.as_slice() == error).then_some(status)
 }
 
 const HELPS: &[&[&str]] = &[
     &["photofleet", "--help"],
     &["photofleet", "plain", "--help"],
+    &["photofleet", "run", "--help"],
     &["photofleet", "batches", "--help"],
     &["photofleet", "replay", "--help"],
 ];
@@ -214,26 +278,37 @@ fn help(rt: HostRuntime) {
     let alloc = rt.alloc();
     for words in HELPS {
         let mut out = Sink::new(alloc);
-        assert!(rt; helped(alloc, words, &mut out, b"") == Some(0) && !out.taken.is_empty());
+        assert!(rt; helped(rt, alloc, words, &mut out, b"") == Some(0) && !out.taken.is_empty());
         let mut full = Sink::of_room(alloc, 5, Full::Error);
-        assert!(rt; helped(alloc, words, &mut full, b"write fault: E5 Write\n") == Some(5));
+        assert!(rt; helped(rt, alloc, words, &mut full, b"write fault: E5 Write\n") == Some(5));
     }
 }
 
 // Whether an output with so much room, which then fails, keeps a front of what is printed, with that status and text.
-fn filled(alloc: Global, words: &[&str], room: usize, full: Full, printed: &str) -> bool {
+fn filled<T: Threads + Wait + Copy + Send + 'static>(
+    rt: T,
+    alloc: Global,
+    words: &[&str],
+    room: usize,
+    full: Full,
+    printed: &str,
+) -> bool {
     let mut out = Sink::of_room(alloc, room, full);
     let mut err = Sink::new(alloc);
     let mut shelf = Shelf {
         script: APART.as_bytes(),
     };
-    serve(alloc, words, &mut shelf, &mut out, &mut err) == 5
+    serve(rt, alloc, words, &mut shelf, &mut out, &mut err) == 5
         && out.taken.as_slice() == &printed.as_bytes()[..room.min(printed.len())]
         && err.taken.as_slice() == b"write fault: E5 Write\n".as_slice()
 }
 
 const PRINTED: &[(&[&str], &str)] = &[
     (&["photofleet", "plain", "script"], APART_REPORTS),
+    (
+        &["photofleet", "run", "--workers", "2", "script"],
+        APART_REPORTS,
+    ),
     (&["photofleet", "batches", "script"], APART_PLAN),
     (
         &["photofleet", "replay", "script", "2", "1", "3", "4"],
@@ -245,33 +320,41 @@ const PRINTED: &[(&[&str], &str)] = &[
 fn an_output_that_is_full(rt: HostRuntime) {
     for (words, printed) in PRINTED {
         for full in [Full::Error, Full::Zero] {
-            assert!(rt; filled(rt.alloc(), words, 30, full, printed), "{words:?}");
+            assert!(rt;
+                filled(rt, rt.alloc(), words, 30, full, printed),
+                "{words:?}"
+            );
         }
     }
 }
 
 // Whether an order that is refused is told before the output is tried.
-fn is_refused_first(alloc: Global) -> bool {
+fn is_refused_first<T: Threads + Wait + Copy + Send + 'static>(rt: T, alloc: Global) -> bool {
     let mut out = Sink::of_room(alloc, 0, Full::Error);
     let mut err = Sink::new(alloc);
     let words = ["photofleet", "replay", "script", "1"];
     let mut shelf = Shelf {
         script: APART.as_bytes(),
     };
-    serve(alloc, words.as_slice(), &mut shelf, &mut out, &mut err) == 4
+    serve(rt, alloc, words.as_slice(), &mut shelf, &mut out, &mut err) == 4
         && err.taken.as_slice() == UNLAWFUL.as_bytes()
 }
 
 #[test]
 fn an_order_is_judged_before_the_output(rt: HostRuntime) {
-    assert!(rt; is_refused_first(rt.alloc()));
+    assert!(rt; is_refused_first(rt, rt.alloc()));
 }
 
 // Whether a run whose output is gathered before a writer takes it has that status, and the writer took so many bytes.
-fn is_buffered(alloc: Global, room: usize, status: u8) -> bool {
+fn is_buffered<T: Threads + Wait + Copy + Send + 'static>(
+    rt: T,
+    alloc: Global,
+    room: usize,
+    status: u8,
+) -> bool {
     match BufWriter::new(alloc, Sink::of_room(alloc, room, Full::Error)) {
         Ok(mut out) => {
-            let given = ran_into(alloc, &mut out);
+            let given = ran_into(rt, alloc, &mut out);
             let (sink, _) = out.into_parts();
             given == status && sink.taken.as_slice() == &OUTPUT.as_bytes()[..room.min(OUTPUT.len())]
         }
@@ -280,19 +363,26 @@ fn is_buffered(alloc: Global, room: usize, status: u8) -> bool {
 }
 
 // The status of a run into that writer.
-fn ran_into(alloc: Global, out: &mut BufWriter<Sink>) -> u8 {
+fn ran_into<T: Threads + Wait + Copy + Send + 'static>(
+    rt: T,
+    alloc: Global,
+    out: &mut BufWriter<Sink>,
+) -> u8 {
     let words = ["photofleet", "plain", "script"];
     let mut shelf = Shelf {
         script: SCRIPT.as_bytes(),
     };
     let mut err = Sink::new(alloc);
-    serve(alloc, words.as_slice(), &mut shelf, out, &mut err)
+    serve(rt, alloc, words.as_slice(), &mut shelf, out, &mut err)
 }
 
 #[test]
 fn an_output_that_is_gathered(rt: HostRuntime) {
     for (room, status) in [(100, 0), (99, 5), (0, 5)] {
-        assert!(rt; is_buffered(rt.alloc(), room, status), "room for {room}");
+        assert!(rt;
+            is_buffered(rt, rt.alloc(), room, status),
+            "room for {room}"
+        );
     }
 }
 
@@ -304,7 +394,7 @@ fn errors_that_cannot_be_told(rt: HostRuntime) {
     let mut err = Sink::of_room(alloc, 0, Full::Error);
     let words = ["photofleet", "plain", "script"];
     assert_eq!(rt;
-        serve(alloc, words.as_slice(), &mut shelf, &mut out, &mut err),
+        serve(rt, alloc, words.as_slice(), &mut shelf, &mut out, &mut err),
         3
     );
     assert!(rt; err.taken.is_empty());
