@@ -1,5 +1,6 @@
 pub mod CommandLines
 pub mod Numbers
+pub mod Workers
 pub mod Outputs
 pub mod StatusLemmas
 pub mod WordExamples

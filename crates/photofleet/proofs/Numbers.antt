@@ -12,7 +12,7 @@ use Rattle.clap.proofs.ValueTestLemmas.{accepts-Accepts, Accepts-accepts}
 use Rattle.photofleet.specs.Asked.{number_in, numbers_in, texts}
 
 -- the word is a numeral of at most 32 bits
-abbrev IsNumber : Text → Type 0
+abbrev pub IsNumber : Text → Type 0
 IsNumber word = IsNumeral 10 (without_leading_plus word) × (digits_value 10 (without_leading_plus word) < 2 ^ 32)
 
 pub number_read : (word : Text) (n : ℕ) → IsNumber word → n ≡ digits_value 10 (without_leading_plus word) → number_in word ≡ Some n
@@ -20,7 +20,7 @@ number_read word n number is =
     let passes : is_unsigned_in 0 4294967295 word ≡ true = Accepts-accepts false (Unsigned 0 4294967295) word (number.0, omega (arith, number.1), omega arith, omega (arith, number.1)) in
     cond-true _ _ _ passes ∙ ap Some (sym is)
 
-refuted : (b : Bool) → (b ≡ true → ⊥) → b ≡ false
+pub refuted : (b : Bool) → (b ≡ true → ⊥) → b ≡ false
 refuted false h = refl
 refuted true h = absurd (h refl)
 
