@@ -1,10 +1,14 @@
-ghost use Rattle.std.specs.Prelude.{◌≡◌, ◌<◌, IfSome};
+ghost use Rattle.std.specs.Prelude.{◌≡◌, ◌<◌, ◌==◌, ◌&&◌, ℕ, [], ◌∷◌, IfSome};
 ghost use Rattle.photo_version.specs.Author.{author};
+ghost use Rattle.photo_version.specs.Version as versions;
+ghost use Rattle.photo_version.specs.Vector.{denotes};
+ghost use Rattle.item_knowledge.specs.Fragments.{knows};
 
 use crate::filters::{filter_of, same_filter};
 use crate::fleets::divided;
 use crate::knowledges::told;
 use crate::records::rated;
+use crate::runs::runs_command;
 use crate::verdict::{Verdict, judged, mark};
 use photo_device::{
     Change, ChangeFault, Device, Held, HeldList, HeldSet, NarrowFault, Place, VersionList,
@@ -12,28 +16,76 @@ use photo_device::{
 use photo_filter_rules::Filter;
 use photo_record::{PicNo, Record};
 use photo_version::{Author, Version};
-use std::alloc::Global;
+use std::alloc::{AllocError, Global};
 
 /// What came of a call of `photo_device`.
 pub fn verdict(alloc: Global, call: &str) -> Option<Verdict> {
     match call {
         "Device::new" => new(alloc),
-        "Device::make first" => make(alloc, 0),
-        "Device::make" => make(alloc, 2),
-        "Device::edit" => edit(alloc),
-        "Device::remove" => remove(alloc),
+        "Device::make first" => on_device(alloc, 0, Call::Make),
+        "Device::make" => on_device(alloc, 2, Call::Make),
+        "Device::edit" => on_device(alloc, 2, Call::Edit),
+        "Device::remove" => on_device(alloc, 2, Call::Remove),
         _ => verdict_on_others(alloc, call),
     }
 }
 
 fn verdict_on_others(alloc: Global, call: &str) -> Option<Verdict> {
     match call {
-        "Device::apply" => apply(alloc),
-        "Device::narrow" => narrow(alloc),
+        "Device::apply" => on_device(alloc, 2, Call::Apply),
+        "Device::narrow" => on_device(alloc, 2, Call::Narrow),
         "Device::conflicts" => conflicts(alloc),
-        "Held::try_clone" => held_copy(alloc),
-        "HeldSet::to_list" => list(alloc),
+        "Held::try_clone" => on_device(alloc, 1, Call::CopyHeld),
+        "HeldSet::to_list" => on_device(alloc, 2, Call::List),
         _ => None,
+    }
+}
+
+#[derive(Clone, Copy)]
+enum Call {
+    Make,
+    Edit,
+    Remove,
+    Apply,
+    Narrow,
+    CopyHeld,
+    List,
+    Command,
+}
+
+/// What came of `fleet_steps::run_command`.
+pub fn verdict_on_command(alloc: Global) -> Option<Verdict> {
+    on_device(alloc, 2, Call::Command)
+}
+
+// What came of a call on a device that has made so many versions.
+fn on_device(alloc: Global, count: u8, call: Call) -> Option<Verdict> {
+    let mut device = device(alloc, count)?;
+    match self::device(alloc, count) {
+        Some(twin) => on_twins(alloc, &mut device, &twin, call),
+        None => None,
+    }
+}
+
+fn on_twins(alloc: Global, device: &mut Device, twin: &Device, call: Call) -> Option<Verdict> {
+    match call {
+        Call::Apply => apply(alloc, device, twin),
+        Call::Narrow => narrow(alloc, device, twin),
+        call => {
+            let right = calls(alloc, device, call);
+            Some(judged(right, same_device(device, twin)))
+        }
+    }
+}
+
+fn calls(alloc: Global, device: &mut Device, call: Call) -> Option<bool> {
+    match call {
+        Call::Make => makes(alloc, device),
+        Call::Edit => edits(alloc, device),
+        Call::Remove => removes(alloc, device),
+        Call::CopyHeld => copies_first(alloc, device.store()),
+        Call::Command => runs_command(alloc, device),
+        _ => lists(alloc, device.store()),
     }
 }
 
@@ -135,34 +187,27 @@ pub fn has_made(
         && device.knowledge().knows(picture, made.0)
 }
 
-fn make(alloc: Global, count: u8) -> Option<Verdict> {
-    let mut device = device(alloc, count)?;
-    let twin = self::device(alloc, count)?;
+fn makes(alloc: Global, device: &mut Device) -> Option<bool> {
     let content = rated(alloc, 4)?;
-    let right = makes(alloc, &mut device, &content);
-    let unchanged = same_device(&device, &twin) && content == rated(alloc, 4)?;
-    Some(judged(right, unchanged))
+    makes_of(alloc, device, &content)
 }
 
-fn makes(alloc: Global, device: &mut Device, content: &Record) -> Option<bool> {
+fn makes_of(alloc: Global, device: &mut Device, content: &Record) -> Option<bool> {
     let picture = PicNo::new(9)?;
     let next = device.counter().checked_add(1)?;
     mark(alloc);
     let made = device.make(picture, content);
     mark(alloc);
-    Some(has_made(device, made.ok()?, next, picture, Place::Store))
+    let made = made.ok()?;
+    Some(has_made(device, made, next, picture, Place::Store))
 }
 
-fn edit(alloc: Global) -> Option<Verdict> {
-    let mut device = device(alloc, 2)?;
-    let twin = self::device(alloc, 2)?;
+fn edits(alloc: Global, device: &mut Device) -> Option<bool> {
     let content = rated(alloc, 1)?;
-    let right = edits(alloc, &mut device, &content);
-    let unchanged = same_device(&device, &twin) && content == rated(alloc, 1)?;
-    Some(judged(right, unchanged))
+    edits_to(alloc, device, &content)
 }
 
-fn edits(alloc: Global, device: &mut Device, content: &Record) -> Option<bool> {
+fn edits_to(alloc: Global, device: &mut Device, content: &Record) -> Option<bool> {
     let picture = PicNo::new(1)?;
     let next = device.counter().checked_add(1)?;
     mark(alloc);
@@ -189,14 +234,6 @@ fn has_changed(
     }
 }
 
-fn remove(alloc: Global) -> Option<Verdict> {
-    let mut device = device(alloc, 2)?;
-    let twin = self::device(alloc, 2)?;
-    let right = removes(alloc, &mut device);
-    let unchanged = same_device(&device, &twin);
-    Some(judged(right, unchanged))
-}
-
 fn removes(alloc: Global, device: &mut Device) -> Option<bool> {
     let picture = PicNo::new(1)?;
     let next = device.counter().checked_add(1)?;
@@ -206,8 +243,12 @@ fn removes(alloc: Global, device: &mut Device) -> Option<bool> {
     has_changed(device, made, next, picture)
 }
 
-// What tells a device of one version of another one's, and has it take and give up nothing.
-fn change(alloc: Global) -> Option<Change> {
+// What tells a device of three versions of another one's, and has it take and give up nothing.
+fn change(alloc: Global) -> Option<Change>
+    ensures drops { IfSome result (λ change. change.drops ≡ []) }
+    ensures takes { IfSome result (λ change. change.takes ≡ []) }
+    ensures gain { IfSome result (λ change. (p : ℕ) (v : versions.Version) → 0 < p → knows change.gain p v ≡ ((7 == p) && denotes ((author 1, 3) ∷ []) v)) }
+{
     let gain = told(alloc, 7, 3)?;
     Some(Change {
         drops: VersionList::new(Vec::new(alloc)),
@@ -216,20 +257,29 @@ fn change(alloc: Global) -> Option<Change> {
     })
 }
 
-fn apply(alloc: Global) -> Option<Verdict> {
-    let mut device = device(alloc, 2)?;
-    let twin = self::device(alloc, 2)?;
+fn apply(alloc: Global, device: &mut Device, twin: &Device) -> Option<Verdict> {
     let change = change(alloc)?;
+    if device.author().value() != 0 {
+        return None;
+    }
+    let done = applies(alloc, device, change);
+    Some(match done {
+        Ok(()) => judged(Some(has_learned(alloc, device, twin)), true),
+        Err((change, _)) => judged(None, same_device(device, twin) && is_change(alloc, &change)),
+    })
+}
+
+#[tactic(auto, using(crate::proofs::Told::own_is_counted))]
+fn applies(alloc: Global, device: &mut Device, change: Change) -> Result<(), (Change, AllocError)>
+    requires zero { device.old.author.device ≡ 0 }
+    requires drops { change.drops ≡ [] }
+    requires takes { change.takes ≡ [] }
+    requires gain { (p : ℕ) (v : versions.Version) → 0 < p → knows change.gain p v ≡ ((7 == p) && denotes ((author 1, 3) ∷ []) v) }
+{
     mark(alloc);
     let done = device.apply(change);
     mark(alloc);
-    Some(match done {
-        Ok(()) => judged(Some(has_learned(alloc, &device, &twin)), true),
-        Err((change, _)) => judged(
-            None,
-            same_device(&device, &twin) && is_change(alloc, &change),
-        ),
-    })
+    done
 }
 
 fn has_learned(alloc: Global, device: &Device, twin: &Device) -> bool {
@@ -253,31 +303,43 @@ fn is_change(alloc: Global, change: &Change) -> bool {
     }
 }
 
-fn narrow(alloc: Global) -> Option<Verdict> {
-    let mut device = device(alloc, 2)?;
-    let twin = self::device(alloc, 2)?;
+fn narrow(alloc: Global, device: &mut Device, twin: &Device) -> Option<Verdict> {
     let filter = filter_of(alloc, "rating >= 5")?;
     mark(alloc);
     let moved = device.narrow(filter);
     mark(alloc);
     Some(match moved {
-        Ok(count) => judged(
-            Some(count == 1 && device.store().len() == 1 && device.out().len() == 1),
-            true,
-        ),
+        Ok(count) => judged(Some(count == 1 && has_moved(device)), true),
         Err((filter, NarrowFault::NoMemory)) => judged(
             None,
-            same_device(&device, &twin) && same_filter(&filter, &filter_of(alloc, "rating >= 5")?),
+            same_device(device, twin) && is_five(alloc, &filter),
         ),
         Err(_) => Verdict::Wrong,
     })
 }
 
+fn has_moved(device: &Device) -> bool {
+    device.store().len() == 1 && device.out().len() == 1
+}
+
+fn is_five(alloc: Global, filter: &Filter) -> bool {
+    match filter_of(alloc, "rating >= 5") {
+        Some(twin) => same_filter(filter, &twin),
+        None => false,
+    }
+}
+
 fn conflicts(alloc: Global) -> Option<Verdict> {
     let fleet = divided(alloc)?;
-    let twin = divided(alloc)?;
-    let right = finds_conflicts(alloc, fleet.devices().first()?);
-    Some(judged(right, same_devices(fleet.devices(), twin.devices())))
+    match divided(alloc) {
+        Some(twin) => finds_or_leaves(alloc, fleet.devices(), twin.devices()),
+        None => None,
+    }
+}
+
+fn finds_or_leaves(alloc: Global, devices: &[Device], twins: &[Device]) -> Option<Verdict> {
+    let right = finds_conflicts(alloc, devices.first()?);
+    Some(judged(right, same_devices(devices, twins)))
 }
 
 fn finds_conflicts(alloc: Global, device: &Device) -> Option<bool> {
@@ -291,14 +353,11 @@ fn finds_conflicts(alloc: Global, device: &Device) -> Option<bool> {
     }
 }
 
-fn held_copy(alloc: Global) -> Option<Verdict> {
-    let device = device(alloc, 1)?;
-    let twin = self::device(alloc, 1)?;
-    if device.store().is_empty() {
-        return None;
+fn copies_first(alloc: Global, set: &HeldSet) -> Option<bool> {
+    if set.is_empty() {
+        return Some(false);
     }
-    let right = copies_held(alloc, device.store().get(0));
-    Some(judged(right, same_device(&device, &twin)))
+    copies_held(alloc, set.get(0))
 }
 
 fn copies_held(alloc: Global, held: &Held) -> Option<bool> {
@@ -306,13 +365,6 @@ fn copies_held(alloc: Global, held: &Held) -> Option<bool> {
     let copy = held.try_clone();
     mark(alloc);
     Some(copy.ok()? == *held)
-}
-
-fn list(alloc: Global) -> Option<Verdict> {
-    let device = device(alloc, 2)?;
-    let twin = self::device(alloc, 2)?;
-    let right = lists(alloc, device.store());
-    Some(judged(right, same_device(&device, &twin)))
 }
 
 fn lists(alloc: Global, set: &HeldSet) -> Option<bool> {

@@ -1,5 +1,8 @@
-ghost use Rattle.std.specs.Prelude.{◌≡◌, ◌+◌, true, IfSome};
+ghost use Rattle.std.specs.Prelude.{◌≡◌, ◌+◌, ◌<◌, ◌==◌, ◌&&◌, ℕ, [], ◌∷◌, true, IfSome};
 ghost use Rattle.photo_version.specs.Author.{author};
+ghost use Rattle.photo_version.specs.Version as versions;
+ghost use Rattle.photo_version.specs.Vector.{denotes};
+ghost use Rattle.item_knowledge.specs.Fragments.{knows};
 ghost use Rattle.item_knowledge.specs.Tables.{in_order};
 ghost use Rattle.item_knowledge.specs.Kept.{star_bound};
 
@@ -14,19 +17,50 @@ use std::alloc::Global;
 pub fn verdict(alloc: Global, call: &str) -> Option<Verdict> {
     match call {
         "Knowledge::new" => Some(judged(makes(alloc), true)),
-        "Knowledge::of" => of(alloc),
-        "Knowledge::try_clone" => copy(alloc),
+        "Knowledge::of" => on_knowledge(alloc, Call::Of),
+        "Knowledge::try_clone" => on_knowledge(alloc, Call::Copy),
+        "Knowledge::learn_own" => learn_own(alloc),
         _ => verdict_on_learning(alloc, call),
     }
 }
 
 fn verdict_on_learning(alloc: Global, call: &str) -> Option<Verdict> {
     match call {
-        "Knowledge::learn" => learn(alloc),
-        "Knowledge::learn_table" => learn_table(alloc),
-        "Knowledge::learn_all" => learn_all(alloc),
-        "Knowledge::learn_own" => learn_own(alloc),
+        "Knowledge::learn" => on_knowledge(alloc, Call::Learn),
+        "Knowledge::learn_table" => on_knowledge(alloc, Call::LearnTable),
+        "Knowledge::learn_all" => on_knowledge(alloc, Call::LearnAll),
         _ => None,
+    }
+}
+
+#[derive(Clone, Copy)]
+enum Call {
+    Of,
+    Copy,
+    Learn,
+    LearnTable,
+    LearnAll,
+}
+
+// What came of a call on what knows of picture 7 three versions.
+fn on_knowledge(alloc: Global, call: Call) -> Option<Verdict> {
+    let mut knowledge = told(alloc, 7, 3)?;
+    match told(alloc, 7, 3) {
+        Some(twin) => {
+            let right = calls(alloc, &mut knowledge, call);
+            Some(judged(right, knowledge.same(&twin)))
+        }
+        None => None,
+    }
+}
+
+fn calls(alloc: Global, knowledge: &mut Knowledge, call: Call) -> Option<bool> {
+    match call {
+        Call::Of => tells(alloc, knowledge),
+        Call::Copy => copies(alloc, knowledge),
+        Call::Learn => learns(alloc, knowledge),
+        Call::LearnTable => learns_table(alloc, knowledge),
+        Call::LearnAll => learns_all(alloc, knowledge),
     }
 }
 
@@ -48,7 +82,7 @@ fn knows(knowledge: &Knowledge, picture: u32, n: u32) -> bool {
 
 /// What knows of a picture device 1's first `n` versions, and nothing else.
 pub fn told(alloc: Global, picture: u32, n: u32) -> Option<Knowledge>
-    ensures { IfSome result (λ knowledge. star_bound knowledge (author 0) ≡ 0) }
+    ensures { IfSome result (λ knowledge. (p : ℕ) (v : versions.Version) → 0 < p → knows knowledge p v ≡ ((picture == p) && denotes ((author 1, n) ∷ []) v)) }
 {
     let mut knowledge = Knowledge::new(alloc).ok()?;
     let vector = vector_of(alloc, 1, n)?;
@@ -56,14 +90,8 @@ pub fn told(alloc: Global, picture: u32, n: u32) -> Option<Knowledge>
     Some(knowledge)
 }
 
-fn of(alloc: Global) -> Option<Verdict> {
-    let knowledge = told(alloc, 7, 3)?;
-    let twin = told(alloc, 7, 3)?;
-    let right = tells(alloc, &knowledge, PicNo::new(7)?);
-    Some(judged(right, knowledge.same(&twin)))
-}
-
-fn tells(alloc: Global, knowledge: &Knowledge, picture: PicNo) -> Option<bool> {
+fn tells(alloc: Global, knowledge: &Knowledge) -> Option<bool> {
+    let picture = PicNo::new(7)?;
     mark(alloc);
     let vector = knowledge.of(picture);
     mark(alloc);
@@ -71,38 +99,31 @@ fn tells(alloc: Global, knowledge: &Knowledge, picture: PicNo) -> Option<bool> {
     Some(vector.len() == 1 && vector.entry(0) == (Author::new(1), 3))
 }
 
-fn copy(alloc: Global) -> Option<Verdict> {
-    let knowledge = told(alloc, 7, 3)?;
-    let twin = told(alloc, 7, 3)?;
-    Some(judged(copies(alloc, &knowledge), knowledge.same(&twin)))
-}
-
 fn copies(alloc: Global, knowledge: &Knowledge) -> Option<bool> {
     mark(alloc);
     let copy = knowledge.try_clone();
     mark(alloc);
-    Some(copy.ok()?.same(knowledge))
+    let copy = copy.ok()?;
+    Some(copy.same(knowledge))
 }
 
-fn learn(alloc: Global) -> Option<Verdict> {
-    let mut knowledge = told(alloc, 7, 3)?;
-    let twin = told(alloc, 7, 3)?;
+fn learns(alloc: Global, knowledge: &mut Knowledge) -> Option<bool> {
+    let picture = PicNo::new(9)?;
     let vector = vector_of(alloc, 1, 4)?;
-    let right = learns(alloc, &mut knowledge, PicNo::new(9)?, &vector);
-    let unchanged = knowledge.same(&twin) && vector.len() == 1;
-    Some(judged(right, unchanged))
+    mark(alloc);
+    let done = knowledge.learn(picture, &vector).is_ok();
+    mark(alloc);
+    is_right(done, vector.len() == 1, knowledge)
 }
 
-fn learns(
-    alloc: Global,
-    knowledge: &mut Knowledge,
-    picture: PicNo,
-    vector: &Vector,
-) -> Option<bool> {
-    mark(alloc);
-    let done = knowledge.learn(picture, vector);
-    mark(alloc);
-    done.ok()?;
+// Whether what was lent is as it was, and what it tells was learned. None where memory was wanted.
+fn is_right(done: bool, kept: bool, knowledge: &Knowledge) -> Option<bool> {
+    if !kept {
+        return Some(false);
+    }
+    if !done {
+        return None;
+    }
     Some(has_learned(knowledge))
 }
 
@@ -125,46 +146,28 @@ fn table(alloc: Global) -> Option<Vec<(PicNo, Vector)>>
     Some(table)
 }
 
-fn learn_table(alloc: Global) -> Option<Verdict> {
-    let mut knowledge = told(alloc, 7, 3)?;
-    let twin = told(alloc, 7, 3)?;
+fn learns_table(alloc: Global, knowledge: &mut Knowledge) -> Option<bool> {
     let table = table(alloc)?;
-    let right = learns_table(alloc, &mut knowledge, table.as_slice());
-    let unchanged = knowledge.same(&twin) && table.len() == 1;
-    Some(judged(right, unchanged))
+    mark(alloc);
+    let done = knowledge.learn_table(table.as_slice()).is_ok();
+    mark(alloc);
+    is_right(done, table.len() == 1, knowledge)
 }
 
-fn learns_table(alloc: Global, knowledge: &mut Knowledge, table: &[(PicNo, Vector)]) -> Option<bool>
-    requires { in_order table.now ≡ true }
-{
-    mark(alloc);
-    let done = knowledge.learn_table(table);
-    mark(alloc);
-    done.ok()?;
-    Some(has_learned(knowledge))
-}
-
-fn learn_all(alloc: Global) -> Option<Verdict> {
-    let mut knowledge = told(alloc, 7, 3)?;
+fn learns_all(alloc: Global, knowledge: &mut Knowledge) -> Option<bool> {
     let other = told(alloc, 9, 4)?;
-    let right = learns_all(alloc, &mut knowledge, &other);
-    let unchanged = knowledge.same(&told(alloc, 7, 3)?) && other.same(&told(alloc, 9, 4)?);
-    Some(judged(right, unchanged))
-}
-
-fn learns_all(alloc: Global, knowledge: &mut Knowledge, other: &Knowledge) -> Option<bool> {
     mark(alloc);
-    let done = knowledge.learn_all(other);
+    let done = knowledge.learn_all(&other).is_ok();
     mark(alloc);
-    done.ok()?;
-    Some(has_learned(knowledge))
+    let kept = knows(&other, 9, 4) && !knows(&other, 7, 1) && other.fragments() == 2;
+    is_right(done, kept, knowledge)
 }
 
 fn learn_own(alloc: Global) -> Option<Verdict> {
-    let mut knowledge = told(alloc, 7, 3)?;
-    let twin = told(alloc, 7, 3)?;
-    let right = learns_own(alloc, &mut knowledge, Version::new(Author::new(0), 1)?);
-    let unchanged = knowledge.same(&twin);
+    let version = Version::new(Author::new(1), 1)?;
+    let mut knowledge = Knowledge::new(alloc).ok()?;
+    let right = learns_own(alloc, &mut knowledge, version);
+    let unchanged = !knows(&knowledge, 7, 1) && knowledge.fragments() == 1;
     Some(judged(right, unchanged))
 }
 
@@ -175,9 +178,5 @@ fn learns_own(alloc: Global, knowledge: &mut Knowledge, version: Version) -> Opt
     let done = knowledge.learn_own(version);
     mark(alloc);
     done.ok()?;
-    Some(
-        knowledge.knows(PicNo::new(8)?, version)
-            && knows(knowledge, 7, 3)
-            && !knows(knowledge, 8, 1),
-    )
+    Some(knows(knowledge, 7, 1) && knows(knowledge, 9, 1) && !knows(knowledge, 7, 2))
 }

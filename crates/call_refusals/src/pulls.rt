@@ -118,9 +118,15 @@ fn pulls_between(alloc: Global, devices: &mut [Device], call: Call) -> Option<bo
     requires ready { AreReady devices.old }
 {
     let (front, back) = devices.split_at_mut(1);
+    on_two(alloc, &mut back[0], &mut front[0], call)
+}
+
+fn on_two(alloc: Global, target: &mut Device, source: &mut Device, call: Call) -> Option<bool>
+    requires { MayPull target.old source.old }
+{
     match call {
-        Call::Pull => pulls_from(alloc, &mut back[0], &mut front[0]),
-        _ => runs_pull(alloc, &mut back[0], &mut front[0]),
+        Call::Pull => pulls_from(alloc, target, source),
+        _ => runs_pull(alloc, target, source),
     }
 }
 

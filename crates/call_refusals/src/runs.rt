@@ -1,9 +1,9 @@
-use crate::devices::{device, has_made, same_device, same_devices};
+use crate::devices::{device, has_made, same_devices};
 use crate::plans::LAWFUL;
-use crate::pulls;
 use crate::records::rated;
 use crate::scripts::{FOUR_DEVICES, is_four, script_of};
 use crate::verdict::{Verdict, judged, mark};
+use crate::{devices, pulls};
 use fleet_steps::{IssueLog, Outcome, RunError, opening_devices, replay, run_command, run_plain};
 use photo_device::{Device, Held, Place};
 use photo_pull::PullCounts;
@@ -14,7 +14,7 @@ use std::alloc::Global;
 /// What came of a call of `fleet_steps`.
 pub fn verdict(alloc: Global, call: &str) -> Option<Verdict> {
     match call {
-        "run_command" => command(alloc),
+        "run_command" => devices::verdict_on_command(alloc),
         "run_pull" => pulls::verdict(alloc, pulls::Call::RunPull),
         "run_on" => pulls::verdict(alloc, pulls::Call::RunOn),
         "IssueLog::new" => log(alloc),
@@ -33,15 +33,8 @@ fn verdict_on_scripts(alloc: Global, call: &str) -> Option<Verdict> {
     Some(judged(right, is_four(&script)))
 }
 
-fn command(alloc: Global) -> Option<Verdict> {
-    let mut device = device(alloc, 2)?;
-    let twin = self::device(alloc, 2)?;
-    let right = runs_command(alloc, &mut device);
-    let unchanged = same_device(&device, &twin);
-    Some(judged(right, unchanged))
-}
-
-fn runs_command(alloc: Global, device: &mut Device) -> Option<bool> {
+/// Whether a device of two versions edits one of its pictures. None where memory was wanted.
+pub fn runs_command(alloc: Global, device: &mut Device) -> Option<bool> {
     let (picture, record) = (PicNo::new(1)?, rated(alloc, 1)?);
     let command = Command::Edit {
         device: 0,

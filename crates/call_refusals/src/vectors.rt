@@ -1,4 +1,5 @@
-ghost use Rattle.std.specs.Prelude.{◌≡◌, true, IfSome};
+ghost use Rattle.std.specs.Prelude.{◌≡◌, [], ◌∷◌, true, IfSome};
+ghost use Rattle.photo_version.specs.Author.{author};
 ghost use Rattle.photo_version.specs.Vector.{is_vector};
 
 use crate::verdict::{Verdict, judged, mark};
@@ -17,10 +18,11 @@ pub fn verdict(alloc: Global, call: &str) -> Option<Verdict> {
 }
 
 /// The vector of a device's first `n` versions.
-pub fn vector_of(alloc: Global, device: u16, n: u32) -> Option<Vector> {
-    Vector::new(alloc)
-        .with(Version::new(Author::new(device), n)?)
-        .ok()
+pub fn vector_of(alloc: Global, device: u16, n: u32) -> Option<Vector>
+    ensures { IfSome result (λ vector. vector ≡ (author device, n) ∷ []) }
+{
+    let version = Version::new(Author::new(device), n)?;
+    Vector::new(alloc).with(version).ok()
 }
 
 fn has_one(vector: &Vector, device: u16, n: u32) -> bool {
