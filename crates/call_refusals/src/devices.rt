@@ -269,7 +269,6 @@ fn apply(alloc: Global, device: &mut Device, twin: &Device) -> Option<Verdict> {
     })
 }
 
-#[tactic(auto, using(crate::proofs::Told::own_is_counted))]
 fn applies(alloc: Global, device: &mut Device, change: Change) -> Result<(), (Change, AllocError)>
     requires zero { device.old.author.device ≡ 0 }
     requires drops { change.drops ≡ [] }
