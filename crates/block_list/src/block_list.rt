@@ -87,8 +87,10 @@ impl<T> BlockList<T> {
     pub fn partition_point<P: Fn(&T) -> bool>(&self, pred: P) -> usize
         requires { P.IsAlwaysCallable pred }
         ensures bound { result ≤ length self.now }
-        ensures partitioned { (p : T → Bool) → ComputesKey P.FnMut p pred → IsPartitionedBy p self.now → IsPartitionPoint (λ y. p y ≡ true) (λ y. p y ≡ false) self.now result }
+        ensures partitioned { (p : T → Bool) → ComputesKey P.FnMut p pred → IsPartitionedBy p self.now
+            → IsPartitionPoint (λ y. p y ≡ true) (λ y. p y ≡ false) self.now result }
     {
+        // For its fact alone: how long the list is.
         let _len = self.len;
         first_failing(&self.blocks, pred)
     }
@@ -97,7 +99,8 @@ impl<T> BlockList<T> {
     /// blocks.
     pub fn find_failing<P: Fn(&T) -> bool>(&self, pred: P) -> Option<&T>
         requires { P.IsAlwaysCallable pred }
-        ensures { (p : T → Bool) → ComputesKey P.FnMut p pred → IsPartitionedBy p self.now → option_copied result ≡ find (λ y. not (p y)) self.now }
+        ensures { (p : T → Bool) → ComputesKey P.FnMut p pred → IsPartitionedBy p self.now
+            → option_copied result ≡ find (λ y. not (p y)) self.now }
     {
         if self.blocks.is_empty() {
             return None;
@@ -111,7 +114,8 @@ impl<T> BlockList<T> {
     /// Where searches go along the list, each with the hint that the one before gave, the work for one is small.
     pub fn find_failing_near<P: Fn(&T) -> bool>(&self, near: Spot, pred: P) -> (Option<&T>, Spot)
         requires { P.IsAlwaysCallable pred }
-        ensures { (p : T → Bool) → ComputesKey P.FnMut p pred → IsPartitionedBy p self.now → option_copied result.0 ≡ find (λ y. not (p y)) self.now }
+        ensures { (p : T → Bool) → ComputesKey P.FnMut p pred → IsPartitionedBy p self.now
+            → option_copied result.0 ≡ find (λ y. not (p y)) self.now }
     {
         if self.blocks.is_empty() {
             return (None, near);
@@ -126,7 +130,8 @@ impl<T> BlockList<T> {
     pub fn any_between<P: Fn(&T) -> bool, Q: Fn(&T) -> bool>(&self, before: P, through: Q) -> bool
         requires before { P.IsAlwaysCallable before }
         requires through { Q.IsAlwaysCallable through }
-        ensures { (p q : T → Bool) → ComputesKey P.FnMut p before → ComputesKey Q.FnMut q through → IsPartitionedBy p self.now → IsPartitionedBy q self.now → ((y : T) → p y ≡ true → q y ≡ true) → TellsBetween p q self.now result }
+        ensures { (p q : T → Bool) → ComputesKey P.FnMut p before → ComputesKey Q.FnMut q through → IsPartitionedBy p self.now
+            → IsPartitionedBy q self.now → ((y : T) → p y ≡ true → q y ≡ true) → TellsBetween p q self.now result }
     {
         if self.blocks.is_empty() {
             return false;
@@ -138,7 +143,8 @@ impl<T> BlockList<T> {
 }
 
 impl<T: Drop> BlockList<T> {
-    ghost use Rattle.std.specs.Prelude.{◌≡◌, ◌<◌, ◌≤◌, ◌++◌, Bool, true, length, take, drop, filter, slice_set, [], ◌∷◌, IfNone, IfSome, OnOk, OnErr};
+    ghost use Rattle.std.specs.Prelude.{◌≡◌, ◌<◌, ◌≤◌, ◌++◌, [], ◌∷◌};
+    ghost use Rattle.std.specs.Prelude.{Bool, true, length, take, drop, filter, slice_set, IfNone, IfSome, OnOk, OnErr};
     ghost use Rattle.std.specs.List.{insert};
     ghost use Rattle.std.specs.List.Sorted.{IsPartitionedBy};
     ghost use Rattle.std.specs.Fn.{ComputesKey};
@@ -173,7 +179,9 @@ impl<T: Drop> BlockList<T> {
     ) -> Result<(), AllocError>
         requires before { P.IsAlwaysCallable before }
         requires through { Q.IsAlwaysCallable through }
-        ensures ok { OnOk result ((p q : T → Bool) → ComputesKey P.FnMut p before → ComputesKey Q.FnMut q through → IsPartitionedBy p self.old → IsPartitionedBy q self.old → ((y : T) → p y ≡ true → q y ≡ true) → IsReplaced p q self.old item self.new) }
+        ensures ok { OnOk result
+            ((p q : T → Bool) → ComputesKey P.FnMut p before → ComputesKey Q.FnMut q through → IsPartitionedBy p self.old
+            → IsPartitionedBy q self.old → ((y : T) → p y ≡ true → q y ≡ true) → IsReplaced p q self.old item self.new) }
         ensures err { OnErr result (self.new ≡ self.old) }
     {
         if self.blocks.is_empty() {
@@ -235,6 +243,7 @@ impl<T: Drop> BlockList<T> {
         requires { P.IsAlwaysCallable pred }
         ensures { (p : T → Bool) → ComputesKey P.FnMut p pred → self.new ≡ filter p self.old }
     {
+        // For its fact alone: how long the list is.
         let _len = self.len;
         self.len -= retain_in(&mut self.blocks, pred);
     }

@@ -16,7 +16,9 @@ pub fn spot_near<T, P: Fn(&T) -> bool>(blocks: &[Vec<T>], near: Spot, pred: P) -
     requires filled { AreFilled blocks.now }
     requires some { 0 < length blocks.now }
     ensures place { IsPlace blocks.now (start_of blocks.now result.0 + result.1) result.0 result.1 }
-    ensures partitioned { (p : T → Bool) → ComputesKey P.FnMut p pred → IsPartitionedBy p (joined blocks.now) → IsPartitionPoint (λ y. p y ≡ true) (λ y. p y ≡ false) (joined blocks.now) (start_of blocks.now result.0 + result.1) }
+    ensures partitioned { (p : T → Bool) → ComputesKey P.FnMut p pred → IsPartitionedBy p (joined blocks.now)
+        → IsPartitionPoint (λ y. p y ≡ true) (λ y. p y ≡ false) (joined blocks.now)
+        (start_of blocks.now result.0 + result.1) }
 {
     let spot = moved_on(blocks, near, &pred);
     if turns_at(blocks, spot.block, spot.place, &pred) {
@@ -77,7 +79,9 @@ fn turns_at<T, P: Fn(&T) -> bool>(blocks: &[Vec<T>], block: usize, place: usize,
     requires callable { P.IsAlwaysCallable pred.now }
     requires filled { AreFilled blocks.now }
     ensures place { result ≡ true → IsPlace blocks.now (start_of blocks.now block + place) block place }
-    ensures partitioned { result ≡ true → (p : T → Bool) → ComputesKey P.FnMut p pred.now → IsPartitionedBy p (joined blocks.now) → IsPartitionPoint (λ y. p y ≡ true) (λ y. p y ≡ false) (joined blocks.now) (start_of blocks.now block + place) }
+    ensures partitioned { result ≡ true → (p : T → Bool) → ComputesKey P.FnMut p pred.now
+        → IsPartitionedBy p (joined blocks.now)
+        → IsPartitionPoint (λ y. p y ≡ true) (λ y. p y ≡ false) (joined blocks.now) (start_of blocks.now block + place) }
 {
     if block >= blocks.len() || place > blocks[block].len() {
         return false;

@@ -46,7 +46,9 @@ pub fn spot_of<T, P: Fn(&T) -> bool>(blocks: &[Vec<T>], pred: P) -> (usize, usiz
     requires filled { AreFilled blocks.now }
     requires some { 0 < length blocks.now }
     ensures place { IsPlace blocks.now (start_of blocks.now result.0 + result.1) result.0 result.1 }
-    ensures partitioned { (p : T → Bool) → ComputesKey P.FnMut p pred → IsPartitionedBy p (joined blocks.now) → IsPartitionPoint (λ y. p y ≡ true) (λ y. p y ≡ false) (joined blocks.now) (start_of blocks.now result.0 + result.1) }
+    ensures partitioned { (p : T → Bool) → ComputesKey P.FnMut p pred → IsPartitionedBy p (joined blocks.now)
+        → IsPartitionPoint (λ y. p y ≡ true) (λ y. p y ≡ false) (joined blocks.now)
+        (start_of blocks.now result.0 + result.1) }
 {
     let turn = turn_of(blocks, &pred);
     if turn == 0 {
@@ -61,7 +63,8 @@ pub fn first_failing<T, P: Fn(&T) -> bool>(blocks: &[Vec<T>], pred: P) -> usize
     requires filled { AreFilled blocks.now }
     requires fits { length (joined blocks.now) < 2 ^ 64 }
     ensures bound { result ≤ length (joined blocks.now) }
-    ensures partitioned { (p : T → Bool) → ComputesKey P.FnMut p pred → IsPartitionedBy p (joined blocks.now) → IsPartitionPoint (λ y. p y ≡ true) (λ y. p y ≡ false) (joined blocks.now) result }
+    ensures partitioned { (p : T → Bool) → ComputesKey P.FnMut p pred → IsPartitionedBy p (joined blocks.now)
+        → IsPartitionPoint (λ y. p y ≡ true) (λ y. p y ≡ false) (joined blocks.now) result }
 {
     if blocks.is_empty() {
         return 0;
@@ -107,7 +110,8 @@ pub fn passes_behind<T, P: Fn(&T) -> bool>(
     requires filled { AreFilled blocks.now }
     requires place { IsPlace blocks.now (start_of blocks.now block + place) block place }
     ensures some { result ≡ true → start_of blocks.now block + place < length (joined blocks.now) }
-    ensures passes { (p : T → Bool) → ComputesKey P.FnMut p pred.now → (x : T) → slice_get (joined blocks.now) (start_of blocks.now block + place) ≡ Some x → p x ≡ result }
+    ensures passes { (p : T → Bool) → ComputesKey P.FnMut p pred.now → (x : T)
+        → slice_get (joined blocks.now) (start_of blocks.now block + place) ≡ Some x → p x ≡ result }
 {
     match element_behind(blocks, block, place) {
         Some(item) => pred(item),
@@ -127,7 +131,8 @@ pub fn is_alone<T, P: Fn(&T) -> bool>(
     requires filled { AreFilled blocks.now }
     requires place { IsPlace blocks.now (start_of blocks.now block + place) block place }
     ensures inside { result ≡ true → IsElement blocks.now (start_of blocks.now block + place) block place }
-    ensures last { result ≡ true → (p : T → Bool) → ComputesKey P.FnMut p pred.now → (x : T) → slice_get (joined blocks.now) (start_of blocks.now block + (place + 1)) ≡ Some x → p x ≡ false }
+    ensures last { result ≡ true → (p : T → Bool) → ComputesKey P.FnMut p pred.now → (x : T)
+        → slice_get (joined blocks.now) (start_of blocks.now block + (place + 1)) ≡ Some x → p x ≡ false }
 {
     if place >= blocks[block].len() {
         return false;

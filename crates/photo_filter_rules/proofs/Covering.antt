@@ -10,10 +10,9 @@ use Rattle.photo_record.specs.declared.record.Record.TheVariants.{Picture, Remov
 use Rattle.photo_filter_text.specs.Tree.{Tree}
 use Rattle.photo_filter_rules.specs.declared.span.Span.{Span}
 use Rattle.photo_filter_rules.specs.declared.polarity.Polarity.TheVariants.{Plain}
-use Rattle.photo_filter_rules.specs.Matching.{Content, content, matches}
+use Rattle.photo_filter_rules.specs.Matching.{IsInRange, Content, content, matches}
 use Rattle.photo_filter_rules.specs.Alternatives.{Alternative, is_within, fits, alternatives_of}
 use Rattle.photo_filter_rules.specs.Covers.{contains, asks_no_more, has_room_for, covers}
-use Rattle.photo_filter_rules.specs.Laws.{IsInRange}
 use Rattle.photo_filter_rules.proofs.Sets.{has_word_all, not-list_any}
 use Rattle.photo_filter_rules.proofs.Fitting.{fits-alternatives_of}
 

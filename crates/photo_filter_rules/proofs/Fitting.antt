@@ -13,10 +13,10 @@ use Rattle.photo_filter_text.specs.declared.tree.Cmp.{Cmp}
 use Rattle.photo_filter_rules.specs.declared.span.Span.{Span}
 use Rattle.photo_filter_rules.specs.declared.polarity.Polarity.{Polarity}
 use Rattle.photo_filter_rules.specs.declared.polarity.Polarity.TheVariants.{Plain, Negated}
-use Rattle.photo_filter_rules.specs.Matching.{Content, content, matches, matches_picture, compares}
+use Rattle.photo_filter_rules.specs.Matching.{IsContent, Content, content, matches, matches_picture, compares}
 use Rattle.photo_filter_rules.specs.Limits.{all_ratings, all_days}
 use Rattle.photo_filter_rules.specs.Alternatives.{Alternative, is_within, fits, is_possible, both_of, possible, with_ratings, with_days, spans_of, pairs, either_list, opposite, alternatives_of, all_or_none, with_keyword}
-use Rattle.photo_filter_rules.specs.Laws.{IsContent, FitsWhereMatched}
+use Rattle.photo_filter_rules.specs.Laws.{FitsWhereMatched}
 use Rattle.photo_filter_rules.proofs.Bools.{and_pairs, not-and, not-or}
 use Rattle.photo_filter_rules.proofs.Sets.{all-both_sets, none-both_sets, not-list_any, no_common}
 use Rattle.photo_filter_rules.proofs.Spans.{is_within-both_spans, any-spans_of, toward}

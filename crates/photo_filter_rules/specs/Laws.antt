@@ -1,19 +1,12 @@
 -- Alternatives against matching, in both polarities, and what a filter that covers another matches.
-use Rattle.std.specs.Prelude.{◌≡◌, ◌≤◌, true, not}
+use Rattle.std.specs.Prelude.{◌≡◌, true, not}
 use Rattle.std.specs.List.{list_any}
-use Rattle.photo_record.specs.Limits.{max_rating, IsDay}
 use Rattle.photo_record.specs.declared.record.Record.{Record}
-use Rattle.photo_record.specs.declared.record.Record.TheVariants.{Picture, Removed}
 use Rattle.photo_filter_text.specs.Tree.{Tree}
 use Rattle.photo_filter_rules.specs.declared.polarity.Polarity.TheVariants.{Plain, Negated}
-use Rattle.photo_filter_rules.specs.Matching.{Content, content, matches_picture, matches}
+use Rattle.photo_filter_rules.specs.Matching.{Content, IsContent, IsInRange, matches_picture, matches}
 use Rattle.photo_filter_rules.specs.Alternatives.{fits, alternatives_of}
 use Rattle.photo_filter_rules.specs.Covers.{covers}
-
--- a record's rating and day
-pub record IsContent (c : Content) : Type 0 where
-  pub rating : c.rating ≤ max_rating
-  pub day : IsDay c.day
 
 -- a picture fits one of the alternatives of a tree exactly where the tree matches it,
 -- and one of those that it has under `not` exactly where it doesn't
@@ -21,11 +14,6 @@ abbrev pub FitsWhereMatched : Type 0
 FitsWhereMatched =
     ((tree : Tree) (c : Content) → IsContent c → list_any (fits c) (alternatives_of tree Plain) ≡ matches_picture tree c)
     × ((tree : Tree) (c : Content) → IsContent c → list_any (fits c) (alternatives_of tree Negated) ≡ not (matches_picture tree c))
-
--- the rating and the day of a record that says any
-abbrev pub IsInRange : Record → Type 0
-IsInRange (Picture rating day words) = IsContent (content rating day words)
-IsInRange Removed = Unit {0}
 
 -- what a filter matches is matched by each that covers it
 abbrev pub CoversSelects : Type 0

@@ -1,6 +1,7 @@
 -- Which records a tree matches.
-use Rattle.std.specs.Prelude.{ℕ, ℤ, Bool, true, false, not, ◌&&◌, ◌||◌, pos, int_le, List}
+use Rattle.std.specs.Prelude.{◌≤◌, ℕ, ℤ, Bool, true, false, not, ◌&&◌, ◌||◌, pos, int_le, List}
 use Rattle.std.specs.Ordering.{int_eq}
+use Rattle.photo_record.specs.Limits.{max_rating, IsDay}
 use Rattle.photo_record.specs.Word.{has_word}
 use Rattle.photo_record.specs.declared.record.Record.{Record}
 use Rattle.photo_record.specs.declared.record.Record.TheVariants.{Picture, Removed}
@@ -16,6 +17,16 @@ pub record Content : Type 0 where
 
 abbrev pub content : ℕ → ℤ → List (List ℕ) → Content
 content rating day words = record { rating = rating; day = day; words = words }
+
+-- its rating and its day are ones that there are
+pub record IsContent (c : Content) : Type 0 where
+  pub rating : c.rating ≤ max_rating
+  pub day : IsDay c.day
+
+-- the same of a record, if it says any
+abbrev pub IsInRange : Record → Type 0
+IsInRange (Picture rating day words) = IsContent (content rating day words)
+IsInRange Removed = Unit {0}
 
 -- a number stands to the one that a test names as the test wants it
 abbrev pub compares : Cmp → ℤ → ℤ → Bool

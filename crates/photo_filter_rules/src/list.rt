@@ -5,7 +5,8 @@ ghost use Rattle.std.specs.Option.{option_to_list};
 ghost use Rattle.photo_filter_rules.specs.Matching.{content};
 ghost use Rattle.photo_filter_rules.specs.declared.fault.BuildFault.TheVariants.{NoMemory};
 ghost use Rattle.photo_filter_rules.specs.Limits.{all_ratings, all_days};
-ghost use Rattle.photo_filter_rules.specs.Alternatives.{fits, spans_of, possible, with_ratings, with_days, with_keyword, all_or_none, both_of, pairs, either_list, alternatives_of, is_long, is_too_wide};
+ghost use Rattle.photo_filter_rules.specs.Alternatives.{fits, possible, spans_of, with_ratings, with_days, with_keyword, all_or_none};
+ghost use Rattle.photo_filter_rules.specs.Alternatives.{both_of, pairs, either_list, alternatives_of, is_long, is_too_wide};
 ghost use Rattle.photo_filter_rules.specs.Covers.{has_room_for};
 
 use crate::BuildFault;

@@ -21,24 +21,29 @@ pub fn one_tree()
 
 /// Tokens that are a filter within the limits have no fault, and others have at most one, want of memory aside.
 pub fn one_fault()
-    ensures none { (tokens : List Token) (tree : Tree) (fault : FilterFault) → IsFilter tokens tree → IsFault tokens fault → fault ≡ NoMemory }
-    ensures one { (tokens : List Token) (fault other : FilterFault) → fault ≢ NoMemory → other ≢ NoMemory → IsFault tokens fault → IsFault tokens other → fault ≡ other }
+    ensures none { (tokens : List Token) (tree : Tree) (fault : FilterFault) → IsFilter tokens tree → IsFault tokens fault
+        → fault ≡ NoMemory }
+    ensures one { (tokens : List Token) (fault other : FilterFault) → fault ≢ NoMemory → other ≢ NoMemory
+        → IsFault tokens fault → IsFault tokens other → fault ≡ other }
 {}
 
 /// Tokens are a filter within the limits, or they have a fault that is no want of memory.
 pub fn filter_or_fault()
-    ensures { (tokens : List Token) → ((tree : Tree) × IsFilter tokens tree) ⊎ ((fault : FilterFault) × (fault ≢ NoMemory) × IsFault tokens fault) }
+    ensures { (tokens : List Token)
+        → ((tree : Tree) × IsFilter tokens tree) ⊎ ((fault : FilterFault) × (fault ≢ NoMemory) × IsFault tokens fault) }
 {}
 
 /// Want of memory stands in place of no earlier fault, and only where reading keeps something: a filter begins with the
 /// tokens before some place, and up to and with that place stands `(`, `not`, `and`, `or` or `keyword`.
 pub fn memory_wanted()
-    ensures { (tokens : List Token) → MayWantMemory tokens → (before : ℕ) × Begins (take before tokens) × (list_any is_keeper (take (before + 1) tokens) ≡ true) }
+    ensures { (tokens : List Token) → MayWantMemory tokens
+        → (before : ℕ) × Begins (take before tokens) × (list_any is_keeper (take (before + 1) tokens) ≡ true) }
 {}
 
 /// The text of a tree within both limits is a filter of that tree, so reading it gives the tree back.
 pub fn printed_again()
-    ensures { (tree : Tree) → IsSound tree → length (tokens_of (text_of tree)) ≤ max_tokens → height tree ≤ max_height → IsFilter (tokens_of (text_of tree)) tree }
+    ensures { (tree : Tree) → IsSound tree → length (tokens_of (text_of tree)) ≤ max_tokens → height tree ≤ max_height
+        → IsFilter (tokens_of (text_of tree)) tree }
 {}
 
 /// The definitions at some texts: their tokens, trees, printed forms and faults, and filters just within the limits.

@@ -101,7 +101,7 @@ fn push_date(text: &mut String, day: Day) -> Result<(), AllocError>
     ensures text { OnOk result (string_bytes text.new ≡ string_bytes text.old ++ date_text day) }
     ensures in_range { IsDay day }
 {
-    // Only its number says that a day is in its range.
+    // For its fact alone: a day is in its range.
     let _number = day.number();
     let year = day.year();
     push_two_digits(text, (year / 100) as u8)?;

@@ -1,9 +1,14 @@
-ghost use Rattle.std.specs.Prelude.{◌≡◌, ◌≢◌, ◌+◌, ◌<◌, ◌^◌, ◌||◌, ◌∷◌, nat_lt, true, false, is_some, IfOk, IfErr, IsErr, Some, None, Ok, Err, option_map};
+ghost use Rattle.std.specs.Prelude.{◌≡◌, ◌≢◌, ◌+◌, ◌<◌, ◌^◌, ◌||◌, ◌∷◌};
+ghost use Rattle.std.specs.Prelude.{nat_lt, true, false, is_some, IfOk, IfErr, IsErr, Some, None, Ok, Err, option_map};
 ghost use Rattle.photo_filter_text.specs.Grammar.{is_bracket};
 ghost use Rattle.photo_filter_text.specs.declared.reader.Refusal.TheVariants.{Unexpected, BadWord, NoMemory};
 ghost use Rattle.photo_filter_text.specs.Tree.{tree_of, Keyword, Both, Either};
 ghost use Rattle.photo_filter_text.specs.declared.reader.Field.TheVariants.{RatingField, DayField};
-ghost use Rattle.photo_filter_text.specs.Steps.{start, step, step_at, fresh, level_with, levels_of, finish, joined, negated, after_factor, at_factor, after_term, keeps, keeps_at, keeps_at_end, keeps_factor, keeps_at_factor, keeps_after_term, state_of, place_of, level_of, state_with, AtFactor, AtOperator, AtValue, AtWord, After, finished, keeps_finished, closed, keeps_closed};
+ghost use Rattle.photo_filter_text.specs.Steps.{start, step, step_at, fresh, level_with, levels_of, state_of, place_of, level_of, state_with};
+ghost use Rattle.photo_filter_text.specs.Steps.{AtFactor, AtOperator, AtValue, AtWord, After, at_factor, after_factor, after_term};
+ghost use Rattle.photo_filter_text.specs.Steps.{finish, finished, joined, negated, closed};
+ghost use Rattle.photo_filter_text.specs.Steps.{keeps, keeps_at, keeps_at_end, keeps_factor, keeps_at_factor, keeps_after_term};
+ghost use Rattle.photo_filter_text.specs.Steps.{keeps_finished, keeps_closed};
 
 use crate::symbol::{Symbol, read_comparison, read_symbol};
 use crate::{Cmp, FilterTree};
@@ -161,8 +166,10 @@ impl Level {
 
 // A token in the place of a word.
 fn read_word(alloc: Global, token: &str) -> Result<Word, Refusal>
-    ensures read { IfOk result (λ word. (level : _) (outer : _) → step_at AtWord level outer token.now ≡ Ok (after_factor level outer (Keyword word))) }
-    ensures refused { IfErr result (λ refusal. refusal ≢ NoMemory → (level : _) (outer : _) → step_at AtWord level outer token.now ≡ Err refusal) }
+    ensures read { IfOk result (λ word. (level : _) (outer : _)
+        → step_at AtWord level outer token.now ≡ Ok (after_factor level outer (Keyword word))) }
+    ensures refused { IfErr result
+        (λ refusal. refusal ≢ NoMemory → (level : _) (outer : _) → step_at AtWord level outer token.now ≡ Err refusal) }
     ensures word { IfOk result (λ word. is_bracket token.now ≡ false) }
     ensures memory { IfErr result (λ refusal. refusal ≡ NoMemory → is_bracket token.now ≡ false) }
 {
@@ -185,7 +192,8 @@ fn at_factor(
 ) -> Result<Reader, Refusal>
     requires { level.negations < 2 ^ 32 }
     ensures taken { IfOk result (λ reader. at_factor (level_of level) (levels_of outer.items) symbol ≡ Ok (state_of reader)) }
-    ensures refused { IfErr result (λ refusal. refusal ≢ NoMemory → at_factor (level_of level) (levels_of outer.items) symbol ≡ Err refusal) }
+    ensures refused { IfErr result
+        (λ refusal. refusal ≢ NoMemory → at_factor (level_of level) (levels_of outer.items) symbol ≡ Err refusal) }
     ensures memory { IfErr result (λ refusal. refusal ≡ NoMemory → keeps_at_factor (level_of level) symbol ≡ true) }
 {
     let (place, level) = match symbol {
@@ -232,9 +240,12 @@ fn at_operator(
     field: Field,
     token: &str,
 ) -> Result<Reader, Refusal>
-    ensures taken { IfOk result (λ reader. step_at (AtOperator field) (level_of level) (levels_of outer.items) token.now ≡ Ok (state_of reader)) }
-    ensures refused { IfErr result (λ refusal. refusal ≢ NoMemory → step_at (AtOperator field) (level_of level) (levels_of outer.items) token.now ≡ Err refusal) }
-    ensures memory { IfErr result (λ refusal. refusal ≡ NoMemory → keeps_at (AtOperator field) (level_of level) (levels_of outer.items) token.now ≡ true) }
+    ensures taken { IfOk result
+        (λ reader. step_at (AtOperator field) (level_of level) (levels_of outer.items) token.now ≡ Ok (state_of reader)) }
+    ensures refused { IfErr result (λ refusal. refusal ≢ NoMemory
+        → step_at (AtOperator field) (level_of level) (levels_of outer.items) token.now ≡ Err refusal) }
+    ensures memory { IfErr result (λ refusal. refusal ≡ NoMemory
+        → keeps_at (AtOperator field) (level_of level) (levels_of outer.items) token.now ≡ true) }
 {
     match read_comparison(token) {
         Some(cmp) => Ok(Reader {
@@ -255,9 +266,12 @@ fn at_rating(
     cmp: Cmp,
     token: &str,
 ) -> Result<Reader, Refusal>
-    ensures taken { IfOk result (λ reader. step_at (AtValue RatingField cmp) (level_of level) (levels_of outer.items) token.now ≡ Ok (state_of reader)) }
-    ensures refused { IfErr result (λ refusal. refusal ≢ NoMemory → step_at (AtValue RatingField cmp) (level_of level) (levels_of outer.items) token.now ≡ Err refusal) }
-    ensures memory { IfErr result (λ refusal. refusal ≡ NoMemory → keeps_at (AtValue RatingField cmp) (level_of level) (levels_of outer.items) token.now ≡ true) }
+    ensures taken { IfOk result (λ reader.
+        step_at (AtValue RatingField cmp) (level_of level) (levels_of outer.items) token.now ≡ Ok (state_of reader)) }
+    ensures refused { IfErr result (λ refusal. refusal ≢ NoMemory
+        → step_at (AtValue RatingField cmp) (level_of level) (levels_of outer.items) token.now ≡ Err refusal) }
+    ensures memory { IfErr result (λ refusal. refusal ≡ NoMemory
+        → keeps_at (AtValue RatingField cmp) (level_of level) (levels_of outer.items) token.now ≡ true) }
 {
     match Rating::read(token) {
         Some(rating) => after_factor(alloc, level, outer, FilterTree::Rate(cmp, rating)),
@@ -273,9 +287,12 @@ fn at_day(
     cmp: Cmp,
     token: &str,
 ) -> Result<Reader, Refusal>
-    ensures taken { IfOk result (λ reader. step_at (AtValue DayField cmp) (level_of level) (levels_of outer.items) token.now ≡ Ok (state_of reader)) }
-    ensures refused { IfErr result (λ refusal. refusal ≢ NoMemory → step_at (AtValue DayField cmp) (level_of level) (levels_of outer.items) token.now ≡ Err refusal) }
-    ensures memory { IfErr result (λ refusal. refusal ≡ NoMemory → keeps_at (AtValue DayField cmp) (level_of level) (levels_of outer.items) token.now ≡ true) }
+    ensures taken { IfOk result
+        (λ reader. step_at (AtValue DayField cmp) (level_of level) (levels_of outer.items) token.now ≡ Ok (state_of reader)) }
+    ensures refused { IfErr result (λ refusal. refusal ≢ NoMemory
+        → step_at (AtValue DayField cmp) (level_of level) (levels_of outer.items) token.now ≡ Err refusal) }
+    ensures memory { IfErr result (λ refusal. refusal ≡ NoMemory
+        → keeps_at (AtValue DayField cmp) (level_of level) (levels_of outer.items) token.now ≡ true) }
 {
     match Day::read(token) {
         Some(day) => after_factor(alloc, level, outer, FilterTree::On(cmp, day)),
@@ -286,8 +303,10 @@ fn at_day(
 // A word is read.
 fn at_word(alloc: Global, level: Level, outer: Vec<Level>, token: &str) -> Result<Reader, Refusal>
     ensures taken { IfOk result (λ reader. step_at AtWord (level_of level) (levels_of outer.items) token.now ≡ Ok (state_of reader)) }
-    ensures refused { IfErr result (λ refusal. refusal ≢ NoMemory → step_at AtWord (level_of level) (levels_of outer.items) token.now ≡ Err refusal) }
-    ensures memory { IfErr result (λ refusal. refusal ≡ NoMemory → keeps_at AtWord (level_of level) (levels_of outer.items) token.now ≡ true) }
+    ensures refused { IfErr result
+        (λ refusal. refusal ≢ NoMemory → step_at AtWord (level_of level) (levels_of outer.items) token.now ≡ Err refusal) }
+    ensures memory { IfErr result
+        (λ refusal. refusal ≡ NoMemory → keeps_at AtWord (level_of level) (levels_of outer.items) token.now ≡ true) }
 {
     match read_word(alloc, token) {
         Ok(word) => after_factor(alloc, level, outer, FilterTree::Keyword(word)),
@@ -342,9 +361,12 @@ fn after_term(
     term: FilterTree,
     symbol: Symbol,
 ) -> Result<Reader, Refusal>
-    ensures taken { IfOk result (λ reader. after_term (level_of level) (levels_of outer.items) (tree_of term) symbol ≡ Ok (state_of reader)) }
-    ensures refused { IfErr result (λ refusal. refusal ≢ NoMemory → after_term (level_of level) (levels_of outer.items) (tree_of term) symbol ≡ Err refusal) }
-    ensures memory { IfErr result (λ refusal. refusal ≡ NoMemory → keeps_after_term (level_of level) (levels_of outer.items) symbol ≡ true) }
+    ensures taken { IfOk result
+        (λ reader. after_term (level_of level) (levels_of outer.items) (tree_of term) symbol ≡ Ok (state_of reader)) }
+    ensures refused { IfErr result (λ refusal. refusal ≢ NoMemory
+        → after_term (level_of level) (levels_of outer.items) (tree_of term) symbol ≡ Err refusal) }
+    ensures memory { IfErr result
+        (λ refusal. refusal ≡ NoMemory → keeps_after_term (level_of level) (levels_of outer.items) symbol ≡ true) }
 {
     let either = level.into_either();
     match symbol {
@@ -362,7 +384,8 @@ fn after_and(
     outer: Vec<Level>,
     term: FilterTree,
 ) -> Reader
-    ensures { state_of result ≡ state_with AtFactor (level_with (option_map tree_of either) (Some (tree_of term)) 0) (levels_of outer.items) }
+    ensures { state_of result
+        ≡ state_with AtFactor (level_with (option_map tree_of either) (Some (tree_of term)) 0) (levels_of outer.items) }
 {
     Reader {
         alloc,
@@ -383,7 +406,8 @@ fn after_or(
     outer: Vec<Level>,
     term: FilterTree,
 ) -> Result<Reader, Refusal>
-    ensures taken { IfOk result (λ reader. state_of reader ≡ state_with AtFactor (level_with (Some (joined Either (option_map tree_of either) (tree_of term))) None 0) (levels_of outer.items)) }
+    ensures taken { IfOk result (λ reader. state_of reader ≡ state_with AtFactor
+        (level_with (Some (joined Either (option_map tree_of either) (tree_of term))) None 0) (levels_of outer.items)) }
     ensures refused { IfErr result (λ refusal. (refusal ≡ NoMemory) × (is_some (option_map tree_of either) ≡ true)) }
 {
     let tree = disjunction(alloc, either, term)?;
@@ -407,9 +431,12 @@ fn after_close(
     mut outer: Vec<Level>,
     term: FilterTree,
 ) -> Result<Reader, Refusal>
-    ensures taken { IfOk result (λ reader. closed (joined Either (option_map tree_of either) (tree_of term)) (levels_of outer.items) ≡ Ok (state_of reader)) }
-    ensures refused { IfErr result (λ refusal. refusal ≢ NoMemory → closed (joined Either (option_map tree_of either) (tree_of term)) (levels_of outer.items) ≡ Err refusal) }
-    ensures memory { IfErr result (λ refusal. refusal ≡ NoMemory → keeps_closed (option_map tree_of either) (levels_of outer.items) ≡ true) }
+    ensures taken { IfOk result (λ reader.
+        closed (joined Either (option_map tree_of either) (tree_of term)) (levels_of outer.items) ≡ Ok (state_of reader)) }
+    ensures refused { IfErr result (λ refusal. refusal ≢ NoMemory
+        → closed (joined Either (option_map tree_of either) (tree_of term)) (levels_of outer.items) ≡ Err refusal) }
+    ensures memory { IfErr result
+        (λ refusal. refusal ≡ NoMemory → keeps_closed (option_map tree_of either) (levels_of outer.items) ≡ true) }
 {
     let Some(below) = outer.pop() else {
         return Err(Refusal::Unexpected);
@@ -425,8 +452,11 @@ fn whole(
     outer: Vec<Level>,
     term: FilterTree,
 ) -> Result<Option<FilterTree>, AllocError>
-    ensures tree { IfOk result (λ tree. option_map tree_of tree ≡ finished (After (tree_of term)) (level_with (option_map tree_of either) None 0) (levels_of outer.items)) }
-    ensures memory { IsErr result → keeps_finished (After (tree_of term)) (level_with (option_map tree_of either) None 0) (levels_of outer.items) ≡ true }
+    ensures tree { IfOk result (λ tree. option_map tree_of tree
+        ≡ finished (After (tree_of term)) (level_with (option_map tree_of either) None 0) (levels_of outer.items)) }
+    ensures memory { IsErr result
+        → keeps_finished (After (tree_of term)) (level_with (option_map tree_of either) None 0) (levels_of outer.items)
+        ≡ true }
 {
     if !outer.is_empty() {
         return Ok(None);

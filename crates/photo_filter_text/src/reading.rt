@@ -27,7 +27,8 @@ pub fn read(alloc: Global, text: &str) -> Result<FilterTree, FilterFault>
     ensures fault { IfErr result (IsFault (tokens_of text.now)) }
 
     // What is a filter within the limits is read, unless memory is refused.
-    ensures accepted { (tree : Tree) → IsFilter (tokens_of text.now) tree → MatchResult result (λ found. tree_of found ≡ tree) (λ fault. fault ≡ NoMemory) }
+    ensures accepted { (tree : Tree) → IsFilter (tokens_of text.now) tree
+        → MatchResult result (λ found. tree_of found ≡ tree) (λ fault. fault ≡ NoMemory) }
 {
     let count = count_tokens(text);
     if count == 0 {

@@ -29,7 +29,8 @@ pub fn words_tell_authors_apart()
 
 /// Two vectors that denote the same versions are equal, and `==` says whether they are.
 pub fn vectors_are_one()
-    ensures one { (bounds others : List Bound) → is_vector bounds ≡ true → is_vector others ≡ true → ((v : Version) → denotes bounds v ≡ denotes others v) → bounds ≡ others }
+    ensures one { (bounds others : List Bound) → is_vector bounds ≡ true → is_vector others ≡ true
+        → ((v : Version) → denotes bounds v ≡ denotes others v) → bounds ≡ others }
     ensures equality { (bounds others : List Bound) → (⟦<crate::Vector as PartialEq>⟧.eq bounds others ≡ true) ↔ (bounds ≡ others) }
 {}
 

@@ -118,7 +118,8 @@ impl Vector {
     /// The set with the version and all earlier ones of its author. Its only error is want of memory.
     pub fn with(&self, version: Version) -> Result<Vector, AllocError>
         ensures value { IfOk result (λ r. r ≡ raised (version.author, version.number) self.now) }
-        ensures union { IfOk result (λ r. (v : Version) → denotes r v ≡ (denotes ((version.author, version.number) ∷ []) v || denotes self.now v)) }
+        ensures union { IfOk result
+            (λ r. (v : Version) → denotes r v ≡ (denotes ((version.author, version.number) ∷ []) v || denotes self.now v)) }
         ensures vector { IfOk result (λ r. is_vector r ≡ true) }
     {
         let entries = self.entries();
@@ -158,7 +159,9 @@ impl Vector {
 impl PartialEq for Vector {
     ghost eq = { same_bounds };
 
-    ghost laws = { lists_per (laws.and_per (laws.partial_equiv_from_equiv (laws.on_equiv (λ (b : Bound). author_word b.0) laws.nat_eq_equiv)) (laws.partial_equiv_from_equiv (laws.on_equiv (λ (b : Bound). b.1) laws.nat_eq_equiv))) };
+    ghost laws = { lists_per (laws.and_per
+        (laws.partial_equiv_from_equiv (laws.on_equiv (λ (b : Bound). author_word b.0) laws.nat_eq_equiv))
+        (laws.partial_equiv_from_equiv (laws.on_equiv (λ (b : Bound). b.1) laws.nat_eq_equiv))) };
 
     fn eq(&self, other: &Vector) -> bool {
         self.entries() == other.entries()
@@ -166,7 +169,9 @@ impl PartialEq for Vector {
 }
 
 impl Eq for Vector {
-    ghost laws = { lists_equiv (laws.and_equiv (laws.on_equiv (λ (b : Bound). author_word b.0) laws.nat_eq_equiv) (laws.on_equiv (λ (b : Bound). b.1) laws.nat_eq_equiv)) };
+    ghost laws = { lists_equiv (laws.and_equiv
+        (laws.on_equiv (λ (b : Bound). author_word b.0) laws.nat_eq_equiv)
+        (laws.on_equiv (λ (b : Bound). b.1) laws.nat_eq_equiv)) };
 }
 
 #[cfg(test)]
