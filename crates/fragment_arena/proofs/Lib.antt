@@ -4,3 +4,5 @@ pub mod Memory
 pub mod BlockLayout
 pub mod RowLemmas
 pub mod RunLemmas
+pub mod WrittenLemmas
+mod StretchLemmas

@@ -1,5 +1,6 @@
--- A run of rows of another arena, placed row by row.
+-- A run of rows of another arena, placed stretch by stretch.
 use Rattle.std.proofs.Common.{◌≡◌, ℕ, zero, suc, ◌+◌, ◌-◌, ◌<◌, ◌≤◌, List, [], ◌∷◌, ◌++◌, length, take, drop, get_or, sym, ap, ◌∙◌, arith, append-nil, append_assoc}
+use Rattle.std.proofs.Math.Seq.{take-add, drop-nil}
 use Rattle.fragment_arena.specs.Arena.{run, words_in}
 
 pub run-next : (rows : List (List ℕ)) (from to : ℕ) → from < to → to ≤ length rows → run rows from to ≡ get_or rows from [] ∷ run rows (from + 1) to
@@ -17,22 +18,43 @@ run-next (x ∷ xs) (suc f) (suc t) lt le =
 pub run-none : (rows : List (List ℕ)) (to : ℕ) → run rows to to ≡ []
 run-none rows to = let none : to - to ≡ 0 = omega arith in ap (λ k. take k (drop to rows)) none
 
+pub drop-drop : {A : Type 0} (n m : ℕ) (xs : List A) → drop n (drop m xs) ≡ drop (m + n) xs
+drop-drop n zero xs = let same : n ≡ 0 + n = omega arith in ap (λ k. drop k xs) same
+drop-drop n (suc m) [] = drop-nil n ∙ sym (drop-nil (suc m + n))
+drop-drop n (suc m) (x ∷ xs) = let same : suc (m + n) ≡ suc m + n = omega arith in drop-drop n m xs ∙ ap (λ k. drop k (x ∷ xs)) same
+
+pub run-split : (rows : List (List ℕ)) (from mid to : ℕ) → from ≤ mid → mid ≤ to → run rows from to ≡ run rows from mid ++ run rows mid to
+run-split rows from mid to low high =
+    let all : to - from ≡ (mid - from) + (to - mid) = omega (arith, low, high) in
+    let rest : from + (mid - from) ≡ mid = omega (arith, low) in
+    ap (λ n. take n (drop from rows)) all ∙ take-add (mid - from) (to - mid) (drop from rows)
+    ∙ ap (λ rs. run rows from mid ++ take (to - mid) rs) (drop-drop (mid - from) from rows ∙ ap (λ n. drop n rows) rest)
+
+words-append : (xs ys : List (List ℕ)) → words_in (xs ++ ys) ≡ words_in xs + words_in ys
+words-append [] ys = omega arith
+words-append (x ∷ xs) ys = let rest = words-append xs ys in omega (arith, rest)
+
+pub run-less : (rows : List (List ℕ)) (from mid to : ℕ) → from ≤ mid → mid ≤ to → words_in (run rows from mid) ≤ words_in (run rows from to)
+run-less rows from mid to low high =
+    let all : words_in (run rows from to) ≡ words_in (run rows from mid) + words_in (run rows mid to) = ap words_in (run-split rows from mid to low high) ∙ words-append (run rows from mid) (run rows mid to) in
+    omega (arith, all)
+
 -- rows were placed up to this place of a run, and words and slots for them were taken out of what is reserved
 pub record IsPlaced (rows : List (List ℕ)) (from to place : ℕ) (old new : List (List ℕ)) (old_words new_words old_slots new_slots : ℕ) : Type 0 where
   pub placed : new ++ run rows place to ≡ old ++ run rows from to
   pub words : new_words + words_in (run rows from to) ≡ old_words + words_in (run rows place to)
   pub slots : new_slots + (place - from) ≡ old_slots
 
-pub one-placed : (rows : List (List ℕ)) (from to place : ℕ) (old new next : List (List ℕ)) (row : List ℕ) (old_words new_words next_words old_slots new_slots next_slots : ℕ)
-    → from ≤ place → place < to → to ≤ length rows → row ≡ get_or rows place [] → next ≡ new ++ row ∷ [] → next_words + length row ≡ new_words → next_slots + 1 ≡ new_slots
-    → IsPlaced rows from to place old new old_words new_words old_slots new_slots → IsPlaced rows from to (place + 1) old next old_words next_words old_slots next_slots
-one-placed rows from to place old new next row old_words new_words next_words old_slots new_slots next_slots low lt le is added words slots h =
-    let all : run rows place to ≡ row ∷ run rows (place + 1) to = run-next rows place to lt le ∙ ap (λ r. r ∷ run rows (place + 1) to) (sym is) in
-    let count : words_in (run rows place to) ≡ length row + words_in (run rows (place + 1) to) = ap words_in all in
+pub many-placed : (rows : List (List ℕ)) (from to place end : ℕ) (old new next : List (List ℕ)) (old_words new_words next_words old_slots new_slots next_slots : ℕ)
+    → from ≤ place → place < end → end ≤ to → next ≡ new ++ run rows place end → next_words + words_in (run rows place end) ≡ new_words → next_slots + (end - place) ≡ new_slots
+    → IsPlaced rows from to place old new old_words new_words old_slots new_slots → IsPlaced rows from to end old next old_words next_words old_slots next_slots
+many-placed rows from to place end old new next old_words new_words next_words old_slots new_slots next_slots low lt le added words slots h =
+    let all : run rows place to ≡ run rows place end ++ run rows end to = run-split rows place end to (omega (arith, lt)) le in
+    let count : words_in (run rows place to) ≡ words_in (run rows place end) + words_in (run rows end to) = ap words_in all ∙ words-append (run rows place end) (run rows end to) in
     record {
-      placed = (λ i. added i ++ run rows (place + 1) to) ∙ append_assoc new (row ∷ []) (run rows (place + 1) to) ∙ ap (λ rs. new ++ rs) (sym all) ∙ h.placed;
+      placed = (λ i. added i ++ run rows end to) ∙ append_assoc new (run rows place end) (run rows end to) ∙ ap (λ rs. new ++ rs) (sym all) ∙ h.placed;
       words = omega (arith, count, words, h.words);
-      slots = omega (arith, slots, h.slots, low);
+      slots = omega (arith, slots, h.slots, low, lt);
     }
 
 pub all-placed : (rows : List (List ℕ)) (from to place : ℕ) (old new : List (List ℕ)) (old_words new_words old_slots new_slots : ℕ) → place ≡ to
@@ -43,12 +65,10 @@ all-placed rows from to place old new old_words new_words old_slots new_slots en
     let count : words_in (run rows place to) ≡ 0 = ap words_in none in
     (sym (append-nil new) ∙ ap (λ rs. new ++ rs) (sym none) ∙ h.placed, omega (arith, count, h.words), omega (arith, h.slots, end))
 
--- there is room for the next row of a run
-pub room-next : (rows : List (List ℕ)) (from to place : ℕ) (old new : List (List ℕ)) (row : List ℕ) (old_words new_words old_slots new_slots : ℕ) → from ≤ place → place < to → to ≤ length rows → row ≡ get_or rows place []
-    → words_in (run rows from to) ≤ old_words → to - from ≤ old_slots → IsPlaced rows from to place old new old_words new_words old_slots new_slots → (length row ≤ new_words) × (0 < new_slots)
-room-next rows from to place old new row old_words new_words old_slots new_slots low lt le is words slots h =
-    let count : words_in (run rows place to) ≡ length row + words_in (run rows (place + 1) to) = ap words_in (run-next rows place to lt le) ∙ ap (λ r. length r + words_in (run rows (place + 1) to)) (sym is) in
-    (omega (arith, count, words, h.words), omega (arith, slots, h.slots, low, lt))
+-- there is room for the rest of a run
+pub room-left : (rows : List (List ℕ)) (from to place : ℕ) (old new : List (List ℕ)) (old_words new_words old_slots new_slots : ℕ) → from ≤ place → place < to
+    → words_in (run rows from to) ≤ old_words → to - from ≤ old_slots → IsPlaced rows from to place old new old_words new_words old_slots new_slots → (words_in (run rows place to) ≤ new_words) × (to - place ≤ new_slots)
+room-left rows from to place old new old_words new_words old_slots new_slots low lt words slots h = (omega (arith, words, h.words), omega (arith, slots, h.slots, low, lt))
 
 pub words-next : (rows : List (List ℕ)) (place to : ℕ) (row : List ℕ) → place < to → to ≤ length rows → row ≡ get_or rows place [] → words_in (run rows place to) ≡ length row + words_in (run rows (place + 1) to)
 words-next rows place to row lt le is = ap words_in (run-next rows place to lt le) ∙ ap (λ r. length r + words_in (run rows (place + 1) to)) (sym is)

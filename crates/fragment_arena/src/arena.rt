@@ -25,13 +25,16 @@ impl Model for FragmentArena {
 
     ghost coded = { arena_code };
 
-    ghost view = { λ a. record { rows = rows_of a.blocks.items a.spans.items; reserved_words = a.reserved_words; reserved_rows = a.reserved_rows } };
+    ghost view = { λ a.
+        record { rows = rows_of a.blocks.items a.spans.items; reserved_words = a.reserved_words; reserved_rows = a.reserved_rows } };
 
-    ghost invariant = { λ a. IsArena a.blocks.items a.spans.items (vec_len a.spans) (vec_capacity a.spans) a.reserved_words a.reserved_rows };
+    ghost invariant = { λ a.
+        IsArena a.blocks.items a.spans.items (vec_len a.spans) (vec_capacity a.spans) a.reserved_words a.reserved_rows };
 }
 
 impl FragmentArena {
-    ghost use Rattle.std.specs.Prelude.{◌≡◌, ℕ, ◌+◌, ◌-◌, ◌^◌, ◌<◌, ◌≤◌, max, [], ◌∷◌, ◌++◌, length, get_or, set, IfOk, IfSome, OnOk, OnErr};
+    ghost use Rattle.std.specs.Prelude.{◌≡◌, ◌+◌, ◌-◌, ◌^◌, ◌<◌, ◌≤◌, [], ◌∷◌, ◌++◌};
+    ghost use Rattle.std.specs.Prelude.{ℕ, max, length, get_or, set, IfOk, IfSome, OnOk, OnErr};
     ghost use Rattle.fragment_arena.specs.Arena.{arena, run, words_in};
 
     /// No rows, and nothing reserved. Takes no memory.
@@ -49,7 +52,8 @@ impl FragmentArena {
 
     /// Reserves room for at least so many words and so many rows. A refusal changes nothing.
     pub fn reserve(&mut self, words: usize, rows: usize) -> Result<(), AllocError>
-        ensures reserved { OnOk result (self.new ≡ arena self.old.rows (max self.old.reserved_words words) (max self.old.reserved_rows rows)) }
+        ensures reserved { OnOk result
+            (self.new ≡ arena self.old.rows (max self.old.reserved_words words) (max self.old.reserved_rows rows)) }
         ensures refused { OnErr result (self.new ≡ self.old) }
     {
         let words = self.reserved_words.max(words);
@@ -102,9 +106,37 @@ impl FragmentArena {
         ensures words { self.new.reserved_words + words_in (run other.now.rows from to) ≡ self.old.reserved_words }
         ensures slots { self.new.reserved_rows + (to - from) ≡ self.old.reserved_rows }
     {
-        for place in from..to {
-            self.place_reserved(other.row(Row::at(place)));
+        let mut place = from;
+        while place < to {
+            place = self.place_stretch(other, place, to);
         }
+    }
+
+    /// Those of them that lie side by side, from the first on, in one piece; gives the place behind the last of these.
+    fn place_stretch(&mut self, other: &FragmentArena, from: usize, to: usize) -> usize
+        requires order { from < to }
+        requires there { to ≤ length other.now.rows }
+        requires words { words_in (run other.now.rows from to) ≤ self.old.reserved_words }
+        requires slots { to - from ≤ self.old.reserved_rows }
+        ensures further { from < result }
+        ensures there { result ≤ to }
+        ensures rows { self.new.rows ≡ self.old.rows ++ run other.now.rows from result }
+        ensures words { self.new.reserved_words + words_in (run other.now.rows from result) ≡ self.old.reserved_words }
+        ensures slots { self.new.reserved_rows + (result - from) ≡ self.old.reserved_rows }
+    {
+        let (end, words) = blocks::stretch(&other.spans, from, to);
+        self.reserved_words -= words;
+        self.reserved_rows -= end - from;
+        blocks::lay_stretch(
+            &mut self.blocks,
+            &mut self.spans,
+            &other.blocks,
+            &other.spans,
+            from,
+            end,
+            words,
+        );
+        end
     }
 
     /// How many words the rows from one place up to another have together; none where that is no `usize`.
@@ -132,7 +164,9 @@ impl FragmentArena {
     pub fn put(&mut self, row: Row, i: usize, word: u64)
         requires row { row < length self.old.rows }
         requires inside { i < length (get_or self.old.rows row []) }
-        ensures { self.new ≡ arena (set self.old.rows row (set (get_or self.old.rows row []) i word)) self.old.reserved_words self.old.reserved_rows }
+        ensures { self.new
+            ≡ arena (set self.old.rows row (set (get_or self.old.rows row []) i word)) self.old.reserved_words
+            self.old.reserved_rows }
     {
         blocks::put(&mut self.blocks, &self.spans, row.place(), i, word);
     }

@@ -1,8 +1,9 @@
 use Rattle.std.proofs.Common.{rules, ◌≡◌, ◌+◌, ◌≤◌, length, sym, subst, ap, ◌∙◌, arith}
 use Rattle.std.specs.Vec.{vec_len, vec_capacity}
 use Rattle.fragment_arena.specs.Arena.{arena}
-use Rattle.fragment_arena.specs.Rows.{rows_of, AreWithin, AreApart, AreCopies}
+use Rattle.fragment_arena.specs.Rows.{rows_of, AreWithin, AreApart, AreCopies, spanned}
 use Rattle.fragment_arena.proofs.RowLemmas.{copies-rows, copies-within}
+use Rattle.fragment_arena.proofs.WrittenLemmas.{written-copies}
 use Rattle.fragment_arena.proofs.arena.FragmentArena.try_clone.Goals as goal
 
 pub invariant_of-result : goal.invariant_of-result
@@ -13,6 +14,7 @@ invariant_of-result c =
     record {
       within = subst (AreWithin c.in_ok-blocks.blocks.items) (sym spans) (copies-within c.self.inside.blocks.items c.in_ok-blocks.blocks.items c.self.inside.spans.items copies c.self.invariant.within);
       apart = subst AreApart (sym spans) c.self.invariant.apart;
+      no_more = written-copies c.self.inside.blocks.items c.in_ok-blocks.blocks.items copies ∙ c.self.invariant.no_more ∙ ap spanned (sym spans);
       words_are_there = omega arith;
       rows_are_there = fits;
       block_is_there = λ some. absurd (omega (arith, some));
