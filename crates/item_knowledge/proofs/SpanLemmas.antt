@@ -1,16 +1,16 @@
 -- A union in which neighbours of the left that stay as they are come in one run.
-use Rattle.std.proofs.Common.{◌≡◌, ℕ, zero, suc, ◌+◌, ◌-◌, ◌*◌, ◌<◌, ◌≤◌, Bool, true, false, max, List, [], ◌∷◌, ◌++◌, length, get_or, take, drop, refl, sym, subst, ap, ◌∙◌, inl, inr, arith, append_assoc, append-nil}
-use Rattle.std.proofs.lemmas.Bool.{and_parts, cases_Bool}
+use Rattle.std.proofs.Common.{◌≡◌, ℕ, zero, suc, ◌+◌, ◌-◌, ◌*◌, ◌<◌, ◌≤◌, true, false, max, List, [], ◌∷◌, ◌++◌, length, get_or, take, drop, refl, sym, subst, ap, ◌∙◌, inl, inr, arith, append_assoc, append-nil}
+use Rattle.std.proofs.lemmas.Bool.{cases_Bool}
 use Rattle.fragment_arena.specs.Arena.{run}
-use Rattle.item_knowledge.specs.Entries.{Entry, same_entries, joined, leq, bound, is_vector}
+use Rattle.item_knowledge.specs.Entries.{Entry, same_entries, bound}
 use Rattle.item_knowledge.specs.Fragments.{Fragment, are_groups, is_normal, entries_at}
-use Rattle.item_knowledge.specs.Gathering.{IsSide, paired, pair_vector, gathered, indexed, star_first}
+use Rattle.item_knowledge.specs.Gathering.{IsSide, pair_vector, gathered, indexed, star_first}
 use Rattle.item_knowledge.specs.Rows.{pairs, flat, IsRow, AreRows, fragments_of, rows_of}
-use Rattle.item_knowledge.specs.Carrying.{HasCome, Stays}
+use Rattle.item_knowledge.specs.Carrying.{HasCome, AddsNothing, Stays}
 use Rattle.item_knowledge.proofs.FragmentLemmas.{entries_decide, groups_parts, normal_parts, leq_at}
 use Rattle.item_knowledge.proofs.RowLemmas.{pairs_flat, flat_row, entries_read, rows_read}
 use Rattle.item_knowledge.proofs.JoinLemmas.{joined_bound, joined_left, leq_from}
-use Rattle.item_knowledge.proofs.UnionLemmas.{Above, above}
+use Rattle.item_knowledge.proofs.UnionLemmas.{above}
 use Rattle.item_knowledge.proofs.CarryLemmas.{IsCarried, none_carried, star_carried, one_carried, all_carried}
 
 -- A run with one more row
@@ -65,6 +65,12 @@ untold fs gs xs ys star a left right joint same l =
     let up = leq_at (entries_at fs 0) (entries_at fs a) w v.above in
     omega (arith, both, up)))
 
+-- what adds nothing leaves the vector of the left
+stays_joint : (fs gs : List Fragment) (xs ys : List (ℕ × ℕ)) (star : List Entry) (a b : ℕ) → IsSide fs xs → IsSide gs ys → star ≡ pair_vector fs gs (0, 0) → star ≡ entries_at fs 0 → a < length fs → b < length gs → AddsNothing fs gs a b
+    → pair_vector fs gs (a, b) ≡ entries_at fs a
+stays_joint fs gs xs ys star a b left right joint same l m (inl e) = ap (λ k. pair_vector fs gs (a, k)) e ∙ untold fs gs xs ys star a left right joint same l
+stays_joint fs gs xs ys star a b left right joint same l m (inr within) = joined_left (entries_at fs a) (entries_at gs b) (above fs xs a left l).vector (above gs ys b right m).vector within
+
 -- What is written and what is still to be written
 
 -- up to a place of the table, where a run of the left's fragments is still to be written
@@ -113,11 +119,11 @@ pub stays_under_way : (left right : List (List ℕ)) (xs ys : List (ℕ × ℕ))
     → AreRows left → IsSide (fragments_of left) xs → IsSide (fragments_of right) ys → is_normal (fragments_of left) ≡ true
     → pairs star ≡ pair_vector (fragments_of left) (fragments_of right) (0, 0) → pairs star ≡ entries_at (fragments_of left) 0
     → ((j k : ℕ) → j < k → k < length changed → get_or changed j [] ≡ get_or changed k [] → ⊥)
-    → drop i table ≡ r ∷ drop (i + 1) table → Stays left changed last r.0 r.1.0 r.1.1 → r.1.0 < length (fragments_of left)
+    → drop i table ≡ r ∷ drop (i + 1) table → Stays left right changed last r.0 r.1.0 r.1.1 → r.1.0 < length (fragments_of left) → r.1.1 < length (fragments_of right)
     → start ≤ r.1.0 → new ++ run left (2 * start) (2 * r.1.0) ≡ out ++ run left (2 * from) (2 * (last + 1)) → more ≡ numbers ++ (r.0, length numbers + 1) ∷ []
     → IsUnderWay left (pair_vector (fragments_of left) (fragments_of right)) star changed table out numbers i from last next all every
     → IsUnderWay left (pair_vector (fragments_of left) (fragments_of right)) star changed table new more (i + 1) start r.1.0 next all every
-stays_under_way left right xs ys star changed table out new numbers more i from start last next all every r rows left_side right_side normal joint same once d s there begins written pushed h =
+stays_under_way left right xs ys star changed table out new numbers more i from start last next all every r rows left_side right_side normal joint same once d s there other_there begins written pushed h =
     let fs = fragments_of left in
     let gs = fragments_of right in
     let a = r.1.0 in
@@ -125,7 +131,7 @@ stays_under_way left right xs ys star changed table out new numbers more i from 
     let is : row ≡ flat (entries_at fs a) = entries_read left a rows there in
     let is_row : IsRow row = subst IsRow (sym is) (flat_row (entries_at fs a)) in
     let entries : pairs row ≡ entries_at fs a = ap pairs is ∙ pairs_flat (entries_at fs a) in
-    let joint_a : pair_vector fs gs r.1 ≡ entries_at fs a = ap (λ b. pair_vector fs gs (a, b)) s.untold ∙ untold fs gs xs ys (pairs star) a left_side right_side joint same there in
+    let joint_a : pair_vector fs gs r.1 ≡ entries_at fs a = stays_joint fs gs xs ys (pairs star) a r.1.1 left_side right_side joint same there other_there s.nothing in
     let positive : 0 < a = omega (arith, s.later) in
     let other : same_entries (pair_vector fs gs (0, 0)) (pair_vector fs gs r.1) ≡ false = (λ j. same_entries ((sym joint ∙ same) j) (joint_a j)) ∙ differs fs a normal positive there in
     let inside : 2 * a + 1 < length left = omega (arith, rows_read left rows, there) in

@@ -1,7 +1,7 @@
 -- Machinery of the proofs: a union in which fragments of the left are carried over, and other rows are among those changed.
-use Rattle.std.specs.Prelude.{◌≡◌, ℕ, ◌+◌, ◌*◌, ◌<◌, ◌≤◌, ◌⊎◌, List, [], ◌∷◌, length, get_or, drop}
+use Rattle.std.specs.Prelude.{◌≡◌, ℕ, true, ◌+◌, ◌*◌, ◌<◌, ◌≤◌, ◌⊎◌, List, [], ◌∷◌, length, get_or, drop}
 use Rattle.item_knowledge.specs.declared.places.Places.{Places}
-use Rattle.item_knowledge.specs.Entries.{Entry}
+use Rattle.item_knowledge.specs.Entries.{Entry, leq}
 use Rattle.item_knowledge.specs.Fragments.{Fragment, entries_at}
 use Rattle.item_knowledge.specs.Places.{IsPlaced, is_new}
 use Rattle.item_knowledge.specs.Rows.{pairs, flat, fragments_of}
@@ -35,11 +35,15 @@ HasCome fs changed row last next last_then next_then =
     ((last < last_then) × (next_then ≡ next) × (last_then < length fs) × (entries_at fs last_then ≡ pairs row) × is_new changed row)
     ⊎ ((last_then ≡ last) × (next_then ≡ next + 1) × (next < length changed) × (get_or changed next [] ≡ row))
 
+-- the right's fragment b is the star, or has nothing beyond the left's a
+abbrev pub AddsNothing : List Fragment → List Fragment → ℕ → ℕ → Type 0
+AddsNothing fs gs a b = (b ≡ 0) ⊎ (leq (entries_at gs b) (entries_at fs a) ≡ true)
+
 -- the left's fragment a comes as it stands: it lies behind those that came, it has this picture alone, of which the right
--- says nothing, and no changed row equals its own
-pub record Stays (rows changed : List (List ℕ)) (last picture a b : ℕ) : Type 0 where
+-- has nothing more, and no changed row equals its own
+pub record Stays (rows others changed : List (List ℕ)) (last picture a b : ℕ) : Type 0 where
   pub later : last < a
-  pub untold : b ≡ 0
+  pub nothing : AddsNothing (fragments_of rows) (fragments_of others) a b
   pub alone : get_or rows (2 * a) [] ≡ picture ∷ []
   pub new : is_new changed (get_or rows (2 * a + 1) [])
 

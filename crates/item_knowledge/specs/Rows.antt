@@ -1,4 +1,5 @@
--- Rows of words: of each fragment its pictures, then its entries with two words each, author and number.
+-- Machinery of the proofs: rows of words, of each fragment its pictures, then its entries with two words each, author and
+-- number.
 use Rattle.std.specs.Prelude.{◌≡◌, ℕ, List, [], ◌∷◌}
 use Rattle.item_knowledge.specs.Entries.{Entry}
 use Rattle.item_knowledge.specs.Fragments.{Fragment}

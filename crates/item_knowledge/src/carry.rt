@@ -2,18 +2,23 @@
 // that stays is compared with the few that changed, in place of all. Neighbours that stay are written as one run.
 ghost use Rattle.std.specs.Prelude.{◌≡◌, ◌+◌, ◌*◌, ◌<◌, ◌≤◌, [], ◌∷◌, ◌++◌, true, length, IfOk, IfSome, OnOk};
 ghost use Rattle.fragment_arena.specs.Arena.{run};
-ghost use Rattle.item_knowledge.specs.Carrying.{IsFound, HasCome, Stays};
+ghost use Rattle.item_knowledge.specs.Carrying.{IsFound, HasCome, AddsNothing, Stays};
+ghost use Rattle.item_knowledge.specs.Entries.{is_vector};
 ghost use Rattle.item_knowledge.specs.Fragments.{is_normal, entries_at};
 ghost use Rattle.item_knowledge.specs.Gathering.{IsSide, paired, pair_vector, groups_of, index_of, star_first};
 ghost use Rattle.item_knowledge.specs.Rows.{pairs, IsRow, AreRows, fragments_of, rows_of};
+ghost use Rattle.item_knowledge.specs.Tables.{in_order};
 
 use crate::gather::same_row;
 use crate::paired::paired as paired_numbers;
 use crate::places::Places;
 use crate::rows::Rows;
-use crate::search::number_near;
+use crate::search::{is_leq, number_near};
 use crate::union::{begin, entries, pair};
 use std::alloc::{AllocError, Global};
+
+/// A changed row has about so many words.
+const WORDS: usize = 8;
 
 /// Where a row comes from that no earlier one equals: it is that of the left's fragment `a`, which lies behind those that
 /// came, and no changed row equals it; or it is the next changed row. Gives how far both came then.
@@ -47,20 +52,49 @@ fn origin(
     Some((a, next))
 }
 
+/// Whether the right's fragment `b` has nothing beyond the left's `a`, where the right's star has nothing beyond the left's.
+fn adds_nothing(left: &Rows, right: &Rows, a: usize, b: usize) -> bool
+    requires left_rows { AreRows left.now }
+    requires right_rows { AreRows right.now }
+    requires a { a < length (fragments_of left.now) }
+    requires b { b < length (fragments_of right.now) }
+    requires order { in_order (entries_at (fragments_of left.now) a) ≡ true }
+    requires vector { is_vector (entries_at (fragments_of right.now) b) ≡ true }
+    ensures { result ≡ true → AddsNothing (fragments_of left.now) (fragments_of right.now) a b }
+{
+    if b == 0 {
+        return true;
+    }
+    is_leq(entries(right, b), entries(left, a))
+}
+
 /// Whether the left's fragment `a` comes as it stands: it lies behind those that came, it has this picture alone, the right
-/// says nothing of that, and no changed row equals its own.
-fn stays(left: &Rows, changed: &Places, last: usize, picture: u64, a: usize, b: usize) -> bool
+/// has nothing beyond it of that, and no changed row equals its own.
+fn stays(
+    left: &Rows,
+    right: &Rows,
+    changed: &Places,
+    last: usize,
+    picture: u64,
+    a: usize,
+    b: usize,
+) -> bool
     requires left { AreRows left.now }
+    requires right { AreRows right.now }
     requires changed { IsFound changed.now }
     requires a { a < length (fragments_of left.now) }
-    ensures { result ≡ true → Stays left.now changed.now.rows last picture a b }
+    requires b { b < length (fragments_of right.now) }
+    requires order { in_order (entries_at (fragments_of left.now) a) ≡ true }
+    requires vector { is_vector (entries_at (fragments_of right.now) b) ≡ true }
+    ensures { result ≡ true → Stays left.now right.now changed.now.rows last picture a b }
 {
-    if b != 0 {
-        return false;
-    }
     if a <= last {
         return false;
     }
+    if !adds_nothing(left, right, a, b) {
+        return false;
+    }
+    // For its fact alone: the rows are fewer than 2 ^ 63.
     let _count = left.rows();
     let pictures = left.row(2 * a);
     if pictures.len() != 1 {
@@ -93,6 +127,7 @@ fn run_to(
     if a == to {
         return Ok(from);
     }
+    // For its fact alone: the rows are fewer than 2 ^ 63.
     let _count = left.rows();
     out.place_run(left, 2 * from, 2 * to)?;
     Ok(a)
@@ -112,6 +147,7 @@ fn place_behind(
     requires there { to ≤ length (fragments_of left.now) }
     ensures { OnOk result (out.new ≡ ((out.old ++ run left.now (2 * from) (2 * to)) ++ (picture ∷ []) ∷ []) ++ row.now ∷ []) }
 {
+    // For its fact alone: the rows are fewer than 2 ^ 63.
     let _count = left.rows();
     out.place_run(left, 2 * from, 2 * to)?;
     out.place(&[picture])?;
@@ -156,13 +192,14 @@ fn carry(
     ensures rows { IfOk result (λ whole. whole ≡ true → out.new ≡ rows_of (star_first (pairs star.now) (groups_of (fragments_of left.now) (fragments_of right.now) left_index.now right_index.now))) }
     ensures index { IfOk result (λ whole. whole ≡ true → index.new.items ≡ index_of (fragments_of left.now) (fragments_of right.now) left_index.now right_index.now) }
 {
+    // For its fact alone: the rows are fewer than 2 ^ 63.
     let _count = left.rows();
     let mut from = 1;
     let mut last = 0;
     let mut next = 0;
     for i in 0..table.len() {
         let (picture, (a, b)) = table[i];
-        if stays(left, changed, last, picture, a, b) {
+        if stays(left, right, changed, last, picture, a, b) {
             from = run_to(left, from, last + 1, a, out)?;
             add_number(picture, index)?;
             last = a;
@@ -185,16 +222,26 @@ fn carry(
     Ok(true)
 }
 
+/// How many changed rows are looked for before a union gathers all rows anew: as many as the right lists where these are
+/// few, and otherwise few of the left's.
+fn most_changes(left_count: usize, right_count: usize) -> usize {
+    if right_count <= left_count / 2 {
+        return right_count;
+    }
+    left_count / 32 + 16
+}
+
 /// Finds the rows of the union that are not those of the left at the same picture, in the order of their pictures, each
-/// once.
+/// once; whether they are so many at most.
 fn find_changes(
     left: &Rows,
     left_index: &[(u64, usize)],
     right: &Rows,
     right_index: &[(u64, usize)],
+    most: usize,
     room: &mut Vec<u64>,
     changed: &mut Places,
-) -> Result<(), AllocError>
+) -> Result<bool, AllocError>
     requires left_rows { AreRows left.now }
     requires right_rows { AreRows right.now }
     requires left { IsSide (fragments_of left.now) left_index.now }
@@ -207,21 +254,24 @@ fn find_changes(
         let (picture, b) = right_index[i];
         let (a, near) = number_near(left_index, hint, picture);
         hint = near;
-        let row = pair(left, left_index, right, right_index, a, b, room)?;
-        if same_row(entries(left, a), row) {
+        if adds_nothing(left, right, a, b) {
             continue;
         }
+        let row = pair(left, left_index, right, right_index, a, b, room)?;
         let bucket = changed.bucket(row);
         if changed.find(bucket, row).is_some() {
             continue;
         }
+        if changed.rows.rows() >= most {
+            return Ok(false);
+        }
         changed.push(bucket, row)?;
     }
-    Ok(())
+    Ok(true)
 }
 
-/// Writes the normal form of what either side denotes, and gives its index, where the right lists few pictures and has
-/// nothing beyond the left's star, and no two pictures have the same vector then. It gives none where that isn't so, and
+/// Writes the normal form of what either side denotes, and gives its index, where the right has nothing beyond the left's
+/// star and changes few rows, and no two pictures have the same vector before or then. It gives none where that isn't so, and
 /// what was written is of no use.
 pub(crate) fn carried(
     alloc: Global,
@@ -242,22 +292,27 @@ pub(crate) fn carried(
     ensures rows { IfOk result (λ found. IfSome found (λ _. out.new ≡ rows_of (star_first (pairs star.now) (groups_of (fragments_of left.now) (fragments_of right.now) left_index.now right_index.now)))) }
     ensures index { IfOk result (λ found. IfSome found (λ index. index.items ≡ index_of (fragments_of left.now) (fragments_of right.now) left_index.now right_index.now)) }
 {
-    if right_index.len() > left_index.len() / 2 {
+    let most = most_changes(left_index.len(), right_index.len());
+    if left.rows() / 2 <= left_index.len() {
+        // Some fragment has several pictures.
         return Ok(None);
     }
     if !same_row(star, entries(left, 0)) {
         return Ok(None);
     }
     let mut room = Vec::new(alloc);
-    let mut changed = Places::new(alloc, right_index.len(), right.words())?;
-    find_changes(
+    let mut changed = Places::new(alloc, most, right.words().min(most.saturating_mul(WORDS)))?;
+    if !find_changes(
         left,
         left_index,
         right,
         right_index,
+        most,
         &mut room,
         &mut changed,
-    )?;
+    )? {
+        return Ok(None);
+    }
     let table = paired_numbers(alloc, left_index, right_index)?;
     let mut index = Vec::with_capacity(alloc, table.len())?;
     begin(

@@ -112,6 +112,7 @@ impl Knowledge {
         requires { k < length self.now }
         ensures { result ≡ get_or self.now k spec.nothing }
     {
+        // For its fact alone: the rows are fewer than 2 ^ 63.
         let _count = self.live.rows();
         Fragment::new(self.live.row(2 * k), entries(&self.live, k))
     }
@@ -168,6 +169,7 @@ impl Knowledge {
         ensures star { (a : Author) → star_bound self.new a ≡ (if same_author version.author a then version.number else star_bound self.old a) }
         ensures learned { (p : ℕ) (v : versions.Version) → 0 < p → spec.knows self.new p v ≡ (spec.knows self.old p v || versions.same_version version v) }
     {
+        // For its fact alone: the index is that of the fragments.
         let _index = &self.index;
         let author = version.author().word();
         let n = u64::from(version.n());
@@ -242,6 +244,7 @@ impl Knowledge {
         ensures star { (a : Author) → star_bound self.new a ≡ (if same_author version.author a then version.number else star_bound self.old a) }
         ensures learned { (p : ℕ) (v : versions.Version) → 0 < p → spec.knows self.new p v ≡ (spec.knows self.old p v || versions.same_version version v) }
     {
+        // For its fact alone: the index is that of the fragments.
         let _index = &self.index;
         self.take_next(version);
     }

@@ -31,6 +31,7 @@ pub(crate) fn raise(rows: &mut Rows, author: u64, n: u64)
     let mut near = 0;
     for k in 0..rows.rows() / 2 {
         let row = entries(rows, k);
+        // For its fact alone: how long the row is.
         let _count = row.len();
         let place = place_near(row, near, author);
         rows.put(2 * k + 1, 2 * place + 1, n);

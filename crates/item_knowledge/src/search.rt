@@ -63,6 +63,7 @@ pub(crate) fn entry_at(row: &[u64], i: usize) -> (u64, u64)
     requires place { i < length (pairs row.now) }
     ensures { result ≡ get_or (pairs row.now) i (0, 0) }
 {
+    // For its fact alone: how long the row is.
     let _count = row.len();
     (row[2 * i], row[2 * i + 1])
 }

@@ -22,6 +22,7 @@ pub(crate) fn entries(rows: &Rows, number: usize) -> &[u64]
     ensures row { IsRow result.now }
     ensures entries { pairs result.now ≡ entries_at (fragments_of rows.now) number }
 {
+    // For its fact alone: the rows are fewer than 2 ^ 63.
     let _count = rows.rows();
     rows.row(2 * number + 1)
 }

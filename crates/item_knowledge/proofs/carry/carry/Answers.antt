@@ -5,7 +5,7 @@ use Rattle.item_knowledge.specs.Carrying.{HasCome, Stays}
 use Rattle.item_knowledge.specs.Rows.{fragments_of}
 use Rattle.item_knowledge.proofs.MergeLemmas.{drop_next}
 use Rattle.item_knowledge.proofs.RowLemmas.{rows_read}
-use Rattle.item_knowledge.proofs.UnionLemmas.{row_range}
+use Rattle.item_knowledge.proofs.UnionLemmas.{above, entries_order, row_range}
 use Rattle.item_knowledge.proofs.CarryLemmas.{row_any}
 use Rattle.item_knowledge.proofs.SpanLemmas.{none_under_way, star_under_way, stays_under_way, one_under_way, come_below}
 use Rattle.item_knowledge.proofs.carry.carry.Goals as goal
@@ -16,6 +16,29 @@ stays-requires-clause-a c =
     let less : c.loop-i.i < length c.args.table.now = c.loop-i-test.true in
     (row_range (fragments_of c.args.left.now) (fragments_of c.args.right.now) c.args.left_index.now c.args.right_index.now c.args.table.now c.loop-i.i r
     c.requires.left c.requires.right c.requires.table less (row_any c.args.table.now c.loop-i.i (0, (0, 0)) r less)).0
+
+pub stays-requires-clause-b : goal.stays-requires-clause-b
+stays-requires-clause-b c =
+    let r : ℕ × (ℕ × ℕ) = get_or c.args.table.now c.loop-i.i (0, (0, 0)) in
+    let less : c.loop-i.i < length c.args.table.now = c.loop-i-test.true in
+    (row_range (fragments_of c.args.left.now) (fragments_of c.args.right.now) c.args.left_index.now c.args.right_index.now c.args.table.now c.loop-i.i r
+    c.requires.left c.requires.right c.requires.table less (row_any c.args.table.now c.loop-i.i (0, (0, 0)) r less)).1
+
+pub stays-requires-clause-order : goal.stays-requires-clause-order
+stays-requires-clause-order c =
+    let r : ℕ × (ℕ × ℕ) = get_or c.args.table.now c.loop-i.i (0, (0, 0)) in
+    let less : c.loop-i.i < length c.args.table.now = c.loop-i-test.true in
+    entries_order (fragments_of c.args.left.now) c.args.left_index.now r.1.0 c.requires.left
+    (row_range (fragments_of c.args.left.now) (fragments_of c.args.right.now) c.args.left_index.now c.args.right_index.now c.args.table.now c.loop-i.i r
+    c.requires.left c.requires.right c.requires.table less (row_any c.args.table.now c.loop-i.i (0, (0, 0)) r less)).0
+
+pub stays-requires-clause-vector : goal.stays-requires-clause-vector
+stays-requires-clause-vector c =
+    let r : ℕ × (ℕ × ℕ) = get_or c.args.table.now c.loop-i.i (0, (0, 0)) in
+    let less : c.loop-i.i < length c.args.table.now = c.loop-i-test.true in
+    (above (fragments_of c.args.right.now) c.args.right_index.now r.1.1 c.requires.right
+    (row_range (fragments_of c.args.left.now) (fragments_of c.args.right.now) c.args.left_index.now c.args.right_index.now c.args.table.now c.loop-i.i r
+    c.requires.left c.requires.right c.requires.table less (row_any c.args.table.now c.loop-i.i (0, (0, 0)) r less)).1).vector
 
 pub run_to-requires-clause-there : goal.run_to-requires-clause-there
 run_to-requires-clause-there c =
@@ -55,13 +78,13 @@ loop-i-preserved-then-stays c =
     let r : ℕ × (ℕ × ℕ) = get_or c.args.table.now c.loop-i.i (0, (0, 0)) in
     let less : c.loop-i.i < length c.args.table.now = c.loop-i-test.true in
     let there = (row_range (fragments_of c.args.left.now) (fragments_of c.args.right.now) c.args.left_index.now c.args.right_index.now c.args.table.now c.loop-i.i r
-    c.requires.left c.requires.right c.requires.table less (row_any c.args.table.now c.loop-i.i (0, (0, 0)) r less)).0 in
-    let stays : Stays c.args.left.now c.args.changed.now.rows c.loop-i.last r.0 r.1.0 r.1.1 = c.stays.ensures c.if-stays.true in
+    c.requires.left c.requires.right c.requires.table less (row_any c.args.table.now c.loop-i.i (0, (0, 0)) r less)) in
+    let stays : Stays c.args.left.now c.args.right.now c.args.changed.now.rows c.loop-i.last r.0 r.1.0 r.1.1 = c.stays.ensures c.if-stays.true in
     stays_under_way c.args.left.now c.args.right.now c.args.left_index.now c.args.right_index.now c.args.star.now c.args.changed.now.rows c.args.table.now c.loop-i.out c.run_to.new.out
     c.loop-i.index.items c.add_number.new.index.items c.loop-i.i c.loop-i.from c.in_ok-from.from c.loop-i.last c.loop-i.next
     (groups_of (fragments_of c.args.left.now) (fragments_of c.args.right.now) c.args.left_index.now c.args.right_index.now) (index_of (fragments_of c.args.left.now) (fragments_of c.args.right.now) c.args.left_index.now c.args.right_index.now)
     r c.requires.left_rows c.requires.left c.requires.right c.requires.normal c.requires.star c.requires.left_star c.requires.changed.once (drop_next c.args.table.now c.loop-i.i (0, (0, 0)) less)
-    stays there c.in_ok-from.ensures.order c.in_ok-from.ensures.run (search rules) c.loop-i.invariant
+    stays there.0 there.1 c.in_ok-from.ensures.order c.in_ok-from.ensures.run (search rules) c.loop-i.invariant
 
 pub loop-i-preserved-then-same_row : goal.loop-i-preserved-then-same_row
 loop-i-preserved-then-same_row c =

@@ -23,7 +23,7 @@ returns c h =
     sym c.entries-row.ensures.row ∙ ap flat c.entries-row.ensures.entries ∙ sym (entries_read c.args.left.now c.args.a c.requires.left c.requires.a) in
     record {
       later = c.if-a-last.false;
-      untold = search rules;
+      nothing = c.adds_nothing.ensures (search rules);
       alone = sym c.row-pictures.ensures ∙ one_word c.row-pictures.result.now c.args.picture (search rules) (search rules);
       new = subst (is_new c.args.changed.now.rows) row new;
     }
