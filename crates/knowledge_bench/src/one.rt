@@ -90,6 +90,10 @@ impl Growing {
         })
     }
 
+    pub fn knowledge(&self) -> &Knowledge {
+        &self.knowledge
+    }
+
     /// The next version of the later author is learned.
     pub fn learn_own(&mut self) -> Result<(), AllocError> {
         if self.learned < u32::MAX {

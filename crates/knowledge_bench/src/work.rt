@@ -22,6 +22,8 @@ pub fn of_line(alloc: Global, line: &str) -> Result<u64, AllocError> {
     match kind {
         "learn_own" => learn_own(alloc, n, times),
         "learn" => learn(alloc, n, times),
+        "learn_few" => learn_few(alloc, n, times),
+        "learn_risen" => learn_risen(alloc, n, times),
         "knows" => knows(alloc, n, times),
         "knows_in_order" => knows_in_order(&of_table(alloc, 1, n)?, n, times),
         "knows_of_star" => knows_of_star(alloc, n, times),
@@ -71,6 +73,42 @@ fn learn(alloc: Global, n: u32, times: u32) -> Result<u64, AllocError> {
         let vector = Vector::new(alloc).with(version(LATER, i + 1))?;
         for one in &mut all {
             one.learn(picture, &vector)?;
+        }
+    }
+    Ok(all.len() as u64)
+}
+
+/// Each of some knowledges learns all of another one, which learns of one picture one version more in each of so many rounds.
+fn learn_few(alloc: Global, n: u32, times: u32) -> Result<u64, AllocError> {
+    let Some(picture) = PicNo::new(n / 2 + 1) else {
+        return Ok(0);
+    };
+    let mut other = of_table(alloc, 1, n)?;
+    let mut all = Vec::new(alloc);
+    for _ in 0..PICTURES / n.max(1) {
+        all.push(of_table(alloc, 1, n)?)?;
+    }
+    for i in 0..times {
+        let vector = Vector::new(alloc).with(version(LATER, i + 1))?;
+        other.learn(picture, &vector)?;
+        for one in &mut all {
+            one.learn_all(&other)?;
+        }
+    }
+    Ok(all.len() as u64)
+}
+
+/// The same, where the other one learns the next version of an author of every picture.
+fn learn_risen(alloc: Global, n: u32, times: u32) -> Result<u64, AllocError> {
+    let mut other = Growing::new(alloc, n)?;
+    let mut all = Vec::new(alloc);
+    for _ in 0..PICTURES / n.max(1) {
+        all.push(of_table(alloc, 1, n)?)?;
+    }
+    for _ in 0..times {
+        other.learn_own()?;
+        for one in &mut all {
+            one.learn_all(other.knowledge())?;
         }
     }
     Ok(all.len() as u64)
