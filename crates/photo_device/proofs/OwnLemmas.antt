@@ -3,7 +3,7 @@ use Rattle.std.proofs.Common.{◌≡◌, ℕ, ◌+◌, ◌<◌, Bool, true, fals
 use Rattle.std.specs.Prelude.{filter}
 use Rattle.std.specs.List.{AllByRecursion}
 use Rattle.std.proofs.lemmas.Bool.{leb-true, and_parts, lt-ltb, le-ltb, le-leb, lt-leb, eq-eqb, ne_eqb, cases_eq, cases_lt, cases_Bool}
-use Rattle.std.proofs.Math.Bool.{or-true}
+use Rattle.std.proofs.Math.Bool.{or-true, or-false}
 use Rattle.photo_record.specs.declared.record.Record.{Record}
 use Rattle.photo_version.specs.Author.{Author, same_author}
 use Rattle.photo_version.specs.Version.{Version, version, same_version}
@@ -95,6 +95,13 @@ none_up_to n =
       | inl none ↦ rw (lt-leb 1 n none) refl
       | inr some ↦ rw (le-leb 1 n some, lt-leb n 0 (omega arith)) refl
     ]
+
+-- of a device one version was made: what a star up to 1 knows, and what was told of that version
+pub up_to_one : (b : Bool) (n : ℕ) → (((b && (leb 1 n && leb n 1)) || false) || false) ≡ ((false || (b && eqb 1 n)) || false)
+up_to_one false n = refl
+up_to_one true n =
+    let one : (false || eqb 1 n) ≡ (leb 1 n && leb n 1) = ap (λ x. x || eqb 1 n) (none_up_to n) ∙ one_more n 0 in
+    or-false ((leb 1 n && leb n 1) || false) ∙ ap (λ x. x || false) (sym one)
 
 -- what a device knows of its own versions, before it makes the next one
 

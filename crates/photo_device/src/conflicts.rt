@@ -81,7 +81,8 @@ fn run_end(all: &[Listed], from: usize) -> usize
     ensures more { from < result }
     ensures within { result ≤ length all.now }
     ensures same { (k : ℕ) (d : ℕ × Version) → from ≤ k → k < result → (slice_index_or all.now k d).0 ≡ (slice_index_or all.now from d).0 }
-    ensures end { (d : ℕ × Version) → result < length all.now → (slice_index_or all.now result d).0 ≡ (slice_index_or all.now from d).0 → ⊥ }
+    ensures end { (d : ℕ × Version) → result < length all.now
+        → (slice_index_or all.now result d).0 ≡ (slice_index_or all.now from d).0 → ⊥ }
 {
     let picture = all[from].0;
     for to in from + 1..all.len() {

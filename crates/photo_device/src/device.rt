@@ -33,9 +33,11 @@ impl Model for Device {
 
     ghost coded = { kept_code };
 
-    ghost view = { λ d. record { author = d.author; tree = d.filter; counter = d.counter; store = d.store; out = d.out; knowledge = d.knowledge } };
+    ghost view = { λ d.
+        record { author = d.author; tree = d.filter; counter = d.counter; store = d.store; out = d.out; knowledge = d.knowledge } };
 
-    ghost invariant = { λ d. IsDevice (record { author = d.author; tree = d.filter; counter = d.counter; store = d.store; out = d.out; knowledge = d.knowledge }) };
+    ghost invariant = { λ d. IsDevice
+        (record { author = d.author; tree = d.filter; counter = d.counter; store = d.store; out = d.out; knowledge = d.knowledge }) };
 }
 
 impl Device {
@@ -48,7 +50,8 @@ impl Device {
     ghost use Rattle.photo_device.specs.Taking.{HasTaken, MayTake};
     ghost use Rattle.photo_version.specs.Version as versions;
     ghost use Rattle.item_knowledge.specs.Fragments.{knows};
-    ghost use Rattle.photo_device.specs.Device.{ModelDevice, Shows, opening, made, next_version, new_place, is_held, changed, holds, without_waiting, narrowed, moved};
+    ghost use Rattle.photo_device.specs.Device.{ModelDevice, Shows, holds, is_held, opening};
+    ghost use Rattle.photo_device.specs.Device.{made, next_version, new_place, changed, without_waiting, narrowed, moved};
     ghost use Rattle.photo_device.specs.Conflicts.{conflicts_of};
     ghost use Rattle.photo_record.specs.declared.record.Record.TheVariants.{Removed};
     ghost use Rattle.photo_device.specs.declared.fault.ChangeFault.TheVariants.{NotHeld};
@@ -202,7 +205,8 @@ impl Device {
     /// memory.
     pub fn held_of(&self, picture: PicNo, version: Version) -> Option<&Held>
         ensures held { option_copied result ≡ find_version_of picture version (self.now.store ++ self.now.out) }
-        ensures shows { (m : ModelDevice) → Shows self.now m → option_map entry_of (option_copied result) ≡ find_entry picture version (holds m) }
+        ensures shows { (m : ModelDevice) → Shows self.now m
+            → option_map entry_of (option_copied result) ≡ find_entry picture version (holds m) }
     {
         match self.store.of(picture, version) {
             Some(held) => Some(held),
@@ -257,13 +261,15 @@ impl Device {
         requires earlier { AllByRecursion HasEarlier change.takes }
         requires known { AllByRecursion (IsKnownBy change.gain) change.takes }
         requires own { (p n : ℕ) → 0 < p → knows change.gain p (versions.version self.old.author n) ≡ true → n ≤ self.old.counter }
-        ensures shows { OnOk result ((m : ModelDevice) → Shows self.old m → Shows self.new (changed change.drops (entries_of change.takes) (knows change.gain) m)) }
+        ensures shows { OnOk result ((m : ModelDevice) → Shows self.old m
+            → Shows self.new (changed change.drops (entries_of change.takes) (knows change.gain) m)) }
         ensures err { OnErr result (self.new ≡ self.old) }
         ensures returned { IfErr result (λ e. e.0 ≡ change) }
     {
         if let Err(refused) = self.take(change.takes.as_slice(), &change.gain) {
             return Err((change, refused));
         }
+        // For their facts alone: what is held is in order.
         let _store = self.store.blocks();
         let _out = self.out.blocks();
         self.store.drop_versions(change.drops.as_slice());
@@ -278,6 +284,7 @@ impl Device {
         ensures ok { OnOk result (HasTaken takes.now gain.now self.old self.new) }
         ensures err { OnErr result (self.new ≡ self.old) }
     {
+        // For its fact alone: a knowledge is in normal form.
         let _fragments = gain.fragments();
         take_all(&self.filter, takes, &mut self.store, &mut self.out)?;
         if let Err(refused) = self.knowledge.learn_all(gain) {

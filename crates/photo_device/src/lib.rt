@@ -10,6 +10,7 @@ mod held;
 mod held_set;
 mod item_list;
 pub mod laws;
+mod marks;
 mod place;
 mod range;
 mod sought;

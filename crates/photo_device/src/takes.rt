@@ -58,7 +58,8 @@ fn put_side(
 ) -> Result<(), AllocError>
     requires { AreNewTo set.old takes.now }
     ensures ok { OnOk result (set.new ≡ with_side matched wanted.now takes.now set.old) }
-    ensures err { OnErr result ((q : spec.Held → Bool) → AllByRecursion (λ h. q h ≡ false) takes.now → filter q set.new ≡ filter q set.old) }
+    ensures err { OnErr result
+        ((q : spec.Held → Bool) → AllByRecursion (λ h. q h ≡ false) takes.now → filter q set.new ≡ filter q set.old) }
 {
     for held in takes {
         if !is_wanted(wanted, matched, held) {
