@@ -7,7 +7,7 @@ use Rattle.block_list.specs.Blocks.{joined}
 use Rattle.photo_device.specs.declared.held.Held.{Held}
 use Rattle.photo_device.specs.Held.{are_in_order}
 use Rattle.photo_device.proofs.Order.{rises, in_order-filter}
-use Rattle.photo_pull.specs.Found.{is_above, has_above}
+use Rattle.photo_pull.specs.OnHeld.{is_above, has_above}
 
 not_above : (x h : Held) → (x.picture ≡ h.picture → ⊥) → is_above x h ≡ false
 not_above x h ne = rw (ne_eqb x.picture h.picture ne) refl
@@ -61,7 +61,7 @@ one_from xs k w h l is = rw add-one (at_place xs k l is)
     at_place (x ∷ xs) zero l is = ap (λ y. is_above y h || has_above xs h) (sym is)
     at_place (x ∷ xs) (suc k) l is = at_place xs k (omega arith) is
 
--- where nothing is new, and no keeping is followed, nothing goes
+-- where nothing is new, and no keeping is followed, nothing is dropped
 pub none_over : (followed : Bool) (test : Held → Bool) (stored waiting xs : List Held) → followed ≡ false → (eqb (length stored) 0 && eqb (length waiting) 0) ≡ true
     → filter (λ h. (has_above stored h || has_above waiting h) || (followed && test h)) xs ≡ []
 none_over followed test stored waiting xs unfollowed none =

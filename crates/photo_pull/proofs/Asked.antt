@@ -12,7 +12,7 @@ use Rattle.photo_device.specs.declared.held.Held.{Held}
 use Rattle.photo_device.specs.Held.{find_version, count_of}
 use Rattle.photo_device.specs.Device.{Kept}
 use Rattle.photo_device.specs.Own.{HasEarlier, IsKnownBy}
-use Rattle.photo_pull.specs.Found.{is_new, tells, new_waiting, learns, goes, is_over, gone_stored, gone_waiting, is_kept, is_heard, new_stored, heard, kept, versions, gains}
+use Rattle.photo_pull.specs.OnHeld.{is_new, tells, new_waiting, learns, is_dropped, is_over, dropped_stored, dropped_waiting, is_selected, is_heard, new_stored, heard, taken_stored, versions, gains}
 use Rattle.photo_pull.proofs.Members.{In, in_left, in_right, in_any, all_at, all_append, all_map, all_passing, all_of, found_some, found_in}
 use Rattle.photo_pull.proofs.Ready.{AreReady, known_target, known_source, found_source, same_itself, same_is}
 use Rattle.photo_pull.proofs.Told.{or_intro, or_other, one}
@@ -37,21 +37,21 @@ module _ (t s : Kept) (ready : AreReady t s) where
   from_heard : (w : Held) → In w (heard t s) → In w s.store × (is_new t.knowledge w ≡ true)
   from_heard w here = in_filtered (is_new t.knowledge) w s.store ((in_filtered (is_heard t s) w (new_stored t s) here).0)
 
-  from_kept : (w : Held) → In w (kept t s) → In w (heard t s)
-  from_kept w here = (in_filtered (is_kept t.tree) w (heard t s) here).0
+  from_taken : (w : Held) → In w (taken_stored t s) → In w (heard t s)
+  from_taken w here = (in_filtered (is_selected t.tree) w (heard t s) here).0
 
   from_waiting : (w : Held) → In w (new_waiting t s) → In w s.out × (is_new t.knowledge w ≡ true)
   from_waiting w here = in_filtered (is_new t.knowledge) w s.out here
 
   all_takes : (P : Held → Type 0) → ((w : Held) → In w (heard t s) → P w) → ((w : Held) → In w (new_waiting t s) → P w) → AllByRecursion P (takes t s)
-  all_takes P of_heard of_waiting = all_append P (kept t s) (new_waiting t s) (all_of P (kept t s) (λ w here. of_heard w (from_kept w here))) (all_of P (new_waiting t s) of_waiting)
+  all_takes P of_heard of_waiting = all_append P (taken_stored t s) (new_waiting t s) (all_of P (taken_stored t s) (λ w here. of_heard w (from_taken w here))) (all_of P (new_waiting t s) of_waiting)
 
   pub drops_held : AllByRecursion (λ v. is_some (find_version v (t.store ++ t.out)) ≡ true) (drops t s)
   drops_held =
       let P : Version → Type 0 = λ v. is_some (find_version v (t.store ++ t.out)) ≡ true in
-      all_append P (versions (gone_stored t s)) (versions (gone_waiting t s))
-      (all_map P (λ (h : Held). h.version) (gone_stored t s) (all_passing (λ h. P h.version) (goes t s) t.store (λ h here _. found_some (λ (g : Held). same_version g.version h.version) h (t.store ++ t.out) (in_left h t.store t.out here) (same_itself h.version))))
-      (all_map P (λ (h : Held). h.version) (gone_waiting t s) (all_passing (λ h. P h.version) (is_over t s) t.out (λ h here _. found_some (λ (g : Held). same_version g.version h.version) h (t.store ++ t.out) (in_right h t.store t.out here) (same_itself h.version))))
+      all_append P (versions (dropped_stored t s)) (versions (dropped_waiting t s))
+      (all_map P (λ (h : Held). h.version) (dropped_stored t s) (all_passing (λ h. P h.version) (is_dropped t s) t.store (λ h here _. found_some (λ (g : Held). same_version g.version h.version) h (t.store ++ t.out) (in_left h t.store t.out here) (same_itself h.version))))
+      (all_map P (λ (h : Held). h.version) (dropped_waiting t s) (all_passing (λ h. P h.version) (is_over t s) t.out (λ h here _. found_some (λ (g : Held). same_version g.version h.version) h (t.store ++ t.out) (in_right h t.store t.out here) (same_itself h.version))))
 
   pub handed_held : AllByRecursion (λ v. is_some (find_version v s.out) ≡ true) (versions (new_waiting t s))
   handed_held =
@@ -80,11 +80,11 @@ module _ (t s : Kept) (ready : AreReady t s) where
   pub takes_distinct : (v : Version) → count_of v (takes t s) ≤ 1
   takes_distinct v =
       let q : Held → Bool = λ h. same_version h.version v in
-      let one = few (is_kept t.tree) q (heard t s) in
+      let one = few (is_selected t.tree) q (heard t s) in
       let two = few (is_heard t s) q (new_stored t s) in
       let three = few (is_new t.knowledge) q s.store in
       let four = few (is_new t.knowledge) q s.out in
-      let sum = ap (length {A = Held}) (filter-append q (kept t s) (new_waiting t s)) ∙ length-append (filter q (kept t s)) (filter q (new_waiting t s)) in
+      let sum = ap (length {A = Held}) (filter-append q (taken_stored t s) (new_waiting t s)) ∙ length-append (filter q (taken_stored t s)) (filter q (new_waiting t s)) in
       let all = ap (length {A = Held}) (filter-append q s.store s.out) ∙ length-append (filter q s.store) (filter q s.out) in
       let once = ready.source.once v in
       omega arith

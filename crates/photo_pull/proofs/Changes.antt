@@ -1,5 +1,6 @@
 -- What two devices show after a pull.
 use Rattle.std.proofs.Common.{◌≡◌, ℕ, suc, ◌+◌, ◌<◌, Bool, true, false, not, ◌&&◌, ◌||◌, List, [], ◌∷◌, ◌++◌, length, refl, sym, ap, ◌∙◌, arith}
+use Rattle.std.proofs.Math.Bool.{or-false}
 use Rattle.std.specs.Prelude.{filter}
 use Rattle.photo_version.specs.Version.{Version, Versions}
 use Rattle.item_knowledge.specs.Fragments.{knows}
@@ -10,11 +11,11 @@ use Rattle.photo_device.specs.Held.{entry_of, entries_of}
 use Rattle.photo_device.specs.Device.{Kept, ModelDevice, Shows, selects, changed, without_waiting}
 use Rattle.photo_pull.specs.declared.counts.PullCounts.{PullCounts}
 use Rattle.photo_pull.specs.Pull.{taken, handed, told, tell, learns_all, pulled, handed_over, counts_of}
-use Rattle.photo_pull.specs.Found.{tells, new_waiting, learns, gone_stored, gone_waiting, heard, kept, versions, gains}
+use Rattle.photo_pull.specs.OnHeld.{tells, new_waiting, learns, dropped_stored, dropped_waiting, heard, taken_stored, versions, gains}
 use Rattle.photo_pull.proofs.Members.{map_both}
 use Rattle.photo_pull.proofs.Ready.{AreReady}
 use Rattle.photo_pull.proofs.Told.{notices, notices_count}
-use Rattle.photo_pull.proofs.Shown.{or_false, taken_shown, handed_shown, noticed_shown, tell_shown, learns_shown, stored_left, waiting_left, handed_left, gone_stored_shown, gone_waiting_shown}
+use Rattle.photo_pull.proofs.Shown.{taken_shown, handed_shown, noticed_shown, tell_shown, learns_shown, stored_left, waiting_left, handed_left, dropped_stored_shown, dropped_waiting_shown}
 
 or_true : (b : Bool) → (b || true) ≡ true
 or_true true = refl
@@ -29,17 +30,17 @@ or_swap false false = refl
 -- what was known of every picture and of this one, and what is learned of both
 regroup : (e o l every of told : Bool) → (e || (o || ((l && (every || of)) || told))) ≡ ((e || (l && every)) || (o || (told || (l && of))))
 regroup true o l every of told = refl
-regroup false o false every of told = ap (λ b. o || b) (sym (or_false told))
+regroup false o false every of told = ap (λ b. o || b) (sym (or-false told))
 regroup false o true true of told = or_true o
 regroup false o true false of told = ap (λ b. o || b) (or_swap of told)
 
 -- what a device is to give up, and to take
 
 abbrev pub drops : Kept → Kept → List Version
-drops t s = versions (gone_stored t s) ++ versions (gone_waiting t s)
+drops t s = versions (dropped_stored t s) ++ versions (dropped_waiting t s)
 
 abbrev pub takes : Kept → Kept → List Held
-takes t s = kept t s ++ new_waiting t s
+takes t s = taken_stored t s ++ new_waiting t s
 
 filter_all : (es : List Entry) → filter (λ e. true) es ≡ es
 filter_all [] = refl
@@ -49,12 +50,12 @@ entries_length : (hs : List Held) → length (entries_of hs) ≡ length hs
 entries_length [] = refl
 entries_length (h ∷ hs) = ap (λ n. suc n) (entries_length hs)
 
--- nothing comes and nothing goes, and what the source may teach is known
+-- nothing is taken, handed over or dropped, and what the source may teach is known
 pub record IsNothing (t s : Kept) : Type 0 where
   pub heard_none : heard t s ≡ []
   pub waiting_none : new_waiting t s ≡ []
-  pub stored_stays : gone_stored t s ≡ []
-  pub waiting_stays : gone_waiting t s ≡ []
+  pub stored_stays : dropped_stored t s ≡ []
+  pub waiting_stays : dropped_waiting t s ≡ []
   pub known : learns t s ≡ true → (p : ℕ) (v : Version) → 0 < p → knows s.knowledge p v ≡ true → knows t.knowledge p v ≡ true
 
 module _ (t s : Kept) (ready : AreReady t s) where
@@ -70,7 +71,7 @@ module _ (t s : Kept) (ready : AreReady t s) where
         store = shows.store ∙ sym ((λ i. put_entries (filter (selects m) (entries_of (no_takes i))) (without (no_drops i) m.store)) ∙ filter_all m.store);
         out = shows.out ∙ sym ((λ i. put_entries (filter (λ e. not (selects m e)) (entries_of (no_takes i))) (without (no_drops i) m.out)) ∙ filter_all m.out);
         known = λ p above v.
-            let nothing : gains t s p v ≡ (learns t s && knows s.knowledge p v) = (λ i. (learns t s && knows s.knowledge p v) || (tells (none.heard_none i) p v || tells (none.waiting_none i) p v)) ∙ or_false (learns t s && knows s.knowledge p v) in
+            let nothing : gains t s p v ≡ (learns t s && knows s.knowledge p v) = (λ i. (learns t s && knows s.knowledge p v) || (tells (none.heard_none i) p v || tells (none.waiting_none i) p v)) ∙ or-false (learns t s && knows s.knowledge p v) in
             let before = shows.known p above v in
             before ∙ sym (
             or_assoc (m.every v) (m.of p v) (gains t s p v)
@@ -95,7 +96,7 @@ module _ (t s : Kept) (ready : AreReady t s) where
     pub shows_pulled : (after : Kept) (gain : ℕ → Versions) → ((p : ℕ) (v : Version) → 0 < p → gain p v ≡ gains t s p v) → ((m : ModelDevice) → Shows t m → Shows after (changed (drops t s) (entries_of (takes t s)) gain m)) → Shows after (pulled tm sm)
     shows_pulled after gain gain_is clause =
         let shows = clause tm shows_t in
-        let new : entries_of (takes t s) ≡ taken tm sm ++ handed tm sm = map_both entry_of (kept t s) (new_waiting t s) ∙ sym (λ i. taken_shown t s tm sm ready shows_t shows_s i ++ handed_shown t s tm sm ready shows_t shows_s i) in
+        let new : entries_of (takes t s) ≡ taken tm sm ++ handed tm sm = map_both entry_of (taken_stored t s) (new_waiting t s) ∙ sym (λ i. taken_shown t s tm sm ready shows_t shows_s i ++ handed_shown t s tm sm ready shows_t shows_s i) in
         record {
           author = shows.author;
           tree = shows.tree;
@@ -134,14 +135,14 @@ module _ (t s : Kept) (ready : AreReady t s) where
       known = shows.known;
     })
 
-    pub counts_are : (counts : PullCounts) → counts.taken ≡ length (kept t s) → counts.handed ≡ length (new_waiting t s) → counts.notices + length (kept t s) ≡ length (heard t s) → counts.dropped ≡ length (gone_stored t s) + length (gone_waiting t s) → counts.learned ≡ learns t s → counts ≡ counts_of tm sm
+    pub counts_are : (counts : PullCounts) → counts.taken ≡ length (taken_stored t s) → counts.handed ≡ length (new_waiting t s) → counts.notices + length (taken_stored t s) ≡ length (heard t s) → counts.dropped ≡ length (dropped_stored t s) + length (dropped_waiting t s) → counts.learned ≡ learns t s → counts ≡ counts_of tm sm
     counts_are counts taken_is handed_is notices_are dropped_is learned_is =
         let all = notices_count t s ready in
         let rest : counts.notices ≡ length (notices t s ready) = omega arith in
         λ i. record {
-          taken = (taken_is ∙ sym (ap length (taken_shown t s tm sm ready shows_t shows_s) ∙ entries_length (kept t s))) i;
+          taken = (taken_is ∙ sym (ap length (taken_shown t s tm sm ready shows_t shows_s) ∙ entries_length (taken_stored t s))) i;
           handed = (handed_is ∙ sym (ap length (handed_shown t s tm sm ready shows_t shows_s) ∙ entries_length (new_waiting t s))) i;
           notices = (rest ∙ sym (ap length (noticed_shown t s tm sm ready shows_t shows_s) ∙ entries_length (notices t s ready))) i;
-          dropped = (dropped_is ∙ sym (λ j. (ap length (gone_stored_shown t s tm sm ready shows_t shows_s) ∙ entries_length (gone_stored t s)) j + (ap length (gone_waiting_shown t s tm sm ready shows_t shows_s) ∙ entries_length (gone_waiting t s)) j)) i;
+          dropped = (dropped_is ∙ sym (λ j. (ap length (dropped_stored_shown t s tm sm ready shows_t shows_s) ∙ entries_length (dropped_stored t s)) j + (ap length (dropped_waiting_shown t s tm sm ready shows_t shows_s) ∙ entries_length (dropped_waiting t s)) j)) i;
           learned = (learned_is ∙ sym (learns_shown t s tm sm ready shows_t shows_s)) i;
         }

@@ -8,7 +8,7 @@ use Rattle.photo_device.specs.declared.held.Held.{Held}
 use Rattle.photo_device.specs.Held.{entries_of}
 use Rattle.photo_device.specs.Device.{Kept, ModelDevice, Shows, changed}
 use Rattle.photo_pull.specs.declared.finding.Finding.{Finding}
-use Rattle.photo_pull.specs.Found.{tells, new_waiting, heard, versions, gains}
+use Rattle.photo_pull.specs.OnHeld.{tells, new_waiting, heard, versions, gains}
 use Rattle.photo_pull.specs.Findings.{IsFound}
 use Rattle.photo_pull.proofs.Ready.{AreReady}
 use Rattle.photo_pull.specs.declared.counts.PullCounts.{PullCounts}
@@ -33,19 +33,19 @@ module _ (t s : Kept) (f : Finding) (found : IsFound t s f) where
       either f.learned (denotes (at [] f.told.items p) v) (knows s.knowledge p v) (tells (heard t s) p v || tells (new_waiting t s) p v) (λ l. found.told.told l p v) (told_is_known t s ready p v)
       ∙ (λ i. (found.learned i && knows s.knowledge p v) || (tells (heard t s) p v || tells (new_waiting t s) p v))
 
-  pub drops_are : versions f.gone.stored.items ++ versions f.gone.waiting.items ≡ drops t s
-  drops_are = λ i. versions (found.gone_stored i) ++ versions (found.gone_waiting i)
+  pub drops_are : versions f.dropped.stored.items ++ versions f.dropped.waiting.items ≡ drops t s
+  drops_are = λ i. versions (found.dropped_stored i) ++ versions (found.dropped_waiting i)
 
-  pub takes_are : f.kept.items ++ f.handed.items ≡ takes t s
-  takes_are = λ i. found.kept i ++ found.handed i
+  pub takes_are : f.taken.items ++ f.handed.items ≡ takes t s
+  takes_are = λ i. found.taken i ++ found.handed i
 
-  pub nothing_found : f.kept.items ≡ [] → f.notices ≡ 0 → f.handed.items ≡ [] → f.gone.stored.items ≡ [] → f.gone.waiting.items ≡ []
+  pub nothing_found : f.taken.items ≡ [] → f.notices ≡ 0 → f.handed.items ≡ [] → f.dropped.stored.items ≡ [] → f.dropped.waiting.items ≡ []
       → (f.learned ≡ true → (p : ℕ) (v : Version) → 0 < p → knows s.knowledge p v ≡ true → knows t.knowledge p v ≡ true) → IsNothing t s
-  nothing_found none no_notice none_handed stored gone known = record {
+  nothing_found none no_notice none_handed stored dropped known = record {
     heard_none = let no_length = ap length none in let all = found.notices in no_element (heard t s) (omega arith);
     waiting_none = sym found.handed ∙ none_handed;
-    stored_stays = sym found.gone_stored ∙ stored;
-    waiting_stays = sym found.gone_waiting ∙ gone;
+    stored_stays = sym found.dropped_stored ∙ stored;
+    waiting_stays = sym found.dropped_waiting ∙ dropped;
     known = λ l. known (found.learned ∙ l);
   }
 
@@ -56,12 +56,12 @@ module _ (t s : Kept) (f : Finding) (found : IsFound t s f) where
       let one = subst (λ l. Shows after (changed l (entries_of ts) gain m)) of_drops (clause m shows) in
       subst (λ l. Shows after (changed (drops t s) (entries_of l) gain m)) of_takes one
 
-  pub counts_found : AreReady t s → (tm sm : ModelDevice) → Shows t tm → Shows s sm → (counts : PullCounts) → counts.taken ≡ length f.kept.items → counts.handed ≡ length f.handed.items
-      → counts.notices ≡ f.notices → counts.dropped ≡ length f.gone.stored.items + length f.gone.waiting.items → counts.learned ≡ f.learned → counts ≡ counts_of tm sm
+  pub counts_found : AreReady t s → (tm sm : ModelDevice) → Shows t tm → Shows s sm → (counts : PullCounts) → counts.taken ≡ length f.taken.items → counts.handed ≡ length f.handed.items
+      → counts.notices ≡ f.notices → counts.dropped ≡ length f.dropped.stored.items + length f.dropped.waiting.items → counts.learned ≡ f.learned → counts ≡ counts_of tm sm
   counts_found ready tm sm shows_t shows_s counts taken handed notices dropped learned =
       counts_are t s ready tm sm shows_t shows_s counts
-      (taken ∙ ap length found.kept)
+      (taken ∙ ap length found.taken)
       (handed ∙ ap length found.handed)
-      ((λ i. notices i + length (sym found.kept i)) ∙ found.notices)
-      (dropped ∙ (λ i. length (found.gone_stored i) + length (found.gone_waiting i)))
+      ((λ i. notices i + length (sym found.taken i)) ∙ found.notices)
+      (dropped ∙ (λ i. length (found.dropped_stored i) + length (found.dropped_waiting i)))
       (learned ∙ found.learned)

@@ -7,7 +7,7 @@ use Rattle.std.proofs.lemmas.Bool.{eq-eqb, ne_eqb, ltb-true, ltb-false, leb-true
 use Rattle.photo_version.specs.Vector.{denotes}
 use Rattle.photo_device.specs.declared.held.Held.{Held}
 use Rattle.photo_device.proofs.Order.{Parts}
-use Rattle.photo_pull.specs.Found.{is_above, has_above, has_below}
+use Rattle.photo_pull.specs.OnHeld.{is_above, has_above, has_below}
 use Rattle.photo_pull.proofs.Members.{any_filter, any_same}
 
 abbrev pub is_of : ℕ → Held → Bool

@@ -1,5 +1,6 @@
 -- What a pull tells and takes, on the model devices that two devices show.
 use Rattle.std.proofs.Common.{◌≡◌, ℕ, Bool, true, false, not, ◌&&◌, ◌||◌, eqb, List, ◌++◌, map, refl, sym, ap, ◌∙◌}
+use Rattle.std.proofs.Math.Bool.{or-false}
 use Rattle.std.specs.Prelude.{filter}
 use Rattle.std.specs.List.{list_any}
 use Rattle.std.proofs.lemmas.Bool.{eq-eqb}
@@ -13,14 +14,10 @@ use Rattle.photo_device.specs.Entry.{Entry, supersedes, superseded_by, is_among,
 use Rattle.photo_device.specs.Held.{entry_of, entries_of}
 use Rattle.photo_device.specs.Device.{Kept, ModelDevice, Shows, holds, knows_entry, selects}
 use Rattle.photo_pull.specs.Pull.{taken, handed, noticed, told, tell, learns_all, is_stale, leaves_store, leaves_out}
-use Rattle.photo_pull.specs.Found.{is_new, is_above, has_above, tells, new_waiting, learns, is_over, is_given_up, goes, gone_stored, gone_waiting, is_kept, heard, kept, versions}
+use Rattle.photo_pull.specs.OnHeld.{is_new, is_above, has_above, tells, new_waiting, learns, is_over, is_given_up, is_dropped, dropped_stored, dropped_waiting, is_selected, heard, taken_stored, versions}
 use Rattle.photo_pull.proofs.Members.{In, in_left, in_right, any_same, filter_alike, any_filter, any_map, filter_mapped, map_both, once_left, once_right}
 use Rattle.photo_pull.proofs.Ready.{AreReady, known_target, known_source, same_picture, same_itself}
-use Rattle.photo_pull.proofs.Told.{is_notice, notices, kept_is, over_is, tells_is, one, and_absorbed}
-
-pub or_false : (b : Bool) → (b || false) ≡ b
-or_false true = refl
-or_false false = refl
+use Rattle.photo_pull.proofs.Told.{is_notice, notices, taken_stored_is, over_is, tells_is, one, and_absorbed}
 
 not_not : (b : Bool) → not (not b) ≡ b
 not_not true = refl
@@ -55,47 +52,47 @@ module _ (t s : Kept) (tm sm : ModelDevice) (ready : AreReady t s) (shows_t : Sh
   new_shown : (w : Held) → In w (s.store ++ s.out) → not (knows_entry tm (entry_of w)) ≡ is_new t.knowledge w
   new_shown w here = ap not (sym (shows_t.known w.picture ((known_source t s ready w here).above) w.version))
 
-  kept_shown : (w : Held) → selects tm (entry_of w) ≡ is_kept t.tree w
-  kept_shown w = ap (λ (tree : Tree). matches tree w.content) (sym shows_t.tree)
+  selected_shown : (w : Held) → selects tm (entry_of w) ≡ is_selected t.tree w
+  selected_shown w = ap (λ (tree : Tree). matches tree w.content) (sym shows_t.tree)
 
   notice_shown : (w : Held) → list_any (supersedes (entry_of w)) (holds tm) ≡ is_notice t w
   notice_shown w =
       ap (λ es. list_any (supersedes (entry_of w)) es) (sym (map_both entry_of t.store t.out ∙ (λ i. shows_t.store i ++ shows_t.out i)))
       ∙ any_map (supersedes (entry_of w)) entry_of (t.store ++ t.out)
 
-  pub taken_shown : taken tm sm ≡ entries_of (kept t s)
+  pub taken_shown : taken tm sm ≡ entries_of (taken_stored t s)
   taken_shown =
-      filter_shown (λ e. not (knows_entry tm e) && selects tm e) (λ w. is_new t.knowledge w && is_kept t.tree w) s.store sm.store shows_s.store (λ w here i. new_shown w (in_left w s.store s.out here) i && kept_shown w i)
-      ∙ ap (map entry_of) (sym (kept_is t s ready))
+      filter_shown (λ e. not (knows_entry tm e) && selects tm e) (λ w. is_new t.knowledge w && is_selected t.tree w) s.store sm.store shows_s.store (λ w here i. new_shown w (in_left w s.store s.out here) i && selected_shown w i)
+      ∙ ap (map entry_of) (sym (taken_stored_is t s ready))
 
   pub handed_shown : handed tm sm ≡ entries_of (new_waiting t s)
   handed_shown = filter_shown (λ e. not (knows_entry tm e)) (is_new t.knowledge) s.out sm.out shows_s.out (λ w here. new_shown w (in_right w s.store s.out here))
 
   pub noticed_shown : noticed tm sm ≡ entries_of (notices t s ready)
   noticed_shown =
-      filter_shown (λ e. not (knows_entry tm e) && (not (selects tm e) && list_any (supersedes e) (holds tm))) (λ w. is_new t.knowledge w && (not (is_kept t.tree w) && is_notice t w)) s.store sm.store shows_s.store
-      (λ w here i. new_shown w (in_left w s.store s.out here) i && (not (kept_shown w i) && notice_shown w i))
+      filter_shown (λ e. not (knows_entry tm e) && (not (selects tm e) && list_any (supersedes e) (holds tm))) (λ w. is_new t.knowledge w && (not (is_selected t.tree w) && is_notice t w)) s.store sm.store shows_s.store
+      (λ w here i. new_shown w (in_left w s.store s.out here) i && (not (selected_shown w i) && notice_shown w i))
 
-  told_shown : told tm sm ≡ entries_of (kept t s ++ new_waiting t s ++ notices t s ready)
+  told_shown : told tm sm ≡ entries_of (taken_stored t s ++ new_waiting t s ++ notices t s ready)
   told_shown =
       (λ i. taken_shown i ++ handed_shown i ++ noticed_shown i)
-      ∙ ap (λ l. l ++ entries_of (notices t s ready)) (sym (map_both entry_of (kept t s) (new_waiting t s)))
-      ∙ sym (map_both entry_of (kept t s ++ new_waiting t s) (notices t s ready))
+      ∙ ap (λ l. l ++ entries_of (notices t s ready)) (sym (map_both entry_of (taken_stored t s) (new_waiting t s)))
+      ∙ sym (map_both entry_of (taken_stored t s ++ new_waiting t s) (notices t s ready))
 
   over_shown : (h : Held) → In h (t.store ++ t.out) → superseded_by (told tm sm) (entry_of h) ≡ is_over t s h
   over_shown h here =
       ap (λ es. superseded_by es (entry_of h)) told_shown
-      ∙ any_map (λ w. supersedes w (entry_of h)) entry_of (kept t s ++ new_waiting t s ++ notices t s ready)
-      ∙ list_any-append (λ w. is_above w h) (kept t s ++ new_waiting t s) (notices t s ready)
-      ∙ ap (λ b. b || has_above (notices t s ready) h) (list_any-append (λ w. is_above w h) (kept t s) (new_waiting t s))
+      ∙ any_map (λ w. supersedes w (entry_of h)) entry_of (taken_stored t s ++ new_waiting t s ++ notices t s ready)
+      ∙ list_any-append (λ w. is_above w h) (taken_stored t s ++ new_waiting t s) (notices t s ready)
+      ∙ ap (λ b. b || has_above (notices t s ready) h) (list_any-append (λ w. is_above w h) (taken_stored t s) (new_waiting t s))
       ∙ over_is t s ready h here
 
   pub tell_shown : (p : ℕ) (v : Version) → tell (told tm sm) p v ≡ (tells (heard t s) p v || tells (new_waiting t s) p v)
   tell_shown p v =
       ap (λ es. tell es p v) told_shown
-      ∙ any_map (λ e. (eqb e.picture p) && (e.history v || same_version e.version v)) entry_of (kept t s ++ new_waiting t s ++ notices t s ready)
-      ∙ list_any-append (one p v) (kept t s ++ new_waiting t s) (notices t s ready)
-      ∙ ap (λ b. b || tells (notices t s ready) p v) (list_any-append (one p v) (kept t s) (new_waiting t s))
+      ∙ any_map (λ e. (eqb e.picture p) && (e.history v || same_version e.version v)) entry_of (taken_stored t s ++ new_waiting t s ++ notices t s ready)
+      ∙ list_any-append (one p v) (taken_stored t s ++ new_waiting t s) (notices t s ready)
+      ∙ ap (λ b. b || tells (notices t s ready) p v) (list_any-append (one p v) (taken_stored t s) (new_waiting t s))
       ∙ tells_is t s ready p v
 
   pub learns_shown : learns_all tm sm ≡ learns t s
@@ -111,38 +108,38 @@ module _ (t s : Kept) (tm sm : ModelDevice) (ready : AreReady t s) (shows_t : Sh
       eq-eqb g.picture h.picture (same_picture t s ready h g there (in_left g s.store s.out in_s) same)))) in
       λ i. learns_shown i && (known i && not (among i))
 
-  pub goes_shown : (h : Held) → In h t.store → leaves_store tm sm (entry_of h) ≡ goes t s h
-  goes_shown h here = λ i. over_shown h (in_left h t.store t.out here) i || stale_shown h here i
+  pub is_dropped_shown : (h : Held) → In h t.store → leaves_store tm sm (entry_of h) ≡ is_dropped t s h
+  is_dropped_shown h here = λ i. over_shown h (in_left h t.store t.out here) i || stale_shown h here i
 
   pub leaves_shown : (h : Held) → In h t.out → leaves_out tm sm (entry_of h) ≡ is_over t s h
   leaves_shown h here = over_shown h (in_right h t.store t.out here)
 
-  -- giving up the versions of what goes leaves what doesn't go
+  -- giving up the versions of what is dropped leaves what isn't
 
   abbrev drops : List Version
-  drops = versions (gone_stored t s) ++ versions (gone_waiting t s)
+  drops = versions (dropped_stored t s) ++ versions (dropped_waiting t s)
 
-  drops_have : (h : Held) → list_any (λ v. same_version v h.version) drops ≡ (list_any (goes t s) (filter (same_as h) t.store) || list_any (is_over t s) (filter (same_as h) t.out))
+  drops_have : (h : Held) → list_any (λ v. same_version v h.version) drops ≡ (list_any (is_dropped t s) (filter (same_as h) t.store) || list_any (is_over t s) (filter (same_as h) t.out))
   unfolding same_as
   drops_have h =
-      list_any-append (λ v. same_version v h.version) (versions (gone_stored t s)) (versions (gone_waiting t s))
-      ∙ (λ i. (any_map (λ v. same_version v h.version) (λ (g : Held). g.version) (gone_stored t s) ∙ any_swap (same_as h) (goes t s) t.store) i
-      || (any_map (λ v. same_version v h.version) (λ (g : Held). g.version) (gone_waiting t s) ∙ any_swap (same_as h) (is_over t s) t.out) i)
+      list_any-append (λ v. same_version v h.version) (versions (dropped_stored t s)) (versions (dropped_waiting t s))
+      ∙ (λ i. (any_map (λ v. same_version v h.version) (λ (g : Held). g.version) (dropped_stored t s) ∙ any_swap (same_as h) (is_dropped t s) t.store) i
+      || (any_map (λ v. same_version v h.version) (λ (g : Held). g.version) (dropped_waiting t s) ∙ any_swap (same_as h) (is_over t s) t.out) i)
 
-  drops_stored : (h : Held) → In h t.store → list_any (λ v. same_version v h.version) drops ≡ goes t s h
+  drops_stored : (h : Held) → In h t.store → list_any (λ v. same_version v h.version) drops ≡ is_dropped t s h
   unfolding same_as
   drops_stored h here =
       let once = once_left (same_as h) h t.store t.out here (same_itself h.version) (ready.target.once h.version) in
-      drops_have h ∙ (λ i. list_any (goes t s) (once.0 i) || list_any (is_over t s) (once.1 i)) ∙ or_false (goes t s h || false) ∙ or_false (goes t s h)
+      drops_have h ∙ (λ i. list_any (is_dropped t s) (once.0 i) || list_any (is_over t s) (once.1 i)) ∙ or-false (is_dropped t s h || false) ∙ or-false (is_dropped t s h)
 
   drops_waiting : (h : Held) → In h t.out → list_any (λ v. same_version v h.version) drops ≡ is_over t s h
   unfolding same_as
   drops_waiting h here =
       let once = once_right (same_as h) h t.store t.out here (same_itself h.version) (ready.target.once h.version) in
-      drops_have h ∙ (λ i. list_any (goes t s) (once.0 i) || list_any (is_over t s) (once.1 i)) ∙ or_false (is_over t s h)
+      drops_have h ∙ (λ i. list_any (is_dropped t s) (once.0 i) || list_any (is_over t s) (once.1 i)) ∙ or-false (is_over t s h)
 
   pub stored_left : without drops tm.store ≡ filter (λ e. not (leaves_store tm sm e)) tm.store
-  stored_left = filters_agree (λ e. not (list_any (λ v. same_version v e.version) drops)) (λ e. not (leaves_store tm sm e)) t.store tm.store shows_t.store (λ h here. ap not (drops_stored h here ∙ sym (goes_shown h here)))
+  stored_left = filters_agree (λ e. not (list_any (λ v. same_version v e.version) drops)) (λ e. not (leaves_store tm sm e)) t.store tm.store shows_t.store (λ h here. ap not (drops_stored h here ∙ sym (is_dropped_shown h here)))
 
   pub waiting_left : without drops tm.out ≡ filter (λ e. not (leaves_out tm sm e)) tm.out
   waiting_left = filters_agree (λ e. not (list_any (λ v. same_version v e.version) drops)) (λ e. not (leaves_out tm sm e)) t.out tm.out shows_t.out (λ h here. ap not (drops_waiting h here ∙ sym (leaves_shown h here)))
@@ -151,11 +148,11 @@ module _ (t s : Kept) (tm sm : ModelDevice) (ready : AreReady t s) (shows_t : Sh
   unfolding same_as
   handed_left = filters_agree (λ e. not (list_any (λ v. same_version v e.version) (versions (new_waiting t s)))) (knows_entry tm) s.out sm.out shows_s.out (λ h here.
       let once = once_right (same_as h) h s.store s.out here (same_itself h.version) (ready.source.once h.version) in
-      let new = any_map (λ v. same_version v h.version) (λ (g : Held). g.version) (new_waiting t s) ∙ any_swap (same_as h) (is_new t.knowledge) s.out ∙ ap (λ l. list_any (is_new t.knowledge) l) once.1 ∙ or_false (is_new t.knowledge h) in
+      let new = any_map (λ v. same_version v h.version) (λ (g : Held). g.version) (new_waiting t s) ∙ any_swap (same_as h) (is_new t.knowledge) s.out ∙ ap (λ l. list_any (is_new t.knowledge) l) once.1 ∙ or-false (is_new t.knowledge h) in
       ap not (new ∙ sym (new_shown h (in_right h s.store s.out here))) ∙ not_not (knows_entry tm (entry_of h)))
 
-  pub gone_stored_shown : filter (leaves_store tm sm) tm.store ≡ entries_of (gone_stored t s)
-  gone_stored_shown = filter_shown (leaves_store tm sm) (goes t s) t.store tm.store shows_t.store goes_shown
+  pub dropped_stored_shown : filter (leaves_store tm sm) tm.store ≡ entries_of (dropped_stored t s)
+  dropped_stored_shown = filter_shown (leaves_store tm sm) (is_dropped t s) t.store tm.store shows_t.store is_dropped_shown
 
-  pub gone_waiting_shown : filter (leaves_out tm sm) tm.out ≡ entries_of (gone_waiting t s)
-  gone_waiting_shown = filter_shown (leaves_out tm sm) (is_over t s) t.out tm.out shows_t.out leaves_shown
+  pub dropped_waiting_shown : filter (leaves_out tm sm) tm.out ≡ entries_of (dropped_waiting t s)
+  dropped_waiting_shown = filter_shown (leaves_out tm sm) (is_over t s) t.out tm.out shows_t.out leaves_shown

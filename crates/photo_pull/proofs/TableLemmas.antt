@@ -1,5 +1,6 @@
 -- Tables of what is told of pictures.
 use Rattle.std.proofs.Common.{◌≡◌, ℕ, zero, suc, ◌+◌, ◌<◌, ◌≤◌, Bool, true, false, cond, eqb, ltb, leb, ◌&&◌, ◌||◌, List, [], ◌∷◌, ◌++◌, length, get_or, take, refl, sym, ap, ◌∙◌, subst, inl, inr, arith}
+use Rattle.std.proofs.Math.Bool.{or-false}
 use Rattle.std.proofs.lemmas.Bool.{and_parts, and_from, eqb-true, eqb-false, eq-eqb, ne_eqb, lt-ltb, le-ltb, le-leb, leb-true, ltb-true, cases_Bool, cases_eq, cases_lt, lt-leb}
 use Rattle.std.proofs.lemmas.List.Folds.{list_any_more}
 use Rattle.photo_version.specs.Author.{same_author}
@@ -10,7 +11,7 @@ use Rattle.photo_device.specs.declared.held.Held.{Held}
 use Rattle.photo_device.specs.Held.{are_in_order}
 use Rattle.photo_device.specs.Own.{HasEarlier}
 use Rattle.photo_device.proofs.Order.{rises}
-use Rattle.photo_pull.specs.Found.{tells}
+use Rattle.photo_pull.specs.OnHeld.{tells}
 use Rattle.photo_pull.proofs.Told.{one}
 
 abbrev pub Table : Type 0
@@ -94,14 +95,10 @@ with_itself h earlier above v = elim (cases_Bool (same_author h.version.author v
       ∙ sym (λ i. history i || (same i && eqb h.version.number v.number))
   | inr apart ↦
       (λ i. ((apart i && (leb 1 v.number && leb v.number h.version.number)) || false) || denotes h.made_with v)
-      ∙ sym (or_false (denotes h.made_with v))
+      ∙ sym (or-false (denotes h.made_with v))
       ∙ sym (λ i. denotes h.made_with v || (apart i && eqb h.version.number v.number))
 ]
   where
-    or_false : (b : Bool) → (b || false) ≡ b
-    or_false true = refl
-    or_false false = refl
-
     first : (k n : ℕ) → k < 1 → 0 < n → (((leb 1 k && leb k n) || false) || (leb 1 k && ltb k n)) ≡ ((leb 1 k && ltb k n) || eqb n k)
     first k n none above = rw (lt-leb 1 k none, ne_eqb n k (λ e. absurd (omega arith))) refl
 
@@ -179,13 +176,9 @@ added_row table picture vector order all = record {
   last = pass_end (λ k. leb k picture) table picture vector (below_le picture table all) (le-leb picture picture (omega arith));
   told = λ p v. ap (λ l. denotes l v) (at_end table picture vector p all) ∙ elim (cases_eq picture p) [
     | inl e ↦ rw (eq-eqb picture p e, none_at table p picture all (omega arith)) refl
-    | inr ne ↦ rw (ne_eqb picture p ne) (sym (or_false (denotes (at [] table p) v)))
+    | inr ne ↦ rw (ne_eqb picture p ne) (sym (or-false (denotes (at [] table p) v)))
   ];
 }
-  where
-    or_false : (b : Bool) → (b || false) ≡ b
-    or_false true = refl
-    or_false false = refl
 
 -- the last row is of that picture
 pub joined_row : (front : Table) (picture : ℕ) (known vector both : List Bound) → in_order (front ++ (picture, known) ∷ []) ≡ true → ((v : Version) → denotes both v ≡ (denotes known v || denotes vector v)) → IsAdded (front ++ (picture, known) ∷ []) (front ++ (picture, both) ∷ []) picture vector
@@ -196,13 +189,9 @@ joined_row front picture known vector both order is =
       last = pass_end (λ k. leb k picture) front picture both (below_le picture front parts.1) (le-leb picture picture (omega arith));
       told = λ p v. ap (λ l. denotes l v) (at_end front picture both p parts.1) ∙ elim (cases_eq picture p) [
         | inl e ↦ rw (at_end front picture known p parts.1, eq-eqb picture p e) (is v)
-        | inr ne ↦ rw (at_end front picture known p parts.1, ne_eqb picture p ne) (sym (or_false (denotes (at [] front p) v)))
+        | inr ne ↦ rw (at_end front picture known p parts.1, ne_eqb picture p ne) (sym (or-false (denotes (at [] front p) v)))
       ];
     }
-  where
-    or_false : (b : Bool) → (b || false) ≡ b
-    or_false true = refl
-    or_false false = refl
 
 -- a table whose last row is of another picture has only lesser ones
 pub below_all : (front : Table) (q : ℕ) (x : List Bound) (picture : ℕ) → in_order (front ++ (q, x) ∷ []) ≡ true → keys_pass (λ k. leb k picture) (front ++ (q, x) ∷ []) ≡ true → (q ≡ picture → ⊥) → keys_pass (λ k. ltb k picture) (front ++ (q, x) ∷ []) ≡ true

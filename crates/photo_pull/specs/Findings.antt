@@ -1,11 +1,11 @@
--- Machinery of the proofs: what the code finds between two devices is what `Found` says.
+-- Machinery of the proofs: what the code finds between two devices is what `OnHeld` says.
 use Rattle.std.specs.Prelude.{◌≡◌, ℕ, ◌+◌, Bool, true, false, ◌||◌, List, [], length}
 use Rattle.photo_version.specs.Version.{Version}
 use Rattle.photo_version.specs.Vector.{Bound, denotes}
 use Rattle.item_knowledge.specs.Tables.{in_order, at}
 use Rattle.photo_device.specs.declared.held.Held.{Held}
 use Rattle.photo_device.specs.Device.{Kept}
-use Rattle.photo_pull.specs.Found.{tells, new_waiting, gone_stored, gone_waiting, heard, kept, learns}
+use Rattle.photo_pull.specs.OnHeld.{tells, new_waiting, dropped_stored, dropped_waiting, heard, taken_stored, learns}
 use Rattle.photo_pull.specs.declared.finding.Finding.{Finding}
 
 -- a table has what two lists tell, where it is wanted
@@ -15,9 +15,9 @@ pub record IsTold (learned : Bool) (hs ws : List Held) (table : List (ℕ × Lis
 
 pub record IsFound (t s : Kept) (f : Finding) : Type 0 where
   pub learned : f.learned ≡ learns t s
-  pub gone_stored : f.gone.stored.items ≡ gone_stored t s
-  pub gone_waiting : f.gone.waiting.items ≡ gone_waiting t s
-  pub kept : f.kept.items ≡ kept t s
+  pub dropped_stored : f.dropped.stored.items ≡ dropped_stored t s
+  pub dropped_waiting : f.dropped.waiting.items ≡ dropped_waiting t s
+  pub taken : f.taken.items ≡ taken_stored t s
   pub handed : f.handed.items ≡ new_waiting t s
-  pub notices : f.notices + length f.kept.items ≡ length (heard t s)
+  pub notices : f.notices + length f.taken.items ≡ length (heard t s)
   pub told : IsTold f.learned (heard t s) (new_waiting t s) f.told.items

@@ -1,3 +1,4 @@
 pub mod Pull
-pub mod Found
+pub mod OnHeld
 pub mod Findings
+pub mod Gaps

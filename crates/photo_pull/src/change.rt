@@ -1,14 +1,14 @@
-//! What a target is to give up, to take and to learn.
+//! What a target is to drop, to take and to learn.
 ghost use Rattle.std.specs.Prelude.{◌≡◌, ℕ, ◌<◌, ◌++◌, true, [], if◌then◌else◌, IfOk};
 ghost use Rattle.std.specs.List.Sorted.{IsPermutation};
 ghost use Rattle.photo_version.specs.Version as spec;
 ghost use Rattle.photo_version.specs.Vector.{denotes};
 ghost use Rattle.item_knowledge.specs.Fragments.{knows};
 ghost use Rattle.item_knowledge.specs.Tables.{in_order, at};
-ghost use Rattle.photo_pull.specs.Found.{versions};
+ghost use Rattle.photo_pull.specs.OnHeld.{versions};
 
+use crate::filtered::push_versions;
 use crate::finding::Finding;
-use crate::found::push_versions;
 use item_knowledge::Knowledge;
 use photo_device::{Change, Held, ItemList};
 use photo_record::PicNo;
@@ -23,7 +23,8 @@ fn gain_of(
     told: &[(PicNo, Vector)],
 ) -> Result<Knowledge, AllocError>
     requires { in_order told.now ≡ true }
-    ensures { IfOk result (λ gain. (p : ℕ) (v : spec.Version) → 0 < p → knows gain p v ≡ (if learned then knows taught.now p v else denotes (at [] told.now p) v)) }
+    ensures { IfOk result (λ gain. (p : ℕ) (v : spec.Version) → 0 < p
+        → knows gain p v ≡ (if learned then knows taught.now p v else denotes (at [] told.now p) v)) }
 {
     if learned {
         let all = taught.try_clone()?;
@@ -34,7 +35,7 @@ fn gain_of(
     Ok(gain)
 }
 
-/// The versions of what a device gives up, in order.
+/// The versions of what a device drops, in order.
 fn drops_of(alloc: Global, stored: &[Held], waiting: &[Held]) -> Result<Vec<Version>, AllocError>
     ensures { IfOk result (λ drops. IsPermutation (versions stored.now ++ versions waiting.now) drops.items) }
 {
@@ -46,10 +47,10 @@ fn drops_of(alloc: Global, stored: &[Held], waiting: &[Held]) -> Result<Vec<Vers
 }
 
 /// What it takes, of the source's store and of its out.
-fn takes_of(kept: Vec<Held>, handed: Vec<Held>) -> Result<Vec<Held>, AllocError>
-    ensures { IfOk result (λ takes. takes.items ≡ kept.items ++ handed.items) }
+fn takes_of(taken: Vec<Held>, handed: Vec<Held>) -> Result<Vec<Held>, AllocError>
+    ensures { IfOk result (λ takes. takes.items ≡ taken.items ++ handed.items) }
 {
-    let mut takes = kept;
+    let mut takes = taken;
     let mut more = handed;
     takes.append(&mut more)?;
     Ok(takes)
@@ -65,20 +66,22 @@ pub(crate) fn handed_of(alloc: Global, finding: &Finding) -> Result<Vec<Version>
     Ok(handed)
 }
 
-/// What the target is to give up, to take and to learn after what was found.
+/// What the target is to drop, to take and to learn after what was found.
 pub(crate) fn change_for(
     alloc: Global,
     finding: Finding,
     taught: &Knowledge,
 ) -> Result<Change, AllocError>
     requires { in_order finding.told.items ≡ true }
-    ensures drops { IfOk result (λ change. IsPermutation (versions finding.gone.stored.items ++ versions finding.gone.waiting.items) change.drops) }
-    ensures takes { IfOk result (λ change. change.takes ≡ finding.kept.items ++ finding.handed.items) }
-    ensures gain { IfOk result (λ change. (p : ℕ) (v : spec.Version) → 0 < p → knows change.gain p v ≡ (if finding.learned then knows taught.now p v else denotes (at [] finding.told.items p) v)) }
+    ensures drops { IfOk result
+        (λ change. IsPermutation (versions finding.dropped.stored.items ++ versions finding.dropped.waiting.items) change.drops) }
+    ensures takes { IfOk result (λ change. change.takes ≡ finding.taken.items ++ finding.handed.items) }
+    ensures gain { IfOk result (λ change. (p : ℕ) (v : spec.Version) → 0 < p → knows change.gain p v
+        ≡ (if finding.learned then knows taught.now p v else denotes (at [] finding.told.items p) v)) }
 {
-    let drops = drops_of(alloc, &finding.gone.stored, &finding.gone.waiting)?;
+    let drops = drops_of(alloc, &finding.dropped.stored, &finding.dropped.waiting)?;
     let gain = gain_of(alloc, finding.learned, taught, &finding.told)?;
-    let takes = takes_of(finding.kept, finding.handed)?;
+    let takes = takes_of(finding.taken, finding.handed)?;
     Ok(Change {
         drops: ItemList::new(drops),
         takes: ItemList::new(takes),

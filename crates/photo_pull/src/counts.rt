@@ -7,7 +7,7 @@ pub struct PullCounts {
     pub handed: u64,
     /// Of how many the target was told without their records.
     pub notices: u64,
-    /// How many held versions the target gave up.
+    /// How many held versions the target dropped.
     pub dropped: u64,
     /// Whether the target learned all that the source knows, since the source's filter covers the target's.
     pub learned: bool,

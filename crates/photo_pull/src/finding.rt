@@ -2,11 +2,11 @@ ghost use Rattle.std.specs.Prelude.{◌≡◌, true, IfOk};
 ghost use Rattle.std.specs.List.{AllByRecursion};
 ghost use Rattle.photo_device.specs.Held.{are_in_order};
 ghost use Rattle.photo_device.specs.Own.{HasEarlier};
-ghost use Rattle.photo_pull.specs.Found.{new_stored, new_waiting, gone_stored, gone_waiting, learns};
+ghost use Rattle.photo_pull.specs.OnHeld.{new_stored, new_waiting, dropped_stored, dropped_waiting, learns};
 ghost use Rattle.photo_pull.specs.Findings.{IsFound, IsTold};
 
 use crate::PullCounts;
-use crate::found::{gone_of, heard_of, kept_of, new_of};
+use crate::filtered::{dropped_of, heard_of, new_of, taken_of};
 use crate::part::Part;
 use crate::table::table_of;
 use item_knowledge::Knowledge;
@@ -21,10 +21,10 @@ use std::alloc::{AllocError, Global};
 pub(crate) struct Finding {
     /// Whether the target learns all that the source knows.
     pub learned: bool,
-    /// What the target gives up.
-    pub gone: Part,
+    /// What the target drops.
+    pub dropped: Part,
     /// What it takes of the source's store.
-    pub kept: Vec<Held>,
+    pub taken: Vec<Held>,
     /// What it takes of the source's out.
     pub handed: Vec<Held>,
     /// Of how many it is told without their records.
@@ -48,8 +48,8 @@ fn news_of(alloc: Global, target: &Device, source: &Device) -> Result<Part, Allo
     Ok(Part { stored, waiting })
 }
 
-/// What the target gives up for the news, and where it learns all, since the source gave it up.
-fn gone_for(
+/// What the target drops for the news, and where it learns all, since the source gave it up.
+fn dropped_for(
     alloc: Global,
     news: &Part,
     learned: bool,
@@ -61,13 +61,13 @@ fn gone_for(
     requires stored_order { are_in_order news.now.stored.items ≡ true }
     requires waiting_order { are_in_order news.now.waiting.items ≡ true }
     requires learned { learned ≡ learns target.now source.now }
-    ensures stored { IfOk result (λ part. part.stored.items ≡ gone_stored target.now source.now) }
-    ensures waiting { IfOk result (λ part. part.waiting.items ≡ gone_waiting target.now source.now) }
+    ensures stored { IfOk result (λ part. part.stored.items ≡ dropped_stored target.now source.now) }
+    ensures waiting { IfOk result (λ part. part.waiting.items ≡ dropped_waiting target.now source.now) }
     ensures stored_order { IfOk result (λ part. are_in_order part.stored.items ≡ true) }
     ensures waiting_order { IfOk result (λ part. are_in_order part.waiting.items ≡ true) }
 {
-    let stored = gone_of(alloc, news, learned, source, target.store())?;
-    let waiting = gone_of(alloc, news, false, source, target.out())?;
+    let stored = dropped_of(alloc, news, learned, source, target.store())?;
+    let waiting = dropped_of(alloc, news, false, source, target.out())?;
     Ok(Part { stored, waiting })
 }
 
@@ -101,17 +101,17 @@ pub(crate) fn found_between(
 {
     let learned = covers(source.filter(), target.filter());
     let news = news_of(alloc, target, source)?;
-    let gone = gone_for(alloc, &news, learned, target, source)?;
+    let dropped = dropped_for(alloc, &news, learned, target, source)?;
     let Part { stored, waiting } = news;
-    let heard = heard_of(target.filter(), &gone, stored);
+    let heard = heard_of(target.filter(), &dropped, stored);
     let told = told_of(alloc, learned, &heard, &waiting)?;
     let all = heard.len();
-    let kept = kept_of(target.filter(), heard);
-    let notices = all - kept.len();
+    let taken = taken_of(target.filter(), heard);
+    let notices = all - taken.len();
     Ok(Finding {
         learned,
-        gone,
-        kept,
+        dropped,
+        taken,
         handed: waiting,
         notices,
         told,
@@ -125,37 +125,40 @@ impl Finding {
 
     /// What the pull moves and tells.
     pub fn counts(&self) -> PullCounts
-        ensures taken { result.taken ≡ length self.now.kept.items }
+        ensures taken { result.taken ≡ length self.now.taken.items }
         ensures handed { result.handed ≡ length self.now.handed.items }
         ensures notices { result.notices ≡ self.now.notices }
-        ensures dropped { result.dropped ≡ length self.now.gone.stored.items + length self.now.gone.waiting.items }
+        ensures dropped { result.dropped ≡ length self.now.dropped.stored.items + length self.now.dropped.waiting.items }
         ensures learned { result.learned ≡ self.now.learned }
     {
         PullCounts {
-            taken: self.kept.len() as u64,
+            taken: self.taken.len() as u64,
             handed: self.handed.len() as u64,
             notices: self.notices as u64,
-            dropped: self.gone.stored.len() as u64 + self.gone.waiting.len() as u64,
+            dropped: self.dropped.stored.len() as u64 + self.dropped.waiting.len() as u64,
             learned: self.learned,
         }
     }
 
-    /// Whether no version comes, is told of or goes.
+    /// Whether no version is taken, handed over, noticed or dropped.
     pub fn is_empty(&self) -> bool
-        ensures { result ≡ (((length self.now.kept.items == 0) && (self.now.notices == 0)) && ((length self.now.handed.items == 0) && ((length self.now.gone.stored.items == 0) && (length self.now.gone.waiting.items == 0)))) }
+        ensures { result ≡ (((length self.now.taken.items == 0) && (self.now.notices == 0))
+            && ((length self.now.handed.items == 0)
+            && ((length self.now.dropped.stored.items == 0) && (length self.now.dropped.waiting.items == 0)))) }
     {
-        (self.kept.is_empty() && self.notices == 0)
-            && (self.handed.is_empty() && self.gone.is_empty())
+        (self.taken.is_empty() && self.notices == 0)
+            && (self.handed.is_empty() && self.dropped.is_empty())
     }
 
-    /// Whether nothing comes and nothing goes, and what the source may teach is known.
+    /// Whether nothing is taken, handed over, noticed or dropped, and what the source may teach is known.
     pub fn is_nothing(&self, known: &Knowledge, taught: &Knowledge) -> bool
-        ensures kept { result ≡ true → self.now.kept.items ≡ [] }
+        ensures taken { result ≡ true → self.now.taken.items ≡ [] }
         ensures notices { result ≡ true → self.now.notices ≡ 0 }
         ensures handed { result ≡ true → self.now.handed.items ≡ [] }
-        ensures gone_stored { result ≡ true → self.now.gone.stored.items ≡ [] }
-        ensures gone_waiting { result ≡ true → self.now.gone.waiting.items ≡ [] }
-        ensures known { result ≡ true → self.now.learned ≡ true → (p : ℕ) (v : Version) → 0 < p → knows taught.now p v ≡ true → knows known.now p v ≡ true }
+        ensures dropped_stored { result ≡ true → self.now.dropped.stored.items ≡ [] }
+        ensures dropped_waiting { result ≡ true → self.now.dropped.waiting.items ≡ [] }
+        ensures known { result ≡ true → self.now.learned ≡ true → (p : ℕ) (v : Version) → 0 < p → knows taught.now p v ≡ true
+            → knows known.now p v ≡ true }
     {
         if !self.is_empty() {
             return false;

@@ -3,13 +3,14 @@
 
 mod change;
 mod counts;
-mod exchange;
+mod filtered;
 mod finding;
-mod found;
+mod gap;
 mod hints;
 mod part;
-mod search;
+mod pulling;
+mod superseding;
 mod table;
 
 pub use counts::PullCounts;
-pub use exchange::pull;
+pub use pulling::pull;

@@ -7,7 +7,7 @@ ghost use Rattle.item_knowledge.specs.Tables.{in_order, keys_pass, at};
 ghost use Rattle.photo_device.specs.declared.held.Held as spec;
 ghost use Rattle.photo_device.specs.Held.{are_in_order};
 ghost use Rattle.photo_device.specs.Own.{HasEarlier};
-ghost use Rattle.photo_pull.specs.Found.{tells};
+ghost use Rattle.photo_pull.specs.OnHeld.{tells};
 
 use photo_device::Held;
 use photo_record::PicNo;
@@ -17,8 +17,10 @@ use std::alloc::{AllocError, Global};
 /// A version with all that it was made with.
 fn told_by(held: &Held) -> Result<Vector, AllocError>
     requires { HasEarlier held.now }
-    ensures { IfOk result (λ vector. (v : versions.Version) → denotes vector v ≡ (denotes held.now.made_with v || versions.same_version held.now.version v)) }
+    ensures { IfOk result (λ vector. (v : versions.Version)
+        → denotes vector v ≡ (denotes held.now.made_with v || versions.same_version held.now.version v)) }
 {
+    // For its fact alone: a version's number is above 0.
     let _number = held.version.n();
     let vector = held.made_with.with(held.version)?;
     Ok(vector)
@@ -34,7 +36,8 @@ fn add_row(
     requires last { keys_pass (λ k. nat_le k picture) table.old.items ≡ true }
     ensures order { OnOk result (in_order table.new.items ≡ true) }
     ensures last { OnOk result (keys_pass (λ k. nat_le k picture) table.new.items ≡ true) }
-    ensures told { OnOk result ((p : ℕ) (v : versions.Version) → denotes (at [] table.new.items p) v ≡ (denotes (at [] table.old.items p) v || ((picture == p) && denotes vector v))) }
+    ensures told { OnOk result ((p : ℕ) (v : versions.Version) → denotes (at [] table.new.items p) v
+        ≡ (denotes (at [] table.old.items p) v || ((picture == p) && denotes vector v))) }
 {
     let Some((last, known)) = table.pop() else {
         table.push((picture, vector))?;
@@ -56,7 +59,9 @@ fn add_told(table: &mut Vec<(PicNo, Vector)>, held: &Held) -> Result<(), AllocEr
     requires last { keys_pass (λ k. nat_le k held.now.picture) table.old.items ≡ true }
     ensures order { OnOk result (in_order table.new.items ≡ true) }
     ensures last { OnOk result (keys_pass (λ k. nat_le k held.now.picture) table.new.items ≡ true) }
-    ensures told { OnOk result ((p : ℕ) (v : versions.Version) → denotes (at [] table.new.items p) v ≡ (denotes (at [] table.old.items p) v || ((held.now.picture == p) && (denotes held.now.made_with v || versions.same_version held.now.version v)))) }
+    ensures told { OnOk result
+        ((p : ℕ) (v : versions.Version) → denotes (at [] table.new.items p) v ≡ (denotes (at [] table.old.items p) v
+        || ((held.now.picture == p) && (denotes held.now.made_with v || versions.same_version held.now.version v)))) }
 {
     let vector = told_by(held)?;
     add_row(table, held.picture, vector)?;
@@ -66,9 +71,11 @@ fn add_told(table: &mut Vec<(PicNo, Vector)>, held: &Held) -> Result<(), AllocEr
 /// Whether the first of two lists gives the next one, that of the smaller picture, where one stands at a place in each.
 fn is_first(heard: &[Held], i: usize, handed: &[Held], j: usize) -> bool
     ensures first { result ≡ true → i < length heard.now }
-    ensures first_least { (a b : spec.Held) → result ≡ true → j < length handed.now → (get_or heard.now i a).picture ≤ (get_or handed.now j b).picture }
+    ensures first_least { (a b : spec.Held) → result ≡ true → j < length handed.now
+        → (get_or heard.now i a).picture ≤ (get_or handed.now j b).picture }
     ensures second { result ≡ false → i < length heard.now → j < length handed.now }
-    ensures second_least { (a b : spec.Held) → result ≡ false → i < length heard.now → (get_or handed.now j b).picture ≤ (get_or heard.now i a).picture }
+    ensures second_least { (a b : spec.Held) → result ≡ false → i < length heard.now
+        → (get_or handed.now j b).picture ≤ (get_or heard.now i a).picture }
 {
     if i >= heard.len() {
         return false;
@@ -90,7 +97,8 @@ pub(crate) fn table_of(
     requires heard { AllByRecursion HasEarlier heard.now }
     requires handed { AllByRecursion HasEarlier handed.now }
     ensures order { IfOk result (λ table. in_order table.items ≡ true) }
-    ensures told { IfOk result (λ table. (p : ℕ) (v : versions.Version) → denotes (at [] table.items p) v ≡ (tells heard.now p v || tells handed.now p v)) }
+    ensures told { IfOk result (λ table. (p : ℕ) (v : versions.Version)
+        → denotes (at [] table.items p) v ≡ (tells heard.now p v || tells handed.now p v)) }
 {
     let mut table = Vec::new(alloc);
     let mut i = 0;

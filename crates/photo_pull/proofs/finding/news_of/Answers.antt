@@ -1,7 +1,7 @@
 use Rattle.std.proofs.Common.{sym, subst}
 use Rattle.std.specs.List.{AllByRecursion}
 use Rattle.photo_device.specs.Own.{HasEarlier}
-use Rattle.photo_pull.specs.Found.{is_new}
+use Rattle.photo_pull.specs.OnHeld.{is_new}
 use Rattle.photo_pull.proofs.Members.{all_filter}
 use Rattle.photo_pull.proofs.finding.news_of.Goals as goal
 

@@ -1,9 +1,0 @@
-use Rattle.std.proofs.Common.{◌||◌, rules}
-use Rattle.std.proofs.lemmas.Fn.{filter_same}
-use Rattle.photo_device.specs.declared.held.Held.{Held}
-use Rattle.photo_pull.specs.Found.{is_kept, has_below}
-use Rattle.photo_pull.proofs.found.heard_of.Goals as goal
-
-pub returns : goal.returns
-returns c =
-    filter_same _ (λ (w : Held). is_kept c.args.wanted.now w || (has_below c.args.gone.now.stored.items w || has_below c.args.gone.now.waiting.items w)) _ (λ x b f k. search rules) _ _ c.retain.ensures.filtered

@@ -1,9 +1,0 @@
-use Rattle.std.proofs.Common.{◌≡◌, not, ◌&&◌, ◌||◌, ◌++◌, take}
-use Rattle.std.specs.Prelude.{filter}
-use Rattle.item_knowledge.specs.Fragments.{knows}
-use Rattle.photo_pull.specs.Found.{has_above, has_same}
-use Rattle.photo_pull.proofs.found.push_gone.Given as goal
-
-abbrev pub invariant-loop-held : goal.invariant-loop-held
-invariant-loop-held l =
-    l.found.items ≡ l.fn.found.items ++ filter (λ h. (has_above l.news.stored.items h || has_above l.news.waiting.items h) || (l.followed && (knows l.device.knowledge h.picture h.version && not (has_same l.device.store h)))) (take l.held-index l.list)

@@ -1,0 +1,83 @@
+-- Machinery of the proofs: a pull on the held versions of two devices, as the code finds them. What a pull is says `Pull`.
+use Rattle.std.specs.Prelude.{ℕ, Bool, not, ◌&&◌, ◌||◌, ◌==◌, List, map, filter}
+use Rattle.std.specs.List.{list_any}
+use Rattle.photo_version.specs.Version.{Version, Versions, same_version}
+use Rattle.photo_version.specs.Vector.{denotes}
+use Rattle.item_knowledge.specs.Fragments.{Fragment, knows}
+use Rattle.photo_filter_text.specs.Tree.{Tree}
+use Rattle.photo_filter_rules.specs.Matching.{matches}
+use Rattle.photo_filter_rules.specs.Covers.{covers}
+use Rattle.photo_device.specs.declared.held.Held.{Held}
+use Rattle.photo_device.specs.Device.{Kept}
+
+-- not known
+abbrev pub is_new : List Fragment → Held → Bool
+is_new knowledge h = not (knows knowledge h.picture h.version)
+
+-- w supersedes h
+abbrev pub is_above : Held → Held → Bool
+is_above w h = (w.picture == h.picture) && denotes w.made_with h.version
+
+-- one of them supersedes h
+abbrev pub has_above : List Held → Held → Bool
+has_above ws h = list_any (λ w. is_above w h) ws
+
+-- w supersedes one of them
+abbrev pub has_below : List Held → Held → Bool
+has_below hs w = list_any (λ h. is_above w h) hs
+
+-- that version of that picture is among them
+abbrev pub has_same : List Held → Held → Bool
+has_same hs h = list_any (λ g. (g.picture == h.picture) && same_version g.version h.version) hs
+
+-- which versions of a picture they tell of
+abbrev pub tells : List Held → ℕ → Versions
+tells hs picture = λ v. list_any (λ h. (h.picture == picture) && (denotes h.made_with v || same_version h.version v)) hs
+
+-- what the target doesn't know of the source's store, and of its out
+abbrev pub new_stored : Kept → Kept → List Held
+new_stored t s = filter (is_new t.knowledge) s.store
+
+abbrev pub new_waiting : Kept → Kept → List Held
+new_waiting t s = filter (is_new t.knowledge) s.out
+
+abbrev pub learns : Kept → Kept → Bool
+learns t s = covers s.tree t.tree
+
+-- something new supersedes it
+abbrev pub is_over : Kept → Kept → Held → Bool
+is_over t s h = has_above (new_stored t s) h || has_above (new_waiting t s) h
+
+-- the source knows it and doesn't keep it, and is to keep all that the target is to keep
+abbrev pub is_given_up : Kept → Kept → Held → Bool
+is_given_up t s h = learns t s && (knows s.knowledge h.picture h.version && not (has_same s.store h))
+
+abbrev pub is_dropped : Kept → Kept → Held → Bool
+is_dropped t s h = is_over t s h || is_given_up t s h
+
+-- what the target drops of its store, and of its out
+abbrev pub dropped_stored : Kept → Kept → List Held
+dropped_stored t s = filter (is_dropped t s) t.store
+
+abbrev pub dropped_waiting : Kept → Kept → List Held
+dropped_waiting t s = filter (is_over t s) t.out
+
+abbrev pub is_selected : Tree → Held → Bool
+is_selected tree h = matches tree h.content
+
+-- of the source's store, what the target hears of: what it is to keep, and what supersedes something that it drops
+abbrev pub is_heard : Kept → Kept → Held → Bool
+is_heard t s h = is_selected t.tree h || (has_below (dropped_stored t s) h || has_below (dropped_waiting t s) h)
+
+abbrev pub heard : Kept → Kept → List Held
+heard t s = filter (is_heard t s) (new_stored t s)
+
+abbrev pub taken_stored : Kept → Kept → List Held
+taken_stored t s = filter (is_selected t.tree) (heard t s)
+
+abbrev pub versions : List Held → List Version
+versions hs = map (λ h. h.version) hs
+
+-- what the target learns
+abbrev pub gains : Kept → Kept → ℕ → Versions
+gains t s picture = λ v. (learns t s && knows s.knowledge picture v) || (tells (heard t s) picture v || tells (new_waiting t s) picture v)

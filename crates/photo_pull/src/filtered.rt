@@ -1,0 +1,179 @@
+//! Held versions that pass a test, in their order. A copy shares what the version carries.
+ghost use Rattle.std.specs.Prelude.{◌≡◌, ◌≤◌, ◌++◌, ◌&&◌, ◌||◌, not, true, length, filter, IfOk, OnOk};
+ghost use Rattle.photo_device.specs.Held.{are_in_order};
+ghost use Rattle.photo_pull.specs.OnHeld.{is_new, is_selected, has_above, has_below, has_same, versions};
+ghost use Rattle.photo_pull.specs.Gaps.{IsGap};
+ghost use Rattle.item_knowledge.specs.Fragments.{knows};
+
+use crate::gap::Gap;
+use crate::hints::Hints;
+use crate::part::Part;
+use item_knowledge::Knowledge;
+use photo_device::{Device, Held, HeldSet};
+use photo_filter_rules::Filter;
+use photo_version::Version;
+use std::alloc::{AllocError, Global};
+
+/// Puts copies of those of a list that a knowledge doesn't have behind others. Any hint will do.
+fn push_new(
+    found: &mut Vec<Held>,
+    knowledge: &Knowledge,
+    hint: &mut usize,
+    list: &[Held],
+) -> Result<(), AllocError>
+    ensures { OnOk result (found.new.items ≡ found.old.items ++ filter (is_new knowledge.now) list.now) }
+{
+    for held in list {
+        let (known, next) = knowledge.knows_near(*hint, held.picture, held.version);
+        *hint = next;
+        if known {
+            continue;
+        }
+        found.push(held.try_clone()?)?;
+    }
+    Ok(())
+}
+
+/// Copies of those of a set that a knowledge doesn't have. No memory is wanted where it has all.
+pub(crate) fn new_of(
+    alloc: Global,
+    knowledge: &Knowledge,
+    set: &HeldSet,
+) -> Result<Vec<Held>, AllocError>
+    ensures items { IfOk result (λ found. found.items ≡ filter (is_new knowledge.now) set.now) }
+    ensures ordered { IfOk result (λ found. are_in_order found.items ≡ true) }
+{
+    let mut found = Vec::new(alloc);
+    let mut hint = 0;
+    for block in set.blocks() {
+        push_new(&mut found, knowledge, &mut hint, block)?;
+    }
+    Ok(found)
+}
+
+/// Whether a device knows a version and doesn't keep it.
+fn has_given_up(device: &Device, hints: &mut Hints, held: &Held) -> bool
+    ensures { result ≡ (knows device.now.knowledge held.now.picture held.now.version && not (has_same device.now.store held.now)) }
+{
+    let (keeps, next) = device
+        .store()
+        .has_near(hints.kept, held.picture, held.version);
+    hints.kept = next;
+    if keeps {
+        return false;
+    }
+    let (known, next) = device
+        .knowledge()
+        .knows_near(hints.known, held.picture, held.version);
+    hints.known = next;
+    known
+}
+
+/// Whether something new supersedes a version, or a device has given it up whose keeping is followed.
+fn is_dropped(
+    news: &Part,
+    followed: bool,
+    device: &Device,
+    gap: &mut Gap,
+    hints: &mut Hints,
+    held: &Held,
+) -> bool
+    requires stored { are_in_order news.now.stored.items ≡ true }
+    requires waiting { are_in_order news.now.waiting.items ≡ true }
+    requires gap { IsGap news.now.stored.items news.now.waiting.items gap.old }
+    ensures is { result ≡ ((has_above news.now.stored.items held.now || has_above news.now.waiting.items held.now) || (followed && (knows device.now.knowledge held.now.picture held.now.version && not (has_same device.now.store held.now)))) }
+    ensures gap { IsGap news.now.stored.items news.now.waiting.items gap.new }
+{
+    if news.any_above_along(gap, hints, held) {
+        return true;
+    }
+    followed && has_given_up(device, hints, held)
+}
+
+/// Puts copies of those of a list that go behind others.
+fn push_dropped(
+    found: &mut Vec<Held>,
+    news: &Part,
+    followed: bool,
+    device: &Device,
+    gap: &mut Gap,
+    hints: &mut Hints,
+    list: &[Held],
+) -> Result<(), AllocError>
+    requires stored { are_in_order news.now.stored.items ≡ true }
+    requires waiting { are_in_order news.now.waiting.items ≡ true }
+    requires gap { IsGap news.now.stored.items news.now.waiting.items gap.old }
+    ensures gap { OnOk result (IsGap news.now.stored.items news.now.waiting.items gap.new) }
+    ensures found { OnOk result (found.new.items ≡ found.old.items ++ filter
+        (λ h. (has_above news.now.stored.items h || has_above news.now.waiting.items h)
+        || (followed && (knows device.now.knowledge h.picture h.version && not (has_same device.now.store h)))) list.now) }
+{
+    for held in list {
+        if !is_dropped(news, followed, device, gap, hints, held) {
+            continue;
+        }
+        found.push(held.try_clone()?)?;
+    }
+    Ok(())
+}
+
+/// Copies of those of a set that something new supersedes, or that a device has given up whose keeping is followed.
+pub(crate) fn dropped_of(
+    alloc: Global,
+    news: &Part,
+    followed: bool,
+    device: &Device,
+    set: &HeldSet,
+) -> Result<Vec<Held>, AllocError>
+    requires stored { are_in_order news.now.stored.items ≡ true }
+    requires waiting { are_in_order news.now.waiting.items ≡ true }
+    ensures items { IfOk result
+        (λ found. found.items ≡ filter (λ h. (has_above news.now.stored.items h || has_above news.now.waiting.items h)
+        || (followed && (knows device.now.knowledge h.picture h.version && not (has_same device.now.store h)))) set.now) }
+    ensures ordered { IfOk result (λ found. are_in_order found.items ≡ true) }
+{
+    let mut found = Vec::new(alloc);
+    if !followed && news.is_empty() {
+        return Ok(found);
+    }
+    let mut gap = Gap::none();
+    let mut hints = Hints::new();
+    for block in set.blocks() {
+        push_dropped(
+            &mut found, news, followed, device, &mut gap, &mut hints, block,
+        )?;
+    }
+    Ok(found)
+}
+
+/// Those of a list that a filter matches, or that supersede something that is dropped.
+pub(crate) fn heard_of(wanted: &Filter, dropped: &Part, list: Vec<Held>) -> Vec<Held>
+    requires stored { are_in_order dropped.now.stored.items ≡ true }
+    requires waiting { are_in_order dropped.now.waiting.items ≡ true }
+    ensures { result.items ≡ filter
+        (λ w. is_selected wanted.now w || (has_below dropped.now.stored.items w || has_below dropped.now.waiting.items w)) list.items }
+{
+    let mut heard = list;
+    heard.retain(|held| wanted.matches(&held.content) || dropped.any_below(held));
+    heard
+}
+
+/// Those of a list that a filter matches.
+pub(crate) fn taken_of(wanted: &Filter, list: Vec<Held>) -> Vec<Held>
+    ensures items { result.items ≡ filter (is_selected wanted.now) list.items }
+    ensures fewer { length result.items ≤ length list.items }
+{
+    let mut taken = list;
+    taken.retain(|held| wanted.matches(&held.content));
+    taken
+}
+
+/// Puts the versions of those of a list behind others.
+pub(crate) fn push_versions(found: &mut Vec<Version>, list: &[Held]) -> Result<(), AllocError>
+    ensures { OnOk result (found.new.items ≡ found.old.items ++ versions list.now) }
+{
+    for held in list {
+        found.push(held.version)?;
+    }
+    Ok(())
+}
