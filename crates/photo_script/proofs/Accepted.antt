@@ -13,7 +13,7 @@ use Rattle.photo_record.specs.declared.record.Record.{Record}
 use Rattle.photo_record.specs.declared.record.Record.TheVariants as content
 use Rattle.photo_record.proofs.DateLemmas.{day_number-in}
 use Rattle.photo_filter_rules.specs.Filters.{filter_of}
-use Rattle.photo_filter_rules.specs.Laws.{IsInRange}
+use Rattle.photo_filter_rules.specs.Matching.{IsInRange}
 use Rattle.photo_script.specs.Limits.{max_text_bytes, max_line_bytes, max_devices, max_commands}
 use Rattle.photo_script.specs.Lines.{lines_of, fields_of, third_field_on}
 use Rattle.photo_script.specs.Fields.{is_word, is_name, place_of}

@@ -1,5 +1,6 @@
 -- What comes of a line that says a command: its first device, its refusal, and the command behind the others.
 use Rattle.std.proofs.Common.{◌≡◌, ◌∷◌, ◌++◌, ℕ, List, [], Bool, true, false, cond, ◌||◌, leb, eqb, Option, Some, Result, Ok, Err, refl, sym, ap, subst, ◌∙◌}
+use Rattle.std.proofs.Math.Bool.{or-false}
 use Rattle.std.specs.BTreeSet.{contains}
 use Rattle.std.specs.Result.{IsErrAnd}
 use Rattle.std.specs.List.{list_any}
@@ -57,10 +58,6 @@ reads-memory old new fields filter said r h =
     let p = err_from_is_err_and r h in
     reads-refused old new fields filter said r p.0 p.1 (subst (λ e. Refuses e said) (sym p.2) tt)
 
-or_false : (b : Bool) → b ≡ (b || false)
-or_false true = refl
-or_false false = refl
-
 -- a line that declares no device and makes no picture lacks but its command from the first
 pub lacks-first : (r : Reader) (fields : List (List ℕ)) (filter : List ℕ) → declared_by fields ≡ [] → filter_declared_by fields filter ≡ [] → made_by fields ≡ [] → is_command fields ≡ true → Lacks r fields filter r
 lacks-first r fields filter no_name no_filter no_picture counts = record {
@@ -69,7 +66,7 @@ lacks-first r fields filter no_name no_filter no_picture counts = record {
   no_filter = no_filter;
   makes = λ p.
       let had = contains nat_cmp r.pictures p in
-      or_false had ∙ ap (λ made. had || list_any (λ (q : ℕ). eqb q p) made) (sym no_picture);
+      sym (or-false had) ∙ ap (λ made. had || list_any (λ (q : ℕ). eqb q p) made) (sym no_picture);
   counts = counts;
 }
 

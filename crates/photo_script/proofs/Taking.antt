@@ -1,5 +1,6 @@
 -- What a reader has after a line of each kind, and what the line says then.
 use Rattle.std.proofs.Common.{◌≡◌, ◌≤◌, ◌<◌, ◌∷◌, ◌++◌, ℕ, List, [], length, Bool, true, false, cond, ◌||◌, eqb, codes, Option, Some, None, Result, Ok, Err, refl, sym, ap, ◌∙◌, arith}
+use Rattle.std.proofs.Math.Bool.{or-false}
 use Rattle.std.specs.BTreeSet.{contains, Updates}
 use Rattle.std.specs.List.{list_any}
 use Rattle.std.specs.Option.{is_some, option_to_list}
@@ -74,10 +75,6 @@ unfolding command_said creation_said
 creation-record before name picture rating date words device number Memory room known fresh refused = tt
 creation-record before name picture rating date words device number (Fault f) room known fresh refused = rw (lt-leb max_commands before.commands room, ← known, ← fresh, refused)
 
-or_false : (b : Bool) → b ≡ (b || false)
-or_false true = refl
-or_false false = refl
-
 found-said : (o : Option Tree) (e : LineFault) (tree : Tree) → or_fault o e ≡ Ok tree → o ≡ Some tree
 found-said None e tree h = cc
 found-said (Some x) e tree h = cc
@@ -100,7 +97,7 @@ takes_device old new name filter more tree said script pictures = record {
   commands = ap (λ s. s.commands) script ∙ sym (append-nil old.script.commands);
   makes = λ p.
       let had = contains nat_cmp old.pictures p in
-      ap (λ s. contains nat_cmp s p) pictures ∙ or_false had ∙ ap (λ made. had || list_any (λ (q : ℕ). eqb q p) made) (sym (makes-none name more));
+      ap (λ s. contains nat_cmp s p) pictures ∙ sym (or-false had) ∙ ap (λ made. had || list_any (λ (q : ℕ). eqb q p) made) (sym (makes-none name more));
   counted = refl;
 }
 

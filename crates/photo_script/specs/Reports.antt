@@ -166,14 +166,15 @@ bounds_text script (e ∷ es) = join_with_byte 32 (map (bound_text script) (e �
 abbrev pub fragment_text : Contents → Fragment → List ℕ
 fragment_text script f = codes "  " ++ pictures_text f.pictures ++ codes " " ++ bounds_text script f.entries ++ codes "\n"
 
--- the first line of what a device knows: how many fragments follow
-abbrev pub known_heading_text : Contents → ℕ → ℕ → ℕ → List ℕ
-known_heading_text script number device count =
-    decimal number ++ codes " knowledge " ++ name_of script device ++ codes " " ++ decimal count ++ codes "\n"
+-- the first line of an answer of a device: what is told of it, and how many lines follow
+abbrev pub counted_heading_text : Contents → ℕ → List ℕ → ℕ → ℕ → List ℕ
+counted_heading_text script number what device count =
+    decimal number ++ what ++ name_of script device ++ codes " " ++ decimal count ++ codes "\n"
 
+-- a line for each fragment
 abbrev pub knowledge_text : Contents → ℕ → ℕ → List Fragment → List ℕ
 knowledge_text script number device fragments =
-    known_heading_text script number device (length fragments) ++ flat_map (fragment_text script) fragments
+    counted_heading_text script number (codes " knowledge ") device (length fragments) ++ flat_map (fragment_text script) fragments
 
 abbrev pub yes_or_no : Bool → List ℕ
 yes_or_no known = if known then codes "yes" else codes "no"
@@ -203,14 +204,10 @@ versions_text script versions = flat_map (λ v. codes " " ++ version_text script
 abbrev pub conflict_text : Contents → Conflict → List ℕ
 conflict_text script c = codes "  " ++ decimal c.picture ++ versions_text script c.versions ++ codes "\n"
 
--- the first line of conflicts: how many pictures follow
-abbrev pub conflicts_heading_text : Contents → ℕ → ℕ → ℕ → List ℕ
-conflicts_heading_text script number device count =
-    decimal number ++ codes " conflicts " ++ name_of script device ++ codes " " ++ decimal count ++ codes "\n"
-
+-- a line for each picture
 abbrev pub conflicts_text : Contents → ℕ → ℕ → List Conflict → List ℕ
 conflicts_text script number device pictures =
-    conflicts_heading_text script number device (length pictures) ++ flat_map (conflict_text script) pictures
+    counted_heading_text script number (codes " conflicts ") device (length pictures) ++ flat_map (conflict_text script) pictures
 
 -- the text of an answer to the command of that number
 unfoldable pub text_of : Contents → ℕ → Answer → List ℕ

@@ -1,9 +1,10 @@
 ghost use Rattle.std.specs.Prelude.{◌≡◌, ◌<◌, ◌++◌, length, string_bytes, OnOk};
 ghost use Rattle.std.specs.List.{AllByRecursion, flat_map};
-ghost use Rattle.photo_script.specs.Reports.{IsOfScript, AreConflictsOfScript, IsConflictOfScript, conflicts_heading_text, conflict_text, conflicts_text, versions_text};
+ghost use Rattle.photo_script.specs.Reports.{IsOfScript, AreConflictsOfScript, IsConflictOfScript};
+ghost use Rattle.photo_script.specs.Reports.{conflict_text, conflicts_text, versions_text};
 
 use crate::Script;
-use crate::report::{push_decimal, push_version};
+use crate::report::{push_counted_heading, push_decimal, push_version};
 use photo_device::{Conflict, ConflictList};
 use photo_version::Version;
 use std::alloc::AllocError;
@@ -20,23 +21,8 @@ pub fn push_conflicts(
     requires authors { AreConflictsOfScript script.now pictures.now }
     ensures { OnOk result (string_bytes text.new ≡ string_bytes text.old ++ conflicts_text script.now number device pictures.now) }
 {
-    push_conflicts_heading(text, script, number, device, pictures.len())?;
+    push_counted_heading(text, script, number, " conflicts ", device, pictures.len())?;
     push_pictures(text, script, pictures.as_slice())?;
-    Ok(())
-}
-
-fn push_conflicts_heading(
-    text: &mut String,
-    script: &Script,
-    number: u32,
-    device: u16,
-    count: usize,
-) -> Result<(), AllocError>
-    requires { device < length script.now.names }
-    ensures { OnOk result (string_bytes text.new ≡ string_bytes text.old ++ conflicts_heading_text script.now number device count) }
-{
-    let name = script.name(device);
-    writeln!(text, "{number} conflicts {name} {count}")?;
     Ok(())
 }
 

@@ -1,10 +1,11 @@
 ghost use Rattle.std.specs.Prelude.{◌≡◌, ◌<◌, ◌++◌, length, get_or, string_bytes, OnOk};
 ghost use Rattle.std.specs.List.{AllByRecursion, flat_map};
 ghost use Rattle.std.specs.Fmt.{decimal};
-ghost use Rattle.photo_script.specs.Reports.{IsFragmentOfScript, pictures_text, bound_text, bounds_text, fragment_text, known_heading_text, knowledge_text};
+ghost use Rattle.photo_script.specs.Reports.{IsFragmentOfScript, pictures_text, bound_text, bounds_text};
+ghost use Rattle.photo_script.specs.Reports.{fragment_text, knowledge_text};
 
 use crate::Script;
-use crate::report::push_version_of;
+use crate::report::{push_counted_heading, push_version_of};
 use item_knowledge::{Fragment, Knowledge};
 use itoa::Buffer;
 use std::alloc::AllocError;
@@ -21,23 +22,15 @@ pub fn push_knowledge(
     requires authors { AllByRecursion (IsFragmentOfScript script.now) knowledge.now }
     ensures { OnOk result (string_bytes text.new ≡ string_bytes text.old ++ knowledge_text script.now number device knowledge.now) }
 {
-    push_known_heading(text, script, number, device, knowledge.fragments())?;
+    push_counted_heading(
+        text,
+        script,
+        number,
+        " knowledge ",
+        device,
+        knowledge.fragments(),
+    )?;
     push_fragments(text, script, knowledge)?;
-    Ok(())
-}
-
-fn push_known_heading(
-    text: &mut String,
-    script: &Script,
-    number: u32,
-    device: u16,
-    count: usize,
-) -> Result<(), AllocError>
-    requires { device < length script.now.names }
-    ensures { OnOk result (string_bytes text.new ≡ string_bytes text.old ++ known_heading_text script.now number device count) }
-{
-    let name = script.name(device);
-    writeln!(text, "{number} knowledge {name} {count}")?;
     Ok(())
 }
 

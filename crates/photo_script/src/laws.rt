@@ -1,6 +1,7 @@
 //! Laws of the definitions. Each function's contract is a law, and its body does nothing.
 ghost use Rattle.photo_script.specs.Laws.{AcceptedAreScripts, AnswersAreOne};
-ghost use Rattle.photo_script.specs.Examples.{FirstRun, SingleFaults, TwoFaults, LinesAndFields, Filters, Changes, Questions, KnownTexts, Moves, MovedTexts, Counts};
+ghost use Rattle.photo_script.specs.Examples.{FirstRun, SingleFaults, TwoFaults, LinesAndFields, Filters, Changes, Questions};
+ghost use Rattle.photo_script.specs.Examples.{KnownTexts, Moves, MovedTexts, Counts};
 
 /// What the definition accepts as the text of a script is a script: within the limits, with a filter for each device,
 /// commands on declared devices alone, and records in range.

@@ -2,9 +2,13 @@ ghost use Rattle.std.specs.Prelude.{◌≡◌, ◌≢◌, ℕ, List, [], ◌∷�
 ghost use Rattle.photo_script.specs.Lines.{fields_of, lines_of, third_field_on};
 ghost use Rattle.photo_script.specs.Limits.{max_text_bytes, max_line_bytes};
 ghost use Rattle.std.specs.Str.Lines.{strip_carriage_return};
-ghost use Rattle.photo_filter_rules.specs.Laws.{IsInRange};
+ghost use Rattle.photo_filter_rules.specs.Matching.{IsInRange};
 ghost use Rattle.photo_script.specs.Steps.{Gives};
-ghost use Rattle.photo_script.specs.Saying.{device_said, new_picture_said, record_said, device_line_said, declaration_said, new_line_said, picture_said, command_said, creation_said, edition_said, edit_line_said, remove_line_said, pull_line_said, narrow_line_said, narrowing_said, list_line_said, conflicts_line_said, knowledge_line_said, knows_line_said, version_said, question_line_said, command_line_said, fields_said, said};
+ghost use Rattle.photo_script.specs.Saying.{device_said, new_picture_said, record_said, picture_said, version_said};
+ghost use Rattle.photo_script.specs.Saying.{device_line_said, new_line_said, edit_line_said, remove_line_said, pull_line_said};
+ghost use Rattle.photo_script.specs.Saying.{narrow_line_said, list_line_said, conflicts_line_said, knowledge_line_said, knows_line_said};
+ghost use Rattle.photo_script.specs.Saying.{declaration_said, creation_said, edition_said, narrowing_said};
+ghost use Rattle.photo_script.specs.Saying.{question_line_said, command_line_said, command_said, fields_said, said};
 ghost use Rattle.photo_script.specs.Reading.{script_of, script_of_lines, MayWantMemory};
 ghost use Rattle.photo_script.specs.declared.fault.ScriptFault.TheVariants.{NoMemory, Read};
 
@@ -120,7 +124,8 @@ impl Reader {
 
     #[tactic(auto, unfolding(crate::specs::Saying::fields_said))]
     fn read_fields(&mut self, line: &str, fields: &[&str]) -> Result<(), Refusal>
-        ensures reads { Reads self.old (texts fields.now) (third_field_on line.now) (fields_said (seen self.old) (texts fields.now) (third_field_on line.now)) result self.new }
+        ensures reads { Reads self.old (texts fields.now) (third_field_on line.now)
+            (fields_said (seen self.old) (texts fields.now) (third_field_on line.now)) result self.new }
         ensures has_field { result ≡ Err Memory → texts fields.now ≢ [] }
     {
         let Some((word, arguments)) = fields.split_first() else {
@@ -137,7 +142,8 @@ impl Reader {
 
     #[tactic(auto, unfolding(crate::specs::Saying::command_line_said))]
     fn read_command(&mut self, line: &str, word: &str, arguments: &[&str]) -> Result<(), Refusal>
-        ensures { Reads self.old (word.now ∷ texts arguments.now) (third_field_on line.now) (command_line_said (seen self.old) word.now (texts arguments.now) (third_field_on line.now)) result self.new }
+        ensures { Reads self.old (word.now ∷ texts arguments.now) (third_field_on line.now)
+            (command_line_said (seen self.old) word.now (texts arguments.now) (third_field_on line.now)) result self.new }
     {
         match word {
             "new" => self.read_new(arguments),
@@ -151,7 +157,8 @@ impl Reader {
 
     #[tactic(auto, unfolding(crate::specs::Saying::question_line_said))]
     fn read_question(&mut self, word: &str, arguments: &[&str]) -> Result<(), Refusal>
-        ensures { (filter : List ℕ) → Reads self.old (word.now ∷ texts arguments.now) filter (question_line_said (seen self.old) word.now (texts arguments.now)) result self.new }
+        ensures { (filter : List ℕ) → Reads self.old (word.now ∷ texts arguments.now) filter
+            (question_line_said (seen self.old) word.now (texts arguments.now)) result self.new }
     {
         match word {
             "list" => self.read_list(arguments),
@@ -165,7 +172,8 @@ impl Reader {
     // `device NAME FILTER`
     #[tactic(auto, unfolding(crate::specs::Saying::device_line_said))]
     fn read_device(&mut self, arguments: &[&str], filter: &str) -> Result<(), Refusal>
-        ensures { Reads self.old (codes "device" ∷ texts arguments.now) filter.now (device_line_said (seen self.old) (texts arguments.now) filter.now) result self.new }
+        ensures { Reads self.old (codes "device" ∷ texts arguments.now) filter.now
+            (device_line_said (seen self.old) (texts arguments.now) filter.now) result self.new }
     {
         if self.script.commands() > 0 {
             return Err(Refusal::Fault(LineFault::LateDevice));
@@ -181,7 +189,8 @@ impl Reader {
 
     #[tactic(auto, unfolding(crate::specs::Saying::declaration_said))]
     fn declare(&mut self, name: &str, filter: &str) -> Result<(), Refusal>
-        ensures { (more : List (List ℕ)) → Reads self.old (codes "device" ∷ name.now ∷ more) filter.now (declaration_said (seen self.old) name.now filter.now) result self.new }
+        ensures { (more : List (List ℕ)) → Reads self.old (codes "device" ∷ name.now ∷ more) filter.now
+            (declaration_said (seen self.old) name.now filter.now) result self.new }
     {
         if self.script.devices() >= MAX_DEVICES {
             return Err(Refusal::Fault(LineFault::TooMany));
@@ -200,7 +209,8 @@ impl Reader {
     // `new DEV PIC RATING DATE WORDS`
     #[tactic(auto, unfolding(crate::specs::Saying::new_line_said))]
     fn read_new(&mut self, arguments: &[&str]) -> Result<(), Refusal>
-        ensures { Reads self.old (codes "new" ∷ texts arguments.now) [] (new_line_said (seen self.old) (texts arguments.now)) result self.new }
+        ensures { Reads self.old (codes "new" ∷ texts arguments.now) []
+            (new_line_said (seen self.old) (texts arguments.now)) result self.new }
     {
         let [name, picture, rating, date, words] = arguments else {
             return Err(Refusal::Fault(LineFault::WrongFields));
@@ -217,7 +227,10 @@ impl Reader {
         date: &str,
         words: &str,
     ) -> Result<(), Refusal>
-        ensures { Reads self.old (codes "new" ∷ name.now ∷ picture.now ∷ rating.now ∷ date.now ∷ words.now ∷ []) [] (command_said (seen self.old) (creation_said (seen self.old) name.now picture.now (record_said rating.now date.now words.now))) result self.new }
+        ensures { Reads self.old (codes "new" ∷ name.now ∷ picture.now ∷ rating.now ∷ date.now ∷ words.now ∷ []) []
+            (command_said (seen self.old)
+            (creation_said (seen self.old) name.now picture.now (record_said rating.now date.now words.now)))
+            result self.new }
     {
         let device = self.first_device(name)?;
         let picture = self.new_picture(picture)?;
@@ -232,7 +245,8 @@ impl Reader {
     // `edit DEV PIC RATING DATE WORDS`
     #[tactic(auto, unfolding(crate::specs::Saying::edit_line_said))]
     fn read_edit(&mut self, arguments: &[&str]) -> Result<(), Refusal>
-        ensures { Reads self.old (codes "edit" ∷ texts arguments.now) [] (edit_line_said (seen self.old) (texts arguments.now)) result self.new }
+        ensures { Reads self.old (codes "edit" ∷ texts arguments.now) []
+            (edit_line_said (seen self.old) (texts arguments.now)) result self.new }
     {
         let [name, picture, rating, date, words] = arguments else {
             return Err(Refusal::Fault(LineFault::WrongFields));
@@ -249,7 +263,10 @@ impl Reader {
         date: &str,
         words: &str,
     ) -> Result<(), Refusal>
-        ensures { Reads self.old (codes "edit" ∷ name.now ∷ picture.now ∷ rating.now ∷ date.now ∷ words.now ∷ []) [] (command_said (seen self.old) (edition_said (seen self.old) name.now picture.now (record_said rating.now date.now words.now))) result self.new }
+        ensures { Reads self.old (codes "edit" ∷ name.now ∷ picture.now ∷ rating.now ∷ date.now ∷ words.now ∷ []) []
+            (command_said (seen self.old)
+            (edition_said (seen self.old) name.now picture.now (record_said rating.now date.now words.now)))
+            result self.new }
     {
         let device = self.first_device(name)?;
         let picture = any_picture(picture)?;
@@ -264,7 +281,8 @@ impl Reader {
     // `remove DEV PIC`
     #[tactic(auto, unfolding(crate::specs::Saying::remove_line_said, crate::specs::Saying::command_said, crate::specs::Saying::removal_said))]
     fn read_remove(&mut self, arguments: &[&str]) -> Result<(), Refusal>
-        ensures { Reads self.old (codes "remove" ∷ texts arguments.now) [] (remove_line_said (seen self.old) (texts arguments.now)) result self.new }
+        ensures { Reads self.old (codes "remove" ∷ texts arguments.now) []
+            (remove_line_said (seen self.old) (texts arguments.now)) result self.new }
     {
         let [name, picture] = arguments else {
             return Err(Refusal::Fault(LineFault::WrongFields));
@@ -277,7 +295,8 @@ impl Reader {
     // `pull TARGET SOURCE`
     #[tactic(auto, unfolding(crate::specs::Saying::pull_line_said, crate::specs::Saying::command_said, crate::specs::Saying::pulling_said))]
     fn read_pull(&mut self, arguments: &[&str]) -> Result<(), Refusal>
-        ensures { Reads self.old (codes "pull" ∷ texts arguments.now) [] (pull_line_said (seen self.old) (texts arguments.now)) result self.new }
+        ensures { Reads self.old (codes "pull" ∷ texts arguments.now) []
+            (pull_line_said (seen self.old) (texts arguments.now)) result self.new }
     {
         let [target, source] = arguments else {
             return Err(Refusal::Fault(LineFault::WrongFields));
@@ -293,7 +312,8 @@ impl Reader {
     // `narrow DEV FILTER`
     #[tactic(auto, unfolding(crate::specs::Saying::narrow_line_said))]
     fn read_narrow(&mut self, arguments: &[&str], filter: &str) -> Result<(), Refusal>
-        ensures { Reads self.old (codes "narrow" ∷ texts arguments.now) filter.now (narrow_line_said (seen self.old) (texts arguments.now) filter.now) result self.new }
+        ensures { Reads self.old (codes "narrow" ∷ texts arguments.now) filter.now
+            (narrow_line_said (seen self.old) (texts arguments.now) filter.now) result self.new }
     {
         let Some((name, others)) = arguments.split_first() else {
             return Err(Refusal::Fault(LineFault::WrongFields));
@@ -306,7 +326,8 @@ impl Reader {
 
     #[tactic(auto, unfolding(crate::specs::Saying::command_said, crate::specs::Saying::narrowing_said))]
     fn narrow(&mut self, name: &str, filter: &str) -> Result<(), Refusal>
-        ensures { (more : List (List ℕ)) → Reads self.old (codes "narrow" ∷ name.now ∷ more) filter.now (command_said (seen self.old) (narrowing_said (seen self.old) name.now filter.now)) result self.new }
+        ensures { (more : List (List ℕ)) → Reads self.old (codes "narrow" ∷ name.now ∷ more) filter.now
+            (command_said (seen self.old) (narrowing_said (seen self.old) name.now filter.now)) result self.new }
     {
         let device = self.first_device(name)?;
         let filter = filter_of(self.alloc, filter)?;
@@ -316,7 +337,8 @@ impl Reader {
     // `list DEV`
     #[tactic(auto, unfolding(crate::specs::Saying::list_line_said, crate::specs::Saying::command_said))]
     fn read_list(&mut self, arguments: &[&str]) -> Result<(), Refusal>
-        ensures { Reads self.old (codes "list" ∷ texts arguments.now) [] (list_line_said (seen self.old) (texts arguments.now)) result self.new }
+        ensures { Reads self.old (codes "list" ∷ texts arguments.now) []
+            (list_line_said (seen self.old) (texts arguments.now)) result self.new }
     {
         let [name] = arguments else {
             return Err(Refusal::Fault(LineFault::WrongFields));
@@ -328,7 +350,8 @@ impl Reader {
     // `conflicts DEV`
     #[tactic(auto, unfolding(crate::specs::Saying::conflicts_line_said, crate::specs::Saying::command_said))]
     fn read_conflicts(&mut self, arguments: &[&str]) -> Result<(), Refusal>
-        ensures { Reads self.old (codes "conflicts" ∷ texts arguments.now) [] (conflicts_line_said (seen self.old) (texts arguments.now)) result self.new }
+        ensures { Reads self.old (codes "conflicts" ∷ texts arguments.now) []
+            (conflicts_line_said (seen self.old) (texts arguments.now)) result self.new }
     {
         let [name] = arguments else {
             return Err(Refusal::Fault(LineFault::WrongFields));
@@ -340,7 +363,8 @@ impl Reader {
     // `knowledge DEV`
     #[tactic(auto, unfolding(crate::specs::Saying::knowledge_line_said, crate::specs::Saying::command_said))]
     fn read_knowledge(&mut self, arguments: &[&str]) -> Result<(), Refusal>
-        ensures { Reads self.old (codes "knowledge" ∷ texts arguments.now) [] (knowledge_line_said (seen self.old) (texts arguments.now)) result self.new }
+        ensures { Reads self.old (codes "knowledge" ∷ texts arguments.now) []
+            (knowledge_line_said (seen self.old) (texts arguments.now)) result self.new }
     {
         let [name] = arguments else {
             return Err(Refusal::Fault(LineFault::WrongFields));
@@ -352,7 +376,8 @@ impl Reader {
     // `knows DEV PIC VERSION`
     #[tactic(auto, unfolding(crate::specs::Saying::knows_line_said, crate::specs::Saying::command_said, crate::specs::Saying::question_said))]
     fn read_knows(&mut self, arguments: &[&str]) -> Result<(), Refusal>
-        ensures { Reads self.old (codes "knows" ∷ texts arguments.now) [] (knows_line_said (seen self.old) (texts arguments.now)) result self.new }
+        ensures { Reads self.old (codes "knows" ∷ texts arguments.now) []
+            (knows_line_said (seen self.old) (texts arguments.now)) result self.new }
     {
         let [name, picture, version] = arguments else {
             return Err(Refusal::Fault(LineFault::WrongFields));

@@ -53,7 +53,10 @@ ghost use Rattle.photo_device.specs.Held.{entry_of, entries_of};
 ghost use Rattle.std.specs.Fmt.{decimal};
 ghost use Rattle.photo_version.specs.Author.{device_of_author};
 ghost use Rattle.photo_version.specs.Version.{version};
-ghost use Rattle.photo_script.specs.Reports.{IsAbout, IsOfScript, AreOfScript, answer_of, text_of, version_text, place_text, padded_decimal, day_text, words_text, record_text, entry_text, entries_text, made_text, not_held_text, heading_text, listed_text, yes_or_no, knows_text};
+ghost use Rattle.photo_script.specs.Reports.{IsAbout, IsOfScript, AreOfScript, answer_of, text_of};
+ghost use Rattle.photo_script.specs.Reports.{made_text, not_held_text, heading_text, counted_heading_text, listed_text};
+ghost use Rattle.photo_script.specs.Reports.{version_text, place_text, padded_decimal, day_text, words_text, record_text};
+ghost use Rattle.photo_script.specs.Reports.{entry_text, entries_text, yes_or_no, knows_text};
 
 /// The text of a report on the command of that number: a line, and for a list a line more for each held version, and
 /// for what a device knows one for each fragment, for conflicts one for each picture.
@@ -149,7 +152,8 @@ fn push_listed(
     requires device { device < length script.now.names }
     requires store { AreOfScript script.now (entries_of store.now) }
     requires out { AreOfScript script.now (entries_of out.now) }
-    ensures { OnOk result (string_bytes text.new ≡ string_bytes text.old ++ listed_text script.now number device (entries_of store.now) (entries_of out.now)) }
+    ensures { OnOk result (string_bytes text.new
+        ≡ string_bytes text.old ++ listed_text script.now number device (entries_of store.now) (entries_of out.now)) }
 {
     push_heading(text, script, number, device, store.len(), out.len())?;
     push_helds(text, script, Place::Store, store.as_slice())?;
@@ -170,6 +174,23 @@ fn push_heading(
 {
     let name = script.name(device);
     writeln!(text, "{number} list {name} store {stored} out {waiting}")?;
+    Ok(())
+}
+
+// The first line of what is told of a device in lines, and how many follow; `what` has a space on either side.
+pub(crate) fn push_counted_heading(
+    text: &mut String,
+    script: &Script,
+    number: u32,
+    what: &str,
+    device: u16,
+    count: usize,
+) -> Result<(), AllocError>
+    requires { device < length script.now.names }
+    ensures { OnOk result (string_bytes text.new ≡ string_bytes text.old ++ counted_heading_text script.now number what.now device count) }
+{
+    let name = script.name(device);
+    writeln!(text, "{number}{what}{name} {count}")?;
     Ok(())
 }
 

@@ -31,7 +31,7 @@ impl Model for Script {
 }
 
 impl Script {
-    ghost use Rattle.photo_filter_rules.specs.Laws.{IsInRange};
+    ghost use Rattle.photo_filter_rules.specs.Matching.{IsInRange};
     ghost use Rattle.photo_script.specs.Contents.{contents, record_of, IsWithin, NamesDevices, AreInRange};
     ghost use Rattle.photo_script.specs.Tallies.{tally_of};
 
@@ -111,7 +111,8 @@ impl Script {
     pub(crate) fn declare(&mut self, name: &str, filter: Filter) -> Result<(), AllocError>
         requires room { length self.old.names < max_devices }
         requires fresh { place_of self.old.names name.now ≡ None }
-        ensures ok { OnOk result (self.new ≡ contents (self.old.names ++ name.now ∷ []) (self.old.filters ++ filter ∷ []) self.old.commands) }
+        ensures ok { OnOk result
+            (self.new ≡ contents (self.old.names ++ name.now ∷ []) (self.old.filters ++ filter ∷ []) self.old.commands) }
         ensures err { OnErr result (self.new ≡ self.old) }
     {
         self.filters.push(filter)?;

@@ -129,6 +129,10 @@ const LINES_AND_FIELDS: &[(&str, &str)] = &[
     ("device a all\nlist\ra", "line 2: F5 UnknownCommand"),
     ("device a all\nlist a\r\r\n", "line 2: F8 UnknownDevice"),
     ("device a all\nlist a\r", "read"),
+    (
+        "device a all\r\nlist a\r\nfrob",
+        "line 3: F5 UnknownCommand",
+    ),
     ("device a all\n\r\n\r", "read"),
     ("device a all\nlist a\n", "read"),
     ("device a2345678901234b6 all", "read"),

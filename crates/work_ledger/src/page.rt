@@ -114,7 +114,8 @@ impl<B: Books> Page<B> {
         ensures pulls { (pulls.new.amount ≡ pulls.old.amount) × (pulls.new.parts ≡ pulls.old.parts) }
         ensures reports { (reports.new.amount ≡ reports.old.amount) × (reports.new.parts ≡ reports.old.parts) }
         ensures moves { (moves.new.amount ≡ moves.old.amount) × (moves.new.parts ≡ moves.old.parts) }
-        ensures least_kinds { (changes.old.amount ≤ result.changes) × (pulls.old.amount ≤ result.pulls) × (reports.old.amount ≤ result.reports) }
+        ensures least_kinds { (changes.old.amount ≤ result.changes) × (pulls.old.amount ≤ result.pulls)
+            × (reports.old.amount ≤ result.reports) }
         ensures least_moved { moves.old.amount ≤ result.moved }
         ensures most { Within (kinds_of result) B.tally }
         ensures all_changes { changes.old.parts ≡ all_parts → result.changes ≡ changes.old.amount }

@@ -2,7 +2,7 @@ use Rattle.std.proofs.Common.{◌≡◌, ◌++◌, [], List, ℕ, string_bytes, 
 use Rattle.std.proofs.lemmas.Option.{get_or_from_slice_get}
 use Rattle.std.specs.Fmt.{decimal}
 use Rattle.photo_script.specs.Reports.{name_of}
-use Rattle.photo_script.proofs.conflict_report.push_conflicts_heading.Goals as goal
+use Rattle.photo_script.proofs.report.push_counted_heading.Goals as goal
 
 regrouped : (a b c d e f : List ℕ) → a ++ (b ++ (c ++ (d ++ (e ++ f)))) ≡ a ++ b ++ c ++ d ++ e ++ f
 regrouped a b c d e f = sym (simp append_assoc)
@@ -13,6 +13,6 @@ returns c =
     let number = decimal c.args.number in
     let count = decimal c.args.count in
     let text = c.name-name.result.now in
-    let written : string_bytes c.writeln.new.self ≡ old ++ (number ++ (codes " conflicts " ++ (text ++ (codes " " ++ (count ++ codes "\n"))))) = c.in_ok-writeln.ensures.bytes in
+    let written : string_bytes c.writeln.new.self ≡ old ++ (number ++ (c.args.what.now ++ (text ++ (codes " " ++ (count ++ codes "\n"))))) = c.in_ok-writeln.ensures.bytes in
     let name : name_of c.args.script.now c.args.device ≡ text = get_or_from_slice_get c.args.script.now.names c.args.device _ [] c.name-name.ensures in
-    rw name (written ∙ ap (λ t. old ++ t) (regrouped number (codes " conflicts ") text (codes " ") count (codes "\n")))
+    rw name (written ∙ ap (λ t. old ++ t) (regrouped number (c.args.what.now) text (codes " ") count (codes "\n")))
