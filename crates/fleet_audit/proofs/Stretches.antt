@@ -1,5 +1,6 @@
 -- What a history has of an author's versions of a picture it has up to a place among them.
 use Rattle.std.proofs.Common.{◌≡◌, ℕ, zero, suc, ◌+◌, ◌<◌, ◌≤◌, Bool, true, false, ◌==◌, ltb, max, ◌&&◌, ◌||◌, List, [], ◌∷◌, length, get_or, take, drop, refl, sym, subst, ap, ◌∙◌, inl, inr, arith, add-one}
+use Rattle.std.proofs.Math.Bool.{or-false}
 use Rattle.std.specs.Prelude.{filter, not, Option}
 use Rattle.std.specs.List.{list_any, AllAdjacentBelow}
 use Rattle.std.specs.List.Sorted.{IsPartitionedBy}
@@ -79,13 +80,9 @@ module _ (viewer : Option Kept) (made stretch : List Held) (i count : ℕ) (w : 
   pub one_uncounted : counts viewer w ≡ false → (k : ℕ) (d : Held) → k < length stretch → ltb k count ≡ is_passed viewer (take (i + 1) made) (get_or stretch k d).version
   one_uncounted c k d h =
       passed k d h
-      ∙ sym (or_false (is_passed viewer (take i made) (get_or stretch k d).version))
+      ∙ sym (or-false (is_passed viewer (take i made) (get_or stretch k d).version))
       ∙ (λ j. is_passed viewer (take i made) (get_or stretch k d).version || (sym c j && denotes w.made_with (get_or stretch k d).version))
       ∙ sym (more (get_or stretch k d).version)
-    where
-      or_false : (t : Bool) → (t || false) ≡ t
-      or_false true = refl
-      or_false false = refl
 
 -- those of a stretch that are not outdated are its last ones
 pub last_current : (viewer : Option Kept) (log made stretch : List Held) (p count : ℕ) → IsStretch stretch → ((d : Held) → (get_or stretch 0 d).picture ≡ p)

@@ -61,7 +61,8 @@ pub fn current_of<'a>(viewer: Option<&Device>, log: &IssueLog, stretch: &'a [Hel
 fn outdated(viewer: Option<&Device>, made: &[Held], stretch: &[Held]) -> usize
     requires { IsStretch stretch.now }
     ensures within { result ≤ length stretch.now }
-    ensures passed { (k : ℕ) (d : spec.Held) → k < length stretch.now → nat_lt k result ≡ is_passed (option_copied viewer.entry) made.now (slice_index_or stretch.now k d).version }
+    ensures passed { (k : ℕ) (d : spec.Held) → k < length stretch.now
+        → nat_lt k result ≡ is_passed (option_copied viewer.entry) made.now (slice_index_or stretch.now k d).version }
 {
     let mut count = 0;
     for newer in made {
@@ -76,7 +77,8 @@ fn outdated(viewer: Option<&Device>, made: &[Held], stretch: &[Held]) -> usize
 fn made_with(history: &Vector, stretch: &[Held]) -> usize
     requires { IsStretch stretch.now }
     ensures within { result ≤ length stretch.now }
-    ensures known { (k : ℕ) (d : spec.Held) → k < length stretch.now → nat_lt k result ≡ denotes history.now (slice_index_or stretch.now k d).version }
+    ensures known { (k : ℕ) (d : spec.Held) → k < length stretch.now
+        → nat_lt k result ≡ denotes history.now (slice_index_or stretch.now k d).version }
 {
     stretch.partition_point(|held| history.has(held.version))
 }

@@ -15,6 +15,7 @@ use photo_device::{Device, Held, HeldSet};
 pub fn is_sound(device: &Device, log: &IssueLog) -> bool
     ensures { (m : ModelDevice) → Shows device.now m → result ≡ sound.is_sound (entries_of log.now) m }
 {
+    // For their facts alone: the index has the versions of the log, and what is true of every device.
     let _versions = log.by_picture();
     let _store = device.store();
     stores_wanted(device, log) && stores_nothing_else(device, log)

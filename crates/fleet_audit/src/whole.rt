@@ -12,7 +12,8 @@ use photo_device::Device;
 /// Whether each device stores just what its filter selects of the newest versions that it knows, and each version of the
 /// log that no other one supersedes is held by some device. It takes no memory and asks nothing of the devices.
 pub fn audit(devices: &[Device], log: &IssueLog) -> bool
-    ensures { (models : List ModelDevice) → AllZip Shows devices.now models → result ≡ (list_all (is_sound (entries_of log.now)) models && is_kept (entries_of log.now) models) }
+    ensures { (models : List ModelDevice) → AllZip Shows devices.now models
+        → result ≡ (list_all (is_sound (entries_of log.now)) models && is_kept (entries_of log.now) models) }
 {
     for device in devices {
         if !is_sound(device, log) {

@@ -1,6 +1,6 @@
 -- What stays true of a log and its devices besides where versions come from.
 use Rattle.std.proofs.Common.{◌≡◌, ℕ, ◌<◌, true, false, List, length}
-use Rattle.photo_filter_rules.specs.Laws.{IsInRange}
+use Rattle.photo_filter_rules.specs.Matching.{IsInRange}
 use Rattle.photo_version.specs.Version.{Version}
 use Rattle.photo_device.specs.Entry.{Entry}
 use Rattle.photo_device.specs.Device.{ModelDevice, known, knows_entry, holds, selects}

@@ -2,8 +2,7 @@
 use Rattle.std.proofs.Common.{◌≡◌, ℕ, ◌≤◌, true, false, ◌==◌, List, [], ◌∷◌, ◌++◌, ◌⊎◌, inl, inr, sym, subst}
 use Rattle.std.proofs.lemmas.Bool.{cases_Bool, eqb-true, eqb-false}
 use Rattle.photo_record.specs.declared.record.Record.{Record}
-use Rattle.photo_filter_rules.specs.Laws.{IsInRange}
-use Rattle.photo_filter_rules.specs.Matching.{matches}
+use Rattle.photo_filter_rules.specs.Matching.{IsInRange, matches}
 use Rattle.photo_version.specs.Version.{Version}
 use Rattle.photo_device.specs.Entry.{Entry}
 use Rattle.photo_device.specs.Device.{ModelDevice, known, knows_entry, holds, selects, new_entry, next_version, made}

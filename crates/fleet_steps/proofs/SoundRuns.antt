@@ -1,7 +1,7 @@
 -- After commands of a script, in whatever order, each device is sound, and nothing current is lost.
 use Rattle.std.proofs.Common.{ℕ, List, [], sym, subst}
 use Rattle.photo_filter_text.specs.Tree.{Tree}
-use Rattle.photo_filter_rules.specs.Laws.{IsInRange}
+use Rattle.photo_filter_rules.specs.Matching.{IsInRange}
 use Rattle.photo_version.specs.Author.{author}
 use Rattle.photo_device.specs.Device.{opening}
 use Rattle.photo_script.specs.Runs.{opening_from, run_in_order, numbers_to}

@@ -30,7 +30,8 @@ pub fn run_command(
     requires alone { (devices_of command.now).1 ≡ None }
     requires room { device.old.counter < 4_294_967_295 }
     ensures device { OnOk result ((m : ModelDevice) → Shows device.old m → Shows device.new (effect command.now m None).first) }
-    ensures report { IfOk result (λ report. (m : ModelDevice) → Shows device.old m → Tells (answer_of report) (effect command.now m None).report) }
+    ensures report { IfOk result
+        (λ report. (m : ModelDevice) → Shows device.old m → Tells (answer_of report) (effect command.now m None).report) }
     ensures err { OnErr result (device.new ≡ device.old) }
     ensures memory { OnErr result ((m : ModelDevice) → Shows device.old m → MayWantMemory command.now m) }
 {
@@ -83,9 +84,12 @@ pub fn run_pull(
     source: &mut Device,
 ) -> Result<Report, AllocError>
     requires { MayPull target.old source.old }
-    ensures target { OnOk result ((t s : ModelDevice) → Shows target.old t → Shows source.old s → Shows target.new (pulling t (Some s)).first) }
-    ensures source { OnOk result ((t s : ModelDevice) → Shows target.old t → Shows source.old s → IfSome (pulling t (Some s)).second (Shows source.new)) }
-    ensures report { IfOk result (λ report. (t s : ModelDevice) → Shows target.old t → Shows source.old s → Tells (answer_of report) (pulling t (Some s)).report) }
+    ensures target { OnOk result
+        ((t s : ModelDevice) → Shows target.old t → Shows source.old s → Shows target.new (pulling t (Some s)).first) }
+    ensures source { OnOk result ((t s : ModelDevice) → Shows target.old t → Shows source.old s
+        → IfSome (pulling t (Some s)).second (Shows source.new)) }
+    ensures report { IfOk result (λ report. (t s : ModelDevice) → Shows target.old t → Shows source.old s
+        → Tells (answer_of report) (pulling t (Some s)).report) }
     ensures target_kept { OnErr result (target.new ≡ target.old) }
     ensures source_kept { OnErr result (source.new ≡ source.old) }
 {
@@ -106,6 +110,7 @@ fn knowledge_of(device: u16, knowledge: &Knowledge) -> Result<Report, AllocError
     ensures given { IfOk result (λ report. answer_of report ≡ KnowledgeOf device knowledge.now) }
     ensures normal { is_normal knowledge.now ≡ true }
 {
+    // For its fact alone: a knowledge is in normal form.
     let _count = knowledge.fragments();
     Ok(Report::KnowledgeOf {
         device,
@@ -117,7 +122,8 @@ fn knowledge_of(device: u16, knowledge: &Knowledge) -> Result<Report, AllocError
 fn run_edit(device: &mut Device, picture: PicNo, content: &Record) -> Result<Report, AllocError>
     requires { device.old.counter < 4_294_967_295 }
     ensures device { OnOk result ((m : ModelDevice) → Shows device.old m → Shows device.new (changing m None picture content.now).first) }
-    ensures report { IfOk result (λ report. (m : ModelDevice) → Shows device.old m → Tells (answer_of report) (changing m None picture content.now).report) }
+    ensures report { IfOk result (λ report. (m : ModelDevice) → Shows device.old m
+        → Tells (answer_of report) (changing m None picture content.now).report) }
     ensures err { OnErr result (device.new ≡ device.old) }
     ensures memory { OnErr result ((m : ModelDevice) → Shows device.old m → is_held m picture ≡ true) }
 {
@@ -128,7 +134,8 @@ fn run_edit(device: &mut Device, picture: PicNo, content: &Record) -> Result<Rep
 fn run_remove(device: &mut Device, picture: PicNo) -> Result<Report, AllocError>
     requires { device.old.counter < 4_294_967_295 }
     ensures device { OnOk result ((m : ModelDevice) → Shows device.old m → Shows device.new (changing m None picture Removed).first) }
-    ensures report { IfOk result (λ report. (m : ModelDevice) → Shows device.old m → Tells (answer_of report) (changing m None picture Removed).report) }
+    ensures report { IfOk result (λ report. (m : ModelDevice) → Shows device.old m
+        → Tells (answer_of report) (changing m None picture Removed).report) }
     ensures err { OnErr result (device.new ≡ device.old) }
     ensures memory { OnErr result ((m : ModelDevice) → Shows device.old m → is_held m picture ≡ true) }
 {
@@ -138,7 +145,8 @@ fn run_remove(device: &mut Device, picture: PicNo) -> Result<Report, AllocError>
 // The filter stays the script's, so the device gets a copy, made once it is known to be narrower.
 fn run_narrow(device: &mut Device, filter: &Filter) -> Result<Report, AllocError>
     ensures device { OnOk result ((m : ModelDevice) → Shows device.old m → Shows device.new (narrowing m None filter.now).first) }
-    ensures report { IfOk result (λ report. (m : ModelDevice) → Shows device.old m → Tells (answer_of report) (narrowing m None filter.now).report) }
+    ensures report { IfOk result
+        (λ report. (m : ModelDevice) → Shows device.old m → Tells (answer_of report) (narrowing m None filter.now).report) }
     ensures err { OnErr result (device.new ≡ device.old) }
     ensures memory { OnErr result (covers device.old.tree filter.now ≡ true) }
 {

@@ -23,10 +23,13 @@ pub fn run_on(
     requires within { IsWithin (length devices.old) command.now }
     requires ready { AreReady devices.old }
     requires room { HaveRoom devices.old }
-    ensures devices { OnOk result ((models : List ModelDevice) → AllZip Shows devices.old models → AllZip Shows devices.new (devices_after models command.now)) }
-    ensures report { IfOk result (λ report. (models : List ModelDevice) → AllZip Shows devices.old models → Tells (answer_of report) (effect_on models command.now).report) }
+    ensures devices { OnOk result ((models : List ModelDevice) → AllZip Shows devices.old models
+        → AllZip Shows devices.new (devices_after models command.now)) }
+    ensures report { IfOk result (λ report. (models : List ModelDevice) → AllZip Shows devices.old models
+        → Tells (answer_of report) (effect_on models command.now).report) }
     ensures err { OnErr result (devices.new ≡ devices.old) }
-    ensures memory { OnErr result ((models : List ModelDevice) → AllZip Shows devices.old models → MayWantMemory command.now (device_at models (devices_of command.now).0)) }
+    ensures memory { OnErr result ((models : List ModelDevice) → AllZip Shows devices.old models
+        → MayWantMemory command.now (device_at models (devices_of command.now).0)) }
 {
     match devices_of(command) {
         (device, None) => run_command(alloc, command, &mut devices[usize::from(device.value())]),
@@ -50,8 +53,10 @@ fn pull_between(
     requires source { source < length devices.old }
     requires differ { source ≢ target }
     requires ready { AreReady devices.old }
-    ensures devices { OnOk result ((models : List ModelDevice) → AllZip Shows devices.old models → AllZip Shows devices.new (after_pull target source models)) }
-    ensures report { IfOk result (λ report. (models : List ModelDevice) → AllZip Shows devices.old models → answer_of report ≡ Pulled (counts_of (device_at models target) (device_at models source))) }
+    ensures devices { OnOk result ((models : List ModelDevice) → AllZip Shows devices.old models
+        → AllZip Shows devices.new (after_pull target source models)) }
+    ensures report { IfOk result (λ report. (models : List ModelDevice) → AllZip Shows devices.old models
+        → answer_of report ≡ Pulled (counts_of (device_at models target) (device_at models source))) }
     ensures err { OnErr result (devices.new ≡ devices.old) }
 {
     if target < source {

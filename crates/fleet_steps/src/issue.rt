@@ -27,9 +27,12 @@ pub fn run_and_log(
     requires within { IsWithin (length devices.old) command.now }
     requires ready { AreReady devices.old }
     requires room { HaveRoom devices.old }
-    ensures devices { OnOk result ((models : List ModelDevice) → AllZip Shows devices.old models → AllZip Shows devices.new (devices_after models command.now)) }
-    ensures report { IfOk result (λ report. (models : List ModelDevice) → AllZip Shows devices.old models → Tells (answer_of report) (effect_on models command.now).report) }
-    ensures log { OnOk result ((models : List ModelDevice) → AllZip Shows devices.old models → entries_of log.new.items ≡ entries_of log.old.items ++ (effect_on models command.now).entries) }
+    ensures devices { OnOk result ((models : List ModelDevice) → AllZip Shows devices.old models
+        → AllZip Shows devices.new (devices_after models command.now)) }
+    ensures report { IfOk result (λ report. (models : List ModelDevice) → AllZip Shows devices.old models
+        → Tells (answer_of report) (effect_on models command.now).report) }
+    ensures log { OnOk result ((models : List ModelDevice) → AllZip Shows devices.old models
+        → entries_of log.new.items ≡ entries_of log.old.items ++ (effect_on models command.now).entries) }
 {
     let report = run_on(alloc, command, devices)?;
     log_issued(log, command, &report, devices)?;
@@ -45,7 +48,9 @@ fn log_issued(
     devices: &[Device],
 ) -> Result<(), AllocError>
     requires { IsWithin (length devices.now) command.now }
-    ensures { OnOk result ((models : List ModelDevice) → AllZip Shows devices.now (devices_after models command.now) → Tells (answer_of report.now) (effect_on models command.now).report → entries_of log.new.items ≡ entries_of log.old.items ++ (effect_on models command.now).entries) }
+    ensures { OnOk result ((models : List ModelDevice) → AllZip Shows devices.now (devices_after models command.now)
+        → Tells (answer_of report.now) (effect_on models command.now).report
+        → entries_of log.new.items ≡ entries_of log.old.items ++ (effect_on models command.now).entries) }
 {
     match issued(command, report, devices) {
         Some(held) => {
@@ -59,7 +64,9 @@ fn log_issued(
 // What a device holds of the version that a command has just made on it.
 fn issued<'a>(command: &Command, report: &Report, devices: &'a [Device]) -> Option<&'a Held>
     requires { IsWithin (length devices.now) command.now }
-    ensures { (models : List ModelDevice) → AllZip Shows devices.now (devices_after models command.now) → Tells (answer_of report.now) (effect_on models command.now).report → entries_of (option_to_list (option_copied result)) ≡ (effect_on models command.now).entries }
+    ensures { (models : List ModelDevice) → AllZip Shows devices.now (devices_after models command.now)
+        → Tells (answer_of report.now) (effect_on models command.now).report
+        → entries_of (option_to_list (option_copied result)) ≡ (effect_on models command.now).entries }
 {
     let picture = picture_of(command)?;
     let version = version_told(report)?;
@@ -70,7 +77,9 @@ fn issued<'a>(command: &Command, report: &Report, devices: &'a [Device]) -> Opti
 /// What a device holds of the version that a command on it alone has just made, if the command has made one. The report is
 /// the one on the command.
 pub fn made_on<'a>(command: &Command, report: &Report, device: &'a Device) -> Option<&'a Held>
-    ensures { (m : ModelDevice) → Shows device.now (effect command.now m None).first → Tells (answer_of report.now) (effect command.now m None).report → entries_of (option_to_list (option_copied result)) ≡ (effect command.now m None).entries }
+    ensures { (m : ModelDevice) → Shows device.now (effect command.now m None).first
+        → Tells (answer_of report.now) (effect command.now m None).report
+        → entries_of (option_to_list (option_copied result)) ≡ (effect command.now m None).entries }
 {
     let picture = picture_of(command)?;
     let version = version_told(report)?;

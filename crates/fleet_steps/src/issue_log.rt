@@ -107,6 +107,7 @@ fn copy_of(held: &Held) -> Result<Held, AllocError>
     ensures copy { IfOk result (λ copy. copy ≡ held.now) }
     ensures above { 0 < held.now.picture }
 {
+    // For its fact alone: a picture's number is above 0.
     let _number = held.picture.value();
     held.try_clone()
 }
