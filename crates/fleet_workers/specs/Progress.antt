@@ -1,4 +1,4 @@
--- How far workers have come between two batches.
+-- Machinery of the proofs: how far workers have come between two batches.
 use Rattle.std.specs.Prelude.{◌≡◌, ℕ, List, length, map, replicate, Some}
 use Rattle.photo_device.specs.Device.{Kept}
 use Rattle.photo_script.specs.Contents.{Contents}

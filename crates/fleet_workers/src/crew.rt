@@ -83,7 +83,8 @@ fn start<
     }
 }
 
-// Starts a worker for each group of jobs, the last group's first, and joins all that were started.
+// Starts a worker for each group of jobs but the first, the last group's first; runs the first group's jobs on the thread
+// that it is on, and joins all that were started.
 pub(crate) fn run_crew<
     B: Books + Send + Sync + 'static,
     G: Gate + 'static,
@@ -108,6 +109,9 @@ pub(crate) fn run_crew<
     let Some(jobs) = groups.pop() else {
         return Ok(Vec::new(alloc));
     };
+    if groups.is_empty() {
+        return run_here(&rt, alloc, script, ledger, gate, share, jobs);
+    }
     let Ok(script_copy) = Arc::try_clone(script) else {
         return Err(RunError::NoMemory);
     };
@@ -117,6 +121,7 @@ pub(crate) fn run_crew<
     let Ok(gate_copy) = Arc::try_clone(gate) else {
         return Err(RunError::NoMemory);
     };
+    // For its fact alone: what the share may count can be counted.
     let _left = share.left();
     let mine = share.split(tally(&**script, &jobs));
     let running = start(rt, alloc, script_copy, ledger_copy, gate_copy, mine, jobs)?;
@@ -130,6 +135,37 @@ pub(crate) fn run_crew<
     share.join(theirs);
     let all = put_behind(done, last)?;
     Ok(all)
+}
+
+// Runs the jobs of one worker on the thread that it is on.
+fn run_here<B: Books, G: Gate, R: Wait>(
+    rt: &R,
+    alloc: Global,
+    script: &Arc<Script>,
+    ledger: &Arc<Ledger<B>>,
+    gate: &Arc<G>,
+    share: &mut Share<B>,
+    jobs: Vec<Job>,
+) -> Result<Vec<Done>, RunError>
+    requires ready { AreReadyJobs (arc_value script.now) jobs.items }
+    requires parts { 2 ≤ share.old.parts }
+    requires left { Within (tally_at (arc_value script.now) (numbers_of jobs.items)) share.old.left }
+    ensures done { IfOk result (λ done. AreDoneJobs (arc_value script.now) jobs.items done.items) }
+    ensures share { IfOk result (λ done. share.new ≡ stake share.old.parts (less share.old.left (tally_at (arc_value script.now) (numbers_of jobs.items))) (both share.old.done (worked (tally_at (arc_value script.now) (numbers_of jobs.items)) (moved_in done.items)))) }
+    ensures err { IfErr result (λ e. e ≡ NoMemory) }
+{
+    // For its fact alone: what the share may count can be counted.
+    let _left = share.left();
+    let mine = share.split(tally(&**script, &jobs));
+    let Ok(finished) = run_jobs(rt, alloc, &**script, &**ledger, &**gate, mine, jobs) else {
+        return Err(RunError::NoMemory);
+    };
+    let Finished {
+        share: theirs,
+        done,
+    } = finished;
+    share.join(theirs);
+    Ok(done)
 }
 
 // The results of the others and then those of the last worker.

@@ -1,5 +1,6 @@
 // A batch is dealt to workers: each command with the devices that it works on.
-ghost use Rattle.std.specs.Prelude.{◌≡◌, ◌≢◌, ◌<◌, ◌∷◌, ◌++◌, [], ℕ, List, Option, Some, None, true, length, map, replicate, IsSome, IfSome, IfOk, OnOk, slice_index_or, slice_set};
+ghost use Rattle.std.specs.Prelude.{◌≡◌, ◌≢◌, ◌<◌, ◌∷◌, ◌++◌, []};
+ghost use Rattle.std.specs.Prelude.{ℕ, List, Option, Some, None, true, length, map, replicate, IsSome, IfSome, IfOk, OnOk, slice_index_or, slice_set};
 ghost use Rattle.std.specs.List.{AllByRecursion};
 ghost use Rattle.photo_device.specs.Device.{Kept};
 ghost use Rattle.photo_script.specs.Contents.{devices_of};
@@ -27,7 +28,8 @@ pub(crate) fn deal(
     requires long { length slots.old.items ≡ length script.now.names }
     requires here { (devices : List Kept) × (slots.old.items ≡ map Some devices) }
     requires count { 0 < length members.now → 0 < count }
-    ensures { IfOk result (λ groups. (devices : List Kept) → slots.old.items ≡ map Some devices → IsDealt script.now members.now devices count groups.items slots.new.items) }
+    ensures { IfOk result (λ groups. (devices : List Kept) → slots.old.items ≡ map Some devices
+        → IsDealt script.now members.now devices count groups.items slots.new.items) }
 {
     let mut groups = no_groups(alloc, count)?;
     for i in 0..members.len() {
@@ -62,8 +64,12 @@ fn add_job(groups: &mut Vec<Vec<Job>>, place: usize, job: Job) -> Result<(), All
 fn take_job(script: &Script, slots: &mut Vec<Option<Device>>, number: u32) -> Job
     requires number { IsNumber script.now number }
     requires long { length slots.old.items ≡ length script.now.names }
-    requires here { (k : ℕ) → k < length slots.old.items → uses script.now number k ≡ true → (x : Option Kept) → IsSome (slice_index_or slots.old.items k x) }
-    ensures job { (devices : List Kept) → length devices ≡ length slots.old.items → ((k : ℕ) → k < length devices → uses script.now number k ≡ true → (x : Option Kept) (d : Kept) → slice_index_or slots.old.items k x ≡ Some (slice_index_or devices k d)) → IsJobAt script.now devices result }
+    requires here { (k : ℕ) → k < length slots.old.items → uses script.now number k ≡ true → (x : Option Kept)
+        → IsSome (slice_index_or slots.old.items k x) }
+    ensures job { (devices : List Kept) → length devices ≡ length slots.old.items
+        → ((k : ℕ) → k < length devices → uses script.now number k ≡ true → (x : Option Kept) (d : Kept)
+        → slice_index_or slots.old.items k x ≡ Some (slice_index_or devices k d))
+        → IsJobAt script.now devices result }
     ensures number { result.number ≡ number }
     ensures slots { slots.new.items ≡ taken_slots script.now number slots.old.items }
     ensures long { length slots.new.items ≡ length script.now.names }

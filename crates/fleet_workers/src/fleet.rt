@@ -28,11 +28,11 @@ use std::sync::{Arc, Wait};
 use std::thread::Threads;
 use work_ledger::{Blanks, Books, open};
 
-/// Runs a script by several workers, each in a thread of its own, batch by batch. The commands of a batch work on no common
-/// device. Of a batch of `m` commands the one at place `i`, from 0, goes to worker `i mod min(workers, m)`, which takes its
-/// commands in the order of their numbers; for each it calls the gate, runs the command, counts it in a ledger, and calls the
-/// gate with what all workers together had then counted. No lock is held meanwhile. All workers of a batch are joined before
-/// the next one begins.
+/// Runs a script by several workers, each in a thread of its own, batch by batch: the first worker's thread is the one that
+/// calls, and the others' are started. The commands of a batch work on no common device. Of a batch of `m` commands the one
+/// at place `i`, from 0, goes to worker `i mod min(workers, m)`, which takes its commands in the order of their numbers; for
+/// each it calls the gate, runs the command, counts it in a ledger, and calls the gate with what all workers together had
+/// then counted. No lock is held meanwhile. All workers of a batch are joined before the next one begins.
 ///
 /// The outcome is that of the run command by command, but for the order of the log. Its totals are what the ledger counted.
 /// Where memory was refused (E1) or a thread could not be started (E2), all workers that were started have been joined, and
@@ -139,6 +139,7 @@ fn commands_of(script: &Script) -> usize
     ensures count { result ≡ length script.now.commands }
     ensures script { IsScript script.now }
 {
+    // For its fact alone: what is true of every script.
     let _devices = script.devices();
     script.commands()
 }

@@ -54,7 +54,9 @@ fn entry_made(
     report: &Report,
     device: &Device,
 ) -> Result<Option<Held>, AllocError>
-    ensures { IfOk result (λ entry. (m : ModelDevice) → Shows device.now (effect command.now m None).first → Tells (answer_of report.now) (effect command.now m None).report → entries_of (option_to_list entry) ≡ (effect command.now m None).entries) }
+    ensures { IfOk result (λ entry. (m : ModelDevice) → Shows device.now (effect command.now m None).first
+        → Tells (answer_of report.now) (effect command.now m None).report
+        → entries_of (option_to_list entry) ≡ (effect command.now m None).entries) }
 {
     match made_on(command, report, device) {
         Some(held) => Ok(Some(held.try_clone()?)),
