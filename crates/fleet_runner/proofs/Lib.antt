@@ -5,4 +5,3 @@ pub mod Streams
 pub mod Outputs
 pub mod WorkedExamples
 pub mod PlanLines
-pub mod Refusals

@@ -1,11 +1,12 @@
 -- The worked examples are computed by the definitions alone.
 use Rattle.std.proofs.Common.{◌≡◌, ℕ, Bool, true, false, eqb, leb, ◌&&◌, ◌||◌, List, [], ◌∷◌, map, Ok, refl, sym, ap, ◌∙◌, subst}
+use Rattle.std.proofs.Math.Bool.{or-false}
 use Rattle.std.specs.Prelude.{Option}
 use Rattle.std.specs.Fmt.{digits}
 use Rattle.std.specs.Io.KnownBytes.{Appends}
 use Rattle.photo_record.specs.Calendar.{date_of, years_off, months_off}
 use Rattle.item_knowledge.specs.Fragments.{Fragment}
-use Rattle.photo_device.proofs.OwnLemmas.{one_more, none_up_to}
+use Rattle.photo_device.proofs.OwnLemmas.{one_more, none_up_to, up_to_one}
 use Rattle.photo_script.specs.Laws.{AnswersAreOne}
 use Rattle.photo_script.specs.Contents.{Contents}
 use Rattle.photo_script.specs.Reading.{script_of}
@@ -31,17 +32,6 @@ stored_printed : IsOutput stored_run printed
 unfolding text_of digits date_of years_off months_off
 stored_printed = record { answers = answers_to 0 stored_run; right = (refl, (refl, tt)); texts = refl }
 
-or_false : (b : Bool) → (b || false) ≡ b
-or_false true = refl
-or_false false = refl
-
--- one version was made
-up_to_one : (b : Bool) (n : ℕ) → (((b && (leb 1 n && leb n 1)) || false) || false) ≡ ((false || (b && eqb 1 n)) || false)
-up_to_one false n = refl
-up_to_one true n =
-    let one : (false || eqb 1 n) ≡ (leb 1 n && leb n 1) = ap (λ x. x || eqb 1 n) (none_up_to n) ∙ one_more n 0 in
-    or_false ((leb 1 n && leb n 1) || false) ∙ ap (λ x. x || false) (sym one)
-
 -- four versions were made, one after another
 up_to_four : (b : Bool) (n : ℕ) → (((b && (leb 1 n && leb n 4)) || false) || false) ≡ (((((false || (b && eqb 1 n)) || (b && eqb 2 n)) || (b && eqb 3 n)) || (b && eqb 4 n)) || false)
 up_to_four false n = refl
@@ -50,7 +40,7 @@ up_to_four true n =
     let two : ((false || eqb 1 n) || eqb 2 n) ≡ (leb 1 n && leb n 2) = ap (λ x. x || eqb 2 n) one ∙ one_more n 1 in
     let three : (((false || eqb 1 n) || eqb 2 n) || eqb 3 n) ≡ (leb 1 n && leb n 3) = ap (λ x. x || eqb 3 n) two ∙ one_more n 2 in
     let four : ((((false || eqb 1 n) || eqb 2 n) || eqb 3 n) || eqb 4 n) ≡ (leb 1 n && leb n 4) = ap (λ x. x || eqb 4 n) three ∙ one_more n 3 in
-    or_false ((leb 1 n && leb n 4) || false) ∙ ap (λ x. x || false) (sym four)
+    or-false ((leb 1 n && leb n 4) || false) ∙ ap (λ x. x || false) (sym four)
 
 below_printed : IsOutput below_the_filter printed_below
 unfolding text_of digits date_of years_off months_off

@@ -23,9 +23,12 @@ pub fn write_reports<W: Write>(
 ) -> Result<(), RunError>
     requires few { length reports.now ≤ max_commands }
     requires about { AllByRecursion (IsAbout script.now) (map answer_of reports.now) }
-    ensures written { OnOk result (Appends (W.contents writer.old) (W.contents writer.new) (texts_from script.now 1 (map answer_of reports.now))) }
-    ensures first { result ≡ Err NoMemory → AppendsFirst (W.contents writer.old) (W.contents writer.new) script.now (map answer_of reports.now) }
-    ensures front { result ≡ Err Write → AppendsFront (W.contents writer.old) (W.contents writer.new) (texts_from script.now 1 (map answer_of reports.now)) }
+    ensures written { OnOk result
+        (Appends (W.contents writer.old) (W.contents writer.new) (texts_from script.now 1 (map answer_of reports.now))) }
+    ensures first { result ≡ Err NoMemory
+        → AppendsFirst (W.contents writer.old) (W.contents writer.new) script.now (map answer_of reports.now) }
+    ensures front { result ≡ Err Write
+        → AppendsFront (W.contents writer.old) (W.contents writer.new) (texts_from script.now 1 (map answer_of reports.now)) }
     ensures err { IfErr result IsOfWriting }
 {
     write_texts(alloc, writer, script, reports)?;
@@ -43,9 +46,12 @@ fn write_texts<W: Write>(
 ) -> Result<(), RunError>
     requires few { length reports.now ≤ max_commands }
     requires about { AllByRecursion (IsAbout script.now) (map answer_of reports.now) }
-    ensures written { OnOk result (Appends (W.contents writer.old) (W.contents writer.new) (texts_from script.now 1 (map answer_of reports.now))) }
-    ensures first { result ≡ Err NoMemory → AppendsFirst (W.contents writer.old) (W.contents writer.new) script.now (map answer_of reports.now) }
-    ensures front { result ≡ Err Write → AppendsFront (W.contents writer.old) (W.contents writer.new) (texts_from script.now 1 (map answer_of reports.now)) }
+    ensures written { OnOk result
+        (Appends (W.contents writer.old) (W.contents writer.new) (texts_from script.now 1 (map answer_of reports.now))) }
+    ensures first { result ≡ Err NoMemory
+        → AppendsFirst (W.contents writer.old) (W.contents writer.new) script.now (map answer_of reports.now) }
+    ensures front { result ≡ Err Write
+        → AppendsFront (W.contents writer.old) (W.contents writer.new) (texts_from script.now 1 (map answer_of reports.now)) }
     ensures err { IfErr result IsOfWriting }
 {
     let mut text = String::new(alloc);

@@ -14,7 +14,8 @@ use std::io::Read;
 /// other fault but want of memory is that of the source's text.
 pub fn read_source<R: Read>(alloc: Global, reader: &mut R) -> Result<Script, ScriptFault>
     ensures read { IfOk result (λ script. IfSome (R.remaining reader.old) (λ input. script_of input ≡ Ok script)) }
-    ensures refused { IfErr result (λ fault. fault ≢ Read → fault ≢ NoMemory → IfSome (R.remaining reader.old) (λ input. script_of input ≡ Err fault)) }
+    ensures refused { IfErr result
+        (λ fault. fault ≢ Read → fault ≢ NoMemory → IfSome (R.remaining reader.old) (λ input. script_of input ≡ Err fault)) }
     ensures taken { TakesAtMost (R.remaining reader.old) (R.remaining reader.new) (max_text_bytes + 1) }
 {
     let bytes = read_bytes(alloc, reader)?;

@@ -28,7 +28,8 @@ pub fn plain_stream<R: Read, W: Write>(
     ensures written { OnOk result (IfSome (R.remaining reader.old) (WritesOutput (W.contents writer.old) (W.contents writer.new))) }
     ensures first { result ≡ Err NoMemory → IfSome (R.remaining reader.old) (WritesFirst (W.contents writer.old) (W.contents writer.new)) }
     ensures front { result ≡ Err Write → IfSome (R.remaining reader.old) (WritesFront (W.contents writer.old) (W.contents writer.new)) }
-    ensures refused { (fault : ScriptFault) → result ≡ Err (Script fault) → fault ≢ script.Read → fault ≢ script.NoMemory → IfSome (R.remaining reader.old) (λ input. script_of input ≡ Err fault) }
+    ensures refused { (fault : ScriptFault) → result ≡ Err (Script fault) → fault ≢ script.Read → fault ≢ script.NoMemory
+        → IfSome (R.remaining reader.old) (λ input. script_of input ≡ Err fault) }
     ensures nothing { (fault : ScriptFault) → result ≡ Err (Script fault) → writer.new ≡ writer.old }
     ensures taken { TakesAtMost (R.remaining reader.old) (R.remaining reader.new) (max_text_bytes + 1) }
     ensures err { IfErr result IsOfPlainRun }
@@ -56,7 +57,8 @@ pub fn run_stream<R: Read, W: Write, G: Gate + 'static, T: Threads + Wait + Copy
     ensures written { OnOk result (IfSome (R.remaining reader.old) (WritesOutput (W.contents writer.old) (W.contents writer.new))) }
     ensures first { result ≡ Err NoMemory → IfSome (R.remaining reader.old) (WritesFirst (W.contents writer.old) (W.contents writer.new)) }
     ensures front { result ≡ Err Write → IfSome (R.remaining reader.old) (WritesFront (W.contents writer.old) (W.contents writer.new)) }
-    ensures refused { (fault : ScriptFault) → result ≡ Err (Script fault) → fault ≢ script.Read → fault ≢ script.NoMemory → IfSome (R.remaining reader.old) (λ input. script_of input ≡ Err fault) }
+    ensures refused { (fault : ScriptFault) → result ≡ Err (Script fault) → fault ≢ script.Read → fault ≢ script.NoMemory
+        → IfSome (R.remaining reader.old) (λ input. script_of input ≡ Err fault) }
     ensures nothing { (fault : ScriptFault) → result ≡ Err (Script fault) → writer.new ≡ writer.old }
     ensures nothing_without_worker { result ≡ Err NoWorker → writer.new ≡ writer.old }
     ensures taken { TakesAtMost (R.remaining reader.old) (R.remaining reader.new) (max_text_bytes + 1) }
@@ -74,7 +76,8 @@ pub fn run_stream<R: Read, W: Write, G: Gate + 'static, T: Threads + Wait + Copy
 fn script_read<R: Read>(alloc: Global, reader: &mut R) -> Result<photo_script::Script, RunError>
     ensures read { IfOk result (λ script. IfSome (R.remaining reader.old) (λ input. script_of input ≡ Ok script)) }
     ensures sound { AcceptedStaysSound }
-    ensures refused { (fault : ScriptFault) → result ≡ Err (Script fault) → fault ≢ script.Read → fault ≢ script.NoMemory → IfSome (R.remaining reader.old) (λ input. script_of input ≡ Err fault) }
+    ensures refused { (fault : ScriptFault) → result ≡ Err (Script fault) → fault ≢ script.Read → fault ≢ script.NoMemory
+        → IfSome (R.remaining reader.old) (λ input. script_of input ≡ Err fault) }
     ensures taken { TakesAtMost (R.remaining reader.old) (R.remaining reader.new) (max_text_bytes + 1) }
     ensures err { IfErr result IsOfReading }
 {

@@ -7,7 +7,7 @@ mod knowing;
 mod memory;
 mod orders;
 mod pulling;
-mod refusals;
+mod same;
 mod streams;
 mod totals;
 mod workers;

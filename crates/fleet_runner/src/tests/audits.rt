@@ -91,8 +91,10 @@ const REMOVAL: &str =
 
 // The knowledge of a camera that stopped after its first version.
 fn first_known(alloc: Global) -> Option<Knowledge>
-    ensures star { IfSome result (λ k. (a : authors.Author) → star_bound k a ≡ (if authors.same_author (authors.author 0) a then 1 else 0)) }
-    ensures known { IfSome result (λ k. (p : ℕ) (v : versions.Version) → 0 < p → knows k p v ≡ versions.same_version (versions.version (authors.author 0) 1) v) }
+    ensures star { IfSome result
+        (λ k. (a : authors.Author) → star_bound k a ≡ (if authors.same_author (authors.author 0) a then 1 else 0)) }
+    ensures known { IfSome result (λ k. (p : ℕ) (v : versions.Version) → 0 < p
+        → knows k p v ≡ versions.same_version (versions.version (authors.author 0) 1) v) }
 {
     let Some(version) = Version::new(Author::new(0), 1) else {
         return None;
@@ -109,7 +111,8 @@ fn first_known(alloc: Global) -> Option<Knowledge>
 // A device that made and holds nothing, with that knowledge.
 fn knowing(device: Device, knowledge: Knowledge) -> Option<Device>
     requires star { (a : authors.Author) → star_bound knowledge a ≡ (if authors.same_author (authors.author 0) a then 1 else 0) }
-    requires known { (p : ℕ) (v : versions.Version) → 0 < p → knows knowledge p v ≡ versions.same_version (versions.version (authors.author 0) 1) v }
+    requires known { (p : ℕ) (v : versions.Version) → 0 < p
+        → knows knowledge p v ≡ versions.same_version (versions.version (authors.author 0) 1) v }
 {
     if device.author().value() == 0 || device.counter() != 0 {
         return None;

@@ -10,7 +10,7 @@ use super::drawn::{COMMANDS, drawn};
 use super::memory::Sink;
 use super::orders::FOUR_DEVICES;
 use super::pulling::{NARROWED, PULLS};
-use super::refusals::all_same;
+use super::same::all_same;
 use super::totals::totals;
 use crate::{
     Gate, IssueLog, OpenGate, Outcome, Workers, replay, run_fleet, run_plain, write_reports,

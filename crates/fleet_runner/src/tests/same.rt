@@ -1,0 +1,34 @@
+//! Whether devices are the same.
+use photo_device::{Device, HeldSet};
+
+fn same_held(one: &HeldSet, other: &HeldSet) -> bool {
+    if one.len() != other.len() {
+        return false;
+    }
+    for i in 0..one.len() {
+        if one.get(i) != other.get(i) {
+            return false;
+        }
+    }
+    true
+}
+
+fn same(one: &Device, other: &Device) -> bool {
+    one.counter() == other.counter()
+        && same_held(one.store(), other.store())
+        && same_held(one.out(), other.out())
+        && one.knowledge().same(other.knowledge())
+}
+
+/// Whether two lists of devices are the same, as far as public readers tell.
+pub fn all_same(devices: &[Device], others: &[Device]) -> bool {
+    if devices.len() != others.len() {
+        return false;
+    }
+    for i in 0..devices.len() {
+        if !same(&devices[i], &others[i]) {
+            return false;
+        }
+    }
+    true
+}
