@@ -8,7 +8,7 @@ use Rattle.std.proofs.lemmas.List.Sums.{fold-append}
 use Rattle.std.proofs.lemmas.Option.{slice_get_cases}
 use Rattle.photo_record.specs.declared.record.Record.{Record}
 use Rattle.photo_filter_text.specs.Tree.{Tree, All}
-use Rattle.photo_filter_rules.specs.Laws.{IsInRange}
+use Rattle.photo_filter_rules.specs.Matching.{IsInRange}
 use Rattle.photo_version.specs.Author.{author}
 use Rattle.photo_device.specs.declared.held.Held.{Held}
 use Rattle.photo_device.specs.Entry.{Entry}

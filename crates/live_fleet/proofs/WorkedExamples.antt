@@ -2,7 +2,7 @@
 use Rattle.std.proofs.Common.{◌≡◌, ℕ, ◌≤◌, Bool, true, false, eqb, leb, ◌&&◌, ◌||◌, List, [], ◌∷◌, refl, sym, ap, ◌∙◌, subst, arith}
 use Rattle.std.specs.List.{AllZip}
 use Rattle.photo_filter_text.specs.Tree.{All}
-use Rattle.photo_device.proofs.OwnLemmas.{one_more, none_up_to}
+use Rattle.photo_device.proofs.OwnLemmas.{up_to_one}
 use Rattle.photo_device.specs.Entry.{Entry}
 use Rattle.photo_device.specs.Held.{entry_of, entries_of}
 use Rattle.photo_device.specs.Device.{Kept, ModelDevice, Shows, holds}
@@ -36,17 +36,6 @@ changed_by_hand = record {
   sound = refl;
   kept = refl;
 }
-
-or_false : (b : Bool) → (b || false) ≡ b
-or_false true = refl
-or_false false = refl
-
--- one version was made
-up_to_one : (b : Bool) (n : ℕ) → (((b && (leb 1 n && leb n 1)) || false) || false) ≡ ((false || (b && eqb 1 n)) || false)
-up_to_one false n = refl
-up_to_one true n =
-    let one : (false || eqb 1 n) ≡ (leb 1 n && leb n 1) = ap (λ x. x || eqb 1 n) (none_up_to n) ∙ one_more n 0 in
-    or_false ((leb 1 n && leb n 1) || false) ∙ ap (λ x. x || false) (sym one)
 
 came : CameAbout (with_log (first_held ∷ []))
 came = record {

@@ -1,4 +1,4 @@
--- What a command puts into the log, if it makes a version.
+-- Machinery of the proofs: what a command puts into the log, if it makes a version.
 use Rattle.std.specs.Prelude.{Option, Some, None, is_some, List, [], if◌then◌else◌}
 use Rattle.photo_record.specs.declared.record.Record.TheVariants.{Removed}
 use Rattle.photo_device.specs.Entry.{Entry}

@@ -2,7 +2,7 @@
 use Rattle.std.specs.Prelude.{◌≡◌, ℕ, ◌+◌, List, [], ◌∷◌, ◌++◌, length, IfSome}
 use Rattle.std.specs.List.{AllZip, AllByRecursion}
 use Rattle.photo_filter_text.specs.Tree.{Tree}
-use Rattle.photo_filter_rules.specs.Laws.{IsInRange}
+use Rattle.photo_filter_rules.specs.Matching.{IsInRange}
 use Rattle.photo_device.specs.declared.held.Held.{Held}
 use Rattle.photo_device.specs.Held.{entries_of}
 use Rattle.photo_device.specs.Device.{Kept, Shows}

@@ -21,7 +21,9 @@ pub(crate) fn held_if_made(
 ) -> Result<Option<Held>, AllocError>
     requires within { IsWithin (length devices.now) command.now }
     requires room { HaveRoom devices.now }
-    ensures { IfOk result (λ held. (models : List ModelDevice) → AllZip Shows devices.now models → entries_of (option_to_list held) ≡ option_to_list (entry_if_made command.now (device_at models (devices_of command.now).0))) }
+    ensures { IfOk result (λ held. (models : List ModelDevice) → AllZip Shows devices.now models
+        → entries_of (option_to_list held)
+        ≡ option_to_list (entry_if_made command.now (device_at models (devices_of command.now).0))) }
 {
     match command {
         Command::New {
@@ -50,7 +52,8 @@ fn next_on(
 ) -> Result<Option<Held>, AllocError>
     requires within { place < length devices.now }
     requires room { HaveRoom devices.now }
-    ensures { IfOk result (λ held. (models : List ModelDevice) → AllZip Shows devices.now models → entries_of (option_to_list held) ≡ new_entry (device_at models place) picture content.now ∷ []) }
+    ensures { IfOk result (λ held. (models : List ModelDevice) → AllZip Shows devices.now models
+        → entries_of (option_to_list held) ≡ new_entry (device_at models place) picture content.now ∷ []) }
 {
     let held = next_of(&devices[usize::from(place)], picture, content)?;
     Ok(Some(held))

@@ -10,6 +10,7 @@ use crate::Fleet;
 pub fn each_fleet_is_sound(fleet: &Fleet)
     ensures { HasSoundHistory fleet.now }
 {
+    // For its fact alone: every fleet came about by commands.
     let _devices = fleet.devices();
 }
 

@@ -1,7 +1,7 @@
 // That the ratings and days of records are ones that there are, by their types.
 ghost use Rattle.std.specs.Prelude.{◌≤◌, IfSome};
 ghost use Rattle.photo_record.specs.Limits.{max_rating, IsDay};
-ghost use Rattle.photo_filter_rules.specs.Laws.{IsInRange};
+ghost use Rattle.photo_filter_rules.specs.Matching.{IsInRange};
 ghost use Rattle.photo_script.specs.Contents.{record_of};
 
 use photo_record::{Day, Rating, Record};
@@ -30,6 +30,7 @@ fn parts_in_range(rating: Rating, day: Day)
     ensures rating { rating ≤ max_rating }
     ensures day { IsDay day }
 {
+    // For their facts alone: a rating and a day are in range.
     let _rating = rating.value();
     let _day = day.number();
 }

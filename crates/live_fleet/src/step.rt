@@ -26,9 +26,12 @@ pub(crate) fn run_and_keep(
     requires within { IsWithin (length devices.old) command.now }
     requires ready { AreReady devices.old }
     requires room { HaveRoom devices.old }
-    ensures devices { OnOk result ((models : List ModelDevice) → AllZip Shows devices.old models → AllZip Shows devices.new (devices_after models command.now)) }
-    ensures report { IfOk result (λ report. (models : List ModelDevice) → AllZip Shows devices.old models → Tells (answer_of report) (effect_on models command.now).report) }
-    ensures log { OnOk result ((models : List ModelDevice) → AllZip Shows devices.old models → entries_of log.new.items ≡ entries_of log.old.items ++ (effect_on models command.now).entries) }
+    ensures devices { OnOk result ((models : List ModelDevice) → AllZip Shows devices.old models
+        → AllZip Shows devices.new (devices_after models command.now)) }
+    ensures report { IfOk result (λ report. (models : List ModelDevice) → AllZip Shows devices.old models
+        → Tells (answer_of report) (effect_on models command.now).report) }
+    ensures log { OnOk result ((models : List ModelDevice) → AllZip Shows devices.old models
+        → entries_of log.new.items ≡ entries_of log.old.items ++ (effect_on models command.now).entries) }
     ensures devices_kept { OnErr result (devices.new ≡ devices.old) }
     ensures log_kept { OnErr result (log.new.items ≡ log.old.items) }
 {
