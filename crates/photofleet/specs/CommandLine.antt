@@ -1,6 +1,7 @@
 -- The command line of the program, as `clap` sees it, and what `clap` says of words.
 use Rattle.std.specs.Prelude.{List, Some, true, pos, codes}
 use Rattle.clap.specs.Words.{App, Rule, Text, Kinds, new_app, new_rule, with_rule, with_subcommand, fault_of}
+use Rattle.clap.specs.Lexer.{usize_max}
 use Rattle.clap.specs.declared.builder.action.ArgAction.TheVariants.{Set, Append}
 use Rattle.clap.specs.declared.builder.value_parser.ValueParser.TheVariants.{Signed}
 use Rattle.fleet_workers.specs.Limits.{max_workers}
@@ -21,7 +22,11 @@ workers_argument = record (new_rule (codes "workers")) {
 
 -- numbers from 1 to 100,000, perhaps none
 abbrev pub order_argument : Rule
-order_argument = record (new_rule (codes "ORDER")) { action = Some Append; parser = Some (Signed (pos 1) (pos 100000)) }
+order_argument = record (new_rule (codes "ORDER")) {
+  range = Some (record { start_inclusive = 0; end_inclusive = usize_max });
+  action = Some Append;
+  parser = Some (Signed (pos 1) (pos 100000));
+}
 
 -- `plain FILE`
 abbrev pub plain_command : App

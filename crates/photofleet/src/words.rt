@@ -173,15 +173,11 @@ fn batches_command<'a>(alloc: Global) -> Result<Command<'a>, AllocError>
 fn replay_command<'a>(alloc: Global) -> Result<Command<'a>, AllocError>
     ensures { IfOk result (λ command. app_of command ≡ replay_command) }
 {
-    let order = Arg::new(alloc, "ORDER")
-        .help("The numbers of all commands, in the order in which they are to run")
-        .value_parser(value_parser!(u32).range(1..=100_000))
-        .action(ArgAction::Append);
     Command::new(alloc, "replay")
         .about("Runs a script in another lawful order and prints the same reports")
         .after_help(REPLAY)
         .arg(file_argument(alloc))?
-        .arg(order)
+        .arg(order_argument(alloc))
 }
 
 fn workers_argument<'a>(alloc: Global) -> Arg<'a>
@@ -205,4 +201,16 @@ fn file_argument<'a>(alloc: Global) -> Arg<'a>
         .help("The file with the script")
         .required(true)
         .action(ArgAction::Set)
+}
+
+// Its numbers are read as the values of one use: a use for each would cost more than twice as much.
+fn order_argument<'a>(alloc: Global) -> Arg<'a>
+    ensures rule { rule_of result ≡ order_argument }
+    ensures own { result.global ≡ false }
+{
+    Arg::new(alloc, "ORDER")
+        .help("The numbers of all commands, in the order in which they are to run")
+        .num_args(0..)
+        .value_parser(value_parser!(u32).range(1..=100_000))
+        .action(ArgAction::Append)
 }
