@@ -247,7 +247,8 @@ fn removes(alloc: Global, device: &mut Device) -> Option<bool> {
 fn change(alloc: Global) -> Option<Change>
     ensures drops { IfSome result (λ change. change.drops ≡ []) }
     ensures takes { IfSome result (λ change. change.takes ≡ []) }
-    ensures gain { IfSome result (λ change. (p : ℕ) (v : versions.Version) → 0 < p → knows change.gain p v ≡ ((7 == p) && denotes ((author 1, 3) ∷ []) v)) }
+    ensures gain { IfSome result (λ change. (p : ℕ) (v : versions.Version) → 0 < p
+        → knows change.gain p v ≡ ((7 == p) && denotes ((author 1, 3) ∷ []) v)) }
 {
     let gain = told(alloc, 7, 3)?;
     Some(Change {

@@ -28,6 +28,8 @@ fn verdict_on_others(alloc: Global, call: &str) -> Option<Verdict> {
     match call {
         "Fleet::remove" => on_fleet(alloc, Call::Remove),
         "Fleet::narrow" => on_fleet(alloc, Call::Narrow),
+        "Fleet::make first" => first_made(alloc),
+        "Fleet::pull first" => first_pulled(alloc),
         _ => None,
     }
 }
@@ -221,4 +223,70 @@ fn narrows(alloc: Global, fleet: &mut Fleet) -> Option<bool>
     let moved = fleet.narrow(0, &filter);
     mark(alloc);
     Some(moved.ok()? == Some(1) && fleet.commands() == 5 && fleet.log().len() == 3)
+}
+
+// What came of a fleet's first version, for which the log has no room yet.
+fn first_made(alloc: Global) -> Option<Verdict> {
+    let mut fleet = two_devices(alloc)?;
+    match two_devices(alloc) {
+        Some(twin) => {
+            let right = makes_first(alloc, &mut fleet);
+            Some(judged(right, same_fleet(&fleet, &twin)))
+        }
+        None => None,
+    }
+}
+
+fn makes_first(alloc: Global, fleet: &mut Fleet) -> Option<bool>
+    requires devices { length fleet.old.devices ≡ 2 }
+    requires commands { fleet.old.commands ≡ 0 }
+{
+    let (picture, content) = (PicNo::new(7)?, rated(alloc, 4)?);
+    mark(alloc);
+    let made = fleet.make(0, picture, &content);
+    mark(alloc);
+    let (version, place) = made.ok()?;
+    Some(version.n() == 1 && place == Place::Store && fleet.log().len() == 1)
+}
+
+// Two devices, the first of which holds a version, and the second nothing.
+fn with_one(alloc: Global) -> Option<Fleet>
+    ensures devices { IfSome result (λ fleet. length fleet.devices ≡ 2) }
+    ensures commands { IfSome result (λ fleet. fleet.commands ≤ 4) }
+{
+    let mut fleet = two_devices(alloc)?;
+    make_one(alloc, &mut fleet)?;
+    Some(fleet)
+}
+
+fn make_one(alloc: Global, fleet: &mut Fleet) -> Option<()>
+    requires devices { length fleet.old.devices ≡ 2 }
+    requires commands { fleet.old.commands ≡ 0 }
+    ensures devices { length fleet.new.devices ≡ 2 }
+    ensures commands { fleet.new.commands ≤ 4 }
+{
+    fleet.make(0, PicNo::new(7)?, &rated(alloc, 4)?).ok()?;
+    Some(())
+}
+
+// What came of a pull into a device whose store has no room yet.
+fn first_pulled(alloc: Global) -> Option<Verdict> {
+    let mut fleet = with_one(alloc)?;
+    match with_one(alloc) {
+        Some(twin) => {
+            let right = pulls_first(alloc, &mut fleet);
+            Some(judged(right, same_fleet(&fleet, &twin)))
+        }
+        None => None,
+    }
+}
+
+fn pulls_first(alloc: Global, fleet: &mut Fleet) -> Option<bool>
+    requires devices { length fleet.old.devices ≡ 2 }
+    requires commands { fleet.old.commands ≤ 4 }
+{
+    mark(alloc);
+    let counts = fleet.pull(1, 0);
+    mark(alloc);
+    Some(counts.ok()? == TAKEN && fleet.commands() == 2 && fleet.log().len() == 1)
 }

@@ -82,7 +82,8 @@ fn knows(knowledge: &Knowledge, picture: u32, n: u32) -> bool {
 
 /// What knows of a picture device 1's first `n` versions, and nothing else.
 pub fn told(alloc: Global, picture: u32, n: u32) -> Option<Knowledge>
-    ensures { IfSome result (λ knowledge. (p : ℕ) (v : versions.Version) → 0 < p → knows knowledge p v ≡ ((picture == p) && denotes ((author 1, n) ∷ []) v)) }
+    ensures { IfSome result (λ knowledge. (p : ℕ) (v : versions.Version) → 0 < p
+        → knows knowledge p v ≡ ((picture == p) && denotes ((author 1, n) ∷ []) v)) }
 {
     let mut knowledge = Knowledge::new(alloc).ok()?;
     let vector = vector_of(alloc, 1, n)?;

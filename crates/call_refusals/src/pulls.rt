@@ -1,4 +1,4 @@
-ghost use Rattle.std.specs.Prelude.{◌≡◌, ◌<◌, ◌≤◌, nat_lt, true, length, IfSome};
+ghost use Rattle.std.specs.Prelude.{◌≡◌, ◌<◌, ◌≤◌, nat_lt, true, None, length, IfSome};
 ghost use Rattle.std.specs.List.{list_all};
 ghost use Rattle.fleet_steps.specs.Between.{AreReady, HaveRoom, MayPull};
 
@@ -13,10 +13,25 @@ use std::alloc::Global;
 /// What came of a pull.
 pub fn verdict(alloc: Global, call: Call) -> Option<Verdict> {
     let mut devices = devices_before(alloc)?;
-    let twins = devices_before(alloc)?;
-    let right = pulls(alloc, devices.as_mut_slice(), call);
-    let unchanged = same_devices(devices.as_slice(), twins.as_slice());
-    Some(judged(right, unchanged))
+    match devices_before(alloc) {
+        Some(twins) => Some(on_twins(alloc, devices.as_mut_slice(), twins.as_slice(), call)),
+        None => None,
+    }
+}
+
+fn on_twins(alloc: Global, devices: &mut [Device], twins: &[Device], call: Call) -> Verdict
+    requires ready { AreReady devices.old }
+{
+    if devices.len() != 3 {
+        return Verdict::Wrong;
+    }
+    match call {
+        Call::RunOn => on_all(alloc, devices, twins),
+        _ => {
+            let right = pulls_between(alloc, devices, call);
+            judged(right, same_devices(devices, twins))
+        }
+    }
 }
 
 /// The calls that pull.
@@ -40,6 +55,7 @@ fn devices_before(alloc: Global) -> Option<Vec<Device>>
     ensures { IfSome result (λ devices. AreReady devices.items) }
 {
     let script = read_script(alloc, BEFORE.as_bytes()).ok()?;
+    // For their facts alone: what is true of every script.
     let _devices = script.devices();
     let _commands = script.commands();
     match run_plain(alloc, &script) {
@@ -72,23 +88,6 @@ fn has_taken(srv: &Device) -> bool {
         && srv.knowledge().fragments() == 2
 }
 
-fn pulls(alloc: Global, devices: &mut [Device], call: Call) -> Option<bool>
-    requires ready { AreReady devices.old }
-{
-    if devices.len() != 3 {
-        return Some(false);
-    }
-    match call {
-        Call::RunOn => {
-            if !have_room(devices) {
-                return Some(false);
-            }
-            runs_on(alloc, devices)
-        }
-        _ => pulls_between(alloc, devices, call),
-    }
-}
-
 // Whether each device may make a version more.
 fn have_room(devices: &[Device]) -> bool
     ensures { result ≡ list_all (λ d. nat_lt d.counter 4_294_967_295) devices.now }
@@ -96,21 +95,42 @@ fn have_room(devices: &[Device]) -> bool
     devices.iter().all(|device| device.counter() < u32::MAX)
 }
 
+// What came of a command that pulls. After one that was refused memory, the next one has to be right.
+fn on_all(alloc: Global, devices: &mut [Device], twins: &[Device]) -> Verdict
+    requires three { length devices.old ≡ 3 }
+    requires ready { AreReady devices.old }
+{
+    if !have_room(devices) {
+        return Verdict::Wrong;
+    }
+    mark(alloc);
+    let right = runs_on(alloc, devices);
+    mark(alloc);
+    match right {
+        Some(right) => judged(Some(right), true),
+        None => judged(
+            None,
+            same_devices(devices, twins) && runs_on(alloc, devices) == Some(true),
+        ),
+    }
+}
+
+// Whether the command that pulls is right. None where memory was refused.
 #[tactic(auto, using(crate::proofs::Ready::room_for_all))]
 fn runs_on(alloc: Global, devices: &mut [Device]) -> Option<bool>
     requires three { length devices.old ≡ 3 }
     requires ready { AreReady devices.old }
     requires room { list_all (λ d. nat_lt d.counter 4_294_967_295) devices.old ≡ true }
+    ensures kept { result ≡ None → devices.new ≡ devices.old }
 {
     let command = Command::Pull {
         target: 1,
         source: 0,
     };
-    mark(alloc);
-    let report = run_on(alloc, &command, devices);
-    mark(alloc);
-    let report = report.ok()?;
-    Some(is_told(&report) && devices.len() == 3 && has_taken(&devices[1]))
+    match run_on(alloc, &command, devices) {
+        Ok(report) => Some(is_told(&report) && devices.len() == 3 && has_taken(&devices[1])),
+        Err(_) => None,
+    }
 }
 
 fn pulls_between(alloc: Global, devices: &mut [Device], call: Call) -> Option<bool>
