@@ -13,7 +13,7 @@ use Rattle.photo_record.proofs.rating.Rating.TheSendSync as rating
 use Rattle.photo_version.proofs.author.Author.TheSendSync as author
 use Rattle.photo_record.proofs.word.Word.TheSendSync as word
 use Rattle.photo_record.proofs.record.Record.TheSendSync as record_
-use Rattle.photo_filter_rules.proofs.choice.Choice.TheSendSync as choice
+use Rattle.photo_filter_rules.proofs.alternative.Alternative.TheSendSync as alternative
 use Rattle.photo_filter_rules.proofs.span.Span.TheSendSync as span
 use Rattle.item_knowledge.proofs.knowledge.Knowledge.TheSendSync as knowledge
 use Rattle.photo_device.proofs.held.Held.TheSendSync as held
@@ -25,6 +25,7 @@ use Rattle.photo_filter_rules.specs.contracts.filter.Filter as filter_
 use Rattle.photo_device.specs.contracts.device.Device as device
 use Rattle.photo_script.specs.contracts.command.Command as command
 use Rattle.photo_script.specs.contracts.script.Script as script
+use Rattle.fleet_workers.specs.contracts.parcel.Parcel as parcel
 use Rattle.fleet_workers.specs.contracts.work.Job as job
 use Rattle.fleet_workers.specs.contracts.work.Done as done
 
@@ -42,14 +43,14 @@ tree_sync = first_of (
 
 pub filter_send : IsSend filter_.the_row
 filter_send = first_of (
-  search (memory.the_field_send, memory.the_send, memory.the_field_sync, memory.the_sync, global.the_field_send, global.the_send, global.the_field_sync, global.the_sync, vec.the_send, vec.the_sync, string.the_field_send, string.the_send, string.the_field_sync, string.the_sync, box.the_send, box.the_sync, choice.the_send, choice.the_sync, span.the_field_send, span.the_send, span.the_field_sync, span.the_sync, cmp.the_field_send, cmp.the_send, cmp.the_field_sync, cmp.the_sync, day.the_send, day.the_sync, rating.the_send, rating.the_sync, word.the_send, word.the_sync, crosses, knot.crosses, sendable) depth 60 fits 20000,
-  search (memory.the_field_send, memory.the_send, memory.the_field_sync, memory.the_sync, global.the_field_send, global.the_send, global.the_field_sync, global.the_sync, vec.the_send, vec.the_sync, string.the_field_send, string.the_send, string.the_field_sync, string.the_sync, box.the_send, box.the_sync, choice.the_send, choice.the_sync, span.the_field_send, span.the_send, span.the_field_sync, span.the_sync, cmp.the_field_send, cmp.the_send, cmp.the_field_sync, cmp.the_sync, day.the_send, day.the_sync, rating.the_send, rating.the_sync, word.the_send, word.the_sync, crosses, knot.crosses_both, sendable) depth 60 fits 20000,
+  search (memory.the_field_send, memory.the_send, memory.the_field_sync, memory.the_sync, global.the_field_send, global.the_send, global.the_field_sync, global.the_sync, vec.the_send, vec.the_sync, string.the_field_send, string.the_send, string.the_field_sync, string.the_sync, box.the_send, box.the_sync, alternative.the_send, alternative.the_sync, span.the_field_send, span.the_send, span.the_field_sync, span.the_sync, cmp.the_field_send, cmp.the_send, cmp.the_field_sync, cmp.the_sync, day.the_send, day.the_sync, rating.the_send, rating.the_sync, word.the_send, word.the_sync, crosses, knot.crosses, sendable) depth 60 fits 20000,
+  search (memory.the_field_send, memory.the_send, memory.the_field_sync, memory.the_sync, global.the_field_send, global.the_send, global.the_field_sync, global.the_sync, vec.the_send, vec.the_sync, string.the_field_send, string.the_send, string.the_field_sync, string.the_sync, box.the_send, box.the_sync, alternative.the_send, alternative.the_sync, span.the_field_send, span.the_send, span.the_field_sync, span.the_sync, cmp.the_field_send, cmp.the_send, cmp.the_field_sync, cmp.the_sync, day.the_send, day.the_sync, rating.the_send, rating.the_sync, word.the_send, word.the_sync, crosses, knot.crosses_both, sendable) depth 60 fits 20000,
 )
 
 pub filter_sync : IsSync filter_.the_row
 filter_sync = first_of (
-  search (memory.the_field_send, memory.the_send, memory.the_field_sync, memory.the_sync, global.the_field_send, global.the_send, global.the_field_sync, global.the_sync, vec.the_send, vec.the_sync, string.the_field_send, string.the_send, string.the_field_sync, string.the_sync, box.the_send, box.the_sync, choice.the_send, choice.the_sync, span.the_field_send, span.the_send, span.the_field_sync, span.the_sync, cmp.the_field_send, cmp.the_send, cmp.the_field_sync, cmp.the_sync, day.the_send, day.the_sync, rating.the_send, rating.the_sync, word.the_send, word.the_sync, crosses, knot.crosses, sendable) depth 60 fits 20000,
-  search (memory.the_field_send, memory.the_send, memory.the_field_sync, memory.the_sync, global.the_field_send, global.the_send, global.the_field_sync, global.the_sync, vec.the_send, vec.the_sync, string.the_field_send, string.the_send, string.the_field_sync, string.the_sync, box.the_send, box.the_sync, choice.the_send, choice.the_sync, span.the_field_send, span.the_send, span.the_field_sync, span.the_sync, cmp.the_field_send, cmp.the_send, cmp.the_field_sync, cmp.the_sync, day.the_send, day.the_sync, rating.the_send, rating.the_sync, word.the_send, word.the_sync, crosses, knot.crosses_both, sendable) depth 60 fits 20000,
+  search (memory.the_field_send, memory.the_send, memory.the_field_sync, memory.the_sync, global.the_field_send, global.the_send, global.the_field_sync, global.the_sync, vec.the_send, vec.the_sync, string.the_field_send, string.the_send, string.the_field_sync, string.the_sync, box.the_send, box.the_sync, alternative.the_send, alternative.the_sync, span.the_field_send, span.the_send, span.the_field_sync, span.the_sync, cmp.the_field_send, cmp.the_send, cmp.the_field_sync, cmp.the_sync, day.the_send, day.the_sync, rating.the_send, rating.the_sync, word.the_send, word.the_sync, crosses, knot.crosses, sendable) depth 60 fits 20000,
+  search (memory.the_field_send, memory.the_send, memory.the_field_sync, memory.the_sync, global.the_field_send, global.the_send, global.the_field_sync, global.the_sync, vec.the_send, vec.the_sync, string.the_field_send, string.the_send, string.the_field_sync, string.the_sync, box.the_send, box.the_sync, alternative.the_send, alternative.the_sync, span.the_field_send, span.the_send, span.the_field_sync, span.the_sync, cmp.the_field_send, cmp.the_send, cmp.the_field_sync, cmp.the_sync, day.the_send, day.the_sync, rating.the_send, rating.the_sync, word.the_send, word.the_sync, crosses, knot.crosses_both, sendable) depth 60 fits 20000,
 )
 
 pub device_send : IsSend device.the_row
@@ -67,8 +68,11 @@ script_send = search (memory.the_field_send, memory.the_send, memory.the_field_s
 pub script_sync : IsSync script.the_row
 script_sync = search (memory.the_field_send, memory.the_send, memory.the_field_sync, memory.the_sync, global.the_field_send, global.the_send, global.the_field_sync, global.the_sync, vec.the_send, vec.the_sync, string.the_field_send, string.the_send, string.the_field_sync, string.the_sync, box.the_send, box.the_sync, crosses, names.the_sync, filter_sync, command_sync, sendable) depth 60 fits 20000
 
+pub parcel_send : IsSend parcel.the_row
+parcel_send = search (memory.the_field_send, memory.the_send, memory.the_field_sync, memory.the_sync, global.the_field_send, global.the_send, global.the_field_sync, global.the_sync, vec.the_send, vec.the_sync, string.the_field_send, string.the_send, string.the_field_sync, string.the_sync, box.the_send, box.the_sync, crosses, device_send, sendable) depth 60 fits 20000
+
 pub job_send : IsSend job.the_row
-job_send = search (memory.the_field_send, memory.the_send, memory.the_field_sync, memory.the_sync, global.the_field_send, global.the_send, global.the_field_sync, global.the_sync, vec.the_send, vec.the_sync, string.the_field_send, string.the_send, string.the_field_sync, string.the_sync, box.the_send, box.the_sync, crosses, device_send, sendable) depth 60 fits 20000
+job_send = search (memory.the_field_send, memory.the_send, memory.the_field_sync, memory.the_sync, global.the_field_send, global.the_send, global.the_field_sync, global.the_sync, vec.the_send, vec.the_sync, string.the_field_send, string.the_send, string.the_field_sync, string.the_sync, box.the_send, box.the_sync, crosses, parcel_send, sendable) depth 60 fits 20000
 
 pub done_send : IsSend done.the_row
-done_send = search (memory.the_field_send, memory.the_send, memory.the_field_sync, memory.the_sync, global.the_field_send, global.the_send, global.the_field_sync, global.the_sync, vec.the_send, vec.the_sync, string.the_field_send, string.the_send, string.the_field_sync, string.the_sync, box.the_send, box.the_sync, crosses, device_send, held.the_send, held.the_field_send, held.the_sync, held.the_field_sync, report.the_send, report.the_field_send, report.the_sync, report.the_field_sync, sendable) depth 60 fits 20000
+done_send = search (memory.the_field_send, memory.the_send, memory.the_field_sync, memory.the_sync, global.the_field_send, global.the_send, global.the_field_sync, global.the_sync, vec.the_send, vec.the_sync, string.the_field_send, string.the_send, string.the_field_sync, string.the_sync, box.the_send, box.the_sync, crosses, parcel_send, held.the_send, held.the_field_send, held.the_sync, held.the_field_sync, report.the_send, report.the_field_send, report.the_sync, report.the_field_sync, sendable) depth 60 fits 20000

@@ -15,10 +15,11 @@ ghost use Rattle.fleet_workers.specs.Progress.{HasRun};
 use crate::crew::run_crew;
 use crate::deal::{deal, places_of};
 use crate::gate::Gate;
+use crate::parcel::Parcel;
 use crate::slots::Slots;
 use crate::work::Done;
 use fleet_steps::RunError;
-use photo_device::{Device, Held};
+use photo_device::Held;
 use photo_script::{Report, Script};
 use std::alloc::{AllocError, Global};
 use std::sync::{Arc, Wait};
@@ -115,14 +116,14 @@ fn log_entry(log: &mut Vec<Held>, held: Held) -> Result<(), AllocError>
 }
 
 // What stood in a place before is dropped here, so that its cases are no cases of the callers.
-fn set_device(devices: &mut Vec<Option<Device>>, place: usize, device: Device)
+fn set_device(devices: &mut Vec<Option<Parcel>>, place: usize, device: Parcel)
     requires { place < length devices.old.items }
     ensures { devices.new.items ≡ slice_set devices.old.items place (Some device) }
 {
     devices[place] = Some(device);
 }
 
-fn set_second(devices: &mut Vec<Option<Device>>, place: Option<usize>, device: Option<Device>)
+fn set_second(devices: &mut Vec<Option<Parcel>>, place: Option<usize>, device: Option<Parcel>)
     requires { IfSome place (λ k. k < length devices.old.items) }
     ensures { devices.new.items ≡ with_other place (some_second device) devices.old.items }
 {

@@ -8,8 +8,8 @@ ghost use Rattle.photo_batcher.specs.Related.{IsNumber, uses};
 ghost use Rattle.fleet_workers.specs.Batch.{IsJobAt, AreApart, IsTaken, with_other, taken_slots};
 ghost use Rattle.fleet_workers.specs.Dealing.{IsDealt, with_job};
 
+use crate::parcel::Parcel;
 use crate::work::Job;
-use photo_device::Device;
 use photo_script::{Command, Script, devices_of};
 use std::alloc::{AllocError, Global};
 use std::mem;
@@ -19,7 +19,7 @@ use std::mem;
 pub(crate) fn deal(
     alloc: Global,
     script: &Script,
-    slots: &mut Vec<Option<Device>>,
+    slots: &mut Vec<Option<Parcel>>,
     members: &[u32],
     count: usize,
 ) -> Result<Vec<Vec<Job>>, AllocError>
@@ -61,7 +61,7 @@ fn add_job(groups: &mut Vec<Vec<Job>>, place: usize, job: Job) -> Result<(), All
 }
 
 // Takes the devices of a command out of their slots.
-fn take_job(script: &Script, slots: &mut Vec<Option<Device>>, number: u32) -> Job
+fn take_job(script: &Script, slots: &mut Vec<Option<Parcel>>, number: u32) -> Job
     requires number { IsNumber script.now number }
     requires long { length slots.old.items ≡ length script.now.names }
     requires here { (k : ℕ) → k < length slots.old.items → uses script.now number k ≡ true → (x : Option Kept)
@@ -98,7 +98,7 @@ pub(crate) fn places_of(command: &Command) -> (usize, Option<usize>)
     }
 }
 
-fn take_second(slots: &mut Vec<Option<Device>>, place: Option<usize>) -> Option<Device>
+fn take_second(slots: &mut Vec<Option<Parcel>>, place: Option<usize>) -> Option<Parcel>
     requires within { IfSome place (λ k. k < length slots.old.items) }
     requires here { IfSome place (λ k. (x : Option Kept) → IsSome (slice_index_or slots.old.items k x)) }
     ensures device { IsTaken place slots.old.items result }
@@ -110,7 +110,7 @@ fn take_second(slots: &mut Vec<Option<Device>>, place: Option<usize>) -> Option<
     }
 }
 
-fn take_device(slots: &mut Vec<Option<Device>>, place: usize) -> Device
+fn take_device(slots: &mut Vec<Option<Parcel>>, place: usize) -> Parcel
     requires within { place < length slots.old.items }
     requires here { (x : Option Kept) → IsSome (slice_index_or slots.old.items place x) }
     ensures device { (x : Option Kept) → slice_index_or slots.old.items place x ≡ Some result }

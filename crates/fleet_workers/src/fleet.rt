@@ -17,6 +17,7 @@ ghost use Rattle.fleet_workers.specs.Progress.{HasRun};
 use crate::batch::run_batch;
 use crate::gate::Gate;
 use crate::number::Workers;
+use crate::parcel::Parcel;
 use crate::slots::Slots;
 use fleet_steps::{IssueLog, Outcome, RunError, opening_devices};
 use photo_batcher::{Plan, plan};
@@ -161,12 +162,12 @@ fn opening_slots(alloc: Global, script: &Script, commands: usize) -> Result<Slot
 }
 
 // A slot for each device.
-fn all_slots(alloc: Global, devices: Vec<Device>) -> Result<Vec<Option<Device>>, AllocError>
+fn all_slots(alloc: Global, devices: Vec<Device>) -> Result<Vec<Option<Parcel>>, AllocError>
     ensures { IfOk result (λ slots. slots.items ≡ map Some devices.items) }
 {
     let mut slots = Vec::new(alloc);
     for device in devices {
-        slots.push(Some(device))?;
+        slots.push(Some(Parcel::new(alloc, device)?))?;
     }
     Ok(slots)
 }
@@ -183,14 +184,14 @@ fn no_reports(alloc: Global, count: usize) -> Result<Vec<Report>, AllocError>
 }
 
 // The devices of slots none of which is empty.
-fn all_devices(alloc: Global, slots: Vec<Option<Device>>) -> Result<Vec<Device>, AllocError>
+fn all_devices(alloc: Global, slots: Vec<Option<Parcel>>) -> Result<Vec<Device>, AllocError>
     requires { (devices : List Kept) × (slots.items ≡ map Some devices) }
     ensures { IfOk result (λ all. slots.items ≡ map Some all.items) }
 {
     let mut all = Vec::new(alloc);
     for slot in slots {
-        let Some(device) = slot else { unreachable!() };
-        all.push(device)?;
+        let Some(parcel) = slot else { unreachable!() };
+        all.push(parcel.open())?;
     }
     Ok(all)
 }

@@ -8,6 +8,7 @@ mod fleet;
 mod gate;
 mod number;
 mod one;
+mod parcel;
 mod slots;
 mod tally;
 mod work;

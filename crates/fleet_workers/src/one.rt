@@ -7,6 +7,7 @@ ghost use Rattle.photo_script.specs.Reports.{Tells, answer_of};
 ghost use Rattle.photo_script.specs.Runs.{effect};
 ghost use Rattle.fleet_workers.specs.Jobs.{IsFor, IsDone};
 
+use crate::parcel::Parcel;
 use crate::work::{Done, Job};
 use fleet_steps::{made_on, run_command, run_pull};
 use photo_device::{Device, Held};
@@ -20,27 +21,29 @@ pub(crate) fn run_one(alloc: Global, command: &Command, job: Job) -> Result<Done
 {
     let Job {
         number,
-        mut first,
+        first,
         second,
     } = job;
+    let Parcel { device: mut first } = first;
     match second {
         None => {
-            let report = run_command(alloc, command, &mut first)?;
-            let entry = entry_made(command, &report, &first)?;
+            let report = run_command(alloc, command, &mut *first)?;
+            let entry = entry_made(command, &report, &*first)?;
             Ok(Done {
                 number,
-                first,
+                first: Parcel { device: first },
                 second: None,
                 report,
                 entry,
             })
         }
-        Some(mut source) => {
-            let report = run_pull(alloc, &mut first, &mut source)?;
+        Some(source) => {
+            let Parcel { device: mut source } = source;
+            let report = run_pull(alloc, &mut *first, &mut *source)?;
             Ok(Done {
                 number,
-                first,
-                second: Some(source),
+                first: Parcel { device: first },
+                second: Some(Parcel { device: source }),
                 report,
                 entry: None,
             })

@@ -1,12 +1,13 @@
 // The devices between two batches, and while workers have some of them.
-use photo_device::{Device, Held};
+use crate::parcel::Parcel;
+use photo_device::Held;
 use photo_script::Report;
 
 // A slot for each device, in order of declaration; the report of each command that has run, at the place of its number, and
 // another one at the place of each that hasn't; and the log.
 #[derive(Debug, Drop)]
 pub(crate) struct Slots {
-    pub devices: Vec<Option<Device>>,
+    pub devices: Vec<Option<Parcel>>,
     pub reports: Vec<Report>,
     pub log: Vec<Held>,
 }

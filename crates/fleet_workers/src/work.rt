@@ -1,5 +1,6 @@
 // What a worker gets, and what it gives back.
-use photo_device::{Device, Held};
+use crate::parcel::Parcel;
+use photo_device::Held;
 use photo_script::Report;
 use work_ledger::{Books, Share};
 
@@ -7,16 +8,16 @@ use work_ledger::{Books, Share};
 #[derive(Debug, Drop)]
 pub(crate) struct Job {
     pub number: u32,
-    pub first: Device,
-    pub second: Option<Device>,
+    pub first: Parcel,
+    pub second: Option<Parcel>,
 }
 
 // What a command gave: its devices after it, its report, and what the log gains.
 #[derive(Debug, Drop)]
 pub(crate) struct Done {
     pub number: u32,
-    pub first: Device,
-    pub second: Option<Device>,
+    pub first: Parcel,
+    pub second: Option<Parcel>,
     pub report: Report,
     pub entry: Option<Held>,
 }

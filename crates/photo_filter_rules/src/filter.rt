@@ -5,7 +5,7 @@ ghost use Rattle.photo_filter_rules.specs.Matching.{matches};
 ghost use Rattle.photo_filter_rules.specs.Alternatives.{alternatives_of, is_too_wide};
 ghost use Rattle.photo_filter_rules.specs.Covers.{covers};
 
-use crate::choice::Choice;
+use crate::alternative::Alternative;
 use crate::copies::copied;
 use crate::polarity::Polarity;
 use crate::{BuildFault, list};
@@ -18,7 +18,7 @@ use std::marker::Model;
 #[derive(Debug, Drop)]
 pub struct Filter {
     tree: FilterTree,
-    alternatives: Vec<Choice>,
+    alternatives: Vec<Alternative>,
 }
 
 impl Model for Filter {

@@ -1,7 +1,7 @@
 //! Filters at work: which records a filter matches, by its alternatives.
 #![tactic(auto)]
 
-mod choice;
+mod alternative;
 mod copies;
 mod fault;
 mod filter;

@@ -10,7 +10,7 @@ ghost use Rattle.photo_filter_rules.specs.Alternatives.{both_of, pairs, either_l
 ghost use Rattle.photo_filter_rules.specs.Covers.{has_room_for};
 
 use crate::BuildFault;
-use crate::choice::Choice;
+use crate::alternative::Alternative;
 use crate::polarity::Polarity;
 use crate::span::{ALL_DAYS, ALL_RATINGS, Span};
 use photo_filter_text::{Cmp, FilterTree};
@@ -26,7 +26,7 @@ pub fn alternatives_of(
     alloc: Global,
     tree: &FilterTree,
     polarity: Polarity,
-) -> Result<Vec<Choice>, BuildFault>
+) -> Result<Vec<Alternative>, BuildFault>
     ensures list { IfOk result (λ list. list.items ≡ alternatives_of (tree_of tree.now) polarity) }
     ensures short { IfOk result (λ list. is_long list.items ≡ false) }
     ensures narrow { OnOk result (is_too_wide (tree_of tree.now) polarity ≡ false) }
@@ -53,13 +53,13 @@ pub fn alternatives_of(
     }
 }
 
-fn all_or_none(alloc: Global, polarity: Polarity) -> Result<Vec<Choice>, BuildFault>
+fn all_or_none(alloc: Global, polarity: Polarity) -> Result<Vec<Alternative>, BuildFault>
     ensures list { IfOk result (λ list. list.items ≡ all_or_none polarity) }
     ensures memory { IfErr result (λ fault. fault ≡ NoMemory) }
 {
     let mut list = Vec::new(alloc);
     if polarity == Polarity::Plain {
-        list.push(Choice::anything(alloc))?;
+        list.push(Alternative::anything(alloc))?;
     }
     Ok(list)
 }
@@ -69,14 +69,14 @@ fn ratings_list(
     polarity: Polarity,
     cmp: Cmp,
     rating: Rating,
-) -> Result<Vec<Choice>, BuildFault>
+) -> Result<Vec<Alternative>, BuildFault>
     ensures list { IfOk result
         (λ list. list.items ≡ possible (map with_ratings (spans_of all_ratings polarity cmp (pos rating)))) }
     ensures memory { IfErr result (λ fault. fault ≡ NoMemory) }
 {
     let (first, second) = spans_of(ALL_RATINGS, polarity, cmp, i32::from(rating.value()));
-    let second = second.map(|ratings| Choice::with_ratings(alloc, ratings));
-    possible_of(alloc, Choice::with_ratings(alloc, first), second)
+    let second = second.map(|ratings| Alternative::with_ratings(alloc, ratings));
+    possible_of(alloc, Alternative::with_ratings(alloc, first), second)
 }
 
 fn days_list(
@@ -84,21 +84,21 @@ fn days_list(
     polarity: Polarity,
     cmp: Cmp,
     day: Day,
-) -> Result<Vec<Choice>, BuildFault>
+) -> Result<Vec<Alternative>, BuildFault>
     ensures list { IfOk result (λ list. list.items ≡ possible (map with_days (spans_of all_days polarity cmp day))) }
     ensures memory { IfErr result (λ fault. fault ≡ NoMemory) }
 {
     let (first, second) = spans_of(ALL_DAYS, polarity, cmp, day.number());
-    let second = second.map(|days| Choice::with_days(alloc, days));
-    possible_of(alloc, Choice::with_days(alloc, first), second)
+    let second = second.map(|days| Alternative::with_days(alloc, days));
+    possible_of(alloc, Alternative::with_days(alloc, first), second)
 }
 
 /// The possible ones of one alternative or two.
 fn possible_of(
     alloc: Global,
-    first: Choice,
-    second: Option<Choice>,
-) -> Result<Vec<Choice>, BuildFault>
+    first: Alternative,
+    second: Option<Alternative>,
+) -> Result<Vec<Alternative>, BuildFault>
     ensures list { IfOk result (λ list. list.items ≡ possible (first ∷ option_to_list second)) }
     ensures memory { IfErr result (λ fault. fault ≡ NoMemory) }
 {
@@ -111,23 +111,23 @@ fn possible_of(
 }
 
 /// Puts an alternative behind a list, if it is possible.
-fn add_possible(choice: Choice, list: &mut Vec<Choice>) -> Result<(), BuildFault>
-    ensures list { OnOk result (list.new.items ≡ list.old.items ++ possible (choice ∷ [])) }
+fn add_possible(alternative: Alternative, list: &mut Vec<Alternative>) -> Result<(), BuildFault>
+    ensures list { OnOk result (list.new.items ≡ list.old.items ++ possible (alternative ∷ [])) }
     ensures memory { IfErr result (λ fault. fault ≡ NoMemory) }
 {
-    if !choice.is_possible() {
+    if !alternative.is_possible() {
         return Ok(());
     }
-    list.push(choice)?;
+    list.push(alternative)?;
     Ok(())
 }
 
-fn word_list(alloc: Global, polarity: Polarity, word: &Word) -> Result<Vec<Choice>, BuildFault>
+fn word_list(alloc: Global, polarity: Polarity, word: &Word) -> Result<Vec<Alternative>, BuildFault>
     ensures list { IfOk result (λ list. list.items ≡ with_keyword polarity word.now ∷ []) }
     ensures memory { IfErr result (λ fault. fault ≡ NoMemory) }
 {
     let mut list = Vec::new(alloc);
-    list.push(Choice::with_keyword(alloc, polarity, word)?)?;
+    list.push(Alternative::with_keyword(alloc, polarity, word)?)?;
     Ok(list)
 }
 
@@ -163,9 +163,9 @@ fn spans_of(whole: Span, polarity: Polarity, cmp: Cmp, named: i32) -> (Span, Opt
 fn either_list(
     alloc: Global,
     polarity: Polarity,
-    left: Vec<Choice>,
-    right: Vec<Choice>,
-) -> Result<Vec<Choice>, BuildFault>
+    left: Vec<Alternative>,
+    right: Vec<Alternative>,
+) -> Result<Vec<Alternative>, BuildFault>
     requires { is_long left.items ≡ false }
     ensures list { IfOk result (λ list. list.items ≡ either_list polarity left.items right.items) }
     ensures short { OnOk result (is_long (either_list polarity left.items right.items) ≡ false) }
@@ -178,7 +178,7 @@ fn either_list(
     }
 }
 
-fn joined(mut left: Vec<Choice>, mut right: Vec<Choice>) -> Result<Vec<Choice>, BuildFault>
+fn joined(mut left: Vec<Alternative>, mut right: Vec<Alternative>) -> Result<Vec<Alternative>, BuildFault>
     requires { is_long left.items ≡ false }
     ensures list { IfOk result (λ list. list.items ≡ left.items ++ right.items) }
     ensures short { OnOk result (is_long (left.items ++ right.items) ≡ false) }
@@ -192,69 +192,69 @@ fn joined(mut left: Vec<Choice>, mut right: Vec<Choice>) -> Result<Vec<Choice>, 
     Ok(left)
 }
 
-fn paired(alloc: Global, left: &[Choice], right: &[Choice]) -> Result<Vec<Choice>, BuildFault>
+fn paired(alloc: Global, left: &[Alternative], right: &[Alternative]) -> Result<Vec<Alternative>, BuildFault>
     ensures list { IfOk result (λ list. list.items ≡ pairs left.now right.now) }
     ensures short { OnOk result (is_long (pairs left.now right.now) ≡ false) }
     ensures long { IfErr result
         (λ fault. fault ≡ BuildFault.TooWide → is_long (pairs left.now right.now) ≡ true) }
 {
     let mut list = Vec::new(alloc);
-    for choice in left {
-        pair_with(choice, right, &mut list)?;
+    for alternative in left {
+        pair_with(alternative, right, &mut list)?;
     }
     Ok(list)
 }
 
 /// Puts the possible ones among the pairs of one alternative with others behind a list of at most 64.
-fn pair_with(choice: &Choice, others: &[Choice], list: &mut Vec<Choice>) -> Result<(), BuildFault>
+fn pair_with(alternative: &Alternative, others: &[Alternative], list: &mut Vec<Alternative>) -> Result<(), BuildFault>
     requires { is_long list.old.items ≡ false }
-    ensures list { OnOk result (list.new.items ≡ list.old.items ++ possible (map (both_of choice.now) others.now)) }
+    ensures list { OnOk result (list.new.items ≡ list.old.items ++ possible (map (both_of alternative.now) others.now)) }
     ensures short { OnOk result (is_long list.new.items ≡ false) }
     ensures long { IfErr result
         (λ fault. fault ≡ BuildFault.TooWide
-        → is_long (list.old.items ++ possible (map (both_of choice.now) others.now)) ≡ true) }
+        → is_long (list.old.items ++ possible (map (both_of alternative.now) others.now)) ≡ true) }
 {
     for other in others {
-        push_possible(choice.meet(other)?, list)?;
+        push_possible(alternative.meet(other)?, list)?;
     }
     Ok(())
 }
 
 /// Puts an alternative behind a list of at most 64, if it is possible.
-fn push_possible(choice: Choice, list: &mut Vec<Choice>) -> Result<(), BuildFault>
+fn push_possible(alternative: Alternative, list: &mut Vec<Alternative>) -> Result<(), BuildFault>
     requires { is_long list.old.items ≡ false }
-    ensures list { OnOk result (list.new.items ≡ list.old.items ++ possible (choice ∷ [])) }
+    ensures list { OnOk result (list.new.items ≡ list.old.items ++ possible (alternative ∷ [])) }
     ensures short { OnOk result (is_long list.new.items ≡ false) }
     ensures long { IfErr result
-        (λ fault. fault ≡ BuildFault.TooWide → is_long (list.old.items ++ possible (choice ∷ [])) ≡ true) }
+        (λ fault. fault ≡ BuildFault.TooWide → is_long (list.old.items ++ possible (alternative ∷ [])) ≡ true) }
 {
-    if !choice.is_possible() {
+    if !alternative.is_possible() {
         return Ok(());
     }
     if list.len() == MAX_ALTERNATIVES {
         return Err(BuildFault::TooWide);
     }
-    list.push(choice)?;
+    list.push(alternative)?;
     Ok(())
 }
 
 /// Whether a picture of that rating, day number and words fits one of the alternatives. It takes no memory.
-pub fn any_fits(list: &[Choice], rating: u8, day: i32, words: &Words) -> bool
+pub fn any_fits(list: &[Alternative], rating: u8, day: i32, words: &Words) -> bool
     ensures { result ≡ list_any (fits (content rating day words.now)) list.now }
 {
-    list.iter().any(|choice| choice.fits(rating, day, words))
+    list.iter().any(|alternative| alternative.fits(rating, day, words))
 }
 
 /// Whether some alternative of the list asks nothing that this one doesn't ask. It takes no memory.
-pub fn has_room_for(list: &[Choice], choice: &Choice) -> bool
-    ensures { result ≡ has_room_for list.now choice.now }
+pub fn has_room_for(list: &[Alternative], alternative: &Alternative) -> bool
+    ensures { result ≡ has_room_for list.now alternative.now }
 {
-    list.iter().any(|wider| wider.asks_no_more(choice))
+    list.iter().any(|wider| wider.asks_no_more(alternative))
 }
 
 /// Whether the first list has room for each alternative of the second. It takes no memory.
-pub fn has_room_for_all(list: &[Choice], others: &[Choice]) -> bool
+pub fn has_room_for_all(list: &[Alternative], others: &[Alternative]) -> bool
     ensures { result ≡ list_all (has_room_for list.now) others.now }
 {
-    others.iter().all(|choice| has_room_for(list, choice))
+    others.iter().all(|alternative| has_room_for(list, alternative))
 }

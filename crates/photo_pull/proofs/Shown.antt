@@ -14,7 +14,7 @@ use Rattle.photo_device.specs.Entry.{Entry, supersedes, superseded_by, is_among,
 use Rattle.photo_device.specs.Held.{entry_of, entries_of}
 use Rattle.photo_device.specs.Device.{Kept, ModelDevice, Shows, holds, knows_entry, selects}
 use Rattle.photo_pull.specs.Pull.{taken, handed, noticed, told, tell, learns_all, is_stale, leaves_store, leaves_out}
-use Rattle.photo_pull.specs.OnHeld.{is_new, is_above, has_above, tells, new_waiting, learns, is_over, is_given_up, is_dropped, dropped_stored, dropped_waiting, is_selected, heard, taken_stored, versions}
+use Rattle.photo_pull.specs.OnHeld.{is_new, is_above, has_above, tells, new_waiting, learns, is_over, is_stale_held, is_dropped, dropped_stored, dropped_waiting, is_selected, heard, taken_stored, versions}
 use Rattle.photo_pull.proofs.Members.{In, in_left, in_right, any_same, filter_alike, any_filter, any_map, filter_mapped, map_both, once_left, once_right}
 use Rattle.photo_pull.proofs.Ready.{AreReady, known_target, known_source, same_picture, same_itself}
 use Rattle.photo_pull.proofs.Told.{is_notice, notices, taken_stored_is, over_is, tells_is, one, and_absorbed}
@@ -98,7 +98,7 @@ module _ (t s : Kept) (tm sm : ModelDevice) (ready : AreReady t s) (shows_t : Sh
   pub learns_shown : learns_all tm sm ≡ learns t s
   learns_shown = sym (λ i. covers (shows_s.tree i) (shows_t.tree i))
 
-  stale_shown : (h : Held) → In h t.store → is_stale tm sm (entry_of h) ≡ is_given_up t s h
+  stale_shown : (h : Held) → In h t.store → is_stale tm sm (entry_of h) ≡ is_stale_held t s h
   stale_shown h here =
       let there : In h (t.store ++ t.out) = in_left h t.store t.out here in
       let known = sym (shows_s.known h.picture ((known_target t s ready h there).above) h.version) in

@@ -49,11 +49,11 @@ abbrev pub is_over : Kept → Kept → Held → Bool
 is_over t s h = has_above (new_stored t s) h || has_above (new_waiting t s) h
 
 -- the source knows it and doesn't keep it, and is to keep all that the target is to keep
-abbrev pub is_given_up : Kept → Kept → Held → Bool
-is_given_up t s h = learns t s && (knows s.knowledge h.picture h.version && not (has_same s.store h))
+abbrev pub is_stale_held : Kept → Kept → Held → Bool
+is_stale_held t s h = learns t s && (knows s.knowledge h.picture h.version && not (has_same s.store h))
 
 abbrev pub is_dropped : Kept → Kept → Held → Bool
-is_dropped t s h = is_over t s h || is_given_up t s h
+is_dropped t s h = is_over t s h || is_stale_held t s h
 
 -- what the target drops of its store, and of its out
 abbrev pub dropped_stored : Kept → Kept → List Held

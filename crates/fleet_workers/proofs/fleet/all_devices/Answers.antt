@@ -14,7 +14,7 @@ loop-slot-init c =
 pub loop-slot-preserved : goal.loop-slot-preserved
 loop-slot-preserved c =
     let rest = into_iter_items c.next.new.self in
-    left_more c.args.slots.items c.loop-slot.all.items c.push.new.self.items c.in-Some-slot.device (into_iter_items c.loop-slot.slot-iterator) rest (c.in-Some.ensures.steps.0 ∙ ap (λ (s : Option Kept). s ∷ rest) c.in-Some-slot.is) c.in_ok-push.ensures.items c.loop-slot.invariant
+    left_more c.args.slots.items c.loop-slot.all.items c.push.new.self.items c.in-Some-slot.parcel (into_iter_items c.loop-slot.slot-iterator) rest (c.in-Some.ensures.steps.0 ∙ ap (λ (s : Option Kept). s ∷ rest) c.in-Some-slot.is) (c.in_ok-push.ensures.items ∙ ap (λ (d : Kept). c.loop-slot.all.items ++ d ∷ []) c.open.ensures) c.loop-slot.invariant
 
 pub unreachable-requires : goal.unreachable-requires
 unreachable-requires c =

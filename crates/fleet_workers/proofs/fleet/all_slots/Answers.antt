@@ -9,7 +9,7 @@ pub loop-device-preserved : goal.loop-device-preserved
 loop-device-preserved c =
     let rest = into_iter_items c.next.new.self in
     let next = c.in-Some.ensures.steps.0 in
-    ap (λ (l : List (Option Kept)). l ++ map Some rest) c.in_ok-push.ensures.items ∙ append_assoc c.loop-device.slots.items (Some c.in-Some.device ∷ []) (map Some rest)
+    ap (λ (l : List (Option Kept)). l ++ map Some rest) (c.in_ok-push.ensures.items ∙ ap (λ (d : Kept). c.loop-device.slots.items ++ Some d ∷ []) c.in_ok-new.ensures) ∙ append_assoc c.loop-device.slots.items (Some c.in-Some.device ∷ []) (map Some rest)
     ∙ ap (λ (l : List Kept). c.loop-device.slots.items ++ map Some l) (sym next) ∙ c.loop-device.invariant
 
 pub returns : goal.returns

@@ -4,5 +4,5 @@ use Rattle.photo_filter_rules.proofs.list.pair_with.Given as goal
 
 abbrev pub invariant-loop-other : goal.invariant-loop-other
 invariant-loop-other l =
-    (l.list.items ++ possible (map (both_of l.choice) (drop l.other-index l.others)) ≡ l.initial.list.items ++ possible (map (both_of l.choice) l.others))
+    (l.list.items ++ possible (map (both_of l.alternative) (drop l.other-index l.others)) ≡ l.initial.list.items ++ possible (map (both_of l.alternative) l.others))
     × (is_long l.list.items ≡ false)

@@ -11,29 +11,29 @@ use photo_record::{Word, Words};
 use std::alloc::{AllocError, Global};
 use std::marker::Model;
 
-/// An alternative: ranges of ratings and days, words that have to be there, and words that must not.
+/// Ranges of ratings and days, words that have to be there, and words that must not.
 #[derive(Debug, Drop)]
-pub struct Choice {
+pub struct Alternative {
     ratings: Span,
     days: Span,
     required: Vec<Word>,
     forbidden: Vec<Word>,
 }
 
-impl Model for Choice {
-    ghost use Rattle.photo_filter_rules.specs.Alternatives.{Alternative};
+impl Model for Alternative {
+    ghost use Rattle.photo_filter_rules.specs.Alternatives as spec;
 
-    ghost Value = { Alternative };
+    ghost Value = { spec.Alternative };
 
     ghost view = { λ c. record { ratings = c.ratings; days = c.days; required = c.required.items; forbidden = c.forbidden.items } };
 }
 
-impl Choice {
+impl Alternative {
     /// The alternative that every picture fits.
-    pub fn anything(alloc: Global) -> Choice
+    pub fn anything(alloc: Global) -> Alternative
         ensures { result ≡ anything }
     {
-        Choice {
+        Alternative {
             ratings: ALL_RATINGS,
             days: ALL_DAYS,
             required: Vec::new(alloc),
@@ -42,22 +42,22 @@ impl Choice {
     }
 
     /// The alternative that asks for a rating in the range.
-    pub fn with_ratings(alloc: Global, ratings: Span) -> Choice
+    pub fn with_ratings(alloc: Global, ratings: Span) -> Alternative
         ensures { result ≡ with_ratings ratings }
     {
-        Choice {
+        Alternative {
             ratings,
-            ..Choice::anything(alloc)
+            ..Alternative::anything(alloc)
         }
     }
 
     /// The alternative that asks for a day in the range, by day numbers.
-    pub fn with_days(alloc: Global, days: Span) -> Choice
+    pub fn with_days(alloc: Global, days: Span) -> Alternative
         ensures { result ≡ with_days days }
     {
-        Choice {
+        Alternative {
             days,
-            ..Choice::anything(alloc)
+            ..Alternative::anything(alloc)
         }
     }
 
@@ -66,15 +66,15 @@ impl Choice {
         alloc: Global,
         polarity: Polarity,
         word: &Word,
-    ) -> Result<Choice, AllocError>
-        ensures { IfOk result (λ choice. choice ≡ with_keyword polarity word.now) }
+    ) -> Result<Alternative, AllocError>
+        ensures { IfOk result (λ alternative. alternative ≡ with_keyword polarity word.now) }
     {
-        let mut choice = Choice::anything(alloc);
+        let mut alternative = Alternative::anything(alloc);
         match polarity {
-            Polarity::Plain => choice.required.push(word.try_clone()?)?,
-            Polarity::Negated => choice.forbidden.push(word.try_clone()?)?,
+            Polarity::Plain => alternative.required.push(word.try_clone()?)?,
+            Polarity::Negated => alternative.forbidden.push(word.try_clone()?)?,
         }
-        Ok(choice)
+        Ok(alternative)
     }
 
     /// Whether a picture of that rating, day number and words fits. It takes no memory.
@@ -97,7 +97,7 @@ impl Choice {
     }
 
     /// Whether this one asks nothing that the other doesn't ask. It takes no memory.
-    pub fn asks_no_more(&self, other: &Choice) -> bool
+    pub fn asks_no_more(&self, other: &Alternative) -> bool
         ensures { result ≡ asks_no_more self.now other.now }
     {
         self.ratings.contains(&other.ratings)
@@ -107,10 +107,10 @@ impl Choice {
     }
 
     /// What the two ask together. Its only error is want of memory.
-    pub fn meet(&self, other: &Choice) -> Result<Choice, AllocError>
+    pub fn meet(&self, other: &Alternative) -> Result<Alternative, AllocError>
         ensures { IfOk result (λ both. both ≡ both_of self.now other.now) }
     {
-        Ok(Choice {
+        Ok(Alternative {
             ratings: self.ratings.meet(&other.ratings),
             days: self.days.meet(&other.days),
             required: words::both_sets(&self.required, &other.required)?,
@@ -119,9 +119,9 @@ impl Choice {
     }
 }
 
-impl TryClone for Choice {
-    fn try_clone(&self) -> Result<Choice, AllocError> {
-        Ok(Choice {
+impl TryClone for Alternative {
+    fn try_clone(&self) -> Result<Alternative, AllocError> {
+        Ok(Alternative {
             ratings: self.ratings,
             days: self.days,
             required: copied(&self.required)?,
