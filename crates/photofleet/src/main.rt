@@ -1,6 +1,7 @@
 //! Runs scripts of a photo collection and prints the reports, or tells which of their commands can run at once.
 #![tactic(auto)]
 
+mod arguments;
 mod helps;
 mod laws;
 mod opener;
@@ -10,12 +11,11 @@ mod statuses;
 mod streams;
 mod words;
 
+use arguments::words_of;
 use opener::FileOpener;
 use refusals::without_words;
 use serve::serve;
 use statuses::without_memory;
-use std::alloc::AllocError;
-use std::env;
 use std::io::BufWriter;
 use std::process::ExitCode;
 use std::sync::Wait;
@@ -29,13 +29,9 @@ fn main(rt: HostRuntime) -> ExitCode {
 // run in `threads`.
 fn status<T: Threads + Wait + Copy + Send + 'static>(rt: &HostRuntime, threads: T) -> u8 {
     let mut err = rt.stderr();
-    let words = match env::args(rt) {
+    let words = match words_of(rt, rt.alloc()) {
         Ok(words) => words,
         Err(error) => return without_words(rt.alloc(), error.kind(), &mut err),
-    };
-    let collected: Result<Vec<String>, AllocError> = words.collect(rt.alloc());
-    let Ok(words) = collected else {
-        return without_memory(&mut err);
     };
     let Ok(mut out) = BufWriter::new(rt.alloc(), rt.stdout()) else {
         return without_memory(&mut err);

@@ -1,8 +1,10 @@
 use super::memory::{Full, OUTPUT, SCRIPT, Shelf, Sink, does, runs, serves};
+use crate::arguments::words_of;
 use crate::refusals::without_words;
 use crate::serve::serve;
 use std::alloc::Global;
-use std::io::{self, BufWriter};
+use std::env::{Env, FillError};
+use std::io::{self, BufWriter, Write};
 use std::sync::Wait;
 use std::test::Fail;
 use std::thread::Threads;
@@ -252,12 +254,66 @@ fn words_that_are_no_text(rt: HostRuntime) {
     assert!(rt; err.taken.as_slice() == b"run error: E1 NoMemory\n".as_slice());
 }
 
+// The words of a command line, each with its bytes.
+#[derive(Drop)]
+struct Given<'a> {
+    words: &'a [&'a [u8]],
+}
+
+impl Env for Given<'_> {
+    fn arg(&self, i: usize, buf: &mut [u8]) -> Result<usize, FillError> {
+        let Some(word) = self.words.get(i) else {
+            return Err(FillError::NotPresent);
+        };
+        if word.len() > buf.len() {
+            return Err(FillError::TooLong);
+        }
+        buf[..word.len()].copy_from_slice(word);
+        Ok(word.len())
+    }
+
+    fn var(&self, _name: &str, _buf: &mut [u8]) -> Result<usize, FillError> {
+        Err(FillError::NotPresent)
+    }
+
+    fn var_at(&self, _i: usize, _buf: &mut [u8]) -> Result<usize, FillError> {
+        Err(FillError::NotPresent)
+    }
+}
+
+// Whether these words are given as they are, or not where one isn't UTF-8.
+fn are_given(alloc: Global, words: &[&[u8]], is_text: bool) -> bool {
+    match words_of(&Given { words }, alloc) {
+        Ok(given) => {
+            is_text
+                && given.len() == words.len()
+                && given.iter().zip(words).all(|(text, word)| text.as_bytes() == *word)
+        }
+        Err(error) => !is_text && error.kind() == io::ErrorKind::InvalidData,
+    }
+}
+
+const LONG: &[u8] = &[b'a'; 1_025];
+
+#[test]
+fn words_as_they_were_given(rt: HostRuntime) {
+    let alloc = rt.alloc();
+    for (words, is_text) in [
+        ([].as_slice(), true),
+        ([b"photofleet".as_slice(), b"", LONG, b"plain"].as_slice(), true),
+        ([LONG, b"\xc3\xa9".as_slice(), b"1"].as_slice(), true),
+        ([b"photofleet".as_slice(), b"a\xff"].as_slice(), false),
+    ] {
+        assert!(rt; are_given(alloc, words, is_text), "{words:?}");
+    }
+}
+
 // The status of a wish for help, whose text is written to that writer, with what is told of it.
-fn helped<T: Threads + Wait + Copy + Send + 'static>(
+fn helped<W: Write, T: Threads + Wait + Copy + Send + 'static>(
     rt: T,
     alloc: Global,
     words: &[&str],
-    out: &mut Sink,
+    out: &mut W,
     error: &[u8],
 ) -> Option<u8> {
     let mut err = Sink::new(alloc);
@@ -265,22 +321,36 @@ fn helped<T: Threads + Wait + Copy + Send + 'static>(
     (err.taken.as_slice() == error).then_some(status)
 }
 
-const HELPS: &[&[&str]] = &[
-    &["photofleet", "--help"],
-    &["photofleet", "plain", "--help"],
-    &["photofleet", "run", "--help"],
-    &["photofleet", "batches", "--help"],
-    &["photofleet", "replay", "--help"],
+// Whether help is told to be unwritten where the output is gathered, and fails when it is flushed.
+fn is_told_unflushed<T: Threads + Wait + Copy + Send + 'static>(
+    rt: T,
+    alloc: Global,
+    words: &[&str],
+) -> bool {
+    match BufWriter::new(alloc, Sink::of_room(alloc, 5, Full::Error)) {
+        Ok(mut out) => helped(rt, alloc, words, &mut out, b"write fault: E5 Write\n") == Some(5),
+        Err(_) => false,
+    }
+}
+
+const HELPS: &[(&[&str], &str)] = &[
+    (&["photofleet", "--help"], "to the same reports.\n"),
+    (&["photofleet", "plain", "--help"], "plain my.script'.\n"),
+    (&["photofleet", "run", "--help"], "run --workers 2 my.script'.\n"),
+    (&["photofleet", "batches", "--help"], "batches 3\n"),
+    (&["photofleet", "replay", "--help"], "replay my.script 2 4 1 3'.\n"),
 ];
 
 #[test]
 fn help(rt: HostRuntime) {
     let alloc = rt.alloc();
-    for words in HELPS {
+    for (words, end) in HELPS {
         let mut out = Sink::new(alloc);
-        assert!(rt; helped(rt, alloc, words, &mut out, b"") == Some(0) && !out.taken.is_empty());
+        assert!(rt; helped(rt, alloc, words, &mut out, b"") == Some(0), "{words:?}");
+        assert!(rt; out.taken.as_slice().ends_with(end.as_bytes()), "{words:?}");
         let mut full = Sink::of_room(alloc, 5, Full::Error);
         assert!(rt; helped(rt, alloc, words, &mut full, b"write fault: E5 Write\n") == Some(5));
+        assert!(rt; is_told_unflushed(rt, alloc, words), "{words:?}");
     }
 }
 
