@@ -8,20 +8,29 @@ use std::io;
 /// So many bytes has a word, until a longer one comes.
 const ROOM: usize = 256;
 
-/// The words that the program was called with, its name first. `std::env::args` gives each a string with room for 256
-/// bytes; these are as long as their words, since an order may have 100,000.
+/// The words that the program was called with, its name first, in one text: behind each stands a NUL, which no word has.
+/// `std::env::args` gives each a string with room for 256 bytes, and an order may have 100,000.
 ///
 /// An error is `OutOfMemory`, or `InvalidData` where a word is not UTF-8.
-pub fn words_of<E: Env>(env: &E, alloc: Global) -> io::Result<Vec<String>> {
+pub fn arguments<E: Env>(env: &E, alloc: Global) -> io::Result<String> {
     let mut room = vec![in alloc; 0; ROOM]?;
-    let mut words = Vec::new(alloc);
+    let mut bytes = Vec::new(alloc);
     for i in 0..usize::MAX {
         let Some(count) = filled(env, i, &mut room)? else {
             break;
         };
-        words.push(text_of(alloc, &room[..count])?)?;
+        bytes.extend_from_slice(&room[..count])?;
+        bytes.push(0)?;
     }
-    Ok(words)
+    match String::from_utf8(bytes) {
+        Ok(text) => Ok(text),
+        Err(_) => Err(io::ErrorKind::InvalidData.into()),
+    }
+}
+
+/// The words of such a text.
+pub fn words_in(alloc: Global, text: &str) -> Result<Vec<&str>, AllocError> {
+    text.split_terminator('\0').collect(alloc)
 }
 
 // The bytes of a word come to the front of `room`, which grows until they have room there. Gives how many they are, or
@@ -37,12 +46,4 @@ fn filled<E: Env>(env: &E, i: usize, room: &mut Vec<u8>) -> Result<Option<usize>
         }
     }
     Err(AllocError)
-}
-
-// The bytes as a text.
-fn text_of(alloc: Global, bytes: &[u8]) -> io::Result<String> {
-    match str::from_utf8(bytes) {
-        Ok(text) => Ok(String::from_str(alloc, text)?),
-        Err(_) => Err(io::ErrorKind::InvalidData.into()),
-    }
 }

@@ -1,5 +1,5 @@
 use super::memory::{Full, OUTPUT, SCRIPT, Shelf, Sink, does, runs, serves};
-use crate::arguments::words_of;
+use crate::arguments::{arguments, words_in};
 use crate::refusals::without_words;
 use crate::serve::serve;
 use std::alloc::Global;
@@ -283,28 +283,39 @@ impl Env for Given<'_> {
 
 // Whether these words are given as they are, or not where one isn't UTF-8.
 fn are_given(alloc: Global, words: &[&[u8]], is_text: bool) -> bool {
-    match words_of(&Given { words }, alloc) {
-        Ok(given) => {
-            is_text
-                && given.len() == words.len()
-                && given.iter().zip(words).all(|(text, word)| text.as_bytes() == *word)
-        }
+    match arguments(&Given { words }, alloc) {
+        Ok(text) => is_text && are_in(alloc, &text, words),
         Err(error) => !is_text && error.kind() == io::ErrorKind::InvalidData,
+    }
+}
+
+// Whether a text has these words.
+fn are_in(alloc: Global, text: &str, words: &[&[u8]]) -> bool {
+    match words_in(alloc, text) {
+        Ok(given) => {
+            given.len() == words.len()
+                && given
+                    .iter()
+                    .zip(words)
+                    .all(|(given, word)| given.as_bytes() == *word)
+        }
+        Err(_) => false,
     }
 }
 
 const LONG: &[u8] = &[b'a'; 1_025];
 
+const GIVEN: &[(&[&[u8]], bool)] = &[
+    (&[], true),
+    (&[b"photofleet", b"", LONG, b"plain"], true),
+    (&[LONG, b"\xc3\xa9", b"1"], true),
+    (&[b"photofleet", b"a\xff"], false),
+];
+
 #[test]
 fn words_as_they_were_given(rt: HostRuntime) {
-    let alloc = rt.alloc();
-    for (words, is_text) in [
-        ([].as_slice(), true),
-        ([b"photofleet".as_slice(), b"", LONG, b"plain"].as_slice(), true),
-        ([LONG, b"\xc3\xa9".as_slice(), b"1"].as_slice(), true),
-        ([b"photofleet".as_slice(), b"a\xff"].as_slice(), false),
-    ] {
-        assert!(rt; are_given(alloc, words, is_text), "{words:?}");
+    for (words, is_text) in GIVEN {
+        assert!(rt; are_given(rt.alloc(), words, *is_text), "{words:?}");
     }
 }
 
@@ -336,9 +347,15 @@ fn is_told_unflushed<T: Threads + Wait + Copy + Send + 'static>(
 const HELPS: &[(&[&str], &str)] = &[
     (&["photofleet", "--help"], "to the same reports.\n"),
     (&["photofleet", "plain", "--help"], "plain my.script'.\n"),
-    (&["photofleet", "run", "--help"], "run --workers 2 my.script'.\n"),
+    (
+        &["photofleet", "run", "--help"],
+        "run --workers 2 my.script'.\n",
+    ),
     (&["photofleet", "batches", "--help"], "batches 3\n"),
-    (&["photofleet", "replay", "--help"], "replay my.script 2 4 1 3'.\n"),
+    (
+        &["photofleet", "replay", "--help"],
+        "replay my.script 2 4 1 3'.\n",
+    ),
 ];
 
 #[test]
@@ -346,7 +363,10 @@ fn help(rt: HostRuntime) {
     let alloc = rt.alloc();
     for (words, end) in HELPS {
         let mut out = Sink::new(alloc);
-        assert!(rt; helped(rt, alloc, words, &mut out, b"") == Some(0), "{words:?}");
+        assert!(rt;
+            helped(rt, alloc, words, &mut out, b"") == Some(0),
+            "{words:?}"
+        );
         assert!(rt; out.taken.as_slice().ends_with(end.as_bytes()), "{words:?}");
         let mut full = Sink::of_room(alloc, 5, Full::Error);
         assert!(rt; helped(rt, alloc, words, &mut full, b"write fault: E5 Write\n") == Some(5));
