@@ -178,7 +178,10 @@ fn either_list(
     }
 }
 
-fn joined(mut left: Vec<Alternative>, mut right: Vec<Alternative>) -> Result<Vec<Alternative>, BuildFault>
+fn joined(
+    mut left: Vec<Alternative>,
+    mut right: Vec<Alternative>,
+) -> Result<Vec<Alternative>, BuildFault>
     requires { is_long left.items ≡ false }
     ensures list { IfOk result (λ list. list.items ≡ left.items ++ right.items) }
     ensures short { OnOk result (is_long (left.items ++ right.items) ≡ false) }
@@ -192,7 +195,11 @@ fn joined(mut left: Vec<Alternative>, mut right: Vec<Alternative>) -> Result<Vec
     Ok(left)
 }
 
-fn paired(alloc: Global, left: &[Alternative], right: &[Alternative]) -> Result<Vec<Alternative>, BuildFault>
+fn paired(
+    alloc: Global,
+    left: &[Alternative],
+    right: &[Alternative],
+) -> Result<Vec<Alternative>, BuildFault>
     ensures list { IfOk result (λ list. list.items ≡ pairs left.now right.now) }
     ensures short { OnOk result (is_long (pairs left.now right.now) ≡ false) }
     ensures long { IfErr result
@@ -206,7 +213,11 @@ fn paired(alloc: Global, left: &[Alternative], right: &[Alternative]) -> Result<
 }
 
 /// Puts the possible ones among the pairs of one alternative with others behind a list of at most 64.
-fn pair_with(alternative: &Alternative, others: &[Alternative], list: &mut Vec<Alternative>) -> Result<(), BuildFault>
+fn pair_with(
+    alternative: &Alternative,
+    others: &[Alternative],
+    list: &mut Vec<Alternative>,
+) -> Result<(), BuildFault>
     requires { is_long list.old.items ≡ false }
     ensures list { OnOk result (list.new.items ≡ list.old.items ++ possible (map (both_of alternative.now) others.now)) }
     ensures short { OnOk result (is_long list.new.items ≡ false) }
@@ -242,7 +253,8 @@ fn push_possible(alternative: Alternative, list: &mut Vec<Alternative>) -> Resul
 pub fn any_fits(list: &[Alternative], rating: u8, day: i32, words: &Words) -> bool
     ensures { result ≡ list_any (fits (content rating day words.now)) list.now }
 {
-    list.iter().any(|alternative| alternative.fits(rating, day, words))
+    list.iter()
+        .any(|alternative| alternative.fits(rating, day, words))
 }
 
 /// Whether some alternative of the list asks nothing that this one doesn't ask. It takes no memory.
@@ -256,5 +268,5 @@ pub fn has_room_for(list: &[Alternative], alternative: &Alternative) -> bool
 pub fn has_room_for_all(list: &[Alternative], others: &[Alternative]) -> bool
     ensures { result ≡ list_all (has_room_for list.now) others.now }
 {
-    others.iter().all(|alternative| has_room_for(list, alternative))
+    others.iter().all(|other| has_room_for(list, other))
 }
