@@ -1,8 +1,8 @@
 -- Blocks as one list.
-use Rattle.std.proofs.Common.{slice_get, Some, ◌≡◌, ℕ, zero, suc, ◌+◌, ◌<◌, ◌≤◌, List, [], ◌∷◌, ◌++◌, length, get_or, set, take, drop, Vec, refl, subst, sym, ap, ◌∙◌, append_assoc, arith}
+use Rattle.std.proofs.Common.{slice_get, Some, ◌≡◌, ℕ, zero, suc, ◌+◌, ◌<◌, ◌≤◌, List, [], ◌∷◌, ◌++◌, length, get_or, set, take, drop, Vec, refl, subst, sym, ap, ◌∙◌, append_assoc, length-append, arith}
 use Rattle.std.specs.List.{insert, remove}
 use Rattle.std.specs.declared.alloc.Global.{Global}
-use Rattle.std.proofs.lemmas.List.{set_split, length-set, get_or-set_same, length-take-le, take_at, drop_at, drop-drop, take-append-le, drop-append-le}
+use Rattle.std.proofs.lemmas.List.{set_split, length-set, get_or-set_same, length-take-le, take_at, drop_at, drop-drop, take-append-le, drop-append-le, append-nil}
 use Rattle.std.proofs.lemmas.List.Concat.{get_or-flat_map}
 use Rattle.std.proofs.lemmas.List.Edits.{length-insert}
 use Rattle.std.proofs.lemmas.List.Folds.{length-flat_map-take}
@@ -62,6 +62,11 @@ module _ {T : Type 0} where
       let items = (get_or blocks b d).items in
       edited blocks i b k 0 (x ∷ []) v d place.block place.start (omega arith) (e ∙ ap (λ n. take k items ++ x ∷ drop n items) (sym inside))
       ∙ ap (λ n. take i (joined blocks) ++ x ∷ drop n (joined blocks)) whole
+
+  -- an element before those of a block
+  pub joined-first : (blocks : List (Vec T Global)) (b : ℕ) (x : T) (v d : Vec T Global) → b < length blocks → v.items ≡ insert (get_or blocks b d).items 0 x → joined (set blocks b v) ≡ insert (joined blocks) (start_of blocks b) x
+  joined-first blocks b x v d h e =
+      joined-insert blocks (start_of blocks b) b 0 x v d (record { block = h; start = omega arith; within = λ w. omega arith }) e
 
   pub joined-write : (blocks : List (Vec T Global)) (i b k : ℕ) (x : T) (v d : Vec T Global) → IsElement blocks i b k → i < length (joined blocks) → v.items ≡ set (get_or blocks b d).items k x → joined (set blocks b v) ≡ set (joined blocks) i x
   joined-write blocks i b k x v d place in_range e =
@@ -150,3 +155,62 @@ module _ {T : Type 0} where
   place_again at blocks i b k is place =
       let here : IsPlace blocks i b k = subst (λ l. IsPlace l i b k) is place in
       record { block = here.block; start = refl; within = here.within }
+
+  -- a block before another, or behind all
+
+  joined-opened : (blocks : List (Vec T Global)) (b : ℕ) (x : T) (w : Vec T Global) → b ≤ length blocks → w.items ≡ x ∷ [] → joined (insert blocks b w) ≡ joined (take b blocks) ++ x ∷ joined (drop b blocks)
+  joined-opened blocks zero x w h e = ap (λ l. l ++ joined blocks) e
+  joined-opened [] (suc b) x w h e = absurd (omega arith)
+  joined-opened (y ∷ ys) (suc b) x w h e = rw append_assoc (ap (λ l. y.items ++ l) (joined-opened ys b x w (omega arith) e))
+
+  in_two : (blocks : List (Vec T Global)) (b : ℕ) → joined blocks ≡ joined (take b blocks) ++ joined (drop b blocks)
+  in_two blocks zero = refl
+  in_two [] (suc b) = refl
+  in_two (y ∷ ys) (suc b) = rw append_assoc (ap (λ l. y.items ++ l) (in_two ys b))
+
+  -- an element between two parts of a list
+  insert_between : (front back : List T) (x : T) → front ++ x ∷ back ≡ insert (front ++ back) (length front) x
+  insert_between [] back x = refl
+  insert_between (y ∷ front) back x = ap (λ l. y ∷ l) (insert_between front back x)
+
+  pub joined-open : (blocks : List (Vec T Global)) (b : ℕ) (x : T) (w : Vec T Global) → b ≤ length blocks → w.items ≡ x ∷ [] → joined (insert blocks b w) ≡ insert (joined blocks) (start_of blocks b) x
+  joined-open blocks b x w h e =
+      joined-opened blocks b x w h e
+      ∙ insert_between (joined (take b blocks)) (joined (drop b blocks)) x
+      ∙ ap (λ l. insert l (start_of blocks b) x) (sym (in_two blocks b))
+
+  -- an element is put into a block, and the last one goes before the next block
+
+  up_to : (blocks : List (Vec T Global)) (b : ℕ) (v : Vec T Global) → b < length blocks → joined (take (suc b) (set blocks b v)) ≡ joined (take b blocks) ++ v.items
+  up_to [] b v h = absurd (omega arith)
+  up_to (y ∷ ys) zero v h = append-nil v.items
+  up_to (y ∷ ys) (suc b) v h = rw append_assoc (ap (λ l. y.items ++ l) (up_to ys b v (omega arith)))
+
+  pub joined-push_out : (blocks new : List (Vec T Global)) (i b k : ℕ) (x last : T) (v d : Vec T Global) → IsPlace blocks i b k → v.items ++ last ∷ [] ≡ insert (get_or blocks b d).items k x → joined new ≡ insert (joined (set blocks b v)) (start_of (set blocks b v) (b + 1)) last → joined new ≡ insert (joined blocks) i x
+  joined-push_out blocks new i b k x last v d place e is =
+      let front = joined (take b blocks) in
+      let back = joined (drop (suc b) blocks) in
+      let items = (get_or blocks b d).items in
+      let within = place.within d in
+      let next : b + 1 ≡ suc b = omega arith in
+      let inside : k + 0 ≡ k = omega arith in
+      let whole : i + 0 ≡ i = omega arith in
+      is
+      ∙ ap (λ n. insert (joined (set blocks b v)) (start_of (set blocks b v) n) last) next
+      ∙ ap (λ l. insert (joined (set blocks b v)) (length l) last) (up_to blocks b v place.block)
+      ∙ ap (λ l. insert l (length (front ++ v.items)) last) (joined-set blocks b v place.block ∙ sym (append_assoc front v.items back))
+      ∙ sym (insert_between (front ++ v.items) back last)
+      ∙ append_assoc front v.items (last ∷ back)
+      ∙ ap (λ l. front ++ l) (sym (append_assoc v.items (last ∷ []) back))
+      ∙ ap (λ l. front ++ (l ++ back)) (e ∙ ap (λ n. take k items ++ x ∷ drop n items) (sym inside))
+      ∙ spliced front items back (x ∷ []) i k 0 place.start (omega arith)
+      ∙ sym (ap (λ l. take i l ++ x ∷ drop (i + 0) l) (parts blocks b d place.block))
+      ∙ ap (λ n. take i (joined blocks) ++ x ∷ drop n (joined blocks)) whole
+
+  -- no block is empty, so there are at most as many blocks as elements
+  pub few_blocks : (blocks : List (Vec T Global)) → AreFilled blocks → length blocks ≤ length (joined blocks)
+  few_blocks [] filled = omega arith
+  few_blocks (y ∷ ys) filled =
+      let some : 0 < length y.items = filled 0 y (omega arith) in
+      let others = few_blocks ys (λ k d u. filled (suc k) d (omega arith)) in
+      omega (arith, length-append y.items (joined ys))

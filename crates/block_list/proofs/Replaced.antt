@@ -1,12 +1,12 @@
 -- One element in the place of those between the turns of two tests.
-use Rattle.std.proofs.Common.{◌≡◌, ℕ, zero, suc, ◌+◌, ◌-◌, ◌<◌, ◌≤◌, Bool, true, false, List, [], ◌∷◌, ◌++◌, length, get_or, set, take, drop, Vec, Some, None, slice_get, refl, subst, sym, ap, ◌∙◌, inl, inr, arith}
+use Rattle.std.proofs.Common.{◌≡◌, ℕ, suc, ◌+◌, ◌-◌, ◌<◌, ◌≤◌, Bool, true, false, List, [], ◌∷◌, ◌++◌, length, get_or, set, take, drop, Vec, Some, None, slice_get, refl, subst, sym, ap, ◌∙◌, inl, inr, arith}
 use Rattle.std.specs.List.{insert}
 use Rattle.std.specs.List.Sorted.{IsPartitionedBy, IsPartitionPoint}
 use Rattle.std.specs.declared.alloc.Global.{Global}
-use Rattle.std.proofs.lemmas.Bool.{cases_Bool, cases_lt, lt-ltb, le-ltb, false≢true}
+use Rattle.std.proofs.lemmas.Bool.{cases_Bool, cases_lt, false≢true}
 use Rattle.std.proofs.lemmas.List.{get_or_default, set_split, take_all}
 use Rattle.std.proofs.lemmas.Option.{slice_get-get_or, slice_get_past}
-use Rattle.block_list.specs.Blocks.{joined, AreFilled, start_of, IsPlace, IsElement, IsReplaced, TellsBetween}
+use Rattle.block_list.specs.Blocks.{joined, AreFilled, start_of, IsPlace, IsElement, IsReplaced}
 use Rattle.block_list.proofs.Joined.{start_more, start_within, element_within, read_at}
 use Rattle.block_list.proofs.Nearby.{turns_between}
 
@@ -140,71 +140,13 @@ module _ {T : Type 0} where
         list = rw old_is at is ∙ set_split old from x inside ∙ ap (λ n. take from old ++ x ∷ drop n old) (sym behind_it);
       }
 
-  -- whether there is one
-
-  -- where a test turns, there is a place for that
-  point_of : (q : T → Bool) (xs : List T) → IsPartitionedBy q xs → (n : ℕ) × (n ≤ length xs) × IsPartitionPoint (λ y. q y ≡ true) (λ y. q y ≡ false) xs n
-  point_of q [] parts = (0, omega arith, (λ j d z l. absurd (omega arith), λ j d l u. absurd (omega arith)))
-  point_of q (x ∷ xs) parts = elim (cases_Bool (q x)) [
-    | inl passes ↦ further passes (point_of q xs (λ i j d l u. parts (suc i) (suc j) d (omega arith) (omega arith)))
-    | inr fails ↦ (0, omega arith, (λ j d z l. absurd (omega arith), λ j d l u. fails_from fails j d u))
-  ]
-    where
-      fails_from : q x ≡ false → (j : ℕ) (d : T) → j < length (x ∷ xs) → q (get_or (x ∷ xs) j d) ≡ false
-      fails_from fails j d u = elim (cases_Bool (q (get_or (x ∷ xs) j d))) [
-        | inl later ↦ absurd (false≢true (sym fails ∙ parts 0 j d (omega arith) u later))
-        | inr fail ↦ fail
-      ]
-
-      further : q x ≡ true → (n : ℕ) × (n ≤ length xs) × IsPartitionPoint (λ y. q y ≡ true) (λ y. q y ≡ false) xs n → (n : ℕ) × (n ≤ length (x ∷ xs)) × IsPartitionPoint (λ y. q y ≡ true) (λ y. q y ≡ false) (x ∷ xs) n
-      further passes (n, within, point) = (suc n, omega arith, (below, above))
-        where
-          below : (j : ℕ) (d : T) → 0 ≤ j → j < suc n → q (get_or (x ∷ xs) j d) ≡ true
-          below zero d z l = passes
-          below (suc j) d z l = point.0 j d (omega arith) (omega arith)
-
-          above : (j : ℕ) (d : T) → suc n ≤ j → j < length (x ∷ xs) → q (get_or (x ∷ xs) j d) ≡ false
-          above zero d l u = absurd (omega arith)
-          above (suc j) d l u = point.1 j d (omega arith) (omega arith)
-
-  tells : (p q : T → Bool) (xs : List T) (i : ℕ) (found : Bool) → i ≤ length xs → IsPartitionPoint (λ y. p y ≡ true) (λ y. p y ≡ false) xs i → IsPartitionedBy q xs → ((y : T) → p y ≡ true → q y ≡ true) → ((y : T) → slice_get xs i ≡ Some y → q y ≡ found) → (found ≡ true → i < length xs) → TellsBetween p q xs found
-  tells p q [] i found within point parts wider passes some = elim (cases_Bool found) [
-    | inl yes_found ↦ let inside = some yes_found in absurd (omega arith)
-    | inr no_found ↦ record {
-      from = i;
-      to = i;
-      between = record { order = omega arith; within = within; first = point; last = last_at p q [] i point parts wider (λ y e. passes y e ∙ no_found) };
-      answer_is = no_found ∙ sym (le-ltb i i (omega arith));
-    }
-  ]
-  tells p q (x ∷ xs) i found within point parts wider passes some = elim (cases_Bool found) [
-    | inl yes_found ↦
-        let turn = point_of q (x ∷ xs) parts in
-        let less = some_between q (x ∷ xs) i turn.0 x (some yes_found) turn.2 (λ y e. passes y e ∙ yes_found) in
-        record {
-          from = i;
-          to = turn.0;
-          between = record { order = omega arith; within = turn.1; first = point; last = turn.2 };
-          answer_is = yes_found ∙ sym (lt-ltb i turn.0 less);
-        }
-    | inr no_found ↦ record {
-      from = i;
-      to = i;
-      between = record { order = omega arith; within = within; first = point; last = last_at p q (x ∷ xs) i point parts wider (λ y e. passes y e ∙ no_found) };
-      answer_is = no_found ∙ sym (le-ltb i i (omega arith));
-    }
-  ]
-
-  pub tells_in_blocks : (p q : T → Bool) (xs : List T) (blocks at behind : List (Vec T Global)) (b k : ℕ) (found : Bool) → at ≡ blocks → behind ≡ blocks → joined blocks ≡ xs → IsPlace at (start_of at b + k) b k → (IsPartitionedBy p (joined at) → IsPartitionPoint (λ y. p y ≡ true) (λ y. p y ≡ false) (joined at) (start_of at b + k)) → ((y : T) → slice_get (joined behind) (start_of behind b + k) ≡ Some y → q y ≡ found) → (found ≡ true → start_of behind b + k < length (joined behind)) → IsPartitionedBy p xs → IsPartitionedBy q xs → ((y : T) → p y ≡ true → q y ≡ true) → TellsBetween p q xs found
-  tells_in_blocks p q xs blocks at behind b k found at_is behind_is xs_is place first passes some parts_p parts_q wider =
-      tells p q xs (start_of blocks b + k) found (rw xs_is at (start_within blocks b k (rw at_is at place))) ((rw xs_is at (rw at_is at first)) parts_p) parts_q wider (rw xs_is at (rw behind_is at passes)) (rw xs_is at (rw behind_is at some))
-
-  pub tells_none : (p q : T → Bool) (xs : List T) (blocks : List (Vec T Global)) → joined blocks ≡ xs → blocks ≡ [] → TellsBetween p q xs false
-  tells_none p q xs blocks xs_is none =
-      let long : length xs ≡ 0 = ap length (sym xs_is ∙ ap joined none) in
+  -- it goes behind those that pass the one test
+  pub put_behind : (p : T → Bool) (new : List T) (blocks at : List (Vec T Global)) (b k : ℕ) (x : T) → at ≡ blocks → IsPlace at (start_of at b + k) b k → (IsPartitionedBy p (joined at) → IsPartitionPoint (λ y. p y ≡ true) (λ y. p y ≡ false) (joined at) (start_of at b + k)) → IsPartitionedBy p (joined blocks) → new ≡ insert (joined blocks) (start_of blocks b + k) x → IsReplaced p p (joined blocks) x new
+  put_behind p new blocks at b k x at_is place first parts is =
+      let point = (rw at_is at first) parts in
       record {
-        from = 0;
-        to = 0;
-        between = record { order = omega arith; within = omega arith; first = rw xs_is at (point_of_none p blocks none); last = rw xs_is at (point_of_none q blocks none) };
-        answer_is = sym (le-ltb 0 0 (omega arith));
+        from = start_of blocks b + k;
+        to = start_of blocks b + k;
+        between = record { order = omega arith; within = start_within blocks b k (rw at_is at place); first = point; last = point };
+        list = is;
       }

@@ -1,5 +1,5 @@
 -- Lists that are kept in blocks.
-use Rattle.std.specs.Prelude.{◌≡◌, ℕ, ◌+◌, ◌-◌, ◌<◌, ◌≤◌, Bool, true, false, List, ◌∷◌, ◌++◌, length, take, drop, slice_index_or, nat_lt, Vec}
+use Rattle.std.specs.Prelude.{◌≡◌, ℕ, ◌+◌, ◌-◌, ◌<◌, ◌≤◌, Bool, true, false, List, ◌∷◌, ◌++◌, length, take, drop, slice_index_or, Vec}
 use Rattle.std.specs.List.{flat_map, All}
 use Rattle.std.specs.List.Sorted.{IsPartitionPoint}
 use Rattle.std.specs.declared.alloc.Global.{Global}
@@ -55,10 +55,3 @@ module _ {T : Type 0} where
     pub to : ℕ
     pub between : AreBetween p q old from to
     pub list : new ≡ take from old ++ x ∷ drop to old
-
-  -- whether there are elements that fail p and pass q
-  pub record TellsBetween (p q : T → Bool) (xs : List T) (answer : Bool) : Type 0 where
-    pub from : ℕ
-    pub to : ℕ
-    pub between : AreBetween p q xs from to
-    pub answer_is : answer ≡ (nat_lt from to)

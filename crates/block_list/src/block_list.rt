@@ -1,8 +1,9 @@
-use crate::Spot;
-use crate::blocks::{element_at, insert_at, insert_in, pop_last, remove_between, set_at, set_in};
+use crate::blocks::{element_at, insert_at, insert_in, remove_between, set_at, set_in};
 use crate::kept::retain_in;
 use crate::near::spot_near;
 use crate::search::{element_behind, first_failing, index_of, is_alone, passes_behind, spot_of};
+use crate::taken::{spot_passing, take_at};
+use crate::{Room, Roomy, Spot};
 use std::alloc::{AllocError, Global};
 use std::marker::Model;
 
@@ -33,7 +34,7 @@ impl<T> BlockList<T> {
     ghost use Rattle.std.specs.List.{find};
     ghost use Rattle.std.specs.List.Sorted.{IsPartitionedBy, IsPartitionPoint};
     ghost use Rattle.std.specs.Fn.{ComputesKey};
-    ghost use Rattle.block_list.specs.Blocks.{joined, IsKept, TellsBetween};
+    ghost use Rattle.block_list.specs.Blocks.{joined, IsKept};
 
     /// The list of no element. It takes no memory.
     pub fn new(alloc: Global) -> BlockList<T>
@@ -124,31 +125,16 @@ impl<T> BlockList<T> {
         let found = element_behind(&self.blocks, block, place);
         (found, Spot { block, place })
     }
-
-    /// Whether there are elements that fail the first test and pass the second, in a list where those that pass a test
-    /// stand before those that fail it, and what passes the first test passes the second. It counts no blocks.
-    pub fn any_between<P: Fn(&T) -> bool, Q: Fn(&T) -> bool>(&self, before: P, through: Q) -> bool
-        requires before { P.IsAlwaysCallable before }
-        requires through { Q.IsAlwaysCallable through }
-        ensures { (p q : T → Bool) → ComputesKey P.FnMut p before → ComputesKey Q.FnMut q through → IsPartitionedBy p self.now
-            → IsPartitionedBy q self.now → ((y : T) → p y ≡ true → q y ≡ true) → TellsBetween p q self.now result }
-    {
-        if self.blocks.is_empty() {
-            return false;
-        }
-        let blocks = self.blocks.as_slice();
-        let (block, place) = spot_of(blocks, before);
-        passes_behind(blocks, block, place, &through)
-    }
 }
 
 impl<T: Drop> BlockList<T> {
     ghost use Rattle.std.specs.Prelude.{◌≡◌, ◌<◌, ◌≤◌, ◌++◌, [], ◌∷◌};
-    ghost use Rattle.std.specs.Prelude.{Bool, true, length, take, drop, filter, slice_set, IfNone, IfSome, OnOk, OnErr};
-    ghost use Rattle.std.specs.List.{insert};
+    ghost use Rattle.std.specs.Prelude.{Bool, true, false, length, take, drop, filter, slice_set, IfOk, IfNone, IfSome, OnOk, OnErr};
+    ghost use Rattle.std.specs.List.{insert, list_any};
     ghost use Rattle.std.specs.List.Sorted.{IsPartitionedBy};
     ghost use Rattle.std.specs.Fn.{ComputesKey};
     ghost use Rattle.block_list.specs.Blocks.{IsReplaced};
+    ghost use Rattle.block_list.specs.Taken.{IsTakenOut};
 
     /// Puts an element before element `i`, or behind the last.
     ///
@@ -216,6 +202,26 @@ impl<T: Drop> BlockList<T> {
         set_at(&mut self.blocks, i, item);
     }
 
+    /// Takes out an element that passes the test, if there is one, and gives a hint for the next search. It takes no
+    /// memory. Any hint will do.
+    ///
+    /// Where what is sought stands behind what was taken before, each with the hint that the one before gave, the work
+    /// for one is small.
+    pub fn take_near<P: Fn(&T) -> bool>(&mut self, near: Spot, pred: P) -> (Option<T>, Spot)
+        requires { P.IsAlwaysCallable pred }
+        ensures none { IfNone result.0 (self.new ≡ self.old) }
+        ensures absent { IfNone result.0 ((p : T → Bool) → ComputesKey P.FnMut p pred → list_any p self.old ≡ false) }
+        ensures taken { IfSome result.0
+            (λ x. (p : T → Bool) → ComputesKey P.FnMut p pred → IsTakenOut p self.old x self.new) }
+    {
+        let Some((block, place)) = spot_passing(&self.blocks, near.block, pred) else {
+            return (None, near);
+        };
+        let taken = take_at(&mut self.blocks, block, place);
+        self.len -= 1;
+        (Some(taken), Spot { block, place: 0 })
+    }
+
     /// Gives up the elements from place `from` up to before place `to`. It takes no memory.
     pub fn remove_range(&mut self, from: usize, to: usize)
         requires order { from ≤ to }
@@ -248,14 +254,28 @@ impl<T: Drop> BlockList<T> {
         self.len -= retain_in(&mut self.blocks, pred);
     }
 
-    /// Takes the last element out of the list, if there is one. It takes no memory.
-    pub fn pop(&mut self) -> Option<T>
-        ensures none { IfNone result (self.new ≡ self.old) }
-        ensures empty { IfNone result (self.old ≡ []) }
-        ensures some { IfSome result (λ x. self.old ≡ self.new ++ x ∷ []) }
+    /// Takes room for `more` elements that are to come. `open` puts it to the list, and then they take no memory.
+    ///
+    /// The list may lose elements before it is opened. The room is a block for all elements, and, where there is memory for
+    /// them too, spare blocks for those that come: with them no other element moves further than in its block or the next.
+    /// The work is in proportion to `more`. The only error is want of memory.
+    pub fn room(&mut self, more: usize) -> Result<Room<T>, AllocError>
+        ensures kept { self.new ≡ self.old }
+        ensures most { IfOk result (λ room. room.most ≡ length self.old) }
+        ensures more { IfOk result (λ room. room.more ≡ more) }
     {
-        let last = pop_last(&mut self.blocks)?;
-        self.len -= 1;
-        Some(last)
+        let room = Room::new(*self.blocks.allocator(), self.len, self.blocks.len(), more)?;
+        let _refused = self.blocks.reserve(room.spares()).is_err();
+        Ok(room)
+    }
+
+    /// The list, with room that was taken for it. It takes no memory.
+    pub fn open(self, room: Room<T>) -> Roomy<T>
+        requires { length self ≤ room.most }
+        ensures items { result.items ≡ self }
+        ensures more { result.more ≡ room.more }
+    {
+        let BlockList { blocks, len } = self;
+        room.open(blocks, len)
     }
 }

@@ -1,5 +1,5 @@
 //! The work on the blocks of a list. None of them is empty.
-ghost use Rattle.std.specs.Prelude.{◌≡◌, ◌+◌, ◌<◌, ◌≤◌, [], ◌∷◌, ◌++◌, length, take, drop, slice_set, OnOk, OnErr, IfNone, IfSome};
+ghost use Rattle.std.specs.Prelude.{◌≡◌, ◌+◌, ◌<◌, ◌≤◌, ◌++◌, length, take, drop, slice_set, OnOk, OnErr};
 ghost use Rattle.std.specs.List.{insert};
 ghost use Rattle.block_list.specs.Blocks.{joined, AreFilled, start_of, IsPlace, IsElement};
 
@@ -46,6 +46,7 @@ fn cut_long<T>(blocks: &mut Vec<Vec<T>>, block: usize, inserted: usize)
     requires in_range { block < length blocks.old.items }
     ensures same { joined blocks.new.items ≡ joined blocks.old.items }
     ensures filled { AreFilled blocks.new.items }
+    ensures no_fewer { length blocks.old.items ≤ length blocks.new.items }
 {
     let len = blocks[block].len();
     if len < LONG {
@@ -163,20 +164,4 @@ pub fn remove_between<T: Drop>(blocks: &mut Vec<Vec<T>>, from: usize, to: usize)
     while left > 0 {
         left -= remove_some(blocks, from, left);
     }
-}
-
-/// Takes out the last element, if there is one.
-pub fn pop_last<T: Drop>(blocks: &mut Vec<Vec<T>>) -> Option<T>
-    requires { AreFilled blocks.old.items }
-    ensures none { IfNone result (blocks.new.items ≡ blocks.old.items) }
-    ensures empty { IfNone result (joined blocks.old.items ≡ []) }
-    ensures some { IfSome result (λ x. joined blocks.old.items ≡ joined blocks.new.items ++ x ∷ []) }
-    ensures filled { AreFilled blocks.new.items }
-{
-    let mut block = blocks.pop()?;
-    let last = block.pop();
-    if !block.is_empty() {
-        blocks.push_reserved(block);
-    }
-    last
 }

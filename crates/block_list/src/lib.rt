@@ -3,15 +3,20 @@
 
 mod block_list;
 mod blocks;
+mod gather;
 mod kept;
 mod near;
+mod placed;
 mod room;
+mod roomy;
 mod search;
 mod spare;
 mod spot;
+mod taken;
 
 pub use block_list::BlockList;
 pub use room::Room;
+pub use roomy::Roomy;
 pub use spot::Spot;
 
 #[cfg(test)]

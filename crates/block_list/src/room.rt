@@ -1,77 +1,76 @@
-use crate::BlockList;
-use crate::spare::{BLOCK_ROOM, next_block, push_filled, spare_blocks, turn_round};
+use crate::Roomy;
+use crate::spare::{spare_blocks, spares_for, whole_block};
 use std::alloc::{AllocError, Global};
 use std::marker::Model;
 
-/// Room that is taken before a list is made, so that making it takes no memory.
+/// Room that is taken before a list grows, so that growing takes no memory.
 ///
-/// It is seen as the elements so far, and how many more there is room for.
+/// It is seen as two numbers: `most`, how many elements the list may have when it is opened, and `more`, how many may
+/// come.
 #[derive(Debug, Drop)]
 pub struct Room<T> {
-    full: Vec<Vec<T>>,
-    current: Vec<T>,
+    whole: Vec<Vec<T>>,
     spare: Vec<Vec<T>>,
-    len: usize,
-    left: usize,
+    most: usize,
+    more: usize,
 }
 
 impl<T> Model for Room<T> {
-    ghost use Rattle.std.specs.Prelude.{ℕ, List, reverse};
-    ghost use Rattle.block_list.specs.Room.{arrived, IsRoom};
+    ghost use Rattle.block_list.specs.Room.{Reserved};
+    ghost use Rattle.block_list.specs.Spares.{IsRoom};
 
-    ghost Value = { List T × ℕ };
+    ghost Value = { Reserved };
 
-    ghost view = { λ r. (reverse (arrived r.full.items r.current), r.left) };
+    ghost view = { λ r. record { most = r.most; more = r.more } };
 
-    ghost invariant = { λ r. IsRoom r.full r.current r.spare r.len r.left };
+    ghost invariant = { λ r. IsRoom r.whole.items r.spare.items r.most r.more };
 }
 
 impl<T: Drop> Room<T> {
-    ghost use Rattle.std.specs.Prelude.{◌≡◌, ◌+◌, ◌<◌, [], ◌∷◌, IfOk};
+    ghost use Rattle.std.specs.Prelude.{◌≡◌, ◌≤◌, IfOk};
+    ghost use Rattle.block_list.specs.Blocks.{joined, IsKept};
 
-    /// Room for `len` elements. The only error is want of memory.
-    pub fn new(alloc: Global, len: usize) -> Result<Room<T>, AllocError>
-        ensures empty { IfOk result (λ room. room.0 ≡ []) }
-        ensures room { IfOk result (λ room. room.1 ≡ len) }
+    /// Room for `more` elements in a list that has `most`, in so many blocks. The only error is want of memory.
+    pub(crate) fn new(
+        alloc: Global,
+        most: usize,
+        blocks: usize,
+        more: usize,
+    ) -> Result<Room<T>, AllocError>
+        ensures most { IfOk result (λ room. room.most ≡ most) }
+        ensures more { IfOk result (λ room. room.more ≡ more) }
     {
-        let count = len / BLOCK_ROOM;
+        let Some(all) = most.checked_add(more) else {
+            return Err(AllocError);
+        };
+        let whole = whole_block(alloc, all)?;
+        let spare = spare_blocks(alloc, spares_for(blocks, more));
         Ok(Room {
-            full: Vec::with_capacity(alloc, count + 1)?,
-            current: Vec::with_capacity(alloc, len % BLOCK_ROOM)?,
-            spare: spare_blocks(alloc, count)?,
-            len: 0,
-            left: len,
+            whole,
+            spare,
+            most,
+            more,
         })
     }
 
-    /// Puts an element before the others. It takes no memory.
-    pub fn put_first(&mut self, item: T)
-        requires { 0 < self.old.1 }
-        ensures items { self.new.0 ≡ item ∷ self.old.0 }
-        ensures room { self.new.1 + 1 ≡ self.old.1 }
-    {
-        if self.current.len() >= self.current.capacity() {
-            next_block(&mut self.full, &mut self.current, &mut self.spare);
-        }
-        self.current.push_reserved(item);
-        self.len += 1;
-        self.left -= 1;
+    /// How many blocks it may add to a list.
+    pub(crate) fn spares(&self) -> usize {
+        self.spare.len()
     }
 
-    /// The elements as a list. It takes no memory.
-    pub fn into_list(self) -> BlockList<T>
-        ensures { result ≡ self.0 }
+    /// The list that those blocks are, with the room. They have `len` elements.
+    pub(crate) fn open(self, blocks: Vec<Vec<T>>, len: usize) -> Roomy<T>
+        requires kept { IsKept blocks.items len }
+        requires fits { len ≤ self.most }
+        ensures items { result.items ≡ joined blocks.items }
+        ensures more { result.more ≡ self.more }
     {
         let Room {
-            mut full,
-            current,
-            mut spare,
-            len,
-            left: _,
+            whole,
+            spare,
+            most: _,
+            more,
         } = self;
-        push_filled(&mut full, current);
-        spare.clear();
-        turn_round(full, &mut spare);
-        BlockList::from_blocks(spare, len)
+        Roomy::new(blocks, spare, whole, len, more)
     }
 }

@@ -1,5 +1,8 @@
-use crate::{BlockList, Room, Spot};
+use crate::{BlockList, Spot};
 use std::alloc::{AllocError, Global};
+
+mod rooms;
+mod taken;
 
 // A list that is owned has its own function here, with no `rt` beside it, a table is a constant,
 // and a loop over one tells its first wrong row: so the proofs are short.
@@ -21,15 +24,6 @@ fn rising(alloc: Global, n: u32) -> Result<BlockList<u32>, AllocError> {
         list.insert(end, i)?;
     }
     Ok(list)
-}
-
-/// 0, 1, 2 .. n - 1, in room that is taken first.
-fn roomy(alloc: Global, n: u32) -> Result<BlockList<u32>, AllocError> {
-    let mut room = Room::new(alloc, n as usize)?;
-    for i in 0..n {
-        room.put_first(n - 1 - i);
-    }
-    Ok(room.into_list())
 }
 
 /// How many blocks there are, and how long the first is.
@@ -228,9 +222,8 @@ fn shrinks(list: &mut BlockList<u32>) -> bool {
         && shrinks_to(list, 127, (2, 125))
         && shrinks_to(list, 2, (1, 2))
         && shrinks_to(list, 1, (1, 1))
-        && list.pop() == Some(128)
-        && list.pop().is_none()
-        && list.is_empty()
+        && counts_without(list, 0, 128)
+        && shrinks_to(list, 0, (0, 0))
 }
 
 fn rises_and_shrinks(alloc: Global) -> bool {
@@ -243,71 +236,6 @@ fn rises_and_shrinks(alloc: Global) -> bool {
 #[test]
 fn a_list_shrinks_through_the_block_length(rt: HostRuntime) {
     assert!(rt; rises_and_shrinks(rt.alloc()));
-}
-
-fn is_of_a_room(alloc: Global, n: u32, wanted: Shape) -> bool {
-    match roomy(alloc, n) {
-        Ok(list) => counts_to(&list, n, wanted),
-        Err(_) => false,
-    }
-}
-
-const ROOMS: &[(u32, Shape)] = &[
-    (0, (0, 0)),
-    (1, (1, 1)),
-    (256, (1, 256)),
-    (257, (2, 256)),
-    (2_000, (8, 256)),
-    (5_000, (20, 256)),
-];
-
-fn wrong_room(alloc: Global) -> Option<u32> {
-    for (n, wanted) in ROOMS {
-        if !is_of_a_room(alloc, *n, *wanted) {
-            return Some(*n);
-        }
-    }
-    None
-}
-
-#[test]
-fn a_room_becomes_a_list_of_short_blocks(rt: HostRuntime) {
-    let wrong = wrong_room(rt.alloc());
-    assert!(rt; wrong.is_none(), "{wrong:?}");
-}
-
-/// Puts the numbers from 200 up to before 800 at their places.
-fn fill_in(list: &mut BlockList<u32>) -> bool {
-    for i in 200..800 {
-        if list.len() < i as usize || list.insert(i as usize, i).is_err() {
-            return false;
-        }
-    }
-    true
-}
-
-fn changes(list: &mut BlockList<u32>) -> bool {
-    if list.len() != 1_000 {
-        return false;
-    }
-    list.remove_range(200, 800);
-    list.len() == 400
-        && counts_without(list, 200, 800)
-        && fill_in(list)
-        && counts_without(list, 0, 0)
-        && shape(list) == (12, 100)
-}
-
-fn changes_after_a_room(alloc: Global) -> bool {
-    match roomy(alloc, 1_000) {
-        Ok(mut list) => changes(&mut list),
-        Err(_) => false,
-    }
-}
-
-#[test]
-fn a_list_from_a_room_changes_like_another(rt: HostRuntime) {
-    assert!(rt; changes_after_a_room(rt.alloc()));
 }
 
 const PLACES: &[usize] = &[0, 126, 127, 128, 253, 254, 274];
@@ -359,9 +287,6 @@ const BETWEEN: &[(u32, u32, usize)] = &[
 
 /// Whether the number 1,000 takes the place of those from `from` up to before `to`.
 fn replaces(list: &mut BlockList<u32>, from: u32, to: u32, wanted: usize) -> bool {
-    if list.any_between(|item| *item < from, |item| *item < to) != (from < to) {
-        return false;
-    }
     let done = list.replace_between(|item| *item < from, |item| *item < to, 1_000);
     done.is_ok()
         && list.len() == wanted

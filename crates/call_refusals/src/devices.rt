@@ -32,7 +32,7 @@ pub fn verdict(alloc: Global, call: &str) -> Option<Verdict> {
 
 fn verdict_on_others(alloc: Global, call: &str) -> Option<Verdict> {
     match call {
-        "Device::apply" => on_device(alloc, 2, Call::Apply),
+        "Device::stage" => on_device(alloc, 2, Call::Stage),
         "Device::narrow" => on_device(alloc, 2, Call::Narrow),
         "Device::conflicts" => conflicts(alloc),
         "Held::try_clone" => on_device(alloc, 1, Call::CopyHeld),
@@ -46,7 +46,7 @@ enum Call {
     Make,
     Edit,
     Remove,
-    Apply,
+    Stage,
     Narrow,
     CopyHeld,
     List,
@@ -69,7 +69,7 @@ fn on_device(alloc: Global, count: u8, call: Call) -> Option<Verdict> {
 
 fn on_twins(alloc: Global, device: &mut Device, twin: &Device, call: Call) -> Option<Verdict> {
     match call {
-        Call::Apply => apply(alloc, device, twin),
+        Call::Stage => stage(alloc, device, twin),
         Call::Narrow => narrow(alloc, device, twin),
         call => {
             let right = calls(alloc, device, call);
@@ -248,7 +248,7 @@ fn change(alloc: Global) -> Option<Change>
     ensures drops { IfSome result (λ change. change.drops ≡ []) }
     ensures takes { IfSome result (λ change. change.takes ≡ []) }
     ensures gain { IfSome result (λ change. (p : ℕ) (v : versions.Version) → 0 < p
-        → knows change.gain p v ≡ ((7 == p) && denotes ((author 1, 3) ∷ []) v)) }
+        → knows change.gain.known p v ≡ ((7 == p) && denotes ((author 1, 3) ∷ []) v)) }
 {
     let gain = told(alloc, 7, 3)?;
     Some(Change {
@@ -258,40 +258,30 @@ fn change(alloc: Global) -> Option<Change>
     })
 }
 
-fn apply(alloc: Global, device: &mut Device, twin: &Device) -> Option<Verdict> {
+fn stage(alloc: Global, device: &mut Device, twin: &Device) -> Option<Verdict> {
     let change = change(alloc)?;
     if device.author().value() != 0 {
         return None;
     }
-    let done = applies(alloc, device, change);
+    let done = stages(alloc, device, change);
+    let kept = same_device(device, twin);
     Some(match done {
-        Ok(()) => judged(Some(has_learned(alloc, device, twin)), true),
-        Err((change, _)) => judged(None, same_device(device, twin) && is_change(alloc, &change)),
+        Ok(()) => judged(Some(device.staged()), kept),
+        Err((change, _)) => judged(None, kept && !device.staged() && is_change(alloc, &change)),
     })
 }
 
-fn applies(alloc: Global, device: &mut Device, change: Change) -> Result<(), (Change, AllocError)>
+fn stages(alloc: Global, device: &mut Device, change: Change) -> Result<(), (Change, AllocError)>
     requires zero { device.old.author.device ≡ 0 }
     requires drops { change.drops ≡ [] }
     requires takes { change.takes ≡ [] }
-    requires gain { (p : ℕ) (v : versions.Version) → 0 < p → knows change.gain p v ≡ ((7 == p) && denotes ((author 1, 3) ∷ []) v) }
+    requires gain { (p : ℕ) (v : versions.Version) → 0 < p
+        → knows change.gain.known p v ≡ ((7 == p) && denotes ((author 1, 3) ∷ []) v) }
 {
     mark(alloc);
-    let done = device.apply(change);
+    let done = device.stage(change, 2);
     mark(alloc);
     done
-}
-
-fn has_learned(alloc: Global, device: &Device, twin: &Device) -> bool {
-    match told(alloc, 7, 3) {
-        Some(gain) => {
-            device.knowledge().has_all(&gain)
-                && device.knowledge().has_all(twin.knowledge())
-                && !device.knowledge().same(twin.knowledge())
-                && same_held(device.store(), twin.store())
-        }
-        None => false,
-    }
 }
 
 fn is_change(alloc: Global, change: &Change) -> bool {

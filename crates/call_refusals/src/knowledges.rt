@@ -29,6 +29,7 @@ fn verdict_on_learning(alloc: Global, call: &str) -> Option<Verdict> {
         "Knowledge::learn" => on_knowledge(alloc, Call::Learn),
         "Knowledge::learn_table" => on_knowledge(alloc, Call::LearnTable),
         "Knowledge::learn_all" => on_knowledge(alloc, Call::LearnAll),
+        "Knowledge::stage" => on_knowledge(alloc, Call::Stage),
         _ => None,
     }
 }
@@ -40,6 +41,7 @@ enum Call {
     Learn,
     LearnTable,
     LearnAll,
+    Stage,
 }
 
 // What came of a call on what knows of picture 7 three versions.
@@ -61,6 +63,7 @@ fn calls(alloc: Global, knowledge: &mut Knowledge, call: Call) -> Option<bool> {
         Call::Learn => learns(alloc, knowledge),
         Call::LearnTable => learns_table(alloc, knowledge),
         Call::LearnAll => learns_all(alloc, knowledge),
+        Call::Stage => stages(alloc, knowledge),
     }
 }
 
@@ -83,7 +86,7 @@ fn knows(knowledge: &Knowledge, picture: u32, n: u32) -> bool {
 /// What knows of a picture device 1's first `n` versions, and nothing else.
 pub fn told(alloc: Global, picture: u32, n: u32) -> Option<Knowledge>
     ensures { IfSome result (λ knowledge. (p : ℕ) (v : versions.Version) → 0 < p
-        → knows knowledge p v ≡ ((picture == p) && denotes ((author 1, n) ∷ []) v)) }
+        → knows knowledge.known p v ≡ ((picture == p) && denotes ((author 1, n) ∷ []) v)) }
 {
     let mut knowledge = Knowledge::new(alloc).ok()?;
     let vector = vector_of(alloc, 1, n)?;
@@ -164,6 +167,19 @@ fn learns_all(alloc: Global, knowledge: &mut Knowledge) -> Option<bool> {
     is_right(done, kept, knowledge)
 }
 
+fn stages(alloc: Global, knowledge: &mut Knowledge) -> Option<bool> {
+    let other = told(alloc, 9, 4)?;
+    mark(alloc);
+    let done = knowledge.stage(&other).is_ok();
+    mark(alloc);
+    let kept = knows(knowledge, 7, 3) && !knows(knowledge, 9, 1);
+    if !knowledge.staged() {
+        return is_right(done, kept, knowledge);
+    }
+    knowledge.commit();
+    is_right(done, kept, knowledge)
+}
+
 fn learn_own(alloc: Global) -> Option<Verdict> {
     let version = Version::new(Author::new(1), 1)?;
     let mut knowledge = Knowledge::new(alloc).ok()?;
@@ -173,7 +189,7 @@ fn learn_own(alloc: Global) -> Option<Verdict> {
 }
 
 fn learns_own(alloc: Global, knowledge: &mut Knowledge, version: Version) -> Option<bool>
-    requires { version.number ≡ star_bound knowledge.old version.author + 1 }
+    requires { version.number ≡ star_bound knowledge.old.known version.author + 1 }
 {
     mark(alloc);
     let done = knowledge.learn_own(version);

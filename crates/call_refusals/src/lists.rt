@@ -1,5 +1,5 @@
 use crate::verdict::{Verdict, judged, mark};
-use block_list::{BlockList, Room};
+use block_list::BlockList;
 use std::alloc::Global;
 
 /// What came of a call of `block_list`.
@@ -8,7 +8,7 @@ pub fn verdict(alloc: Global, call: &str) -> Option<Verdict> {
         "BlockList::insert" => insert(alloc, 0),
         "BlockList::insert halving" => insert(alloc, 127),
         "BlockList::replace_between" => replace(alloc),
-        "Room::new" => Some(judged(makes_room(alloc), true)),
+        "BlockList::room" => room(alloc),
         _ => None,
     }
 }
@@ -69,12 +69,18 @@ fn replaces(alloc: Global, list: &mut BlockList<u32>) -> Option<bool> {
     Some(list.len() == 1 && *list.get(0) == 7)
 }
 
-fn makes_room(alloc: Global) -> Option<bool> {
+// Of a list with one block, which is full.
+fn room(alloc: Global) -> Option<Verdict> {
+    let mut list = evens(alloc, 64)?;
+    let right = takes_room(alloc, &mut list);
+    let unchanged = has_evens(&list, 64);
+    Some(judged(right, unchanged))
+}
+
+fn takes_room(alloc: Global, list: &mut BlockList<u32>) -> Option<bool> {
     mark(alloc);
-    let room = Room::new(alloc, 300);
+    let room = list.room(3);
     mark(alloc);
-    let mut room = room.ok()?;
-    room.put_first(7);
-    let list: BlockList<u32> = room.into_list();
-    Some(list.len() == 1 && *list.get(0) == 7)
+    let _room = room.ok()?;
+    Some(has_evens(list, 64))
 }

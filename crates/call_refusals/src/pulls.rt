@@ -1,4 +1,4 @@
-ghost use Rattle.std.specs.Prelude.{◌≡◌, ◌<◌, ◌≤◌, nat_lt, true, None, length, IfSome};
+ghost use Rattle.std.specs.Prelude.{◌≡◌, ◌<◌, ◌≤◌, nat_lt, true, not, None, is_some, length, IfSome};
 ghost use Rattle.std.specs.List.{list_all};
 ghost use Rattle.fleet_steps.specs.Between.{AreReady, HaveRoom, MayPull};
 
@@ -95,12 +95,19 @@ fn have_room(devices: &[Device]) -> bool
     devices.iter().all(|device| device.counter() < u32::MAX)
 }
 
+// Whether nothing is staged on any device.
+fn are_settled(devices: &[Device]) -> bool
+    ensures { result ≡ list_all (λ d. not (is_some d.staged)) devices.now }
+{
+    devices.iter().all(|device| !device.staged())
+}
+
 // What came of a command that pulls. After one that was refused memory, the next one has to be right.
 fn on_all(alloc: Global, devices: &mut [Device], twins: &[Device]) -> Verdict
     requires three { length devices.old ≡ 3 }
     requires ready { AreReady devices.old }
 {
-    if !have_room(devices) {
+    if !have_room(devices) || !are_settled(devices) {
         return Verdict::Wrong;
     }
     mark(alloc);
@@ -121,6 +128,7 @@ fn runs_on(alloc: Global, devices: &mut [Device]) -> Option<bool>
     requires three { length devices.old ≡ 3 }
     requires ready { AreReady devices.old }
     requires room { list_all (λ d. nat_lt d.counter 4_294_967_295) devices.old ≡ true }
+    requires settled { list_all (λ d. not (is_some d.staged)) devices.old ≡ true }
     ensures kept { result ≡ None → devices.new ≡ devices.old }
 {
     let command = Command::Pull {

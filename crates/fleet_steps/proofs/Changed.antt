@@ -6,7 +6,8 @@ use Rattle.photo_version.specs.Version.{Version}
 use Rattle.photo_device.specs.declared.place.Place.{Place}
 use Rattle.photo_device.specs.declared.fault.ChangeFault.{ChangeFault}
 use Rattle.photo_device.specs.declared.fault.ChangeFault.TheVariants as change
-use Rattle.photo_device.specs.Device.{Kept, ModelDevice, Shows, made, next_version, new_place, is_held}
+use Rattle.photo_device.specs.Device.{Kept, ModelDevice, Shows, IsAsItWas, made, next_version, new_place, is_held}
+use Rattle.photo_device.proofs.Staged.{shows_alike}
 use Rattle.photo_script.specs.declared.report.Report.{Report}
 use Rattle.photo_script.specs.Reports.{Answer, Made, NotHeld, Tells, answer_of}
 use Rattle.photo_script.specs.Runs.{changing}
@@ -19,12 +20,12 @@ pub record IsChanged (done : Result (Version × Place) ChangeFault) (old new : K
   pub place : IfOk done (λ answer. (m : ModelDevice) → Shows old m → answer.1 ≡ new_place m content)
   pub held : (done ≡ Err change.NotHeld → ⊥) → (m : ModelDevice) → Shows old m → is_held m p ≡ true
   pub not_held : done ≡ Err change.NotHeld → (m : ModelDevice) → Shows old m → is_held m p ≡ false
-  pub err : OnErr done (new ≡ old)
+  pub err : OnErr done (IsAsItWas old new)
 
 shows_change : (done : Result (Version × Place) ChangeFault) (old new : Kept) (p : ℕ) (content : Record) → IsChanged done old new p content
     → (a : Answer) → told_of done ≡ Some a → (m : ModelDevice) → Shows old m → Shows new (changing m None p content).first
 shows_change (Ok made') old new p content is a told m s = rw (is.held (λ e. cc) m s) (is.shows m s)
-shows_change (Err change.NotHeld) old new p content is a told m s = rw (is.not_held refl m s) (subst (λ (d : Kept). Shows d m) (sym is.err) s)
+shows_change (Err change.NotHeld) old new p content is a told m s = rw (is.not_held refl m s) (shows_alike old new m is.err s)
 shows_change (Err change.NoMemory) old new p content is a told m s = cc
 
 tells_change : (done : Result (Version × Place) ChangeFault) (old new : Kept) (p : ℕ) (content : Record) → IsChanged done old new p content
@@ -45,7 +46,7 @@ pub change_device : {E : Type 0} (r : Result Report E) (done : Result (Version �
     → IfOk done (λ answer. (m : ModelDevice) → Shows old m → answer.1 ≡ new_place m content)
     → ((done ≡ Err change.NotHeld → ⊥) → (m : ModelDevice) → Shows old m → is_held m p ≡ true)
     → (done ≡ Err change.NotHeld → (m : ModelDevice) → Shows old m → is_held m p ≡ false)
-    → OnErr done (new ≡ old)
+    → OnErr done (IsAsItWas old new)
     → IfOk r (λ report. told_of done ≡ Some (answer_of report))
     → OnOk r ((m : ModelDevice) → Shows old m → Shows new (changing m None p content).first)
 change_device (Ok report) done old new p content shows version place held not_held err told = shows_change done old new p content (record { shows = shows; version = version; place = place; held = held; not_held = not_held; err = err }) (answer_of report) told
@@ -57,16 +58,16 @@ pub change_report : {E : Type 0} (r : Result Report E) (done : Result (Version �
     → IfOk done (λ answer. (m : ModelDevice) → Shows old m → answer.1 ≡ new_place m content)
     → ((done ≡ Err change.NotHeld → ⊥) → (m : ModelDevice) → Shows old m → is_held m p ≡ true)
     → (done ≡ Err change.NotHeld → (m : ModelDevice) → Shows old m → is_held m p ≡ false)
-    → OnErr done (new ≡ old)
+    → OnErr done (IsAsItWas old new)
     → IfOk r (λ report. told_of done ≡ Some (answer_of report))
     → IfOk r (λ report. (m : ModelDevice) → Shows old m → Tells (answer_of report) (changing m None p content).report)
 change_report (Ok report) done old new p content shows version place held not_held err told = tells_change done old new p content (record { shows = shows; version = version; place = place; held = held; not_held = not_held; err = err }) (answer_of report) told
 change_report (Err e) done old new p content shows version place held not_held err told = tt
 
 pub change_err : {E : Type 0} (r : Result Report E) (done : Result (Version × Place) ChangeFault) (old new : Kept)
-    → OnErr done (new ≡ old) → OnErr r (done ≡ Err change.NoMemory) → OnErr r (new ≡ old)
+    → OnErr done (IsAsItWas old new) → OnErr r (done ≡ Err change.NoMemory) → OnErr r (IsAsItWas old new)
 change_err (Ok report) done old new err none = tt
-change_err (Err e) done old new err none = subst (λ (x : Result (Version × Place) ChangeFault). OnErr x (new ≡ old)) none err
+change_err (Err e) done old new err none = subst (λ (x : Result (Version × Place) ChangeFault). OnErr x (IsAsItWas old new)) none err
 
 not_both : {A : Type 0} (r : Result A ChangeFault) → r ≡ Err change.NoMemory → r ≡ Err change.NotHeld → ⊥
 not_both r wanting refused = cc

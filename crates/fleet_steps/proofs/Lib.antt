@@ -25,6 +25,7 @@ pub mod SoundNarrowing
 pub mod SoundFleets
 pub mod SoundRuns
 pub mod Between
+pub mod Settled
 pub mod SoundTests
 pub mod SoundWorked
 pub mod Times

@@ -1,5 +1,5 @@
 -- What the devices of a run have to be for a command, and what a command makes of them.
-use Rattle.std.specs.Prelude.{◌≡◌, ℕ, ◌<◌, ◌≤◌, true, false, List, ◌++◌, slice_set, Some}
+use Rattle.std.specs.Prelude.{◌≡◌, ℕ, ◌<◌, ◌≤◌, true, false, List, ◌++◌, map, slice_set, None, Some}
 use Rattle.std.specs.Option.{option_map}
 use Rattle.std.specs.List.{AllZip, AllByRecursion}
 use Rattle.photo_version.specs.Author.{same_author}
@@ -7,7 +7,7 @@ use Rattle.photo_version.specs.Version.{Version, version}
 use Rattle.item_knowledge.specs.Fragments.{knows}
 use Rattle.photo_device.specs.declared.held.Held.{Held}
 use Rattle.photo_device.specs.Held.{find_version}
-use Rattle.photo_device.specs.Device.{Kept, ModelDevice, Shows}
+use Rattle.photo_device.specs.Device.{Kept, ModelDevice, Shows, unstaged}
 use Rattle.photo_pull.specs.Pull.{pulled, handed_over}
 use Rattle.photo_script.specs.declared.command.Command.{Command}
 use Rattle.photo_script.specs.Contents.{devices_of}
@@ -26,6 +26,14 @@ pub record AreReady (devices : List Kept) : Type 0 where
   pub models : List ModelDevice
   pub shown : AllZip Shows devices models
   pub ready : IsReady models
+
+-- nothing is staged on any of the devices
+abbrev pub AreSettled : List Kept → Type 0
+AreSettled devices = AllByRecursion (λ d. d.staged ≡ None) devices
+
+-- 'as they were' doesn't speak of what is staged
+abbrev pub AreAsTheyWere : List Kept → List Kept → Type 0
+AreAsTheyWere old new = map unstaged new ≡ map unstaged old
 
 -- each device may make a version more
 abbrev pub HaveRoom : List Kept → Type 0

@@ -1,6 +1,6 @@
 ghost use Rattle.std.specs.Prelude.{◌≡◌, true, ◌<◌, Some, None, Err, IfOk, IfSome, OnOk, OnErr};
 ghost use Rattle.photo_filter_rules.specs.Covers.{covers};
-ghost use Rattle.photo_device.specs.Device.{ModelDevice, Shows, is_held};
+ghost use Rattle.photo_device.specs.Device.{ModelDevice, Shows, is_held, IsAsItWas};
 ghost use Rattle.item_knowledge.specs.Fragments.{is_normal, knows};
 ghost use Rattle.photo_script.specs.Contents.{devices_of};
 ghost use Rattle.photo_script.specs.Reports.{KnowledgeOf, Knows, Tells, answer_of};
@@ -32,7 +32,8 @@ pub fn run_command(
     ensures device { OnOk result ((m : ModelDevice) → Shows device.old m → Shows device.new (effect command.now m None).first) }
     ensures report { IfOk result
         (λ report. (m : ModelDevice) → Shows device.old m → Tells (answer_of report) (effect command.now m None).report) }
-    ensures err { OnErr result (device.new ≡ device.old) }
+    ensures err { OnErr result (IsAsItWas device.old device.new) }
+    ensures staged { device.old.staged ≡ None → device.new.staged ≡ None }
     ensures memory { OnErr result ((m : ModelDevice) → Shows device.old m → MayWantMemory command.now m) }
 {
     match command {
@@ -90,8 +91,10 @@ pub fn run_pull(
         → IfSome (pulling t (Some s)).second (Shows source.new)) }
     ensures report { IfOk result (λ report. (t s : ModelDevice) → Shows target.old t → Shows source.old s
         → Tells (answer_of report) (pulling t (Some s)).report) }
-    ensures target_kept { OnErr result (target.new ≡ target.old) }
-    ensures source_kept { OnErr result (source.new ≡ source.old) }
+    ensures target_kept { OnErr result (IsAsItWas target.old target.new) }
+    ensures source_kept { OnErr result (IsAsItWas source.old source.new) }
+    ensures target_unstaged { target.new.staged ≡ None }
+    ensures source_unstaged { source.new.staged ≡ None }
 {
     let counts = pull(alloc, target, source)?;
     Ok(Report::Pulled(counts))
@@ -99,7 +102,7 @@ pub fn run_pull(
 
 // The report on whether a version of a picture is known.
 fn knows_of(knowledge: &Knowledge, picture: PicNo, version: Version) -> Report
-    ensures given { answer_of result ≡ Knows (knows knowledge.now picture version) }
+    ensures given { answer_of result ≡ Knows (knows knowledge.now.known picture version) }
     ensures above_zero { 0 < picture }
 {
     Report::Knows(knowledge.knows(picture, version))
@@ -107,8 +110,8 @@ fn knows_of(knowledge: &Knowledge, picture: PicNo, version: Version) -> Report
 
 // The report on a knowledge, which is in normal form. Its only error is want of memory.
 fn knowledge_of(device: u16, knowledge: &Knowledge) -> Result<Report, AllocError>
-    ensures given { IfOk result (λ report. answer_of report ≡ KnowledgeOf device knowledge.now) }
-    ensures normal { is_normal knowledge.now ≡ true }
+    ensures given { IfOk result (λ report. answer_of report ≡ KnowledgeOf device knowledge.now.known) }
+    ensures normal { is_normal knowledge.now.known ≡ true }
 {
     // For its fact alone: a knowledge is in normal form.
     let _count = knowledge.fragments();
@@ -124,7 +127,8 @@ fn run_edit(device: &mut Device, picture: PicNo, content: &Record) -> Result<Rep
     ensures device { OnOk result ((m : ModelDevice) → Shows device.old m → Shows device.new (changing m None picture content.now).first) }
     ensures report { IfOk result (λ report. (m : ModelDevice) → Shows device.old m
         → Tells (answer_of report) (changing m None picture content.now).report) }
-    ensures err { OnErr result (device.new ≡ device.old) }
+    ensures err { OnErr result (IsAsItWas device.old device.new) }
+    ensures staged { device.old.staged ≡ None → device.new.staged ≡ None }
     ensures memory { OnErr result ((m : ModelDevice) → Shows device.old m → is_held m picture ≡ true) }
 {
     report_on(device.edit(picture, content))
@@ -136,7 +140,8 @@ fn run_remove(device: &mut Device, picture: PicNo) -> Result<Report, AllocError>
     ensures device { OnOk result ((m : ModelDevice) → Shows device.old m → Shows device.new (changing m None picture Removed).first) }
     ensures report { IfOk result (λ report. (m : ModelDevice) → Shows device.old m
         → Tells (answer_of report) (changing m None picture Removed).report) }
-    ensures err { OnErr result (device.new ≡ device.old) }
+    ensures err { OnErr result (IsAsItWas device.old device.new) }
+    ensures staged { device.old.staged ≡ None → device.new.staged ≡ None }
     ensures memory { OnErr result ((m : ModelDevice) → Shows device.old m → is_held m picture ≡ true) }
 {
     report_on(device.remove(picture))
@@ -147,7 +152,8 @@ fn run_narrow(device: &mut Device, filter: &Filter) -> Result<Report, AllocError
     ensures device { OnOk result ((m : ModelDevice) → Shows device.old m → Shows device.new (narrowing m None filter.now).first) }
     ensures report { IfOk result
         (λ report. (m : ModelDevice) → Shows device.old m → Tells (answer_of report) (narrowing m None filter.now).report) }
-    ensures err { OnErr result (device.new ≡ device.old) }
+    ensures err { OnErr result (IsAsItWas device.old device.new) }
+    ensures staged { device.old.staged ≡ None → device.new.staged ≡ None }
     ensures memory { OnErr result (covers device.old.tree filter.now ≡ true) }
 {
     if !covers(device.filter(), filter) {

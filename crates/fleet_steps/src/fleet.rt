@@ -5,7 +5,7 @@ ghost use Rattle.photo_pull.specs.Pull.{counts_of};
 ghost use Rattle.photo_script.specs.Contents.{IsWithin, devices_of};
 ghost use Rattle.photo_script.specs.Reports.{Pulled, Tells, answer_of};
 ghost use Rattle.photo_script.specs.Runs.{device_at};
-ghost use Rattle.fleet_steps.specs.Between.{AreReady, HaveRoom, after_pull, devices_after, effect_on};
+ghost use Rattle.fleet_steps.specs.Between.{AreAsTheyWere, AreReady, AreSettled, HaveRoom, after_pull, devices_after, effect_on};
 ghost use Rattle.fleet_steps.specs.Wanting.{MayWantMemory};
 
 use crate::command::{run_command, run_pull};
@@ -27,7 +27,8 @@ pub fn run_on(
         → AllZip Shows devices.new (devices_after models command.now)) }
     ensures report { IfOk result (λ report. (models : List ModelDevice) → AllZip Shows devices.old models
         → Tells (answer_of report) (effect_on models command.now).report) }
-    ensures err { OnErr result (devices.new ≡ devices.old) }
+    ensures err { OnErr result (AreAsTheyWere devices.old devices.new) }
+    ensures staged { AreSettled devices.old → AreSettled devices.new }
     ensures memory { OnErr result ((models : List ModelDevice) → AllZip Shows devices.old models
         → MayWantMemory command.now (device_at models (devices_of command.now).0)) }
 {
@@ -57,7 +58,8 @@ fn pull_between(
         → AllZip Shows devices.new (after_pull target source models)) }
     ensures report { IfOk result (λ report. (models : List ModelDevice) → AllZip Shows devices.old models
         → answer_of report ≡ Pulled (counts_of (device_at models target) (device_at models source))) }
-    ensures err { OnErr result (devices.new ≡ devices.old) }
+    ensures err { OnErr result (AreAsTheyWere devices.old devices.new) }
+    ensures staged { AreSettled devices.old → AreSettled devices.new }
 {
     if target < source {
         let (front, back) = devices.split_at_mut(source);

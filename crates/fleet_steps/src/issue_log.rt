@@ -81,8 +81,8 @@ impl IssueLog {
     }
 }
 
-/// The versions in the order of pictures, and those of a picture in the order of versions. Its only error is want of
-/// memory.
+// The versions in the order of pictures, and those of a picture in the order of versions. Its only error is want of
+// memory.
 fn by_picture(alloc: Global, issued: &[Held]) -> Result<Vec<Held>, AllocError>
     ensures { IfOk result (λ index. IsIndex issued.now index.items) }
 {
@@ -91,7 +91,7 @@ fn by_picture(alloc: Global, issued: &[Held]) -> Result<Vec<Held>, AllocError>
     Ok(index)
 }
 
-/// Copies of versions, which share what they carry. Its only error is want of memory.
+// Copies of versions, which share what they carry. Its only error is want of memory.
 fn copies(alloc: Global, issued: &[Held]) -> Result<Vec<Held>, AllocError>
     ensures list { IfOk result (λ list. list.items ≡ issued.now) }
     ensures above { OnOk result (AreAbove issued.now) }

@@ -18,6 +18,7 @@ use Rattle.photo_filter_rules.proofs.span.Span.TheSendSync as span
 use Rattle.item_knowledge.proofs.knowledge.Knowledge.TheSendSync as knowledge
 use Rattle.photo_device.proofs.held.Held.TheSendSync as held
 use Rattle.photo_device.proofs.held_set.HeldSet.TheSendSync as held_set
+use Rattle.photo_device.proofs.prepared.Prepared.TheSendSync as prepared
 use Rattle.photo_script.proofs.report.Report.TheSendSync as report
 use Rattle.photo_script.proofs.names.Names.TheSendSync as names
 use Rattle.photo_filter_text.specs.contracts.tree.FilterTree as tree
@@ -54,7 +55,7 @@ filter_sync = first_of (
 )
 
 pub device_send : IsSend device.the_row
-device_send = search (memory.the_field_send, memory.the_send, memory.the_field_sync, memory.the_sync, global.the_field_send, global.the_send, global.the_field_sync, global.the_sync, vec.the_send, vec.the_sync, string.the_field_send, string.the_send, string.the_field_sync, string.the_sync, box.the_send, box.the_sync, crosses, filter_send, held_set.the_send, knowledge.the_send, sendable) depth 60 fits 20000
+device_send = search (memory.the_field_send, memory.the_send, memory.the_field_sync, memory.the_sync, global.the_field_send, global.the_send, global.the_field_sync, global.the_sync, vec.the_send, vec.the_sync, string.the_field_send, string.the_send, string.the_field_sync, string.the_sync, box.the_send, box.the_sync, crosses, filter_send, held_set.the_send, knowledge.the_send, prepared.the_send, sendable) depth 60 fits 20000
 
 pub command_send : IsSend command.the_row
 command_send = search (memory.the_field_send, memory.the_send, memory.the_field_sync, memory.the_sync, global.the_field_send, global.the_send, global.the_field_sync, global.the_sync, vec.the_send, vec.the_sync, string.the_field_send, string.the_send, string.the_field_sync, string.the_sync, box.the_send, box.the_sync, crosses, record_.the_send, filter_send, sendable) depth 60 fits 20000

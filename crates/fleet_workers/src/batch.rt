@@ -49,7 +49,9 @@ pub(crate) fn run_batch<
     requires workers { (0 < workers) × (workers < share.old.parts) }
     requires left { Within (tally_at (arc_value script.now) members.now) share.old.left }
     requires state { (front : List ℕ) × (length front ≤ max_commands) × HasRun (arc_value script.now) front slots share.old }
-    ensures ok { IfOk result (λ new. (front : List ℕ) → length front ≤ max_commands → HasRun (arc_value script.now) front slots share.old → (order : List ℕ) × IsPermutation members.now order × HasRun (arc_value script.now) (front ++ order) new share.new) }
+    ensures ok { IfOk result (λ new. (front : List ℕ) → length front ≤ max_commands
+        → HasRun (arc_value script.now) front slots share.old → (order : List ℕ) × IsPermutation members.now order
+        × HasRun (arc_value script.now) (front ++ order) new share.new) }
     ensures err { IfErr result (λ e. (e ≡ NoMemory) ⊎ (e ≡ NoWorker)) }
 {
     let mut slots = slots;

@@ -37,7 +37,8 @@ struct Running<B: Books> {
 
 impl<B: Books> Running<B> {
     fn join<R: Threads>(self, rt: &R) -> Result<Finished<B>, RunError>
-        ensures ok { IfOk result (λ f. HasWorked self.handle.promise.script.value self.handle.promise.jobs.value.items f.done.items f.share) }
+        ensures ok { IfOk result
+            (λ f. HasWorked self.handle.promise.script.value self.handle.promise.jobs.value.items f.done.items f.share) }
         ensures err { IfErr result (λ e. e ≡ NoMemory) }
     {
         let Running { handle } = self;
@@ -102,7 +103,8 @@ pub(crate) fn run_crew<
     requires parts { vec_len groups + 1 ≤ share.old.parts }
     requires left { Within (tally_at (arc_value script.now) (numbers_of (jobs_of groups.items))) share.old.left }
     ensures done { IfOk result (λ done. AreDoneJobs (arc_value script.now) (jobs_of groups.items) done.items) }
-    ensures share { IfOk result (λ done. share.new ≡ stake share.old.parts (less share.old.left (tally_at (arc_value script.now) (numbers_of (jobs_of groups.items)))) (both share.old.done (worked (tally_at (arc_value script.now) (numbers_of (jobs_of groups.items))) (moved_in done.items)))) }
+    ensures share { IfOk result (λ done. share.new
+        ≡ stake share.old.parts (less share.old.left (tally_at (arc_value script.now) (numbers_of (jobs_of groups.items)))) (both share.old.done (worked (tally_at (arc_value script.now) (numbers_of (jobs_of groups.items))) (moved_in done.items)))) }
     ensures err { IfErr result (λ e. (e ≡ NoMemory) ⊎ (e ≡ NoWorker)) }
 {
     let mut groups = groups;
@@ -151,7 +153,8 @@ fn run_here<B: Books, G: Gate, R: Wait>(
     requires parts { 2 ≤ share.old.parts }
     requires left { Within (tally_at (arc_value script.now) (numbers_of jobs.items)) share.old.left }
     ensures done { IfOk result (λ done. AreDoneJobs (arc_value script.now) jobs.items done.items) }
-    ensures share { IfOk result (λ done. share.new ≡ stake share.old.parts (less share.old.left (tally_at (arc_value script.now) (numbers_of jobs.items))) (both share.old.done (worked (tally_at (arc_value script.now) (numbers_of jobs.items)) (moved_in done.items)))) }
+    ensures share { IfOk result (λ done. share.new
+        ≡ stake share.old.parts (less share.old.left (tally_at (arc_value script.now) (numbers_of jobs.items))) (both share.old.done (worked (tally_at (arc_value script.now) (numbers_of jobs.items)) (moved_in done.items)))) }
     ensures err { IfErr result (λ e. e ≡ NoMemory) }
 {
     // For its fact alone: what the share may count can be counted.

@@ -111,7 +111,8 @@ fn run_batches<
     requires plan { IsPlan (arc_value script.now) plan.now }
     requires start { HasRun (arc_value script.now) [] slots (stake all_parts tally nothing_done) }
     requires workers { (0 < workers) × (workers ≤ max_workers) }
-    ensures ok { IfOk result (λ r. (order : List ℕ) × (share : Stake) × InTurn plan.now.members order × HasRun (arc_value script.now) order r.0 share × (r.1 ≡ share.done)) }
+    ensures ok { IfOk result (λ r. (order : List ℕ) × (share : Stake) × InTurn plan.now.members order
+        × HasRun (arc_value script.now) order r.0 share × (r.1 ≡ share.done)) }
     ensures err { IfErr result (λ e. (e ≡ NoMemory) ⊎ (e ≡ NoWorker)) }
 {
     let Ok((ledger, mut share)) = open::<B>(alloc, blanks, tally) else {

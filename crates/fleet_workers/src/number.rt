@@ -4,7 +4,7 @@ ghost use Rattle.fleet_workers.specs.Limits.{max_workers};
 
 use std::marker::Model;
 
-/// The most workers.
+// The most workers.
 const MAX_WORKERS: u8 = 64;
 
 /// How many workers run a script: 1 to 64.

@@ -16,6 +16,7 @@ pub mod RaiseLemmas
 pub mod SearchLemmas
 pub mod AlongLemmas
 pub mod KeptLemmas
+pub mod StagedLemmas
 pub mod WithinLemmas
 pub mod ToldLemmas
 pub mod HadLemmas

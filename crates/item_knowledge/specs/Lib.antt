@@ -5,8 +5,10 @@ pub mod Rows
 pub mod Gathering
 pub mod Raising
 pub mod Places
-pub mod Coding
 pub mod Kept
+pub mod Staged
+pub mod Spare
+pub mod Coding
 pub mod Told
 pub mod Laws
 pub mod Examples

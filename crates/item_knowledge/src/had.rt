@@ -10,7 +10,7 @@ use photo_version::{Vector, Version};
 
 /// Whether of the picture all versions of the vector are known, and a hint for a later picture. Takes no memory.
 fn has_vector(knowledge: &Knowledge, hint: usize, picture: PicNo, vector: &Vector) -> (bool, usize)
-    ensures { result.0 ≡ true → (v : versions.Version) → vectors.denotes vector.now v ≡ true → knows knowledge.now picture v ≡ true }
+    ensures { result.0 ≡ true → (v : versions.Version) → vectors.denotes vector.now v ≡ true → knows knowledge.now.known picture v ≡ true }
 {
     let mut near = hint;
     for i in 0..vector.len() {
@@ -29,7 +29,7 @@ fn has_vector(knowledge: &Knowledge, hint: usize, picture: PicNo, vector: &Vecto
 
 /// Whether of each picture of a table all versions of the vector beside it are known. Takes no memory.
 pub(crate) fn has_table(knowledge: &Knowledge, table: &[(PicNo, Vector)]) -> bool
-    ensures { result ≡ true → (p : ℕ) (v : versions.Version) → vectors.denotes (at [] table.now p) v ≡ true → knows knowledge.now p v ≡ true }
+    ensures { result ≡ true → (p : ℕ) (v : versions.Version) → vectors.denotes (at [] table.now p) v ≡ true → knows knowledge.now.known p v ≡ true }
 {
     let mut hint = 0;
     for i in 0..table.len() {

@@ -9,37 +9,53 @@ use photo_record::PicNo;
 use photo_version::{Vector, Version};
 use std::alloc::{AllocError, Global};
 use std::marker::Model;
-use std::mem::swap;
+use std::mem::{replace, swap};
+
+/// What is staged.
+#[derive(Debug, Drop)]
+enum Staged {
+    /// Nothing. The spare rows mean nothing.
+    Nothing,
+    /// What is known already, and no more.
+    AllKnown,
+    /// What the spare rows are, with their index.
+    Spare(Vec<(u64, usize)>),
+}
 
 /// Of which picture which versions are known. It is seen as its fragments in normal form: the star, which is what is
 /// known of every picture, and beside it the pictures of which more is known, grouped by what is known of them. Two
 /// knowledges of the same pairs of a picture and a version have equal fragments.
+///
+/// Beside what is known something may be staged, in normal form too: it is prepared, and not known before it is
+/// committed, which wants no memory. Whatever is learned in between, also if that is refused, leaves nothing staged.
 #[derive(Debug, Drop)]
 pub struct Knowledge {
     alloc: Global,
     live: Rows,
-    spare: Rows,
     index: Vec<(u64, usize)>,
+    spare: Rows,
+    staged: Staged,
 }
 
 impl Model for Knowledge {
-    ghost use Rattle.std.specs.Prelude.{List};
-    ghost use Rattle.item_knowledge.specs.Fragments as spec;
-    ghost use Rattle.item_knowledge.specs.Coding.{fragments_code};
+    ghost use Rattle.item_knowledge.specs.Staged.{Knowing};
+    ghost use Rattle.item_knowledge.specs.Coding.{knowing_code};
+
+    ghost Value = { Knowing };
+
+    ghost coded = { knowing_code };
+
     ghost use Rattle.item_knowledge.specs.Rows.{fragments_of};
-    ghost use Rattle.item_knowledge.specs.Kept.{IsKept};
+    ghost use Rattle.item_knowledge.specs.Spare.{staged_of, IsWhole};
 
-    ghost Value = { List spec.Fragment };
+    ghost view = { λ k. record { known = fragments_of k.live; staged = staged_of k.staged k.live k.spare } };
 
-    ghost coded = { fragments_code };
-
-    ghost view = { λ k. fragments_of k.live };
-
-    ghost invariant = { λ k. IsKept k.live k.index.items };
+    ghost invariant = { λ k. IsWhole k.live k.index.items k.staged k.spare };
 }
 
 impl Knowledge {
-    ghost use Rattle.std.specs.Prelude.{◌≡◌, ◌↔◌, ℕ, ◌<◌, ◌≤◌, ◌+◌, ◌||◌, ◌&&◌, ◌==◌, ◌-◌, max, if◌then◌else◌, [], ◌∷◌, true, false, IsTrue, length, get_or, IfOk, OnOk, OnErr};
+    ghost use Rattle.std.specs.Prelude.{◌≡◌, ◌↔◌, ℕ, ◌<◌, ◌≤◌, ◌+◌, ◌||◌, ◌&&◌, ◌==◌, ◌-◌, max, if◌then◌else◌, [], ◌∷◌, true, false, IsTrue, length, get_or, None, IfOk, IfSome, OnOk, OnErr};
+    ghost use Rattle.std.specs.Option.{is_some};
     ghost use Rattle.photo_version.specs.Author.{Author, same_author, author_word};
     ghost use Rattle.photo_version.specs.Version as versions;
     ghost use Rattle.photo_version.specs.Vector as vectors;
@@ -50,24 +66,26 @@ impl Knowledge {
     ghost use Rattle.item_knowledge.specs.Rows.{AreRows, fragments_of};
     ghost use Rattle.item_knowledge.specs.Gathering.{IsSide, vector_of};
     ghost use Rattle.item_knowledge.specs.Kept.{nothing_known, star_bound};
+    ghost use Rattle.item_knowledge.specs.Staged.{settled, IsStagedUnion};
 
     /// Nothing is known. Its only error is want of memory.
     pub fn new(alloc: Global) -> Result<Knowledge, AllocError>
-        ensures value { IfOk result (λ k. k ≡ nothing_known) }
-        ensures nothing { IfOk result (λ k. (p : ℕ) (v : versions.Version) → spec.knows k p v ≡ false) }
+        ensures value { IfOk result (λ k. k ≡ settled nothing_known) }
+        ensures nothing { IfOk result (λ k. (p : ℕ) (v : versions.Version) → spec.knows k.known p v ≡ false) }
     {
         let live = star_alone(alloc, &[], 2)?;
         Ok(Knowledge {
             alloc,
             live,
-            spare: Rows::new(alloc),
             index: Vec::new(alloc),
+            spare: Rows::new(alloc),
+            staged: Staged::Nothing,
         })
     }
 
     /// Whether of the picture the version is known. Takes no memory.
     pub fn knows(&self, picture: PicNo, version: Version) -> bool
-        ensures { result ≡ spec.knows self.now picture version }
+        ensures { result ≡ spec.knows self.now.known picture version }
     {
         if self.has_of_every(version) {
             return true;
@@ -80,7 +98,7 @@ impl Knowledge {
     /// Whether of the picture the version is known, and a hint for the next question. Takes no memory. Any hint will do;
     /// where pictures are asked in rising order, each with the hint that the one before gave, the work for one is small.
     pub fn knows_near(&self, hint: usize, picture: PicNo, version: Version) -> (bool, usize)
-        ensures { result.0 ≡ spec.knows self.now picture version }
+        ensures { result.0 ≡ spec.knows self.now.known picture version }
     {
         if self.has_of_every(version) {
             return (true, hint);
@@ -93,7 +111,7 @@ impl Knowledge {
 
     /// Whether the star has a version, which is then known of every picture.
     fn has_of_every(&self, version: Version) -> bool
-        ensures { result ≡ true → (p : ℕ) → 0 < p → spec.knows self.now p version ≡ true }
+        ensures { result ≡ true → (p : ℕ) → 0 < p → spec.knows self.now.known p version ≡ true }
     {
         let star = entries(&self.live, 0);
         u64::from(version.n()) <= bound_at(star, version.author().word())
@@ -101,16 +119,16 @@ impl Knowledge {
 
     /// The number of fragments, the star among them.
     pub fn fragments(&self) -> usize
-        ensures value { result ≡ length self.now }
-        ensures normal { spec.is_normal self.now ≡ true }
+        ensures value { result ≡ length self.now.known }
+        ensures normal { spec.is_normal self.now.known ≡ true }
     {
         self.live.rows() / 2
     }
 
     /// The fragment of a number, from 0, which is the star. It is lent, and copies nothing.
     pub fn fragment(&self, k: usize) -> Fragment<'_>
-        requires { k < length self.now }
-        ensures { result ≡ get_or self.now k spec.nothing }
+        requires { k < length self.now.known }
+        ensures { result ≡ get_or self.now.known k spec.nothing }
     {
         // For its fact alone: the rows are fewer than 2 ^ 63.
         let _count = self.live.rows();
@@ -119,35 +137,38 @@ impl Knowledge {
 
     /// Whether both denote the same pairs. Takes no memory.
     pub fn same(&self, other: &Knowledge) -> bool
-        ensures value { IsTrue result ↔ (self.now ≡ other.now) }
-        ensures pairs { IsTrue result ↔ ((p : ℕ) (v : versions.Version) → 0 < p → spec.knows self.now p v ≡ spec.knows other.now p v) }
+        ensures value { IsTrue result ↔ (self.now.known ≡ other.now.known) }
+        ensures pairs { IsTrue result ↔ ((p : ℕ) (v : versions.Version) → 0 < p → spec.knows self.now.known p v ≡ spec.knows other.now.known p v) }
     {
         self.live.same(&other.live)
     }
 
     /// Whether all that the other knows is known here too. Takes no memory.
     pub fn has_all(&self, other: &Knowledge) -> bool
-        ensures { IsTrue result ↔ ((p : ℕ) (v : versions.Version) → 0 < p → spec.knows other.now p v ≡ true → spec.knows self.now p v ≡ true) }
+        ensures { IsTrue result ↔ ((p : ℕ) (v : versions.Version) → 0 < p → spec.knows other.now.known p v ≡ true → spec.knows self.now.known p v ≡ true) }
     {
         is_within(&other.live, &other.index, &self.live, &self.index)
     }
 
     /// What is known of the picture. Its only error is want of memory.
     pub fn of(&self, picture: PicNo) -> Result<Vector, AllocError>
-        ensures { IfOk result (λ vector. (v : versions.Version) → vectors.denotes vector v ≡ spec.knows self.now picture v) }
+        ensures { IfOk result (λ vector. (v : versions.Version) → vectors.denotes vector v ≡ spec.knows self.now.known picture v) }
     {
         let (number, _place) = number_at(&self.index, u64::from(picture.value()));
         vector_of_row(self.alloc, entries(&self.live, number))
     }
 
-    /// Learns what a side denotes.
-    fn take_union(&mut self, rows: &Rows, index: &[(u64, usize)]) -> Result<(), AllocError>
+    /// Stages what is known and what a side denotes.
+    fn stage_union(&mut self, rows: &Rows, index: &[(u64, usize)]) -> Result<(), AllocError>
         requires rows { AreRows rows.now }
         requires side { IsSide (fragments_of rows.now) index.now }
-        ensures star { OnOk result ((a : Author) → star_bound self.new a ≡ max (star_bound self.old a) (bound (spec.entries_at (fragments_of rows.now) 0) (author_word a))) }
-        ensures learned { OnOk result ((p : ℕ) (v : versions.Version) → 0 < p → spec.knows self.new p v ≡ (spec.knows self.old p v || denotes (vector_of (fragments_of rows.now) index.now p) v)) }
-        ensures refused { OnErr result (self.new ≡ self.old) }
+        ensures known { self.new.known ≡ self.old.known }
+        ensures there { OnOk result (is_some self.new.staged ≡ true) }
+        ensures star { OnOk result (IfSome self.new.staged (λ s. (a : Author) → star_bound s a ≡ max (star_bound self.old.known a) (bound (spec.entries_at (fragments_of rows.now) 0) (author_word a)))) }
+        ensures pairs { OnOk result (IfSome self.new.staged (λ s. (p : ℕ) (v : versions.Version) → 0 < p → spec.knows s p v ≡ (spec.knows self.old.known p v || denotes (vector_of (fragments_of rows.now) index.now p) v))) }
+        ensures refused { OnErr result (self.new.staged ≡ None) }
     {
+        self.staged = Staged::Nothing;
         let index = union(
             self.alloc,
             &self.live,
@@ -156,32 +177,94 @@ impl Knowledge {
             index,
             &mut self.spare,
         )?;
-        swap(&mut self.live, &mut self.spare);
-        self.index = index;
+        self.staged = Staged::Spare(index);
+        Ok(())
+    }
+
+    /// Prepares to learn all that the other knows: what is known stays, and what is staged is the union. Its only error
+    /// is want of memory, which leaves nothing staged; none is wanted where the other knows nothing more.
+    pub fn stage(&mut self, other: &Knowledge) -> Result<(), AllocError>
+        ensures known { self.new.known ≡ self.old.known }
+        ensures staged { OnOk result (IsStagedUnion self.new.staged self.old.known other.now.known) }
+        ensures refused { OnErr result (self.new.staged ≡ None) }
+    {
+        if is_within(&other.live, &other.index, &self.live, &self.index) {
+            self.staged = Staged::AllKnown;
+            return Ok(());
+        }
+        self.stage_union(&other.live, &other.index)?;
+        Ok(())
+    }
+
+    /// Whether something is staged.
+    pub fn staged(&self) -> bool
+        ensures there { result ≡ is_some self.now.staged }
+        ensures normal { IfSome self.now.staged (λ s. spec.is_normal s ≡ true) }
+    {
+        match &self.staged {
+            Staged::Nothing => false,
+            _ => true,
+        }
+    }
+
+    /// Knows what is staged. It takes no memory.
+    pub fn commit(&mut self)
+        requires { is_some self.old.staged ≡ true }
+        ensures { IfSome self.old.staged (λ s. self.new ≡ settled s) }
+    {
+        if let Staged::Spare(index) = replace(&mut self.staged, Staged::Nothing) {
+            self.index = index;
+            swap(&mut self.live, &mut self.spare);
+            self.spare.clear();
+        }
+    }
+
+    /// Leaves nothing staged. It takes no memory.
+    pub fn unstage(&mut self)
+        ensures { self.new ≡ settled self.old.known }
+    {
+        self.staged = Staged::Nothing;
+        self.spare.clear();
+    }
+
+    /// Learns what a side denotes.
+    fn take_union(&mut self, rows: &Rows, index: &[(u64, usize)]) -> Result<(), AllocError>
+        requires rows { AreRows rows.now }
+        requires side { IsSide (fragments_of rows.now) index.now }
+        ensures star { OnOk result ((a : Author) → star_bound self.new.known a ≡ max (star_bound self.old.known a) (bound (spec.entries_at (fragments_of rows.now) 0) (author_word a))) }
+        ensures learned { OnOk result ((p : ℕ) (v : versions.Version) → 0 < p → spec.knows self.new.known p v ≡ (spec.knows self.old.known p v || denotes (vector_of (fragments_of rows.now) index.now p) v)) }
+        ensures staged { self.new.staged ≡ None }
+        ensures refused { OnErr result (self.new.known ≡ self.old.known) }
+    {
+        self.stage_union(rows, index)?;
+        self.commit();
         Ok(())
     }
 
     /// Learns of every picture an author's next version, where no fragment has more than the star. Takes no memory.
     fn take_next(&mut self, version: Version)
-        requires first { 0 < star_bound self.old version.author }
-        requires next { version.number ≡ star_bound self.old version.author + 1 }
-        requires level { are_level self.old (author_word version.author) (version.number - 1) ≡ true }
-        ensures star { (a : Author) → star_bound self.new a ≡ (if same_author version.author a then version.number else star_bound self.old a) }
-        ensures learned { (p : ℕ) (v : versions.Version) → 0 < p → spec.knows self.new p v ≡ (spec.knows self.old p v || versions.same_version version v) }
+        requires first { 0 < star_bound self.old.known version.author }
+        requires next { version.number ≡ star_bound self.old.known version.author + 1 }
+        requires level { are_level self.old.known (author_word version.author) (version.number - 1) ≡ true }
+        ensures star { (a : Author) → star_bound self.new.known a ≡ (if same_author version.author a then version.number else star_bound self.old.known a) }
+        ensures learned { (p : ℕ) (v : versions.Version) → 0 < p → spec.knows self.new.known p v ≡ (spec.knows self.old.known p v || versions.same_version version v) }
+        ensures staged { self.new.staged ≡ None }
     {
-        // For its fact alone: the index is that of the fragments.
-        let _index = &self.index;
+        self.staged = Staged::Nothing;
         let author = version.author().word();
         let n = u64::from(version.n());
         raise(&mut self.live, author, n);
     }
 
-    /// Learns of the picture all versions of the vector. Its only error is want of memory, which changes nothing.
+    /// Learns of the picture all versions of the vector. Its only error is want of memory, which changes nothing that is
+    /// known.
     pub fn learn(&mut self, picture: PicNo, vector: &Vector) -> Result<(), AllocError>
-        ensures star { OnOk result ((a : Author) → star_bound self.new a ≡ star_bound self.old a) }
-        ensures learned { OnOk result ((p : ℕ) (v : versions.Version) → 0 < p → spec.knows self.new p v ≡ (spec.knows self.old p v || ((picture == p) && vectors.denotes vector.now v))) }
-        ensures refused { OnErr result (self.new ≡ self.old) }
+        ensures star { OnOk result ((a : Author) → star_bound self.new.known a ≡ star_bound self.old.known a) }
+        ensures learned { OnOk result ((p : ℕ) (v : versions.Version) → 0 < p → spec.knows self.new.known p v ≡ (spec.knows self.old.known p v || ((picture == p) && vectors.denotes vector.now v))) }
+        ensures staged { self.new.staged ≡ None }
+        ensures refused { OnErr result (self.new.known ≡ self.old.known) }
     {
+        self.unstage();
         let picture = u64::from(picture.value());
         let rows = told_one(self.alloc, picture, vector)?;
         self.take_union(&rows, &[(picture, 1)])?;
@@ -189,13 +272,15 @@ impl Knowledge {
     }
 
     /// Learns of each picture of a table all versions of the vector beside it, at once. Its only error is want of
-    /// memory, which changes nothing; none is wanted where all of it is known.
+    /// memory, which changes nothing that is known; none is wanted where all of it is known.
     pub fn learn_table(&mut self, table: &[(PicNo, Vector)]) -> Result<(), AllocError>
         requires { in_order table.now ≡ true }
-        ensures star { OnOk result ((a : Author) → star_bound self.new a ≡ star_bound self.old a) }
-        ensures learned { OnOk result ((p : ℕ) (v : versions.Version) → 0 < p → spec.knows self.new p v ≡ (spec.knows self.old p v || vectors.denotes (at [] table.now p) v)) }
-        ensures refused { OnErr result (self.new ≡ self.old) }
+        ensures star { OnOk result ((a : Author) → star_bound self.new.known a ≡ star_bound self.old.known a) }
+        ensures learned { OnOk result ((p : ℕ) (v : versions.Version) → 0 < p → spec.knows self.new.known p v ≡ (spec.knows self.old.known p v || vectors.denotes (at [] table.now p) v)) }
+        ensures staged { self.new.staged ≡ None }
+        ensures refused { OnErr result (self.new.known ≡ self.old.known) }
     {
+        self.unstage();
         if has_table(self, table) {
             return Ok(());
         }
@@ -204,25 +289,27 @@ impl Knowledge {
         Ok(())
     }
 
-    /// Learns all that the other knows. Its only error is want of memory, which changes nothing; none is wanted where
-    /// the other knows nothing more.
+    /// Learns all that the other knows. Its only error is want of memory, which changes nothing that is known; none is
+    /// wanted where the other knows nothing more.
     pub fn learn_all(&mut self, other: &Knowledge) -> Result<(), AllocError>
-        ensures star { OnOk result ((a : Author) → star_bound self.new a ≡ max (star_bound self.old a) (star_bound other.now a)) }
-        ensures learned { OnOk result ((p : ℕ) (v : versions.Version) → 0 < p → spec.knows self.new p v ≡ (spec.knows self.old p v || spec.knows other.now p v)) }
-        ensures refused { OnErr result (self.new ≡ self.old) }
+        ensures star { OnOk result ((a : Author) → star_bound self.new.known a ≡ max (star_bound self.old.known a) (star_bound other.now.known a)) }
+        ensures learned { OnOk result ((p : ℕ) (v : versions.Version) → 0 < p → spec.knows self.new.known p v ≡ (spec.knows self.old.known p v || spec.knows other.now.known p v)) }
+        ensures staged { self.new.staged ≡ None }
+        ensures refused { OnErr result (self.new.known ≡ self.old.known) }
     {
-        if is_within(&other.live, &other.index, &self.live, &self.index) {
-            return Ok(());
-        }
-        self.take_union(&other.live, &other.index)
+        self.stage(other)?;
+        self.commit();
+        Ok(())
     }
 
-    /// Learns of every picture the next version of an author. Its only error is want of memory, which changes nothing.
+    /// Learns of every picture the next version of an author. Its only error is want of memory, which changes nothing that
+    /// is known.
     pub fn learn_own(&mut self, version: Version) -> Result<(), AllocError>
-        requires { version.number ≡ star_bound self.old version.author + 1 }
-        ensures star { OnOk result ((a : Author) → star_bound self.new a ≡ (if same_author version.author a then version.number else star_bound self.old a)) }
-        ensures learned { OnOk result ((p : ℕ) (v : versions.Version) → 0 < p → spec.knows self.new p v ≡ (spec.knows self.old p v || versions.same_version version v)) }
-        ensures refused { OnErr result (self.new ≡ self.old) }
+        requires { version.number ≡ star_bound self.old.known version.author + 1 }
+        ensures star { OnOk result ((a : Author) → star_bound self.new.known a ≡ (if same_author version.author a then version.number else star_bound self.old.known a)) }
+        ensures learned { OnOk result ((p : ℕ) (v : versions.Version) → 0 < p → spec.knows self.new.known p v ≡ (spec.knows self.old.known p v || versions.same_version version v)) }
+        ensures staged { self.new.staged ≡ None }
+        ensures refused { OnErr result (self.new.known ≡ self.old.known) }
     {
         let author = version.author().word();
         let n = u64::from(version.n());
@@ -230,6 +317,7 @@ impl Knowledge {
             self.take_next(version);
             return Ok(());
         }
+        self.unstage();
         let rows = star_alone(self.alloc, &[author, n], 2)?;
         self.take_union(&rows, &[])?;
         Ok(())
@@ -238,28 +326,30 @@ impl Knowledge {
     /// Learns of every picture the next version of an author of whom the star has one, and no picture's versions are
     /// known beyond the star's. It takes no memory.
     pub fn raise_own(&mut self, version: Version)
-        requires first { 0 < star_bound self.old version.author }
-        requires next { version.number ≡ star_bound self.old version.author + 1 }
-        requires level { (p n : ℕ) → 0 < p → spec.knows self.old p (versions.version version.author n) ≡ true → n ≤ star_bound self.old version.author }
-        ensures star { (a : Author) → star_bound self.new a ≡ (if same_author version.author a then version.number else star_bound self.old a) }
-        ensures learned { (p : ℕ) (v : versions.Version) → 0 < p → spec.knows self.new p v ≡ (spec.knows self.old p v || versions.same_version version v) }
+        requires first { 0 < star_bound self.old.known version.author }
+        requires next { version.number ≡ star_bound self.old.known version.author + 1 }
+        requires level { (p n : ℕ) → 0 < p → spec.knows self.old.known p (versions.version version.author n) ≡ true → n ≤ star_bound self.old.known version.author }
+        ensures star { (a : Author) → star_bound self.new.known a ≡ (if same_author version.author a then version.number else star_bound self.old.known a) }
+        ensures learned { (p : ℕ) (v : versions.Version) → 0 < p → spec.knows self.new.known p v ≡ (spec.knows self.old.known p v || versions.same_version version v) }
+        ensures staged { self.new.staged ≡ None }
     {
         // For its fact alone: the index is that of the fragments.
         let _index = &self.index;
         self.take_next(version);
     }
 
-    /// An equal knowledge.
+    /// A knowledge of the same, with nothing staged.
     pub fn try_clone(&self) -> Result<Knowledge, AllocError>
-        ensures { IfOk result (λ copy. copy ≡ self.now) }
+        ensures { IfOk result (λ copy. copy ≡ settled self.now.known) }
     {
         let live = self.live.try_clone()?;
         let index = self.index.to_vec(self.alloc)?;
         Ok(Knowledge {
             alloc: self.alloc,
             live,
-            spare: Rows::new(self.alloc),
             index,
+            spare: Rows::new(self.alloc),
+            staged: Staged::Nothing,
         })
     }
 }

@@ -25,4 +25,6 @@ mod own_tests;
 #[cfg(test)]
 mod size_tests;
 #[cfg(test)]
+mod staged_tests;
+#[cfg(test)]
 mod tests;

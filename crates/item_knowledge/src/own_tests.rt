@@ -24,8 +24,8 @@ fn picture(number: u32) -> Result<PicNo, Fail> {
 
 /// A device's own first version is known, and of one picture another device's.
 fn own_and_other(alloc: Global) -> Result<Knowledge, Fail>
-    ensures star { IfOk result (λ k. star_bound k (author 0) ≡ 1) }
-    ensures level { IfOk result (λ k. (p n : ℕ) → 0 < p → spec.knows k p (versions.version (author 0) n) ≡ true → n ≤ 1) }
+    ensures star { IfOk result (λ k. star_bound k.known (author 0) ≡ 1) }
+    ensures level { IfOk result (λ k. (p n : ℕ) → 0 < p → spec.knows k.known p (versions.version (author 0) n) ≡ true → n ≤ 1) }
 {
     let mut knowledge = Knowledge::new(alloc)?;
     knowledge.learn_own(version(0, 1))?;

@@ -90,16 +90,16 @@ fn many_fragments_are_copied_and_joined(rt: HostRuntime) {
 /// Learns of every picture the next version of device 0.
 fn learn_next(knowledge: &mut Knowledge, n: u32) -> Result<(), AllocError>
     requires some { 0 < n }
-    requires next { n ≡ star_bound knowledge.old (author 0) + 1 }
-    ensures { OnOk result (star_bound knowledge.new (author 0) ≡ n) }
+    requires next { n ≡ star_bound knowledge.old.known (author 0) + 1 }
+    ensures { OnOk result (star_bound knowledge.new.known (author 0) ≡ n) }
 {
     knowledge.learn_own(version(0, n))
 }
 
 /// Learns three versions of device 0, one after the other, and before the third five of picture 7.
 fn learn_own_and_other(knowledge: &mut Knowledge, five: &Vector) -> Result<(), AllocError>
-    requires { star_bound knowledge.old (author 0) ≡ 0 }
-    ensures { OnOk result (star_bound knowledge.new (author 0) ≡ 3) }
+    requires { star_bound knowledge.old.known (author 0) ≡ 0 }
+    ensures { OnOk result (star_bound knowledge.new.known (author 0) ≡ 3) }
 {
     learn_next(knowledge, 1)?;
     learn_next(knowledge, 2)?;
@@ -109,7 +109,7 @@ fn learn_own_and_other(knowledge: &mut Knowledge, five: &Vector) -> Result<(), A
 
 /// Whether a knowledge of nothing learns these.
 fn learns_own_and_other(knowledge: &mut Knowledge, five: &Vector) -> bool
-    requires { star_bound knowledge.old (author 0) ≡ 0 }
+    requires { star_bound knowledge.old.known (author 0) ≡ 0 }
 {
     learn_own_and_other(knowledge, five).is_ok()
         && knowledge.fragments() == 2

@@ -43,7 +43,7 @@ fn own(alloc: Global) -> Result<Knowledge, AllocError> {
 
 /// Tells of two pictures the same.
 fn tell_two(knowledge: &mut Knowledge, vector: &Vector) -> Result<(), AllocError>
-    ensures { OnOk result ((a : Author) → star_bound knowledge.new a ≡ star_bound knowledge.old a) }
+    ensures { OnOk result ((a : Author) → star_bound knowledge.new.known a ≡ star_bound knowledge.old.known a) }
 {
     knowledge.learn(picture(7), vector)?;
     knowledge.learn(picture(9), vector)?;
@@ -52,7 +52,7 @@ fn tell_two(knowledge: &mut Knowledge, vector: &Vector) -> Result<(), AllocError
 
 /// Two pictures of which the same version is known.
 fn of_two(alloc: Global) -> Result<Knowledge, AllocError>
-    ensures { IfOk result (λ knowledge. (a : Author) → star_bound knowledge a ≡ 0) }
+    ensures { IfOk result (λ knowledge. (a : Author) → star_bound knowledge.known a ≡ 0) }
 {
     let first = up_to(alloc, 0, 1)?;
     let mut knowledge = Knowledge::new(alloc)?;

@@ -17,7 +17,7 @@ use Rattle.photo_device.specs.Device.{Kept, ModelDevice, Shows, opening}
 use Rattle.photo_script.specs.declared.command.Command.{Command}
 use Rattle.photo_script.specs.Contents.{Contents, contents, devices_of, IsWithin}
 use Rattle.photo_script.specs.Runs.{Fleet, device_at, opening_from, opening_fleet, after_command, step, run_in_order, numbers_to}
-use Rattle.fleet_steps.specs.Between.{AreReady, HaveRoom, effect_on, devices_after}
+use Rattle.fleet_steps.specs.Between.{AreReady, AreSettled, HaveRoom, effect_on, devices_after}
 use Rattle.fleet_steps.specs.Sound.{is_sound}
 use Rattle.fleet_steps.proofs.Members.{all_from}
 use Rattle.fleet_steps.proofs.Zipped.{zip_long}
@@ -158,20 +158,21 @@ came_sound f came =
     }
 
 -- before the first command
-pub came_first : (f : KeptFleet) (filters : List Tree) → AllZip Shows f.devices (opening_from 0 filters) → f.log ≡ [] → f.commands ≡ 0 → CameAbout f
-came_first f filters shown logged none = record {
+pub came_first : (f : KeptFleet) (filters : List Tree) → AllZip Shows f.devices (opening_from 0 filters) → AreSettled f.devices → f.log ≡ [] → f.commands ≡ 0 → CameAbout f
+came_first f filters shown settled logged none = record {
   filters = filters;
   commands = [];
   within = tt;
   in_range = tt;
   shown = record { devices = shown; log = ap (λ helds. entries_of helds) logged };
   count = none;
+  settled = settled;
 }
 
 -- after one command more
 pub came_more : (f new : KeptFleet) (k : ℕ) (c : Command) → CameAbout f → IsWithin (length f.devices) c → FitsAll IsInRange c
-    → ((m : Fleet) → ShowsFleet f m → ShowsFleet new (after_command m k c)) → new.commands ≡ f.commands + 1 → CameAbout new
-came_more f new k c came within fits shows count =
+    → ((m : Fleet) → ShowsFleet f m → ShowsFleet new (after_command m k c)) → new.commands ≡ f.commands + 1 → AreSettled new.devices → CameAbout new
+came_more f new k c came within fits shows count settled =
     let fleet = after_commands came.filters came.commands in
     let next = shows fleet came.shown in
     let same = one_later came.filters came.commands k c in
@@ -187,6 +188,7 @@ came_more f new k c came within fits shows count =
         log = next.log ∙ sym same.log;
       };
       count = omega (arith, length-append came.commands (c ∷ []));
+      settled = settled;
     }
 
 -- what a command has made of the devices and of the log

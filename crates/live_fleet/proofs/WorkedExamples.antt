@@ -51,6 +51,7 @@ came = record {
     log = refl;
   };
   count = refl;
+  settled = (refl, (refl, tt));
 }
 
 -- what the first device of a fleet holds stands in the log

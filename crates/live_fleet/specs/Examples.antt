@@ -85,6 +85,7 @@ first_device = record {
   store = first_held ∷ [];
   out = [];
   knowledge = record { pictures = []; entries = (0, 1) ∷ [] } ∷ [];
+  staged = None;
 }
 
 abbrev pub second_device : Kept
@@ -95,6 +96,7 @@ second_device = record {
   store = [];
   out = [];
   knowledge = record { pictures = []; entries = [] } ∷ [];
+  staged = None;
 }
 
 abbrev pub with_log : List Held → KeptFleet

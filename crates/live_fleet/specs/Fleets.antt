@@ -10,7 +10,7 @@ use Rattle.photo_script.specs.declared.command.Command.{Command}
 use Rattle.photo_script.specs.Contents.{contents, IsWithin, record_of}
 use Rattle.photo_script.specs.Reports.{Answer, Tells}
 use Rattle.photo_script.specs.Runs.{Fleet, after_command, run}
-use Rattle.fleet_steps.specs.Between.{effect_on}
+use Rattle.fleet_steps.specs.Between.{AreSettled, effect_on}
 use Rattle.fleet_steps.specs.Sound.{IsSoundAndKept}
 
 -- what a fleet of the program keeps: its devices in order of declaration, the versions that were made, oldest first, and
@@ -44,7 +44,7 @@ abbrev pub RunsGrowByCommands : Type 0
 RunsGrowByCommands = (filters : List Tree) (commands : List Command) (number : ℕ) (c : Command) → AreAlike (after_commands filters (commands ++ c ∷ [])) (after_command (after_commands filters commands) number c)
 
 -- a fleet to which commands have led, one after another: each works on devices that there are, and says a rating and a day
--- that there are if it says any
+-- that there are if it says any. Nothing is staged on any device
 pub record CameAbout (f : KeptFleet) : Type 0 where
   pub filters : List Tree
   pub commands : List Command
@@ -52,6 +52,7 @@ pub record CameAbout (f : KeptFleet) : Type 0 where
   pub in_range : AllByRecursion (λ c. IfSome (record_of c) IsInRange) commands
   pub shown : ShowsFleet f (after_commands filters commands)
   pub count : f.commands ≡ length commands
+  pub settled : AreSettled f.devices
 
 -- such a fleet, in which each device is sound, nothing that is current is lost, what is held is logged, and nothing is
 -- logged twice

@@ -2,6 +2,7 @@ ghost use Rattle.std.specs.Prelude.{◌≤◌, length, IfOk};
 ghost use Rattle.std.specs.List.{AllZip};
 ghost use Rattle.photo_device.specs.Device.{Shows};
 ghost use Rattle.photo_script.specs.Runs.{opening_from};
+ghost use Rattle.fleet_steps.specs.Between.{AreSettled};
 
 use photo_device::Device;
 use photo_filter_rules::Filter;
@@ -11,7 +12,8 @@ use std::alloc::{AllocError, Global};
 /// A device for each filter, in their order, none of which has made or holds anything. Its only error is want of memory.
 pub(crate) fn opening_devices(alloc: Global, filters: &[Filter]) -> Result<Vec<Device>, AllocError>
     requires { length filters.now ≤ 65_536 }
-    ensures { IfOk result (λ devices. AllZip Shows devices.items (opening_from 0 filters.now)) }
+    ensures shown { IfOk result (λ devices. AllZip Shows devices.items (opening_from 0 filters.now)) }
+    ensures settled { IfOk result (λ devices. AreSettled devices.items) }
 {
     let mut devices = Vec::new(alloc);
     for place in 0..filters.len() {

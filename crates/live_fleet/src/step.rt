@@ -5,7 +5,7 @@ ghost use Rattle.photo_device.specs.Held.{entries_of};
 ghost use Rattle.photo_device.specs.Device.{ModelDevice, Shows};
 ghost use Rattle.photo_script.specs.Contents.{IsWithin};
 ghost use Rattle.photo_script.specs.Reports.{Tells, answer_of};
-ghost use Rattle.fleet_steps.specs.Between.{AreReady, HaveRoom, devices_after, effect_on};
+ghost use Rattle.fleet_steps.specs.Between.{AreAsTheyWere, AreReady, AreSettled, HaveRoom, devices_after, effect_on};
 ghost use Rattle.live_fleet.specs.Entries.{if_told};
 
 use crate::entry::held_if_made;
@@ -32,7 +32,8 @@ pub(crate) fn run_and_keep(
         → Tells (answer_of report) (effect_on models command.now).report) }
     ensures log { OnOk result ((models : List ModelDevice) → AllZip Shows devices.old models
         → entries_of log.new.items ≡ entries_of log.old.items ++ (effect_on models command.now).entries) }
-    ensures devices_kept { OnErr result (devices.new ≡ devices.old) }
+    ensures devices_kept { OnErr result (AreAsTheyWere devices.old devices.new) }
+    ensures settled { AreSettled devices.old → AreSettled devices.new }
     ensures log_kept { OnErr result (log.new.items ≡ log.old.items) }
 {
     let held = held_if_made(command, devices)?;

@@ -3,7 +3,7 @@ ghost use Rattle.std.specs.Prelude.{◌≡◌, ◌≤◌, length};
 use fragment_arena::{FragmentArena, Row};
 use std::alloc::Global;
 
-/// An arena of two rows.
+// An arena of two rows.
 fn two_rows(alloc: Global) -> Option<FragmentArena> {
     let mut arena = FragmentArena::new(alloc);
     arena.place(&[1, 2, 3]).ok()?;

@@ -4,7 +4,7 @@ use photo_record::{PicNo, Record};
 use photo_version::{Author, Version};
 use std::alloc::Global;
 
-/// Makes a version of each of the pictures 1 to 300.
+// Makes a version of each of the pictures 1 to 300.
 fn make_all(device: &mut Device, content: &Record) -> Option<()> {
     for n in 1..301u32 {
         if device.counter() == u32::MAX {
@@ -15,7 +15,7 @@ fn make_all(device: &mut Device, content: &Record) -> Option<()> {
     Some(())
 }
 
-/// A device that made and holds 300 versions.
+// A device that made and holds 300 versions.
 fn device(alloc: Global) -> Option<Device> {
     let filter = filter_of(alloc, "rating >= 3")?;
     let content = rated(alloc, 4)?;

@@ -26,11 +26,14 @@ fn of_others(alloc: Global, group: &str, times: u32) -> Option<bool> {
     match group {
         "knowledge" => knowledges::answer(alloc, times),
         "fragment" => knowledges::answer_fragment(alloc, times),
+        "knowledge_staging" => knowledges::answer_staging(alloc, times),
+        "knowledge_commit" => knowledges::answer_commit(alloc, times),
         "device" => devices::answer(alloc, times),
         "held_set" => devices::answer_sets(alloc, times),
         "script" => scripts::answer(alloc, times),
         "list" => lists::answer(alloc, times),
         "list_removing" => lists::answer_removing(alloc, times),
+        "list_growing" => lists::answer_growing(alloc, times),
         _ => of_runs(alloc, group, times),
     }
 }

@@ -4,7 +4,7 @@ use photo_record::PicNo;
 use photo_version::{Author, Vector, Version};
 use std::alloc::Global;
 
-/// Tells of each of the pictures 1 to 20 as many versions of a device as its number.
+// Tells of each of the pictures 1 to 20 as many versions of a device as its number.
 fn tell_twenty(alloc: Global, knowledge: &mut Knowledge, device: u16) -> Option<()> {
     for n in 1..21u32 {
         let version = Version::new(Author::new(device), n)?;
@@ -76,6 +76,57 @@ fn has_fragments(knowledge: &Knowledge) -> bool {
         && eleventh.pictures() == [11].as_slice()
         && eleventh.len() == 20
         && eleventh.entry(0) == (Author::new(0), 11)
+}
+
+/// `stage` of what is known already, `staged`, `commit` and `unstage`.
+pub fn answer_staging(alloc: Global, times: u32) -> Option<bool> {
+    let mut knowledge = twenty(alloc, 0)?;
+    let same = twenty(alloc, 0)?;
+    Some(answer_of_staging(&mut knowledge, &same, times))
+}
+
+fn answer_of_staging(knowledge: &mut Knowledge, same: &Knowledge, times: u32) -> bool {
+    for _ in 0..times {
+        if !stages_and_commits(knowledge, same) || !stages_and_drops(knowledge, same) {
+            return false;
+        }
+    }
+    true
+}
+
+fn stages_and_commits(knowledge: &mut Knowledge, same: &Knowledge) -> bool {
+    if knowledge.stage(same).is_err() || !knowledge.staged() {
+        return false;
+    }
+    knowledge.commit();
+    !knowledge.staged() && knowledge.same(same)
+}
+
+fn stages_and_drops(knowledge: &mut Knowledge, same: &Knowledge) -> bool {
+    if knowledge.stage(same).is_err() || !knowledge.staged() {
+        return false;
+    }
+    knowledge.unstage();
+    !knowledge.staged() && knowledge.same(same)
+}
+
+/// `commit` of what was not known, once where any calls are asked for.
+pub fn answer_commit(alloc: Global, times: u32) -> Option<bool> {
+    let mut knowledge = twenty(alloc, 0)?;
+    let other = twenty(alloc, 1)?;
+    knowledge.stage(&other).ok()?;
+    Some(answer_of_commit(&mut knowledge, &other, times))
+}
+
+fn answer_of_commit(knowledge: &mut Knowledge, other: &Knowledge, times: u32) -> bool {
+    if !knowledge.staged() || knowledge.has_all(other) {
+        return false;
+    }
+    if times == 0 {
+        return true;
+    }
+    knowledge.commit();
+    !knowledge.staged() && knowledge.has_all(other)
 }
 
 /// `try_clone`, which takes memory.

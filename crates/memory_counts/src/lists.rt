@@ -1,7 +1,9 @@
-use block_list::{BlockList, Spot};
+ghost use Rattle.std.specs.Prelude.{◌≤◌, length};
+
+use block_list::{BlockList, Room, Spot};
 use std::alloc::Global;
 
-/// The numbers 0 to n - 1.
+// The numbers 0 to n - 1.
 fn list_of(alloc: Global, n: u32) -> Option<BlockList<u32>> {
     let mut list = BlockList::new(alloc);
     for i in 0..n {
@@ -40,10 +42,9 @@ fn finds(list: &BlockList<u32>) -> bool {
     found == Some(&1_000)
         && list.find_failing(|x| *x < 1_000) == Some(&1_000)
         && list.partition_point(|x| *x < 1_000) == 1_000
-        && list.any_between(|x| *x < 1_000, |x| *x <= 1_000)
 }
 
-/// `pop`, `remove_range` and `retain`: a round takes one number away by each of the first two.
+/// `remove_range` and `retain`: a round takes the first number away.
 pub fn answer_removing(alloc: Global, times: u32) -> Option<bool> {
     let mut list = list_of(alloc, 2_500)?;
     Some(answer_of_removals(&mut list, times))
@@ -51,19 +52,34 @@ pub fn answer_removing(alloc: Global, times: u32) -> Option<bool> {
 
 fn answer_of_removals(list: &mut BlockList<u32>, times: u32) -> bool {
     for _ in 0..times {
-        if list.len() < 2 || list.pop().is_none() {
+        if list.is_empty() {
             return false;
         }
-        removes_first(list);
+        list.remove_range(0, 1);
         list.retain(|x| *x != 1_000);
     }
     true
 }
 
-fn removes_first(list: &mut BlockList<u32>) {
-    if !list.is_empty() {
-        list.remove_range(0, 1);
+/// `open`, `insert_behind` and `close`: a round puts a number into room that was taken for a thousand.
+pub fn answer_growing(alloc: Global, times: u32) -> Option<bool> {
+    if times > 1_000 {
+        return None;
     }
+    let mut list = list_of(alloc, 1_500)?;
+    let room = list.room(1_000).ok()?;
+    Some(answer_of_growth(list, room, times))
+}
+
+fn answer_of_growth(list: BlockList<u32>, room: Room<u32>, times: u32) -> bool
+    requires most { length list ≤ room.most }
+    requires more { times ≤ room.more }
+{
+    let mut roomy = list.open(room);
+    for n in 0..times {
+        roomy.insert_behind(|x| *x < n, n);
+    }
+    !roomy.close().is_empty()
 }
 
 /// `insert`, which takes memory where a block has grown long and is halved.

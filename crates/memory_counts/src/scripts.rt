@@ -2,7 +2,7 @@ use photo_script::{Script, devices_of, read_script};
 use photo_version::Author;
 use std::alloc::Global;
 
-/// A script of two devices and four commands.
+// A script of two devices and four commands.
 const TEXT: &str =
     "device cam all\ndevice frame rating >= 3\nnew cam 1 4 2024-01-01 sea\nknows frame 1 cam:1\npull frame cam\nlist cam\n";
 

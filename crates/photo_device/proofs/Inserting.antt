@@ -41,6 +41,21 @@ inserted_by_tests h xs new {f = f} {g = g} {before = before} {through = through}
     let same = turns_once test xs r.from r.to order within r.between.first r.between.last in
     r.list ∙ ap (λ n. take r.from xs ++ h ∷ drop n xs) (sym same) ∙ sym (put_at held_before h xs r.from (omega arith) r.between.first)
 
+-- the same by one test
+pub inserted_by_test : (h : Held) (xs new : List Held) → {F : Type 0} {f : Mut F (Bor Held × Unit {0}) Bool} {before : F}
+    → ((t : Held → Bool) → ComputesKey f t before → IsPartitionedBy t xs → IsReplaced t t xs h new)
+    → are_in_order xs ≡ true
+    → ((a : Bor Held × Unit {0}) (r : Bool) (f' : F) → Called f before a r f' → (r ≡ stands_before a.0.now h.picture h.version) × (f' ≡ before))
+    → new ≡ put held_before h xs
+inserted_by_test h xs new {f = f} {before = before} clause ordered less =
+    let parts = partitioned held_order h xs ordered in
+    let test = λ (x : Held). stands_before x h.picture h.version in
+    let r = clause test (always_returns_same f (λ a r. r ≡ test a.0.now) before less) parts in
+    let order = r.between.order in
+    let within = r.between.within in
+    let same = turns_once test xs r.from r.to order within r.between.first r.between.last in
+    r.list ∙ ap (λ n. take r.from xs ++ h ∷ drop n xs) (sym same) ∙ sym (put_at held_before h xs r.from (omega arith) r.between.first)
+
 -- a version that isn't there stands before or behind each
 pub in_order-inserted : (h : Held) (xs : List Held) → are_in_order xs ≡ true → find_version h.version xs ≡ None → are_in_order (put held_before h xs) ≡ true
 in_order-inserted h xs o none =

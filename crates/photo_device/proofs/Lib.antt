@@ -16,7 +16,9 @@ pub mod Seeking
 pub mod Taken
 pub mod Learned
 pub mod Changed
+pub mod Staged
 pub mod Narrowed
 pub mod Grouping
 pub mod Runs
 pub mod Merging
+pub mod Handed

@@ -1,6 +1,6 @@
 -- What a device knows of its own versions, after it made one more.
 use Rattle.std.proofs.Common.{◌≡◌, ℕ, ◌+◌, ◌<◌, Bool, true, false, cond, eqb, ltb, leb, ◌&&◌, ◌||◌, List, [], ◌∷◌, refl, sym, ap, ◌∙◌, inl, inr, arith, subst, ◌≤◌}
-use Rattle.std.specs.Prelude.{filter}
+use Rattle.std.specs.Prelude.{filter, None}
 use Rattle.std.specs.List.{AllByRecursion}
 use Rattle.std.proofs.lemmas.Bool.{leb-true, and_parts, lt-ltb, le-ltb, le-leb, lt-leb, eq-eqb, ne_eqb, cases_eq, cases_lt, cases_Bool}
 use Rattle.std.proofs.Math.Bool.{or-true, or-false}
@@ -16,7 +16,7 @@ use Rattle.photo_device.specs.declared.place.Place.TheVariants.{Store, Out}
 use Rattle.photo_device.specs.Ordered.{put}
 use Rattle.photo_device.specs.Entry.{is_of_other}
 use Rattle.photo_device.specs.Held.{entry_of, held_before, held_of_others, replaced, count_of}
-use Rattle.photo_device.specs.Device.{Kept, held_at}
+use Rattle.photo_device.specs.Device.{Kept, held_at, unstaged}
 use Rattle.photo_device.specs.Own.{HasEarlier, KnowsItsOwn, IsKnownBy, IsNext, HasMade, IsDevice}
 use Rattle.photo_device.specs.Learning.{IsOwnLearned}
 use Rattle.photo_device.proofs.Counts.{one_of, count_of-cons, count_of-append, count_of-put, count_of-filter, same_version_is, same_version_self}
@@ -241,5 +241,9 @@ makes_device place h d new next learned is = by place
           omega arith;
     }
 
-pub has_made : (place : Place) (h : Held) (d old after : Kept) → d ≡ old → after ≡ record (held_at place h d) { counter = d.counter + 1; knowledge = after.knowledge } → IsOwnLearned h.version d.knowledge after.knowledge → HasMade place h old after
+pub has_made : (place : Place) (h : Held) (d old after : Kept) → d ≡ old → after ≡ record (held_at place h d) { counter = d.counter + 1; knowledge = after.knowledge; staged = None } → IsOwnLearned h.version d.knowledge after.knowledge → HasMade place h old after
 has_made place h d old after same rest learned = subst (λ (e : Kept). HasMade place h e after) same (record { rest = rest; learned = learned.learned })
+
+-- what is staged is no part of what a device makes next
+pub next_unstaged : (h : Held) (d : Kept) → IsNext h d → IsNext h (unstaged d)
+next_unstaged h d next = record { next = next.next; above = next.above; history = next.history }

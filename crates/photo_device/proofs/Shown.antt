@@ -1,5 +1,6 @@
 -- What a device shows after it made a version.
 use Rattle.std.proofs.Common.{◌≡◌, ℕ, ◌+◌, ◌<◌, Bool, true, false, not, ◌||◌, cond, List, refl, ap, ◌∙◌}
+use Rattle.std.specs.Prelude.{None}
 use Rattle.photo_record.specs.declared.record.Record.{Record}
 use Rattle.photo_filter_rules.specs.Matching.{matches}
 use Rattle.photo_device.specs.declared.held.Held.{Held}
@@ -49,7 +50,7 @@ or_swap false false false = refl
 -- the new version held at its place, counted and known
 pub shows_made : (d after : Kept) (m : ModelDevice) (p : ℕ) (content copy : Record) (v : Version) (history : List Bound) (knowledge : List Fragment) (place : Place)
     → v ≡ version d.author (d.counter + 1) → copy ≡ content → place ≡ place_for d.tree content → after ≡ held_at place (held p v history copy) d
-    → IsLearned p v history d.knowledge knowledge → Shows d m → Shows (record after { counter = d.counter + 1; knowledge = knowledge }) (made m p content)
+    → IsLearned p v history d.knowledge knowledge → Shows d m → Shows (record after { counter = d.counter + 1; knowledge = knowledge; staged = None }) (made m p content)
 shows_made d after m p content copy v history knowledge place v_is copy_is place_is held_is learned shows =
     let new_is : v ≡ next_version m = v_is ∙ (λ j. version (shows.author j) (shows.counter j + 1)) in
     let same : entry_of (held p v history copy) ≡ new_entry m p content = λ i. record {

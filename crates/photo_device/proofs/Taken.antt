@@ -154,7 +154,7 @@ without-cons v versions (x ∷ xs) =
       ]
     ]
 
-same_back : (v w : Version) → same_version v w ≡ true → same_version w v ≡ true
+pub same_back : (v w : Version) → same_version v w ≡ true → same_version w v ≡ true
 same_back v w same = subst (λ u. same_version u v ≡ true) (same_version_is v w same) (same_version_self v)
 
 pub without_other : (v : Version) (xs : List Held) → count_of v xs ≡ 0 → helds_without (v ∷ []) xs ≡ xs

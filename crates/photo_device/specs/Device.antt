@@ -1,5 +1,5 @@
 -- Devices as sets, and what making a version does to one.
-use Rattle.std.specs.Prelude.{◌≡◌, ℕ, ◌+◌, ◌<◌, Bool, false, not, ◌||◌, ◌==◌, if◌then◌else◌, List, [], ◌++◌, length, filter}
+use Rattle.std.specs.Prelude.{◌≡◌, ℕ, ◌+◌, ◌<◌, Bool, false, not, ◌||◌, ◌==◌, if◌then◌else◌, List, [], ◌++◌, length, filter, Option, None}
 use Rattle.std.specs.List.{list_any}
 use Rattle.photo_record.specs.declared.record.Record.{Record}
 use Rattle.photo_filter_text.specs.Tree.{Tree}
@@ -40,7 +40,15 @@ knows_entry m e = known m e.picture e.version
 abbrev pub selects : ModelDevice → Entry → Bool
 selects m e = matches m.tree e.content
 
--- what a device of the program keeps
+-- a change that is staged: what is to be given up and taken, what will be known then, and for how many handed versions
+-- there is room besides
+pub record Staging : Type 0 where
+  pub drops : List Version
+  pub takes : List Held
+  pub knowledge : List Fragment
+  pub room : ℕ
+
+-- what a device of the program keeps, and the change that is staged on it, if one is
 pub record Kept : Type 0 where
   pub author : Author
   pub tree : Tree
@@ -48,6 +56,15 @@ pub record Kept : Type 0 where
   pub store : List Held
   pub out : List Held
   pub knowledge : List Fragment
+  pub staged : Option Staging
+
+-- the device with nothing staged
+abbrev pub unstaged : Kept → Kept
+unstaged d = record d { staged = None }
+
+-- 'as it was' doesn't speak of what is staged
+abbrev pub IsAsItWas : Kept → Kept → Type 0
+IsAsItWas old new = unstaged new ≡ unstaged old
 
 -- a version is held at a place, and nothing else of its picture: what that makes of the store and of the out
 

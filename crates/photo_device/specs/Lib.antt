@@ -8,6 +8,7 @@ pub mod Conflicts
 pub mod Learning
 pub mod Listing
 pub mod Own
+pub mod Staging
 pub mod Taking
 pub mod Coding
 pub use Rattle.photo_record.specs.Limits

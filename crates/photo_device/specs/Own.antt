@@ -1,6 +1,6 @@
 -- What a device knows of its own versions, and a held version of those that its author made before it: just what there
 -- is. So a bound for each author stands for a plain set of versions. And what is held is known, and held once.
-use Rattle.std.specs.Prelude.{◌≡◌, ℕ, ◌+◌, ◌<◌, ◌≤◌, true, ◌&&◌, ◌||◌, nat_le, nat_lt, List, ◌++◌}
+use Rattle.std.specs.Prelude.{◌≡◌, ℕ, ◌+◌, ◌<◌, ◌≤◌, true, ◌&&◌, ◌||◌, nat_le, nat_lt, List, ◌++◌, None}
 use Rattle.std.specs.List.{AllByRecursion}
 use Rattle.photo_version.specs.Author.{Author}
 use Rattle.photo_version.specs.Version.{Version, version, same_version}
@@ -33,9 +33,9 @@ pub record IsNext (held : Held) (d : Kept) : Type 0 where
   pub above : 0 < held.picture
   pub history : (v : Version) → denotes held.made_with v ≡ knows d.knowledge held.picture v
 
--- the device's next version is held at a place, counted, and known of every picture
+-- the device's next version is held at a place, counted, and known of every picture, and nothing is staged
 pub record HasMade (place : Place) (h : Held) (old new : Kept) : Type 0 where
-  pub rest : new ≡ record (held_at place h old) { counter = old.counter + 1; knowledge = new.knowledge }
+  pub rest : new ≡ record (held_at place h old) { counter = old.counter + 1; knowledge = new.knowledge; staged = None }
   pub learned : (picture : ℕ) (v : Version) → 0 < picture → knows new.knowledge picture v ≡ (knows old.knowledge picture v || same_version h.version v)
 
 -- what is true of every device

@@ -1,4 +1,4 @@
--- Machinery of the proofs: what a set takes of versions, and what a device that takes them has to know.
+-- Machinery of the proofs: what a set takes of versions.
 use Rattle.std.specs.Prelude.{◌≡◌, ℕ, ◌≤◌, ◌<◌, Bool, true, false, not, ◌||◌, List, ◌++◌, map, filter, None}
 use Rattle.std.specs.List.{AllByRecursion}
 use Rattle.photo_filter_text.specs.Tree.{Tree}
@@ -25,17 +25,3 @@ pub record AreNewTo (helds takes : List Held) : Type 0 where
 -- a set with those of one side
 abbrev pub with_side : Bool → Tree → List Held → List Held → List Held
 with_side matched tree takes helds = put_helds (filter (is_on_side matched tree) takes) helds
-
--- a device may take the versions together with what there is to be known
-pub record MayTake (takes : List Held) (gain : List Fragment) (d : Kept) : Type 0 where
-  pub new : AllByRecursion (λ h. find_version h.version (d.store ++ d.out) ≡ None) takes
-  pub distinct : (v : Version) → count_of v takes ≤ 1
-  pub earlier : AllByRecursion HasEarlier takes
-  pub known : AllByRecursion (IsKnownBy gain) takes
-  pub own : (p n : ℕ) → 0 < p → knows gain p (version d.author n) ≡ true → n ≤ d.counter
-
--- it took them, and learned what there is to be known
-pub record HasTaken (takes : List Held) (gain : List Fragment) (old new : Kept) : Type 0 where
-  pub once : AreNewTo (old.store ++ old.out) takes
-  pub rest : new ≡ record old { store = with_side true old.tree takes old.store; out = with_side false old.tree takes old.out; knowledge = new.knowledge }
-  pub learned : (p : ℕ) (v : Version) → 0 < p → knows new.knowledge p v ≡ (knows old.knowledge p v || knows gain p v)

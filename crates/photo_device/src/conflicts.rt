@@ -12,7 +12,7 @@ use photo_record::PicNo;
 use photo_version::Version;
 use std::alloc::{AllocError, Global};
 
-/// A version, behind its picture.
+// A version, behind its picture.
 type Listed = (PicNo, Version);
 
 /// The conflicts of what two sets hold together, in the order of pictures. Its only error is want of memory.
@@ -30,7 +30,7 @@ pub fn conflicts_of(
     Ok(conflicts)
 }
 
-/// The versions of a set with their pictures.
+// The versions of a set with their pictures.
 fn listed(alloc: Global, set: &HeldSet) -> Result<Vec<Listed>, AllocError>
     ensures items { IfOk result (λ list. list.items ≡ listing set.now) }
     ensures order { IfOk result (λ list. in_order entry_before (as_entries list.items) ≡ true) }
@@ -44,14 +44,14 @@ fn listed(alloc: Global, set: &HeldSet) -> Result<Vec<Listed>, AllocError>
     Ok(items)
 }
 
-/// Whether the first stands before the second.
+// Whether the first stands before the second.
 fn is_before(first: Listed, second: Listed) -> bool
     ensures { result ≡ entry_before (as_entry first) (as_entry second) }
 {
     first.0 < second.0 || (first.0 == second.0 && first.1 < second.1)
 }
 
-/// Two lists in order, as one.
+// Two lists in order, as one.
 fn merged(alloc: Global, xs: &[Listed], ys: &[Listed]) -> Result<Vec<Listed>, AllocError>
     requires first { in_order entry_before (as_entries xs.now) ≡ true }
     requires second { in_order entry_before (as_entries ys.now) ≡ true }
@@ -75,7 +75,7 @@ fn merged(alloc: Global, xs: &[Listed], ys: &[Listed]) -> Result<Vec<Listed>, Al
     Ok(all)
 }
 
-/// Where the versions of the picture end that stands at a place.
+// Where the versions of the picture end that stands at a place.
 fn run_end(all: &[Listed], from: usize) -> usize
     requires { from < length all.now }
     ensures more { from < result }
@@ -93,7 +93,7 @@ fn run_end(all: &[Listed], from: usize) -> usize
     all.len()
 }
 
-/// The versions alone.
+// The versions alone.
 fn versions_of(alloc: Global, run: &[Listed]) -> Result<VersionList, AllocError>
     ensures { IfOk result (λ list. list ≡ map (λ p. p.1) run.now) }
 {
@@ -104,7 +104,7 @@ fn versions_of(alloc: Global, run: &[Listed]) -> Result<VersionList, AllocError>
     Ok(VersionList::new(versions))
 }
 
-/// Adds the conflict of some versions of one picture, if there are two or more. After an error some may be missing.
+// Adds the conflict of some versions of one picture, if there are two or more. After an error some may be missing.
 fn add_run(alloc: Global, conflicts: &mut Vec<Conflict>, run: &[Listed]) -> Result<(), AllocError>
     requires some { 0 < length run.now }
     requires same { (k : ℕ) (d : ℕ × Version) → k < length run.now → (slice_index_or run.now k d).0 ≡ (slice_index_or run.now 0 d).0 }
@@ -119,7 +119,7 @@ fn add_run(alloc: Global, conflicts: &mut Vec<Conflict>, run: &[Listed]) -> Resu
     Ok(())
 }
 
-/// The conflicts of versions in order.
+// The conflicts of versions in order.
 fn grouped(alloc: Global, all: &[Listed]) -> Result<Vec<Conflict>, AllocError>
     requires { rise (as_entries all.now) ≡ true }
     ensures { IfOk result (λ list. list.items ≡ conflicts_in (as_entries all.now)) }

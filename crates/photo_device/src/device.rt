@@ -3,7 +3,8 @@ ghost use Rattle.item_knowledge.specs.Kept.{star_bound};
 ghost use Rattle.photo_device.specs.Device.{store_with, out_with};
 ghost use Rattle.photo_device.specs.Learning.{IsOwnLearned};
 
-use crate::takes::{give_back, take_all, take_others};
+use crate::prepared::Prepared;
+use crate::takes::{rooms, take_in, take_others};
 use crate::{Change, ChangeFault, Conflict, Held, HeldSet, NarrowFault, Place, conflicts};
 use item_knowledge::Knowledge;
 use photo_filter_rules::{Filter, covers};
@@ -22,35 +23,52 @@ pub struct Device {
     store: HeldSet,
     out: HeldSet,
     knowledge: Knowledge,
+    prepared: Option<Prepared>,
 }
 
 impl Model for Device {
+    ghost use Rattle.std.specs.Prelude.{None};
     ghost use Rattle.photo_device.specs.Device.{Kept};
     ghost use Rattle.photo_device.specs.Coding.{kept_code};
-    ghost use Rattle.photo_device.specs.Own.{IsDevice};
+    ghost use Rattle.photo_device.specs.Staging.{AreParts, staging_of};
 
     ghost Value = { Kept };
 
     ghost coded = { kept_code };
 
-    ghost view = { λ d.
-        record { author = d.author; tree = d.filter; counter = d.counter; store = d.store; out = d.out; knowledge = d.knowledge } };
+    ghost view = { λ d. record {
+      author = d.author;
+      tree = d.filter;
+      counter = d.counter;
+      store = d.store;
+      out = d.out;
+      knowledge = d.knowledge.known;
+      staged = staging_of d.prepared d.knowledge.staged;
+    } };
 
-    ghost invariant = { λ d. IsDevice
-        (record { author = d.author; tree = d.filter; counter = d.counter; store = d.store; out = d.out; knowledge = d.knowledge }) };
+    ghost invariant = { λ d. AreParts d.prepared d.knowledge.staged (record {
+      author = d.author;
+      tree = d.filter;
+      counter = d.counter;
+      store = d.store;
+      out = d.out;
+      knowledge = d.knowledge.known;
+      staged = None;
+    }) };
 }
 
 impl Device {
-    ghost use Rattle.std.specs.Prelude.{◌≡◌, ◌≢◌, ℕ, ◌+◌, ◌<◌, ◌≤◌, ◌||◌, ◌++◌, true, false, is_some, None, Err, IfOk, IfErr, OnOk, OnErr};
+    ghost use Rattle.std.specs.Prelude.{◌≡◌, ◌≢◌, ℕ, ◌+◌, ◌<◌, ◌≤◌, ◌||◌, ◌++◌, true, false, is_some, length, None, Err, IfOk, IfErr, IfSome, OnOk, OnErr};
+    ghost use Rattle.std.specs.Prelude.{vec_len, vec_capacity};
     ghost use Rattle.std.specs.List.{AllByRecursion};
     ghost use Rattle.std.specs.Option.{option_copied, option_map};
     ghost use Rattle.photo_device.specs.Entry.{find_entry};
-    ghost use Rattle.photo_device.specs.Held.{find_version, find_version_of, has_picture, count_of, entry_of, entries_of};
+    ghost use Rattle.photo_device.specs.Held.{find_version, find_version_of, has_picture, count_of, times_in, entry_of, entries_of, helds_at};
     ghost use Rattle.photo_device.specs.Own.{HasEarlier, HasMade, IsDevice, IsKnownBy, IsNext, KnowsItsOwn};
-    ghost use Rattle.photo_device.specs.Taking.{HasTaken, MayTake};
+    ghost use Rattle.photo_device.specs.Staging.{HasStaged, MayHand};
     ghost use Rattle.photo_version.specs.Version as versions;
     ghost use Rattle.item_knowledge.specs.Fragments.{knows};
-    ghost use Rattle.photo_device.specs.Device.{ModelDevice, Shows, holds, is_held, opening};
+    ghost use Rattle.photo_device.specs.Device.{ModelDevice, Shows, holds, is_held, opening, unstaged, IsAsItWas};
     ghost use Rattle.photo_device.specs.Device.{made, next_version, new_place, changed, without_waiting, narrowed, moved};
     ghost use Rattle.photo_device.specs.Conflicts.{conflicts_of};
     ghost use Rattle.photo_record.specs.declared.record.Record.TheVariants.{Removed};
@@ -66,6 +84,7 @@ impl Device {
         filter: Filter,
     ) -> Result<Device, (Filter, AllocError)>
         ensures ok { IfOk result (λ device. Shows device (opening author filter)) }
+        ensures staged { IfOk result (λ device. device.staged ≡ None) }
         ensures err { IfErr result (λ refused. refused.0 ≡ filter) }
     {
         match Knowledge::new(alloc) {
@@ -76,6 +95,7 @@ impl Device {
                 store: HeldSet::new(alloc),
                 out: HeldSet::new(alloc),
                 knowledge,
+                prepared: None,
             }),
             Err(refused) => Err((filter, refused)),
         }
@@ -85,13 +105,32 @@ impl Device {
     /// what the device knew of the picture, and from then on the device knows it of every picture.
     ///
     /// It goes into the store where the filter matches its record, and into the out otherwise. Gives the version
-    /// and where it went. After want of memory the device is as it was.
+    /// and where it went. After want of memory the device is as it was. Nothing is staged then in any case.
     pub fn make(&mut self, picture: PicNo, content: &Record) -> Result<(Version, Place), AllocError>
         requires { self.old.counter < 4_294_967_295 }
         ensures shows { IfOk result (λ answer. (m : ModelDevice) → Shows self.old m → Shows self.new (made m picture content.now)) }
         ensures version { IfOk result (λ answer. (m : ModelDevice) → Shows self.old m → answer.0 ≡ next_version m) }
         ensures place { IfOk result (λ answer. (m : ModelDevice) → Shows self.old m → answer.1 ≡ new_place m content.now) }
+        ensures err { OnErr result (IsAsItWas self.old self.new) }
+        ensures staged { self.new.staged ≡ None }
+    {
+        self.unstage();
+        self.make_next(picture, content)
+    }
+
+    // What `make` does to a device on which nothing is staged.
+    fn make_next(
+        &mut self,
+        picture: PicNo,
+        content: &Record,
+    ) -> Result<(Version, Place), AllocError>
+        requires counter { self.old.counter < 4_294_967_295 }
+        requires unstaged { self.old.staged ≡ None }
+        ensures shows { IfOk result (λ answer. (m : ModelDevice) → Shows self.old m → Shows self.new (made m picture content.now)) }
+        ensures version { IfOk result (λ answer. (m : ModelDevice) → Shows self.old m → answer.0 ≡ next_version m) }
+        ensures place { IfOk result (λ answer. (m : ModelDevice) → Shows self.old m → answer.1 ≡ new_place m content.now) }
         ensures err { OnErr result (self.new ≡ self.old) }
+        ensures staged { self.new.staged ≡ None }
     {
         let number = self.counter + 1;
         let version = Version::new(self.author, number).unwrap();
@@ -106,7 +145,7 @@ impl Device {
         Ok((version, place))
     }
 
-    /// Holds its next version at a place, counts it, and knows it of every picture. An error leaves the device as it was.
+    // Holds its next version at a place, counts it, and knows it of every picture. An error leaves the device as it was.
     fn add(&mut self, place: Place, held: Held) -> Result<(), AllocError>
         requires { IsNext held self.old }
         ensures ok { OnOk result (HasMade place held self.old self.new) }
@@ -127,6 +166,7 @@ impl Device {
         let version = held.version;
         let knowledge = with_own(&self.knowledge, version)?;
         hold(&mut self.store, &mut self.out, place, held)?;
+        self.prepared = None;
         self.knowledge = knowledge;
         self.counter = version.n();
         Ok(())
@@ -141,6 +181,7 @@ impl Device {
     {
         let version = held.version;
         hold(&mut self.store, &mut self.out, place, held)?;
+        self.prepared = None;
         self.knowledge.raise_own(version);
         self.counter = version.n();
         Ok(())
@@ -170,7 +211,7 @@ impl Device {
     /// The versions that it keeps.
     pub fn store(&self) -> &HeldSet
         ensures value { result.now ≡ self.now.store }
-        ensures device { IsDevice self.now }
+        ensures device { IsDevice (unstaged self.now) }
     {
         &self.store
     }
@@ -178,15 +219,15 @@ impl Device {
     /// The versions that it holds for another device to take.
     pub fn out(&self) -> &HeldSet
         ensures value { result.now ≡ self.now.out }
-        ensures device { IsDevice self.now }
+        ensures device { IsDevice (unstaged self.now) }
     {
         &self.out
     }
 
     /// Of which picture which versions it knows.
     pub fn knowledge(&self) -> &Knowledge
-        ensures value { result.now ≡ self.now.knowledge }
-        ensures device { IsDevice self.now }
+        ensures value { result.now.known ≡ self.now.knowledge }
+        ensures device { IsDevice (unstaged self.now) }
     {
         &self.knowledge
     }
@@ -218,7 +259,7 @@ impl Device {
     /// that removes the picture counts.
     ///
     /// `NotHeld` comes exactly where nothing of the picture is held. Else it does what `make` does. An error leaves the
-    /// device as it was.
+    /// device as it was. Nothing is staged then in any case.
     pub fn edit(
         &mut self,
         picture: PicNo,
@@ -230,16 +271,18 @@ impl Device {
         ensures place { IfOk result (λ answer. (m : ModelDevice) → Shows self.old m → answer.1 ≡ new_place m content.now) }
         ensures held { result ≢ Err NotHeld → (m : ModelDevice) → Shows self.old m → is_held m picture ≡ true }
         ensures not_held { result ≡ Err NotHeld → (m : ModelDevice) → Shows self.old m → is_held m picture ≡ false }
-        ensures err { OnErr result (self.new ≡ self.old) }
+        ensures err { OnErr result (IsAsItWas self.old self.new) }
+        ensures staged { self.new.staged ≡ None }
     {
+        self.unstage();
         if !self.holds(picture) {
             return Err(ChangeFault::NotHeld);
         }
-        Ok(self.make(picture, content)?)
+        Ok(self.make_next(picture, content)?)
     }
 
     /// Makes a version that removes a picture of which a version is held, as `edit` does. An error leaves the device as
-    /// it was.
+    /// it was. Nothing is staged then in any case.
     pub fn remove(&mut self, picture: PicNo) -> Result<(Version, Place), ChangeFault>
         requires { self.old.counter < 4_294_967_295 }
         ensures shows { IfOk result (λ answer. (m : ModelDevice) → Shows self.old m → Shows self.new (made m picture Removed)) }
@@ -247,66 +290,121 @@ impl Device {
         ensures place { IfOk result (λ answer. (m : ModelDevice) → Shows self.old m → answer.1 ≡ new_place m Removed) }
         ensures held { result ≢ Err NotHeld → (m : ModelDevice) → Shows self.old m → is_held m picture ≡ true }
         ensures not_held { result ≡ Err NotHeld → (m : ModelDevice) → Shows self.old m → is_held m picture ≡ false }
-        ensures err { OnErr result (self.new ≡ self.old) }
+        ensures err { OnErr result (IsAsItWas self.old self.new) }
+        ensures staged { self.new.staged ≡ None }
     {
         self.edit(picture, &Record::Removed)
     }
 
-    /// Gives up held versions, takes others, each into the store where the filter matches it and into the out otherwise,
-    /// and learns. After want of memory the device is as it was, and the change comes back.
-    pub fn apply(&mut self, change: Change) -> Result<(), (Change, AllocError)>
+    /// Prepares a change: to give up held versions, to take others, each into the store where the filter matches it and into
+    /// the out otherwise, and to learn; with room for so many versions more that will be handed over. What the device holds
+    /// and knows stays until `commit`. Whatever was staged before is not any more.
+    ///
+    /// Its only error is want of memory (also for more versions than can be counted), which leaves nothing staged and gives
+    /// the change back.
+    pub fn stage(&mut self, change: Change, room: usize) -> Result<(), (Change, AllocError)>
         requires drops { AllByRecursion (λ v. is_some (find_version v (self.old.store ++ self.old.out)) ≡ true) change.drops }
         requires new { AllByRecursion (λ h. find_version h.version (self.old.store ++ self.old.out) ≡ None) change.takes }
         requires distinct { (v : versions.Version) → count_of v change.takes ≤ 1 }
         requires earlier { AllByRecursion HasEarlier change.takes }
-        requires known { AllByRecursion (IsKnownBy change.gain) change.takes }
-        requires own { (p n : ℕ) → 0 < p → knows change.gain p (versions.version self.old.author n) ≡ true → n ≤ self.old.counter }
-        ensures shows { OnOk result ((m : ModelDevice) → Shows self.old m
-            → Shows self.new (changed change.drops (entries_of change.takes) (knows change.gain) m)) }
-        ensures err { OnErr result (self.new ≡ self.old) }
+        requires known { AllByRecursion (IsKnownBy change.gain.known) change.takes }
+        requires own { (p n : ℕ) → 0 < p → knows change.gain.known p (versions.version self.old.author n) ≡ true → n ≤ self.old.counter }
+        ensures staged { OnOk result (HasStaged change.drops change.takes change.gain.known room self.old self.new) }
+        ensures err { OnErr result (IsAsItWas self.old self.new) }
+        ensures unstaged { OnErr result (self.new.staged ≡ None) }
         ensures returned { IfErr result (λ e. e.0 ≡ change) }
     {
-        if let Err(refused) = self.take(change.takes.as_slice(), &change.gain) {
+        self.prepared = None;
+        let Some(more) = change.takes.len().checked_add(room) else {
+            return Err((change, AllocError));
+        };
+        let (in_store, in_out) = match rooms(&mut self.store, &mut self.out, more) {
+            Ok(rooms) => rooms,
+            Err(refused) => return Err((change, refused)),
+        };
+        // For its fact alone: a knowledge is in normal form.
+        let _fragments = change.gain.fragments();
+        if let Err(refused) = self.knowledge.stage(&change.gain) {
             return Err((change, refused));
         }
-        // For their facts alone: what is held is in order.
-        let _store = self.store.blocks();
-        let _out = self.out.blocks();
-        self.store.drop_versions(change.drops.as_slice());
-        self.out.drop_versions(change.drops.as_slice());
+        let Change { drops, takes, .. } = change;
+        self.prepared = Some(Prepared {
+            drops,
+            takes,
+            room,
+            in_store,
+            in_out,
+        });
         Ok(())
     }
 
-    /// Takes copies of versions, each into the store where the filter matches it and into the out otherwise, and learns.
-    /// An error leaves the device as it was.
-    fn take(&mut self, takes: &[Held], gain: &Knowledge) -> Result<(), AllocError>
-        requires { MayTake takes.now gain.now self.old }
-        ensures ok { OnOk result (HasTaken takes.now gain.now self.old self.new) }
-        ensures err { OnErr result (self.new ≡ self.old) }
+    /// Whether a change is staged.
+    pub fn staged(&self) -> bool
+        ensures staged { result ≡ is_some self.now.staged }
+        ensures once { IfSome self.now.staged (λ s. (v : versions.Version) → count_of v (s.takes ++ (self.now.store ++ self.now.out)) ≤ 1) }
     {
-        // For its fact alone: a knowledge is in normal form.
-        let _fragments = gain.fragments();
-        take_all(&self.filter, takes, &mut self.store, &mut self.out)?;
-        if let Err(refused) = self.knowledge.learn_all(gain) {
-            give_back(takes, &mut self.store);
-            give_back(takes, &mut self.out);
-            return Err(refused);
-        }
-        Ok(())
+        self.prepared.is_some()
     }
 
-    /// Some versions leave the out. It takes no memory.
-    pub fn drop_out(&mut self, versions: &[Version])
-        ensures { (m : ModelDevice) → Shows self.old m → Shows self.new (without_waiting versions.now m) }
+    /// Leaves nothing staged; the device is as it was. It takes no memory.
+    pub fn unstage(&mut self)
+        ensures { self.new ≡ unstaged self.old }
     {
-        self.out.drop_versions(versions);
+        self.prepared = None;
+        self.knowledge.unstage();
+    }
+
+    /// Those of the versions that it holds in the out leave it, and come to the end of a list in the order asked for. Nothing
+    /// is staged then. It takes no memory, and is quickest where they are asked for in the order of the out.
+    pub fn hand_over(&mut self, asked: &[Version], handed: &mut Vec<Held>)
+        requires distinct { (v : versions.Version) → times_in v asked.now ≤ 1 }
+        requires room { vec_len handed.old + length asked.now ≤ vec_capacity handed.old }
+        ensures shows { (m : ModelDevice) → Shows self.old m → Shows self.new (without_waiting asked.now m) }
+        ensures handed { handed.new.items ≡ handed.old.items ++ helds_at asked.now self.old.out }
+        ensures staged { self.new.staged ≡ None }
+    {
+        self.prepared = None;
+        self.out.hand_over(asked, handed);
+    }
+
+    /// Makes the change that is staged, and takes the versions that were handed over besides, each into the store where the
+    /// filter matches it and into the out otherwise. Nothing is staged then. It takes no memory.
+    pub fn commit(&mut self, handed: Vec<Held>)
+        requires staged { is_some self.old.staged ≡ true }
+        requires handed { IfSome self.old.staged (λ s. MayHand handed.items s self.old) }
+        ensures shows { IfSome self.old.staged (λ s. (m : ModelDevice) → Shows self.old m
+            → Shows self.new (changed s.drops (entries_of (s.takes ++ handed.items)) (knows s.knowledge) m)) }
+        ensures staged { self.new.staged ≡ None }
+    {
+        let Some(prepared) = self.prepared.take() else {
+            unreachable!()
+        };
+        let Prepared {
+            drops,
+            takes,
+            room: _,
+            in_store,
+            in_out,
+        } = prepared;
+        self.store.drop_versions(drops.as_slice());
+        self.out.drop_versions(drops.as_slice());
+        take_in(
+            &self.filter,
+            handed,
+            takes.into_vec(),
+            &mut self.store,
+            in_store,
+            &mut self.out,
+            in_out,
+        );
+        self.knowledge.commit();
     }
 
     /// Is to keep from now on what a filter matches that its own covers: what it doesn't match goes from the store to the
     /// out. Gives how many versions went.
     ///
     /// `NotNarrower` comes exactly where its own filter doesn't cover the new one. An error leaves the device as it was,
-    /// and gives the filter back.
+    /// and gives the filter back. Nothing is staged then in any case.
     pub fn narrow(&mut self, filter: Filter) -> Result<u64, (Filter, NarrowFault)>
         ensures shows { OnOk result ((m : ModelDevice) → Shows self.old m → Shows self.new (narrowed filter m)) }
         ensures moved { IfOk result (λ count. (m : ModelDevice) → Shows self.old m → count ≡ moved filter m) }
@@ -314,8 +412,10 @@ impl Device {
         ensures refused { IfErr result (λ e. e.1 ≡ NotNarrower → covers self.old.tree filter ≡ false) }
         ensures no_memory { IfErr result (λ e. e.1 ≡ NoMemory → covers self.old.tree filter ≡ true) }
         ensures returned { IfErr result (λ e. e.0 ≡ filter) }
-        ensures err { OnErr result (self.new ≡ self.old) }
+        ensures err { OnErr result (IsAsItWas self.old self.new) }
+        ensures staged { self.new.staged ≡ None }
     {
+        self.prepared = None;
         if !covers(&self.filter, &filter) {
             return Err((filter, NarrowFault::NotNarrower));
         }
@@ -328,14 +428,15 @@ impl Device {
         Ok((before - self.store.len()) as u64)
     }
 
-    /// The same device with another knowledge, which has what every device has to know.
+    /// The same device with another knowledge, which has what every device has to know, and nothing staged.
     pub(crate) fn with(self, knowledge: Knowledge) -> Device
-        requires own { KnowsItsOwn self.author self.counter knowledge }
-        requires store { AllByRecursion (IsKnownBy knowledge) self.store }
-        requires out { AllByRecursion (IsKnownBy knowledge) self.out }
-        ensures { result ≡ record self { knowledge = knowledge } }
+        requires own { KnowsItsOwn self.author self.counter knowledge.known }
+        requires store { AllByRecursion (IsKnownBy knowledge.known) self.store }
+        requires out { AllByRecursion (IsKnownBy knowledge.known) self.out }
+        ensures { result ≡ record self { knowledge = knowledge.known; staged = None } }
     {
         let mut device = self;
+        device.prepared = None;
         device.knowledge = knowledge;
         device
     }
@@ -357,17 +458,17 @@ impl Device {
     }
 }
 
-/// What is known, and of every picture its author's next version as well. Its only error is want of memory.
+// What is known, and of every picture its author's next version as well. Its only error is want of memory.
 fn with_own(known: &Knowledge, version: Version) -> Result<Knowledge, AllocError>
-    requires { version.number ≡ star_bound known.now version.author + 1 }
-    ensures { IfOk result (λ knowledge. IsOwnLearned version known.now knowledge) }
+    requires { version.number ≡ star_bound known.now.known version.author + 1 }
+    ensures { IfOk result (λ knowledge. IsOwnLearned version known.now.known knowledge.known) }
 {
     let mut knowledge = known.try_clone()?;
     knowledge.learn_own(version)?;
     Ok(knowledge)
 }
 
-/// Holds a version at a place, and nothing else of its picture. An error leaves both sets as they were.
+// Holds a version at a place, and nothing else of its picture. An error leaves both sets as they were.
 fn hold(store: &mut HeldSet, out: &mut HeldSet, place: Place, held: Held) -> Result<(), AllocError>
     ensures store { OnOk result (store.new ≡ store_with place held store.old) }
     ensures out { OnOk result (out.new ≡ out_with place held out.old) }

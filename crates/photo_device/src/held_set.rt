@@ -3,9 +3,10 @@ ghost use Rattle.std.specs.Option.{option_copied};
 ghost use Rattle.photo_device.specs.Held.{find_version};
 
 use crate::range::range_of;
+use crate::roomy_set::RoomySet;
 use crate::sought::Sought;
 use crate::{Held, HeldList};
-use block_list::{BlockList, Spot};
+use block_list::{BlockList, Room, Spot};
 use photo_filter_rules::Filter;
 use photo_record::PicNo;
 use photo_version::Version;
@@ -34,13 +35,15 @@ impl Model for HeldSet {
 }
 
 impl HeldSet {
-    ghost use Rattle.std.specs.Prelude.{◌≡◌, ◌<◌, ◌==◌, true, not, None, [], length, filter, slice_get, Some, IfOk, OnOk, OnErr};
+    ghost use Rattle.std.specs.Prelude.{◌≡◌, ◌+◌, ◌<◌, ◌≤◌, ◌==◌, true, not, None, [], ◌∷◌, ◌++◌, length, filter, slice_get, Some};
+    ghost use Rattle.std.specs.Prelude.{IfOk, OnOk, OnErr, vec_len, vec_capacity};
     ghost use Rattle.std.specs.Option.{option_copied};
     ghost use Rattle.photo_filter_rules.specs.Matching.{matches};
     ghost use Rattle.block_list.specs.Blocks.{joined};
     ghost use Rattle.photo_device.specs.Ordered.{put};
     ghost use Rattle.photo_device.specs.Held.{held_before, are_in_order, held_of_others, has_picture, has_version_of, helds_without, replaced};
-    ghost use Rattle.photo_device.specs.Held.{find_version, find_version_of};
+    ghost use Rattle.photo_device.specs.Held.{find_version, find_version_of, count_of, times_in, helds_at};
+    ghost use Rattle.photo_version.specs.Version as spec;
 
     pub(crate) fn new(alloc: Global) -> HeldSet
         ensures { result ≡ [] }
@@ -54,6 +57,32 @@ impl HeldSet {
     /// The allocator of what is made of it.
     pub(crate) fn alloc(&self) -> Global {
         self.alloc
+    }
+
+    /// The set of a list in order.
+    pub(crate) fn of_list(items: BlockList<Held>, alloc: Global) -> HeldSet
+        requires { are_in_order items ≡ true }
+        ensures { result ≡ items }
+    {
+        HeldSet { items, alloc }
+    }
+
+    /// Room for so many versions more. Its only error is want of memory.
+    pub(crate) fn room(&mut self, more: usize) -> Result<Room<Held>, AllocError>
+        ensures kept { self.new ≡ self.old }
+        ensures most { IfOk result (λ room. room.most ≡ length self.old) }
+        ensures more { IfOk result (λ room. room.more ≡ more) }
+    {
+        self.items.room(more)
+    }
+
+    /// The set with room that was taken before. It takes no memory.
+    pub(crate) fn open(self, room: Room<Held>) -> RoomySet
+        requires { length self ≤ room.most }
+        ensures helds { result.helds ≡ self }
+        ensures more { result.more ≡ room.more }
+    {
+        RoomySet::new(self.items.open(room), self.alloc)
     }
 
     /// How many versions it has.
@@ -187,6 +216,35 @@ impl HeldSet {
         self.items.retain(|held| !sought.has(held.version));
     }
 
+    /// Those of the versions that it has leave it, and come to the end of a list, in the order asked for. It takes no
+    /// memory, and is quickest where they are asked for in the order of the set.
+    pub(crate) fn hand_over(&mut self, versions: &[Version], handed: &mut Vec<Held>)
+        requires once { (v : spec.Version) → count_of v self.old ≤ 1 }
+        requires distinct { (v : spec.Version) → times_in v versions.now ≤ 1 }
+        requires room { vec_len handed.old + length versions.now ≤ vec_capacity handed.old }
+        ensures rest { self.new ≡ helds_without versions.now self.old }
+        ensures handed { handed.new.items ≡ handed.old.items ++ helds_at versions.now self.old }
+        ensures capacity { vec_capacity handed.new ≡ vec_capacity handed.old }
+    {
+        let mut near = Spot::start();
+        for version in versions {
+            let (found, further) = self.take_version(near, *version);
+            near = further;
+            if let Some(held) = found {
+                handed.push_reserved(held);
+            }
+        }
+    }
+
+    // Takes the one of that version out, if it has it, and gives a hint for the next.
+    fn take_version(&mut self, near: Spot, version: Version) -> (Option<Held>, Spot)
+        requires { count_of version self.old ≤ 1 }
+        ensures found { result.0 ≡ find_version version self.old }
+        ensures rest { self.new ≡ helds_without (version ∷ []) self.old }
+    {
+        self.items.take_near(near, |held| held.version == version)
+    }
+
     /// Gives up what the filter doesn't match. It takes no memory.
     pub(crate) fn keep_matched(&mut self, wanted: &Filter)
         ensures { self.new ≡ filter (λ h. matches wanted.now h.content) self.old }
@@ -224,7 +282,7 @@ impl HeldSet {
     }
 }
 
-/// The one of that version in a part of a set.
+// The one of that version in a part of a set.
 fn find_in(items: &[Held], version: Version) -> Option<&Held>
     ensures { option_copied result ≡ find_version version items.now }
 {

@@ -1,18 +1,19 @@
 //! What is lawful of devices beyond what commands make of them.
-ghost use Rattle.std.specs.Prelude.{◌≡◌};
+ghost use Rattle.std.specs.Prelude.{◌≡◌, None};
 ghost use Rattle.std.specs.List.{AllByRecursion};
 ghost use Rattle.photo_device.specs.Own.{IsKnownBy, KnowsItsOwn};
 
 use crate::Device;
 use item_knowledge::Knowledge;
 
-/// The same device with another knowledge. That has of the device's author just the versions up to its counter, of every
-/// picture and of each, and it has each version that the device holds, with its history, of its picture. It takes no memory.
+/// The same device with another knowledge, and nothing staged. That knowledge has of the device's author just the versions
+/// up to its counter, of every picture and of each, and it has each version that the device holds, with its history, of its
+/// picture. It takes no memory.
 pub fn with_knowledge(device: Device, knowledge: Knowledge) -> Device
-    requires own { KnowsItsOwn device.author device.counter knowledge }
-    requires store { AllByRecursion (IsKnownBy knowledge) device.store }
-    requires out { AllByRecursion (IsKnownBy knowledge) device.out }
-    ensures { result ≡ record device { knowledge = knowledge } }
+    requires own { KnowsItsOwn device.author device.counter knowledge.known }
+    requires store { AllByRecursion (IsKnownBy knowledge.known) device.store }
+    requires out { AllByRecursion (IsKnownBy knowledge.known) device.out }
+    ensures { result ≡ record device { knowledge = knowledge.known; staged = None } }
 {
     device.with(knowledge)
 }

@@ -12,7 +12,9 @@ mod item_list;
 pub mod laws;
 mod marks;
 mod place;
+mod prepared;
 mod range;
+mod roomy_set;
 mod sought;
 mod takes;
 

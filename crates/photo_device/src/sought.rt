@@ -44,7 +44,7 @@ impl<'a> Sought<'a> {
     }
 }
 
-/// Whether no version stands before the one in front of it.
+// Whether no version stands before the one in front of it.
 fn is_rising(versions: &[Version]) -> bool
     ensures { result ≡ true → are_rising versions.now ≡ true }
 {
@@ -56,7 +56,7 @@ fn is_rising(versions: &[Version]) -> bool
     true
 }
 
-/// Whether a version is among versions in order.
+// Whether a version is among versions in order.
 fn is_found(versions: &[Version], version: Version) -> bool
     requires { are_rising versions.now ≡ true }
     ensures { result ≡ is_listed versions.now version }

@@ -1,73 +1,104 @@
-ghost use Rattle.std.specs.Prelude.{◌≡◌, Bool, true, false, filter, OnOk, OnErr};
+ghost use Rattle.std.specs.Prelude.{◌≡◌, ◌+◌, ◌<◌, ◌≤◌, ◌++◌, Bool, true, false, [], ◌∷◌, length, filter, None, IfOk, OnOk, OnErr};
 ghost use Rattle.std.specs.List.{AllByRecursion};
 ghost use Rattle.photo_device.specs.declared.held.Held as spec;
-ghost use Rattle.photo_device.specs.Held.{helds_without};
-ghost use Rattle.photo_device.specs.Taking.{is_on_side, versions_in, with_side, AreNewTo};
+ghost use Rattle.photo_device.specs.Held.{find_version};
+ghost use Rattle.photo_device.specs.Taking.{with_side, AreNewTo};
 
+use crate::roomy_set::RoomySet;
 use crate::{Held, HeldSet};
+use block_list::Room;
 use photo_filter_rules::Filter;
 use std::alloc::AllocError;
+use std::mem::replace;
 
-/// The store takes copies of the versions that the filter matches, and the out those of the others. After want of
-/// memory both are as they were.
-pub(crate) fn take_all(
-    wanted: &Filter,
-    takes: &[Held],
+/// Room for so many versions more in each of two sets. Its only error is want of memory.
+pub(crate) fn rooms(
     store: &mut HeldSet,
     out: &mut HeldSet,
-) -> Result<(), AllocError>
-    requires store { AreNewTo store.old takes.now }
-    requires out { AreNewTo out.old takes.now }
-    ensures store { OnOk result (store.new ≡ with_side true wanted.now takes.now store.old) }
-    ensures out { OnOk result (out.new ≡ with_side false wanted.now takes.now out.old) }
-    ensures store_kept { OnErr result (store.new ≡ store.old) }
-    ensures out_kept { OnErr result (out.new ≡ out.old) }
+    more: usize,
+) -> Result<(Room<Held>, Room<Held>), AllocError>
+    ensures store_kept { store.new ≡ store.old }
+    ensures out_kept { out.new ≡ out.old }
+    ensures store { IfOk result (λ rooms. rooms.0.most ≡ length store.old) }
+    ensures store_more { IfOk result (λ rooms. rooms.0.more ≡ more) }
+    ensures out { IfOk result (λ rooms. rooms.1.most ≡ length out.old) }
+    ensures out_more { IfOk result (λ rooms. rooms.1.more ≡ more) }
 {
-    take_side(wanted, true, takes, store)?;
-    if let Err(refused) = take_side(wanted, false, takes, out) {
-        give_back(takes, store);
-        return Err(refused);
-    }
-    Ok(())
+    let in_store = store.room(more)?;
+    let in_out = out.room(more)?;
+    Ok((in_store, in_out))
 }
 
-/// A set takes copies of the versions that the filter matches, or of the others. After want of memory it is as it was.
-pub(crate) fn take_side(
-    wanted: &Filter,
-    matched: bool,
-    takes: &[Held],
-    set: &mut HeldSet,
-) -> Result<(), AllocError>
-    requires { AreNewTo set.old takes.now }
-    ensures ok { OnOk result (set.new ≡ with_side matched wanted.now takes.now set.old) }
-    ensures err { OnErr result (set.new ≡ set.old) }
+// Opens a set with room that was taken before, and leaves an empty one.
+fn opened(set: &mut HeldSet, room: Room<Held>) -> RoomySet
+    requires { length set.old ≤ room.most }
+    ensures helds { result.helds ≡ set.old }
+    ensures more { result.more ≡ room.more }
 {
-    if let Err(refused) = put_side(wanted, matched, takes, set) {
-        give_back(takes, set);
-        return Err(refused);
-    }
-    Ok(())
+    let empty = HeldSet::new(set.alloc());
+    replace(set, empty).open(room)
 }
 
-// After want of memory the set has taken some of them: what passes a test that none of them passes is as it was.
-fn put_side(
+/// The store takes versions that the filter matches, and the out the others: those that are handed over, and those that are
+/// taken. There is room for all of them in both, so it takes no memory.
+pub(crate) fn take_in(
     wanted: &Filter,
-    matched: bool,
-    takes: &[Held],
-    set: &mut HeldSet,
-) -> Result<(), AllocError>
-    requires { AreNewTo set.old takes.now }
-    ensures ok { OnOk result (set.new ≡ with_side matched wanted.now takes.now set.old) }
-    ensures err { OnErr result
-        ((q : spec.Held → Bool) → AllByRecursion (λ h. q h ≡ false) takes.now → filter q set.new ≡ filter q set.old) }
+    handed: Vec<Held>,
+    takes: Vec<Held>,
+    store: &mut HeldSet,
+    in_store: Room<Held>,
+    out: &mut HeldSet,
+    in_out: Room<Held>,
+)
+    requires store_new { AreNewTo store.old (handed.items ++ takes.items) }
+    requires out_new { AreNewTo out.old (handed.items ++ takes.items) }
+    requires store_most { length store.old ≤ in_store.most }
+    requires store_room { length takes.items + length handed.items ≤ in_store.more }
+    requires out_most { length out.old ≤ in_out.most }
+    requires out_room { length takes.items + length handed.items ≤ in_out.more }
+    ensures store { store.new ≡ with_side true wanted.now (takes.items ++ handed.items) store.old }
+    ensures out { out.new ≡ with_side false wanted.now (takes.items ++ handed.items) out.old }
 {
-    for held in takes {
-        if !is_wanted(wanted, matched, held) {
-            continue;
-        }
-        set.insert(held.try_clone()?)?;
+    let mut stored = opened(store, in_store);
+    let mut waiting = opened(out, in_out);
+    put_all(wanted, handed, &mut stored, &mut waiting);
+    put_all(wanted, takes, &mut stored, &mut waiting);
+    *store = stored.close();
+    *out = waiting.close();
+}
+
+// Puts versions into the store, where the filter matches them, and into the out otherwise.
+fn put_all(wanted: &Filter, coming: Vec<Held>, store: &mut RoomySet, out: &mut RoomySet)
+    requires store { AreNewTo store.old.helds coming.items }
+    requires out { AreNewTo out.old.helds coming.items }
+    requires store_room { length coming.items ≤ store.old.more }
+    requires out_room { length coming.items ≤ out.old.more }
+    ensures store { store.new.helds ≡ with_side true wanted.now coming.items store.old.helds }
+    ensures out { out.new.helds ≡ with_side false wanted.now coming.items out.old.helds }
+    ensures store_left { store.old.more ≤ store.new.more + length coming.items }
+    ensures out_left { out.old.more ≤ out.new.more + length coming.items }
+{
+    for held in coming {
+        put_one(wanted, held, store, out);
     }
-    Ok(())
+}
+
+// Puts a version into the store, where the filter matches it, and into the out otherwise.
+fn put_one(wanted: &Filter, held: Held, store: &mut RoomySet, out: &mut RoomySet)
+    requires store { find_version held.version store.old.helds ≡ None }
+    requires out { find_version held.version out.old.helds ≡ None }
+    requires store_room { 0 < store.old.more }
+    requires out_room { 0 < out.old.more }
+    ensures store { store.new.helds ≡ with_side true wanted.now (held ∷ []) store.old.helds }
+    ensures out { out.new.helds ≡ with_side false wanted.now (held ∷ []) out.old.helds }
+    ensures store_left { store.old.more ≤ store.new.more + 1 }
+    ensures out_left { out.old.more ≤ out.new.more + 1 }
+{
+    if wanted.matches(&held.content) {
+        store.insert(held);
+    } else {
+        out.insert(held);
+    }
 }
 
 /// The out takes copies of what stands in the store and the filter doesn't match. After want of memory it is as it was.
@@ -81,7 +112,7 @@ pub(crate) fn take_others(
     ensures err { OnErr result (out.new ≡ out.old) }
 {
     for block in store.blocks() {
-        if let Err(refused) = put_side(wanted, false, block, out) {
+        if let Err(refused) = put_others(wanted, block, out) {
             out.drop_those_of(store);
             return Err(refused);
         }
@@ -89,21 +120,18 @@ pub(crate) fn take_others(
     Ok(())
 }
 
-/// A set gives those versions up again.
-pub(crate) fn give_back(takes: &[Held], set: &mut HeldSet)
-    ensures { set.new ≡ helds_without (versions_in takes.now) set.old }
+// After want of memory the set has taken some of them: what passes a test that none of them passes is as it was.
+fn put_others(wanted: &Filter, takes: &[Held], set: &mut HeldSet) -> Result<(), AllocError>
+    requires { AreNewTo set.old takes.now }
+    ensures ok { OnOk result (set.new ≡ with_side false wanted.now takes.now set.old) }
+    ensures err { OnErr result
+        ((q : spec.Held → Bool) → AllByRecursion (λ h. q h ≡ false) takes.now → filter q set.new ≡ filter q set.old) }
 {
     for held in takes {
-        set.drop_versions(&[held.version]);
+        if wanted.matches(&held.content) {
+            continue;
+        }
+        set.insert(held.try_clone()?)?;
     }
-}
-
-fn is_wanted(wanted: &Filter, matched: bool, held: &Held) -> bool
-    ensures { result ≡ is_on_side matched wanted.now held.now }
-{
-    if matched {
-        wanted.matches(&held.content)
-    } else {
-        !wanted.matches(&held.content)
-    }
+    Ok(())
 }

@@ -3,6 +3,7 @@ mod knowing;
 mod narrowing;
 mod near;
 mod sets;
+mod staging;
 
 use crate::{Device, Held, HeldList, HeldSet, Place};
 use photo_filter_rules::Filter;
@@ -12,19 +13,19 @@ use std::alloc::Global;
 
 // A value that is owned has its own function here, with no `?` behind it and no `rt` beside it: so its proof is short.
 
-/// The filter of a text.
+// The filter of a text.
 fn filter_of(alloc: Global, text: &str) -> Option<Filter> {
     let tree = photo_filter_text::read(alloc, text).ok()?;
     Filter::build(alloc, tree).ok()
 }
 
-/// A new device, by its number and its filter's text.
+// A new device, by its number and its filter's text.
 fn opened(alloc: Global, author: u16, text: &str) -> Option<Device> {
     let filter = filter_of(alloc, text)?;
     Device::new(alloc, Author::new(author), filter).ok()
 }
 
-/// Whether a new device, by its number and its filter's text, passes a test.
+// Whether a new device, by its number and its filter's text, passes a test.
 fn on_device<F: FnOnce(Global, &mut Device) -> bool>(
     alloc: Global,
     author: u16,
@@ -47,7 +48,7 @@ fn rated(alloc: Global, rating: u8) -> Option<Record> {
     })
 }
 
-/// Makes a version of a picture with that record.
+// Makes a version of a picture with that record.
 fn made_of(device: &mut Device, number: u32, content: &Record) -> Option<(Version, Place)> {
     let picture = PicNo::new(number)?;
     if device.counter() == u32::MAX {
@@ -56,13 +57,13 @@ fn made_of(device: &mut Device, number: u32, content: &Record) -> Option<(Versio
     device.make(picture, content).ok()
 }
 
-/// Makes a version of a picture with that rating.
+// Makes a version of a picture with that rating.
 fn made(alloc: Global, device: &mut Device, number: u32, rating: u8) -> Option<(Version, Place)> {
     let content = rated(alloc, rating)?;
     made_of(device, number, &content)
 }
 
-/// Makes versions of those pictures with those ratings.
+// Makes versions of those pictures with those ratings.
 fn made_all(alloc: Global, device: &mut Device, pictures: &[(u32, u8)]) -> bool {
     for (number, rating) in pictures {
         if made(alloc, device, *number, *rating).is_none() {
@@ -72,7 +73,7 @@ fn made_all(alloc: Global, device: &mut Device, pictures: &[(u32, u8)]) -> bool 
     true
 }
 
-/// Whether a set has just the versions with those pictures and those numbers of their author.
+// Whether a set has just the versions with those pictures and those numbers of their author.
 fn lists(set: &HeldSet, wanted: &[(u32, u32)]) -> bool {
     if set.len() != wanted.len() || set.is_empty() != wanted.is_empty() {
         return false;
@@ -86,12 +87,25 @@ fn lists(set: &HeldSet, wanted: &[(u32, u32)]) -> bool {
     true
 }
 
-/// What a device holds of its version of that number.
+// The same of a list.
+fn are(helds: &[Held], wanted: &[(u32, u32)]) -> bool {
+    if helds.len() != wanted.len() {
+        return false;
+    }
+    for i in 0..helds.len() {
+        if helds[i].picture.value() != wanted[i].0 || helds[i].version.n() != wanted[i].1 {
+            return false;
+        }
+    }
+    true
+}
+
+// What a device holds of its version of that number.
 fn held(device: &Device, n: u32) -> Option<&Held> {
     device.held(Version::new(device.author(), n)?)
 }
 
-/// Whether a device holds its version of that number, of that picture and with that record.
+// Whether a device holds its version of that number, of that picture and with that record.
 fn has(device: &Device, n: u32, number: u32, content: &Record) -> bool {
     match held(device, n) {
         Some(held) => {
@@ -103,7 +117,7 @@ fn has(device: &Device, n: u32, number: u32, content: &Record) -> bool {
     }
 }
 
-/// Whether a device holds its version of that number, of that picture and with that rating.
+// Whether a device holds its version of that number, of that picture and with that rating.
 fn has_rated(alloc: Global, device: &Device, n: u32, number: u32, rating: u8) -> bool {
     match rated(alloc, rating) {
         Some(content) => has(device, n, number, &content),
@@ -111,10 +125,10 @@ fn has_rated(alloc: Global, device: &Device, n: u32, number: u32, rating: u8) ->
     }
 }
 
-/// A version that is to be made: its number, its picture, its rating and its place.
+// A version that is to be made: its number, its picture, its rating and its place.
 type Step = (u32, u32, u8, Place);
 
-/// Whether the device's next version of a picture is as the step says, and is then held with its rating.
+// Whether the device's next version of a picture is as the step says, and is then held with its rating.
 fn makes(alloc: Global, device: &mut Device, step: Step) -> bool {
     let (n, number, rating, place) = step;
     match made(alloc, device, number, rating) {
@@ -128,7 +142,7 @@ fn makes(alloc: Global, device: &mut Device, step: Step) -> bool {
     }
 }
 
-/// Whether the device makes those versions one after another.
+// Whether the device makes those versions one after another.
 fn makes_all(alloc: Global, device: &mut Device, steps: &[Step]) -> bool {
     for step in steps {
         if !makes(alloc, device, *step) {
@@ -138,7 +152,7 @@ fn makes_all(alloc: Global, device: &mut Device, steps: &[Step]) -> bool {
     true
 }
 
-/// Whether a filter matches a record of that rating.
+// Whether a filter matches a record of that rating.
 fn is_matched(alloc: Global, filter: &Filter, rating: u8) -> Option<bool> {
     let record = rated(alloc, rating)?;
     Some(filter.matches(&record))
@@ -194,7 +208,7 @@ fn versions_are_listed_by_picture(rt: HostRuntime) {
     assert!(rt; on_device(rt.alloc(), 2, "all", lists_by_picture));
 }
 
-/// Whether a list has what a set has, in the same order.
+// Whether a list has what a set has, in the same order.
 fn is_like(list: &HeldList, set: &HeldSet) -> bool {
     if list.len() != set.len() || list.is_empty() != set.is_empty() {
         return false;
@@ -207,7 +221,7 @@ fn is_like(list: &HeldList, set: &HeldSet) -> bool {
     true
 }
 
-/// Whether a set's list has that many copies of what it has, also as a list that is made of its vector.
+// Whether a set's list has that many copies of what it has, also as a list that is made of its vector.
 fn is_copied(set: &HeldSet, length: usize) -> bool {
     match set.to_list() {
         Ok(list) => {
@@ -262,7 +276,7 @@ fn a_version_below_the_filter_goes_to_the_out(rt: HostRuntime) {
     assert!(rt; on_device(rt.alloc(), 1, "rating >= 3", keeps_what_matches));
 }
 
-/// Whether the device's next version of a picture is as the step says, and is all that is then held.
+// Whether the device's next version of a picture is as the step says, and is all that is then held.
 fn makes_alone(alloc: Global, device: &mut Device, step: Step) -> bool {
     let (n, _, _, place) = step;
     let (stored, waiting) = match place {
@@ -288,7 +302,7 @@ fn a_picture_is_held_in_one_place(rt: HostRuntime) {
     assert!(rt; on_device(rt.alloc(), 0, "not rating <= 2", holds_in_one_place));
 }
 
-/// Whether a removed picture goes to the device's out, and nowhere else.
+// Whether a removed picture goes to the device's out, and nowhere else.
 fn removes(_: Global, device: &mut Device) -> bool {
     match made_of(device, 7, &Record::Removed) {
         Some((version, place)) => {

@@ -13,7 +13,7 @@ use Rattle.photo_device.specs.Held.{find_version, count_of}
 use Rattle.photo_device.specs.Device.{Kept}
 use Rattle.photo_device.specs.Own.{HasEarlier, IsKnownBy}
 use Rattle.photo_pull.specs.OnHeld.{is_new, tells, new_waiting, learns, is_dropped, is_over, dropped_stored, dropped_waiting, is_selected, is_heard, new_stored, heard, taken_stored, versions, gains}
-use Rattle.photo_pull.proofs.Members.{In, in_left, in_right, in_any, all_at, all_append, all_map, all_passing, all_of, found_some, found_in}
+use Rattle.photo_pull.proofs.Members.{In, in_left, in_right, in_any, all_at, all_append, all_map, all_passing, all_of, found_some, found_in, only_one, find_one}
 use Rattle.photo_pull.proofs.Ready.{AreReady, known_target, known_source, found_source, same_itself, same_is}
 use Rattle.photo_pull.proofs.Told.{or_intro, or_other, one}
 use Rattle.photo_pull.proofs.Changes.{drops, takes}
@@ -99,6 +99,15 @@ module _ (t s : Kept) (ready : AreReady t s) where
 
   pub waiting_earlier : AllByRecursion HasEarlier (new_waiting t s)
   waiting_earlier = all_of HasEarlier (new_waiting t s) (λ w here. all_at HasEarlier w s.out ready.source.out (from_waiting w here).0)
+
+  -- each that waits is the one of its version in the out
+  pub waiting_found : AllByRecursion (λ w. find_version w.version s.out ≡ Some w) (new_waiting t s)
+  waiting_found = all_of (λ w. find_version w.version s.out ≡ Some w) (new_waiting t s) (λ w here.
+      let there = (from_waiting w here).0 in
+      let q : Held → Bool = λ g. same_version g.version w.version in
+      let all = ap (length {A = Held}) (filter-append q s.store s.out) ∙ length-append (filter q s.store) (filter q s.out) in
+      let once = ready.source.once w.version in
+      find_one q w s.out (only_one q w s.out there (same_itself w.version) (omega arith)))
 
   -- what is told of, the source knows
   told_within : (hs : List Held) → AllByRecursion (IsKnownBy s.knowledge) hs → (p : ℕ) (v : Version) → tells hs p v ≡ true → knows s.knowledge p v ≡ true

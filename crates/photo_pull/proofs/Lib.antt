@@ -9,3 +9,4 @@ pub mod Asked
 pub mod TableLemmas
 pub mod Findings
 pub mod Moved
+mod Committed

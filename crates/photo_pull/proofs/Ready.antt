@@ -5,13 +5,13 @@ use Rattle.photo_version.specs.Author.{same_author}
 use Rattle.photo_version.specs.Version.{Version, same_version}
 use Rattle.photo_device.specs.declared.held.Held.{Held}
 use Rattle.photo_device.specs.Held.{find_version}
-use Rattle.photo_device.specs.Device.{Kept}
+use Rattle.photo_device.specs.Device.{Kept, unstaged}
 use Rattle.photo_device.specs.Own.{IsDevice, IsKnownBy}
 use Rattle.photo_pull.proofs.Members.{In, all_at, all_append, only_one, find_one}
 
 pub record AreReady (t s : Kept) : Type 0 where
-  pub target : IsDevice t
-  pub source : IsDevice s
+  pub target : IsDevice (unstaged t)
+  pub source : IsDevice (unstaged s)
   pub one : (v : Version) (h g : Held) → find_version v (t.store ++ t.out) ≡ Some h → find_version v (s.store ++ s.out) ≡ Some g → h.picture ≡ g.picture
 
 pub same_is : (v w : Version) → same_version v w ≡ true → v ≡ w

@@ -1,5 +1,5 @@
 //! What a target is to drop, to take and to learn.
-ghost use Rattle.std.specs.Prelude.{◌≡◌, ℕ, ◌<◌, ◌++◌, true, [], if◌then◌else◌, IfOk};
+ghost use Rattle.std.specs.Prelude.{◌≡◌, ℕ, ◌+◌, ◌<◌, ◌≤◌, ◌++◌, true, [], length, if◌then◌else◌, vec_len, vec_capacity, IfOk};
 ghost use Rattle.std.specs.List.Sorted.{IsPermutation};
 ghost use Rattle.photo_version.specs.Version as spec;
 ghost use Rattle.photo_version.specs.Vector.{denotes};
@@ -15,7 +15,7 @@ use photo_record::PicNo;
 use photo_version::{Vector, Version};
 use std::alloc::{AllocError, Global};
 
-/// All of a knowledge where the answer is yes, and what a table says otherwise.
+// All of a knowledge where the answer is yes, and what a table says otherwise.
 fn gain_of(
     alloc: Global,
     learned: bool,
@@ -24,7 +24,7 @@ fn gain_of(
 ) -> Result<Knowledge, AllocError>
     requires { in_order told.now ≡ true }
     ensures { IfOk result (λ gain. (p : ℕ) (v : spec.Version) → 0 < p
-        → knows gain p v ≡ (if learned then knows taught.now p v else denotes (at [] told.now p) v)) }
+        → knows gain.known p v ≡ (if learned then knows taught.now.known p v else denotes (at [] told.now p) v)) }
 {
     if learned {
         let all = taught.try_clone()?;
@@ -35,7 +35,7 @@ fn gain_of(
     Ok(gain)
 }
 
-/// The versions of what a device drops, in order.
+// The versions of what a device drops, in order.
 fn drops_of(alloc: Global, stored: &[Held], waiting: &[Held]) -> Result<Vec<Version>, AllocError>
     ensures { IfOk result (λ drops. IsPermutation (versions stored.now ++ versions waiting.now) drops.items) }
 {
@@ -46,27 +46,22 @@ fn drops_of(alloc: Global, stored: &[Held], waiting: &[Held]) -> Result<Vec<Vers
     Ok(drops)
 }
 
-/// What it takes, of the source's store and of its out.
-fn takes_of(taken: Vec<Held>, handed: Vec<Held>) -> Result<Vec<Held>, AllocError>
-    ensures { IfOk result (λ takes. takes.items ≡ taken.items ++ handed.items) }
+/// The versions that the source hands over, in the order of its out, and an empty list with room for them.
+pub(crate) fn handed_of(
+    alloc: Global,
+    finding: &Finding,
+) -> Result<(Vec<Version>, Vec<Held>), AllocError>
+    ensures asked { IfOk result (λ all. all.0.items ≡ versions finding.now.handed.items) }
+    ensures empty { IfOk result (λ all. all.1.items ≡ []) }
+    ensures room { IfOk result (λ all. vec_len all.1 + length all.0.items ≤ vec_capacity all.1) }
 {
-    let mut takes = taken;
-    let mut more = handed;
-    takes.append(&mut more)?;
-    Ok(takes)
+    let mut asked = Vec::with_capacity(alloc, finding.handed.len())?;
+    push_versions(&mut asked, &finding.handed)?;
+    let handed = Vec::with_capacity(alloc, asked.len())?;
+    Ok((asked, handed))
 }
 
-/// The versions that the source hands over, in order.
-pub(crate) fn handed_of(alloc: Global, finding: &Finding) -> Result<Vec<Version>, AllocError>
-    ensures { IfOk result (λ handed. IsPermutation (versions finding.now.handed.items) handed.items) }
-{
-    let mut handed = Vec::new(alloc);
-    push_versions(&mut handed, &finding.handed)?;
-    handed.sort_unstable();
-    Ok(handed)
-}
-
-/// What the target is to drop, to take and to learn after what was found.
+/// What the target is to drop, to take of the source's store and to learn after what was found.
 pub(crate) fn change_for(
     alloc: Global,
     finding: Finding,
@@ -75,16 +70,15 @@ pub(crate) fn change_for(
     requires { in_order finding.told.items ≡ true }
     ensures drops { IfOk result
         (λ change. IsPermutation (versions finding.dropped.stored.items ++ versions finding.dropped.waiting.items) change.drops) }
-    ensures takes { IfOk result (λ change. change.takes ≡ finding.taken.items ++ finding.handed.items) }
-    ensures gain { IfOk result (λ change. (p : ℕ) (v : spec.Version) → 0 < p → knows change.gain p v
-        ≡ (if finding.learned then knows taught.now p v else denotes (at [] finding.told.items p) v)) }
+    ensures takes { IfOk result (λ change. change.takes ≡ finding.taken.items) }
+    ensures gain { IfOk result (λ change. (p : ℕ) (v : spec.Version) → 0 < p → knows change.gain.known p v
+        ≡ (if finding.learned then knows taught.now.known p v else denotes (at [] finding.told.items p) v)) }
 {
     let drops = drops_of(alloc, &finding.dropped.stored, &finding.dropped.waiting)?;
     let gain = gain_of(alloc, finding.learned, taught, &finding.told)?;
-    let takes = takes_of(finding.taken, finding.handed)?;
     Ok(Change {
         drops: ItemList::new(drops),
-        takes: ItemList::new(takes),
+        takes: ItemList::new(finding.taken),
         gain,
     })
 }

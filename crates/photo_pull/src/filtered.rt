@@ -14,14 +14,14 @@ use photo_filter_rules::Filter;
 use photo_version::Version;
 use std::alloc::{AllocError, Global};
 
-/// Puts copies of those of a list that a knowledge doesn't have behind others. Any hint will do.
+// Puts copies of those of a list that a knowledge doesn't have behind others. Any hint will do.
 fn push_new(
     found: &mut Vec<Held>,
     knowledge: &Knowledge,
     hint: &mut usize,
     list: &[Held],
 ) -> Result<(), AllocError>
-    ensures { OnOk result (found.new.items ≡ found.old.items ++ filter (is_new knowledge.now) list.now) }
+    ensures { OnOk result (found.new.items ≡ found.old.items ++ filter (is_new knowledge.now.known) list.now) }
 {
     for held in list {
         let (known, next) = knowledge.knows_near(*hint, held.picture, held.version);
@@ -40,7 +40,7 @@ pub(crate) fn new_of(
     knowledge: &Knowledge,
     set: &HeldSet,
 ) -> Result<Vec<Held>, AllocError>
-    ensures items { IfOk result (λ found. found.items ≡ filter (is_new knowledge.now) set.now) }
+    ensures items { IfOk result (λ found. found.items ≡ filter (is_new knowledge.now.known) set.now) }
     ensures ordered { IfOk result (λ found. are_in_order found.items ≡ true) }
 {
     let mut found = Vec::new(alloc);
@@ -51,7 +51,7 @@ pub(crate) fn new_of(
     Ok(found)
 }
 
-/// Whether a device knows a version and doesn't keep it.
+// Whether a device knows a version and doesn't keep it.
 fn has_given_up(device: &Device, hints: &mut Hints, held: &Held) -> bool
     ensures { result ≡ (knows device.now.knowledge held.now.picture held.now.version && not (has_same device.now.store held.now)) }
 {
@@ -69,7 +69,7 @@ fn has_given_up(device: &Device, hints: &mut Hints, held: &Held) -> bool
     known
 }
 
-/// Whether something new supersedes a version, or a device has given it up whose keeping is followed.
+// Whether something new supersedes a version, or a device has given it up whose keeping is followed.
 fn is_dropped(
     news: &Part,
     followed: bool,
@@ -81,7 +81,9 @@ fn is_dropped(
     requires stored { are_in_order news.now.stored.items ≡ true }
     requires waiting { are_in_order news.now.waiting.items ≡ true }
     requires gap { IsGap news.now.stored.items news.now.waiting.items gap.old }
-    ensures is { result ≡ ((has_above news.now.stored.items held.now || has_above news.now.waiting.items held.now) || (followed && (knows device.now.knowledge held.now.picture held.now.version && not (has_same device.now.store held.now)))) }
+    ensures is { result ≡ ((has_above news.now.stored.items held.now || has_above news.now.waiting.items held.now)
+        || (followed && (knows device.now.knowledge held.now.picture held.now.version
+        && not (has_same device.now.store held.now)))) }
     ensures gap { IsGap news.now.stored.items news.now.waiting.items gap.new }
 {
     if news.any_above_along(gap, hints, held) {
@@ -90,7 +92,7 @@ fn is_dropped(
     followed && has_given_up(device, hints, held)
 }
 
-/// Puts copies of those of a list that go behind others.
+// Puts copies of those of a list that go behind others.
 fn push_dropped(
     found: &mut Vec<Held>,
     news: &Part,

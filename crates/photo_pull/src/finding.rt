@@ -33,7 +33,7 @@ pub(crate) struct Finding {
     pub told: Vec<(PicNo, Vector)>,
 }
 
-/// What the target doesn't know of what the source holds.
+// What the target doesn't know of what the source holds.
 fn news_of(alloc: Global, target: &Device, source: &Device) -> Result<Part, AllocError>
     ensures stored { IfOk result (λ part. part.stored.items ≡ new_stored target.now source.now) }
     ensures waiting { IfOk result (λ part. part.waiting.items ≡ new_waiting target.now source.now) }
@@ -48,7 +48,7 @@ fn news_of(alloc: Global, target: &Device, source: &Device) -> Result<Part, Allo
     Ok(Part { stored, waiting })
 }
 
-/// What the target drops for the news, and where it learns all, since the source gave it up.
+// What the target drops for the news, and where it learns all, since the source gave it up.
 fn dropped_for(
     alloc: Global,
     news: &Part,
@@ -71,7 +71,7 @@ fn dropped_for(
     Ok(Part { stored, waiting })
 }
 
-/// What two lists tell of their pictures, or nothing where the target learns all anyhow.
+// What two lists tell of their pictures, or nothing where the target learns all anyhow.
 fn told_of(
     alloc: Global,
     learned: bool,
@@ -157,8 +157,8 @@ impl Finding {
         ensures handed { result ≡ true → self.now.handed.items ≡ [] }
         ensures dropped_stored { result ≡ true → self.now.dropped.stored.items ≡ [] }
         ensures dropped_waiting { result ≡ true → self.now.dropped.waiting.items ≡ [] }
-        ensures known { result ≡ true → self.now.learned ≡ true → (p : ℕ) (v : Version) → 0 < p → knows taught.now p v ≡ true
-            → knows known.now p v ≡ true }
+        ensures known { result ≡ true → self.now.learned ≡ true → (p : ℕ) (v : Version) → 0 < p → knows taught.now.known p v ≡ true
+            → knows known.now.known p v ≡ true }
     {
         if !self.is_empty() {
             return false;

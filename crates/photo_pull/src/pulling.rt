@@ -1,10 +1,10 @@
-ghost use Rattle.std.specs.Prelude.{◌≡◌, ℕ, ◌<◌, ◌≤◌, ◌++◌, true, false, Some, IfOk, OnOk, OnErr};
+ghost use Rattle.std.specs.Prelude.{◌≡◌, ℕ, ◌<◌, ◌≤◌, ◌++◌, true, false, None, Some, IfOk, OnOk, OnErr};
 ghost use Rattle.photo_version.specs.Author.{same_author};
 ghost use Rattle.photo_version.specs.Version.{Version, version};
 ghost use Rattle.item_knowledge.specs.Fragments.{knows};
 ghost use Rattle.photo_device.specs.declared.held.Held.{Held};
 ghost use Rattle.photo_device.specs.Held.{find_version};
-ghost use Rattle.photo_device.specs.Device.{ModelDevice, Shows};
+ghost use Rattle.photo_device.specs.Device.{ModelDevice, Shows, IsAsItWas};
 ghost use Rattle.photo_pull.specs.Pull.{pulled, handed_over, counts_of};
 
 use crate::PullCounts;
@@ -16,7 +16,10 @@ use std::alloc::{AllocError, Global};
 /// The target takes from the source the versions that it doesn't know and is to keep, and all that the source only
 /// held for another device to take; it learns them with what they were made with, and where the source's filter covers
 /// its own, all that the source knows. It drops what it held of superseded versions, and of those that the source gave
-/// up. After want of memory both devices are as they were.
+/// up. After want of memory both devices are as they were. Nothing is staged on either then in any case.
+///
+/// All that may want memory is done before either changes: the change is staged on the target, what the source only held for
+/// another device moves from its out to the target, and the change is committed.
 pub fn pull(
     alloc: Global,
     target: &mut Device,
@@ -29,20 +32,46 @@ pub fn pull(
     ensures target { OnOk result ((t s : ModelDevice) → Shows target.old t → Shows source.old s → Shows target.new (pulled t s)) }
     ensures source { OnOk result ((t s : ModelDevice) → Shows target.old t → Shows source.old s → Shows source.new (handed_over t s)) }
     ensures counts { IfOk result (λ counts. (t s : ModelDevice) → Shows target.old t → Shows source.old s → counts ≡ counts_of t s) }
-    ensures target_kept { OnErr result (target.new ≡ target.old) }
-    ensures source_kept { OnErr result (source.new ≡ source.old) }
+    ensures target_kept { OnErr result (IsAsItWas target.old target.new) }
+    ensures source_kept { OnErr result (IsAsItWas source.old source.new) }
+    ensures target_unstaged { target.new.staged ≡ None }
+    ensures source_unstaged { source.new.staged ≡ None }
+{
+    target.unstage();
+    source.unstage();
+    pull_between(alloc, target, source)
+}
+
+// The pull between two devices on which nothing is staged.
+fn pull_between(
+    alloc: Global,
+    target: &mut Device,
+    source: &mut Device,
+) -> Result<PullCounts, AllocError>
+    requires one { (v : Version) (h g : Held) → find_version v (target.old.store ++ target.old.out) ≡ Some h
+        → find_version v (source.old.store ++ source.old.out) ≡ Some g → h.picture ≡ g.picture }
+    requires own { (p n : ℕ) → 0 < p → knows source.old.knowledge p (version target.old.author n) ≡ true → n ≤ target.old.counter }
+    requires target_unstaged { target.old.staged ≡ None }
+    requires source_unstaged { source.old.staged ≡ None }
+    ensures target { OnOk result ((t s : ModelDevice) → Shows target.old t → Shows source.old s → Shows target.new (pulled t s)) }
+    ensures source { OnOk result ((t s : ModelDevice) → Shows target.old t → Shows source.old s → Shows source.new (handed_over t s)) }
+    ensures counts { IfOk result (λ counts. (t s : ModelDevice) → Shows target.old t → Shows source.old s → counts ≡ counts_of t s) }
+    ensures target_kept { OnErr result (IsAsItWas target.old target.new) }
+    ensures source_kept { OnErr result (IsAsItWas source.old source.new) }
+    ensures target_still { target.new.staged ≡ None }
+    ensures source_still { source.new.staged ≡ None }
 {
     let finding = found_between(alloc, target, source)?;
     let counts = finding.counts();
     if finding.is_nothing(target.knowledge(), source.knowledge()) {
         return Ok(counts);
     }
-    let handed = handed_of(alloc, &finding)?;
+    let (asked, mut handed) = handed_of(alloc, &finding)?;
     let change = change_for(alloc, finding, source.knowledge())?;
-    match target.apply(change) {
-        Ok(()) => {}
-        Err((_, refused)) => return Err(refused),
+    if let Err((_, refused)) = target.stage(change, asked.len()) {
+        return Err(refused);
     }
-    source.drop_out(&handed);
+    source.hand_over(&asked, &mut handed);
+    target.commit(handed);
     Ok(counts)
 }

@@ -10,7 +10,7 @@ use photo_device::Held;
 use photo_record::PicNo;
 use photo_version::Vector;
 
-/// Those of a picture.
+// Those of a picture.
 fn of_picture(list: &[Held], picture: PicNo) -> &[Held]
     requires { are_in_order list.now ≡ true }
     ensures { result.now ≡ filter (λ h. h.picture == picture) list.now }
@@ -20,7 +20,7 @@ fn of_picture(list: &[Held], picture: PicNo) -> &[Held]
     &list[from..to]
 }
 
-/// Whether one of them is in a vector.
+// Whether one of them is in a vector.
 fn any_within(list: &[Held], vector: &Vector) -> bool
     ensures { result ≡ list_any (λ h. denotes vector.now h.version) list.now }
 {
@@ -35,14 +35,14 @@ pub(crate) fn any_below(list: &[Held], newer: &Held) -> bool
     any_within(of_picture(list, newer.picture), &newer.made_with)
 }
 
-/// Whether a version supersedes another.
+// Whether a version supersedes another.
 fn supersedes(newer: &Held, held: &Held) -> bool
     ensures { result ≡ is_above newer.now held.now }
 {
     newer.picture == held.picture && newer.made_with.has(held.version)
 }
 
-/// Whether all before a place in a list are of smaller pictures.
+// Whether all before a place in a list are of smaller pictures.
 fn is_behind(list: &[Held], place: usize, picture: PicNo) -> bool
     requires { are_in_order list.now ≡ true }
     ensures { result ≡ true → (h : spec.Held) → h.picture ≡ picture → has_above (drop place list.now) h ≡ has_above list.now h }
@@ -56,7 +56,7 @@ fn is_behind(list: &[Held], place: usize, picture: PicNo) -> bool
     list[place - 1].picture < picture
 }
 
-/// The place of a list before which all are of smaller pictures, and none behind it is.
+// The place of a list before which all are of smaller pictures, and none behind it is.
 fn first_of(list: &[Held], picture: PicNo) -> usize
     requires { are_in_order list.now ≡ true }
     ensures { (h : spec.Held) → h.picture ≡ picture → has_above (drop result list.now) h ≡ has_above list.now h }
@@ -77,7 +77,7 @@ pub(crate) fn next_picture(list: &[Held], picture: PicNo) -> u32
     list[place].picture.value()
 }
 
-/// Whether one of those from a place on supersedes the version, and the place up to which one had to look.
+// Whether one of those from a place on supersedes the version, and the place up to which one had to look.
 fn any_above_from(list: &[Held], from: usize, held: &Held) -> (bool, usize)
     requires { are_in_order list.now ≡ true }
     ensures { result.0 ≡ has_above (drop from list.now) held.now }

@@ -14,7 +14,7 @@ use photo_record::PicNo;
 use photo_version::Vector;
 use std::alloc::{AllocError, Global};
 
-/// A version with all that it was made with.
+// A version with all that it was made with.
 fn told_by(held: &Held) -> Result<Vector, AllocError>
     requires { HasEarlier held.now }
     ensures { IfOk result (λ vector. (v : versions.Version)
@@ -26,7 +26,7 @@ fn told_by(held: &Held) -> Result<Vector, AllocError>
     Ok(vector)
 }
 
-/// Adds what is told of a picture to a table whose pictures are none greater.
+// Adds what is told of a picture to a table whose pictures are none greater.
 fn add_row(
     table: &mut Vec<(PicNo, Vector)>,
     picture: PicNo,
@@ -52,7 +52,7 @@ fn add_row(
     Ok(())
 }
 
-/// Adds what a version tells to a table whose pictures are none greater.
+// Adds what a version tells to a table whose pictures are none greater.
 fn add_told(table: &mut Vec<(PicNo, Vector)>, held: &Held) -> Result<(), AllocError>
     requires earlier { HasEarlier held.now }
     requires order { in_order table.old.items ≡ true }
@@ -68,7 +68,7 @@ fn add_told(table: &mut Vec<(PicNo, Vector)>, held: &Held) -> Result<(), AllocEr
     Ok(())
 }
 
-/// Whether the first of two lists gives the next one, that of the smaller picture, where one stands at a place in each.
+// Whether the first of two lists gives the next one, that of the smaller picture, where one stands at a place in each.
 fn is_first(heard: &[Held], i: usize, handed: &[Held], j: usize) -> bool
     ensures first { result ≡ true → i < length heard.now }
     ensures first_least { (a b : spec.Held) → result ≡ true → j < length handed.now

@@ -19,8 +19,8 @@ pub fn push_knowledge(
     knowledge: &Knowledge,
 ) -> Result<(), AllocError>
     requires device { device < length script.now.names }
-    requires authors { AllByRecursion (IsFragmentOfScript script.now) knowledge.now }
-    ensures { OnOk result (string_bytes text.new ≡ string_bytes text.old ++ knowledge_text script.now number device knowledge.now) }
+    requires authors { AllByRecursion (IsFragmentOfScript script.now) knowledge.now.known }
+    ensures { OnOk result (string_bytes text.new ≡ string_bytes text.old ++ knowledge_text script.now number device knowledge.now.known) }
 {
     push_counted_heading(
         text,
@@ -39,8 +39,8 @@ fn push_fragments(
     script: &Script,
     knowledge: &Knowledge,
 ) -> Result<(), AllocError>
-    requires { AllByRecursion (IsFragmentOfScript script.now) knowledge.now }
-    ensures { OnOk result (string_bytes text.new ≡ string_bytes text.old ++ flat_map (fragment_text script.now) knowledge.now) }
+    requires { AllByRecursion (IsFragmentOfScript script.now) knowledge.now.known }
+    ensures { OnOk result (string_bytes text.new ≡ string_bytes text.old ++ flat_map (fragment_text script.now) knowledge.now.known) }
 {
     for k in 0..knowledge.fragments() {
         push_fragment(text, script, &knowledge.fragment(k))?;

@@ -5,44 +5,70 @@ use std::alloc::{AllocError, Global};
 use std::env::{Env, FillError};
 use std::io;
 
-/// So many bytes has a word, until a longer one comes.
+// So many bytes have room at first.
 const ROOM: usize = 256;
 
-/// The words that the program was called with, its name first, in one text: behind each stands a NUL, which no word has.
-/// `std::env::args` gives each a string with room for 256 bytes, and an order may have 100,000.
-///
-/// An error is `OutOfMemory`, or `InvalidData` where a word is not UTF-8.
-pub fn arguments<E: Env>(env: &E, alloc: Global) -> io::Result<String> {
-    let mut room = vec![in alloc; 0; ROOM]?;
-    let mut bytes = Vec::new(alloc);
-    for i in 0..usize::MAX {
-        let Some(count) = filled(env, i, &mut room)? else {
-            break;
-        };
-        bytes.extend_from_slice(&room[..count])?;
-        bytes.push(0)?;
+/// The words that the program was called with, its name first. An order may have 100,000, and `std::env::args` gives each
+/// a string with room for 256 bytes; so they stand in one text.
+#[derive(Drop)]
+pub struct Arguments {
+    // The words, with nothing between them.
+    text: String,
+    // Where each ends.
+    ends: Vec<usize>,
+}
+
+impl Arguments {
+    /// Reads the words. An error is `OutOfMemory`, or `InvalidData` where together they are not UTF-8.
+    pub fn read<E: Env>(env: &E, alloc: Global) -> io::Result<Arguments> {
+        let mut bytes = vec![in alloc; 0; ROOM]?;
+        let mut ends = Vec::new(alloc);
+        let mut last = 0;
+        for i in 0..usize::MAX {
+            let Some(end) = filled(env, i, &mut bytes, last)? else {
+                break;
+            };
+            ends.push(end)?;
+            last = end;
+        }
+        bytes.truncate(last);
+        match String::from_utf8(bytes) {
+            Ok(text) => Ok(Arguments { text, ends }),
+            Err(_) => Err(io::ErrorKind::InvalidData.into()),
+        }
     }
-    match String::from_utf8(bytes) {
-        Ok(text) => Ok(text),
-        Err(_) => Err(io::ErrorKind::InvalidData.into()),
+
+    /// The words. An error is `OutOfMemory`, or `InvalidData` where one is not UTF-8.
+    pub fn words(&self, alloc: Global) -> io::Result<Vec<&str>> {
+        let mut words = Vec::new(alloc);
+        let mut start = 0;
+        for end in &self.ends {
+            let Some(word) = self.text.get(start..*end) else {
+                return Err(io::ErrorKind::InvalidData.into());
+            };
+            words.push(word)?;
+            start = *end;
+        }
+        Ok(words)
     }
 }
 
-/// The words of such a text.
-pub fn words_in(alloc: Global, text: &str) -> Result<Vec<&str>, AllocError> {
-    text.split_terminator('\0').collect(alloc)
-}
-
-// The bytes of a word come to the front of `room`, which grows until they have room there. Gives how many they are, or
-// none where there are fewer words.
-fn filled<E: Env>(env: &E, i: usize, room: &mut Vec<u8>) -> Result<Option<usize>, AllocError>
-    ensures { IfOk result (λ found. IfSome found (λ count. count ≤ length room.new.items)) }
+// The bytes of a word come behind the first `start` of `bytes`, which grow until they have room there. Gives where the
+// word ends, or none where there are fewer words.
+fn filled<E: Env>(
+    env: &E,
+    i: usize,
+    bytes: &mut Vec<u8>,
+    start: usize,
+) -> Result<Option<usize>, AllocError>
+    requires { start ≤ length bytes.old.items }
+    ensures { IfOk result (λ found. IfSome found (λ end. end ≤ length bytes.new.items)) }
 {
     for _ in 0..usize::BITS {
-        match env.arg(i, room) {
-            Ok(count) => return Ok(Some(count)),
+        match env.arg(i, &mut bytes[start..]) {
+            Ok(count) => return Ok(Some(start + count)),
             Err(FillError::NotPresent) => return Ok(None),
-            Err(FillError::TooLong) => room.resize(room.len().saturating_mul(2), 0)?,
+            Err(FillError::TooLong) => bytes.resize(bytes.len().saturating_mul(2), 0)?,
         }
     }
     Err(AllocError)

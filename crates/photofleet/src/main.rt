@@ -11,7 +11,7 @@ mod statuses;
 mod streams;
 mod words;
 
-use arguments::{arguments, words_in};
+use arguments::Arguments;
 use opener::FileOpener;
 use refusals::without_words;
 use serve::serve;
@@ -29,12 +29,13 @@ fn main(rt: HostRuntime) -> ExitCode {
 // run in `threads`.
 fn status<T: Threads + Wait + Copy + Send + 'static>(rt: &HostRuntime, threads: T) -> u8 {
     let mut err = rt.stderr();
-    let text = match arguments(rt, rt.alloc()) {
-        Ok(text) => text,
+    let given = match Arguments::read(rt, rt.alloc()) {
+        Ok(given) => given,
         Err(error) => return without_words(rt.alloc(), error.kind(), &mut err),
     };
-    let Ok(words) = words_in(rt.alloc(), &text) else {
-        return without_memory(&mut err);
+    let words = match given.words(rt.alloc()) {
+        Ok(words) => words,
+        Err(error) => return without_words(rt.alloc(), error.kind(), &mut err),
     };
     let Ok(mut out) = BufWriter::new(rt.alloc(), rt.stdout()) else {
         return without_memory(&mut err);

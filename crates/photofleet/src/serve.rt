@@ -39,12 +39,16 @@ pub fn serve<S: AsStr, O: Opener, W: Write, E: Write, T: Threads + Wait + Copy +
     err: &mut E,
 ) -> u8
     ensures status { is_status result ≡ true }
-    ensures done { result ≡ 0 → (AsksForHelp (map S.text words.now) × AppendsSome (W.contents out.old) (W.contents out.new)) ⊎ OfFile (O.content opener.old) (map S.text words.now) (WritesAll (W.contents out.old) (W.contents out.new)) }
+    ensures done { result ≡ 0 → (AsksForHelp (map S.text words.now)
+        × AppendsSome (W.contents out.old) (W.contents out.new))
+        ⊎ OfFile (O.content opener.old) (map S.text words.now) (WritesAll (W.contents out.old) (W.contents out.new)) }
     ensures refused { result ≡ 2 → AreRefused (map S.text words.now) }
     ensures file { result ≡ 3 → (file : List ℕ) × (work : Work) × Asks (map S.text words.now) file work }
     ensures nothing { (result ≡ 2) ⊎ (result ≡ 3) → out.new ≡ out.old }
-    ensures first { result ≡ 4 → (out.new ≡ out.old) ⊎ OfFile (O.content opener.old) (map S.text words.now) (WritesSome (W.contents out.old) (W.contents out.new)) }
-    ensures front { result ≡ 5 → AsksForHelp (map S.text words.now) ⊎ OfFile (O.content opener.old) (map S.text words.now) (WritesPart (W.contents out.old) (W.contents out.new)) }
+    ensures first { result ≡ 4 → (out.new ≡ out.old)
+        ⊎ OfFile (O.content opener.old) (map S.text words.now) (WritesSome (W.contents out.old) (W.contents out.new)) }
+    ensures front { result ≡ 5 → AsksForHelp (map S.text words.now)
+        ⊎ OfFile (O.content opener.old) (map S.text words.now) (WritesPart (W.contents out.old) (W.contents out.new)) }
 {
     match request_of(alloc, words) {
         Ok(request) => {
@@ -63,9 +67,12 @@ fn perform<O: Opener, W: Write, T: Threads + Wait + Copy + Send + 'static>(
     opener: &mut O,
     out: &mut W,
 ) -> Result<(), RunError>
-    ensures written { OnOk result (IfSome (O.content opener.old request.now.file.now) (WritesAll (W.contents out.old) (W.contents out.new) (work_of request.now.job))) }
-    ensures first { status_of result ≡ 4 → (out.new ≡ out.old) ⊎ IfSome (O.content opener.old request.now.file.now) (WritesSome (W.contents out.old) (W.contents out.new) (work_of request.now.job)) }
-    ensures front { result ≡ Err Write → IfSome (O.content opener.old request.now.file.now) (WritesPart (W.contents out.old) (W.contents out.new) (work_of request.now.job)) }
+    ensures written { OnOk result (IfSome (O.content opener.old request.now.file.now) (WritesAll (W.contents out.old)
+        (W.contents out.new) (work_of request.now.job))) }
+    ensures first { status_of result ≡ 4 → (out.new ≡ out.old)
+        ⊎ IfSome (O.content opener.old request.now.file.now) (WritesSome (W.contents out.old) (W.contents out.new) (work_of request.now.job)) }
+    ensures front { result ≡ Err Write
+        → IfSome (O.content opener.old request.now.file.now) (WritesPart (W.contents out.old) (W.contents out.new) (work_of request.now.job)) }
     ensures nothing { (fault : script.ScriptFault) → result ≡ Err (Script fault) → out.new ≡ out.old }
 {
     let mut source = opener.open(request.file).map_err(RunError::Script)?;

@@ -8,11 +8,11 @@ use std::io::Write;
 pub const DONE: u8 = 0;
 /// The words of the command line were refused.
 pub const BAD_WORDS: u8 = 2;
-/// The file can't be read, or has no script.
+// The file can't be read, or has no script.
 const BAD_SCRIPT: u8 = 3;
-/// There was no run: memory or a thread was refused, or the order isn't lawful.
+// There was no run: memory or a thread was refused, or the order isn't lawful.
 const NO_RUN: u8 = 4;
-/// The output could not be written.
+// The output could not be written.
 const BAD_OUTPUT: u8 = 5;
 
 /// The status of a run, whose error is told.

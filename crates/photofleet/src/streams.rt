@@ -26,9 +26,12 @@ pub fn workers_stream<R: Read, W: Write, T: Threads + Wait + Copy + Send + 'stat
     writer: &mut W,
     workers: Workers,
 ) -> Result<(), RunError>
-    ensures written { OnOk result (IfSome (R.remaining reader.old) (WritesAll (W.contents writer.old) (W.contents writer.new) (run workers))) }
-    ensures first { result ≡ Err NoMemory → (writer.new ≡ writer.old) ⊎ IfSome (R.remaining reader.old) (WritesSome (W.contents writer.old) (W.contents writer.new) (run workers)) }
-    ensures front { result ≡ Err Write → IfSome (R.remaining reader.old) (WritesPart (W.contents writer.old) (W.contents writer.new) (run workers)) }
+    ensures written { OnOk result (IfSome (R.remaining reader.old) (WritesAll (W.contents writer.old)
+        (W.contents writer.new) (run workers))) }
+    ensures first { result ≡ Err NoMemory → (writer.new ≡ writer.old)
+        ⊎ IfSome (R.remaining reader.old) (WritesSome (W.contents writer.old) (W.contents writer.new) (run workers)) }
+    ensures front { result ≡ Err Write
+        → IfSome (R.remaining reader.old) (WritesPart (W.contents writer.old) (W.contents writer.new) (run workers)) }
     ensures nothing { (fault : ScriptFault) → result ≡ Err (Script fault) → writer.new ≡ writer.old }
     ensures nothing_without_worker { result ≡ Err NoWorker → writer.new ≡ writer.old }
     ensures err { IfErr result IsOfWorkersRun }
@@ -49,10 +52,14 @@ pub fn replay_stream<R: Read, W: Write>(
     writer: &mut W,
     order: &[u32],
 ) -> Result<(), RunError>
-    ensures written { OnOk result (IfSome (R.remaining reader.old) (WritesAll (W.contents writer.old) (W.contents writer.new) (replay order.now))) }
-    ensures first { result ≡ Err NoMemory → (writer.new ≡ writer.old) ⊎ IfSome (R.remaining reader.old) (WritesSome (W.contents writer.old) (W.contents writer.new) (replay order.now)) }
-    ensures front { result ≡ Err Write → IfSome (R.remaining reader.old) (WritesPart (W.contents writer.old) (W.contents writer.new) (replay order.now)) }
-    ensures unlawful { result ≡ Err NotLawful → (writer.new ≡ writer.old) × IfSome (R.remaining reader.old) (λ input. IsUnlawfulFor input order.now) }
+    ensures written { OnOk result (IfSome (R.remaining reader.old) (WritesAll (W.contents writer.old)
+        (W.contents writer.new) (replay order.now))) }
+    ensures first { result ≡ Err NoMemory → (writer.new ≡ writer.old)
+        ⊎ IfSome (R.remaining reader.old) (WritesSome (W.contents writer.old) (W.contents writer.new) (replay order.now)) }
+    ensures front { result ≡ Err Write
+        → IfSome (R.remaining reader.old) (WritesPart (W.contents writer.old) (W.contents writer.new) (replay order.now)) }
+    ensures unlawful { result ≡ Err NotLawful → (writer.new ≡ writer.old)
+        × IfSome (R.remaining reader.old) (λ input. IsUnlawfulFor input order.now) }
     ensures nothing { (fault : ScriptFault) → result ≡ Err (Script fault) → writer.new ≡ writer.old }
     ensures err { IfErr result (λ e. e ≢ NoWorker) }
 {
@@ -73,8 +80,10 @@ pub fn plan_stream<R: Read, W: Write>(
     writer: &mut W,
 ) -> Result<(), RunError>
     ensures written { OnOk result (IfSome (R.remaining reader.old) (WritesAll (W.contents writer.old) (W.contents writer.new) batches)) }
-    ensures first { result ≡ Err NoMemory → (writer.new ≡ writer.old) ⊎ IfSome (R.remaining reader.old) (WritesSome (W.contents writer.old) (W.contents writer.new) batches) }
-    ensures front { result ≡ Err Write → IfSome (R.remaining reader.old) (WritesPart (W.contents writer.old) (W.contents writer.new) batches) }
+    ensures first { result ≡ Err NoMemory → (writer.new ≡ writer.old)
+        ⊎ IfSome (R.remaining reader.old) (WritesSome (W.contents writer.old) (W.contents writer.new) batches) }
+    ensures front { result ≡ Err Write
+        → IfSome (R.remaining reader.old) (WritesPart (W.contents writer.old) (W.contents writer.new) batches) }
     ensures nothing { (fault : ScriptFault) → result ≡ Err (Script fault) → writer.new ≡ writer.old }
     ensures err { IfErr result IsOfPlainRun }
 {

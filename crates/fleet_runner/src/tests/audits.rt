@@ -92,9 +92,9 @@ const REMOVAL: &str =
 // The knowledge of a camera that stopped after its first version.
 fn first_known(alloc: Global) -> Option<Knowledge>
     ensures star { IfSome result
-        (λ k. (a : authors.Author) → star_bound k a ≡ (if authors.same_author (authors.author 0) a then 1 else 0)) }
+        (λ k. (a : authors.Author) → star_bound k.known a ≡ (if authors.same_author (authors.author 0) a then 1 else 0)) }
     ensures known { IfSome result (λ k. (p : ℕ) (v : versions.Version) → 0 < p
-        → knows k p v ≡ versions.same_version (versions.version (authors.author 0) 1) v) }
+        → knows k.known p v ≡ versions.same_version (versions.version (authors.author 0) 1) v) }
 {
     let Some(version) = Version::new(Author::new(0), 1) else {
         return None;
@@ -110,9 +110,9 @@ fn first_known(alloc: Global) -> Option<Knowledge>
 
 // A device that made and holds nothing, with that knowledge.
 fn knowing(device: Device, knowledge: Knowledge) -> Option<Device>
-    requires star { (a : authors.Author) → star_bound knowledge a ≡ (if authors.same_author (authors.author 0) a then 1 else 0) }
+    requires star { (a : authors.Author) → star_bound knowledge.known a ≡ (if authors.same_author (authors.author 0) a then 1 else 0) }
     requires known { (p : ℕ) (v : versions.Version) → 0 < p
-        → knows knowledge p v ≡ versions.same_version (versions.version (authors.author 0) 1) v }
+        → knows knowledge.known p v ≡ versions.same_version (versions.version (authors.author 0) 1) v }
 {
     if device.author().value() == 0 || device.counter() != 0 {
         return None;

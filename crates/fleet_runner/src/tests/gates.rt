@@ -15,17 +15,17 @@ use std::sync::{Arc, Mutex, Wait};
 use std::thread;
 use std::thread::Threads;
 
-/// After how many turns a gate that waits gives up.
+// After how many turns a gate that waits gives up.
 const MOST_TURNS: u32 = 10_000_000;
 
-/// What all four devices' commands count.
+// What all four devices' commands count.
 const ALL: [u64; 4] = [2, 4, 1, 4];
 
 fn is_shown(shown: Option<Totals>, wanted: [u64; 4]) -> bool {
     shown == Some(totals(wanted))
 }
 
-/// What was shown after some commands, and whether the first one waited until the second had been shown something.
+// What was shown after some commands, and whether the first one waited until the second had been shown something.
 #[derive(Clone, Copy)]
 struct Shown {
     first: Option<Totals>,
@@ -34,7 +34,7 @@ struct Shown {
     in_turn: bool,
 }
 
-/// Holds the first command back until the second has run.
+// Holds the first command back until the second has run.
 #[derive(Drop)]
 struct FirstLast<R: Wait + Copy> {
     rt: R,
@@ -112,7 +112,7 @@ fn a_command_that_waits_for_a_later_one(rt: HostRuntime) {
     assert!(rt; first_runs_last(rt, rt.alloc()));
 }
 
-/// Which of two commands have come, and which has met the other.
+// Which of two commands have come, and which has met the other.
 #[derive(Clone, Copy)]
 struct Come {
     first: bool,
@@ -121,7 +121,7 @@ struct Come {
     second_met: bool,
 }
 
-/// Lets neither of the first two commands run before both have come.
+// Lets neither of the first two commands run before both have come.
 #[derive(Drop)]
 struct Meeting<R: Wait + Copy> {
     rt: R,
@@ -193,7 +193,7 @@ fn two_commands_that_wait_for_each_other(rt: HostRuntime) {
     assert!(rt; commands_meet(rt, rt.alloc()));
 }
 
-/// Counts the calls of a gate, the writes of a writer, and the calls that came after a write.
+// Counts the calls of a gate, the writes of a writer, and the calls that came after a write.
 #[derive(Drop)]
 struct Watch {
     calls: AtomicU64,
@@ -235,7 +235,7 @@ impl Gate for Watch {
     }
 }
 
-/// A writer that is watched.
+// A writer that is watched.
 #[derive(Drop)]
 struct Watched {
     sink: Sink,

@@ -50,7 +50,7 @@ fn questions_that_are_refused(rt: HostRuntime) {
     }
 }
 
-/// Whether a script of one device and that line is refused for that fault of the line.
+// Whether a script of one device and that line is refused for that fault of the line.
 fn is_refused<T: Threads + Wait + Copy + Send + 'static>(
     rt: T,
     alloc: Global,

@@ -4,7 +4,7 @@ use photo_record::{PicNo, Record};
 use photo_version::Version;
 use std::alloc::Global;
 
-/// The number of the version that was made, and its place. None where nothing of the picture is held.
+// The number of the version that was made, and its place. None where nothing of the picture is held.
 fn told(change: Result<(Version, Place), ChangeFault>) -> Option<Option<(u32, Place)>> {
     match change {
         Ok((version, place)) => Some(Some((version.n(), place))),
@@ -13,7 +13,7 @@ fn told(change: Result<(Version, Place), ChangeFault>) -> Option<Option<(u32, Pl
     }
 }
 
-/// Edits a picture to that record.
+// Edits a picture to that record.
 fn edited_to(device: &mut Device, number: u32, content: &Record) -> Option<Option<(u32, Place)>> {
     let picture = PicNo::new(number)?;
     if device.counter() == u32::MAX {
@@ -22,13 +22,13 @@ fn edited_to(device: &mut Device, number: u32, content: &Record) -> Option<Optio
     told(device.edit(picture, content))
 }
 
-/// Edits picture 7 to that rating.
+// Edits picture 7 to that rating.
 fn edited(alloc: Global, device: &mut Device, rating: u8) -> Option<Option<(u32, Place)>> {
     let content = rated(alloc, rating)?;
     edited_to(device, 7, &content)
 }
 
-/// Removes picture 7.
+// Removes picture 7.
 fn removed(device: &mut Device) -> Option<Option<(u32, Place)>> {
     let picture = PicNo::new(7)?;
     if device.counter() == u32::MAX {
@@ -37,12 +37,12 @@ fn removed(device: &mut Device) -> Option<Option<(u32, Place)>> {
     told(device.remove(picture))
 }
 
-/// Whether an edit of picture 7 to that rating makes the version of that number, in that place.
+// Whether an edit of picture 7 to that rating makes the version of that number, in that place.
 fn edits(alloc: Global, device: &mut Device, rating: u8, made: (u32, Place)) -> bool {
     edited(alloc, device, rating) == Some(Some(made))
 }
 
-/// Whether a removal of picture 7 makes the version of that number, in the out.
+// Whether a removal of picture 7 makes the version of that number, in the out.
 fn removes(device: &mut Device, number: u32) -> bool {
     removed(device) == Some(Some((number, Place::Out)))
 }
@@ -87,7 +87,7 @@ fn what_is_not_held_stays_so(rt: HostRuntime) {
     assert!(rt; on_device(rt.alloc(), 0, "all", leaves_others));
 }
 
-/// Whether that is the text of a fault.
+// Whether that is the text of a fault.
 fn is_shown(alloc: Global, fault: ChangeFault, wanted: &str) -> bool {
     match fault.to_string(alloc) {
         Ok(text) => text.as_str() == wanted,

@@ -1,9 +1,9 @@
-use super::{filter_of, is_matched, lists, made_all, on_device};
-use crate::{Device, NarrowFault};
+use super::{are, filter_of, is_matched, lists, made_all, on_device};
+use crate::{Device, Held, NarrowFault};
 use photo_version::Version;
 use std::alloc::Global;
 
-/// How many versions go where a device narrows.
+// How many versions go where a device narrows.
 fn narrowed(alloc: Global, device: &mut Device, text: &str) -> Option<u64> {
     match filter_of(alloc, text) {
         Some(filter) => device.narrow(filter).ok(),
@@ -11,7 +11,7 @@ fn narrowed(alloc: Global, device: &mut Device, text: &str) -> Option<u64> {
     }
 }
 
-/// Whether a device is not narrowed, and the filter that it gives back matches a record of that rating.
+// Whether a device is not narrowed, and the filter that it gives back matches a record of that rating.
 fn gives_back(alloc: Global, device: &mut Device, text: &str, rating: u8) -> Option<bool> {
     let filter = filter_of(alloc, text)?;
     match device.narrow(filter) {
@@ -20,7 +20,7 @@ fn gives_back(alloc: Global, device: &mut Device, text: &str, rating: u8) -> Opt
     }
 }
 
-/// Whether a device of four versions keeps just the third, and the others wait in its out.
+// Whether a device of four versions keeps just the third, and the others wait in its out.
 fn keeps_the_third(device: &Device) -> bool {
     lists(device.store(), &[(3, 3)]) && lists(device.out(), &[(1, 1), (2, 2), (4, 4)])
 }
@@ -39,22 +39,26 @@ fn what_no_longer_matches_goes_to_the_out(rt: HostRuntime) {
     assert!(rt; on_device(rt.alloc(), 0, "rating >= 2", narrows));
 }
 
-/// Gives up, in the out alone, the device's versions of those numbers.
-fn drops(device: &mut Device, numbers: (u32, u32)) -> Option<()> {
-    let first = Version::new(device.author(), numbers.0)?;
-    let second = Version::new(device.author(), numbers.1)?;
-    device.drop_out(&[first, second]);
+// Hands over the device's version of that number, where it holds it in the out.
+fn hands_over(device: &mut Device, n: u32, handed: &mut Vec<Held>) -> Option<()> {
+    let version = Version::new(device.author(), n)?;
+    handed.reserve(1).ok()?;
+    device.hand_over(&[version], handed);
     Some(())
 }
 
-fn drops_what_waits(alloc: Global, device: &mut Device) -> bool {
+fn hands_over_what_waits(alloc: Global, device: &mut Device) -> bool {
+    let mut handed = Vec::new(alloc);
     made_all(alloc, device, &[(1, 2), (2, 3), (3, 1)])
-        && drops(device, (2, 1)).is_some()
+        && hands_over(device, 3, &mut handed).is_some()
+        && hands_over(device, 2, &mut handed).is_some()
+        && hands_over(device, 1, &mut handed).is_some()
         && lists(device.store(), &[(2, 2)])
-        && lists(device.out(), &[(3, 3)])
+        && device.out().is_empty()
+        && are(&handed, &[(3, 3), (1, 1)])
 }
 
 #[test]
-fn the_out_gives_up_versions(rt: HostRuntime) {
-    assert!(rt; on_device(rt.alloc(), 0, "rating >= 3", drops_what_waits));
+fn the_out_hands_over_versions(rt: HostRuntime) {
+    assert!(rt; on_device(rt.alloc(), 0, "rating >= 3", hands_over_what_waits));
 }

@@ -3,7 +3,7 @@ use crate::{HeldSet, Spot};
 use photo_record::PicNo;
 use std::alloc::Global;
 
-/// Two versions of every third picture, `n` in all: so many blocks that a hint can be in another.
+// Two versions of every third picture, `n` in all: so many blocks that a hint can be in another.
 fn filled(alloc: Global, n: u32) -> Option<HeldSet> {
     let mut set = HeldSet::new(alloc);
     if fill(alloc, &mut set, n) {
@@ -28,7 +28,7 @@ fn fill(alloc: Global, set: &mut HeldSet, n: u32) -> bool {
     true
 }
 
-/// Asks for a version of a picture with a hint, and gives the next hint where `has` answers the same.
+// Asks for a version of a picture with a hint, and gives the next hint where `has` answers the same.
 fn asked(set: &HeldSet, near: Spot, picture: u32, author: u16) -> Option<Spot> {
     let number = (picture / 3)
         .wrapping_mul(2)
@@ -44,7 +44,7 @@ fn asked(set: &HeldSet, near: Spot, picture: u32, author: u16) -> Option<Spot> {
     }
 }
 
-/// Whether questions are answered like `has` does, each with the hint of the one before.
+// Whether questions are answered like `has` does, each with the hint of the one before.
 fn follows(set: &HeldSet, step: u32) -> bool {
     let mut near = Spot::start();
     for k in 0..480_u32 {
@@ -64,7 +64,7 @@ fn is_told_near(alloc: Global, step: u32) -> bool {
     }
 }
 
-/// Rising, rising by few and by many, falling, and here and there.
+// Rising, rising by few and by many, falling, and here and there.
 const STEPS: &[u32] = &[1, 7, 77, 479, 211];
 
 #[test]
@@ -74,14 +74,14 @@ fn a_hint_changes_no_answer(rt: HostRuntime) {
     }
 }
 
-/// Where a search for that picture ends.
+// Where a search for that picture ends.
 fn end_of(set: &HeldSet, picture: u32) -> Option<Spot> {
     let picture = PicNo::new(picture)?;
     let version = version(0, 1)?;
     Some(set.has_near(Spot::start(), picture, version).1)
 }
 
-/// Whether questions are answered like `has` does, each with the same hint.
+// Whether questions are answered like `has` does, each with the same hint.
 fn stays(set: &HeldSet, near: Spot) -> bool {
     for picture in 3..480 {
         if asked(set, near, picture, (picture / 3 % 2) as u16).is_none() {
@@ -91,7 +91,7 @@ fn stays(set: &HeldSet, near: Spot) -> bool {
     true
 }
 
-/// Whether a set is told by hints from a longer one, from its end and from its middle.
+// Whether a set is told by hints from a longer one, from its end and from its middle.
 fn is_told_by(set: &HeldSet, longer: &HeldSet) -> bool {
     match (end_of(longer, 900), end_of(longer, 300)) {
         (Some(end), Some(middle)) => stays(set, end) && stays(set, middle),

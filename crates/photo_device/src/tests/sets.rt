@@ -45,7 +45,7 @@ fn put_all(alloc: Global, set: &mut HeldSet, rows: &[Row]) -> bool {
     true
 }
 
-/// Whether a set has that version of that picture.
+// Whether a set has that version of that picture.
 fn has(set: &HeldSet, picture: u32, author: u16, number: u32) -> Option<bool> {
     Some(set.has(PicNo::new(picture)?, version(author, number)?))
 }
@@ -80,7 +80,7 @@ fn versions_are_put_in_order_and_found(rt: HostRuntime) {
     assert!(rt; puts_in_order(rt.alloc()));
 }
 
-/// The versions of those authors and numbers.
+// The versions of those authors and numbers.
 fn versions(alloc: Global, named: &[(u16, u32)]) -> Option<Vec<Version>> {
     let mut versions = Vec::new(alloc);
     for (author, number) in named {
@@ -99,7 +99,7 @@ fn drops(alloc: Global, set: &mut HeldSet, named: &[(u16, u32)]) -> bool {
     }
 }
 
-/// What is given up, and what is left.
+// What is given up, and what is left.
 const DROPPED: &[(&[(u16, u32)], &[(u32, u32)])] = &[
     (&[], &[(3, 1), (5, 4), (5, 7), (5, 2), (9, 3)]),
     (&[(0, 4), (0, 5), (0, 7)], &[(3, 1), (5, 2), (9, 3)]),
@@ -142,7 +142,7 @@ fn what_the_filter_matches_is_kept(rt: HostRuntime) {
     assert!(rt; keeps_matched(rt.alloc()));
 }
 
-/// Whether a conflict is of that picture, with the versions of those authors and numbers.
+// Whether a conflict is of that picture, with the versions of those authors and numbers.
 fn is_of(conflict: &Conflict, picture: u32, named: &[(u16, u32)]) -> bool {
     if conflict.picture.value() != picture || conflict.versions.len() != named.len() {
         return false;
@@ -156,7 +156,7 @@ fn is_of(conflict: &Conflict, picture: u32, named: &[(u16, u32)]) -> bool {
     true
 }
 
-/// Whether two sets together have those two conflicts.
+// Whether two sets together have those two conflicts.
 fn conflict(alloc: Global, store: &HeldSet, out: &HeldSet) -> bool {
     match conflicts_of(alloc, store, out) {
         Ok(list) => {
@@ -181,7 +181,7 @@ fn conflicts_are_told_of_both_sets(rt: HostRuntime) {
     assert!(rt; two_sets_conflict(rt.alloc()));
 }
 
-/// Puts a version of each of the pictures 1 to 45, and then picture 46's of two authors, from that one on.
+// Puts a version of each of the pictures 1 to 45, and then picture 46's of two authors, from that one on.
 fn put_many(alloc: Global, set: &mut HeldSet, first: u16) -> bool
     requires { first ≤ 100 }
 {
@@ -193,7 +193,7 @@ fn put_many(alloc: Global, set: &mut HeldSet, first: u16) -> bool
     put_all(alloc, set, &[(46, first, 46, 5), (46, first + 1, 1, 5)])
 }
 
-/// Whether two sets together have so many conflicts, of which the last is that of picture 46 in five versions.
+// Whether two sets together have so many conflicts, of which the last is that of picture 46 in five versions.
 fn conflict_in_five(alloc: Global, store: &HeldSet, out: &HeldSet) -> bool {
     match conflicts_of(alloc, store, out) {
         Ok(list) => {

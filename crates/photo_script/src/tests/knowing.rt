@@ -36,7 +36,7 @@ fn questions(rt: HostRuntime) {
     }
 }
 
-/// The `n`th version of a device.
+// The `n`th version of a device.
 fn version(device: u16, n: u32) -> Version
     requires { 0 < n }
     ensures { result ≡ versions.version (author device) n }
@@ -65,12 +65,12 @@ fn questions_are_commands(rt: HostRuntime) {
     assert!(rt; picture.value() == 7 && *asked == version(1, 100_000));
 }
 
-/// A script of two devices.
+// A script of two devices.
 fn two_devices(alloc: Global) -> Option<Script> {
     read_script(alloc, b"device a all\ndevice b all").ok()
 }
 
-/// The text of the answer to a question.
+// The text of the answer to a question.
 fn answer_text(alloc: Global, known: bool) -> Option<String> {
     let script = two_devices(alloc)?;
     report_text(alloc, &script, 8, &Report::Knows(known)).ok()
@@ -84,7 +84,7 @@ fn text_of_knows(rt: HostRuntime) {
     }
 }
 
-/// Whether a fragment's authors are devices of the script.
+// Whether a fragment's authors are devices of the script.
 fn is_fragment_of(script: &Script, fragment: &Fragment<'_>) -> bool
     ensures { result ≡ true → IsFragmentOfScript script.now fragment.now }
 {
@@ -97,9 +97,9 @@ fn is_fragment_of(script: &Script, fragment: &Fragment<'_>) -> bool
     true
 }
 
-/// The same of a knowledge.
+// The same of a knowledge.
 fn is_knowledge_of(script: &Script, knowledge: &Knowledge) -> bool
-    ensures { result ≡ true → AllByRecursion (IsFragmentOfScript script.now) knowledge.now }
+    ensures { result ≡ true → AllByRecursion (IsFragmentOfScript script.now) knowledge.now.known }
 {
     for k in 0..knowledge.fragments() {
         if !is_fragment_of(script, &knowledge.fragment(k)) {
@@ -109,7 +109,7 @@ fn is_knowledge_of(script: &Script, knowledge: &Knowledge) -> bool
     true
 }
 
-/// The text of what a device knows, where its authors are devices of the script.
+// The text of what a device knows, where its authors are devices of the script.
 fn text_in(
     alloc: Global,
     script: &Script,
@@ -124,20 +124,20 @@ fn text_in(
     report_text(alloc, script, number, &report).ok()
 }
 
-/// The same in a script of two devices.
+// The same in a script of two devices.
 fn known_text(alloc: Global, number: u32, device: u16, knowledge: Knowledge) -> Option<String> {
     let script = two_devices(alloc)?;
     text_in(alloc, &script, number, device, knowledge)
 }
 
-/// One version of every picture.
+// One version of every picture.
 fn star(alloc: Global) -> Result<Knowledge, Fail> {
     let mut knowledge = Knowledge::new(alloc)?;
     knowledge.learn_own(version(0, 1))?;
     Ok(knowledge)
 }
 
-/// Of a picture all versions of a device up to the `n`th.
+// Of a picture all versions of a device up to the `n`th.
 fn learn(alloc: Global, knowledge: &mut Knowledge, number: u32, n: u32) -> Result<(), Fail>
     requires { 0 < n }
 {

@@ -1,5 +1,5 @@
 use super::memory::{Full, OUTPUT, SCRIPT, Shelf, Sink, does, runs, serves};
-use crate::arguments::{arguments, words_in};
+use crate::arguments::Arguments;
 use crate::refusals::without_words;
 use crate::serve::serve;
 use std::alloc::Global;
@@ -283,23 +283,24 @@ impl Env for Given<'_> {
 
 // Whether these words are given as they are, or not where one isn't UTF-8.
 fn are_given(alloc: Global, words: &[&[u8]], is_text: bool) -> bool {
-    match arguments(&Given { words }, alloc) {
-        Ok(text) => is_text && are_in(alloc, &text, words),
+    match Arguments::read(&Given { words }, alloc) {
+        Ok(given) => are_in(alloc, &given, words, is_text),
         Err(error) => !is_text && error.kind() == io::ErrorKind::InvalidData,
     }
 }
 
-// Whether a text has these words.
-fn are_in(alloc: Global, text: &str, words: &[&[u8]]) -> bool {
-    match words_in(alloc, text) {
+// Whether these words were read, or have one that isn't UTF-8.
+fn are_in(alloc: Global, given: &Arguments, words: &[&[u8]], is_text: bool) -> bool {
+    match given.words(alloc) {
         Ok(given) => {
-            given.len() == words.len()
+            is_text
+                && given.len() == words.len()
                 && given
                     .iter()
                     .zip(words)
                     .all(|(given, word)| given.as_bytes() == *word)
         }
-        Err(_) => false,
+        Err(error) => !is_text && error.kind() == io::ErrorKind::InvalidData,
     }
 }
 
@@ -310,6 +311,7 @@ const GIVEN: &[(&[&[u8]], bool)] = &[
     (&[b"photofleet", b"", LONG, b"plain"], true),
     (&[LONG, b"\xc3\xa9", b"1"], true),
     (&[b"photofleet", b"a\xff"], false),
+    (&[b"photofleet", b"a\xc3", b"\xa9"], false),
 ];
 
 #[test]

@@ -1,8 +1,8 @@
-use Rattle.std.proofs.Common.{◌≡◌, ◌<◌, length}
+use Rattle.std.proofs.Common.{◌≤◌, length}
 use Rattle.std.specs.Prelude.{vec_capacity}
 use Rattle.std.specs.List.{All}
-use Rattle.block_list.specs.Room.{IsSpare}
+use Rattle.block_list.specs.Spares.{IsSpare}
 use Rattle.block_list.proofs.spare.spare_blocks.Given as goal
 
 abbrev pub invariant-loop-i : goal.invariant-loop-i
-invariant-loop-i g l = (length l.blocks.items ≡ l.i) × All IsSpare l.blocks.items × (l.count < vec_capacity l.blocks)
+invariant-loop-i g l = (length l.blocks.items ≤ l.i) × All IsSpare l.blocks.items × (l.count ≤ vec_capacity l.blocks)

@@ -2,6 +2,7 @@ use Rattle.std.proofs.Common.{◌≡◌, get_or, refl, sym, ap, ◌∙◌, arith
 use Rattle.photo_version.specs.Author.{device_of_author}
 use Rattle.photo_script.specs.Contents.{devices_of}
 use Rattle.fleet_steps.proofs.Between.{no_author, one_shows, one_tells, one_wants}
+use Rattle.fleet_steps.proofs.Settled.{one_as_it_was, one_settled}
 use Rattle.fleet_steps.proofs.fleet.run_on.Goals as goal
 
 pub returns-in_default-None-clause-devices : goal.returns-in_default-None-clause-devices
@@ -29,3 +30,16 @@ returns-in_default-None-clause-memory c =
     let d = c.index-devices-from.result in
     let place : c.from.result ≡ (devices_of command).0 = c.from.ensures ∙ c.value.ensures ∙ ap device_of_author c.devices_of.ensures.first in
     one_wants c.run_command.result devices command c.from.result d (get_or devices c.from.result d) place refl (omega arith) c.run_command.ensures.memory
+
+pub returns-in_default-None-clause-err : goal.returns-in_default-None-clause-err
+returns-in_default-None-clause-err c =
+    let d = c.index-devices-from.result in
+    one_as_it_was c.run_command.result c.args.devices.now c.from.result d (get_or c.args.devices.now c.from.result d) c.run_command.new.device refl c.run_command.ensures.err
+
+pub returns-in_default-None-clause-staged : goal.returns-in_default-None-clause-staged
+returns-in_default-None-clause-staged c =
+    let devices = c.args.devices.now in
+    let command = c.args.command.now in
+    let d = c.index-devices-from.result in
+    let place : c.from.result ≡ (devices_of command).0 = c.from.ensures ∙ c.value.ensures ∙ ap device_of_author c.devices_of.ensures.first in
+    one_settled devices c.from.result d (get_or devices c.from.result d) c.run_command.new.device refl (omega arith) c.run_command.ensures.staged

@@ -8,8 +8,8 @@ pub loop-i-preserved : goal.loop-i-preserved
 loop-i-preserved c =
     let t = c.index-table-i.result in
     let got : slice_get c.args.table.now c.loop-i.i ≡ Some t = slice_get-get_or c.args.table.now c.loop-i.i t c.loop-i-test.true ∙ ap Some (sym c.index-table-i.is) in
-    let known : HasAll c.args.knowledge.now t.0 t.1 = c.has_vector-known.ensures c.if-not-known.false in
-    record { rest = λ h. c.loop-i.invariant.rest (row_had c.args.knowledge.now c.args.table.now c.loop-i.i t got known h) }
+    let known : HasAll c.args.knowledge.now.known t.0 t.1 = c.has_vector-known.ensures c.if-not-known.false in
+    record { rest = λ h. c.loop-i.invariant.rest (row_had c.args.knowledge.now.known c.args.table.now c.loop-i.i t got known h) }
 
 pub returns : goal.returns
-returns c is = c.loop-i.invariant.rest (table_had c.args.knowledge.now c.args.table.now c.loop-i.i (omega arith))
+returns c is = c.loop-i.invariant.rest (table_had c.args.knowledge.now.known c.args.table.now c.loop-i.i (omega arith))

@@ -3,4 +3,4 @@ use Rattle.item_knowledge.proofs.HadLemmas.{HasTable}
 use Rattle.item_knowledge.proofs.had.has_table.Given as goal
 
 abbrev pub invariant-loop-i : goal.invariant-loop-i
-invariant-loop-i l = record { rest : HasTable l.knowledge (drop l.i l.table) → HasTable l.knowledge l.table }
+invariant-loop-i l = record { rest : HasTable l.knowledge.known (drop l.i l.table) → HasTable l.knowledge.known l.table }

@@ -3,4 +3,4 @@ use Rattle.item_knowledge.proofs.HadLemmas.{HasAll}
 use Rattle.item_knowledge.proofs.had.has_vector.Given as goal
 
 abbrev pub invariant-loop-i : goal.invariant-loop-i
-invariant-loop-i l = record { rest : HasAll l.knowledge l.picture (drop l.i l.vector) → HasAll l.knowledge l.picture l.vector }
+invariant-loop-i l = record { rest : HasAll l.knowledge.known l.picture (drop l.i l.vector) → HasAll l.knowledge.known l.picture l.vector }

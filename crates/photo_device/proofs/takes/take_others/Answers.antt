@@ -12,8 +12,8 @@ use Rattle.photo_device.proofs.takes.take_others.Goals as goal
 pub loop-block-init : goal.loop-block-init
 loop-block-init c = is_starting false c.args.wanted.now _ c.args.out.now (subst (AreNewTo c.args.out.now) (sym c.blocks-block-items.ensures.value) c.requires)
 
-pub put_side-requires : goal.put_side-requires
-put_side-requires c =
+pub put_others-requires : goal.put_others-requires
+put_others-requires c =
     let blocks = c.blocks-block-items.result.now in
     let next = next_block blocks c.loop-block.block-index c.block-item.result c.loop-block-test.true c.block-item.is in
     let left = joined (drop (c.loop-block.block-index + 1) blocks) in

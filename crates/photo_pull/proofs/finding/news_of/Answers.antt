@@ -8,9 +8,9 @@ use Rattle.photo_pull.proofs.finding.news_of.Goals as goal
 pub returns-clause-stored_earlier : goal.returns-clause-stored_earlier
 returns-clause-stored_earlier c =
     subst (AllByRecursion HasEarlier) (sym c.in_ok-stored.ensures.items)
-    (all_filter HasEarlier (is_new c.knowledge-known.result.now) c.store.result.now (subst (AllByRecursion HasEarlier) (sym c.store.ensures.value) c.store.ensures.device.store))
+    (all_filter HasEarlier (is_new c.knowledge-known.result.now.known) c.store.result.now (subst (AllByRecursion HasEarlier) (sym c.store.ensures.value) c.store.ensures.device.store))
 
 pub returns-clause-waiting_earlier : goal.returns-clause-waiting_earlier
 returns-clause-waiting_earlier c =
     subst (AllByRecursion HasEarlier) (sym c.in_ok-waiting.ensures.items)
-    (all_filter HasEarlier (is_new c.knowledge-known.result.now) c.out.result.now (subst (AllByRecursion HasEarlier) (sym c.out.ensures.value) c.out.ensures.device.out))
+    (all_filter HasEarlier (is_new c.knowledge-known.result.now.known) c.out.result.now (subst (AllByRecursion HasEarlier) (sym c.out.ensures.value) c.out.ensures.device.out))

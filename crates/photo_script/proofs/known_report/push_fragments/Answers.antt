@@ -7,4 +7,4 @@ use Rattle.photo_script.proofs.known_report.push_fragments.Goals as goal
 pub returns : goal.returns
 returns c =
     let old = string_bytes c.args.text.now in
-    c.loop-k.invariant ∙ ap (λ fragments. old ++ flat_map (fragment_text c.args.script.now) fragments) (take_all c.loop-k.k c.args.knowledge.now (omega arith))
+    c.loop-k.invariant ∙ ap (λ fragments. old ++ flat_map (fragment_text c.args.script.now) fragments) (take_all c.loop-k.k c.args.knowledge.now.known (omega arith))

@@ -4,4 +4,4 @@ use Rattle.photo_script.specs.Reports.{fragment_text}
 use Rattle.photo_script.proofs.known_report.push_fragments.Given as goal
 
 abbrev pub invariant-loop-k : goal.invariant-loop-k
-invariant-loop-k l = string_bytes l.text ≡ string_bytes l.fn.text ++ flat_map (fragment_text l.script) (take l.k l.knowledge)
+invariant-loop-k l = string_bytes l.text ≡ string_bytes l.fn.text ++ flat_map (fragment_text l.script) (take l.k l.knowledge.known)

@@ -5,19 +5,20 @@ use Rattle.item_knowledge.specs.Gathering.{IsSide}
 use Rattle.item_knowledge.specs.Kept.{is_side_within}
 use Rattle.item_knowledge.proofs.KeptLemmas.{kept_side}
 use Rattle.item_knowledge.proofs.WithinLemmas.{within_pairs}
+use Rattle.item_knowledge.proofs.StagedLemmas.{known_of}
 use Rattle.item_knowledge.proofs.knowledge.Knowledge.has_all.Goals as goal
 
 pub is_within-requires-clause-left : goal.is_within-requires-clause-left
-is_within-requires-clause-left c = subst (IsSide (fragments_of c.other.inside.live)) (sym c.deref.ensures.value) (kept_side c.other.inside.live c.other.inside.index.items c.other.invariant)
+is_within-requires-clause-left c = subst (IsSide (fragments_of c.other.inside.live)) (sym c.deref.ensures.value) (kept_side c.other.inside.live c.other.inside.index.items c.other.invariant.kept)
 
 pub is_within-requires-clause-right : goal.is_within-requires-clause-right
-is_within-requires-clause-right c = subst (IsSide (fragments_of c.self.inside.live)) (sym c.deref-2.ensures.value) (kept_side c.self.inside.live c.self.inside.index.items c.self.invariant)
+is_within-requires-clause-right c = subst (IsSide (fragments_of c.self.inside.live)) (sym c.deref-2.ensures.value) (kept_side c.self.inside.live c.self.inside.index.items c.self.invariant.kept)
 
 pub returns : goal.returns
 returns c =
     let is : c.is_within.result ≡ is_side_within (fragments_of c.other.inside.live) c.other.inside.index.items (fragments_of c.self.inside.live) c.self.inside.index.items =
     c.is_within.ensures ∙ (λ i. is_side_within (fragments_of c.other.inside.live) (c.deref.ensures.value i) (fragments_of c.self.inside.live) (c.deref-2.ensures.value i)) in
-    let both = within_pairs c.self.inside.live c.other.inside.live c.self.inside.index.items c.other.inside.index.items c.self.invariant c.other.invariant in (
-      λ yes_within p v z k. sym (ap (λ fs. knows fs p v) c.self.view_is) ∙ both.0 (sym is ∙ yes_within) p v z (ap (λ fs. knows fs p v) c.other.view_is ∙ k),
-      λ all. is ∙ both.1 (λ p v z k. ap (λ fs. knows fs p v) c.self.view_is ∙ all p v z (sym (ap (λ fs. knows fs p v) c.other.view_is) ∙ k)),
+    let both = within_pairs c.self.inside.live c.other.inside.live c.self.inside.index.items c.other.inside.index.items c.self.invariant.kept c.other.invariant.kept in (
+      λ yes_within p v z k. sym (ap (λ fs. knows fs p v) (known_of c.self.view_is)) ∙ both.0 (sym is ∙ yes_within) p v z (ap (λ fs. knows fs p v) (known_of c.other.view_is) ∙ k),
+      λ all. is ∙ both.1 (λ p v z k. ap (λ fs. knows fs p v) (known_of c.self.view_is) ∙ all p v z (sym (ap (λ fs. knows fs p v) (known_of c.other.view_is)) ∙ k)),
     )

@@ -10,6 +10,7 @@ use Rattle.item_knowledge.specs.Gathering.{vector_of, IsSide}
 use Rattle.item_knowledge.specs.Told.{told}
 use Rattle.item_knowledge.proofs.RowLemmas.{rows_rows, fragments_rows}
 use Rattle.item_knowledge.proofs.ToldLemmas.{one_side, one_knows}
+use Rattle.item_knowledge.proofs.StagedLemmas.{known_of}
 use Rattle.item_knowledge.proofs.knowledge.Knowledge.learn.Goals as goal
 
 pub take_union-requires-clause-rows : goal.take_union-requires-clause-rows
@@ -32,14 +33,14 @@ returns-clause-learned c p v z =
     let all = told ((q, c.args.vector.now) ∷ []) in
     let same : q ≡ c.args.picture = search rules in
     let rows : c.in_ok-rows.rows ≡ rows_of all = c.in_ok-rows.ensures.rows in
-    let l : knows c.take_union.new.self p v ≡ (knows c.args.self.now p v || denotes (vector_of (fragments_of c.in_ok-rows.rows) ((q, 1) ∷ []) p) v) = c.in_ok-take_union.ensures.learned p v z in
+    let l : knows c.take_union.new.self.known p v ≡ (knows c.unstage.new.self.known p v || denotes (vector_of (fragments_of c.in_ok-rows.rows) ((q, 1) ∷ []) p) v) = c.in_ok-take_union.ensures.learned p v z in
     l
-    ∙ (ap (λ fs. knows c.args.self.now p v || denotes (vector_of fs ((q, 1) ∷ []) p) v) (ap fragments_of rows ∙ fragments_rows all)
-    ∙ ap (λ b. knows c.args.self.now p v || b) (one_knows q c.args.vector.now p v ∙ ap (λ n. eqb n p && vectors.denotes c.args.vector.now v) same))
+    ∙ ((λ i. knows (known_of c.unstage.ensures i) p v || denotes (vector_of ((ap fragments_of rows ∙ fragments_rows all) i) ((q, 1) ∷ []) p) v)
+    ∙ ap (λ b. knows c.args.self.now.known p v || b) (one_knows q c.args.vector.now p v ∙ ap (λ n. eqb n p && vectors.denotes c.args.vector.now v) same))
 
 pub returns-clause-star : goal.returns-clause-star
 returns-clause-star c a =
     let all = told ((c.from-picture.result, c.args.vector.now) ∷ []) in
     let rows : c.in_ok-rows.rows ≡ rows_of all = c.in_ok-rows.ensures.rows in
-    let l : star_bound c.take_union.new.self a ≡ max (star_bound c.args.self.now a) (bound (entries_at (fragments_of c.in_ok-rows.rows) 0) (author_word a)) = c.in_ok-take_union.ensures.star a in
-    l ∙ (ap (λ rs. max (star_bound c.args.self.now a) (bound (entries_at (fragments_of rs) 0) (author_word a))) rows ∙ max-zero (star_bound c.args.self.now a))
+    let l : star_bound c.take_union.new.self.known a ≡ max (star_bound c.unstage.new.self.known a) (bound (entries_at (fragments_of c.in_ok-rows.rows) 0) (author_word a)) = c.in_ok-take_union.ensures.star a in
+    l ∙ ((λ i. max (star_bound (known_of c.unstage.ensures i) a) (bound (entries_at (fragments_of (rows i)) 0) (author_word a))) ∙ max-zero (star_bound c.args.self.now.known a))

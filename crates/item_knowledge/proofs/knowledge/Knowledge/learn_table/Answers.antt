@@ -12,6 +12,7 @@ use Rattle.item_knowledge.specs.Gathering.{vector_of, IsSide}
 use Rattle.item_knowledge.specs.Told.{entries_of, told, numbered}
 use Rattle.item_knowledge.proofs.RowLemmas.{rows_rows, fragments_rows}
 use Rattle.item_knowledge.proofs.ToldLemmas.{told_side, told_knows}
+use Rattle.item_knowledge.proofs.StagedLemmas.{known_of}
 use Rattle.item_knowledge.proofs.knowledge.Knowledge.learn_table.Goals as goal
 
 pub take_union-requires-clause-rows : goal.take_union-requires-clause-rows
@@ -33,13 +34,13 @@ pub returns-clause-learned : goal.returns-clause-learned
 returns-clause-learned c p v z =
     let rows : c.in_ok-rows.rows ≡ rows_of (told c.args.table.now) = search rules in
     let index : c.deref.result.now ≡ numbered 1 c.args.table.now = search rules in
-    let l : knows c.take_union.new.self p v ≡ (knows c.args.self.now p v || denotes (vector_of (fragments_of c.in_ok-rows.rows) c.deref.result.now p) v) = c.in_ok-take_union.ensures.learned p v z in
+    let l : knows c.take_union.new.self.known p v ≡ (knows c.unstage.new.self.known p v || denotes (vector_of (fragments_of c.in_ok-rows.rows) c.deref.result.now p) v) = c.in_ok-take_union.ensures.learned p v z in
     l
-    ∙ ((λ i. knows c.args.self.now p v || denotes (vector_of ((ap fragments_of rows ∙ fragments_rows (told c.args.table.now)) i) (index i) p) v)
-    ∙ ap (λ b. knows c.args.self.now p v || b) (told_knows c.args.table.now p v))
+    ∙ ((λ i. knows (known_of c.unstage.ensures i) p v || denotes (vector_of ((ap fragments_of rows ∙ fragments_rows (told c.args.table.now)) i) (index i) p) v)
+    ∙ ap (λ b. knows c.args.self.now.known p v || b) (told_knows c.args.table.now p v))
 
 pub returns-clause-star : goal.returns-clause-star
 returns-clause-star c a =
     let rows : c.in_ok-rows.rows ≡ rows_of (told c.args.table.now) = search rules in
-    let l : star_bound c.take_union.new.self a ≡ max (star_bound c.args.self.now a) (bound (entries_at (fragments_of c.in_ok-rows.rows) 0) (author_word a)) = c.in_ok-take_union.ensures.star a in
-    l ∙ (ap (λ fs. max (star_bound c.args.self.now a) (bound (entries_at fs 0) (author_word a))) (ap fragments_of rows ∙ fragments_rows (told c.args.table.now)) ∙ max-zero (star_bound c.args.self.now a))
+    let l : star_bound c.take_union.new.self.known a ≡ max (star_bound c.unstage.new.self.known a) (bound (entries_at (fragments_of c.in_ok-rows.rows) 0) (author_word a)) = c.in_ok-take_union.ensures.star a in
+    l ∙ ((λ i. max (star_bound (known_of c.unstage.ensures i) a) (bound (entries_at ((ap fragments_of rows ∙ fragments_rows (told c.args.table.now)) i) 0) (author_word a))) ∙ max-zero (star_bound c.args.self.now.known a))

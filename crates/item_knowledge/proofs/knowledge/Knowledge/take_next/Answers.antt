@@ -7,6 +7,7 @@ use Rattle.item_knowledge.specs.Raising.{all_raised, are_risen}
 use Rattle.item_knowledge.specs.Rows.{fragments_of, rows_of}
 use Rattle.item_knowledge.specs.Kept.{star_bound}
 use Rattle.item_knowledge.proofs.NextLemmas.{own_from, own_risen, owned}
+use Rattle.item_knowledge.proofs.StagedLemmas.{known_of}
 use Rattle.item_knowledge.proofs.knowledge.Knowledge.take_next.Goals as goal
 
 pub raise-requires-clause-risen : goal.raise-requires-clause-risen
@@ -16,7 +17,7 @@ raise-requires-clause-risen c =
     let n : c.from-n.result ≡ w.number = search rules in
     let above : 0 < c.from-n.result = omega arith in
     let fits : c.from-n.result ≤ most_number = omega arith in
-    let own = own_from w c.self.inside.live c.self.inside.index.items c.args.self.now c.word-author.result c.from-n.result c.self.invariant c.self.view_is word n c.word-author.ensures.of_author above fits c.requires.first c.requires.next c.requires.level in
+    let own = own_from w c.self.inside.live c.self.inside.index.items c.args.self.now.known c.word-author.result c.from-n.result c.self.invariant.kept (known_of c.self.view_is) word n c.word-author.ensures.of_author above fits c.requires.first c.requires.next c.requires.level in
     (λ j. are_risen (word j, n j) (fragments_of c.self.inside.live)) ∙ own_risen w c.self.inside.live c.self.inside.index.items own
 
 pub invariant_of-self : goal.invariant_of-self
@@ -26,8 +27,8 @@ invariant_of-self c =
     let n : c.from-n.result ≡ w.number = search rules in
     let above : 0 < c.from-n.result = omega arith in
     let fits : c.from-n.result ≤ most_number = omega arith in
-    let own = own_from w c.self.inside.live c.self.inside.index.items c.args.self.now c.word-author.result c.from-n.result c.self.invariant c.self.view_is word n c.word-author.ensures.of_author above fits c.requires.first c.requires.next c.requires.level in
-    (owned w c.self.inside.live c.self.inside.index.items c.raise.new.rows own (c.raise.ensures ∙ (λ j. rows_of (all_raised (word j, n j) (fragments_of c.self.inside.live))))).kept
+    let own = own_from w c.self.inside.live c.self.inside.index.items c.args.self.now.known c.word-author.result c.from-n.result c.self.invariant.kept (known_of c.self.view_is) word n c.word-author.ensures.of_author above fits c.requires.first c.requires.next c.requires.level in
+    record { kept = (owned w c.self.inside.live c.self.inside.index.items c.raise.new.rows own (c.raise.ensures ∙ (λ j. rows_of (all_raised (word j, n j) (fragments_of c.self.inside.live))))).kept; spare_kept = tt }
 
 pub returns-clause-star : goal.returns-clause-star
 returns-clause-star c a =
@@ -36,9 +37,9 @@ returns-clause-star c a =
     let n : c.from-n.result ≡ w.number = search rules in
     let above : 0 < c.from-n.result = omega arith in
     let fits : c.from-n.result ≤ most_number = omega arith in
-    let own = own_from w c.self.inside.live c.self.inside.index.items c.args.self.now c.word-author.result c.from-n.result c.self.invariant c.self.view_is word n c.word-author.ensures.of_author above fits c.requires.first c.requires.next c.requires.level in
+    let own = own_from w c.self.inside.live c.self.inside.index.items c.args.self.now.known c.word-author.result c.from-n.result c.self.invariant.kept (known_of c.self.view_is) word n c.word-author.ensures.of_author above fits c.requires.first c.requires.next c.requires.level in
     (owned w c.self.inside.live c.self.inside.index.items c.raise.new.rows own (c.raise.ensures ∙ (λ j. rows_of (all_raised (word j, n j) (fragments_of c.self.inside.live))))).star a
-    ∙ ap (λ fs. cond (same_author w.author a) w.number (star_bound fs a)) c.self.view_is
+    ∙ ap (λ fs. cond (same_author w.author a) w.number (star_bound fs a)) (known_of c.self.view_is)
 
 pub returns-clause-learned : goal.returns-clause-learned
 returns-clause-learned c p v z =
@@ -47,6 +48,6 @@ returns-clause-learned c p v z =
     let n : c.from-n.result ≡ w.number = search rules in
     let above : 0 < c.from-n.result = omega arith in
     let fits : c.from-n.result ≤ most_number = omega arith in
-    let own = own_from w c.self.inside.live c.self.inside.index.items c.args.self.now c.word-author.result c.from-n.result c.self.invariant c.self.view_is word n c.word-author.ensures.of_author above fits c.requires.first c.requires.next c.requires.level in
+    let own = own_from w c.self.inside.live c.self.inside.index.items c.args.self.now.known c.word-author.result c.from-n.result c.self.invariant.kept (known_of c.self.view_is) word n c.word-author.ensures.of_author above fits c.requires.first c.requires.next c.requires.level in
     (owned w c.self.inside.live c.self.inside.index.items c.raise.new.rows own (c.raise.ensures ∙ (λ j. rows_of (all_raised (word j, n j) (fragments_of c.self.inside.live))))).learned p v z
-    ∙ ap (λ fs. knows fs p v || same_version w v) c.self.view_is
+    ∙ ap (λ fs. knows fs p v || same_version w v) (known_of c.self.view_is)

@@ -1,27 +1,25 @@
-use Rattle.std.proofs.Common.{rules, ◌||◌, max, sym, subst, ap, ◌∙◌}
-use Rattle.photo_version.specs.Author.{author_word}
+use Rattle.std.proofs.Common.{◌≡◌, ℕ, ◌<◌, ◌||◌, max}
+use Rattle.photo_version.specs.Author.{Author, author_word}
+use Rattle.photo_version.specs.Version.{Version}
 use Rattle.item_knowledge.specs.Kept.{star_bound}
 use Rattle.item_knowledge.specs.Entries.{denotes, bound}
 use Rattle.item_knowledge.specs.Fragments.{knows, entries_at}
 use Rattle.item_knowledge.specs.Rows.{fragments_of}
-use Rattle.item_knowledge.specs.Gathering.{IsSide, IsUnion, vector_of}
-use Rattle.item_knowledge.proofs.KeptLemmas.{kept_side, learned}
+use Rattle.item_knowledge.specs.Gathering.{vector_of}
+use Rattle.item_knowledge.proofs.StagedLemmas.{committed, committed_staged}
 use Rattle.item_knowledge.proofs.knowledge.Knowledge.take_union.Goals as goal
 
-pub union-requires-clause-left : goal.union-requires-clause-left
-union-requires-clause-left c = subst (IsSide (fragments_of c.self.inside.live)) (sym c.deref.ensures.value) (kept_side c.self.inside.live c.self.inside.index.items c.self.invariant)
-
 pub returns-clause-star : goal.returns-clause-star
-returns-clause-star c a =
-    let union : IsUnion (fragments_of c.self.inside.live) c.deref.result.now (fragments_of c.args.rows.now) c.args.index.now (fragments_of c.union.new.out) c.in_ok-index.index.items = search rules in
-    ap (λ rows. star_bound (fragments_of rows) a) c.swap.ensures.x_after
-    ∙ (union.star (author_word a)
-    ∙ ap (λ fs. max (star_bound fs a) (bound (entries_at (fragments_of c.args.rows.now) 0) (author_word a))) c.self.view_is)
+returns-clause-star c =
+    committed c.stage_union.new.self.staged c.commit.new.self
+    (λ s. (a : Author) → star_bound s a ≡ max (star_bound c.args.self.now.known a) (bound (entries_at (fragments_of c.args.rows.now) 0) (author_word a)))
+    c.in_ok-stage_union.ensures.there c.commit.ensures c.in_ok-stage_union.ensures.star
 
 pub returns-clause-learned : goal.returns-clause-learned
-returns-clause-learned c p v z =
-    let union : IsUnion (fragments_of c.self.inside.live) c.deref.result.now (fragments_of c.args.rows.now) c.args.index.now (fragments_of c.union.new.out) c.in_ok-index.index.items = search rules in
-    let made = subst (λ xs. IsUnion (fragments_of c.self.inside.live) xs (fragments_of c.args.rows.now) c.args.index.now (fragments_of c.union.new.out) c.in_ok-index.index.items) c.deref.ensures.value union in
-    ap (λ rows. knows (fragments_of rows) p v) c.swap.ensures.x_after
-    ∙ (learned c.self.inside.live c.self.inside.index.items (fragments_of c.args.rows.now) (fragments_of c.union.new.out) c.args.index.now c.in_ok-index.index.items c.self.invariant made p v z
-    ∙ ap (λ fs. knows fs p v || denotes (vector_of (fragments_of c.args.rows.now) c.args.index.now p) v) c.self.view_is)
+returns-clause-learned c =
+    committed c.stage_union.new.self.staged c.commit.new.self
+    (λ s. (p : ℕ) (v : Version) → 0 < p → knows s p v ≡ (knows c.args.self.now.known p v || denotes (vector_of (fragments_of c.args.rows.now) c.args.index.now p) v))
+    c.in_ok-stage_union.ensures.there c.commit.ensures c.in_ok-stage_union.ensures.pairs
+
+pub returns-clause-staged : goal.returns-clause-staged
+returns-clause-staged c = committed_staged c.stage_union.new.self.staged c.commit.new.self c.in_ok-stage_union.ensures.there c.commit.ensures

@@ -4,7 +4,7 @@ use Rattle.live_fleet.proofs.Histories.{came_first}
 use Rattle.live_fleet.proofs.fleet.Fleet.new.Goals as goal
 
 pub invariant_of-result : goal.invariant_of-result
-invariant_of-result c = came_first _ c.args.filters.now c.in_ok-devices.ensures c.new.ensures.items refl
+invariant_of-result c = came_first _ c.args.filters.now c.in_ok-devices.ensures.shown c.in_ok-devices.ensures.settled c.new.ensures.items refl
 
 pub returns-clause-long : goal.returns-clause-long
-returns-clause-long c = opening_long c.args.filters.now 0 _ c.in_ok-devices.ensures
+returns-clause-long c = opening_long c.args.filters.now 0 _ c.in_ok-devices.ensures.shown

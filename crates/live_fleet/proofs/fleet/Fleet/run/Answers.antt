@@ -1,10 +1,16 @@
 use Rattle.std.proofs.Common.{◌≡◌, ◌∙◌, ◌+◌, ◌++◌, length, take, drop, sym, ap, subst, refl, arith}
+use Rattle.std.specs.Prelude.{Result, Ok, Err, OnErr}
 use Rattle.photo_script.specs.Contents.{IsWithin}
-use Rattle.fleet_steps.specs.Between.{AreReady, HaveRoom}
+use Rattle.fleet_steps.specs.Between.{AreReady, AreSettled, HaveRoom}
 use Rattle.fleet_steps.proofs.Between.{written_back}
+use Rattle.fleet_steps.proofs.Settled.{settled_same}
 use Rattle.live_fleet.specs.Fleets.{KeptFleet}
 use Rattle.live_fleet.proofs.Histories.{came_ready, came_room, came_more, run_shows}
 use Rattle.live_fleet.proofs.fleet.Fleet.run.Goals as goal
+
+on_err : {T E P : Type 0} (r : Result T E) → P → OnErr r P
+on_err (Ok x) p = tt
+on_err (Err e) p = p
 
 pub run_and_keep-requires-clause-ready : goal.run_and_keep-requires-clause-ready
 run_and_keep-requires-clause-ready c = subst AreReady (sym c.as_mut_slice-devices.ensures.value) (came_ready _ c.self.invariant)
@@ -14,6 +20,18 @@ run_and_keep-requires-clause-room c =
     let count = ap (λ (f : KeptFleet). f.commands) c.self.view_is in
     let room = c.requires.room in
     subst HaveRoom (sym c.as_mut_slice-devices.ensures.value) (came_room _ c.self.invariant (omega arith))
+
+pub invariant_of-self : goal.invariant_of-self
+invariant_of-self c =
+    let items = c.self.inside.devices.items in
+    let new = c.run_and_keep.new.devices in
+    let given = c.as_mut_slice-devices.ensures in
+    let same : length new ≡ length items = c.run_and_keep.auto.devices ∙ ap length given.value in
+    let whole : take c.self.inside.devices.len (new ++ drop (length new) items) ≡ new = written_back new items c.self.inside.devices.len same (sym given.len ∙ ap length given.value) in
+    let before = subst AreSettled (sym given.value) c.self.invariant.settled in
+    let kept : take c.self.inside.devices.len (new ++ drop (length new) items) ≡ items =
+    whole ∙ settled_same _ new before (c.run_and_keep.ensures.settled before) c.in_err-report.ensures.devices_kept ∙ given.value in
+    rw (kept, c.in_err-report.ensures.log_kept) c.self.invariant
 
 pub invariant_of-self-2 : goal.invariant_of-self-2
 invariant_of-self-2 c =
@@ -27,4 +45,16 @@ invariant_of-self-2 c =
     let within : IsWithin (length items) command = subst (λ (x : KeptFleet). IsWithin (length x.devices) command) (sym c.self.view_is) c.requires.within in
     came_more f _ (c.self.inside.commands + 1) command c.self.invariant within c.command_in_range.ensures
     (run_shows f _ new _ c.run_and_keep.new.log.items (c.self.inside.commands + 1) (c.self.inside.commands + 1) command given.value whole c.in_ok-report.ensures.devices c.in_ok-report.ensures.log)
-    refl
+    refl (subst AreSettled (sym whole) (c.run_and_keep.ensures.settled (subst AreSettled (sym given.value) c.self.invariant.settled)))
+
+pub returns-in_err-report-clause-err : goal.returns-in_err-report-clause-err
+returns-in_err-report-clause-err c =
+    let items = c.self.inside.devices.items in
+    let new = c.run_and_keep.new.devices in
+    let given = c.as_mut_slice-devices.ensures in
+    let same : length new ≡ length items = c.run_and_keep.auto.devices ∙ ap length given.value in
+    let whole : take c.self.inside.devices.len (new ++ drop (length new) items) ≡ new = written_back new items c.self.inside.devices.len same (sym given.len ∙ ap length given.value) in
+    let before = subst AreSettled (sym given.value) c.self.invariant.settled in
+    let kept : take c.self.inside.devices.len (new ++ drop (length new) items) ≡ items =
+    whole ∙ settled_same _ new before (c.run_and_keep.ensures.settled before) c.in_err-report.ensures.devices_kept ∙ given.value in
+    on_err c.from_residual.result ((λ i. record { devices = kept i; log = c.in_err-report.ensures.log_kept i; commands = c.self.inside.commands }) ∙ c.self.view_is)

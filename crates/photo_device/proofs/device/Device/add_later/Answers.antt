@@ -1,26 +1,27 @@
+use Rattle.std.specs.Prelude.{None}
 use Rattle.std.proofs.Common.{◌<◌, refl, sym, ap, ◌∙◌, subst}
 use Rattle.photo_version.specs.Version.{Version}
 use Rattle.photo_device.specs.Device.{Kept}
 use Rattle.photo_device.specs.Own.{IsNext}
 use Rattle.photo_device.specs.Learning.{IsOwnLearned}
-use Rattle.photo_device.proofs.OwnLemmas.{next_number, some_number, none_above, makes_device, has_made}
+use Rattle.photo_device.proofs.OwnLemmas.{next_number, some_number, none_above, makes_device, has_made, next_unstaged}
 use Rattle.photo_device.proofs.device.Device.add_later.Goals as goal
 
 pub raise_own-requires-clause-first : goal.raise_own-requires-clause-first
 raise_own-requires-clause-first c =
     let next = subst (IsNext c.args.held) (sym c.self.view_is) c.requires.next in
     let some = subst (λ (d : Kept). 0 < d.counter) (sym c.self.view_is) c.requires.some in
-    some_number c.self.inside.author c.self.inside.counter c.args.held.version _ next.next some c.self.invariant.knows
+    some_number c.self.inside.author c.self.inside.counter c.args.held.version _ next.next some c.self.invariant.device.knows
 
 pub raise_own-requires-clause-next : goal.raise_own-requires-clause-next
 raise_own-requires-clause-next c =
     let next = subst (IsNext c.args.held) (sym c.self.view_is) c.requires.next in
-    next_number c.self.inside.author c.self.inside.counter c.args.held.version c.self.inside.knowledge _ next.next refl c.self.invariant.knows
+    next_number c.self.inside.author c.self.inside.counter c.args.held.version c.self.inside.knowledge.known _ next.next refl c.self.invariant.device.knows
 
 pub raise_own-requires-clause-level : goal.raise_own-requires-clause-level
 raise_own-requires-clause-level c =
     let next = subst (IsNext c.args.held) (sym c.self.view_is) c.requires.next in
-    none_above c.self.inside.author c.self.inside.counter c.args.held.version _ next.next c.self.invariant.knows
+    none_above c.self.inside.author c.self.inside.counter c.args.held.version _ next.next c.self.invariant.device.knows
 
 pub invariant_of-self : goal.invariant_of-self
 invariant_of-self c = rw (c.in_err-hold.ensures.store_kept, c.in_err-hold.ensures.out_kept) c.self.invariant
@@ -29,14 +30,14 @@ pub invariant_of-self-2 : goal.invariant_of-self-2
 invariant_of-self-2 c =
     let next = subst (IsNext c.args.held) (sym c.self.view_is) c.requires.next in
     let counter = c.n-self-inside.ensures.value ∙ ap (λ (x : Version). x.number) next.next in
-    let learned : IsOwnLearned c.args.held.version c.self.inside.knowledge c.raise_own.new.self = record { star = c.raise_own.ensures.star; learned = c.raise_own.ensures.learned } in
-    rw (counter, c.in_ok-hold.ensures.store, c.in_ok-hold.ensures.out) (makes_device c.args.place c.args.held _ c.raise_own.new.self next learned c.self.invariant)
+    let learned : IsOwnLearned c.args.held.version c.self.inside.knowledge.known c.raise_own.new.self.known = record { star = c.raise_own.ensures.star; learned = c.raise_own.ensures.learned } in
+    rw (counter, c.in_ok-hold.ensures.store, c.in_ok-hold.ensures.out) (record { device = makes_device c.args.place c.args.held _ c.raise_own.new.self.known (next_unstaged c.args.held _ next) learned c.self.invariant.device; fits = tt })
 
 pub returns-clause-ok : goal.returns-clause-ok
 returns-clause-ok c =
     let next = subst (IsNext c.args.held) (sym c.self.view_is) c.requires.next in
     let counter = c.n-self-inside.ensures.value ∙ ap (λ (x : Version). x.number) next.next in
-    let learned : IsOwnLearned c.args.held.version c.self.inside.knowledge c.raise_own.new.self = record { star = c.raise_own.ensures.star; learned = c.raise_own.ensures.learned } in
+    let learned : IsOwnLearned c.args.held.version c.self.inside.knowledge.known c.raise_own.new.self.known = record { star = c.raise_own.ensures.star; learned = c.raise_own.ensures.learned } in
     has_made c.args.place c.args.held _ _ _ c.self.view_is
     (λ i. record {
       author = c.self.inside.author;
@@ -44,5 +45,6 @@ returns-clause-ok c =
       counter = counter i;
       store = c.in_ok-hold.ensures.store i;
       out = c.in_ok-hold.ensures.out i;
-      knowledge = c.raise_own.new.self;
+      knowledge = c.raise_own.new.self.known;
+      staged = None;
     }) learned

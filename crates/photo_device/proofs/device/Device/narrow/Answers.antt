@@ -3,6 +3,8 @@ use Rattle.photo_filter_rules.specs.Matching.{matches}
 use Rattle.photo_device.specs.declared.held.Held.{Held}
 use Rattle.photo_device.specs.Device.{Kept, Shows}
 use Rattle.photo_device.proofs.Narrowed.{shorter, narrows_device, shows_narrowed, moved_away}
+use Rattle.std.specs.Prelude.{None}
+use Rattle.photo_device.proofs.Staged.{shows_staged}
 use Rattle.photo_device.proofs.device.Device.narrow.Goals as goal
 
 pub overflow_sub-result : goal.overflow_sub-result
@@ -15,13 +17,13 @@ overflow_sub-result c =
 pub invariant_of-self-2 : goal.invariant_of-self-2
 invariant_of-self-2 c =
     let out = c.in_default.ensures.ok in
-    rw (c.keep_matched.ensures, out) (narrows_device c.args.filter _ c.self.invariant)
+    rw (c.keep_matched.ensures, out) (record { device = narrows_device c.args.filter _ c.self.invariant.device; fits = tt })
 
 pub returns-clause-shows : goal.returns-clause-shows
 returns-clause-shows c =
     λ m shows.
     let out = c.in_default.ensures.ok in
-    rw (c.keep_matched.ensures, out) (shows_narrowed c.args.filter _ m (subst (λ (d : Kept). Shows d m) (sym c.self.view_is) shows))
+    rw (c.keep_matched.ensures, out) (shows_narrowed c.args.filter _ m (shows_staged _ None m (subst (λ (d : Kept). Shows d m) (sym c.self.view_is) shows)))
 
 pub returns-clause-moved : goal.returns-clause-moved
 returns-clause-moved c =

@@ -8,4 +8,4 @@ pub loop-k-preserved : goal.loop-k-preserved
 loop-k-preserved c = one_more _ c.loop-k.k c.loop-k.invariant (subst (IsFragmentOfScript c.args.script.now) c.fragment.ensures (c.is_fragment_of.ensures c.if-not-is_fragment_of.false))
 
 pub returns : goal.returns
-returns c = λ _. all_places _ c.args.knowledge.now nothing (λ k h. c.loop-k.invariant k (omega arith))
+returns c = λ _. all_places _ c.args.knowledge.now.known nothing (λ k h. c.loop-k.invariant k (omega arith))

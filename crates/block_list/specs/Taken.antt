@@ -1,0 +1,11 @@
+-- One element that is taken out of a list.
+use Rattle.std.specs.Prelude.{◌≡◌, ℕ, ◌+◌, ◌<◌, Bool, true, List, ◌++◌, length, take, drop, slice_get, Some}
+
+module _ {T : Type 0} where
+  -- x, which passes p, stood among the old, and the others are left in their order
+  pub record IsTakenOut (p : T → Bool) (old : List T) (x : T) (new : List T) : Type 0 where
+    pub place : ℕ
+    pub within : place < length old
+    pub at : slice_get old place ≡ Some x
+    pub passes : p x ≡ true
+    pub rest : new ≡ take place old ++ drop (place + 1) old

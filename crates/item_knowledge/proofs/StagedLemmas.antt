@@ -1,0 +1,49 @@
+-- What is known and what is staged, as a knowledge keeps them.
+use Rattle.std.proofs.Common.{◌≡◌, ℕ, ◌<◌, true, ◌||◌, max, List, Option, None, Some, IfSome, refl, sym, subst, ap, ◌∙◌}
+use Rattle.std.specs.Option.{is_some}
+use Rattle.std.proofs.lemmas.Bool.{false≢true}
+use Rattle.photo_version.specs.Author.{Author}
+use Rattle.photo_version.specs.Version.{Version}
+use Rattle.item_knowledge.specs.Fragments.{Fragment, knows}
+use Rattle.item_knowledge.specs.Entries.{denotes}
+use Rattle.item_knowledge.specs.Gathering.{vector_of}
+use Rattle.item_knowledge.specs.Rows.{fragments_of}
+use Rattle.item_knowledge.specs.Kept.{IsKept, is_side_within, star_bound}
+use Rattle.item_knowledge.specs.Staged.{Knowing, settled, IsStagedUnion}
+use Rattle.item_knowledge.proofs.KeptLemmas.{within_knows, star_within, kept_knows}
+
+pub known_of : {k l : Knowing} → k ≡ l → k.known ≡ l.known
+known_of e = ap (λ k. k.known) e
+
+pub staged_is : {k l : Knowing} → k ≡ l → k.staged ≡ l.staged
+staged_is e = ap (λ k. k.staged) e
+
+-- where all that the other knows is known, what is known is the union
+pub within_union : (rows others : List (List ℕ)) (xs ys : List (ℕ × ℕ)) → IsKept rows xs → IsKept others ys → is_side_within (fragments_of others) ys (fragments_of rows) xs ≡ true → IsStagedUnion (Some (fragments_of rows)) (fragments_of rows) (fragments_of others)
+within_union rows others xs ys h g w = record {
+  there = refl;
+  star = λ a. star_within (fragments_of others) (fragments_of rows) ys xs a w;
+  pairs = λ p v z. within_knows rows others xs ys h g w p v;
+}
+
+-- the union with what another knowledge keeps, its star and its pictures one by one
+pub side_union : (staged : Option (List Fragment)) (left : List Fragment) (others : List (List ℕ)) (ys items : List (ℕ × ℕ)) → IsKept others ys → items ≡ ys → is_some staged ≡ true → IfSome staged (λ s. (a : Author) → star_bound s a ≡ max (star_bound left a) (star_bound (fragments_of others) a)) → IfSome staged (λ s. (p : ℕ) (v : Version) → 0 < p → knows s p v ≡ (knows left p v || denotes (vector_of (fragments_of others) items p) v)) → IsStagedUnion staged left (fragments_of others)
+side_union None left others ys items g e there star pairs = absurd (false≢true there)
+side_union (Some s) left others ys items g e there star pairs = record {
+  there = refl;
+  star = star;
+  pairs = λ p v z. pairs p v z ∙ ap (λ b. knows left p v || b) (ap (λ xs. denotes (vector_of (fragments_of others) xs p) v) e ∙ sym (kept_knows others ys p v g));
+}
+
+-- what holds of what is staged holds of it once it is known
+pub committed : (staged : Option (List Fragment)) (then : Knowing) (P : List Fragment → Type 0) → is_some staged ≡ true → IfSome staged (λ s. then ≡ settled s) → IfSome staged P → P then.known
+committed None then P h e p = absurd (false≢true h)
+committed (Some s) then P h e p = subst P (sym (known_of e)) p
+
+pub committed_staged : (staged : Option (List Fragment)) (then : Knowing) → is_some staged ≡ true → IfSome staged (λ s. then ≡ settled s) → then.staged ≡ None
+committed_staged None then h e = absurd (false≢true h)
+committed_staged (Some s) then h e = staged_is e
+
+pub committed_union : (staged : Option (List Fragment)) (then : Knowing) (left right : List Fragment) → IsStagedUnion staged left right → IfSome staged (λ s. then ≡ settled s) → IsStagedUnion (Some then.known) left right
+committed_union None then left right h e = absurd (false≢true h.there)
+committed_union (Some s) then left right h e = subst (λ fs. IsStagedUnion (Some fs) left right) (sym (known_of e)) h

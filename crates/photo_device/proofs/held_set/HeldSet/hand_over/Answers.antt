@@ -1,0 +1,35 @@
+use Rattle.std.proofs.Common.{◌+◌, List, length, drop, subst, sym, ap, ◌∙◌, arith}
+use Rattle.std.proofs.lemmas.List.{drop_all}
+use Rattle.photo_version.specs.Version.{Version}
+use Rattle.photo_device.proofs.Handed.{IsHanding, next_asked, has_handed_one, has_handed_none, has_ended}
+use Rattle.photo_device.proofs.held_set.HeldSet.hand_over.Goals.{in-Some, in_default}
+use Rattle.photo_device.proofs.held_set.HeldSet.hand_over.Goals as goal
+
+pub loop-version-preserved : goal.loop-version-preserved
+loop-version-preserved c =
+    let versions = c.args.versions.now in
+    let i = c.loop-version.version-index in
+    let left = drop (i + 1) versions in
+    let now = c.loop-version.self in
+    let handed = c.loop-version.handed.items in
+    let next = next_asked versions i c.version-item.result c.loop-version-test.true c.version-item.is in
+    let is = subst (λ (l : List Version). IsHanding versions c.args.self.now c.args.handed.now.items l now handed) next c.loop-version.invariant.0 in
+    let counted = ap (λ (l : List Version). length l) next in
+    let found = sym c.take_version-found.ensures.found in
+    elim c.match-found.branch [
+      | in-Some w ↦ rw (c.take_version-found.ensures.rest, w.handed-is, w.push_reserved.ensures.items, w.push_reserved.ensures.capacity) (
+        has_handed_one versions _ _ c.version-item.result left now handed w.in-Some.held is (found ∙ w.in-Some.is),
+        omega (arith, w.push_reserved.ensures.len, c.loop-version.invariant.1),
+        c.loop-version.invariant.2,
+      )
+      | in_default w ↦ rw (c.take_version-found.ensures.rest, w.handed-is) (
+        has_handed_none versions _ _ c.version-item.result left now handed is (found ∙ w.in_default.is),
+        omega (arith, c.loop-version.invariant.1),
+        c.loop-version.invariant.2,
+      )
+    ]
+
+pub returns-clause-rest : goal.returns-clause-rest
+returns-clause-rest c =
+    let none = drop_all c.loop-version.version-index c.args.versions.now c.loop-version-test.false in
+    (has_ended _ _ _ _ _ (subst (λ (l : List Version). IsHanding c.args.versions.now c.args.self.now c.args.handed.now.items l c.loop-version.self c.loop-version.handed.items) none c.loop-version.invariant.0)).0

@@ -1,0 +1,59 @@
+-- A change that is staged on a device, and committed later together with versions that are handed over.
+use Rattle.std.specs.Prelude.{◌≡◌, ℕ, ◌+◌, ◌≤◌, ◌<◌, true, ◌||◌, List, ◌++◌, length, Option, None, Some, is_some, IfSome}
+use Rattle.std.specs.List.{AllByRecursion}
+use Rattle.photo_version.specs.Version.{Version}
+use Rattle.item_knowledge.specs.Fragments.{Fragment, knows}
+use Rattle.photo_device.specs.declared.held.Held.{Held}
+use Rattle.photo_device.specs.declared.prepared.Prepared.{Prepared}
+use Rattle.photo_device.specs.Held.{count_of}
+use Rattle.photo_device.specs.Device.{Kept, Staging, IsAsItWas}
+use Rattle.photo_device.specs.Own.{HasEarlier, IsDevice, IsKnownBy, KnowsItsOwn}
+
+-- a change is staged on a device that is otherwise as it was: what will be known is what is known and what is gained
+pub record HasStaged (drops : List Version) (takes : List Held) (gain : List Fragment) (room : ℕ) (old new : Kept) : Type 0 where
+  pub rest : IsAsItWas old new
+  pub knowledge : List Fragment
+  pub staged : new.staged ≡ Some (record { drops = drops; takes = takes; knowledge = knowledge; room = room })
+  pub learned : (p : ℕ) (v : Version) → 0 < p → knows knowledge p v ≡ (knows old.knowledge p v || knows gain p v)
+
+-- versions may be handed to a device on which a change is staged
+pub record MayHand (handed : List Held) (s : Staging) (d : Kept) : Type 0 where
+  -- there is room for them
+  pub few : length handed ≤ s.room
+  -- no version is among them twice, or held, or taken
+  pub once : (v : Version) → count_of v (handed ++ (s.takes ++ (d.store ++ d.out))) ≤ 1
+  pub earlier : AllByRecursion HasEarlier handed
+  -- each will be known with its history
+  pub known : AllByRecursion (IsKnownBy s.knowledge) handed
+
+-- Machinery of the proofs: what a device keeps for a change that is staged
+
+-- what contracts see of it
+abbrev pub staging_of : Option Prepared → Option (List Fragment) → Option Staging
+staging_of None knowledge = None
+staging_of (Some p) None = None
+staging_of (Some p) (Some knowledge) =
+    Some (record { drops = p.drops; takes = p.takes; knowledge = knowledge; room = p.room })
+
+-- what will be known has all that is known, and what is taken with its history, and of the device's own versions no further
+-- ones
+pub record IsAhead (knowledge : List Fragment) (takes : List Held) (d : Kept) : Type 0 where
+  pub own : KnowsItsOwn d.author d.counter knowledge
+  pub more : (p : ℕ) (v : Version) → 0 < p → knows d.knowledge p v ≡ true → knows knowledge p v ≡ true
+  pub known : AllByRecursion (IsKnownBy knowledge) takes
+
+-- what is prepared fits the device
+pub record IsPrepared (p : Prepared) (knowledge : Option (List Fragment)) (d : Kept) : Type 0 where
+  pub there : is_some knowledge ≡ true
+  pub ahead : IfSome knowledge (λ fs. IsAhead fs p.takes d)
+  pub once : (v : Version) → count_of v (p.takes ++ (d.store ++ d.out)) ≤ 1
+  pub earlier : AllByRecursion HasEarlier p.takes
+  pub store : length d.store ≤ p.in_store.most
+  pub store_room : length p.takes + p.room ≤ p.in_store.more
+  pub out : length d.out ≤ p.in_out.most
+  pub out_room : length p.takes + p.room ≤ p.in_out.more
+
+-- the parts of a device fit together: what it keeps with nothing staged is a device
+pub record AreParts (prepared : Option Prepared) (knowledge : Option (List Fragment)) (d : Kept) : Type 0 where
+  pub device : IsDevice d
+  pub fits : IfSome prepared (λ p. IsPrepared p knowledge d)

@@ -1,0 +1,13 @@
+use crate::{Held, HeldList, VersionList};
+use block_list::Room;
+
+/// What a device keeps for a change that is staged: the change but for what will be known, and the room that it takes.
+#[derive(Debug, Drop)]
+pub(crate) struct Prepared {
+    pub drops: VersionList,
+    pub takes: HeldList,
+    /// How many handed versions may come beside those that are taken.
+    pub room: usize,
+    pub in_store: Room<Held>,
+    pub in_out: Room<Held>,
+}
