@@ -78,7 +78,7 @@ impl Workpiece {
 pub struct Growing {
     knowledge: Knowledge,
     learned: u32,
-    ghost learned_of_all: { star_bound knowledge (author 7) ≡ learned },
+    ghost learned_of_all: { star_bound knowledge.known (author 7) ≡ learned },
 }
 
 impl Growing {

@@ -34,7 +34,7 @@ pub fn table(alloc: Global, device: u16, n: u32) -> Result<Vec<(PicNo, Vector)>,
 
 /// A knowledge of that table alone.
 pub fn of_table(alloc: Global, device: u16, n: u32) -> Result<Knowledge, AllocError>
-    ensures { IfOk result (λ knowledge. (a : Author) → star_bound knowledge a ≡ 0) }
+    ensures { IfOk result (λ knowledge. (a : Author) → star_bound knowledge.known a ≡ 0) }
 {
     let mut knowledge = Knowledge::new(alloc)?;
     knowledge.learn_table(&table(alloc, device, n)?)?;
