@@ -5,8 +5,8 @@ ghost use Rattle.block_list.specs.Blocks.{joined, AreFilled, start_of, IsPlace, 
 
 use std::alloc::AllocError;
 
-/// A block that has so many elements after an insertion is cut in two. An insertion moves the elements behind it in its
-/// block, and a cut the blocks behind it: at 100,000 elements this is about where both together cost least.
+// A block that has so many elements after an insertion is cut in two. An insertion moves the elements behind it in its
+// block, and a cut the blocks behind it: at 100,000 elements this is about where both together cost least.
 const LONG: usize = 128;
 
 /// Where element `i` stands: its block, and its place there.
@@ -23,7 +23,7 @@ pub fn element_at<T>(blocks: &[Vec<T>], i: usize) -> (usize, usize)
     (block, place)
 }
 
-/// The place before element `i`, or behind the last: its block, and the place there.
+// The place before element `i`, or behind the last: its block, and the place there.
 fn place_of<T>(blocks: &[Vec<T>], i: usize) -> (usize, usize)
     requires some { 0 < length blocks.now }
     requires in_range { i ≤ length (joined blocks.now) }
@@ -38,9 +38,9 @@ fn place_of<T>(blocks: &[Vec<T>], i: usize) -> (usize, usize)
     (block, place)
 }
 
-/// Cuts a block in two where it is long and memory allows it. The list stays.
-///
-/// It is cut in the middle, but a list that grows at its end gets full blocks.
+// Cuts a block in two where it is long and memory allows it. The list stays.
+//
+// It is cut in the middle, but a list that grows at its end gets full blocks.
 fn cut_long<T>(blocks: &mut Vec<Vec<T>>, block: usize, inserted: usize)
     requires filled { AreFilled blocks.old.items }
     requires in_range { block < length blocks.old.items }
@@ -124,7 +124,7 @@ pub fn set_in<T: Drop>(blocks: &mut Vec<Vec<T>>, block: usize, place: usize, ite
     blocks[block][place] = item;
 }
 
-/// Gives up the elements of a block from place `from` up to before place `to`.
+// Gives up the elements of a block from place `from` up to before place `to`.
 fn remove_part<T: Drop>(block: &mut Vec<T>, from: usize, to: usize)
     requires order { from ≤ to }
     requires in_range { to ≤ length block.old.items }
@@ -133,7 +133,7 @@ fn remove_part<T: Drop>(block: &mut Vec<T>, from: usize, to: usize)
     block.drain(from..to);
 }
 
-/// Gives up elements from element `i` on, at most `count` of them: those that stand in its block. Says how many.
+// Gives up elements from element `i` on, at most `count` of them: those that stand in its block. Says how many.
 fn remove_some<T: Drop>(blocks: &mut Vec<Vec<T>>, i: usize, count: usize) -> usize
     requires filled { AreFilled blocks.old.items }
     requires some { 0 < count }

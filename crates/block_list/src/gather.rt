@@ -17,7 +17,7 @@ pub fn gather<T: Drop>(blocks: &mut Vec<Vec<T>>, whole: &mut Vec<Vec<T>>)
     pour_all(given, &mut blocks[0]);
 }
 
-/// Moves the elements of all blocks into one block with room for them, behind those that it has.
+// Moves the elements of all blocks into one block with room for them, behind those that it has.
 fn pour_all<T: Drop>(blocks: Vec<Vec<T>>, whole: &mut Vec<T>)
     requires { length whole.old.items + length (joined blocks.items) ≤ vec_capacity whole.old }
     ensures items { whole.new.items ≡ whole.old.items ++ joined blocks.items }

@@ -3,7 +3,7 @@ ghost use Rattle.std.specs.Prelude.{◌≡◌, ◌+◌, ◌^◌, ◌<◌, Bool, 
 ghost use Rattle.std.specs.Fn.{ComputesKey};
 ghost use Rattle.block_list.specs.Blocks.{joined, AreFilled};
 
-/// Keeps the elements of a block that pass the test. Says how many go.
+// Keeps the elements of a block that pass the test. Says how many go.
 fn retain_block<T: Drop, P: Fn(&T) -> bool>(block: &mut Vec<T>, pred: &P) -> usize
     requires { P.IsAlwaysCallable pred.now }
     ensures items { (p : T → Bool) → ComputesKey P.FnMut p pred.now → block.new.items ≡ filter p block.old.items }
@@ -14,7 +14,7 @@ fn retain_block<T: Drop, P: Fn(&T) -> bool>(block: &mut Vec<T>, pred: &P) -> usi
     len - block.len()
 }
 
-/// Keeps the elements that pass the test, in blocks of which some may then be empty. Says how many go.
+// Keeps the elements that pass the test, in blocks of which some may then be empty. Says how many go.
 fn retain_each<T: Drop, P: Fn(&T) -> bool>(blocks: &mut Vec<Vec<T>>, pred: P) -> usize
     requires callable { P.IsAlwaysCallable pred }
     requires fits { length (joined blocks.old.items) < 2 ^ 64 }
@@ -28,7 +28,7 @@ fn retain_each<T: Drop, P: Fn(&T) -> bool>(blocks: &mut Vec<Vec<T>>, pred: P) ->
     gone
 }
 
-/// Gives up the blocks that are empty. The list stays.
+// Gives up the blocks that are empty. The list stays.
 fn drop_empty<T: Drop>(blocks: &mut Vec<Vec<T>>)
     ensures same { joined blocks.new.items ≡ joined blocks.old.items }
     ensures filled { AreFilled blocks.new.items }

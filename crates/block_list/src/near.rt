@@ -7,7 +7,7 @@ ghost use Rattle.block_list.specs.Blocks.{joined, AreFilled, start_of, IsPlace};
 use crate::Spot;
 use crate::search::{passes_behind, spot_of};
 
-/// How many elements further than its hint a search goes before it looks at all blocks.
+// How many elements further than its hint a search goes before it looks at all blocks.
 const STEPS: usize = 16;
 
 /// What `spot_of` gives. It is found at once where it is a few elements behind the hint.
@@ -27,7 +27,7 @@ pub fn spot_near<T, P: Fn(&T) -> bool>(blocks: &[Vec<T>], near: Spot, pred: P) -
     spot_of(blocks, pred)
 }
 
-/// The hint, moved on over elements that pass the test.
+// The hint, moved on over elements that pass the test.
 fn moved_on<T, P: Fn(&T) -> bool>(blocks: &[Vec<T>], near: Spot, pred: &P) -> Spot
     requires { P.IsAlwaysCallable pred.now }
 {
@@ -41,7 +41,7 @@ fn moved_on<T, P: Fn(&T) -> bool>(blocks: &[Vec<T>], near: Spot, pred: &P) -> Sp
     spot
 }
 
-/// Behind the next element, where that passes the test.
+// Behind the next element, where that passes the test.
 fn next<T, P: Fn(&T) -> bool>(blocks: &[Vec<T>], spot: Spot, pred: &P) -> Option<Spot>
     requires { P.IsAlwaysCallable pred.now }
 {
@@ -55,7 +55,7 @@ fn next<T, P: Fn(&T) -> bool>(blocks: &[Vec<T>], spot: Spot, pred: &P) -> Option
     passed(blocks, block + 1, 0, pred)
 }
 
-/// Behind an element, where there is that one and it passes the test.
+// Behind an element, where there is that one and it passes the test.
 fn passed<T, P: Fn(&T) -> bool>(
     blocks: &[Vec<T>],
     block: usize,
@@ -73,8 +73,8 @@ fn passed<T, P: Fn(&T) -> bool>(
     }
 }
 
-/// Whether the test is seen to turn at a place in a block: the element before it passes, or there is none, and the one
-/// behind it doesn't.
+// Whether the test is seen to turn at a place in a block: the element before it passes, or there is none, and the one
+// behind it doesn't.
 fn turns_at<T, P: Fn(&T) -> bool>(blocks: &[Vec<T>], block: usize, place: usize, pred: &P) -> bool
     requires callable { P.IsAlwaysCallable pred.now }
     requires filled { AreFilled blocks.now }

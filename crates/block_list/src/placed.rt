@@ -11,7 +11,7 @@ use crate::gather::gather;
 use crate::search::spot_of;
 use crate::spare::open_spare;
 
-/// Puts an element into a block that isn't full.
+// Puts an element into a block that isn't full.
 fn place_within<T: Drop>(block: &mut Vec<T>, place: usize, item: T)
     requires place { place ≤ length block.old.items }
     requires room { vec_len block.old < vec_capacity block.old }
@@ -24,7 +24,7 @@ fn place_within<T: Drop>(block: &mut Vec<T>, place: usize, item: T)
     }
 }
 
-/// Puts an element into a full block, out of which the last one goes.
+// Puts an element into a full block, out of which the last one goes.
 fn push_out<T: Drop>(block: &mut Vec<T>, place: usize, item: T) -> T
     requires { place ≤ length block.old.items }
     ensures items { block.new.items ++ result ∷ [] ≡ insert block.old.items place item }
@@ -40,7 +40,7 @@ fn push_out<T: Drop>(block: &mut Vec<T>, place: usize, item: T) -> T
     last
 }
 
-/// Puts an element before those of a block, or behind all blocks: into that block, or a spare one before it.
+// Puts an element before those of a block, or behind all blocks: into that block, or a spare one before it.
 fn place_first<T: Drop>(blocks: &mut Vec<Vec<T>>, spare: &mut Vec<Vec<T>>, block: usize, item: T)
     requires in_range { block ≤ length blocks.old.items }
     requires filled { AreFilled blocks.old.items }
@@ -62,7 +62,7 @@ fn place_first<T: Drop>(blocks: &mut Vec<Vec<T>>, spare: &mut Vec<Vec<T>>, block
     }
 }
 
-/// Puts an element before a place in a block, or behind its last. Where the block is full its last element gives way.
+// Puts an element before a place in a block, or behind its last. Where the block is full its last element gives way.
 fn place_in<T: Drop>(
     blocks: &mut Vec<Vec<T>>,
     spare: &mut Vec<Vec<T>>,
@@ -87,7 +87,7 @@ fn place_in<T: Drop>(
     place_first(blocks, spare, block + 1, last);
 }
 
-/// Puts an element behind those that pass the test, where there are a spare block and a place for it.
+// Puts an element behind those that pass the test, where there are a spare block and a place for it.
 fn place_between<T: Drop, P: Fn(&T) -> bool>(
     blocks: &mut Vec<Vec<T>>,
     spare: &mut Vec<Vec<T>>,
@@ -113,7 +113,7 @@ fn place_between<T: Drop, P: Fn(&T) -> bool>(
     place_in(blocks, spare, block, place, item);
 }
 
-/// Puts an element behind those that pass the test, into the only block.
+// Puts an element behind those that pass the test, into the only block.
 fn place_alone<T: Drop, P: Fn(&T) -> bool>(blocks: &mut Vec<Vec<T>>, before: P, item: T)
     requires callable { P.IsAlwaysCallable before }
     requires room { IsAlone blocks.old.items (length (joined blocks.old.items) + 1) }

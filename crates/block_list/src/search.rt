@@ -5,7 +5,7 @@ ghost use Rattle.std.specs.List.Sorted.{IsPartitionedBy, IsPartitionPoint};
 ghost use Rattle.std.specs.Fn.{ComputesKey};
 ghost use Rattle.block_list.specs.Blocks.{joined, AreFilled, start_of, IsPlace, IsElement, IsTurn};
 
-/// How many elements stand before block `block`.
+// How many elements stand before block `block`.
 #[tactic(auto, using(crate::proofs::Joined::start_more))]
 fn count_before<T>(blocks: &[Vec<T>], block: usize) -> usize
     requires in_range { block ≤ length blocks.now }
@@ -19,7 +19,7 @@ fn count_before<T>(blocks: &[Vec<T>], block: usize) -> usize
     count
 }
 
-/// A block whose first element fails the test while that of the block before passes it.
+// A block whose first element fails the test while that of the block before passes it.
 fn turn_of<T, P: Fn(&T) -> bool>(blocks: &[Vec<T>], pred: &P) -> usize
     requires callable { P.IsAlwaysCallable pred.now }
     requires filled { AreFilled blocks.now }

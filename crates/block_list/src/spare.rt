@@ -5,7 +5,7 @@ ghost use Rattle.block_list.specs.Spares.{IsSpare, IsWhole};
 
 use std::alloc::{AllocError, Global};
 
-/// How many elements a spare block has room for. Many are opened for a few elements, so it isn't a long one.
+// How many elements a spare block has room for. Many are opened for a few elements, so it isn't a long one.
 const SPARE_LEN: usize = 32;
 
 /// How many spare blocks serve `more` elements that come to a list of so many blocks.

@@ -1,5 +1,6 @@
 //! Taking one element out of the blocks of a list. None of them is empty.
-ghost use Rattle.std.specs.Prelude.{◌≡◌, ℕ, ◌+◌, ◌<◌, ◌≤◌, Bool, true, false, ◌++◌, length, take, drop, slice_get, slice_index_or, Some, IfNone, IfSome, Vec};
+ghost use Rattle.std.specs.Prelude.{◌≡◌, ℕ, ◌+◌, ◌<◌, ◌≤◌, Bool, true, false, ◌++◌, length, take, drop, slice_get};
+ghost use Rattle.std.specs.Prelude.{slice_index_or, Some, IfNone, IfSome, Vec};
 ghost use Rattle.std.specs.List.{list_any};
 ghost use Rattle.std.specs.Fn.{ComputesKey};
 ghost use Rattle.std.specs.declared.alloc.Global.{Global};
@@ -25,7 +26,7 @@ pub fn spot_passing<T, P: Fn(&T) -> bool>(
     passing_between(blocks, 0, near, &pred)
 }
 
-/// The first element that passes the test in the blocks from block `from` up to before block `to`.
+// The first element that passes the test in the blocks from block `from` up to before block `to`.
 fn passing_between<T, P: Fn(&T) -> bool>(
     blocks: &[Vec<T>],
     from: usize,
@@ -48,7 +49,7 @@ fn passing_between<T, P: Fn(&T) -> bool>(
     None
 }
 
-/// The place of the first element that passes the test.
+// The place of the first element that passes the test.
 fn first_passing<T, P: Fn(&T) -> bool>(items: &[T], pred: &P) -> Option<usize>
     requires { P.IsAlwaysCallable pred.now }
     ensures bound { IfSome result (λ place. place < length items.now) }

@@ -7,7 +7,7 @@ mod taken;
 // A list that is owned has its own function here, with no `rt` beside it, a table is a constant,
 // and a loop over one tells its first wrong row: so the proofs are short.
 
-/// 0, 1, 2 .. n - 1, each put before the others.
+// 0, 1, 2 .. n - 1, each put before the others.
 fn falling(alloc: Global, n: u32) -> Result<BlockList<u32>, AllocError> {
     let mut list = BlockList::new(alloc);
     for i in 0..n {
@@ -16,7 +16,7 @@ fn falling(alloc: Global, n: u32) -> Result<BlockList<u32>, AllocError> {
     Ok(list)
 }
 
-/// 0, 1, 2 .. n - 1, each put behind the others.
+// 0, 1, 2 .. n - 1, each put behind the others.
 fn rising(alloc: Global, n: u32) -> Result<BlockList<u32>, AllocError> {
     let mut list = BlockList::new(alloc);
     for i in 0..n {
@@ -26,13 +26,13 @@ fn rising(alloc: Global, n: u32) -> Result<BlockList<u32>, AllocError> {
     Ok(list)
 }
 
-/// How many blocks there are, and how long the first is.
+// How many blocks there are, and how long the first is.
 fn shape(list: &BlockList<u32>) -> (usize, usize) {
     let blocks = list.as_blocks();
     (blocks.len(), blocks.first().map_or(0, |block| block.len()))
 }
 
-/// Whether the list is 0, 1, 2 .. without the numbers from `from` up to before `to`.
+// Whether the list is 0, 1, 2 .. without the numbers from `from` up to before `to`.
 fn counts_without(list: &BlockList<u32>, from: u32, to: u32) -> bool {
     let mut next = if from == 0 { to } else { 0 };
     for block in list.as_blocks() {
@@ -49,10 +49,10 @@ fn counts_without(list: &BlockList<u32>, from: u32, to: u32) -> bool {
     true
 }
 
-/// How many blocks there are to be, and how long the first.
+// How many blocks there are to be, and how long the first.
 type Shape = (usize, usize);
 
-/// Whether the list is 0, 1, 2 .. n - 1, in blocks of that shape.
+// Whether the list is 0, 1, 2 .. n - 1, in blocks of that shape.
 fn counts_to(list: &BlockList<u32>, n: u32, wanted: Shape) -> bool {
     list.len() == n as usize && counts_without(list, 0, 0) && shape(list) == wanted
 }
@@ -118,7 +118,7 @@ fn a_list_that_grows_at_its_end_has_full_blocks(rt: HostRuntime) {
     assert!(rt; wrong.is_none(), "{wrong:?}");
 }
 
-/// Whether a list of 1,100 numbers loses just those from `from` up to before `to`, and then has that shape.
+// Whether a list of 1,100 numbers loses just those from `from` up to before `to`, and then has that shape.
 fn loses(list: &mut BlockList<u32>, from: u32, to: u32, wanted: Shape) -> bool {
     if from > to || to > 275 || list.len() != 275 {
         return false;
@@ -162,7 +162,7 @@ fn ranges_are_removed_over_blocks(rt: HostRuntime) {
     assert!(rt; wrong.is_none(), "{wrong:?}");
 }
 
-/// From where to where the numbers of a list of 275 stay, and what shape it has then.
+// From where to where the numbers of a list of 275 stay, and what shape it has then.
 const STAYING: &[(u32, u32, Shape)] = &[
     (0, 275, (3, 127)),
     (1, 274, (3, 126)),
@@ -172,7 +172,7 @@ const STAYING: &[(u32, u32, Shape)] = &[
     (5, 5, (0, 0)),
 ];
 
-/// Whether the numbers from `from` up to before `to` stay, in blocks of that shape.
+// Whether the numbers from `from` up to before `to` stay, in blocks of that shape.
 fn keeps(list: &mut BlockList<u32>, from: u32, to: u32, wanted: Shape) -> bool {
     if to < from {
         return false;
@@ -206,7 +206,7 @@ fn what_passes_is_kept_over_blocks(rt: HostRuntime) {
     assert!(rt; wrong.is_none(), "{wrong:?}");
 }
 
-/// Whether the list has that shape once items were taken from its front until so many are left.
+// Whether the list has that shape once items were taken from its front until so many are left.
 fn shrinks_to(list: &mut BlockList<u32>, left: usize, wanted: Shape) -> bool {
     for _ in left..list.len() {
         if list.is_empty() {
@@ -240,7 +240,7 @@ fn a_list_shrinks_through_the_block_length(rt: HostRuntime) {
 
 const PLACES: &[usize] = &[0, 126, 127, 128, 253, 254, 274];
 
-/// Whether those numbers stand at their places and are found there.
+// Whether those numbers stand at their places and are found there.
 fn finds_places(list: &BlockList<u32>) -> bool {
     for i in PLACES {
         let i = *i;
@@ -274,7 +274,7 @@ fn places_are_found_in_each_block(rt: HostRuntime) {
     assert!(rt; rises_and_finds(rt.alloc()));
 }
 
-/// From where to where a list of 275 numbers is replaced, and how long it is then.
+// From where to where a list of 275 numbers is replaced, and how long it is then.
 const BETWEEN: &[(u32, u32, usize)] = &[
     (0, 0, 276),
     (127, 127, 276),
@@ -285,7 +285,7 @@ const BETWEEN: &[(u32, u32, usize)] = &[
     (0, 275, 1),
 ];
 
-/// Whether the number 1,000 takes the place of those from `from` up to before `to`.
+// Whether the number 1,000 takes the place of those from `from` up to before `to`.
 fn replaces(list: &mut BlockList<u32>, from: u32, to: u32, wanted: usize) -> bool {
     let done = list.replace_between(|item| *item < from, |item| *item < to, 1_000);
     done.is_ok()
@@ -316,7 +316,7 @@ fn an_element_takes_the_place_of_those_between(rt: HostRuntime) {
     assert!(rt; wrong.is_none(), "{wrong:?}");
 }
 
-/// Puts the numbers from 0 up to before 2,000 in, each where it would stand among the others.
+// Puts the numbers from 0 up to before 2,000 in, each where it would stand among the others.
 fn put_in(list: &mut BlockList<u32>) -> bool {
     for i in 0..2_000u32 {
         let before = |item: &u32| *item < i;
@@ -337,7 +337,7 @@ fn elements_are_put_into_many_blocks(rt: HostRuntime) {
     assert!(rt; puts_in(rt.alloc()));
 }
 
-/// Whether the first number that isn't below `wanted` is found, also from that hint on.
+// Whether the first number that isn't below `wanted` is found, also from that hint on.
 fn finds_from(list: &BlockList<u32>, wanted: u32, near: Spot) -> bool {
     let first = list.find_failing(|item| *item < wanted);
     let (again, next) = list.find_failing_near(near, |item| *item < wanted);
@@ -348,7 +348,7 @@ fn finds_from(list: &BlockList<u32>, wanted: u32, near: Spot) -> bool {
     first == Some(&wanted) && again == Some(&wanted) && last == Some(&wanted)
 }
 
-/// Hints within the list and outside of it, by their block and place.
+// Hints within the list and outside of it, by their block and place.
 const HINTS: &[(usize, usize)] = &[
     (0, 0),
     (0, 120),

@@ -1,7 +1,7 @@
 -- The lines of a plan, as they are written.
 use Rattle.std.proofs.Common.{◌≡◌, ℕ, suc, ◌+◌, ◌-◌, ◌<◌, List, [], ◌++◌, sym, ap, ◌∙◌, subst, append_assoc, arith}
 use Rattle.std.proofs.lemmas.List.{append-nil}
-use Rattle.std.specs.Prelude.{Option, Result, Ok, Err, OnErr}
+use Rattle.std.specs.Prelude.{Option}
 use Rattle.std.specs.Io.KnownBytes.{Appends}
 use Rattle.std.proofs.KnownBytes.{Appends-trans}
 use Rattle.photo_batcher.specs.Plans.{Planned}
@@ -62,8 +62,3 @@ pub last_cut : (before here after : Option (List ℕ)) (p : Planned) (place coun
 last_cut before here after p place count line text all is so_far part =
     piece_cut before here after (count_line p) [] text
     (subst (λ (l : List ℕ). IsWrittenTo before here l text) (last_line p place count all ∙ sym (append-nil (count_line p))) so_far) (subst (AppendsFront here after) is part)
-
--- what a failed call leaves
-pub on_err : {T E : Type 0} (r : Result T E) (P : Type 0) → P → OnErr r P
-on_err (Ok x) P is = tt
-on_err (Err e) P is = is

@@ -5,7 +5,8 @@ ghost use Rattle.photo_script.specs.declared.fault.ScriptFault.{ScriptFault};
 ghost use Rattle.photo_script.specs.declared.fault.ScriptFault.TheVariants as script;
 ghost use Rattle.fleet_steps.specs.Laws.{AcceptedStaysSound};
 ghost use Rattle.fleet_steps.specs.declared.fault.RunError.TheVariants.{NoMemory, NoWorker, Script, Write};
-ghost use Rattle.fleet_runner.specs.Outputs.{IsOfReading, IsOfPlainRun, IsOfWorkersRun, TakesAtMost, WritesOutput, WritesFirst, WritesFront};
+ghost use Rattle.fleet_runner.specs.Outputs.{IsOfReading, IsOfPlainRun, IsOfWorkersRun, TakesAtMost, WritesOutput};
+ghost use Rattle.fleet_runner.specs.Outputs.{WritesFirst, WritesFront};
 
 use crate::{Gate, RunError, Workers, read_source, run_fleet, run_plain, write_reports};
 use fleet_steps::laws::accepted_stays_sound;

@@ -1,7 +1,7 @@
 -- What the bounds of a normal form say of the versions that are known.
 use Rattle.std.proofs.Common.{◌≡◌, ℕ, ◌<◌, Bool, true, false, eqb, ltb, ◌&&◌, ◌||◌, List, [], ◌∷◌, refl, arith}
 use Rattle.std.specs.List.{AllByRecursion, list_all}
-use Rattle.std.proofs.lemmas.Bool.{le-leb, eq-eqb, ltb-true, and_parts}
+use Rattle.std.proofs.lemmas.Bool.{le-leb, eq-eqb, ltb-true, and_parts, or_left, or_right}
 use Rattle.photo_version.specs.Author.{author_of_word}
 use Rattle.photo_version.specs.Version.{Version, version}
 use Rattle.item_knowledge.specs.Entries.{Entry, denotes, denotes_one, is_vector}
@@ -16,13 +16,6 @@ last e = version (author_of_word e.0) e.1
 -- an entry denotes its last version
 denotes_last : (e : Entry) → 0 < e.1 → denotes_one e (last e) ≡ true
 denotes_last e above = rw (eq-eqb e.0 e.0 refl, le-leb 1 e.1 (omega arith), le-leb e.1 e.1 (omega arith)) refl
-
-or_right : (a b : Bool) → b ≡ true → (a || b) ≡ true
-or_right true b h = refl
-or_right false b h = h
-
-or_left : (a b : Bool) → a ≡ true → (a || b) ≡ true
-or_left a b h = rw h refl
 
 -- the last versions of all entries have what each denoted version has
 each_last : (es : List Entry) (P : Version → Type 0) → is_vector es ≡ true → ((v : Version) → denotes es v ≡ true → P v) → AllByRecursion (λ e. P (last e)) es

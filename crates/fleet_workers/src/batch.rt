@@ -1,5 +1,6 @@
 // One batch: it is dealt to workers, and what they gave back is put in its places.
-ghost use Rattle.std.specs.Prelude.{◌≡◌, ◌⊎◌, ◌-◌, ◌<◌, ◌≤◌, ◌++◌, ℕ, List, Some, length, map, slice_set, IsPermutation, IfSome, IfOk, IfErr, OnOk, ◌∷◌, []};
+ghost use Rattle.std.specs.Prelude.{◌≡◌, ◌⊎◌, ◌-◌, ◌<◌, ◌≤◌, ◌++◌, ℕ, List, Some, length, map, slice_set};
+ghost use Rattle.std.specs.Prelude.{IsPermutation, IfSome, IfOk, IfErr, OnOk, ◌∷◌, []};
 ghost use Rattle.std.specs.Arc.{arc_value};
 ghost use Rattle.std.specs.List.{AllByRecursion};
 ghost use Rattle.std.specs.Option.{option_to_list};

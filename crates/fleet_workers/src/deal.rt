@@ -1,6 +1,7 @@
 // A batch is dealt to workers: each command with the devices that it works on.
 ghost use Rattle.std.specs.Prelude.{◌≡◌, ◌≢◌, ◌<◌, ◌∷◌, ◌++◌, []};
-ghost use Rattle.std.specs.Prelude.{ℕ, List, Option, Some, None, true, length, map, replicate, IsSome, IfSome, IfOk, OnOk, slice_index_or, slice_set};
+ghost use Rattle.std.specs.Prelude.{ℕ, List, Option, Some, None, true, length, map, replicate, IsSome, IfSome, IfOk};
+ghost use Rattle.std.specs.Prelude.{OnOk, slice_index_or, slice_set};
 ghost use Rattle.std.specs.List.{AllByRecursion};
 ghost use Rattle.photo_device.specs.Device.{Kept};
 ghost use Rattle.photo_script.specs.Contents.{devices_of};

@@ -33,7 +33,7 @@ impl Model for FragmentArena {
 }
 
 impl FragmentArena {
-    ghost use Rattle.std.specs.Prelude.{◌≡◌, ◌+◌, ◌-◌, ◌^◌, ◌<◌, ◌≤◌, [], ◌∷◌, ◌++◌};
+    ghost use Rattle.std.specs.Prelude.{◌≡◌, ◌+◌, ◌-◌, ◌^◌, ◌<◌, ◌≤◌, ◌&&◌, nat_le, nat_lt, [], ◌∷◌, ◌++◌};
     ghost use Rattle.std.specs.Prelude.{ℕ, max, length, get_or, set, IfOk, IfSome, OnOk, OnErr};
     ghost use Rattle.fragment_arena.specs.Arena.{arena, run, words_in};
 
@@ -80,6 +80,13 @@ impl FragmentArena {
         Ok(Row::at(place))
     }
 
+    /// Whether a row of so many words finds room that was reserved.
+    pub fn has_reserved(&self, words: usize) -> bool
+        ensures { result ≡ (nat_le words self.now.reserved_words && nat_lt 0 self.now.reserved_rows) }
+    {
+        words <= self.reserved_words && self.reserved_rows > 0
+    }
+
     /// One row more, at the end, in room that was reserved; gives its place. Takes no memory.
     pub fn place_reserved(&mut self, words: &[u64]) -> Row
         requires words { length words.now ≤ self.old.reserved_words }
@@ -112,7 +119,7 @@ impl FragmentArena {
         }
     }
 
-    /// Those of them that lie side by side, from the first on, in one piece; gives the place behind the last of these.
+    // Those of them that lie side by side, from the first on, in one piece; gives the place behind the last of these.
     fn place_stretch(&mut self, other: &FragmentArena, from: usize, to: usize) -> usize
         requires order { from < to }
         requires there { to ≤ length other.now.rows }

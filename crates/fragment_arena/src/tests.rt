@@ -7,12 +7,12 @@ use std::test::Fail;
 use std::thread;
 use std::thread::{Promise, Threads};
 
-/// Whether a row has these words.
+// Whether a row has these words.
 fn has_row(arena: &FragmentArena, place: usize, words: &[u64]) -> bool {
     place < arena.rows() && arena.row(Row::at(place)) == words
 }
 
-/// Whether two rows stand at their places, and one that is placed once they are gone.
+// Whether two rows stand at their places, and one that is placed once they are gone.
 fn places_rows(arena: &mut FragmentArena) -> Option<bool> {
     let first = arena.place(&[3, 5]).ok()?;
     let second = arena.place(&[]).ok()?;
@@ -21,8 +21,10 @@ fn places_rows(arena: &mut FragmentArena) -> Option<bool> {
     arena.clear();
     let none = arena.rows() == 0;
     arena.reserve(2, 1).ok()?;
+    let room = arena.has_reserved(2) && !arena.has_reserved(3);
     let row = arena.place_reserved(&[9, 9]);
-    Some(both && read && none && row.place() == 0 && has_row(arena, 0, &[9, 9]))
+    let placed = row.place() == 0 && has_row(arena, 0, &[9, 9]) && !arena.has_reserved(0);
+    Some(both && read && none && room && placed)
 }
 
 fn rows_are_placed(alloc: Global) -> bool {
@@ -36,7 +38,7 @@ fn rows_stand_at_their_places(rt: HostRuntime) -> Result<(), Fail> {
     Ok(())
 }
 
-/// Places rows of 0 to 299 words, each of its own number.
+// Places rows of 0 to 299 words, each of its own number.
 fn place_stairs(alloc: Global, arena: &mut FragmentArena) -> Result<(), AllocError> {
     for i in 0..300 {
         let row = vec![in alloc; i as u64; i]?;
@@ -45,7 +47,7 @@ fn place_stairs(alloc: Global, arena: &mut FragmentArena) -> Result<(), AllocErr
     Ok(())
 }
 
-/// Whether the rows are those of the stairs, of which the first stands at a place.
+// Whether the rows are those of the stairs, of which the first stands at a place.
 fn are_stairs(arena: &FragmentArena, first: usize) -> bool
     requires { first < 1000 }
 {
@@ -61,7 +63,7 @@ fn are_stairs(arena: &FragmentArena, first: usize) -> bool
     true
 }
 
-/// Whether rows in several blocks are read back, round after round, and rounds of one size take no more memory.
+// Whether rows in several blocks are read back, round after round, and rounds of one size take no more memory.
 fn climbs(alloc: Global, arena: &mut FragmentArena) -> bool {
     let mut memory = (0, 0);
     for round in 0..5 {
@@ -88,7 +90,7 @@ fn rows_lie_in_many_blocks(rt: HostRuntime) -> Result<(), Fail> {
     Ok(())
 }
 
-/// Whether 10,000 rounds of one size take no more memory than the first of them.
+// Whether 10,000 rounds of one size take no more memory than the first of them.
 fn rounds_take_no_more(alloc: Global) -> bool {
     let mut arena = FragmentArena::new(alloc);
     let mut first = (0, 0);
@@ -110,7 +112,7 @@ fn memory_does_not_grow(rt: HostRuntime) -> Result<(), Fail> {
     Ok(())
 }
 
-/// Whether a word is written over in its row alone.
+// Whether a word is written over in its row alone.
 fn writes_over(arena: &mut FragmentArena) -> Option<bool> {
     arena.place(&[1, 2]).ok()?;
     let row = arena.place(&[3, 4, 5]).ok()?;
@@ -122,7 +124,7 @@ fn writes_over(arena: &mut FragmentArena) -> Option<bool> {
     Some(has_row(arena, 0, &[1, 2]) && has_row(arena, 1, &[3, 4, 77]) && has_row(arena, 2, &[6]))
 }
 
-/// Whether the rows of one arena come to another, behind its rows.
+// Whether the rows of one arena come to another, behind its rows.
 fn takes_all(alloc: Global, arena: &FragmentArena) -> Option<bool> {
     let mut other = FragmentArena::new(alloc);
     other.place(&[8]).ok()?;
@@ -149,7 +151,7 @@ fn a_word_is_written_over(rt: HostRuntime) -> Result<(), Fail> {
     Ok(())
 }
 
-/// Whether raw words are read back as they were written.
+// Whether raw words are read back as they were written.
 fn raw_words_are_read(alloc: Global) -> bool {
     let Ok(mut words) = RawWords::make(alloc, 4) else {
         return false;
@@ -175,7 +177,7 @@ impl Promise<FragmentArena> for Same {
     ghost kept_by = { λ p r. r ≡ p.0.value };
 }
 
-/// An arena goes to another thread, and comes back.
+// An arena goes to another thread, and comes back.
 fn there_and_back<R: Threads>(rt: &R, arena: FragmentArena) -> Result<FragmentArena, AllocError>
     ensures { IfOk result (λ a. a ≡ arena) }
 {

@@ -1,7 +1,8 @@
 -- Lists of rows that are compared row by row.
 use Rattle.std.proofs.Common.{◌≡◌, ℕ, suc, ◌+◌, ◌<◌, ◌≤◌, Bool, true, false, eqb, ◌&&◌, List, [], ◌∷◌, length, get_or, drop, refl, sym, ap, ◌∙◌}
+use Rattle.std.proofs.lemmas.List.{drop_all}
 use Rattle.std.specs.Cmp.Lexicographic.{pointwise}
-use Rattle.item_knowledge.proofs.MergeLemmas.{drop_none, drop_next}
+use Rattle.item_knowledge.proofs.MergeLemmas.{drop_next}
 
 abbrev pub same_row : List ℕ → List ℕ → Bool
 same_row xs ys = pointwise (λ a b. eqb a b) xs ys
@@ -19,7 +20,7 @@ pub rows_unlike : (xs ys : List (List ℕ)) (i : ℕ) → i < length xs → i < 
 rows_unlike xs ys i l m h = step xs ys i l m ∙ rw h refl
 
 pub rows_end : (xs ys : List (List ℕ)) (i : ℕ) → length xs ≤ i → length ys ≤ i → same_rows (drop i xs) (drop i ys) ≡ true
-rows_end xs ys i l m = (λ z. same_rows (drop_none xs i l z) (drop_none ys i m z))
+rows_end xs ys i l m = (λ z. same_rows (drop_all i xs l z) (drop_all i ys m z))
 
 pub rows_longer : (xs ys : List (List ℕ)) → (length xs ≡ length ys → ⊥) → same_rows xs ys ≡ false
 rows_longer [] [] n = absurd (n refl)

@@ -1,5 +1,6 @@
 -- Two lists in order, gone along at once.
 use Rattle.std.proofs.Common.{◌≡◌, ℕ, zero, suc, ◌+◌, ◌<◌, ◌≤◌, Bool, true, false, leb, ltb, ◌&&◌, List, [], ◌∷◌, length, get_or, drop, refl, sym, subst, ap, ◌∙◌, arith}
+use Rattle.std.proofs.lemmas.List.{drop_all}
 use Rattle.std.specs.List.{list_all}
 use Rattle.std.proofs.lemmas.Bool.{and_parts, and_from, lt-ltb, ltb-true, eq-eqb, ne_eqb, le-leb, lt-leb}
 use Rattle.item_knowledge.specs.Tables.{keys_pass, in_order, at}
@@ -9,7 +10,7 @@ use Rattle.item_knowledge.specs.Gathering.{IsSide, vector_of}
 use Rattle.item_knowledge.specs.Rows.{pairs, IsRow}
 use Rattle.item_knowledge.specs.Kept.{is_side_within}
 use Rattle.item_knowledge.proofs.TableLemmas.{at_above, above_all}
-use Rattle.item_knowledge.proofs.MergeLemmas.{drop_next, drop_none}
+use Rattle.item_knowledge.proofs.MergeLemmas.{drop_next}
 use Rattle.item_knowledge.proofs.EntryLemmas.{vector_parts}
 use Rattle.item_knowledge.proofs.RowLemmas.{entry_step}
 use Rattle.item_knowledge.proofs.SearchLemmas.{no_fall}
@@ -86,7 +87,7 @@ along_none row other i j a l m =
     let s = entry_step row i l a.left_row in
     let p = vector_parts (entry_at row i) (pairs (drop (i + 2) row)) (subst (λ es. is_vector es ≡ true) s.entries a.left) in
     sym a.rest
-    ∙ ((λ z. leq (s.entries z) (pairs (drop_none other j m z)))
+    ∙ ((λ z. leq (s.entries z) (pairs (drop_all j other m z)))
     ∙ leq_below (get_or row i 0) (get_or row (i + 1) 0) (pairs (drop (i + 2) row)) [] p.positive)
 
 pub along_above : (row other : List ℕ) (i j : ℕ) → Along row other i j → i < length row → j < length other → get_or row i 0 < get_or other j 0 → leq (pairs row) (pairs other) ≡ false
@@ -127,7 +128,7 @@ along_both row other i j a l m e le =
     }
 
 pub along_end : (row other : List ℕ) (i j : ℕ) → Along row other i j → length row ≤ i → leq (pairs row) (pairs other) ≡ true
-along_end row other i j a l = sym a.rest ∙ ap (λ ws. leq (pairs ws) (pairs (drop j other))) (drop_none row i l)
+along_end row other i j a l = sym a.rest ∙ ap (λ ws. leq (pairs ws) (pairs (drop j other))) (drop_all i row l)
 
 -- A table, from a place on
 
@@ -149,7 +150,7 @@ pub skip_from : (xs : List (ℕ × ℕ)) (i q : ℕ) (d : ℕ × ℕ) → i < le
 skip_from xs i q d l less = sym (ap (λ zs. at 0 zs q) (drop_next xs i d l) ∙ rw (ne_eqb (get_or xs i d).0 q (λ s. absurd (omega arith))) refl)
 
 pub end_from : (xs : List (ℕ × ℕ)) (i p : ℕ) → length xs ≤ i → at 0 (drop i xs) p ≡ 0
-end_from xs i p l = ap (λ zs. at 0 zs p) (drop_none xs i l)
+end_from xs i p l = ap (λ zs. at 0 zs p) (drop_all i xs l)
 
 -- where a place has a smaller number, nothing up to it counts
 pub behind_from : (xs : List (ℕ × ℕ)) (i q : ℕ) (d : ℕ × ℕ) → in_order xs ≡ true → i < length xs → (get_or xs i d).0 < q → at 0 (drop (suc i) xs) q ≡ at 0 xs q
@@ -169,7 +170,7 @@ pub all_none : {X : Type 0} (t : X → Bool) (xs : List X) (i : ℕ) (d : X) (b 
 all_none t xs i d b l h g = sym g ∙ (ap (list_all t) (drop_next xs i d l) ∙ rw h refl)
 
 pub all_end : {X : Type 0} (t : X → Bool) (xs : List X) (i : ℕ) (b : Bool) → length xs ≤ i → list_all t (drop i xs) ≡ b → b ≡ true
-all_end t xs i b l g = sym g ∙ ap (list_all t) (drop_none xs i l)
+all_end t xs i b l g = sym g ∙ ap (list_all t) (drop_all i xs l)
 
 -- the vectors of two sides, along both indexes
 

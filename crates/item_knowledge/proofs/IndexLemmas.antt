@@ -1,5 +1,6 @@
 -- The index that is made beside the groups.
 use Rattle.std.proofs.Common.{◌≡◌, ℕ, zero, suc, ◌+◌, ◌<◌, ◌≤◌, Bool, true, false, ltb, List, [], ◌∷◌, ◌++◌, length, drop, refl, sym, subst, ap, ◌∙◌, inl, inr, arith, append_assoc, Option, None, Some}
+use Rattle.std.proofs.lemmas.List.{drop_all, append-nil}
 use Rattle.std.specs.List.{list_all}
 use Rattle.std.proofs.lemmas.Bool.{and_parts, and_from, lt-ltb, eq-eqb, ne_eqb, cases_Bool, cases_eq}
 use Rattle.item_knowledge.specs.Tables.{keys_pass, in_order, at}
@@ -9,7 +10,6 @@ use Rattle.item_knowledge.specs.Gathering.{add, add_unless, gathered, indexed, n
 use Rattle.item_knowledge.proofs.FragmentLemmas.{entries_decide}
 use Rattle.item_knowledge.proofs.AddLemmas.{add_here, add_later}
 use Rattle.item_knowledge.proofs.GatherLemmas.{unless_same, unless_other, row_vector, row_none}
-use Rattle.item_knowledge.proofs.MergeLemmas.{append_nil, drop_none}
 use Rattle.item_knowledge.proofs.PlaceLemmas.{place_below, place_grown, place_of_added, place_here, place_later, inner, some_inj}
 
 indexed_same : (star : List Entry) (f : ℕ × ℕ → List Entry) (r : ℕ × (ℕ × ℕ)) (rs : List (ℕ × (ℕ × ℕ))) (gs : List Fragment) → same_entries star (f r.1) ≡ true → indexed star f (r ∷ rs) gs ≡ indexed star f rs gs
@@ -182,5 +182,5 @@ one_gathered star f table gs new numbers more i k all every r d h other g p m =
 
 pub all_gathered : (star : List Entry) (f : ℕ × ℕ → List Entry) (table : List (ℕ × (ℕ × ℕ))) (gs : List Fragment) (numbers : List (ℕ × ℕ)) (i : ℕ) (all : List Fragment) (every : List (ℕ × ℕ)) → length table ≤ i → IsGathered star f table gs numbers i all every → (gs ≡ all) × (numbers ≡ every)
 all_gathered star f table gs numbers i all every l h =
-    let none = drop_none table i l in
-    (ap (λ rs. gathered star f rs gs) (sym none) ∙ h.rest, sym (append_nil numbers) ∙ (ap (λ rs. numbers ++ indexed star f rs gs) (sym none) ∙ h.index))
+    let none = drop_all i table l in
+    (ap (λ rs. gathered star f rs gs) (sym none) ∙ h.rest, sym (append-nil numbers) ∙ (ap (λ rs. numbers ++ indexed star f rs gs) (sym none) ∙ h.index))

@@ -18,8 +18,8 @@ pub mod AlongLemmas
 pub mod KeptLemmas
 pub mod StagedLemmas
 pub mod WithinLemmas
-pub mod ToldLemmas
-pub mod HadLemmas
+pub mod TableRowLemmas
+pub mod KnownLemmas
 pub mod PutLemmas
 pub mod NextLemmas
 pub mod NormalLemmas

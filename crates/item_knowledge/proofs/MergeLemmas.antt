@@ -1,5 +1,6 @@
 -- A merge on the way: what is done, and what is left.
 use Rattle.std.proofs.Common.{◌≡◌, ℕ, zero, suc, ◌+◌, ◌<◌, ◌≤◌, true, ltb, List, [], ◌∷◌, ◌++◌, length, get_or, drop, refl, sym, subst, ap, ◌∙◌, inl, inr, arith, append_assoc, add-one, drop-cons}
+use Rattle.std.proofs.lemmas.List.{drop_all, append-nil}
 use Rattle.std.proofs.lemmas.Bool.{and_parts, and_from, lt-ltb, cases_lt}
 use Rattle.item_knowledge.specs.Tables.{keys_pass, in_order, merge}
 use Rattle.item_knowledge.proofs.TableLemmas.{above_all, merge_left, merge_right, merge_both}
@@ -13,19 +14,13 @@ pub record Merging {A B C : Type 0} (alone : A → C) (both : A → C → C) (ot
 rest_order : {A : Type 0} (xs : List (ℕ × A)) (i : ℕ) (d : ℕ × A) → i < length xs → in_order (drop i xs) ≡ true → (keys_pass (λ k. ltb (get_or xs i d).0 k) (drop (i + 1) xs) ≡ true) × (in_order (drop (i + 1) xs) ≡ true)
 rest_order xs i d l h = rw add-one (and_parts _ _ (subst (λ zs. in_order zs ≡ true) (drop-cons xs i d l) h))
 
-pub drop_none : {X : Type 0} (zs : List X) (n : ℕ) → length zs ≤ n → drop n zs ≡ []
-drop_none [] zero h = refl
-drop_none [] (suc n) h = refl
-drop_none (z ∷ zs) zero h = absurd (omega arith)
-drop_none (z ∷ zs) (suc n) h = drop_none zs n (omega arith)
-
 above_rest : {A : Type 0} (k : ℕ) (xs : List (ℕ × A)) (i : ℕ) (d : ℕ × A) → in_order (drop i xs) ≡ true → i ≤ length xs → (i < length xs → k < (get_or xs i d).0) → keys_pass (λ n. ltb k n) (drop i xs) ≡ true
 above_rest k xs i d h l f = elim (cases_lt i (length xs)) [
   | inl more ↦
       let parts = rest_order xs i d more h in
       let less = f more in
       rw (drop-cons xs i d more) (and_from _ _ (lt-ltb k (get_or xs i d).0 less) (above_all k (get_or xs i d).0 _ (omega arith) (rw add-one at parts.0)))
-  | inr over ↦ subst (λ zs. keys_pass (λ n. ltb k n) zs ≡ true) (sym (drop_none xs i over)) refl
+  | inr over ↦ subst (λ zs. keys_pass (λ n. ltb k n) zs ≡ true) (sym (drop_all i xs over)) refl
 ]
 
 step_done : {X : Type 0} (out : List X) (z : X) (rest before whole : List X) → before ≡ z ∷ rest → out ++ before ≡ whole → (out ++ z ∷ []) ++ rest ≡ whole
@@ -57,12 +52,8 @@ take_both alone both other xs ys out i j d e m l k f =
     let right = ap (λ zs. merge alone both other (get_or xs i d ∷ drop (i + 1) xs) zs) (drop_next ys j e k) in
     record { done = step_done out _ _ _ _ (left ∙ (right ∙ step)) m.done; left = p.1; right = q.1 }
 
-pub append_nil : {X : Type 0} (zs : List X) → zs ++ [] ≡ zs
-append_nil [] = refl
-append_nil (z ∷ zs) = ap (λ w. z ∷ w) (append_nil zs)
-
 pub all_merged : {A B C : Type 0} (alone : A → C) (both : A → C → C) (other : B → C) (xs : List (ℕ × A)) (ys : List (ℕ × B)) (out : List (ℕ × C)) (i j : ℕ) → Merging alone both other xs ys out i j → length xs ≤ i → length ys ≤ j → out ≡ merge alone both other xs ys
 all_merged alone both other xs ys out i j m l k =
-    let left = ap (λ zs. merge alone both other zs (drop j ys)) (drop_none xs i l) in
-    let right = ap (λ zs. merge alone both other [] zs) (drop_none ys j k) in
-    sym (append_nil out) ∙ (ap (λ zs. out ++ zs) (sym (left ∙ right)) ∙ m.done)
+    let left = ap (λ zs. merge alone both other zs (drop j ys)) (drop_all i xs l) in
+    let right = ap (λ zs. merge alone both other [] zs) (drop_all j ys k) in
+    sym (append-nil out) ∙ (ap (λ zs. out ++ zs) (sym (left ∙ right)) ∙ m.done)

@@ -1,7 +1,7 @@
 -- An author's next version, raised in place.
 use Rattle.std.proofs.Common.{◌≡◌, ℕ, ◌+◌, ◌-◌, ◌<◌, ◌≤◌, Bool, true, false, leb, ltb, cond, ◌&&◌, ◌||◌, List, [], ◌∷◌, refl, sym, subst, ◌∙◌, inl, inr, arith}
 use Rattle.std.specs.List.{list_all}
-use Rattle.std.proofs.lemmas.Bool.{and_parts, and_from, lt-ltb, ltb-true, le-leb, leb-true, cases_lt, false≢true}
+use Rattle.std.proofs.lemmas.Bool.{and_parts, and_from, lt-ltb, ltb-true, le-leb, leb-true, cases_lt, false≢true, or_left, or_right}
 use Rattle.photo_version.specs.Author.{Author, author_word, is_author_word, same_author}
 use Rattle.photo_version.specs.Version.{Version, version, same_version}
 use Rattle.item_knowledge.specs.Tables.{in_order}
@@ -16,13 +16,6 @@ use Rattle.item_knowledge.proofs.FragmentLemmas.{groups_parts, normal_parts, leq
 use Rattle.item_knowledge.proofs.KeptLemmas.{kept_side, learned, next_known, star_next}
 use Rattle.item_knowledge.proofs.PictureLemmas.{listed, first_listed}
 use Rattle.item_knowledge.proofs.RaiseLemmas.{raised_kept, is_next}
-
-or_right : (a b : Bool) → b ≡ true → (a || b) ≡ true
-or_right true b h = refl
-or_right false b h = h
-
-or_left : (a b : Bool) → a ≡ true → (a || b) ≡ true
-or_left a b h = rw h refl
 
 -- Where no version that is known has a number above b, no bound is above b
 

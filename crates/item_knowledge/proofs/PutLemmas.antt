@@ -1,12 +1,13 @@
 -- A word is put in place into a row of a fragment.
 use Rattle.std.proofs.Common.{◌≡◌, ℕ, zero, suc, ◌+◌, ◌*◌, ◌<◌, ◌≤◌, true, leb, ltb, max, ◌&&◌, List, [], ◌∷◌, length, get_or, set, drop, refl, sym, subst, ap, ◌∙◌, arith}
+use Rattle.std.proofs.lemmas.List.{drop_all}
 use Rattle.std.proofs.lemmas.Bool.{and_parts, and_from, lt-ltb, ltb-true, leb-true, eq-eqb, ne_eqb}
 use Rattle.item_knowledge.specs.Tables.{keys_pass, in_order}
 use Rattle.item_knowledge.specs.Entries.{Entry, bound, joined}
 use Rattle.item_knowledge.specs.Fragments.{Fragment, entries_at}
 use Rattle.item_knowledge.specs.Rows.{pairs, flat, AreRows, fragments_of, rows_of}
 use Rattle.item_knowledge.specs.Raising.{raised, all_raised, is_risen, are_risen}
-use Rattle.item_knowledge.proofs.MergeLemmas.{drop_none, drop_next}
+use Rattle.item_knowledge.proofs.MergeLemmas.{drop_next}
 use Rattle.item_knowledge.proofs.RowLemmas.{fragments_rows, rows_rows, rows_length, entries_row}
 use Rattle.item_knowledge.proofs.TableLemmas.{merge_left, merge_both}
 
@@ -16,7 +17,7 @@ pub bound_passed : (es : List Entry) (i a : ℕ) → i < length es → ((get_or 
 bound_passed es i a l n = ap (λ ds. bound ds a) (drop_next es i (0, 0) l) ∙ rw (ne_eqb (get_or es i (0, 0)).0 a n) refl
 
 pub bound_none : (es : List Entry) (i a : ℕ) → length es ≤ i → bound (drop i es) a ≡ 0
-bound_none es i a l = ap (λ ds. bound ds a) (drop_none es i l)
+bound_none es i a l = ap (λ ds. bound ds a) (drop_all i es l)
 
 -- A bound that is raised in place is the join with the one entry
 

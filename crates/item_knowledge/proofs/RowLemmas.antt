@@ -1,16 +1,17 @@
 -- Rows of words.
 use Rattle.std.proofs.Common.{◌≡◌, ℕ, zero, suc, ◌+◌, ◌*◌, ◌<◌, ◌≤◌, Bool, true, false, leb, ltb, eqb, ◌&&◌, max, List, [], ◌∷◌, ◌++◌, length, get_or, drop, refl, sym, subst, ap, ◌∙◌, inl, inr, arith, append_assoc}
+use Rattle.std.proofs.lemmas.List.{drop_all, append-nil}
 use Rattle.std.specs.Cmp.Lexicographic.{pointwise}
 use Rattle.std.specs.Bool.{Decides}
 use Rattle.std.proofs.lemmas.Bool.Decides.{Decides-eqb}
 use Rattle.std.proofs.lemmas.Slice.Eq.{slice_eq-Decides}
-use Rattle.std.proofs.lemmas.Bool.{and_parts, and_from, lt-ltb, cases_lt, eq-eqb, ne_eqb, le-leb, lt-leb}
+use Rattle.std.proofs.lemmas.Bool.{and_parts, and_from, lt-ltb, cases_lt, eq-eqb, ne_eqb, le-leb, lt-leb, eqb-true}
 use Rattle.item_knowledge.specs.Tables.{keys_pass, in_order}
 use Rattle.item_knowledge.specs.Entries.{Entry, same_entries, joined, bound, leq}
 use Rattle.item_knowledge.specs.Fragments.{Fragment, nothing, entries_at}
 use Rattle.item_knowledge.specs.Rows.{pairs, flat, IsRow, fragments_of, rows_of, AreRows}
 use Rattle.item_knowledge.proofs.TableLemmas.{at_above, above_all, merge_left, merge_right, merge_both}
-use Rattle.item_knowledge.proofs.MergeLemmas.{drop_none, drop_next, append_nil}
+use Rattle.item_knowledge.proofs.MergeLemmas.{drop_next}
 
 -- Rows and what they are of
 
@@ -94,7 +95,7 @@ row_step xs i l h =
       | inl more ↦
           let words : drop i xs ≡ get_or xs i 0 ∷ get_or xs (i + 1) 0 ∷ drop (i + 1 + 1) xs = first ∙ ap (λ ws. get_or xs i 0 ∷ ws) (drop_next xs (i + 1) 0 more) in
           record { more = more; words = words; rest = rest_row (get_or xs i 0) (get_or xs (i + 1) 0) (drop (i + 1 + 1) xs) (subst IsRow words h) }
-      | inr over ↦ absurd (odd (get_or xs i 0) (subst IsRow (first ∙ ap (λ ws. get_or xs i 0 ∷ ws) (drop_none xs (i + 1) over)) h))
+      | inr over ↦ absurd (odd (get_or xs i 0) (subst IsRow (first ∙ ap (λ ws. get_or xs i 0 ∷ ws) (drop_all (i + 1) xs over)) h))
     ]
 
 pub record Rows (xs ys out : List ℕ) (i j : ℕ) : Type 0 where
@@ -120,7 +121,7 @@ above_row k xs i o r f = elim (cases_lt i (length xs)) [
       let less = f more in
       let parts = step_order xs i s o in
       subst (λ es. keys_pass (λ n. ltb k n) es ≡ true) (sym (step_pairs xs i s)) (and_from _ _ (lt-ltb k (get_or xs i 0) less) (above_all k (get_or xs i 0) (pairs (drop (i + 1 + 1) xs)) (omega arith) parts.0))
-  | inr over ↦ subst (λ ws. keys_pass (λ n. ltb k n) (pairs ws) ≡ true) (sym (drop_none xs i over)) refl
+  | inr over ↦ subst (λ ws. keys_pass (λ n. ltb k n) (pairs ws) ≡ true) (sym (drop_all i xs over)) refl
 ]
 
 two_more : (out : List ℕ) (a n : ℕ) (rest whole : List ℕ) → out ++ a ∷ n ∷ rest ≡ whole → ((out ++ a ∷ []) ++ n ∷ []) ++ rest ≡ whole
@@ -181,22 +182,21 @@ joined_with_none (x ∷ xs) h =
     let a = and_parts (keys_pass (λ k. ltb x.0 k) xs) (in_order xs) h in
     merge_left (λ a. a) (λ a b. max a b) (λ b. b) x xs [] a.0 refl ∙ ap (λ zs. x ∷ zs) (joined_with_none xs a.1)
 
+pub joined_empty : (es : List Entry) (ws : List ℕ) → in_order es ≡ true → eqb (length ws) 0 ≡ true → joined es (pairs ws) ≡ es
+joined_empty es [] o h = joined_with_none es o
+joined_empty es (w ∷ ws) o h = absurd (omega (arith, eqb-true (length (w ∷ ws)) 0 h))
+
 -- the rest of the row that is left
-pub rows_merged : (xs ys out new : List ℕ) (i j : ℕ) → Rows xs ys out i j → (i < length xs → length ys ≤ j) → new ≡ (out ++ drop i xs) ++ drop j ys → new ≡ flat (joined (pairs xs) (pairs ys))
-rows_merged xs ys out new i j m over is = is ∙ elim (cases_lt i (length xs)) [
-  | inl more ↦
-      let none = drop_none ys j (over more) in
-      let left : joined (pairs (drop i xs)) (pairs (drop j ys)) ≡ pairs (drop i xs) = ap (λ ws. joined (pairs (drop i xs)) (pairs ws)) none ∙ joined_with_none (pairs (drop i xs)) m.left in
-      ap (λ ws. (out ++ drop i xs) ++ ws) none
-      ∙ (append_nil (out ++ drop i xs)
-      ∙ (ap (λ ws. out ++ ws) (sym (ap flat left ∙ m.left_row)) ∙ m.done))
-  | inr end ↦
-      let none = drop_none xs i end in
-      let right : joined (pairs (drop i xs)) (pairs (drop j ys)) ≡ pairs (drop j ys) = ap (λ ws. joined (pairs ws) (pairs (drop j ys))) none ∙ joined_none (pairs (drop j ys)) in
-      ap (λ ws. (out ++ ws) ++ drop j ys) none
-      ∙ (ap (λ ws. ws ++ drop j ys) (append_nil out)
-      ∙ (ap (λ ws. out ++ ws) (sym (ap flat right ∙ m.right_row)) ∙ m.done))
-]
+
+pub left_merged : (xs ys out new : List ℕ) (i j : ℕ) → Rows xs ys out i j → length ys ≤ j → new ≡ out ++ drop i xs → new ≡ flat (joined (pairs xs) (pairs ys))
+left_merged xs ys out new i j m over is =
+    let left : joined (pairs (drop i xs)) (pairs (drop j ys)) ≡ pairs (drop i xs) = ap (λ ws. joined (pairs (drop i xs)) (pairs ws)) (drop_all j ys over) ∙ joined_with_none (pairs (drop i xs)) m.left in
+    is ∙ (ap (λ ws. out ++ ws) (sym (ap flat left ∙ m.left_row)) ∙ m.done)
+
+pub right_merged : (xs ys out new : List ℕ) (i j : ℕ) → Rows xs ys out i j → length xs ≤ i → new ≡ out ++ drop j ys → new ≡ flat (joined (pairs xs) (pairs ys))
+right_merged xs ys out new i j m over is =
+    let right : joined (pairs (drop i xs)) (pairs (drop j ys)) ≡ pairs (drop j ys) = ap (λ ws. joined (pairs ws) (pairs (drop j ys))) (drop_all i xs over) ∙ joined_none (pairs (drop j ys)) in
+    is ∙ (ap (λ ws. out ++ ws) (sym (ap flat right ∙ m.right_row)) ∙ m.done)
 
 -- the same, at what the code holds after the step
 

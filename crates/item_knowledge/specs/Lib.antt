@@ -9,7 +9,7 @@ pub mod Kept
 pub mod Staged
 pub mod Spare
 pub mod Coding
-pub mod Told
+pub mod TableRows
 pub mod Laws
 pub mod Examples
 pub mod Carrying

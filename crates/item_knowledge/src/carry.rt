@@ -10,18 +10,19 @@ ghost use Rattle.item_knowledge.specs.Rows.{pairs, IsRow, AreRows, fragments_of,
 ghost use Rattle.item_knowledge.specs.Tables.{in_order};
 
 use crate::gather::same_row;
-use crate::paired::paired as paired_numbers;
+use crate::index::IndexEntry;
+use crate::pairing::paired_numbers;
 use crate::places::Places;
 use crate::rows::Rows;
 use crate::search::{is_leq, number_near};
 use crate::union::{begin, entries, pair};
 use std::alloc::{AllocError, Global};
 
-/// A changed row has about so many words.
+// A changed row has about so many words.
 const WORDS: usize = 8;
 
-/// Where a row comes from that no earlier one equals: it is that of the left's fragment `a`, which lies behind those that
-/// came, and no changed row equals it; or it is the next changed row. Gives how far both came then.
+// Where a row comes from that no earlier one equals: it is that of the left's fragment `a`, which lies behind those that
+// came, and no changed row equals it; or it is the next changed row. Gives how far both came then.
 fn origin(
     left: &Rows,
     changed: &Places,
@@ -52,7 +53,7 @@ fn origin(
     Some((a, next))
 }
 
-/// Whether the right's fragment `b` has nothing beyond the left's `a`, where the right's star has nothing beyond the left's.
+// Whether the right's fragment `b` has nothing beyond the left's `a`, where the right's star has nothing beyond the left's.
 fn adds_nothing(left: &Rows, right: &Rows, a: usize, b: usize) -> bool
     requires left_rows { AreRows left.now }
     requires right_rows { AreRows right.now }
@@ -68,8 +69,8 @@ fn adds_nothing(left: &Rows, right: &Rows, a: usize, b: usize) -> bool
     is_leq(entries(right, b), entries(left, a))
 }
 
-/// Whether the left's fragment `a` comes as it stands: it lies behind those that came, it has this picture alone, the right
-/// has nothing beyond it of that, and no changed row equals its own.
+// Whether the left's fragment `a` comes as it stands: it lies behind those that came, it has this picture alone, the right
+// has nothing beyond it of that, and no changed row equals its own.
 fn stays(
     left: &Rows,
     right: &Rows,
@@ -108,8 +109,8 @@ fn stays(
     changed.find(bucket, row).is_none()
 }
 
-/// The left's fragment `a` comes behind a run of others from one number up to another, all of which are still to be
-/// written. Where it doesn't follow the last of them the run is written. Gives where the run of `a` begins.
+// The left's fragment `a` comes behind a run of others from one number up to another, all of which are still to be
+// written. Where it doesn't follow the last of them the run is written. Gives where the run of `a` begins.
 fn run_to(
     left: &Rows,
     from: usize,
@@ -133,7 +134,7 @@ fn run_to(
     Ok(a)
 }
 
-/// Writes a run of the left's fragments from one number up to another, and behind it a fragment of one picture.
+// Writes a run of the left's fragments from one number up to another, and behind it a fragment of one picture.
 fn place_behind(
     left: &Rows,
     from: usize,
@@ -155,26 +156,26 @@ fn place_behind(
     Ok(())
 }
 
-/// One picture more in the index, with the number of the next fragment.
-fn add_number(picture: u64, index: &mut Vec<(u64, usize)>) -> Result<(), AllocError>
+// One picture more in the index, with the number of the next fragment.
+fn add_number(picture: u64, index: &mut Vec<IndexEntry>) -> Result<(), AllocError>
     ensures { OnOk result (index.new.items ≡ index.old.items ++ (picture, length index.old.items + 1) ∷ []) }
 {
     index.push((picture, index.len() + 1))?;
     Ok(())
 }
 
-/// Writes the rows of the union behind its star, and its index, as long as each row comes from the left or is the next
-/// changed one; whether that was so to the end. Fragments that come as they stand are written in runs.
+// Writes the rows of the union behind its star, and its index, as long as each row comes from the left or is the next
+// changed one; whether that was so to the end. Fragments that come as they stand are written in runs.
 fn carry(
     left: &Rows,
-    left_index: &[(u64, usize)],
+    left_index: &[IndexEntry],
     right: &Rows,
-    right_index: &[(u64, usize)],
+    right_index: &[IndexEntry],
     star: &[u64],
     changed: &Places,
     table: &[(u64, (usize, usize))],
     room: &mut Vec<u64>,
-    index: &mut Vec<(u64, usize)>,
+    index: &mut Vec<IndexEntry>,
     out: &mut Rows,
 ) -> Result<bool, AllocError>
     requires left_rows { AreRows left.now }
@@ -189,8 +190,11 @@ fn carry(
     requires table { table.now ≡ paired left_index.now right_index.now }
     requires index { index.old.items ≡ [] }
     requires out { out.old ≡ [] ∷ star.now ∷ [] }
-    ensures rows { IfOk result (λ whole. whole ≡ true → out.new ≡ rows_of (star_first (pairs star.now) (groups_of (fragments_of left.now) (fragments_of right.now) left_index.now right_index.now))) }
-    ensures index { IfOk result (λ whole. whole ≡ true → index.new.items ≡ index_of (fragments_of left.now) (fragments_of right.now) left_index.now right_index.now) }
+    ensures rows { IfOk result (λ whole. whole ≡ true → out.new
+        ≡ rows_of (star_first (pairs star.now)
+        (groups_of (fragments_of left.now) (fragments_of right.now) left_index.now right_index.now))) }
+    ensures index { IfOk result (λ whole. whole ≡ true → index.new.items
+        ≡ index_of (fragments_of left.now) (fragments_of right.now) left_index.now right_index.now) }
 {
     // For its fact alone: the rows are fewer than 2 ^ 63.
     let _count = left.rows();
@@ -222,8 +226,8 @@ fn carry(
     Ok(true)
 }
 
-/// How many changed rows are looked for before a union gathers all rows anew: as many as the right lists where these are
-/// few, and otherwise few of the left's.
+// How many changed rows are looked for before a union gathers all rows anew: as many as the right lists where these are
+// few, and otherwise few of the left's.
 fn most_changes(left_count: usize, right_count: usize) -> usize {
     if right_count <= left_count / 2 {
         return right_count;
@@ -231,13 +235,13 @@ fn most_changes(left_count: usize, right_count: usize) -> usize {
     left_count / 32 + 16
 }
 
-/// Finds the rows of the union that are not those of the left at the same picture, in the order of their pictures, each
-/// once; whether they are so many at most.
+// Finds the rows of the union that are not those of the left at the same picture, in the order of their pictures, each
+// once; whether they are so many at most.
 fn find_changes(
     left: &Rows,
-    left_index: &[(u64, usize)],
+    left_index: &[IndexEntry],
     right: &Rows,
-    right_index: &[(u64, usize)],
+    right_index: &[IndexEntry],
     most: usize,
     room: &mut Vec<u64>,
     changed: &mut Places,
@@ -276,12 +280,12 @@ fn find_changes(
 pub(crate) fn carried(
     alloc: Global,
     left: &Rows,
-    left_index: &[(u64, usize)],
+    left_index: &[IndexEntry],
     right: &Rows,
-    right_index: &[(u64, usize)],
+    right_index: &[IndexEntry],
     star: &[u64],
     out: &mut Rows,
-) -> Result<Option<Vec<(u64, usize)>>, AllocError>
+) -> Result<Option<Vec<IndexEntry>>, AllocError>
     requires left_rows { AreRows left.now }
     requires right_rows { AreRows right.now }
     requires left { IsSide (fragments_of left.now) left_index.now }
@@ -289,8 +293,11 @@ pub(crate) fn carried(
     requires normal { is_normal (fragments_of left.now) ≡ true }
     requires star_row { IsRow star.now }
     requires star { pairs star.now ≡ pair_vector (fragments_of left.now) (fragments_of right.now) (0, 0) }
-    ensures rows { IfOk result (λ found. IfSome found (λ _. out.new ≡ rows_of (star_first (pairs star.now) (groups_of (fragments_of left.now) (fragments_of right.now) left_index.now right_index.now)))) }
-    ensures index { IfOk result (λ found. IfSome found (λ index. index.items ≡ index_of (fragments_of left.now) (fragments_of right.now) left_index.now right_index.now)) }
+    ensures rows { IfOk result (λ found. IfSome found (λ _. out.new
+        ≡ rows_of (star_first (pairs star.now)
+        (groups_of (fragments_of left.now) (fragments_of right.now) left_index.now right_index.now)))) }
+    ensures index { IfOk result (λ found. IfSome found (λ index. index.items
+        ≡ index_of (fragments_of left.now) (fragments_of right.now) left_index.now right_index.now)) }
 {
     let most = most_changes(left_index.len(), right_index.len());
     if left.rows() / 2 <= left_index.len() {

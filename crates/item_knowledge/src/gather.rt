@@ -27,7 +27,8 @@ pub(crate) fn add(
 ) -> Result<usize, AllocError>
     requires placed { Placed places.old groups.old.items }
     requires row { IsRow row.now }
-    ensures groups { OnOk result (grouped groups.new.items places.new.rows ≡ spec.add picture (pairs row.now) (grouped groups.old.items places.old.rows)) }
+    ensures groups { OnOk result (grouped groups.new.items places.new.rows
+        ≡ spec.add picture (pairs row.now) (grouped groups.old.items places.old.rows)) }
     ensures placed { OnOk result (Placed places.new groups.new.items) }
     ensures below { IfOk result (λ k. k < length groups.new.items) }
     ensures place { IfOk result (λ k. spec.place (grouped groups.new.items places.new.rows) (pairs row.now) ≡ Some k) }

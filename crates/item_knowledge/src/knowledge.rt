@@ -1,9 +1,10 @@
 use crate::Fragment;
-use crate::had::has_table;
-use crate::raised::{is_level, raise};
+use crate::index::IndexEntry;
+use crate::known::has_table;
+use crate::raise::{is_level, raise};
 use crate::rows::Rows;
 use crate::search::{bound_at, number_at, number_near};
-use crate::told::{star_alone, told, told_one, vector_of as vector_of_row};
+use crate::table_rows::{star_alone, told, told_one, vector_of as vector_of_row};
 use crate::union::{entries, is_within, union};
 use photo_record::PicNo;
 use photo_version::{Vector, Version};
@@ -11,15 +12,15 @@ use std::alloc::{AllocError, Global};
 use std::marker::Model;
 use std::mem::{replace, swap};
 
-/// What is staged.
+// What is staged.
 #[derive(Debug, Drop)]
 enum Staged {
-    /// Nothing. The spare rows mean nothing.
+    // Nothing. The spare rows mean nothing.
     Nothing,
-    /// What is known already, and no more.
+    // What is known already, and no more.
     AllKnown,
-    /// What the spare rows are, with their index.
-    Spare(Vec<(u64, usize)>),
+    // What the spare rows are, with their index.
+    Spare(Vec<IndexEntry>),
 }
 
 /// Of which picture which versions are known. It is seen as its fragments in normal form: the star, which is what is
@@ -32,7 +33,7 @@ enum Staged {
 pub struct Knowledge {
     alloc: Global,
     live: Rows,
-    index: Vec<(u64, usize)>,
+    index: Vec<IndexEntry>,
     spare: Rows,
     staged: Staged,
 }
@@ -54,7 +55,8 @@ impl Model for Knowledge {
 }
 
 impl Knowledge {
-    ghost use Rattle.std.specs.Prelude.{◌≡◌, ◌↔◌, ℕ, ◌<◌, ◌≤◌, ◌+◌, ◌||◌, ◌&&◌, ◌==◌, ◌-◌, max, if◌then◌else◌, [], ◌∷◌, true, false, IsTrue, length, get_or, None, IfOk, IfSome, OnOk, OnErr};
+    ghost use Rattle.std.specs.Prelude.{◌≡◌, ◌↔◌, ℕ, ◌<◌, ◌≤◌, ◌+◌, ◌||◌, ◌&&◌, ◌==◌, ◌-◌, max, if◌then◌else◌, []};
+    ghost use Rattle.std.specs.Prelude.{◌∷◌, true, false, IsTrue, length, get_or, None, IfOk, IfSome, OnOk, OnErr};
     ghost use Rattle.std.specs.Option.{is_some};
     ghost use Rattle.photo_version.specs.Author.{Author, same_author, author_word};
     ghost use Rattle.photo_version.specs.Version as versions;
@@ -109,7 +111,7 @@ impl Knowledge {
         (known, next)
     }
 
-    /// Whether the star has a version, which is then known of every picture.
+    // Whether the star has a version, which is then known of every picture.
     fn has_of_every(&self, version: Version) -> bool
         ensures { result ≡ true → (p : ℕ) → 0 < p → spec.knows self.now.known p version ≡ true }
     {
@@ -138,14 +140,16 @@ impl Knowledge {
     /// Whether both denote the same pairs. Takes no memory.
     pub fn same(&self, other: &Knowledge) -> bool
         ensures value { IsTrue result ↔ (self.now.known ≡ other.now.known) }
-        ensures pairs { IsTrue result ↔ ((p : ℕ) (v : versions.Version) → 0 < p → spec.knows self.now.known p v ≡ spec.knows other.now.known p v) }
+        ensures pairs { IsTrue result ↔ ((p : ℕ) (v : versions.Version) → 0 < p → spec.knows self.now.known p v
+            ≡ spec.knows other.now.known p v) }
     {
         self.live.same(&other.live)
     }
 
     /// Whether all that the other knows is known here too. Takes no memory.
     pub fn has_all(&self, other: &Knowledge) -> bool
-        ensures { IsTrue result ↔ ((p : ℕ) (v : versions.Version) → 0 < p → spec.knows other.now.known p v ≡ true → spec.knows self.now.known p v ≡ true) }
+        ensures { IsTrue result ↔ ((p : ℕ) (v : versions.Version) → 0 < p → spec.knows other.now.known p v ≡ true
+            → spec.knows self.now.known p v ≡ true) }
     {
         is_within(&other.live, &other.index, &self.live, &self.index)
     }
@@ -158,14 +162,16 @@ impl Knowledge {
         vector_of_row(self.alloc, entries(&self.live, number))
     }
 
-    /// Stages what is known and what a side denotes.
-    fn stage_union(&mut self, rows: &Rows, index: &[(u64, usize)]) -> Result<(), AllocError>
+    // Stages what is known and what a side denotes.
+    fn stage_union(&mut self, rows: &Rows, index: &[IndexEntry]) -> Result<(), AllocError>
         requires rows { AreRows rows.now }
         requires side { IsSide (fragments_of rows.now) index.now }
         ensures known { self.new.known ≡ self.old.known }
         ensures there { OnOk result (is_some self.new.staged ≡ true) }
-        ensures star { OnOk result (IfSome self.new.staged (λ s. (a : Author) → star_bound s a ≡ max (star_bound self.old.known a) (bound (spec.entries_at (fragments_of rows.now) 0) (author_word a)))) }
-        ensures pairs { OnOk result (IfSome self.new.staged (λ s. (p : ℕ) (v : versions.Version) → 0 < p → spec.knows s p v ≡ (spec.knows self.old.known p v || denotes (vector_of (fragments_of rows.now) index.now p) v))) }
+        ensures star { OnOk result (IfSome self.new.staged (λ s. (a : Author) → star_bound s a
+            ≡ max (star_bound self.old.known a) (bound (spec.entries_at (fragments_of rows.now) 0) (author_word a)))) }
+        ensures pairs { OnOk result (IfSome self.new.staged (λ s. (p : ℕ) (v : versions.Version) → 0 < p → spec.knows s p v
+            ≡ (spec.knows self.old.known p v || denotes (vector_of (fragments_of rows.now) index.now p) v))) }
         ensures refused { OnErr result (self.new.staged ≡ None) }
     {
         self.staged = Staged::Nothing;
@@ -227,12 +233,14 @@ impl Knowledge {
         self.spare.clear();
     }
 
-    /// Learns what a side denotes.
-    fn take_union(&mut self, rows: &Rows, index: &[(u64, usize)]) -> Result<(), AllocError>
+    // Learns what a side denotes.
+    fn take_union(&mut self, rows: &Rows, index: &[IndexEntry]) -> Result<(), AllocError>
         requires rows { AreRows rows.now }
         requires side { IsSide (fragments_of rows.now) index.now }
-        ensures star { OnOk result ((a : Author) → star_bound self.new.known a ≡ max (star_bound self.old.known a) (bound (spec.entries_at (fragments_of rows.now) 0) (author_word a))) }
-        ensures learned { OnOk result ((p : ℕ) (v : versions.Version) → 0 < p → spec.knows self.new.known p v ≡ (spec.knows self.old.known p v || denotes (vector_of (fragments_of rows.now) index.now p) v)) }
+        ensures star { OnOk result ((a : Author) → star_bound self.new.known a
+            ≡ max (star_bound self.old.known a) (bound (spec.entries_at (fragments_of rows.now) 0) (author_word a))) }
+        ensures learned { OnOk result ((p : ℕ) (v : versions.Version) → 0 < p → spec.knows self.new.known p v
+            ≡ (spec.knows self.old.known p v || denotes (vector_of (fragments_of rows.now) index.now p) v)) }
         ensures staged { self.new.staged ≡ None }
         ensures refused { OnErr result (self.new.known ≡ self.old.known) }
     {
@@ -241,13 +249,15 @@ impl Knowledge {
         Ok(())
     }
 
-    /// Learns of every picture an author's next version, where no fragment has more than the star. Takes no memory.
+    // Learns of every picture an author's next version, where no fragment has more than the star. Takes no memory.
     fn take_next(&mut self, version: Version)
         requires first { 0 < star_bound self.old.known version.author }
         requires next { version.number ≡ star_bound self.old.known version.author + 1 }
         requires level { are_level self.old.known (author_word version.author) (version.number - 1) ≡ true }
-        ensures star { (a : Author) → star_bound self.new.known a ≡ (if same_author version.author a then version.number else star_bound self.old.known a) }
-        ensures learned { (p : ℕ) (v : versions.Version) → 0 < p → spec.knows self.new.known p v ≡ (spec.knows self.old.known p v || versions.same_version version v) }
+        ensures star { (a : Author) → star_bound self.new.known a
+            ≡ (if same_author version.author a then version.number else star_bound self.old.known a) }
+        ensures learned { (p : ℕ) (v : versions.Version) → 0 < p → spec.knows self.new.known p v
+            ≡ (spec.knows self.old.known p v || versions.same_version version v) }
         ensures staged { self.new.staged ≡ None }
     {
         self.staged = Staged::Nothing;
@@ -260,7 +270,8 @@ impl Knowledge {
     /// known.
     pub fn learn(&mut self, picture: PicNo, vector: &Vector) -> Result<(), AllocError>
         ensures star { OnOk result ((a : Author) → star_bound self.new.known a ≡ star_bound self.old.known a) }
-        ensures learned { OnOk result ((p : ℕ) (v : versions.Version) → 0 < p → spec.knows self.new.known p v ≡ (spec.knows self.old.known p v || ((picture == p) && vectors.denotes vector.now v))) }
+        ensures learned { OnOk result ((p : ℕ) (v : versions.Version) → 0 < p → spec.knows self.new.known p v
+            ≡ (spec.knows self.old.known p v || ((picture == p) && vectors.denotes vector.now v))) }
         ensures staged { self.new.staged ≡ None }
         ensures refused { OnErr result (self.new.known ≡ self.old.known) }
     {
@@ -276,7 +287,8 @@ impl Knowledge {
     pub fn learn_table(&mut self, table: &[(PicNo, Vector)]) -> Result<(), AllocError>
         requires { in_order table.now ≡ true }
         ensures star { OnOk result ((a : Author) → star_bound self.new.known a ≡ star_bound self.old.known a) }
-        ensures learned { OnOk result ((p : ℕ) (v : versions.Version) → 0 < p → spec.knows self.new.known p v ≡ (spec.knows self.old.known p v || vectors.denotes (at [] table.now p) v)) }
+        ensures learned { OnOk result ((p : ℕ) (v : versions.Version) → 0 < p → spec.knows self.new.known p v
+            ≡ (spec.knows self.old.known p v || vectors.denotes (at [] table.now p) v)) }
         ensures staged { self.new.staged ≡ None }
         ensures refused { OnErr result (self.new.known ≡ self.old.known) }
     {
@@ -292,8 +304,10 @@ impl Knowledge {
     /// Learns all that the other knows. Its only error is want of memory, which changes nothing that is known; none is
     /// wanted where the other knows nothing more.
     pub fn learn_all(&mut self, other: &Knowledge) -> Result<(), AllocError>
-        ensures star { OnOk result ((a : Author) → star_bound self.new.known a ≡ max (star_bound self.old.known a) (star_bound other.now.known a)) }
-        ensures learned { OnOk result ((p : ℕ) (v : versions.Version) → 0 < p → spec.knows self.new.known p v ≡ (spec.knows self.old.known p v || spec.knows other.now.known p v)) }
+        ensures star { OnOk result ((a : Author) → star_bound self.new.known a
+            ≡ max (star_bound self.old.known a) (star_bound other.now.known a)) }
+        ensures learned { OnOk result ((p : ℕ) (v : versions.Version) → 0 < p → spec.knows self.new.known p v
+            ≡ (spec.knows self.old.known p v || spec.knows other.now.known p v)) }
         ensures staged { self.new.staged ≡ None }
         ensures refused { OnErr result (self.new.known ≡ self.old.known) }
     {
@@ -306,8 +320,10 @@ impl Knowledge {
     /// is known.
     pub fn learn_own(&mut self, version: Version) -> Result<(), AllocError>
         requires { version.number ≡ star_bound self.old.known version.author + 1 }
-        ensures star { OnOk result ((a : Author) → star_bound self.new.known a ≡ (if same_author version.author a then version.number else star_bound self.old.known a)) }
-        ensures learned { OnOk result ((p : ℕ) (v : versions.Version) → 0 < p → spec.knows self.new.known p v ≡ (spec.knows self.old.known p v || versions.same_version version v)) }
+        ensures star { OnOk result ((a : Author) → star_bound self.new.known a
+            ≡ (if same_author version.author a then version.number else star_bound self.old.known a)) }
+        ensures learned { OnOk result ((p : ℕ) (v : versions.Version) → 0 < p → spec.knows self.new.known p v
+            ≡ (spec.knows self.old.known p v || versions.same_version version v)) }
         ensures staged { self.new.staged ≡ None }
         ensures refused { OnErr result (self.new.known ≡ self.old.known) }
     {
@@ -328,9 +344,12 @@ impl Knowledge {
     pub fn raise_own(&mut self, version: Version)
         requires first { 0 < star_bound self.old.known version.author }
         requires next { version.number ≡ star_bound self.old.known version.author + 1 }
-        requires level { (p n : ℕ) → 0 < p → spec.knows self.old.known p (versions.version version.author n) ≡ true → n ≤ star_bound self.old.known version.author }
-        ensures star { (a : Author) → star_bound self.new.known a ≡ (if same_author version.author a then version.number else star_bound self.old.known a) }
-        ensures learned { (p : ℕ) (v : versions.Version) → 0 < p → spec.knows self.new.known p v ≡ (spec.knows self.old.known p v || versions.same_version version v) }
+        requires level { (p n : ℕ) → 0 < p → spec.knows self.old.known p (versions.version version.author n) ≡ true
+            → n ≤ star_bound self.old.known version.author }
+        ensures star { (a : Author) → star_bound self.new.known a
+            ≡ (if same_author version.author a then version.number else star_bound self.old.known a) }
+        ensures learned { (p : ℕ) (v : versions.Version) → 0 < p → spec.knows self.new.known p v
+            ≡ (spec.knows self.old.known p v || versions.same_version version v) }
         ensures staged { self.new.staged ≡ None }
     {
         // For its fact alone: the index is that of the fragments.

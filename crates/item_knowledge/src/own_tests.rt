@@ -10,7 +10,7 @@ use photo_version::{Author, Vector, Version};
 use std::alloc::Global;
 use std::test::Fail;
 
-/// The `n`th version of a device.
+// The `n`th version of a device.
 fn version(device: u16, n: u32) -> Version
     requires { 0 < n }
     ensures { result ≡ versions.version (author device) n }
@@ -22,7 +22,7 @@ fn picture(number: u32) -> Result<PicNo, Fail> {
     Ok(PicNo::new(number).ok_or("a picture's number")?)
 }
 
-/// A device's own first version is known, and of one picture another device's.
+// A device's own first version is known, and of one picture another device's.
 fn own_and_other(alloc: Global) -> Result<Knowledge, Fail>
     ensures star { IfOk result (λ k. star_bound k.known (author 0) ≡ 1) }
     ensures level { IfOk result (λ k. (p n : ℕ) → 0 < p → spec.knows k.known p (versions.version (author 0) n) ≡ true → n ≤ 1) }

@@ -4,13 +4,13 @@ ghost use Rattle.item_knowledge.specs.Places as spec;
 use crate::rows::Rows;
 use std::alloc::{AllocError, Global};
 
-/// Spreads what it is multiplied by over all bits.
+// Spreads what it is multiplied by over all bits.
 const MULTIPLIER: u64 = 11_400_714_819_323_198_485;
 
-/// A hash divided by this is its high half, to which all words came.
+// A hash divided by this is its high half, to which all words came.
 const HALF: u64 = 4_294_967_296;
 
-/// So many buckets at most: their number times half a hash is a word still.
+// So many buckets at most: their number times half a hash is a word still.
 const MOST_BUCKETS: usize = 4_294_967_295;
 
 /// Rows of words, none twice, each found by its words: those of the same bucket are chained, the latest first.
@@ -23,14 +23,14 @@ pub(crate) struct Places {
     pub(crate) before: Vec<usize>,
 }
 
-/// A hash with one word more.
+// A hash with one word more.
 fn mixed(hash: u64, word: u64) -> u64
     ensures { result ≡ spec.mixed hash word }
 {
     hash.wrapping_add(word).wrapping_mul(MULTIPLIER)
 }
 
-/// The hash of a row.
+// The hash of a row.
 fn hash_of(row: &[u64]) -> u64
     ensures { result ≡ spec.hashed 0 row.now }
 {
@@ -41,7 +41,7 @@ fn hash_of(row: &[u64]) -> u64
     hash
 }
 
-/// The share of so many buckets that is as large as a hash is of all hashes.
+// The share of so many buckets that is as large as a hash is of all hashes.
 fn share(hash: u64, count: usize) -> usize
     requires { count ≤ spec.most_buckets }
     ensures { result ≡ spec.share count hash }

@@ -7,7 +7,7 @@ use std::marker::Model;
 pub(crate) struct Rows {
     alloc: Global,
     arena: FragmentArena,
-    /// How many words all rows have together, which only a guess at what has to be reserved goes by.
+    // How many words all rows have together, which only a guess at what has to be reserved goes by.
     words: usize,
 }
 
@@ -69,7 +69,11 @@ impl Rows {
         ensures placed { OnOk result (self.new ≡ self.old ++ words.now ∷ []) }
         ensures refused { OnErr result (self.new ≡ self.old) }
     {
-        let row = self.arena.place(words)?;
+        let row = if self.arena.has_reserved(words.len()) {
+            self.arena.place_reserved(words)
+        } else {
+            self.arena.place(words)?
+        };
         self.words = self.words.saturating_add(words.len());
         Ok(row.place())
     }

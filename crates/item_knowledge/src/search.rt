@@ -3,12 +3,14 @@ ghost use Rattle.item_knowledge.specs.Tables.{in_order, at};
 ghost use Rattle.item_knowledge.specs.Entries.{bound, leq, is_vector};
 ghost use Rattle.item_knowledge.specs.Rows.{pairs, IsRow};
 
-/// How many places one goes forward from a hint before the whole index is searched.
+use crate::index::IndexEntry;
+
+// How many places one goes forward from a hint before the whole index is searched.
 const STEPS: usize = 32;
 
 /// The number of the fragment to which an index leads from a picture, 0 for the star, and the place in the index at which
 /// the picture stands or would stand.
-pub(crate) fn number_at(index: &[(u64, usize)], picture: u64) -> (usize, usize)
+pub(crate) fn number_at(index: &[IndexEntry], picture: u64) -> (usize, usize)
     requires { in_order index.now ≡ true }
     ensures { result.0 ≡ at 0 index.now picture }
 {
@@ -23,8 +25,8 @@ pub(crate) fn number_at(index: &[(u64, usize)], picture: u64) -> (usize, usize)
     (row.1, place)
 }
 
-/// Whether all pictures before a place in an index are smaller than this one.
-fn is_behind(index: &[(u64, usize)], place: usize, picture: u64) -> bool
+// Whether all pictures before a place in an index are smaller than this one.
+fn is_behind(index: &[IndexEntry], place: usize, picture: u64) -> bool
     requires { in_order index.now ≡ true }
     ensures { result ≡ true → at 0 (drop place index.now) picture ≡ at 0 index.now picture }
 {
@@ -37,15 +39,15 @@ fn is_behind(index: &[(u64, usize)], place: usize, picture: u64) -> bool
     index[place - 1].0 < picture
 }
 
-/// Whether a picture can be seen, in an index, a few places from this one at the latest.
-fn is_ahead(index: &[(u64, usize)], place: usize, picture: u64) -> bool {
+// Whether a picture can be seen, in an index, a few places from this one at the latest.
+fn is_ahead(index: &[IndexEntry], place: usize, picture: u64) -> bool {
     let last = place.saturating_add(STEPS);
     last >= index.len() || picture <= index[last].0
 }
 
 /// The number of the fragment to which an index leads from a picture, 0 for the star, and a hint for a later picture. The
 /// work is small where the hint is that of an earlier picture close by; the number is right with any hint.
-pub(crate) fn number_near(index: &[(u64, usize)], hint: usize, picture: u64) -> (usize, usize)
+pub(crate) fn number_near(index: &[IndexEntry], hint: usize, picture: u64) -> (usize, usize)
     requires { in_order index.now ≡ true }
     ensures { result.0 ≡ at 0 index.now picture }
 {
@@ -123,7 +125,7 @@ pub(crate) fn is_leq(row: &[u64], other: &[u64]) -> bool
 
 /// The number of the fragment to which an index leads from a picture, 0 for the star, where it is looked for from a
 /// place on; and the place from which one looks for a later picture.
-pub(crate) fn number_from(index: &[(u64, usize)], from: usize, picture: u64) -> (usize, usize)
+pub(crate) fn number_from(index: &[IndexEntry], from: usize, picture: u64) -> (usize, usize)
     requires { in_order index.now ≡ true }
     ensures number { result.0 ≡ at 0 (drop from index.now) picture }
     ensures rest { (q : ℕ) → picture ≤ q → at 0 (drop result.1 index.now) q ≡ at 0 (drop from index.now) q }

@@ -10,7 +10,7 @@ use photo_record::PicNo;
 use photo_version::{Author, Vector, Version};
 use std::alloc::{AllocError, Global};
 
-/// The `n`th version of a device.
+// The `n`th version of a device.
 fn version(device: u16, n: u32) -> Version
     requires { 0 < n }
     ensures { result ≡ versions.version (author device) n }
@@ -25,7 +25,7 @@ fn picture(number: u32) -> PicNo
     PicNo::new(number).unwrap()
 }
 
-/// Tells of each of the pictures 1 to 20 as many versions of a device as its number.
+// Tells of each of the pictures 1 to 20 as many versions of a device as its number.
 fn tell_twenty(alloc: Global, knowledge: &mut Knowledge, device: u16) -> Result<(), AllocError> {
     for n in 1..21u32 {
         let vector = Vector::new(alloc).with(version(device, n))?;
@@ -34,7 +34,7 @@ fn tell_twenty(alloc: Global, knowledge: &mut Knowledge, device: u16) -> Result<
     Ok(())
 }
 
-/// Whether it is known of each of the pictures 1 to 20 just as many versions of a device as its number.
+// Whether it is known of each of the pictures 1 to 20 just as many versions of a device as its number.
 fn knows_twenty(knowledge: &Knowledge, device: u16) -> bool {
     for n in 1..21u32 {
         if !knowledge.knows(picture(n), version(device, n))
@@ -46,7 +46,7 @@ fn knows_twenty(knowledge: &Knowledge, device: u16) -> bool {
     knowledge.fragments() == 21
 }
 
-/// Whether a knowledge becomes that of twenty pictures once it was told of them.
+// Whether a knowledge becomes that of twenty pictures once it was told of them.
 fn learns_twenty(alloc: Global, knowledge: &mut Knowledge, device: u16) -> bool {
     tell_twenty(alloc, knowledge, device).is_ok() && knows_twenty(knowledge, device)
 }
@@ -58,7 +58,7 @@ fn has_a_copy(knowledge: &Knowledge) -> bool {
     }
 }
 
-/// Whether a knowledge, once it learned all of another, has that of both.
+// Whether a knowledge, once it learned all of another, has that of both.
 fn becomes_both(alloc: Global, knowledge: &mut Knowledge) -> bool {
     match Knowledge::new(alloc) {
         Ok(mut other) => {
@@ -87,7 +87,7 @@ fn many_fragments_are_copied_and_joined(rt: HostRuntime) {
     assert!(rt; twenty_are_copied_and_joined(rt.alloc()));
 }
 
-/// Learns of every picture the next version of device 0.
+// Learns of every picture the next version of device 0.
 fn learn_next(knowledge: &mut Knowledge, n: u32) -> Result<(), AllocError>
     requires some { 0 < n }
     requires next { n ≡ star_bound knowledge.old.known (author 0) + 1 }
@@ -96,7 +96,7 @@ fn learn_next(knowledge: &mut Knowledge, n: u32) -> Result<(), AllocError>
     knowledge.learn_own(version(0, n))
 }
 
-/// Learns three versions of device 0, one after the other, and before the third five of picture 7.
+// Learns three versions of device 0, one after the other, and before the third five of picture 7.
 fn learn_own_and_other(knowledge: &mut Knowledge, five: &Vector) -> Result<(), AllocError>
     requires { star_bound knowledge.old.known (author 0) ≡ 0 }
     ensures { OnOk result (star_bound knowledge.new.known (author 0) ≡ 3) }
@@ -107,7 +107,7 @@ fn learn_own_and_other(knowledge: &mut Knowledge, five: &Vector) -> Result<(), A
     learn_next(knowledge, 3)
 }
 
-/// Whether a knowledge of nothing learns these.
+// Whether a knowledge of nothing learns these.
 fn learns_own_and_other(knowledge: &mut Knowledge, five: &Vector) -> bool
     requires { star_bound knowledge.old.known (author 0) ≡ 0 }
 {

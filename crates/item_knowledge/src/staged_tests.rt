@@ -9,7 +9,7 @@ use photo_record::PicNo;
 use photo_version::{Author, Vector, Version};
 use std::alloc::{AllocError, Global};
 
-/// The `n`th version of a device.
+// The `n`th version of a device.
 fn version(device: u16, n: u32) -> Version
     requires { 0 < n }
     ensures { result ≡ versions.version (author device) n }
@@ -24,7 +24,7 @@ fn picture(number: u32) -> PicNo
     PicNo::new(number).unwrap()
 }
 
-/// Learns of a picture the first version of device 0.
+// Learns of a picture the first version of device 0.
 fn learn_first(alloc: Global, knowledge: &mut Knowledge, number: u32) -> Result<(), AllocError>
     requires { IsPicNo number }
 {
@@ -32,7 +32,7 @@ fn learn_first(alloc: Global, knowledge: &mut Knowledge, number: u32) -> Result<
     knowledge.learn(picture(number), &first)
 }
 
-/// That version is known of this picture, and nothing else.
+// That version is known of this picture, and nothing else.
 fn of_picture(alloc: Global, number: u32) -> Result<Knowledge, AllocError>
     requires { IsPicNo number }
 {
@@ -41,14 +41,14 @@ fn of_picture(alloc: Global, number: u32) -> Result<Knowledge, AllocError>
     Ok(knowledge)
 }
 
-/// Whether it is known of this picture.
+// Whether it is known of this picture.
 fn has_first(knowledge: &Knowledge, number: u32) -> bool
     requires { IsPicNo number }
 {
     knowledge.knows(picture(number), version(0, 1))
 }
 
-/// A knowledge of the picture 7, and two others to learn from.
+// A knowledge of the picture 7, and two others to learn from.
 #[derive(Drop)]
 struct Trio {
     seven: Knowledge,
@@ -63,7 +63,7 @@ fn three(alloc: Global) -> Result<Trio, AllocError> {
     Ok(Trio { seven, eight, nine })
 }
 
-/// Whether three such knowledges pass a test.
+// Whether three such knowledges pass a test.
 fn on_trio<F: FnOnce(Global, &mut Trio) -> bool>(alloc: Global, test: F) -> bool
     requires { F.IsAlwaysCallable test }
 {
@@ -73,7 +73,7 @@ fn on_trio<F: FnOnce(Global, &mut Trio) -> bool>(alloc: Global, test: F) -> bool
     }
 }
 
-/// Whether a knowledge stages what another knows, and then commits it.
+// Whether a knowledge stages what another knows, and then commits it.
 fn commits(knowledge: &mut Knowledge, other: &Knowledge) -> bool {
     if knowledge.stage(other).is_err() || !knowledge.staged() {
         return false;
@@ -82,7 +82,7 @@ fn commits(knowledge: &mut Knowledge, other: &Knowledge) -> bool {
     !knowledge.staged()
 }
 
-/// Whether one knowledge commits what its twin learns at once.
+// Whether one knowledge commits what its twin learns at once.
 fn commit_alike(one: &mut Knowledge, twin: &mut Knowledge, other: &Knowledge) -> bool {
     twin.learn_all(other).is_ok() && commits(one, other) && one.same(twin)
 }

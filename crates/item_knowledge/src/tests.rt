@@ -12,7 +12,7 @@ use std::alloc::{AllocError, Global};
 use std::collections::BTreeSet;
 use std::test::Fail;
 
-/// The `n`th version of a device.
+// The `n`th version of a device.
 fn version(device: u16, n: u32) -> Version
     requires { 0 < n }
     ensures { result ≡ versions.version (author device) n }
@@ -27,21 +27,21 @@ fn picture(number: u32) -> PicNo
     PicNo::new(number).unwrap()
 }
 
-/// The first versions of a device, up to the `n`th.
+// The first versions of a device, up to the `n`th.
 fn up_to(alloc: Global, device: u16, n: u32) -> Result<Vector, AllocError>
     requires { 0 < n }
 {
     Vector::new(alloc).with(version(device, n))
 }
 
-/// What `learn_own` alone tells of one version.
+// What `learn_own` alone tells of one version.
 fn own(alloc: Global) -> Result<Knowledge, AllocError> {
     let mut knowledge = Knowledge::new(alloc)?;
     knowledge.learn_own(version(0, 1))?;
     Ok(knowledge)
 }
 
-/// Tells of two pictures the same.
+// Tells of two pictures the same.
 fn tell_two(knowledge: &mut Knowledge, vector: &Vector) -> Result<(), AllocError>
     ensures { OnOk result ((a : Author) → star_bound knowledge.new.known a ≡ star_bound knowledge.old.known a) }
 {
@@ -50,7 +50,7 @@ fn tell_two(knowledge: &mut Knowledge, vector: &Vector) -> Result<(), AllocError
     Ok(())
 }
 
-/// Two pictures of which the same version is known.
+// Two pictures of which the same version is known.
 fn of_two(alloc: Global) -> Result<Knowledge, AllocError>
     ensures { IfOk result (λ knowledge. (a : Author) → star_bound knowledge.known a ≡ 0) }
 {
@@ -75,7 +75,7 @@ fn pictures_known_alike_are_one_fragment(rt: HostRuntime) -> Result<(), Fail> {
     Ok(())
 }
 
-/// Whether of the picture 9 just one version is known.
+// Whether of the picture 9 just one version is known.
 fn is_known_of_nine(knowledge: &Knowledge) -> bool {
     let Ok(vector) = knowledge.of(picture(9)) else {
         return false;
@@ -96,7 +96,7 @@ fn what_is_known_of_a_picture(rt: HostRuntime) -> Result<(), Fail> {
     Ok(())
 }
 
-/// Whether the fragments are the star, which is empty, and one of both pictures.
+// Whether the fragments are the star, which is empty, and one of both pictures.
 fn has_both_fragments(knowledge: &Knowledge) -> bool {
     if knowledge.fragments() != 2 {
         return false;
@@ -125,7 +125,7 @@ fn fragments_are_lent(rt: HostRuntime) -> Result<(), Fail> {
     Ok(())
 }
 
-/// Whether a knowledge is just the star once it has learned it, and stays so.
+// Whether a knowledge is just the star once it has learned it, and stays so.
 fn becomes_the_star(knowledge: &mut Knowledge, star: &Knowledge) -> bool {
     if knowledge.same(star) || knowledge.learn_all(star).is_err() {
         return false;
@@ -190,21 +190,21 @@ fn own_versions_come_to_the_star(rt: HostRuntime) -> Result<(), Fail> {
     Ok(())
 }
 
-/// A number of a fixed sequence.
+// A number of a fixed sequence.
 fn next(seed: &mut u32) -> u64 {
     let before = *seed % 65_537;
     *seed = (before * 75 + 74) % 65_537;
     u64::from(*seed)
 }
 
-/// A knowledge, and beside it the plain set of its pairs at the pictures 1 to 4, of which 4 is told nothing by itself.
+// A knowledge, and beside it the plain set of its pairs at the pictures 1 to 4, of which 4 is told nothing by itself.
 #[derive(Drop)]
 struct Case {
     knowledge: Knowledge,
     pairs: BTreeSet<(u32, (u16, u32))>,
 }
 
-/// A picture's first pairs of a device, up to the `n`th.
+// A picture's first pairs of a device, up to the `n`th.
 fn insert_up_to(case: &mut Case, number: u32, device: u16, n: u32) -> Result<(), AllocError> {
     for k in 1..4u32 {
         if k <= n {
@@ -214,7 +214,7 @@ fn insert_up_to(case: &mut Case, number: u32, device: u16, n: u32) -> Result<(),
     Ok(())
 }
 
-/// Tells a case some versions of a picture.
+// Tells a case some versions of a picture.
 fn tell(alloc: Global, case: &mut Case, seed: &mut u32) -> Result<(), AllocError> {
     let number = 1 + (next(seed) % 3) as u32;
     let device = (next(seed) % 3) as u16;
@@ -224,7 +224,7 @@ fn tell(alloc: Global, case: &mut Case, seed: &mut u32) -> Result<(), AllocError
     insert_up_to(case, number, device, n)
 }
 
-/// Tells a case a few things.
+// Tells a case a few things.
 fn tell_some(alloc: Global, case: &mut Case, seed: &mut u32) -> Result<(), AllocError> {
     for _ in 0..next(seed) % 6 {
         tell(alloc, case, seed)?;
@@ -232,7 +232,7 @@ fn tell_some(alloc: Global, case: &mut Case, seed: &mut u32) -> Result<(), Alloc
     Ok(())
 }
 
-/// Each picture's first pair of a device.
+// Each picture's first pair of a device.
 fn insert_first(case: &mut Case, device: u16) -> Result<(), AllocError> {
     for number in 1..5u32 {
         case.pairs.insert((number, (device, 1)))?;
@@ -240,7 +240,7 @@ fn insert_first(case: &mut Case, device: u16) -> Result<(), AllocError> {
     Ok(())
 }
 
-/// A case that was told of every picture the first version of a device, or nothing where it is none of the three.
+// A case that was told of every picture the first version of a device, or nothing where it is none of the three.
 fn first_case(alloc: Global, device: u16) -> Result<Case, AllocError> {
     let mut case = Case {
         knowledge: Knowledge::new(alloc)?,
@@ -253,7 +253,7 @@ fn first_case(alloc: Global, device: u16) -> Result<Case, AllocError> {
     Ok(case)
 }
 
-/// A case that was told a few things, and of every picture the first version of one device or none.
+// A case that was told a few things, and of every picture the first version of one device or none.
 fn some_case(alloc: Global, seed: &mut u32) -> Result<Case, AllocError> {
     let device = (next(seed) % 4) as u16;
     let mut case = first_case(alloc, device)?;
@@ -261,14 +261,14 @@ fn some_case(alloc: Global, seed: &mut u32) -> Result<Case, AllocError> {
     Ok(case)
 }
 
-/// Two cases, one after the other.
+// Two cases, one after the other.
 fn two_cases(alloc: Global, seed: &mut u32) -> Result<(Case, Case), AllocError> {
     let one = some_case(alloc, seed)?;
     let other = some_case(alloc, seed)?;
     Ok((one, other))
 }
 
-/// Whether a case knows just the pairs of its set.
+// Whether a case knows just the pairs of its set.
 fn agrees(case: &Case) -> bool {
     for number in 1..5u32 {
         for device in 0..3u16 {
@@ -283,7 +283,7 @@ fn agrees(case: &Case) -> bool {
     true
 }
 
-/// Whether a vector has just the pairs of a case's picture.
+// Whether a vector has just the pairs of a case's picture.
 fn vector_agrees(case: &Case, number: u32, vector: &Vector) -> bool {
     for device in 0..3u16 {
         for k in 1..5u32 {
@@ -295,7 +295,7 @@ fn vector_agrees(case: &Case, number: u32, vector: &Vector) -> bool {
     true
 }
 
-/// Whether the vector of a case's picture has just the pairs of its set.
+// Whether the vector of a case's picture has just the pairs of its set.
 fn picture_agrees(case: &Case, number: u32) -> bool
     requires { IsPicNo number }
 {
@@ -305,7 +305,7 @@ fn picture_agrees(case: &Case, number: u32) -> bool
     }
 }
 
-/// Whether the vectors of a case's pictures have just the pairs of its set.
+// Whether the vectors of a case's pictures have just the pairs of its set.
 fn vectors_agree(case: &Case) -> bool {
     for number in 1..5u32 {
         if !picture_agrees(case, number) {
@@ -315,7 +315,7 @@ fn vectors_agree(case: &Case) -> bool {
     true
 }
 
-/// A case's pairs come to another's.
+// A case's pairs come to another's.
 fn insert_pairs(one: &mut Case, other: &Case) -> Result<(), AllocError> {
     for pair in &other.pairs {
         one.pairs.insert(*pair)?;
@@ -323,7 +323,7 @@ fn insert_pairs(one: &mut Case, other: &Case) -> Result<(), AllocError> {
     Ok(())
 }
 
-/// Whether a case, once it learned all that another knows, knows just the pairs of both.
+// Whether a case, once it learned all that another knows, knows just the pairs of both.
 fn becomes_the_union(one: &mut Case, other: &Case) -> bool {
     if one.knowledge.learn_all(&other.knowledge).is_err() || insert_pairs(one, other).is_err() {
         return false;
@@ -331,7 +331,7 @@ fn becomes_the_union(one: &mut Case, other: &Case) -> bool {
     agrees(one) && vectors_agree(other)
 }
 
-/// Whether the next case becomes the union of itself and the case after it.
+// Whether the next case becomes the union of itself and the case after it.
 fn next_becomes_the_union(alloc: Global, seed: &mut u32) -> bool {
     match two_cases(alloc, seed) {
         Ok((mut one, other)) => becomes_the_union(&mut one, &other),
@@ -348,7 +348,7 @@ fn learning_all_is_the_union_of_the_pairs(rt: HostRuntime) -> Result<(), Fail> {
     Ok(())
 }
 
-/// Whether two cases know the same just where they have the same pairs.
+// Whether two cases know the same just where they have the same pairs.
 fn are_alike_in_both(one: &Case, other: &Case) -> bool {
     one.knowledge.same(&other.knowledge) == (one.pairs == other.pairs)
 }
@@ -369,7 +369,7 @@ fn the_same_pairs_are_the_same_knowledge(rt: HostRuntime) -> Result<(), Fail> {
     Ok(())
 }
 
-/// Whether the one case's knowledge has all of the other's just where its pairs are among them.
+// Whether the one case's knowledge has all of the other's just where its pairs are among them.
 fn agrees_on_all(one: &Case, other: &Case) -> bool {
     let has = one.knowledge.has_all(&other.knowledge);
     for pair in &other.pairs {
@@ -400,7 +400,7 @@ fn a_knowledge_has_all_of_another_where_the_pairs_do(rt: HostRuntime) -> Result<
     Ok(())
 }
 
-/// Whether a case knows the same with the hint of each answer before, with this hint, and with none.
+// Whether a case knows the same with the hint of each answer before, with this hint, and with none.
 fn agrees_near(case: &Case, hint: usize) -> bool {
     let mut last = 0;
     for number in 1..5u32 {
@@ -424,7 +424,7 @@ fn next_agrees_near(alloc: Global, seed: &mut u32, hint: usize) -> bool {
     }
 }
 
-/// Whether sixty cases know the same with this hint and with none.
+// Whether sixty cases know the same with this hint and with none.
 fn all_agree_near(alloc: Global, hint: usize) -> bool {
     let mut seed = 3;
     for _ in 0..60 {
@@ -445,7 +445,7 @@ fn any_hint_will_do(rt: HostRuntime) -> Result<(), Fail> {
     Ok(())
 }
 
-/// Two pictures, of both of which the same version is told.
+// Two pictures, of both of which the same version is told.
 fn table(alloc: Global) -> Result<Vec<(PicNo, Vector)>, AllocError>
     ensures { IfOk result (λ table. in_order table.items ≡ true) }
 {
@@ -457,7 +457,7 @@ fn table(alloc: Global) -> Result<Vec<(PicNo, Vector)>, AllocError>
     Ok(table)
 }
 
-/// Whether what a table tells is known once it was learned.
+// Whether what a table tells is known once it was learned.
 fn learns(knowledge: &mut Knowledge, table: &[(PicNo, Vector)]) -> bool
     requires { in_order table.now ≡ true }
 {

@@ -8,8 +8,9 @@ ghost use Rattle.item_knowledge.specs.Rows.{pairs, IsRow, AreRows, fragments_of,
 use crate::carry::carried;
 use crate::gather::{add, same_row};
 use crate::group::Group;
-use crate::joined::joined;
-use crate::paired::paired as paired_numbers;
+use crate::index::IndexEntry;
+use crate::join::join;
+use crate::pairing::paired_numbers;
 use crate::places::Places;
 use crate::rows::Rows;
 use crate::search::{is_leq, number_from};
@@ -31,9 +32,9 @@ pub(crate) fn entries(rows: &Rows, number: usize) -> &[u64]
 /// or else their join, which is written into `room`.
 pub(crate) fn pair<'a>(
     left: &'a Rows,
-    left_index: &[(u64, usize)],
+    left_index: &[IndexEntry],
     right: &'a Rows,
-    right_index: &[(u64, usize)],
+    right_index: &[IndexEntry],
     a: usize,
     b: usize,
     room: &'a mut Vec<u64>,
@@ -49,13 +50,10 @@ pub(crate) fn pair<'a>(
 {
     let one = entries(left, a);
     let other = entries(right, b);
-    if is_leq(other, one) {
+    if other.is_empty() {
         return Ok(one);
     }
-    if is_leq(one, other) {
-        return Ok(other);
-    }
-    joined(one, other, room)?;
+    join(one, other, room)?;
     Ok(room)
 }
 
@@ -78,7 +76,7 @@ pub(crate) fn begin(
     Ok(())
 }
 
-/// The rows of a star and of groups of so many pictures together, in place of those that were there.
+// The rows of a star and of groups of so many pictures together, in place of those that were there.
 fn write(
     star: &[u64],
     groups: &[Group],
@@ -99,12 +97,12 @@ fn write(
     Ok(())
 }
 
-/// No groups yet and no index, with room for so many, whose rows have about so many words together.
+// No groups yet and no index, with room for so many, whose rows have about so many words together.
 fn no_groups(
     alloc: Global,
     count: usize,
     words: usize,
-) -> Result<(Vec<Group>, Places, Vec<(u64, usize)>), AllocError>
+) -> Result<(Vec<Group>, Places, Vec<IndexEntry>), AllocError>
     ensures groups { IfOk result (λ all. all.0.items ≡ []) }
     ensures placed { IfOk result (λ all. Placed all.1 all.0.items) }
     ensures index { IfOk result (λ all. all.2.items ≡ []) }
@@ -115,15 +113,15 @@ fn no_groups(
     Ok((groups, places, index))
 }
 
-/// The groups of the union of two sides, whose star is given, and their index.
+// The groups of the union of two sides, whose star is given, and their index.
 fn groups(
     alloc: Global,
     left: &Rows,
-    left_index: &[(u64, usize)],
+    left_index: &[IndexEntry],
     right: &Rows,
-    right_index: &[(u64, usize)],
+    right_index: &[IndexEntry],
     star: &[u64],
-) -> Result<(Vec<Group>, Places, Vec<(u64, usize)>), AllocError>
+) -> Result<(Vec<Group>, Places, Vec<IndexEntry>), AllocError>
     requires left_rows { AreRows left.now }
     requires right_rows { AreRows right.now }
     requires left { IsSide (fragments_of left.now) left_index.now }
@@ -131,14 +129,18 @@ fn groups(
     requires star_row { IsRow star.now }
     requires star { pairs star.now ≡ pair_vector (fragments_of left.now) (fragments_of right.now) (0, 0) }
     ensures placed { IfOk result (λ all. Placed all.1 all.0.items) }
-    ensures groups { IfOk result (λ all. grouped all.0.items all.1.rows ≡ groups_of (fragments_of left.now) (fragments_of right.now) left_index.now right_index.now) }
-    ensures index { IfOk result (λ all. all.2.items ≡ index_of (fragments_of left.now) (fragments_of right.now) left_index.now right_index.now) }
+    ensures groups { IfOk result (λ all. grouped all.0.items all.1.rows
+        ≡ groups_of (fragments_of left.now) (fragments_of right.now) left_index.now right_index.now) }
+    ensures index { IfOk result (λ all. all.2.items
+        ≡ index_of (fragments_of left.now) (fragments_of right.now) left_index.now right_index.now) }
 {
     let table = paired_numbers(alloc, left_index, right_index)?;
     let (mut groups, mut places, mut index) = no_groups(
         alloc,
         table.len(),
-        left.words().max(right.words()),
+        left.words()
+            .max(right.words())
+            .saturating_add(2 * table.len()),
     )?;
     let mut room = Vec::new(alloc);
     for i in 0..table.len() {
@@ -157,18 +159,19 @@ fn groups(
 pub(crate) fn union(
     alloc: Global,
     left: &Rows,
-    left_index: &[(u64, usize)],
+    left_index: &[IndexEntry],
     right: &Rows,
-    right_index: &[(u64, usize)],
+    right_index: &[IndexEntry],
     out: &mut Rows,
-) -> Result<Vec<(u64, usize)>, AllocError>
+) -> Result<Vec<IndexEntry>, AllocError>
     requires left_rows { AreRows left.now }
     requires right_rows { AreRows right.now }
     requires left { IsSide (fragments_of left.now) left_index.now }
     requires right { IsSide (fragments_of right.now) right_index.now }
     requires normal { is_normal (fragments_of left.now) ≡ true }
     ensures rows { OnOk result (AreRows out.new) }
-    ensures union { IfOk result (λ index. IsUnion (fragments_of left.now) left_index.now (fragments_of right.now) right_index.now (fragments_of out.new) index.items) }
+    ensures union { IfOk result (λ index. IsUnion (fragments_of left.now) left_index.now (fragments_of right.now) right_index.now
+        (fragments_of out.new) index.items) }
 {
     let mut room = Vec::new(alloc);
     let star = pair(left, left_index, right, right_index, 0, 0, &mut room)?;
@@ -183,9 +186,9 @@ pub(crate) fn union(
 /// Whether each vector of the one side is at most the other's at the same picture. Takes no memory.
 pub(crate) fn is_within(
     rows: &Rows,
-    index: &[(u64, usize)],
+    index: &[IndexEntry],
     others: &Rows,
-    others_index: &[(u64, usize)],
+    others_index: &[IndexEntry],
 ) -> bool
     requires rows { AreRows rows.now }
     requires others { AreRows others.now }

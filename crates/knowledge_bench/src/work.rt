@@ -5,7 +5,7 @@ use photo_record::PicNo;
 use photo_version::Vector;
 use std::alloc::{AllocError, Global};
 
-/// So many pictures have the knowledges of a round together, whatever a single one has: so a round works on as much memory.
+// So many pictures have the knowledges of a round together, whatever a single one has: so a round works on as much memory.
 const PICTURES: u32 = 64_000;
 
 /// Does what a line says, and gives a number that depends on it.
@@ -31,7 +31,7 @@ pub fn of_line(alloc: Global, line: &str) -> Result<u64, AllocError> {
     }
 }
 
-/// Does the same with each of some knowledges, in each of so many rounds.
+// Does the same with each of some knowledges, in each of so many rounds.
 fn rounds(alloc: Global, kind: &str, n: u32, times: u32) -> Result<u64, AllocError> {
     let mut all = Vec::new(alloc);
     for _ in 0..PICTURES / n.max(1) {
@@ -46,7 +46,7 @@ fn rounds(alloc: Global, kind: &str, n: u32, times: u32) -> Result<u64, AllocErr
     Ok(sum)
 }
 
-/// Each of some knowledges learns the next version of an author, in each of so many rounds.
+// Each of some knowledges learns the next version of an author, in each of so many rounds.
 fn learn_own(alloc: Global, n: u32, times: u32) -> Result<u64, AllocError> {
     let mut all = Vec::new(alloc);
     for _ in 0..PICTURES / n.max(1) {
@@ -60,7 +60,7 @@ fn learn_own(alloc: Global, n: u32, times: u32) -> Result<u64, AllocError> {
     Ok(all.len() as u64)
 }
 
-/// Each of some knowledges learns of one picture one version more, in each of so many rounds.
+// Each of some knowledges learns of one picture one version more, in each of so many rounds.
 fn learn(alloc: Global, n: u32, times: u32) -> Result<u64, AllocError> {
     let Some(picture) = PicNo::new(n / 2 + 1) else {
         return Ok(0);
@@ -78,7 +78,7 @@ fn learn(alloc: Global, n: u32, times: u32) -> Result<u64, AllocError> {
     Ok(all.len() as u64)
 }
 
-/// Each of some knowledges learns all of another one, which learns of one picture one version more in each of so many rounds.
+// Each of some knowledges learns all of another one, which learns of one picture one version more in each of so many rounds.
 fn learn_few(alloc: Global, n: u32, times: u32) -> Result<u64, AllocError> {
     let Some(picture) = PicNo::new(n / 2 + 1) else {
         return Ok(0);
@@ -98,7 +98,7 @@ fn learn_few(alloc: Global, n: u32, times: u32) -> Result<u64, AllocError> {
     Ok(all.len() as u64)
 }
 
-/// The same, where the other one learns the next version of an author of every picture.
+// The same, where the other one learns the next version of an author of every picture.
 fn learn_risen(alloc: Global, n: u32, times: u32) -> Result<u64, AllocError> {
     let mut other = Growing::new(alloc, n)?;
     let mut all = Vec::new(alloc);
@@ -114,7 +114,7 @@ fn learn_risen(alloc: Global, n: u32, times: u32) -> Result<u64, AllocError> {
     Ok(all.len() as u64)
 }
 
-/// Asks of all pictures in turn whether the last of their versions is known, or the one behind it.
+// Asks of all pictures in turn whether the last of their versions is known, or the one behind it.
 fn knows(alloc: Global, n: u32, times: u32) -> Result<u64, AllocError> {
     let knowledge = of_table(alloc, 1, n)?;
     let mut sum = 0u64;
@@ -131,8 +131,8 @@ fn knows(alloc: Global, n: u32, times: u32) -> Result<u64, AllocError> {
     Ok(sum)
 }
 
-/// Asks of all pictures in rising order, again and again, whether the last of their versions is known, or the one behind
-/// it, each time with the hint of the answer before.
+// Asks of all pictures in rising order, again and again, whether the last of their versions is known, or the one behind
+// it, each time with the hint of the answer before.
 fn knows_in_order(knowledge: &Knowledge, n: u32, times: u32) -> Result<u64, AllocError> {
     let mut sum = 0u64;
     let mut hint = 0;
@@ -149,7 +149,7 @@ fn knows_in_order(knowledge: &Knowledge, n: u32, times: u32) -> Result<u64, Allo
     Ok(sum)
 }
 
-/// The same of a knowledge that has a version of every picture.
+// The same of a knowledge that has a version of every picture.
 fn knows_of_star(alloc: Global, n: u32, times: u32) -> Result<u64, AllocError> {
     let mut knowledge = Knowledge::new(alloc)?;
     knowledge.learn_own(version(1, 1))?;

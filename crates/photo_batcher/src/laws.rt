@@ -1,6 +1,9 @@
 //! Laws of the definitions. Each function's contract is a law, and its body does nothing.
 ghost use Rattle.photo_batcher.specs.Examples.{FourBatches, FourInOrder, NamedInAVersion, NothingPlanned};
-ghost use Rattle.photo_batcher.specs.Laws.{LawfulOrdersAreTheRun, SameRunsHaveOneTotal, BatchesAreOne, BatchesAreASchedule, BatchesAreLeast, BatchesAreApart, BatchesInTurnAreLawful, FollowedChainsAreLongest, PlansAreOne, NoScheduleHasFewer, PlansInTurnAreLawful};
+ghost use Rattle.photo_batcher.specs.Laws.{LawfulOrdersAreTheRun, SameRunsHaveOneTotal, BatchesAreOne};
+ghost use Rattle.photo_batcher.specs.Laws.{BatchesAreASchedule, BatchesAreLeast, BatchesAreApart};
+ghost use Rattle.photo_batcher.specs.Laws.{BatchesInTurnAreLawful, FollowedChainsAreLongest, PlansAreOne};
+ghost use Rattle.photo_batcher.specs.Laws.{NoScheduleHasFewer, PlansInTurnAreLawful};
 
 /// In a lawful order the commands give the devices and the reports that they give in the order of their numbers, and a log
 /// with the same entries.

@@ -2,7 +2,7 @@
 use Rattle.std.proofs.Common.{◌≡◌, ℕ, zero, suc, ◌⊎◌, ◌+◌, ◌-◌, ◌<◌, ◌≤◌, Bool, true, false, not, List, [], ◌∷◌, ◌++◌, length, get_or, take, drop, append-nil, append_assoc, refl, sym, ap, ◌∙◌, subst, inl, inr, arith}
 use Rattle.std.specs.List.{list_all}
 use Rattle.std.proofs.lemmas.Bool.{and_parts, and_from, cases_Bool, not-true}
-use Rattle.std.proofs.lemmas.List.{drop_more, take_all, length-drop, get_or_default}
+use Rattle.std.proofs.lemmas.List.{drop_more, take_all, length-drop, get_or_default, drop_all}
 use Rattle.photo_version.specs.Version.{Version}
 use Rattle.photo_device.specs.Ordered.{in_order}
 use Rattle.photo_device.specs.Entry.{Entry, entry_before, put_entry, put_entries}
@@ -128,17 +128,11 @@ put_none : (es : List Entry) → in_order entry_before es ≡ true → put_entri
 put_none [] h = refl
 put_none (e ∷ es) h = ap (put_entry e) (put_none es (and_parts _ _ h).1) ∙ put_first entry_order e es (none_from e es (and_parts _ _ h).0)
 
-drop_none : {X : Type 0} (zs : List X) (n : ℕ) → length zs ≤ n → drop n zs ≡ []
-drop_none [] zero h = refl
-drop_none [] (suc n) h = refl
-drop_none (z ∷ zs) zero h = absurd (omega arith)
-drop_none (z ∷ zs) (suc n) h = drop_none zs n (omega arith)
-
 ends_left : (xs ys : List (ℕ × Version)) (i j : ℕ) → length xs ≤ i → put_entries (as_entries (drop i xs)) (as_entries (drop j ys)) ≡ as_entries (drop i xs) ++ as_entries (drop j ys)
-ends_left xs ys i j h = rw (drop_none xs i h) refl
+ends_left xs ys i j h = rw (drop_all i xs h) refl
 
 ends_right : (xs ys : List (ℕ × Version)) (i j : ℕ) → length ys ≤ j → in_order entry_before (as_entries (drop i xs)) ≡ true → put_entries (as_entries (drop i xs)) (as_entries (drop j ys)) ≡ as_entries (drop i xs) ++ as_entries (drop j ys)
-ends_right xs ys i j h o = rw (drop_none ys j h) (put_none (as_entries (drop i xs)) o ∙ sym (append-nil (as_entries (drop i xs))))
+ends_right xs ys i j h o = rw (drop_all j ys h) (put_none (as_entries (drop i xs)) o ∙ sym (append-nil (as_entries (drop i xs))))
 
 pub merged_all : (xs ys done : List (ℕ × Version)) (i j : ℕ) → IsMerging xs ys done i j → (length xs ≤ i) ⊎ (length ys ≤ j) → as_entries ((done ++ drop i xs) ++ drop j ys) ≡ put_entries (as_entries xs) (as_entries ys)
 merged_all xs ys done i j m ended =

@@ -58,12 +58,14 @@ impl Model for Device {
 }
 
 impl Device {
-    ghost use Rattle.std.specs.Prelude.{◌≡◌, ◌≢◌, ℕ, ◌+◌, ◌<◌, ◌≤◌, ◌||◌, ◌++◌, true, false, is_some, length, None, Err, IfOk, IfErr, IfSome, OnOk, OnErr};
+    ghost use Rattle.std.specs.Prelude.{◌≡◌, ◌≢◌, ℕ, ◌+◌, ◌<◌, ◌≤◌, ◌||◌, ◌++◌, true, false, is_some, length, None};
+    ghost use Rattle.std.specs.Prelude.{Err, IfOk, IfErr, IfSome, OnOk, OnErr};
     ghost use Rattle.std.specs.Prelude.{vec_len, vec_capacity};
     ghost use Rattle.std.specs.List.{AllByRecursion};
     ghost use Rattle.std.specs.Option.{option_copied, option_map};
     ghost use Rattle.photo_device.specs.Entry.{find_entry};
-    ghost use Rattle.photo_device.specs.Held.{find_version, find_version_of, has_picture, count_of, times_in, entry_of, entries_of, helds_at};
+    ghost use Rattle.photo_device.specs.Held.{find_version, find_version_of, has_picture, count_of, times_in};
+    ghost use Rattle.photo_device.specs.Held.{entry_of, entries_of, helds_at};
     ghost use Rattle.photo_device.specs.Own.{HasEarlier, HasMade, IsDevice, IsKnownBy, IsNext, KnowsItsOwn};
     ghost use Rattle.photo_device.specs.Staging.{HasStaged, MayHand};
     ghost use Rattle.photo_version.specs.Version as versions;

@@ -41,7 +41,8 @@ impl HeldSet {
     ghost use Rattle.photo_filter_rules.specs.Matching.{matches};
     ghost use Rattle.block_list.specs.Blocks.{joined};
     ghost use Rattle.photo_device.specs.Ordered.{put};
-    ghost use Rattle.photo_device.specs.Held.{held_before, are_in_order, held_of_others, has_picture, has_version_of, helds_without, replaced};
+    ghost use Rattle.photo_device.specs.Held.{held_before, are_in_order, held_of_others, has_picture, has_version_of};
+    ghost use Rattle.photo_device.specs.Held.{helds_without, replaced};
     ghost use Rattle.photo_device.specs.Held.{find_version, find_version_of, count_of, times_in, helds_at};
     ghost use Rattle.photo_version.specs.Version as spec;
 

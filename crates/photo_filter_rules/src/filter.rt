@@ -34,7 +34,8 @@ impl Model for Filter {
 
     ghost view = { λ f. tree_of f.tree };
 
-    ghost invariant = { λ f. (f.alternatives.items ≡ alternatives_of (tree_of f.tree) Plain) × (is_too_wide (tree_of f.tree) Plain ≡ false) };
+    ghost invariant = { λ f. (f.alternatives.items ≡ alternatives_of (tree_of f.tree) Plain)
+        × (is_too_wide (tree_of f.tree) Plain ≡ false) };
 }
 
 impl Filter {

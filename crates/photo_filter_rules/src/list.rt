@@ -93,7 +93,7 @@ fn days_list(
     possible_of(alloc, Alternative::with_days(alloc, first), second)
 }
 
-/// The possible ones of one alternative or two.
+// The possible ones of one alternative or two.
 fn possible_of(
     alloc: Global,
     first: Alternative,
@@ -110,7 +110,7 @@ fn possible_of(
     Ok(list)
 }
 
-/// Puts an alternative behind a list, if it is possible.
+// Puts an alternative behind a list, if it is possible.
 fn add_possible(alternative: Alternative, list: &mut Vec<Alternative>) -> Result<(), BuildFault>
     ensures list { OnOk result (list.new.items ≡ list.old.items ++ possible (alternative ∷ [])) }
     ensures memory { IfErr result (λ fault. fault ≡ NoMemory) }
@@ -131,7 +131,7 @@ fn word_list(alloc: Global, polarity: Polarity, word: &Word) -> Result<Vec<Alter
     Ok(list)
 }
 
-/// The first range of the numbers that pass, and the second where there are two.
+// The first range of the numbers that pass, and the second where there are two.
 fn spans_of(whole: Span, polarity: Polarity, cmp: Cmp, named: i32) -> (Span, Option<Span>)
     requires above { i32.MIN <ℤ named }
     requires below { named <ℤ i32.MAX }
@@ -212,7 +212,7 @@ fn paired(
     Ok(list)
 }
 
-/// Puts the possible ones among the pairs of one alternative with others behind a list of at most 64.
+// Puts the possible ones among the pairs of one alternative with others behind a list of at most 64.
 fn pair_with(
     alternative: &Alternative,
     others: &[Alternative],
@@ -231,7 +231,7 @@ fn pair_with(
     Ok(())
 }
 
-/// Puts an alternative behind a list of at most 64, if it is possible.
+// Puts an alternative behind a list of at most 64, if it is possible.
 fn push_possible(alternative: Alternative, list: &mut Vec<Alternative>) -> Result<(), BuildFault>
     requires { is_long list.old.items ≡ false }
     ensures list { OnOk result (list.new.items ≡ list.old.items ++ possible (alternative ∷ [])) }

@@ -4,7 +4,8 @@ ghost use Rattle.photo_filter_text.specs.Grammar.{is_bracket};
 ghost use Rattle.photo_filter_text.specs.declared.reader.Refusal.TheVariants.{Unexpected, BadWord, NoMemory};
 ghost use Rattle.photo_filter_text.specs.Tree.{tree_of, Keyword, Both, Either};
 ghost use Rattle.photo_filter_text.specs.declared.reader.Field.TheVariants.{RatingField, DayField};
-ghost use Rattle.photo_filter_text.specs.Steps.{start, step, step_at, fresh, level_with, levels_of, state_of, place_of, level_of, state_with};
+ghost use Rattle.photo_filter_text.specs.Steps.{start, step, step_at, fresh, level_with, levels_of, state_of};
+ghost use Rattle.photo_filter_text.specs.Steps.{place_of, level_of, state_with};
 ghost use Rattle.photo_filter_text.specs.Steps.{AtFactor, AtOperator, AtValue, AtWord, After, at_factor, after_factor, after_term};
 ghost use Rattle.photo_filter_text.specs.Steps.{finish, finished, joined, negated, closed};
 ghost use Rattle.photo_filter_text.specs.Steps.{keeps, keeps_at, keeps_at_end, keeps_factor, keeps_at_factor, keeps_after_term};
@@ -49,26 +50,26 @@ pub(crate) enum Field {
 /// What may come next.
 #[derive(Drop)]
 pub(crate) enum Place {
-    /// A test, a `not` or a bracket.
+    // A test, a `not` or a bracket.
     Factor,
-    /// `>=`, `<=` or `=`.
+    // `>=`, `<=` or `=`.
     Operator(Field),
-    /// A rating or a date.
+    // A rating or a date.
     Value(Field, Cmp),
-    /// A word.
+    // A word.
     Word,
-    /// `and`, `or`, a closing bracket or the end, behind this term.
+    // `and`, `or`, a closing bracket or the end, behind this term.
     After(FilterTree),
 }
 
 /// What stands before the next factor since a bracket was opened.
 #[derive(Drop)]
 pub(crate) struct Level {
-    /// The terms before the last `or`.
+    // The terms before the last `or`.
     either: Option<FilterTree>,
-    /// The factors since then, before the last `and`.
+    // The factors since then, before the last `and`.
     both: Option<FilterTree>,
-    /// How many times `not` stands since then.
+    // How many times `not` stands since then.
     negations: usize,
 }
 

@@ -11,7 +11,7 @@ use crate::tokens::{MAX_TOKENS, count_tokens, next_token};
 use crate::{FilterFault, FilterTree};
 use std::alloc::Global;
 
-/// The greatest height of a filter's tree.
+// The greatest height of a filter's tree.
 const MAX_HEIGHT: u32 = 32;
 
 /// Reads a filter.

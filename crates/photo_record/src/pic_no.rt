@@ -4,7 +4,7 @@ ghost use Rattle.photo_record.specs.Limits.{IsPicNo};
 
 use std::marker::Model;
 
-/// The greatest picture number.
+// The greatest picture number.
 const MAX_PICTURE: u32 = 999_999_999;
 
 /// The number of a picture: 1 to 999,999,999.

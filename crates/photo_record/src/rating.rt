@@ -5,7 +5,7 @@ ghost use Rattle.photo_record.specs.Reading.{rating_of_text};
 
 use std::marker::Model;
 
-/// The greatest rating.
+// The greatest rating.
 const MAX_RATING: u8 = 5;
 
 /// How good a picture is: 0 to 5.

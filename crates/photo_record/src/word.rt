@@ -12,7 +12,7 @@ use std::cmp::Ordering;
 use std::marker::Model;
 use unicode_normalization::to_nfc;
 
-/// The most bytes of a word in form C.
+// The most bytes of a word in form C.
 const MAX_WORD_BYTES: usize = 64;
 
 /// A word, in Unicode's normalization form C. Contracts see its UTF-8 bytes, and words are ordered by these.

@@ -6,7 +6,7 @@ use crate::{Word, WordFault};
 use std::alloc::Global;
 use std::marker::Model;
 
-/// The most words of one set.
+// The most words of one set.
 const MAX_WORDS: usize = 16;
 
 // The words of a set that is being read, in the order of bytes.

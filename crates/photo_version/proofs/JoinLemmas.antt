@@ -1,7 +1,7 @@
 -- Going along two vectors: what is done, and what is left.
 use Rattle.std.proofs.Common.{◌≡◌, ℕ, zero, suc, ◌+◌, ◌<◌, ◌≤◌, Bool, true, false, leb, max, ◌&&◌, ◌||◌, List, [], ◌∷◌, ◌++◌, length, get_or, take, drop, ◌-◌, refl, sym, subst, ap, ◌∙◌, ◌⊎◌, inl, inr, arith, append_assoc}
 use Rattle.std.proofs.lemmas.Bool.{and_parts, and_from, and_right, lt-leb, le-leb, cases_lt}
-use Rattle.std.proofs.lemmas.List.{drop_more, take_all}
+use Rattle.std.proofs.lemmas.List.{drop_more, take_all, drop_all, append-nil}
 use Rattle.photo_version.specs.Author.{Author, author, author_before}
 use Rattle.photo_version.specs.Version.{version}
 use Rattle.photo_version.specs.Vector.{Bound, denotes, is_vector, raised, joined, is_within}
@@ -30,12 +30,6 @@ joined_none (x ∷ xs) h =
     ap (raised x) (joined_none xs p.rest) ∙ raised_first x xs p.above
 
 -- What is left, at its first
-
-drop_none : {X : Type 0} (zs : List X) (n : ℕ) → length zs ≤ n → drop n zs ≡ []
-drop_none [] zero h = refl
-drop_none [] (suc n) h = refl
-drop_none (z ∷ zs) zero h = absurd (omega arith)
-drop_none (z ∷ zs) (suc n) h = drop_none zs n (omega arith)
 
 pub drop_from : (xs : List Bound) (i : ℕ) (x : Bound) → i < length xs → get_or xs i x ≡ x → drop i xs ≡ x ∷ drop (i + 1) xs
 drop_from xs i x l e = drop_more xs i x l ∙ ap (λ z. z ∷ drop (i + 1) xs) e
@@ -121,17 +115,13 @@ take_both xs ys done new i j x y m l k ex ey p q is =
       right_within = omega arith;
     }
 
-append_nil : {X : Type 0} (zs : List X) → zs ++ [] ≡ zs
-append_nil [] = refl
-append_nil (z ∷ zs) = ap (λ w. z ∷ w) (append_nil zs)
-
 -- one of the two is at its end
 ends : (xs ys : List Bound) (i j : ℕ) → is_vector (drop i xs) ≡ true → (length xs ≤ i) ⊎ (length ys ≤ j) → joined (drop i xs) (drop j ys) ≡ drop i xs ++ drop j ys
-ends xs ys i j h (inl over) = ap (λ zs. joined zs (drop j ys)) (drop_none xs i over) ∙ sym (ap (λ zs. zs ++ drop j ys) (drop_none xs i over))
+ends xs ys i j h (inl over) = ap (λ zs. joined zs (drop j ys)) (drop_all i xs over) ∙ sym (ap (λ zs. zs ++ drop j ys) (drop_all i xs over))
 ends xs ys i j h (inr over) =
-    ap (λ zs. joined (drop i xs) zs) (drop_none ys j over)
+    ap (λ zs. joined (drop i xs) zs) (drop_all j ys over)
     ∙ (joined_none (drop i xs) h
-    ∙ (sym (append_nil (drop i xs)) ∙ sym (ap (λ zs. drop i xs ++ zs) (drop_none ys j over))))
+    ∙ (sym (append-nil (drop i xs)) ∙ sym (ap (λ zs. drop i xs ++ zs) (drop_all j ys over))))
 
 pub all_joined : (xs ys done more new : List Bound) (i j : ℕ) → IsJoining xs ys done i j → (i < length xs → length ys ≤ j) → more ≡ done ++ drop i xs → new ≡ more ++ drop j ys → new ≡ joined xs ys
 all_joined xs ys done more new i j m over is new_is =
@@ -215,7 +205,7 @@ missing xs ys i j x m l ex h =
 pub missing_end : (xs ys : List Bound) (i j : ℕ) → IsComparing xs ys i j → i < length xs → length ys ≤ j → is_within xs ys ≡ false
 missing_end xs ys i j m l over =
     sym m.all
-    ∙ (ap (λ zs. is_within (drop i xs) zs) (drop_none ys j over)
+    ∙ (ap (λ zs. is_within (drop i xs) zs) (drop_all j ys over)
     ∙ ap (λ zs. is_within zs []) (drop_more xs i (get_or xs i (author 0, 0)) l))
 
 pub missing_author : (xs ys : List Bound) (i j : ℕ) (x y : Bound) → IsComparing xs ys i j → i < length xs → j < length ys → get_or xs i x ≡ x → get_or ys j y ≡ y → author_before x.0 y.0 ≡ true → is_within xs ys ≡ false
@@ -230,4 +220,4 @@ missing_number xs ys i j x y m l k ex ey p q u =
     missing xs ys i j x m l ex (ap (λ zs. denotes zs (version x.0 x.1)) (drop_from ys j y k ey) ∙ none)
 
 pub all_compared : (xs ys : List Bound) (i j : ℕ) → IsComparing xs ys i j → length xs ≤ i → is_within xs ys ≡ true
-all_compared xs ys i j m over = sym m.all ∙ ap (λ zs. is_within zs (drop j ys)) (drop_none xs i over)
+all_compared xs ys i j m over = sym m.all ∙ ap (λ zs. is_within zs (drop j ys)) (drop_all i xs over)

@@ -59,7 +59,7 @@ pub fn joined(alloc: Global, bounds: &[Bound], others: &[Bound]) -> Result<Vec<B
     requires right { spec.is_vector others.now ≡ true }
     ensures { IfOk result (λ r. r.items ≡ spec.joined bounds.now others.now) }
 {
-    let mut all = Vec::new(alloc);
+    let mut all = Vec::with_capacity(alloc, bounds.len().max(others.len()))?;
     let mut i = 0;
     let mut j = 0;
     while i < bounds.len() && j < others.len() {

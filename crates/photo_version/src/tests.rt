@@ -85,7 +85,7 @@ fn a_vector_has_versions_up_to_its_bounds(rt: HostRuntime) -> Result<(), Fail> {
     Ok(())
 }
 
-/// The vector of every second of forty authors, from that one on, each with as many versions as its number and one.
+// The vector of every second of forty authors, from that one on, each with as many versions as its number and one.
 fn every_second(alloc: Global, first: u16) -> Option<Vector>
     requires { first ≤ 1 }
 {
@@ -98,7 +98,7 @@ fn every_second(alloc: Global, first: u16) -> Option<Vector>
     Some(vector)
 }
 
-/// Whether a vector has all forty authors, each with as many versions as its number and one.
+// Whether a vector has all forty authors, each with as many versions as its number and one.
 fn has_forty(vector: &Vector) -> bool {
     if vector.len() != 40 {
         return false;

@@ -1,8 +1,10 @@
 //! The words of the command line, and what they ask for.
 ghost use Rattle.std.specs.Prelude.{◌≡◌, ◌≢◌, false, Some, map, IfOk, IfErr, option_map, option_and_then};
 ghost use Rattle.clap.specs.Words.{app_of, found_of, kind_of, rows_of, rule_of, subcommand_rows_of};
-ghost use Rattle.photofleet.specs.CommandLine.{program, plain_command, run_command, replay_command, batches_command, file_argument, workers_argument, order_argument};
-ghost use Rattle.photofleet.specs.Asked.{asked_in, numbers_in, order_in, request_shown, texts, work_in, work_of, workers_in, AsksRequest, IsRefusal};
+ghost use Rattle.photofleet.specs.CommandLine.{program, plain_command, run_command, replay_command, batches_command};
+ghost use Rattle.photofleet.specs.CommandLine.{file_argument, workers_argument, order_argument};
+ghost use Rattle.photofleet.specs.Asked.{asked_in, numbers_in, order_in, request_shown, texts, work_in, work_of};
+ghost use Rattle.photofleet.specs.Asked.{workers_in, AsksRequest, IsRefusal};
 
 use crate::helps::{BATCHES, OVERVIEW, PLAIN, REPLAY, RUN};
 use clap::error::ErrorKind;

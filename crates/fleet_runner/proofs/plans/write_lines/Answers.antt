@@ -1,7 +1,8 @@
 use Rattle.std.proofs.Common.{rules, ◌≡◌, ◌<◌, ◌∙◌, length, arith}
 use Rattle.std.proofs.lemmas.Result.{on_err_weaker}
 use Rattle.fleet_runner.specs.PlanTexts.{count_line, plan_text}
-use Rattle.fleet_runner.proofs.PlanLines.{line_written, line_cut, last_cut, on_err}
+use Rattle.fleet_steps.proofs.Settled.{on_err}
+use Rattle.fleet_runner.proofs.PlanLines.{line_written, line_cut, last_cut}
 use Rattle.fleet_runner.proofs.plans.write_lines.Goals as goal
 
 pub loop-place-preserved : goal.loop-place-preserved
@@ -16,7 +17,7 @@ returns-in_err-write_text-clause-front g c =
     let p = c.args.plan.now in
     let place = c.loop-place.place in
     let within : place < length p.batches = omega (arith, c.loop-place-test.true, c.commands-place-end.ensures.count) in
-    on_err _ _ (line_cut _ (g.W.Write.contents c.loop-place.writer) (g.W.Write.contents c.write_text.new.writer) p place (length p.batches) _ (plan_text p) within (c.as_bytes.ensures.value ∙ rw c.clear.ensures.bytes at c.in-Ok.ensures) c.loop-place.invariant c.in_err-write_text.ensures.front)
+    on_err _ (line_cut _ (g.W.Write.contents c.loop-place.writer) (g.W.Write.contents c.write_text.new.writer) p place (length p.batches) _ (plan_text p) within (c.as_bytes.ensures.value ∙ rw c.clear.ensures.bytes at c.in-Ok.ensures) c.loop-place.invariant c.in_err-write_text.ensures.front)
 
 pub returns-clause-front : goal.returns-clause-front
 returns-clause-front g c =

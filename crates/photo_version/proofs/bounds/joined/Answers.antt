@@ -26,8 +26,8 @@ loop-i-preserved c =
     let y = c.index-others-j.result in
     let before : author_before x.0 y.0 ≡ false = search rules in
     let after : author_before y.0 x.0 ≡ false = search rules in
-    let greater : c.max.result ≡ max x.1 y.1 = search rules in
-    let is : c.push-in-loop-i.new.self.items ≡ c.loop-i.all.items ++ (x.0, c.max.result) ∷ [] = search rules in
+    let greater : c.max-in-loop-i.result ≡ max x.1 y.1 = search rules in
+    let is : c.push-in-loop-i.new.self.items ≡ c.loop-i.all.items ++ (x.0, c.max-in-loop-i.result) ∷ [] = search rules in
     take_both c.args.bounds.now c.args.others.now c.loop-i.all.items _ c.loop-i.i c.loop-i.j x y c.loop-i.invariant (omega arith) (omega arith) (search rules) (search rules) before after (is ∙ ap (λ n. c.loop-i.all.items ++ (x.0, n) ∷ []) greater)
 
 pub returns : goal.returns

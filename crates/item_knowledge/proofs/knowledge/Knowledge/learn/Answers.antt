@@ -7,9 +7,9 @@ use Rattle.item_knowledge.specs.Entries.{denotes, bound}
 use Rattle.item_knowledge.specs.Fragments.{knows, entries_at}
 use Rattle.item_knowledge.specs.Rows.{fragments_of, rows_of, AreRows}
 use Rattle.item_knowledge.specs.Gathering.{vector_of, IsSide}
-use Rattle.item_knowledge.specs.Told.{told}
+use Rattle.item_knowledge.specs.TableRows.{told}
 use Rattle.item_knowledge.proofs.RowLemmas.{rows_rows, fragments_rows}
-use Rattle.item_knowledge.proofs.ToldLemmas.{one_side, one_knows}
+use Rattle.item_knowledge.proofs.TableRowLemmas.{one_side, one_knows}
 use Rattle.item_knowledge.proofs.StagedLemmas.{known_of}
 use Rattle.item_knowledge.proofs.knowledge.Knowledge.learn.Goals as goal
 

@@ -7,7 +7,7 @@ use Rattle.item_knowledge.specs.Rows.{fragments_of, AreRows}
 use Rattle.item_knowledge.specs.Gathering.{vector_of, IsSide}
 use Rattle.item_knowledge.specs.Kept.{star_bound}
 use Rattle.item_knowledge.proofs.KeptLemmas.{kept_side, next_known, star_next}
-use Rattle.item_knowledge.proofs.ToldLemmas.{got_entry}
+use Rattle.item_knowledge.proofs.TableRowLemmas.{got_entry}
 use Rattle.item_knowledge.proofs.UnionLemmas.{entries_order, one_star}
 use Rattle.item_knowledge.proofs.StagedLemmas.{known_of}
 use Rattle.item_knowledge.proofs.knowledge.Knowledge.learn_own.Goals as goal

@@ -9,9 +9,9 @@ use Rattle.item_knowledge.specs.Entries.{denotes, is_vector, bound}
 use Rattle.item_knowledge.specs.Fragments.{knows, entries_at}
 use Rattle.item_knowledge.specs.Rows.{fragments_of, rows_of, AreRows}
 use Rattle.item_knowledge.specs.Gathering.{vector_of, IsSide}
-use Rattle.item_knowledge.specs.Told.{entries_of, told, numbered}
+use Rattle.item_knowledge.specs.TableRows.{entries_of, told, numbered}
 use Rattle.item_knowledge.proofs.RowLemmas.{rows_rows, fragments_rows}
-use Rattle.item_knowledge.proofs.ToldLemmas.{told_side, told_knows}
+use Rattle.item_knowledge.proofs.TableRowLemmas.{told_side, told_knows}
 use Rattle.item_knowledge.proofs.StagedLemmas.{known_of}
 use Rattle.item_knowledge.proofs.knowledge.Knowledge.learn_table.Goals as goal
 

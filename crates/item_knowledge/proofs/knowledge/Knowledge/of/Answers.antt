@@ -6,10 +6,10 @@ use Rattle.item_knowledge.specs.Entries.{denotes, is_vector}
 use Rattle.item_knowledge.specs.Fragments.{knows}
 use Rattle.item_knowledge.specs.Rows.{fragments_of, pairs}
 use Rattle.item_knowledge.specs.Gathering.{vector_of}
-use Rattle.item_knowledge.specs.Told.{bounds_of}
+use Rattle.item_knowledge.specs.TableRows.{bounds_of}
 use Rattle.item_knowledge.proofs.UnionLemmas.{side_vector}
 use Rattle.item_knowledge.proofs.KeptLemmas.{kept_side, number_below, kept_knows}
-use Rattle.item_knowledge.proofs.ToldLemmas.{bounds_denote, if_ok}
+use Rattle.item_knowledge.proofs.TableRowLemmas.{bounds_denote, if_ok}
 use Rattle.item_knowledge.proofs.StagedLemmas.{known_of}
 use Rattle.item_knowledge.proofs.knowledge.Knowledge.of.Goals as goal
 

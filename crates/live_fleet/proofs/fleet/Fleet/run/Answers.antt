@@ -1,16 +1,11 @@
 use Rattle.std.proofs.Common.{◌≡◌, ◌∙◌, ◌+◌, ◌++◌, length, take, drop, sym, ap, subst, refl, arith}
-use Rattle.std.specs.Prelude.{Result, Ok, Err, OnErr}
 use Rattle.photo_script.specs.Contents.{IsWithin}
 use Rattle.fleet_steps.specs.Between.{AreReady, AreSettled, HaveRoom}
 use Rattle.fleet_steps.proofs.Between.{written_back}
-use Rattle.fleet_steps.proofs.Settled.{settled_same}
+use Rattle.fleet_steps.proofs.Settled.{settled_same, on_err}
 use Rattle.live_fleet.specs.Fleets.{KeptFleet}
 use Rattle.live_fleet.proofs.Histories.{came_ready, came_room, came_more, run_shows}
 use Rattle.live_fleet.proofs.fleet.Fleet.run.Goals as goal
-
-on_err : {T E P : Type 0} (r : Result T E) → P → OnErr r P
-on_err (Ok x) p = tt
-on_err (Err e) p = p
 
 pub run_and_keep-requires-clause-ready : goal.run_and_keep-requires-clause-ready
 run_and_keep-requires-clause-ready c = subst AreReady (sym c.as_mut_slice-devices.ensures.value) (came_ready _ c.self.invariant)

@@ -1,6 +1,0 @@
-use Rattle.std.proofs.Common.{drop}
-use Rattle.item_knowledge.proofs.HadLemmas.{HasAll}
-use Rattle.item_knowledge.proofs.had.has_vector.Given as goal
-
-abbrev pub invariant-loop-i : goal.invariant-loop-i
-invariant-loop-i l = record { rest : HasAll l.knowledge.known l.picture (drop l.i l.vector) → HasAll l.knowledge.known l.picture l.vector }

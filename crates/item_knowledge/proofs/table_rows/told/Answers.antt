@@ -1,0 +1,37 @@
+use Rattle.std.proofs.Common.{rules, ◌≡◌, ◌<◌, ◌+◌, ◌++◌, ◌∷◌, [], sym, subst, ap, ◌∙◌, arith, Some}
+use Rattle.std.specs.List.{slice_get}
+use Rattle.std.proofs.lemmas.Option.{slice_get-get_or}
+use Rattle.item_knowledge.specs.Rows.{flat}
+use Rattle.item_knowledge.specs.TableRows.{entries_of}
+use Rattle.item_knowledge.proofs.TableRowLemmas.{got_drop, none_told, one_told, all_told}
+use Rattle.item_knowledge.proofs.table_rows.told.Goals as goal
+
+pub loop-i-init : goal.loop-i-init
+loop-i-init c =
+    let rows : c.in_ok-rows.rows ≡ [] ∷ [] ∷ [] = c.in_ok-rows.ensures in
+    record { told = none_told c.args.table.now c.in_ok-rows.rows c.in_ok-index.index.items rows c.in_ok-index.ensures.items }
+
+pub loop-i-preserved : goal.loop-i-preserved
+loop-i-preserved c =
+    let t = c.index-table-i.result in
+    let got : slice_get c.args.table.now c.loop-i.i ≡ Some t = slice_get-get_or c.args.table.now c.loop-i.i t c.loop-i-test.true ∙ ap Some (sym c.index-table-i.is) in
+    let number : c.from-picture.result ≡ t.0 = search rules in
+    let above : 0 < c.from-picture.result = search rules in
+    let rows : c.place_told.new.rows ≡ c.loop-i.rows ++ (c.from-picture.result ∷ []) ∷ flat (entries_of t.1) ∷ [] = c.in_ok-place_told.ensures.rows in
+    let index : c.push.new.self.items ≡ c.loop-i.index.items ++ (c.from-picture.result, c.loop-i.i + 1) ∷ [] = c.in_ok-push.ensures.items in
+    record {
+      told = one_told c.args.table.now c.loop-i.i t c.loop-i.rows c.place_told.new.rows c.loop-i.index.items c.push.new.self.items (got_drop c.args.table.now c.loop-i.i t got) c.loop-i.invariant.told
+          (rows ∙ ap (λ n. c.loop-i.rows ++ (n ∷ []) ∷ flat (entries_of t.1) ∷ []) number) (index ∙ ap (λ n. c.loop-i.index.items ++ (n, c.loop-i.i + 1) ∷ []) number) (subst (λ n. 0 < n) number above) c.in_ok-place_told.ensures.vector;
+    }
+
+pub returns-clause-rows : goal.returns-clause-rows
+returns-clause-rows c = (all_told c.args.table.now c.loop-i.rows c.loop-i.index.items c.loop-i.i (omega arith) c.loop-i.invariant.told).rows
+
+pub returns-clause-index : goal.returns-clause-index
+returns-clause-index c = (all_told c.args.table.now c.loop-i.rows c.loop-i.index.items c.loop-i.i (omega arith) c.loop-i.invariant.told).index
+
+pub returns-clause-positive : goal.returns-clause-positive
+returns-clause-positive c = (all_told c.args.table.now c.loop-i.rows c.loop-i.index.items c.loop-i.i (omega arith) c.loop-i.invariant.told).positive
+
+pub returns-clause-vectors : goal.returns-clause-vectors
+returns-clause-vectors c = (all_told c.args.table.now c.loop-i.rows c.loop-i.index.items c.loop-i.i (omega arith) c.loop-i.invariant.told).vectors

@@ -1,7 +1,0 @@
-use Rattle.std.proofs.Common.{◌≡◌, ◌++◌, drop}
-use Rattle.item_knowledge.specs.Rows.{pairs}
-use Rattle.item_knowledge.specs.Told.{bounds_of}
-use Rattle.item_knowledge.proofs.told.vector_of.Given as goal
-
-abbrev pub invariant-loop-i : goal.invariant-loop-i
-invariant-loop-i l = record { rest : l.bounds.items ++ bounds_of (drop l.i (pairs l.row)) ≡ bounds_of (pairs l.row) }

@@ -1,0 +1,2 @@
+/// A picture, and the number of its fragment.
+pub(crate) type IndexEntry = (u64, usize);

@@ -1,0 +1,45 @@
+ghost use Rattle.std.specs.Prelude.{◌≡◌, ℕ, [], true};
+ghost use Rattle.photo_version.specs.Version as versions;
+ghost use Rattle.photo_version.specs.Vector as vectors;
+ghost use Rattle.item_knowledge.specs.Fragments.{knows};
+ghost use Rattle.item_knowledge.specs.Tables.{at};
+
+use crate::Knowledge;
+use photo_record::PicNo;
+use photo_version::{Vector, Version};
+
+// Whether of the picture all versions of the vector are known, and a hint for a later picture. Takes no memory.
+fn has_vector(knowledge: &Knowledge, hint: usize, picture: PicNo, vector: &Vector) -> (bool, usize)
+    ensures { result.0 ≡ true → (v : versions.Version) → vectors.denotes vector.now v ≡ true → knows knowledge.now.known picture v ≡ true }
+{
+    let mut near = hint;
+    for i in 0..vector.len() {
+        let (author, n) = vector.entry(i);
+        let Some(version) = Version::new(author, n) else {
+            return (false, near);
+        };
+        let (known, next) = knowledge.knows_near(near, picture, version);
+        near = next;
+        if !known {
+            return (false, near);
+        }
+    }
+    (true, near)
+}
+
+/// Whether of each picture of a table all versions of the vector beside it are known. Takes no memory.
+pub(crate) fn has_table(knowledge: &Knowledge, table: &[(PicNo, Vector)]) -> bool
+    ensures { result ≡ true → (p : ℕ) (v : versions.Version) → vectors.denotes (at [] table.now p) v ≡ true
+        → knows knowledge.now.known p v ≡ true }
+{
+    let mut hint = 0;
+    for i in 0..table.len() {
+        let row = &table[i];
+        let (known, next) = has_vector(knowledge, hint, row.0, &row.1);
+        hint = next;
+        if !known {
+            return false;
+        }
+    }
+    true
+}

@@ -1,0 +1,101 @@
+ghost use Rattle.std.specs.Prelude.{◌≡◌, [], ◌∷◌, ◌++◌, true, nat_lt, IfOk, OnOk};
+ghost use Rattle.std.specs.List.{list_all};
+ghost use Rattle.item_knowledge.specs.Tables.{keys_pass};
+ghost use Rattle.item_knowledge.specs.Entries.{is_vector};
+ghost use Rattle.item_knowledge.specs.Rows.{pairs, flat, IsRow, rows_of};
+ghost use Rattle.item_knowledge.specs.TableRows as spec;
+
+use crate::index::IndexEntry;
+use crate::rows::Rows;
+use crate::search::entry_at;
+use photo_record::PicNo;
+use photo_version::{Author, Vector};
+use std::alloc::{AllocError, Global};
+
+/// Writes the entries of a vector as a row of words, in place of what was there.
+pub(crate) fn write_row(vector: &Vector, row: &mut Vec<u64>) -> Result<(), AllocError>
+    ensures row { OnOk result (IsRow row.new.items) }
+    ensures entries { OnOk result (pairs row.new.items ≡ spec.entries_of vector.now) }
+    ensures vector { OnOk result (is_vector (spec.entries_of vector.now) ≡ true) }
+{
+    row.clear();
+    for i in 0..vector.len() {
+        let (author, n) = vector.entry(i);
+        row.push(author.word())?;
+        row.push(u64::from(n))?;
+    }
+    Ok(())
+}
+
+/// The vector of the entries of a row.
+pub(crate) fn vector_of(alloc: Global, row: &[u64]) -> Result<Vector, AllocError>
+    requires row { IsRow row.now }
+    requires vector { is_vector (pairs row.now) ≡ true }
+    ensures { IfOk result (λ vector. vector ≡ spec.bounds_of (pairs row.now)) }
+{
+    let mut bounds = Vec::new(alloc);
+    for i in 0..row.len() / 2 {
+        let (word, n) = entry_at(row, i);
+        bounds.push((Author::of_word(word), n as u32))?;
+    }
+    Vector::from_entries(alloc, bounds)
+}
+
+// A fragment of one picture with the entries of a vector, at the end. The row is room to write in.
+fn place_told(
+    rows: &mut Rows,
+    picture: u64,
+    vector: &Vector,
+    row: &mut Vec<u64>,
+) -> Result<(), AllocError>
+    ensures rows { OnOk result (rows.new ≡ rows.old ++ (picture ∷ []) ∷ flat (spec.entries_of vector.now) ∷ []) }
+    ensures vector { OnOk result (is_vector (spec.entries_of vector.now) ≡ true) }
+{
+    write_row(vector, row)?;
+    rows.place(&[picture])?;
+    rows.place(row)?;
+    Ok(())
+}
+
+/// The rows of a star alone, with room for so many rows.
+pub(crate) fn star_alone(alloc: Global, star: &[u64], count: usize) -> Result<Rows, AllocError>
+    ensures { IfOk result (λ rows. rows ≡ [] ∷ star.now ∷ []) }
+{
+    let mut rows = Rows::with_room(alloc, count, count.saturating_mul(2))?;
+    rows.place(&[])?;
+    rows.place(star)?;
+    Ok(rows)
+}
+
+/// The rows of what is told of one picture.
+pub(crate) fn told_one(alloc: Global, picture: u64, vector: &Vector) -> Result<Rows, AllocError>
+    ensures rows { IfOk result (λ rows. rows ≡ [] ∷ [] ∷ (picture ∷ []) ∷ flat (spec.entries_of vector.now) ∷ []) }
+    ensures vector { OnOk result (is_vector (spec.entries_of vector.now) ≡ true) }
+{
+    let mut rows = star_alone(alloc, &[], 4)?;
+    place_told(&mut rows, picture, vector, &mut Vec::new(alloc))?;
+    Ok(rows)
+}
+
+/// The rows of what is told of pictures, with their index.
+pub(crate) fn told(
+    alloc: Global,
+    table: &[(PicNo, Vector)],
+) -> Result<(Rows, Vec<IndexEntry>), AllocError>
+    ensures rows { IfOk result (λ all. all.0 ≡ rows_of (spec.told table.now)) }
+    ensures index { IfOk result (λ all. all.1.items ≡ spec.numbered 1 table.now) }
+    ensures positive { IfOk result (λ all. keys_pass (λ p. nat_lt 0 p) table.now ≡ true) }
+    ensures vectors { IfOk result (λ all. list_all (λ t. is_vector (spec.entries_of t.1)) table.now ≡ true) }
+{
+    let count = table.len().saturating_mul(2).saturating_add(2);
+    let mut rows = star_alone(alloc, &[], count)?;
+    let mut index = Vec::with_capacity(alloc, table.len())?;
+    let mut row = Vec::new(alloc);
+    for i in 0..table.len() {
+        let one = &table[i];
+        let picture = u64::from(one.0.value());
+        place_told(&mut rows, picture, &one.1, &mut row)?;
+        index.push((picture, i + 1))?;
+    }
+    Ok((rows, index))
+}
