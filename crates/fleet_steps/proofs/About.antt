@@ -21,6 +21,7 @@ use Rattle.photo_script.specs.declared.command.Command.TheVariants as command
 use Rattle.photo_script.specs.Contents.{Contents, devices_of}
 use Rattle.photo_script.specs.Reports.{Answer, NotHeld, NotNarrower, Narrowed, Exactly, Tells, TellsKnowledge, IsOfScript, AreOfScript, IsConflictOfScript, AreConflictsOfScript, IsAbout}
 use Rattle.photo_script.specs.Runs.{Effect, effect, making, telling, changing, narrowing, pulling, opening_from}
+use Rattle.photo_device.proofs.AllLemmas.{all_append, all_filter, all_put}
 use Rattle.fleet_steps.proofs.KnownLemmas.{each_known}
 
 -- the entry's version is of a device of the script, and so is each version that it was made with
@@ -35,29 +36,9 @@ pub record IsOfFleet (script : Contents) (d : ModelDevice) : Type 0 where
   pub out : AllByRecursion (IsOfRun script) d.out
   pub knows : (picture : ℕ) (v : Version) → known d picture v ≡ true → IsOfScript script v
 
-all_filter : {X : Type 0} (P : X → Type 0) (q : X → Bool) (xs : List X) → AllByRecursion P xs → AllByRecursion P (filter q xs)
-all_filter P q [] all = tt
-all_filter P q (x ∷ xs) all =
-    elim (q x) as (λ b. AllByRecursion P (cond b (x ∷ filter q xs) (filter q xs))) [
-      | true ↦ (all.0, all_filter P q xs all.1)
-      | false ↦ all_filter P q xs all.1
-    ]
-
-all_put : {X : Type 0} (P : X → Type 0) (before : X → X → Bool) (x : X) (ys : List X) → P x → AllByRecursion P ys → AllByRecursion P (put before x ys)
-all_put P before x [] p all = (p, tt)
-all_put P before x (y ∷ ys) p all =
-    elim (before y x) as (λ b. AllByRecursion P (cond b (y ∷ put before x ys) (x ∷ y ∷ ys))) [
-      | true ↦ (all.0, all_put P before x ys p all.1)
-      | false ↦ (p, all)
-    ]
-
 all_puts : (P : Entry → Type 0) (es entries : List Entry) → AllByRecursion P es → AllByRecursion P entries → AllByRecursion P (put_entries es entries)
 all_puts P [] entries new all = all
 all_puts P (e ∷ es) entries new all = all_put P entry_before e _ new.0 (all_puts P es entries new.1 all)
-
-all_append : {X : Type 0} (P : X → Type 0) (xs ys : List X) → AllByRecursion P xs → AllByRecursion P ys → AllByRecursion P (xs ++ ys)
-all_append P [] ys first second = second
-all_append P (x ∷ xs) ys first second = (first.0, all_append P xs ys first.1 second)
 
 all_map : {X Y : Type 0} (P : X → Type 0) (Q : Y → Type 0) (f : X → Y) (xs : List X) → ((x : X) → P x → Q (f x)) → AllByRecursion P xs → AllByRecursion Q (map f xs)
 all_map P Q f [] each all = tt

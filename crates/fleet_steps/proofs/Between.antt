@@ -14,6 +14,7 @@ use Rattle.photo_device.specs.Held.{find_version, entry_of, entries_of}
 use Rattle.photo_device.specs.Device.{Kept, ModelDevice, Shows, holds, known, opening}
 use Rattle.photo_pull.specs.Pull.{pulled, handed_over, counts_of}
 use Rattle.photo_script.specs.Runs.{effect, device_at, with_second}
+use Rattle.photo_pull.proofs.Ready.{same_is}
 use Rattle.fleet_steps.specs.Members.{In, here, there}
 use Rattle.photo_script.specs.declared.command.Command.{Command}
 use Rattle.photo_script.specs.declared.command.Command.TheVariants as command
@@ -28,13 +29,6 @@ use Rattle.fleet_steps.proofs.Zipped.{zip_at, zip_set, zip_long}
 record IsFound (v : Version) (helds : List Held) (h : Held) : Type 0 where
   held : In (entry_of h) (entries_of helds)
   is : h.version ≡ v
-
-same_is : (v w : Version) → same_version v w ≡ true → v ≡ w
-same_is v w h =
-    let both = and_parts (same_author v.author w.author) (eqb v.number w.number) h in
-    let by : v.author.device ≡ w.author.device = eqb-true v.author.device w.author.device both.0 in
-    let number : v.number ≡ w.number = eqb-true v.number w.number both.1 in
-    λ i. version (author (by i)) (number i)
 
 found : (v : Version) (helds : List Held) (h : Held) → find_version v helds ≡ Some h → IsFound v helds h
 found v [] h e = cc

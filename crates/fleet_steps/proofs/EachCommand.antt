@@ -18,6 +18,7 @@ use Rattle.photo_script.specs.declared.command.Command.TheVariants as command
 use Rattle.photo_script.specs.Contents.{Contents, IsWithin, IsScript, record_of}
 use Rattle.photo_script.specs.Reports.{Exactly, NotHeld, NotNarrower, Narrowed}
 use Rattle.photo_script.specs.Runs.{device_at, Fleet, Effect, making, telling, changing, narrowing, opening_from, opening_fleet, after_command, step, run_in_order, numbers_to}
+use Rattle.fleet_steps.proofs.About.{all_at}
 use Rattle.fleet_steps.proofs.Places.{two_set, length_two}
 
 -- a test of records, and a fact on a log and devices that each step keeps where the records of new entries pass
@@ -35,11 +36,6 @@ FitsAll Fits c = IfSome (record_of c) Fits
 pub record IsAfter (P : List Entry → List ModelDevice → Type 0) (count : ℕ) (log : List Entry) (devices : List ModelDevice) : Type 0 where
   pub fact : P log devices
   pub long : length devices ≡ count
-
-all_at : {X : Type 0} (Q : X → Type 0) (xs : List X) (k : ℕ) (d : X) → AllByRecursion Q xs → k < length xs → Q (get_or xs k d)
-all_at Q [] k d all h = absurd (omega arith)
-all_at Q (x ∷ xs) zero d all h = all.0
-all_at Q (x ∷ xs) (suc k) d all h = all_at Q xs k d all.1 (omega arith)
 
 pub all_got : {X : Type 0} (Q : X → Type 0) (xs : List X) (k : ℕ) (x : X) → AllByRecursion Q xs → slice_get xs k ≡ Some x → Q x
 all_got Q xs k x all here = subst Q (get_or_from_slice_get xs k x x here) (all_at Q xs k x all (slice_get_within xs k x here))

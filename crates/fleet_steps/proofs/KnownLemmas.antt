@@ -8,6 +8,7 @@ use Rattle.item_knowledge.specs.Entries.{Entry, denotes, denotes_one, is_vector}
 use Rattle.item_knowledge.specs.Fragments.{Fragment, knows, reaches, lists, is_empty, is_normal, are_groups}
 use Rattle.item_knowledge.proofs.EntryLemmas.{vector_parts}
 use Rattle.item_knowledge.proofs.FragmentLemmas.{groups_parts, normal_parts}
+use Rattle.item_knowledge.proofs.NextLemmas.{reached}
 
 -- the last version of an entry
 abbrev last : Entry → Version
@@ -31,10 +32,6 @@ listed : (ps : List ℕ) → is_empty ps ≡ false → list_all (λ p. ltb 0 p) 
 listed [] some above = cc
 listed (p ∷ ps) some above =
     (p, ltb-true 0 p (and_parts (ltb 0 p) (list_all (λ q. ltb 0 q) ps) above).0, or_left (eqb p p) (lists ps p) (eq-eqb p p refl))
-
--- what is denoted by a fragment of a picture is known of it
-reached : (f : Fragment) (fs : List Fragment) (p : ℕ) (v : Version) → reaches f p ≡ true → denotes f.entries v ≡ true → knows (f ∷ fs) p v ≡ true
-reached f fs p v here denoted = rw (here, denoted) refl
 
 abbrev EachLast : (Version → Type 0) → List Fragment → Type 0
 EachLast P fs = AllByRecursion (λ f. AllByRecursion (λ e. P (version (author_of_word e.0) e.1)) f.entries) fs

@@ -17,8 +17,8 @@ AreRight script answers = AllZip Tells answers (reports_of (run script))
 
 -- What every run of a script gives, whatever lawful order its commands ran in. The devices show those of the run in the
 -- order of the numbers; the reports give its right answers, one for each command, in the order of their numbers; the
--- totals are its own; and the log has its entries, each as often, in whatever order. After each command of that run each
--- device is sound, nothing that is current is lost, and no version was made twice
+-- totals are its own; and the log has its entries, each as often, in whatever order. After each command of the run in the
+-- order of the numbers each device is sound, nothing that is current is lost, and no version was made twice
 pub record IsOutcome (script : Contents) (o : Outcome) : Type 0 where
   pub devices : AllZip Shows o.devices.items (run script).devices
   pub reports : AreRight script (map answer_of o.reports.items)

@@ -20,11 +20,12 @@ use Rattle.photo_script.specs.Runs.{effect, device_at, with_second, run_in_order
 use Rattle.photo_batcher.specs.Related.{is_device, works_on, uses, AreRelated, IsNumber}
 use Rattle.photo_batcher.proofs.Exchange.{used}
 use Rattle.photo_batcher.specs.Orders.{times}
-use Rattle.photo_batcher.proofs.Counting.{times_cons, all_front, all_back}
+use Rattle.photo_batcher.proofs.Counting.{times_cons}
 use Rattle.photo_batcher.proofs.Turns.{all_by_times, by_all_times, self_counts}
 use Rattle.photo_batcher.proofs.Befores.{works_cases, no_device}
 use Rattle.photo_batcher.proofs.Lasts.{works_first, works_second}
 use Rattle.fleet_steps.specs.Between.{MayPull, AreReady, effect_on, devices_after}
+use Rattle.photo_device.proofs.AllLemmas.{all_front, all_back}
 use Rattle.fleet_workers.specs.Jobs.{ShowsSecond, MayWork, IsFor, ShowsEffect, IsDone, IsReadyJob, IsDoneJob, AreReadyJobs, AreDoneJobs}
 use Rattle.fleet_workers.specs.Batch.{IsSecondAt, IsJobAt, AreApart, AreOut, with_other, stored, put_devices, all_devices, all_reports, all_logged, some_second, put_slots, all_slots, IsOfCommand}
 use Rattle.fleet_steps.proofs.InOrder.{IsTold}

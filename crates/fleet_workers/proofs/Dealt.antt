@@ -10,12 +10,13 @@ use Rattle.photo_script.specs.declared.command.Command.{Command}
 use Rattle.photo_script.specs.Contents.{Contents, command_of, devices_of, IsWithin}
 use Rattle.photo_batcher.specs.Related.{IsNumber, uses, works_on, AreRelated}
 use Rattle.photo_batcher.specs.Orders.{times}
-use Rattle.photo_batcher.proofs.Counting.{all_front, all_back, all_join, times_cons, times_append}
+use Rattle.photo_batcher.proofs.Counting.{times_cons, times_append}
 use Rattle.photo_batcher.proofs.Turns.{all_by_times, self_counts}
 use Rattle.photo_batcher.proofs.Exchange.{used}
 use Rattle.photo_batcher.proofs.Befores.{works_cases}
 use Rattle.photo_batcher.proofs.Lasts.{works_first, works_second}
 use Rattle.photo_batcher.proofs.Checked.{at_place}
+use Rattle.photo_device.proofs.AllLemmas.{all_front, all_back, all_append}
 use Rattle.fleet_workers.specs.declared.work.Job.{Job}
 use Rattle.fleet_workers.specs.Jobs.{jobs_of, numbers_of}
 use Rattle.fleet_workers.specs.Batch.{IsJobAt, IsSecondAt, IsTaken, AreApart, AreOut, stored, with_other, taken_slots}
@@ -94,8 +95,8 @@ grouped (g ∷ gs) (suc place) job below =
 
 each_more : (P : Job → Type 0) (rows : List (List Job)) (place : ℕ) (job : Job) → place < length rows → AllByRecursion P (in_rows rows) → P job → AllByRecursion P (in_rows (with_job place job rows))
 each_more P [] place job below all new = absurd (omega arith)
-each_more P (g ∷ gs) zero job below all new = all_join P (g ++ job ∷ []) (in_rows gs) (all_join P g (job ∷ []) (all_front P g (in_rows gs) all) (new, tt)) (all_back P g (in_rows gs) all)
-each_more P (g ∷ gs) (suc place) job below all new = all_join P g (in_rows (with_job place job gs)) (all_front P g (in_rows gs) all) (each_more P gs place job (omega arith) (all_back P g (in_rows gs) all) new)
+each_more P (g ∷ gs) zero job below all new = all_append P (g ++ job ∷ []) (in_rows gs) (all_append P g (job ∷ []) (all_front P g (in_rows gs) all) (new, tt)) (all_back P g (in_rows gs) all)
+each_more P (g ∷ gs) (suc place) job below all new = all_append P g (in_rows (with_job place job gs)) (all_front P g (in_rows gs) all) (each_more P gs place job (omega arith) (all_back P g (in_rows gs) all) new)
 
 -- the places of one element more
 places_more : (test : ℕ → Bool) (i n : ℕ) (xs : List ℕ) → at_places test i (xs ++ n ∷ []) ≡ at_places test i xs ++ cond (test (i + length xs)) (n ∷ []) []

@@ -17,8 +17,9 @@ use Rattle.photo_script.specs.Tallies.{tally_of, kind_of, is_change, is_pull, is
 use Rattle.photo_script.specs.Tallies as kind
 use Rattle.photo_batcher.specs.Related.{IsNumber}
 use Rattle.photo_batcher.specs.Orders.{times, IsLawful}
-use Rattle.photo_batcher.proofs.Counting.{split, times_cons, times_append, all_front, all_back, all_join}
+use Rattle.photo_batcher.proofs.Counting.{split, times_cons, times_append}
 use Rattle.photo_batcher.proofs.Turns.{self_counts, not_counts, all_by_times, by_all_times}
+use Rattle.photo_device.proofs.AllLemmas.{all_front, all_back, all_append}
 use Rattle.fleet_workers.specs.declared.work.Done.{Done}
 use Rattle.fleet_workers.specs.Batch.{all_reports}
 use Rattle.fleet_workers.specs.Counting.{one_of, one_at, tally_at, moved_in}

@@ -16,13 +16,14 @@ use Rattle.photo_batcher.specs.Related.{IsNumber, AreRelated}
 use Rattle.photo_batcher.specs.Orders.{times, IsLawful, AreSameRuns}
 use Rattle.photo_batcher.specs.Batches.{members_of, batches_from, InTurn}
 use Rattle.photo_batcher.specs.Plans.{Planned, IsPlan, batch_in}
-use Rattle.photo_batcher.proofs.Counting.{all_front, all_back, times_append}
+use Rattle.photo_batcher.proofs.Counting.{times_append}
 use Rattle.photo_batcher.proofs.Turns.{by_all_times, plans_in_turn_are_lawful, batches_are_apart}
 use Rattle.photo_batcher.proofs.Checked.{lawful_long}
 use Rattle.photo_batcher.proofs.Reordered.{lawful_orders_are_the_run}
 use Rattle.work_ledger.specs.Ledgers.{all_parts}
 use Rattle.work_ledger.specs.Stakes.{Stake, stake, plus, less, Within, IsCountable}
 use Rattle.fleet_steps.proofs.InOrder.{HasRun as HasReplayed, runs_all}
+use Rattle.photo_device.proofs.AllLemmas.{all_front, all_back}
 use Rattle.fleet_workers.specs.declared.slots.Slots.{Slots}
 use Rattle.fleet_workers.specs.Batch.{AreApart}
 use Rattle.fleet_workers.specs.Counting.{tally_at, worked, moved_in}

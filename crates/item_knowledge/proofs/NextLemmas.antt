@@ -1,5 +1,5 @@
 -- An author's next version, raised in place.
-use Rattle.std.proofs.Common.{◌≡◌, ℕ, ◌+◌, ◌-◌, ◌<◌, ◌≤◌, Bool, true, false, leb, ltb, cond, ◌&&◌, ◌||◌, List, [], ◌∷◌, refl, sym, subst, ◌∙◌, inl, inr, arith}
+use Rattle.std.proofs.Common.{◌≡◌, ℕ, ◌+◌, ◌-◌, ◌<◌, ◌≤◌, true, leb, ltb, cond, ◌&&◌, ◌||◌, List, [], ◌∷◌, refl, sym, subst, ◌∙◌, inl, inr, arith}
 use Rattle.std.specs.List.{list_all}
 use Rattle.std.proofs.lemmas.Bool.{and_parts, and_from, lt-ltb, ltb-true, le-leb, leb-true, cases_lt, false≢true, or_left, or_right}
 use Rattle.photo_version.specs.Author.{Author, author_word, is_author_word, same_author}
@@ -24,7 +24,8 @@ last_denoted es a h z =
     let n = bound es (author_word a) in
     denotes-bound es (version a n) h ∙ and_from _ _ (le-leb 1 (bound es (author_word a)) (omega arith)) (le-leb (bound es (author_word a)) (bound es (author_word a)) (omega arith))
 
-reached : (f : Fragment) (fs : List Fragment) (p : ℕ) (v : Version) → reaches f p ≡ true → denotes f.entries v ≡ true → knows (f ∷ fs) p v ≡ true
+-- what is denoted by a fragment of a picture is known of it
+pub reached : (f : Fragment) (fs : List Fragment) (p : ℕ) (v : Version) → reaches f p ≡ true → denotes f.entries v ≡ true → knows (f ∷ fs) p v ≡ true
 reached f fs p v here denoted = rw (here, denoted) refl
 
 -- no picture above 0 has a version of the author above b

@@ -6,10 +6,11 @@ use Rattle.std.proofs.lemmas.List.{take_all, drop_all, append-nil, take_more, dr
 use Rattle.std.proofs.lemmas.Bool.{cases_order, cases_eq, cases_Bool, both_ways}
 use Rattle.photo_script.specs.Contents.{Contents, devices_of}
 use Rattle.photo_script.specs.declared.command.Command.{Command}
+use Rattle.photo_device.proofs.AllLemmas.{all_back, all_append}
 use Rattle.photo_batcher.specs.Related.{IsNumber, works_on, uses, AreRelated}
 use Rattle.photo_batcher.specs.Orders.{times, KeepsOrder, IsLawful}
 use Rattle.photo_batcher.specs.Steps.{ArePlaces, IsAbove, IsCheckedTo, with_place}
-use Rattle.photo_batcher.proofs.Counting.{all_back, all_join, times_append, times_cons, counts}
+use Rattle.photo_batcher.proofs.Counting.{times_append, times_cons, counts}
 use Rattle.photo_batcher.proofs.Exchange.{used}
 use Rattle.photo_batcher.proofs.Lasts.{used_by, there, works_first, works_second}
 use Rattle.photo_batcher.proofs.Befores.{works_cases, some_same}
@@ -90,7 +91,7 @@ module _ (script : Contents) where
 
   keeps_join : (front : List ℕ) (n : ℕ) → KeepsOrder script front → AllByRecursion (λ k. AreRelated script k n → k < n) front → KeepsOrder script (front ++ n ∷ [])
   keeps_join [] n h all = (tt, tt)
-  keeps_join (m ∷ front) n h all = (all_join (λ j. AreRelated script m j → m < j) front (n ∷ []) h.0 (all.0, tt), keeps_join front n h.1 all.1)
+  keeps_join (m ∷ front) n h all = (all_append (λ j. AreRelated script m j → m < j) front (n ∷ []) h.0 (all.0, tt), keeps_join front n h.1 all.1)
 
   -- a command is related to itself, so none stands twice in order
   once_at_most : (order : List ℕ) → AllByRecursion (IsNumber script) order → KeepsOrder script order → (k : ℕ) → times k order ≤ 1
@@ -169,7 +170,7 @@ module _ (script : Contents) where
   checked_more front last n first second number old places above =
       let lower = below front last n first second old places above in
       record {
-        numbers = all_join (IsNumber script) front (n ∷ []) old.numbers (number, tt);
+        numbers = all_append (IsNumber script) front (n ∷ []) old.numbers (number, tt);
         in_order = keeps_join front n old.in_order (all_by_times (λ k. AreRelated script k n → k < n) front lower);
         long = length_with second n first last ∙ old.long;
         most = λ device k h some using. most device k h some using lower;

@@ -8,10 +8,11 @@ use Rattle.photo_script.specs.Contents.{Contents}
 use Rattle.photo_script.specs.Tallies.{totals_of}
 use Rattle.photo_script.specs.Reports.{ModelReport}
 use Rattle.photo_script.specs.Runs.{Fleet, step, opening_fleet, numbers_to}
+use Rattle.photo_device.proofs.AllLemmas.{all_front, all_back, all_append}
 use Rattle.photo_batcher.specs.Related.{AreRelated}
 use Rattle.photo_batcher.specs.Orders.{times, KeepsOrder, AreSameRuns}
 use Rattle.photo_batcher.specs.Laws.{LawfulOrdersAreTheRun, SameRunsHaveOneTotal}
-use Rattle.photo_batcher.proofs.Counting.{split, none_is, all_front, all_back, all_join, all_map, all_both, times_append, times_cons, counts}
+use Rattle.photo_batcher.proofs.Counting.{split, none_is, all_map, all_both, times_append, times_cons, counts}
 use Rattle.photo_batcher.proofs.Exchange.{same_itself, same_through, same_step, same_fold, exchange}
 
 module _ (script : Contents) where
@@ -31,7 +32,7 @@ module _ (script : Contents) where
   order_without [] n after h = h.1
   order_without (m ∷ before) n after h =
       let P = λ (k : ℕ). AreRelated script m k → m < k in
-      (all_join P before after (all_front P before (n ∷ after) h.0) (all_back P before (n ∷ after) h.0).1, order_without before n after h.1)
+      (all_append P before after (all_front P before (n ∷ after) h.0) (all_back P before (n ∷ after) h.0).1, order_without before n after h.1)
 
   -- an order of the numbers from 1 to m
   record IsOrderTo (m : ℕ) (xs : List ℕ) : Type 0 where
@@ -70,7 +71,7 @@ module _ (script : Contents) where
         after = s.after;
         whole = s.whole;
         rest = record {
-          numbers = all_join Q s.before s.after
+          numbers = all_append Q s.before s.after
               (all_map (λ k. P k × (k ≢ n)) Q s.before less (all_both P (λ k. k ≢ n) s.before front (none_is n s.before none_before)))
               (all_map (λ k. P k × (k ≢ n)) Q s.after less (all_both P (λ k. k ≢ n) s.after back (none_is n s.after none_after)));
           once = λ k some few. once_more _ _ _ _ _ (o.once k some (up k few)) (counted k) (ap (λ (b : Bool). cond {A = ℕ} b 1 0) (ne_eqb n k (λ e. above k few e))) (times_append k s.before s.after);

@@ -6,12 +6,13 @@ use Rattle.std.proofs.lemmas.List.Sorted.{sum_by-IsPermutation}
 use Rattle.std.proofs.lemmas.Bool.{cases_order, cases_eq, both_ways, eq-eqb, ne_eqb}
 use Rattle.photo_script.specs.Contents.{Contents}
 use Rattle.photo_script.specs.Runs.{numbers_to}
+use Rattle.photo_device.proofs.AllLemmas.{all_append}
 use Rattle.photo_batcher.specs.Related.{IsNumber, AreRelated}
 use Rattle.photo_batcher.specs.Orders.{times, KeepsOrder}
 use Rattle.photo_batcher.specs.Batches.{IsSchedule, members_of, batches_from, InTurn}
 use Rattle.photo_batcher.specs.Laws.{BatchesInTurnAreLawful, PlansInTurnAreLawful, BatchesAreApart}
 use Rattle.photo_batcher.specs.Plans.{batch_in}
-use Rattle.photo_batcher.proofs.Counting.{none_is, all_join, all_map, all_both, times_append, times_cons, counts}
+use Rattle.photo_batcher.proofs.Counting.{none_is, all_map, all_both, times_append, times_cons, counts}
 use Rattle.photo_batcher.proofs.Chains.{batches_rise}
 
 -- what stands in a list, by how often it does
@@ -71,7 +72,7 @@ times_numbers (suc n) k h few = go (cases_order k (suc n)) (times_numbers n k h)
 
 pub all_numbers : (n : ℕ) → AllByRecursion (λ k. (0 < k) × (k ≤ n)) (numbers_to n)
 all_numbers zero = tt
-all_numbers (suc n) = all_join (λ k. (0 < k) × (k ≤ suc n)) (numbers_to n) (suc n ∷ []) (all_map (λ k. (0 < k) × (k ≤ n)) (λ k. (0 < k) × (k ≤ suc n)) (numbers_to n) (λ k h. wider k h.0 h.1) (all_numbers n)) ((omega arith, omega arith), tt)
+all_numbers (suc n) = all_append (λ k. (0 < k) × (k ≤ suc n)) (numbers_to n) (suc n ∷ []) (all_map (λ k. (0 < k) × (k ≤ n)) (λ k. (0 < k) × (k ≤ suc n)) (numbers_to n) (λ k h. wider k h.0 h.1) (all_numbers n)) ((omega arith, omega arith), tt)
   where
     wider : (k : ℕ) → 0 < k → k ≤ n → (0 < k) × (k ≤ suc n)
     wider k a b = (a, omega arith)
@@ -126,7 +127,7 @@ module _ (script : Contents) (batch : ℕ → ℕ) where
   unfolding NeverFalls
   joined b [] ys same above never = never
   joined b (x ∷ xs) ys same above never = (
-    all_join (λ k. batch x ≤ batch k) xs ys (all_map (λ k. batch k ≡ b) (λ k. batch x ≤ batch k) xs (λ k h. level k h same.0) same.1) (all_map (λ k. suc b ≤ batch k) (λ k. batch x ≤ batch k) ys (λ k h. higher k h same.0) above),
+    all_append (λ k. batch x ≤ batch k) xs ys (all_map (λ k. batch k ≡ b) (λ k. batch x ≤ batch k) xs (λ k h. level k h same.0) same.1) (all_map (λ k. suc b ≤ batch k) (λ k. batch x ≤ batch k) ys (λ k h. higher k h same.0) above),
     joined b xs ys same.1 above never,
   )
     where

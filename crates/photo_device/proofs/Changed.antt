@@ -1,23 +1,22 @@
 -- What is true of a device that took versions, or gave up some.
 use Rattle.std.proofs.Common.{◌≡◌, ℕ, ◌+◌, ◌≤◌, ◌<◌, Bool, true, false, not, cond, ◌||◌, List, [], ◌∷◌, ◌++◌, refl, sym, ap, ◌∙◌, inl, inr, arith, subst}
-use Rattle.std.specs.Prelude.{filter, is_some, None}
+use Rattle.std.specs.Prelude.{filter, None}
 use Rattle.std.specs.List.{AllByRecursion, list_any}
 use Rattle.std.proofs.lemmas.Bool.{cases_Bool, false≢true}
-use Rattle.std.proofs.Math.Bool.{or-true}
 use Rattle.photo_filter_text.specs.Tree.{Tree}
 use Rattle.photo_filter_rules.specs.Matching.{matches}
 use Rattle.photo_version.specs.Version.{Version, same_version}
-use Rattle.item_knowledge.specs.Fragments.{Fragment, knows, is_normal}
+use Rattle.item_knowledge.specs.Fragments.{Fragment, knows}
 use Rattle.photo_device.specs.declared.held.Held.{Held}
-use Rattle.photo_device.specs.Ordered.{put}
 use Rattle.photo_device.specs.Entry.{Entry, put_entries, put_entry, without}
-use Rattle.photo_device.specs.Held.{entry_of, entries_of, held_before, are_in_order, count_of, find_version, is_listed, helds_without, put_helds}
+use Rattle.photo_device.specs.Held.{entry_of, entries_of, held_before, count_of, find_version, is_listed, helds_without, put_helds}
 use Rattle.photo_device.specs.Device.{Kept, ModelDevice, Shows, without_waiting}
 use Rattle.photo_device.specs.Own.{HasEarlier, IsKnownBy, IsDevice, KnowsItsOwn}
 use Rattle.photo_device.specs.Taking.{is_on_side, AreNewTo, with_side}
-use Rattle.photo_device.proofs.Counts.{count_of-cons, count_of-append, count_of-filter, same_version_is, same_version_self}
+use Rattle.photo_device.proofs.AllLemmas.{all_filter, all_put}
+use Rattle.photo_device.proofs.Counts.{count_of-cons, count_of-append, count_of-filter, same_version_is}
 use Rattle.photo_device.proofs.Entries.{entries-put}
-use Rattle.photo_device.proofs.OwnLemmas.{all_filter, all_put, all_of, known_later}
+use Rattle.photo_device.proofs.OwnLemmas.{known_later}
 use Rattle.photo_device.proofs.Taken.{count_of-put_helds, none_counted, without_none}
 
 pub all_put_helds : (P : Held → Type 0) (takes helds : List Held) → AllByRecursion P takes → AllByRecursion P helds → AllByRecursion P (put_helds takes helds)

@@ -4,6 +4,7 @@ pub mod Counts
 pub mod Found
 pub mod Shown
 pub mod Holding
+pub mod AllLemmas
 pub mod OwnLemmas
 pub mod Replacing
 pub mod Lexical

@@ -16,8 +16,9 @@ use Rattle.photo_device.specs.Held.{entries_of, count_of, is_of, has_version_of}
 use Rattle.photo_device.specs.Device.{Kept, ModelDevice, Shows, narrowed, moved}
 use Rattle.photo_device.specs.Own.{HasEarlier, IsKnownBy, IsDevice}
 use Rattle.photo_device.specs.Taking.{is_on_side, AreNewTo, with_side}
+use Rattle.photo_device.proofs.AllLemmas.{all_filter}
 use Rattle.photo_device.proofs.Counts.{one_of, count_of-cons, count_of-append, count_of-filter, same_version_self}
-use Rattle.photo_device.proofs.OwnLemmas.{all_filter, all_of}
+use Rattle.photo_device.proofs.OwnLemmas.{all_of}
 use Rattle.photo_device.proofs.Taken.{count_of-put_helds, IsTaking, has_put, has_skipped, put_one_by_one, one_by_one}
 use Rattle.photo_device.proofs.Changed.{both_sides, all_put_helds, entries-filter, entries-put_helds}
 
@@ -143,10 +144,6 @@ front_new block left now new = record {
       let front = count_of-append v block now in
       omega arith;
 }
-
-pub all_front : (P : Held → Type 0) (xs ys : List Held) → AllByRecursion P (xs ++ ys) → AllByRecursion P xs
-all_front P [] ys all = tt
-all_front P (x ∷ xs) ys all = (all.0, all_front P xs ys all.1)
 
 pub side_taken : (matched : Bool) (tree : Tree) (takes before block left now : List Held) → IsTaking matched tree takes before (block ++ left) now → IsTaking matched tree takes before left (with_side matched tree block now)
 side_taken matched tree takes before block left now taking =

@@ -19,23 +19,8 @@ use Rattle.photo_device.specs.Held.{entry_of, held_before, held_of_others, repla
 use Rattle.photo_device.specs.Device.{Kept, held_at, unstaged}
 use Rattle.photo_device.specs.Own.{HasEarlier, KnowsItsOwn, IsKnownBy, IsNext, HasMade, IsDevice}
 use Rattle.photo_device.specs.Learning.{IsOwnLearned}
+use Rattle.photo_device.proofs.AllLemmas.{all_filter, all_put}
 use Rattle.photo_device.proofs.Counts.{one_of, count_of-cons, count_of-append, count_of-put, count_of-filter, same_version_is, same_version_self}
-
-pub all_filter : {X : Type 0} (P : X → Type 0) (q : X → Bool) (xs : List X) → AllByRecursion P xs → AllByRecursion P (filter q xs)
-all_filter P q [] all = tt
-all_filter P q (x ∷ xs) all =
-    elim (q x) as (λ b. AllByRecursion P (cond b (x ∷ filter q xs) (filter q xs))) [
-      | true ↦ (all.0, all_filter P q xs all.1)
-      | false ↦ all_filter P q xs all.1
-    ]
-
-pub all_put : {X : Type 0} (P : X → Type 0) (before : X → X → Bool) (x : X) (ys : List X) → P x → AllByRecursion P ys → AllByRecursion P (put before x ys)
-all_put P before x [] p all = (p, tt)
-all_put P before x (y ∷ ys) p all =
-    elim (before y x) as (λ b. AllByRecursion P (cond b (y ∷ put before x ys) (x ∷ y ∷ ys))) [
-      | true ↦ (all.0, all_put P before x ys p all.1)
-      | false ↦ (p, all)
-    ]
 
 -- the numbers from 1 to k, with k + 1
 pub one_more : (n k : ℕ) → ((leb 1 n && leb n k) || eqb (k + 1) n) ≡ (leb 1 n && leb n (k + 1))

@@ -19,6 +19,7 @@ use Rattle.photo_device.specs.Device.{Kept, Staging, ModelDevice, Shows, changed
 use Rattle.photo_device.specs.Own.{HasEarlier, IsKnownBy, IsDevice}
 use Rattle.photo_device.specs.Taking.{is_on_side, AreNewTo, with_side}
 use Rattle.photo_device.specs.Staging.{HasStaged, MayHand, staging_of, IsAhead, IsPrepared, AreParts}
+use Rattle.photo_device.proofs.AllLemmas.{all_append}
 use Rattle.photo_device.proofs.Counts.{count_of-append, count_of-filter}
 use Rattle.photo_device.proofs.OwnLemmas.{known_later}
 use Rattle.photo_device.proofs.Taken.{count_of-put_helds, IsTaking, is_starting, has_put, has_skipped, has_taken, next_new}
@@ -105,10 +106,6 @@ or_group false b c = refl
 or_ahead : (a b : Bool) → (a ≡ true → b ≡ true) → b ≡ (a || b)
 or_ahead true b h = h refl
 or_ahead false b h = refl
-
-all_append : (P : Held → Type 0) (xs ys : List Held) → AllByRecursion P xs → AllByRecursion P ys → AllByRecursion P (xs ++ ys)
-all_append P [] ys these those = those
-all_append P (x ∷ xs) ys these those = (these.0, all_append P xs ys these.1 those)
 
 -- what was required of the device with the change staged, of the one whose parts are known
 pub may_hand : (prepared : Option Prepared) (o : Option (List Fragment)) (p : Prepared) (handed : List Held) (d : Kept) → prepared ≡ Some p

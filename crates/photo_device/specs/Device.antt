@@ -14,7 +14,7 @@ use Rattle.photo_device.specs.Entry.{Entry, others, put_entry_if, put_entries, w
 use Rattle.photo_device.specs.Held.{entries_of, held_of_others, replaced}
 
 -- a model device: who it is, the tree of its filter, how many versions it has made, what it holds, and what it knows:
--- some versions of every picture, and some of single pictures. Store and out list their entries in order
+-- some versions of every picture, and some of single pictures. What a run does keeps store and out in the order of their entries
 pub record ModelDevice : Type 0 where
   pub author : Author
   pub tree : Tree

@@ -1,14 +1,10 @@
 -- Machinery of the proofs: what a set takes of versions.
-use Rattle.std.specs.Prelude.{◌≡◌, ℕ, ◌≤◌, ◌<◌, Bool, true, false, not, ◌||◌, List, ◌++◌, map, filter, None}
-use Rattle.std.specs.List.{AllByRecursion}
+use Rattle.std.specs.Prelude.{◌≤◌, Bool, true, false, not, List, ◌++◌, map, filter}
 use Rattle.photo_filter_text.specs.Tree.{Tree}
 use Rattle.photo_filter_rules.specs.Matching.{matches}
-use Rattle.photo_version.specs.Version.{Version, version}
-use Rattle.item_knowledge.specs.Fragments.{Fragment, knows}
+use Rattle.photo_version.specs.Version.{Version}
 use Rattle.photo_device.specs.declared.held.Held.{Held}
-use Rattle.photo_device.specs.Held.{count_of, find_version, put_helds}
-use Rattle.photo_device.specs.Device.{Kept}
-use Rattle.photo_device.specs.Own.{HasEarlier, IsKnownBy}
+use Rattle.photo_device.specs.Held.{count_of, put_helds}
 
 -- it is among those that the tree matches, or among the others
 abbrev pub is_on_side : Bool → Tree → Held → Bool

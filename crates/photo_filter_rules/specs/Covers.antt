@@ -1,4 +1,4 @@
--- A filter that is to keep whatever another is to keep.
+-- A filter that is seen, by the alternatives of both, to keep whatever another keeps. One may keep it and not be seen to.
 use Rattle.std.specs.Prelude.{Bool, ◌&&◌, int_le, List}
 use Rattle.std.specs.List.{list_any, list_all}
 use Rattle.photo_record.specs.Word.{has_word}

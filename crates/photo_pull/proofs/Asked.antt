@@ -12,8 +12,9 @@ use Rattle.photo_device.specs.declared.held.Held.{Held}
 use Rattle.photo_device.specs.Held.{find_version, count_of}
 use Rattle.photo_device.specs.Device.{Kept}
 use Rattle.photo_device.specs.Own.{HasEarlier, IsKnownBy}
+use Rattle.photo_device.proofs.AllLemmas.{all_append}
 use Rattle.photo_pull.specs.OnHeld.{is_new, tells, new_waiting, learns, is_dropped, is_over, dropped_stored, dropped_waiting, is_selected, is_heard, new_stored, heard, taken_stored, versions, gains}
-use Rattle.photo_pull.proofs.Members.{In, in_left, in_right, in_any, all_at, all_append, all_map, all_passing, all_of, found_some, found_in, only_one, find_one}
+use Rattle.photo_pull.proofs.Members.{In, in_left, in_right, in_any, all_at, all_map, all_passing, all_of, found_some, found_in, only_one, find_one}
 use Rattle.photo_pull.proofs.Ready.{AreReady, known_target, known_source, found_source, same_itself, same_is}
 use Rattle.photo_pull.proofs.Told.{or_intro, or_other, one}
 use Rattle.photo_pull.proofs.Changes.{drops, takes}

@@ -10,6 +10,7 @@ use Rattle.photo_device.specs.Held.{find_version, count_of, times_in, helds_at, 
 use Rattle.photo_device.specs.Device.{Kept, Staging, ModelDevice, Shows, IsAsItWas, changed, unstaged}
 use Rattle.photo_device.specs.Own.{HasEarlier, IsKnownBy}
 use Rattle.photo_device.specs.Staging.{HasStaged, MayHand}
+use Rattle.photo_device.proofs.AllLemmas.{all_back}
 use Rattle.photo_device.proofs.Counts.{count_of-append, count_of-filter}
 use Rattle.photo_device.proofs.OwnLemmas.{known_later}
 use Rattle.photo_device.proofs.Changed.{all_new}
@@ -18,14 +19,6 @@ use Rattle.photo_pull.specs.OnHeld.{is_new, new_waiting, taken_stored, versions}
 use Rattle.photo_pull.proofs.Ready.{AreReady}
 use Rattle.photo_pull.proofs.Asked.{takes_new, takes_distinct, waiting_earlier, waiting_found}
 use Rattle.photo_pull.proofs.Changes.{takes}
-
-pub left_all : {X : Type 0} (P : X → Type 0) (xs ys : List X) → AllByRecursion P (xs ++ ys) → AllByRecursion P xs
-left_all P [] ys all = tt
-left_all P (x ∷ xs) ys all = (all.0, left_all P xs ys all.1)
-
-pub right_all : {X : Type 0} (P : X → Type 0) (xs ys : List X) → AllByRecursion P (xs ++ ys) → AllByRecursion P ys
-right_all P [] ys all = all
-right_all P (x ∷ xs) ys all = right_all P xs ys all.1
 
 -- versions of a list are asked for as often as they stand there
 pub asked_times : (v : Version) (hs : List Held) → times_in v (versions hs) ≡ count_of v hs
@@ -80,7 +73,7 @@ module _ (t s : Kept) (ready : AreReady t s) where
             omega arith;
         earlier = subst (AllByRecursion HasEarlier) (sym handed_is) (waiting_earlier t s ready);
         known = known_later gain has.knowledge (λ p v above here. has.learned p v above ∙ ap (λ b. knows t.knowledge p v || b) here ∙ or-true (knows t.knowledge p v)) handed
-            (subst (AllByRecursion (IsKnownBy gain)) (sym handed_is) (right_all (IsKnownBy gain) (taken_stored t s) (new_waiting t s) known));
+            (subst (AllByRecursion (IsKnownBy gain)) (sym handed_is) (all_back (IsKnownBy gain) (taken_stored t s) (new_waiting t s) known));
       })
 
 -- what will be known is what was known and what is gained

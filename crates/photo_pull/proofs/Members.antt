@@ -61,18 +61,6 @@ module _ {X : Type 0} where
   all_at P x [] all h = absurd h
   all_at P x (y ∷ ys) all h = elim h [ inl e ↦ subst P (sym e) all.0 | inr there ↦ all_at P x ys all.1 there ]
 
-  pub all_filter : (P : X → Type 0) (q : X → Bool) (xs : List X) → AllByRecursion P xs → AllByRecursion P (filter q xs)
-  all_filter P q [] all = tt
-  all_filter P q (x ∷ xs) all =
-      elim (q x) as (λ b. AllByRecursion P (cond b (x ∷ filter q xs) (filter q xs))) [
-        | true ↦ (all.0, all_filter P q xs all.1)
-        | false ↦ all_filter P q xs all.1
-      ]
-
-  pub all_append : (P : X → Type 0) (xs ys : List X) → AllByRecursion P xs → AllByRecursion P ys → AllByRecursion P (xs ++ ys)
-  all_append P [] ys all more = more
-  all_append P (x ∷ xs) ys all more = (all.0, all_append P xs ys all.1 more)
-
   pub all_of : (P : X → Type 0) (xs : List X) → ((x : X) → In x xs → P x) → AllByRecursion P xs
   all_of P xs f = all_weaker (λ x. In x xs) P xs f (all_in xs)
 

@@ -7,7 +7,8 @@ use Rattle.photo_device.specs.declared.held.Held.{Held}
 use Rattle.photo_device.specs.Held.{find_version}
 use Rattle.photo_device.specs.Device.{Kept, unstaged}
 use Rattle.photo_device.specs.Own.{IsDevice, IsKnownBy}
-use Rattle.photo_pull.proofs.Members.{In, all_at, all_append, only_one, find_one}
+use Rattle.photo_device.proofs.AllLemmas.{all_append}
+use Rattle.photo_pull.proofs.Members.{In, all_at, only_one, find_one}
 
 pub record AreReady (t s : Kept) : Type 0 where
   pub target : IsDevice (unstaged t)

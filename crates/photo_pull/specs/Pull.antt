@@ -23,7 +23,7 @@ noticed t s = filter (λ e. not (knows_entry t e) && (not (selects t e) && list_
 abbrev pub told : ModelDevice → ModelDevice → List Entry
 told t s = taken t s ++ handed t s ++ noticed t s
 
--- the source is to keep whatever the target is to keep
+-- the source is seen, by the alternatives of both filters, to keep whatever the target is to keep
 abbrev pub learns_all : ModelDevice → ModelDevice → Bool
 learns_all t s = covers s.tree t.tree
 
@@ -53,7 +53,7 @@ pulled t s =
       of = λ picture v. t.of picture v || (tell (told t s) picture v || (learns_all t s && s.of picture v));
     }
 
--- the source after it
+-- the source after it: what was new to the target has left its out, and what the target knew stays there
 abbrev pub handed_over : ModelDevice → ModelDevice → ModelDevice
 handed_over t s = record s { out = filter (knows_entry t) s.out }
 

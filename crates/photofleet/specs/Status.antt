@@ -3,7 +3,7 @@ use Rattle.std.specs.Prelude.{ℕ, Bool, ◌||◌, ◌==◌, Result, Ok, Err}
 use Rattle.fleet_steps.specs.declared.fault.RunError.{RunError}
 use Rattle.fleet_steps.specs.declared.fault.RunError.TheVariants.{NoMemory, NoWorker, NotLawful, Script, Write}
 
--- done, bad words, no script, no run, or no output
+-- done, bad words, no script, not all was run or told, or not all was written
 abbrev pub is_status : ℕ → Bool
 is_status n = (n == 0) || ((n == 2) || ((n == 3) || ((n == 4) || (n == 5))))
 

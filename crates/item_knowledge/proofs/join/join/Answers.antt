@@ -42,7 +42,7 @@ loop-i-preserved c =
       left = (let more = (row_step c.args.xs.now c.loop-i.i (omega arith) c.loop-i.invariant.rows.left_row).more in omega arith);
       right = (let more = (row_step c.args.ys.now c.loop-i.j (omega arith) c.loop-i.invariant.rows.right_row).more in omega arith);
       room = (let first = (row_step c.args.xs.now c.loop-i.i (omega arith) c.loop-i.invariant.rows.left_row).more in
-        let second = (row_step c.args.ys.now c.loop-i.j (omega arith) c.loop-i.invariant.rows.right_row).more in omega arith);
+          let second = (row_step c.args.ys.now c.loop-i.j (omega arith) c.loop-i.invariant.rows.right_row).more in omega arith);
     }
 
 pub returns-then-i-xs-clause-row : goal.returns-then-i-xs-clause-row

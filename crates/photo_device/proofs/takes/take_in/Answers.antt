@@ -1,4 +1,4 @@
-use Rattle.std.proofs.Common.{◌≡◌, ◌≤◌, true, false, List, ◌++◌, length, sym, ap, ◌∙◌, subst, arith}
+use Rattle.std.proofs.Common.{true, false, List, sym, ap, ◌∙◌, subst}
 use Rattle.photo_device.specs.declared.held.Held.{Held}
 use Rattle.photo_device.specs.Taking.{AreNewTo, with_side}
 use Rattle.photo_device.proofs.Staged.{both_taken, new_first, new_then}

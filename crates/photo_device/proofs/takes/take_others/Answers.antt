@@ -5,8 +5,9 @@ use Rattle.block_list.specs.Blocks.{joined}
 use Rattle.photo_device.specs.declared.held.Held.{Held}
 use Rattle.photo_device.specs.Held.{has_version_of}
 use Rattle.photo_device.specs.Taking.{AreNewTo, with_side}
+use Rattle.photo_device.proofs.AllLemmas.{all_front}
 use Rattle.photo_device.proofs.Taken.{IsTaking, is_starting, has_taken}
-use Rattle.photo_device.proofs.Narrowed.{next_block, front_new, all_front, side_taken, none_pass, none_given_back, once_apart}
+use Rattle.photo_device.proofs.Narrowed.{next_block, front_new, side_taken, none_pass, none_given_back, once_apart}
 use Rattle.photo_device.proofs.takes.take_others.Goals as goal
 
 pub loop-block-init : goal.loop-block-init

@@ -5,10 +5,10 @@ use Rattle.photo_filter_rules.specs.Covers.{covers}
 use Rattle.photo_device.specs.declared.held.Held.{Held}
 use Rattle.photo_device.specs.Held.{are_in_order}
 use Rattle.photo_device.specs.Own.{HasEarlier}
+use Rattle.photo_device.proofs.AllLemmas.{all_filter}
 use Rattle.photo_device.proofs.Order.{in_order-filter}
 use Rattle.photo_pull.specs.OnHeld.{is_selected, has_below, heard}
 use Rattle.photo_pull.specs.Findings.{IsTold}
-use Rattle.photo_pull.proofs.Members.{all_filter}
 use Rattle.photo_pull.proofs.finding.found_between.Goals as goal
 
 pub told_of-requires-clause-heard_order : goal.told_of-requires-clause-heard_order

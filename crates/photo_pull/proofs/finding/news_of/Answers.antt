@@ -1,8 +1,8 @@
 use Rattle.std.proofs.Common.{sym, subst}
 use Rattle.std.specs.List.{AllByRecursion}
 use Rattle.photo_device.specs.Own.{HasEarlier}
+use Rattle.photo_device.proofs.AllLemmas.{all_filter}
 use Rattle.photo_pull.specs.OnHeld.{is_new}
-use Rattle.photo_pull.proofs.Members.{all_filter}
 use Rattle.photo_pull.proofs.finding.news_of.Goals as goal
 
 pub returns-clause-stored_earlier : goal.returns-clause-stored_earlier

@@ -8,11 +8,12 @@ use Rattle.photo_device.specs.declared.held.Held.{Held}
 use Rattle.photo_device.specs.Held.{entries_of, find_version, count_of, times_in, helds_at}
 use Rattle.photo_device.specs.Device.{Shows, without_waiting}
 use Rattle.photo_device.specs.Own.{HasEarlier, IsKnownBy}
+use Rattle.photo_device.proofs.AllLemmas.{all_front}
 use Rattle.photo_pull.specs.OnHeld.{versions, gains, new_waiting}
 use Rattle.photo_pull.proofs.Ready.{AreReady}
 use Rattle.photo_pull.proofs.Changes.{shows_unchanged, shows_pulled, shows_handed, shows_not_handed}
 use Rattle.photo_pull.proofs.Asked.{drops_held, takes_new, takes_earlier, takes_known, gain_own}
-use Rattle.photo_pull.proofs.Committed.{left_all, taken_distinct, asked_once, handed_are, may_hand, shows_gained, is_staged, versions_long}
+use Rattle.photo_pull.proofs.Committed.{taken_distinct, asked_once, handed_are, may_hand, shows_gained, is_staged, versions_long}
 use Rattle.photo_pull.proofs.Findings.{gain_is, drops_are, nothing_found, shows_change, counts_found}
 use Rattle.photo_pull.proofs.Moved.{all_moved, changed_moved}
 use Rattle.photo_pull.proofs.pulling.pull_between.Goals as goal
@@ -45,7 +46,7 @@ stage-requires-clause-drops c =
 pub stage-requires-clause-new : goal.stage-requires-clause-new
 stage-requires-clause-new c =
     let ready : AreReady c.args.target.now c.args.source.now = record { target = c.knowledge.ensures.device; source = c.knowledge-2.ensures.device; one = c.requires.one } in
-    subst (AllByRecursion (λ (h : Held). find_version h.version (c.args.target.now.store ++ c.args.target.now.out) ≡ None)) (sym (c.in_ok-change.ensures.takes ∙ c.in_ok-finding.ensures.taken)) (left_all _ _ _ (takes_new c.args.target.now c.args.source.now ready))
+    subst (AllByRecursion (λ (h : Held). find_version h.version (c.args.target.now.store ++ c.args.target.now.out) ≡ None)) (sym (c.in_ok-change.ensures.takes ∙ c.in_ok-finding.ensures.taken)) (all_front _ _ _ (takes_new c.args.target.now c.args.source.now ready))
 
 pub stage-requires-clause-distinct : goal.stage-requires-clause-distinct
 stage-requires-clause-distinct c = λ v.
@@ -55,14 +56,14 @@ stage-requires-clause-distinct c = λ v.
 pub stage-requires-clause-earlier : goal.stage-requires-clause-earlier
 stage-requires-clause-earlier c =
     let ready : AreReady c.args.target.now c.args.source.now = record { target = c.knowledge.ensures.device; source = c.knowledge-2.ensures.device; one = c.requires.one } in
-    subst (AllByRecursion HasEarlier) (sym (c.in_ok-change.ensures.takes ∙ c.in_ok-finding.ensures.taken)) (left_all _ _ _ (takes_earlier c.args.target.now c.args.source.now ready))
+    subst (AllByRecursion HasEarlier) (sym (c.in_ok-change.ensures.takes ∙ c.in_ok-finding.ensures.taken)) (all_front _ _ _ (takes_earlier c.args.target.now c.args.source.now ready))
 
 pub stage-requires-clause-known : goal.stage-requires-clause-known
 stage-requires-clause-known c =
     let ready : AreReady c.args.target.now c.args.source.now = record { target = c.knowledge.ensures.device; source = c.knowledge-2.ensures.device; one = c.requires.one } in
     let f = c.in_ok-finding.finding in
     subst (AllByRecursion (IsKnownBy c.in_ok-change.change.gain.known)) (sym (c.in_ok-change.ensures.takes ∙ c.in_ok-finding.ensures.taken))
-    (left_all _ _ _ (takes_known c.args.target.now c.args.source.now ready c.in_ok-change.change.gain.known
+    (all_front _ _ _ (takes_known c.args.target.now c.args.source.now ready c.in_ok-change.change.gain.known
     (λ p v above. c.in_ok-change.ensures.gain p v above ∙ ap (λ (fs : List Fragment). cond f.learned (knows fs p v) (denotes (at [] f.told.items p) v)) c.knowledge-3.ensures.value ∙ gain_is c.args.target.now c.args.source.now f c.in_ok-finding.ensures ready p v)))
 
 pub stage-requires-clause-own : goal.stage-requires-clause-own

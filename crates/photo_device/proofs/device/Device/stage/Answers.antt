@@ -1,7 +1,7 @@
 use Rattle.std.proofs.Common.{◌≡◌, ◌+◌, length, refl, sym, ap, ◌∙◌, subst, rules}
 use Rattle.std.specs.Prelude.{None}
 use Rattle.item_knowledge.specs.Staged.{IsStagedUnion}
-use Rattle.photo_device.specs.Device.{Kept, IsAsItWas}
+use Rattle.photo_device.specs.Device.{Kept}
 use Rattle.photo_device.proofs.Staged.{MayStage, stages, has_staged}
 use Rattle.photo_device.proofs.device.Device.stage.Goals as goal
 
