@@ -104,7 +104,8 @@ pub(crate) fn run_crew<
     requires left { Within (tally_at (arc_value script.now) (numbers_of (jobs_of groups.items))) share.old.left }
     ensures done { IfOk result (λ done. AreDoneJobs (arc_value script.now) (jobs_of groups.items) done.items) }
     ensures share { IfOk result (λ done. share.new
-        ≡ stake share.old.parts (less share.old.left (tally_at (arc_value script.now) (numbers_of (jobs_of groups.items)))) (both share.old.done (worked (tally_at (arc_value script.now) (numbers_of (jobs_of groups.items))) (moved_in done.items)))) }
+        ≡ stake share.old.parts (less share.old.left (tally_at (arc_value script.now) (numbers_of (jobs_of groups.items))))
+        (both share.old.done (worked (tally_at (arc_value script.now) (numbers_of (jobs_of groups.items))) (moved_in done.items)))) }
     ensures err { IfErr result (λ e. (e ≡ NoMemory) ⊎ (e ≡ NoWorker)) }
 {
     let mut groups = groups;
@@ -154,7 +155,8 @@ fn run_here<B: Books, G: Gate, R: Wait>(
     requires left { Within (tally_at (arc_value script.now) (numbers_of jobs.items)) share.old.left }
     ensures done { IfOk result (λ done. AreDoneJobs (arc_value script.now) jobs.items done.items) }
     ensures share { IfOk result (λ done. share.new
-        ≡ stake share.old.parts (less share.old.left (tally_at (arc_value script.now) (numbers_of jobs.items))) (both share.old.done (worked (tally_at (arc_value script.now) (numbers_of jobs.items)) (moved_in done.items)))) }
+        ≡ stake share.old.parts (less share.old.left (tally_at (arc_value script.now) (numbers_of jobs.items)))
+        (both share.old.done (worked (tally_at (arc_value script.now) (numbers_of jobs.items)) (moved_in done.items)))) }
     ensures err { IfErr result (λ e. e ≡ NoMemory) }
 {
     // For its fact alone: what the share may count can be counted.

@@ -70,9 +70,11 @@ fn perform<O: Opener, W: Write, T: Threads + Wait + Copy + Send + 'static>(
     ensures written { OnOk result (IfSome (O.content opener.old request.now.file.now) (WritesAll (W.contents out.old)
         (W.contents out.new) (work_of request.now.job))) }
     ensures first { status_of result ≡ 4 → (out.new ≡ out.old)
-        ⊎ IfSome (O.content opener.old request.now.file.now) (WritesSome (W.contents out.old) (W.contents out.new) (work_of request.now.job)) }
+        ⊎ IfSome (O.content opener.old request.now.file.now) (WritesSome (W.contents out.old)
+        (W.contents out.new) (work_of request.now.job)) }
     ensures front { result ≡ Err Write
-        → IfSome (O.content opener.old request.now.file.now) (WritesPart (W.contents out.old) (W.contents out.new) (work_of request.now.job)) }
+        → IfSome (O.content opener.old request.now.file.now) (WritesPart (W.contents out.old)
+        (W.contents out.new) (work_of request.now.job)) }
     ensures nothing { (fault : script.ScriptFault) → result ≡ Err (Script fault) → out.new ≡ out.old }
 {
     let mut source = opener.open(request.file).map_err(RunError::Script)?;
