@@ -8,7 +8,7 @@ ghost use Rattle.photo_script.specs.declared.report.Report.TheVariants.{NotHeld}
 ghost use Rattle.photo_batcher.specs.Orders.{IsLawful};
 ghost use Rattle.fleet_steps.specs.Outcomes.{IsOutcome};
 
-use crate::issue::run_and_log;
+use crate::logging::run_and_log;
 use crate::{IssueLog, Outcome};
 use photo_batcher::laws::lawful_orders_are_the_run;
 use photo_device::Device;

@@ -3,7 +3,7 @@ ghost use Rattle.std.specs.Prelude.{◌≡◌, ◌<◌, ◌++◌, length, string
 use crate::Script;
 use crate::conflict_report::push_conflicts;
 use crate::known_report::push_knowledge;
-use crate::pull_report::{push_narrowed, push_not_narrower, push_pulled};
+use crate::moved_report::{push_narrowed, push_not_narrower, push_pulled};
 use item_knowledge::Knowledge;
 use itoa::Buffer;
 use photo_device::{ConflictList, Held, HeldList, Place};

@@ -6,7 +6,7 @@ use Rattle.photo_device.specs.Device.{Kept}
 use Rattle.photo_script.specs.Contents.{devices_of}
 use Rattle.photo_script.specs.Reports.{answer_of}
 use Rattle.fleet_steps.proofs.Issued.{issued_is}
-use Rattle.fleet_steps.proofs.issue.issued.Goals as goal
+use Rattle.fleet_steps.proofs.logging.issued.Goals as goal
 
 pub returns : goal.returns
 returns c = λ models shown told.

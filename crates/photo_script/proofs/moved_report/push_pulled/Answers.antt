@@ -1,7 +1,7 @@
 use Rattle.std.proofs.Common.{◌≡◌, ◌++◌, List, ℕ, string_bytes, codes, ap, ◌∙◌, append_assoc}
 use Rattle.std.specs.Fmt.{decimal}
 use Rattle.photo_script.specs.Reports.{yes_or_no}
-use Rattle.photo_script.proofs.pull_report.push_pulled.Goals as goal
+use Rattle.photo_script.proofs.moved_report.push_pulled.Goals as goal
 
 -- a text, and what is written behind it piece by piece
 written : (old x0 x1 x2 x3 x4 x5 x6 new number a b c d e f g h i j k : List ℕ) → x0 ≡ old ++ number → x1 ≡ x0 ++ a ++ b → x2 ≡ x1 ++ c ++ d → x3 ≡ x2 ++ e ++ f

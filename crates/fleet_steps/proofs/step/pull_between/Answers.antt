@@ -2,7 +2,7 @@ use Rattle.std.proofs.Common.{◌<◌, get_or, arith, ◌∙◌}
 use Rattle.std.proofs.lemmas.List.{set_comm}
 use Rattle.fleet_steps.proofs.Between.{may_pull_behind, may_pull_ahead, front_at, back_at, both_set, pull_shows, pull_tells}
 use Rattle.fleet_steps.proofs.Settled.{two_as_they_were, two_settled}
-use Rattle.fleet_steps.proofs.fleet.pull_between.Goals as goal
+use Rattle.fleet_steps.proofs.step.pull_between.Goals as goal
 
 pub run_pull-requires : goal.run_pull-requires
 run_pull-requires c =

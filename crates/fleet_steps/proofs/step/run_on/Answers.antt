@@ -3,7 +3,7 @@ use Rattle.photo_version.specs.Author.{device_of_author}
 use Rattle.photo_script.specs.Contents.{devices_of}
 use Rattle.fleet_steps.proofs.Between.{no_author, one_shows, one_tells, one_wants}
 use Rattle.fleet_steps.proofs.Settled.{one_as_it_was, one_settled}
-use Rattle.fleet_steps.proofs.fleet.run_on.Goals as goal
+use Rattle.fleet_steps.proofs.step.run_on.Goals as goal
 
 pub returns-in_default-None-clause-devices : goal.returns-in_default-None-clause-devices
 returns-in_default-None-clause-devices c =

@@ -3,7 +3,7 @@ use Rattle.std.specs.Option.{option_to_list}
 use Rattle.photo_device.specs.Held.{entries_of}
 use Rattle.photo_script.specs.Reports.{answer_of}
 use Rattle.fleet_steps.proofs.MadeAlone.{made_is}
-use Rattle.fleet_steps.proofs.issue.made_on.Goals as goal
+use Rattle.fleet_steps.proofs.logging.made_on.Goals as goal
 
 pub returns : goal.returns
 returns c = λ m shown told.

@@ -9,7 +9,7 @@ ghost use Rattle.photo_script.specs.Runs.{effect};
 ghost use Rattle.fleet_steps.specs.Between.{AreReady, HaveRoom, devices_after, effect_on};
 ghost use Rattle.fleet_steps.specs.Issued.{picture_of, version_told};
 
-use crate::fleet::run_on;
+use crate::step::run_on;
 use photo_device::{Device, Held};
 use photo_record::PicNo;
 use photo_script::{Command, Report, devices_of};
