@@ -34,7 +34,7 @@ vectors_differ (s ∷ gs) (suc a) (suc b) h z l m e = groups_differ s.entries gs
 
 -- No group has the vector of a row that comes
 
-place_none : (gs : List Fragment) (v : List Entry) → ((k : ℕ) → k < length gs → entries_at gs k ≡ v → ⊥) → place gs v ≡ None
+pub place_none : (gs : List Fragment) (v : List Entry) → ((k : ℕ) → k < length gs → entries_at gs k ≡ v → ⊥) → place gs v ≡ None
 place_none [] v h = refl
 place_none (g ∷ gs) v h = elim (cases_Bool (same_entries g.entries v)) [
   | inl same ↦ absurd (h 0 (omega arith) ((entries_decide g.entries v).0 same))
@@ -77,29 +77,82 @@ rows_snoc (f ∷ fs) p v = ap (λ rs. f.pictures ∷ flat f.entries ∷ rs) (row
 groups_rows : (star : List Entry) (gs : List Fragment) (rows : List (List ℕ)) → rows ≡ rows_of (star_first star gs) → groups_in rows ≡ gs
 groups_rows star gs rows e = ap groups_in e ∙ ap (λ fs. drop 1 fs) (fragments_rows (star_first star gs))
 
--- what is written up to a place of the table
-pub record IsCarried (fs : List Fragment) (f : ℕ × ℕ → List Entry) (star : List ℕ) (changed : List (List ℕ)) (table : List (ℕ × (ℕ × ℕ))) (out : List (List ℕ)) (numbers : List (ℕ × ℕ)) (i last next : ℕ) (all : List Fragment) (every : List (ℕ × ℕ)) : Type 0 where
-  pub whole : out ≡ rows_of (star_first (pairs star) (groups_in out))
+-- What is written up to a place of the table: groups of one picture each
+
+pub record IsWritten (f : ℕ × ℕ → List Entry) (star : List Entry) (table : List (ℕ × (ℕ × ℕ))) (out : List (List ℕ)) (numbers : List (ℕ × ℕ)) (i : ℕ) (all : List Fragment) (every : List (ℕ × ℕ)) : Type 0 where
+  pub whole : out ≡ rows_of (star_first star (groups_in out))
   pub gathered : IsGathered (f (0, 0)) f table (groups_in out) numbers i all every
   pub counted : length numbers ≡ length (groups_in out)
+
+pub none_written : (f : ℕ × ℕ → List Entry) (star : List Entry) (table rows : List (ℕ × (ℕ × ℕ))) (out : List (List ℕ)) (numbers : List (ℕ × ℕ)) → table ≡ rows → out ≡ rows_of (star_first star []) → numbers ≡ []
+    → IsWritten f star table out numbers 0 (gathered (f (0, 0)) f rows []) (indexed (f (0, 0)) f rows [])
+none_written f star table rows out numbers t written n =
+    let none : groups_in out ≡ [] = groups_rows star [] out written in
+    record {
+      whole = written ∙ ap (λ gs. rows_of (star_first star gs)) (sym none);
+      gathered = none_gathered (f (0, 0)) f table rows (groups_in out) numbers t none n;
+      counted = ap length n ∙ ap length (sym none);
+    }
+
+pub star_written : (f : ℕ × ℕ → List Entry) (star : List Entry) (table : List (ℕ × (ℕ × ℕ))) (out : List (List ℕ)) (numbers : List (ℕ × ℕ)) (i : ℕ) (all : List Fragment) (every : List (ℕ × ℕ)) (r : ℕ × (ℕ × ℕ))
+    → drop i table ≡ r ∷ drop (i + 1) table → same_entries (f (0, 0)) (f r.1) ≡ true → IsWritten f star table out numbers i all every → IsWritten f star table out numbers (i + 1) all every
+star_written f star table out numbers i all every r d same h =
+    record { whole = h.whole; gathered = star_passed (f (0, 0)) f table (groups_in out) numbers i all every r d h.gathered same; counted = h.counted }
+
+longer : (xs : List (ℕ × ℕ)) (ys : List Fragment) (x : ℕ × ℕ) (y : Fragment) → length xs ≡ length ys → length (xs ++ x ∷ []) ≡ length (ys ++ y ∷ [])
+longer [] [] x y e = refl
+longer [] (b ∷ ys) x y e = absurd (omega (arith, e))
+longer (a ∷ xs) [] x y e = absurd (omega (arith, e))
+longer (a ∷ xs) (b ∷ ys) x y e = ap suc (longer xs ys x y (omega (arith, e)))
+
+-- the groups with one more
+pub groups_more : (f : ℕ × ℕ → List Entry) (star : List Entry) (table : List (ℕ × (ℕ × ℕ))) (out new : List (List ℕ)) (numbers : List (ℕ × ℕ)) (i : ℕ) (all : List Fragment) (every : List (ℕ × ℕ)) (p : ℕ) (row : List ℕ)
+    → IsRow row → new ≡ (out ++ (p ∷ []) ∷ []) ++ row ∷ [] → IsWritten f star table out numbers i all every → new ≡ rows_of (star_first star (groups_in out ++ of_one p (pairs row) ∷ []))
+groups_more f star table out new numbers i all every p row is_row placed h =
+    placed ∙ (λ j. (h.whole j ++ (p ∷ []) ∷ []) ++ sym is_row j ∷ []) ∙ sym (rows_snoc (star_first star (groups_in out)) p (pairs row))
+
+pub one_written : (f : ℕ × ℕ → List Entry) (star : List Entry) (table : List (ℕ × (ℕ × ℕ))) (out new : List (List ℕ)) (numbers more : List (ℕ × ℕ)) (i : ℕ) (all : List Fragment) (every : List (ℕ × ℕ)) (r : ℕ × (ℕ × ℕ)) (row : List ℕ)
+    → drop i table ≡ r ∷ drop (i + 1) table → IsRow row → pairs row ≡ f r.1 → same_entries (f (0, 0)) (f r.1) ≡ false → place (groups_in out) (pairs row) ≡ None
+    → new ≡ (out ++ (r.0 ∷ []) ∷ []) ++ row ∷ [] → more ≡ numbers ++ (r.0, length numbers + 1) ∷ []
+    → IsWritten f star table out numbers i all every → IsWritten f star table new more (i + 1) all every
+one_written f star table out new numbers more i all every r row d is_row vector other none placed pushed h =
+    let gs : List Fragment = groups_in out in
+    let one : Fragment = of_one r.0 (pairs row) in
+    let written : new ≡ rows_of (star_first star (gs ++ one ∷ [])) = groups_more f star table out new numbers i all every r.0 row is_row placed h in
+    let groups : groups_in new ≡ gs ++ one ∷ [] = groups_rows star (gs ++ one ∷ []) new written in
+    let none_is : place gs (f r.1) ≡ None = ap (place gs) (sym vector) ∙ none in
+    let grown : groups_in new ≡ add r.0 (f r.1) gs = groups ∙ add_absent r.0 (pairs row) gs none ∙ ap (λ v. add r.0 v gs) vector in
+    let found : place (groups_in new) (f r.1) ≡ Some (length gs) = ap (λ hs. place hs (f r.1)) grown ∙ place_of_added r.0 (f r.1) gs none_is in
+    record {
+      whole = written ∙ ap (λ hs. rows_of (star_first star hs)) (sym groups);
+      gathered = one_gathered (f (0, 0)) f table gs (groups_in new) numbers more i (length gs) all every r d h.gathered other grown found (pushed ∙ ap (λ n. numbers ++ (r.0, n + 1) ∷ []) h.counted);
+      counted = ap length pushed ∙ longer numbers gs (r.0, length numbers + 1) one h.counted ∙ ap length (sym groups);
+    }
+
+pub all_written : (f : ℕ × ℕ → List Entry) (star : List Entry) (table : List (ℕ × (ℕ × ℕ))) (out : List (List ℕ)) (numbers : List (ℕ × ℕ)) (i : ℕ) (all : List Fragment) (every : List (ℕ × ℕ))
+    → length table ≤ i → IsWritten f star table out numbers i all every → (out ≡ rows_of (star_first star all)) × (numbers ≡ every)
+all_written f star table out numbers i all every l h =
+    let ends = all_gathered (f (0, 0)) f table (groups_in out) numbers i all every l h.gathered in
+    (h.whole ∙ ap (λ gs. rows_of (star_first star gs)) ends.0, ends.1)
+
+-- the same, where each row comes from the left or is a changed one
+pub record IsCarried (fs : List Fragment) (f : ℕ × ℕ → List Entry) (star : List ℕ) (changed : List (List ℕ)) (table : List (ℕ × (ℕ × ℕ))) (out : List (List ℕ)) (numbers : List (ℕ × ℕ)) (i last next : ℕ) (all : List Fragment) (every : List (ℕ × ℕ)) : Type 0 where
+  pub written : IsWritten f (pairs star) table out numbers i all every
   pub apart : (k : ℕ) → k < length (groups_in out) → Origin fs changed last next (entries_at (groups_in out) k)
 
 pub none_carried : (fs : List Fragment) (f : ℕ × ℕ → List Entry) (star : List ℕ) (changed : List (List ℕ)) (table rows : List (ℕ × (ℕ × ℕ))) (out : List (List ℕ)) (numbers : List (ℕ × ℕ)) → IsRow star → table ≡ rows → out ≡ [] ∷ star ∷ [] → numbers ≡ []
     → IsCarried fs f star changed table out numbers 0 0 0 (gathered (f (0, 0)) f rows []) (indexed (f (0, 0)) f rows [])
 none_carried fs f star changed table rows out numbers s t o n =
     let written : out ≡ rows_of (star_first (pairs star) []) = o ∙ ap (λ row. [] ∷ row ∷ []) (sym s) in
-    let none : groups_in out ≡ [] = groups_rows (pairs star) [] out written in
     record {
-      whole = written ∙ ap (λ gs. rows_of (star_first (pairs star) gs)) (sym none);
-      gathered = none_gathered (f (0, 0)) f table rows (groups_in out) numbers t none n;
-      counted = ap length n ∙ ap length (sym none);
-      apart = λ k l. let empty = ap length none in absurd (omega (arith, l, empty));
+      written = none_written f (pairs star) table rows out numbers t written n;
+      apart = λ k l. let empty = ap length (groups_rows (pairs star) [] out written) in absurd (omega (arith, l, empty));
     }
 
 pub star_carried : (fs : List Fragment) (f : ℕ × ℕ → List Entry) (star : List ℕ) (changed : List (List ℕ)) (table : List (ℕ × (ℕ × ℕ))) (out : List (List ℕ)) (numbers : List (ℕ × ℕ)) (i last next : ℕ) (all : List Fragment) (every : List (ℕ × ℕ)) (r : ℕ × (ℕ × ℕ))
     → drop i table ≡ r ∷ drop (i + 1) table → same_entries (f (0, 0)) (f r.1) ≡ true → IsCarried fs f star changed table out numbers i last next all every → IsCarried fs f star changed table out numbers (i + 1) last next all every
 star_carried fs f star changed table out numbers i last next all every r d same h =
-    record { whole = h.whole; gathered = star_passed (f (0, 0)) f table (groups_in out) numbers i all every r d h.gathered same; counted = h.counted; apart = h.apart }
+    record { written = star_written f (pairs star) table out numbers i all every r d same h.written; apart = h.apart }
 
 pub one_carried : (fs : List Fragment) (f : ℕ × ℕ → List Entry) (star : List ℕ) (changed : List (List ℕ)) (table : List (ℕ × (ℕ × ℕ))) (out new : List (List ℕ)) (numbers more : List (ℕ × ℕ)) (i last next last_then next_then : ℕ) (all : List Fragment) (every : List (ℕ × ℕ)) (r : ℕ × (ℕ × ℕ)) (row : List ℕ)
     → is_normal fs ≡ true → ((j k : ℕ) → j < k → k < length changed → get_or changed j [] ≡ get_or changed k [] → ⊥)
@@ -108,32 +161,16 @@ pub one_carried : (fs : List Fragment) (f : ℕ × ℕ → List Entry) (star : L
     → IsCarried fs f star changed table out numbers i last next all every → IsCarried fs f star changed table new more (i + 1) last_then next_then all every
 one_carried fs f star changed table out new numbers more i last next last_then next_then all every r row normal once d is_row vector other come placed pushed h =
     let gs : List Fragment = groups_in out in
-    let one : Fragment = of_one r.0 (pairs row) in
-    let written : new ≡ rows_of (star_first (pairs star) (gs ++ one ∷ [])) =
-    placed ∙ (λ j. (h.whole j ++ (r.0 ∷ []) ∷ []) ++ sym is_row j ∷ []) ∙ sym (rows_snoc (star_first (pairs star) gs) r.0 (pairs row)) in
-    let groups : groups_in new ≡ gs ++ one ∷ [] = groups_rows (pairs star) (gs ++ one ∷ []) new written in
+    let groups : groups_in new ≡ gs ++ of_one r.0 (pairs row) ∷ [] = groups_rows (pairs star) (gs ++ of_one r.0 (pairs row) ∷ []) new (groups_more f (pairs star) table out new numbers i all every r.0 row is_row placed h.written) in
     let none : place gs (pairs row) ≡ None = none_has fs changed row last next last_then next_then normal is_row once come gs h.apart in
-    let none_is : place gs (f r.1) ≡ None = ap (place gs) (sym vector) ∙ none in
-    let grown : groups_in new ≡ add r.0 (f r.1) gs = groups ∙ add_absent r.0 (pairs row) gs none ∙ ap (λ v. add r.0 v gs) vector in
-    let found : place (groups_in new) (f r.1) ≡ Some (length gs) = ap (λ hs. place hs (f r.1)) grown ∙ place_of_added r.0 (f r.1) gs none_is in
     record {
-      whole = written ∙ ap (λ hs. rows_of (star_first (pairs star) hs)) (sym groups);
-      gathered = one_gathered (f (0, 0)) f table gs (groups_in new) numbers more i (length gs) all every r d h.gathered other grown found (pushed ∙ ap (λ n. numbers ++ (r.0, n + 1) ∷ []) h.counted);
-      counted = ap length pushed ∙ longer numbers gs (r.0, length numbers + 1) one h.counted ∙ ap length (sym groups);
+      written = one_written f (pairs star) table out new numbers more i all every r row d is_row vector other none placed pushed h.written;
       apart = subst (λ hs. (k : ℕ) → k < length hs → Origin fs changed last_then next_then (entries_at hs k)) (sym groups) (all_came fs changed row last next last_then next_then normal is_row once come gs r.0 h.apart);
     }
-  where
-    longer : (xs : List (ℕ × ℕ)) (ys : List Fragment) (x : ℕ × ℕ) (y : Fragment) → length xs ≡ length ys → length (xs ++ x ∷ []) ≡ length (ys ++ y ∷ [])
-    longer [] [] x y e = refl
-    longer [] (b ∷ ys) x y e = absurd (omega (arith, e))
-    longer (a ∷ xs) [] x y e = absurd (omega (arith, e))
-    longer (a ∷ xs) (b ∷ ys) x y e = ap suc (longer xs ys x y (omega (arith, e)))
 
 pub all_carried : (fs : List Fragment) (f : ℕ × ℕ → List Entry) (star : List ℕ) (changed : List (List ℕ)) (table : List (ℕ × (ℕ × ℕ))) (out : List (List ℕ)) (numbers : List (ℕ × ℕ)) (i last next : ℕ) (all : List Fragment) (every : List (ℕ × ℕ))
     → length table ≤ i → IsCarried fs f star changed table out numbers i last next all every → (out ≡ rows_of (star_first (pairs star) all)) × (numbers ≡ every)
-all_carried fs f star changed table out numbers i last next all every l h =
-    let ends = all_gathered (f (0, 0)) f table (groups_in out) numbers i all every l h.gathered in
-    (h.whole ∙ ap (λ gs. rows_of (star_first (pairs star) gs)) ends.0, ends.1)
+all_carried fs f star changed table out numbers i last next all every l h = all_written f (pairs star) table out numbers i all every l h.written
 
 -- the row of a table at a place that there is
 pub row_any : (table : List (ℕ × (ℕ × ℕ))) (i : ℕ) (d e : ℕ × (ℕ × ℕ)) → i < length table → get_or table i d ≡ get_or table i e

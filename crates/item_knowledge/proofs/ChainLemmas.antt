@@ -1,12 +1,12 @@
 -- Rows that are found by their hashes.
-use Rattle.std.proofs.Common.{◌≡◌, ℕ, suc, ◌<◌, ◌≤◌, ◌+◌, ◌-◌, ◌*◌, ◌/◌, ◌%◌, ◌^◌, List, [], ◌∷◌, ◌++◌, length, get_or, set, sym, subst, ap, ◌∙◌, inl, inr, arith, length-append, length-set}
+use Rattle.std.proofs.Common.{◌≡◌, ℕ, suc, ◌<◌, ◌≤◌, ◌-◌, ◌*◌, ◌/◌, ◌^◌, List, [], ◌∷◌, ◌++◌, length, get_or, set, sym, subst, ap, ◌∙◌, inl, inr, arith, length-append, length-set}
 use Rattle.std.proofs.Math.ListN.{get_or-append}
 use Rattle.std.proofs.Math.Seq.{get_or-append_seam}
 use Rattle.std.proofs.lemmas.List.{get_or-set_same, get_or-set_other}
 use Rattle.std.proofs.lemmas.Bool.{cases_lt, cases_eq}
 use Rattle.std.proofs.lemmas.Nat.{div_below}
 use Rattle.std.proofs.Math.Nat.{mod-lt, mul-le-mul_right}
-use Rattle.item_knowledge.specs.Places.{mixed, hashed, share, bucket, IsLast, is_new, IsPlaced}
+use Rattle.item_knowledge.specs.Places.{plus, spread, hashed, share, bucket, IsLast, is_new, IsPlaced}
 
 -- The bucket of a row
 
@@ -24,16 +24,16 @@ share_below count hash some h =
     let most = product_most count hash h in
     div_below (hash / 4294967296 * count) 4294967296 count (omega arith) (omega arith)
 
-mixed_below : (n word : ℕ) → mixed n word < 2 ^ 64
-unfolding mixed
-mixed_below n word = mod-lt ((n + word) % 2 ^ 64 * 11400714819323198485) (omega arith)
+spread_below : (sum : ℕ) → spread sum < 2 ^ 64
+unfolding spread
+spread_below sum = mod-lt (sum * 11400714819323198485) (omega arith)
 
-hashed_below : (hash : ℕ) (row : List ℕ) → hash < 2 ^ 64 → hashed hash row < 2 ^ 64
-hashed_below hash [] h = h
-hashed_below hash (w ∷ ws) h = hashed_below (mixed hash w) ws (mixed_below hash w)
+hashed_below : (words sums : ℕ) (row : List ℕ) → hashed words sums row < 2 ^ 64
+hashed_below words sums [] = spread_below (plus (spread sums) words)
+hashed_below words sums (w ∷ ws) = hashed_below (plus words w) (plus sums (plus words w)) ws
 
 pub bucket_below : (heads before : List ℕ) (rows : List (List ℕ)) (row : List ℕ) → IsPlaced heads before rows → bucket (length heads) row < length heads
-bucket_below heads before rows row h = share_below (length heads) (hashed 0 row) h.some (hashed_below 0 row (omega arith))
+bucket_below heads before rows row h = share_below (length heads) (hashed 0 0 row) h.some (hashed_below 0 0 row)
 
 -- A search along the rows of a bucket, the latest first
 
@@ -52,6 +52,10 @@ along_first heads before rows row b place h is l at =
       there = λ z. last.there z ∙ is;
       others = λ k f t e. last.none_later k f t (ap (bucket (length heads)) e ∙ sym is);
     })
+
+-- a bucket without a latest row has none
+pub none_in : (heads before : List ℕ) (rows : List (List ℕ)) (row : List ℕ) (b : ℕ) → IsPlaced heads before rows → b ≡ bucket (length heads) row → b < length heads → get_or heads b 0 ≡ 0 → is_new rows row
+none_in heads before rows row b h is l none k m e = (h.latest b l).none_later k (omega (arith, none)) m (ap (bucket (length heads)) e ∙ sym is)
 
 -- One row more
 

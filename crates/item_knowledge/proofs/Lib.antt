@@ -24,4 +24,5 @@ pub mod PutLemmas
 pub mod NextLemmas
 pub mod NormalLemmas
 pub mod CarryLemmas
+pub mod ApartLemmas
 pub mod SpanLemmas

@@ -1,14 +1,9 @@
 -- Machinery of the proofs: a union in which fragments of the left are carried over, and other rows are among those changed.
 use Rattle.std.specs.Prelude.{◌≡◌, ℕ, true, ◌+◌, ◌*◌, ◌<◌, ◌≤◌, ◌⊎◌, List, [], ◌∷◌, length, get_or, drop}
-use Rattle.item_knowledge.specs.declared.places.Places.{Places}
 use Rattle.item_knowledge.specs.Entries.{Entry, leq}
 use Rattle.item_knowledge.specs.Fragments.{Fragment, entries_at}
-use Rattle.item_knowledge.specs.Places.{IsPlaced, is_new}
+use Rattle.item_knowledge.specs.Places.{is_new}
 use Rattle.item_knowledge.specs.Rows.{pairs, flat, fragments_of}
-
--- rows that are found by their words
-abbrev pub IsFound : Places → Type 0
-IsFound places = IsPlaced places.heads.items places.before.items places.rows
 
 -- the vector of a fragment of the left, up to the one that came last, which no changed row has
 pub record FromLeft (fs : List Fragment) (changed : List (List ℕ)) (last : ℕ) (v : List Entry) : Type 0 where

@@ -1,15 +1,19 @@
 -- Machinery of the proofs: rows of words that are found by their hashes.
 use Rattle.std.specs.Prelude.{◌≡◌, ℕ, ◌<◌, ◌≤◌, ◌+◌, ◌-◌, ◌*◌, ◌/◌, ◌%◌, ◌^◌, List, [], ◌∷◌, length, get_or}
 use Rattle.item_knowledge.specs.declared.places.Places.{Places}
-use Rattle.item_knowledge.specs.Rows.{IsRow}
+use Rattle.item_knowledge.specs.Rows.{IsRow, vectors_in}
 
--- a hash with one word more
-unfoldable pub mixed : ℕ → ℕ → ℕ
-mixed hash word = ((hash + word) % 2 ^ 64 * 11400714819323198485) % 2 ^ 64
+-- sums and products of words
+unfoldable pub plus : ℕ → ℕ → ℕ
+plus a b = (a + b) % 2 ^ 64
 
-abbrev pub hashed : ℕ → List ℕ → ℕ
-hashed hash [] = hash
-hashed hash (w ∷ ws) = hashed (mixed hash w) ws
+unfoldable pub spread : ℕ → ℕ
+spread sum = sum * 11400714819323198485 % 2 ^ 64
+
+-- a hash of words, by their sum and the sum of the sums of the first word, of the first two, and so on
+abbrev pub hashed : ℕ → ℕ → List ℕ → ℕ
+hashed words sums [] = spread (plus (spread sums) words)
+hashed words sums (w ∷ ws) = hashed (plus words w) (plus sums (plus words w)) ws
 
 -- how many buckets there are at most
 abbrev pub most_buckets : ℕ
@@ -21,7 +25,7 @@ share count hash = hash / 4294967296 * count / 4294967296
 
 -- which of the buckets a row is in: any function of its words would do that stays below their number
 abbrev pub bucket : ℕ → List ℕ → ℕ
-bucket count row = share count (hashed 0 row)
+bucket count row = share count (hashed 0 0 row)
 
 -- of the first rows the last one in a bucket is the one before this place; where the place is 0 there is none
 pub record IsLast (count b : ℕ) (rows : List (List ℕ)) (first place : ℕ) : Type 0 where
@@ -41,8 +45,13 @@ pub record IsPlaced (heads before : List ℕ) (rows : List (List ℕ)) : Type 0 
   pub earlier : (k : ℕ) → k < length rows → IsLast (length heads) (bucket (length heads) (get_or rows k [])) rows k (get_or before k 0)
   pub once : (j k : ℕ) → j < k → k < length rows → get_or rows j [] ≡ get_or rows k [] → ⊥
 
+-- rows are found by the words of their vectors
+pub record IsFound (places : Places) : Type 0 where
+  pub placed : IsPlaced places.heads.items places.before.items (vectors_in places.rows)
+  pub even : length places.rows ≡ 2 * length (vectors_in places.rows)
+
 -- of each group the pictures stand beside its row
 pub record Placed (places : Places) (pictures : List (List ℕ)) : Type 0 where
-  pub placed : IsPlaced places.heads.items places.before.items places.rows
-  pub counted : length pictures ≡ length places.rows
-  pub whole : (k : ℕ) → k < length places.rows → IsRow (get_or places.rows k [])
+  pub found : IsFound places
+  pub counted : length pictures ≡ length (vectors_in places.rows)
+  pub whole : (k : ℕ) → k < length (vectors_in places.rows) → IsRow (get_or (vectors_in places.rows) k [])

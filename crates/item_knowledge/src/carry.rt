@@ -2,11 +2,12 @@
 // that stays is compared with the few that changed, in place of all. Neighbours that stay are written as one run.
 ghost use Rattle.std.specs.Prelude.{◌≡◌, ◌+◌, ◌*◌, ◌<◌, ◌≤◌, [], ◌∷◌, ◌++◌, true, length, IfOk, IfSome, OnOk};
 ghost use Rattle.fragment_arena.specs.Arena.{run};
-ghost use Rattle.item_knowledge.specs.Carrying.{IsFound, HasCome, AddsNothing, Stays};
+ghost use Rattle.item_knowledge.specs.Carrying.{HasCome, AddsNothing, Stays};
 ghost use Rattle.item_knowledge.specs.Entries.{is_vector};
 ghost use Rattle.item_knowledge.specs.Fragments.{is_normal, entries_at};
 ghost use Rattle.item_knowledge.specs.Gathering.{IsSide, paired, pair_vector, groups_of, index_of, star_first};
-ghost use Rattle.item_knowledge.specs.Rows.{pairs, IsRow, AreRows, fragments_of, rows_of};
+ghost use Rattle.item_knowledge.specs.Places.{IsFound};
+ghost use Rattle.item_knowledge.specs.Rows.{pairs, IsRow, AreRows, fragments_of, rows_of, vectors_in};
 ghost use Rattle.item_knowledge.specs.Tables.{in_order};
 
 use crate::gather::same_row;
@@ -35,7 +36,7 @@ fn origin(
     requires changed { IsFound changed.now }
     requires a { a < length (fragments_of left.now) }
     requires row { IsRow row.now }
-    ensures { IfSome result (λ r. HasCome (fragments_of left.now) changed.now.rows row.now last next r.0 r.1) }
+    ensures { IfSome result (λ r. HasCome (fragments_of left.now) (vectors_in changed.now.rows) row.now last next r.0 r.1) }
 {
     let bucket = changed.bucket(row);
     if let Some(k) = changed.find(bucket, row) {
@@ -87,7 +88,7 @@ fn stays(
     requires b { b < length (fragments_of right.now) }
     requires order { in_order (entries_at (fragments_of left.now) a) ≡ true }
     requires vector { is_vector (entries_at (fragments_of right.now) b) ≡ true }
-    ensures { result ≡ true → Stays left.now right.now changed.now.rows last picture a b }
+    ensures { result ≡ true → Stays left.now right.now (vectors_in changed.now.rows) last picture a b }
 {
     if a <= last {
         return false;
@@ -106,6 +107,9 @@ fn stays(
     }
     let row = entries(left, a);
     let bucket = changed.bucket(row);
+    if changed.is_free(bucket) {
+        return true;
+    }
     changed.find(bucket, row).is_none()
 }
 
@@ -266,12 +270,25 @@ fn find_changes(
         if changed.find(bucket, row).is_some() {
             continue;
         }
-        if changed.rows.rows() >= most {
+        if changed.len() >= most {
             return Ok(false);
         }
-        changed.push(bucket, row)?;
+        changed.push(bucket, &[], row)?;
     }
     Ok(true)
+}
+
+// No rows yet, and room for about so many, which have so many words together at most.
+fn no_changes(alloc: Global, count: usize, words: usize) -> Result<Places, AllocError>
+    ensures { IfOk result (λ changed. IsFound changed) }
+{
+    let rows = Rows::with_room(
+        alloc,
+        count.saturating_mul(2),
+        words.min(count.saturating_mul(WORDS)),
+    )?;
+    // Each row that stays is looked for, so most buckets are to be free.
+    Places::new(alloc, rows, count, count.saturating_mul(4))
 }
 
 /// Writes the normal form of what either side denotes, and gives its index, where the right has nothing beyond the left's
@@ -308,7 +325,7 @@ pub(crate) fn carried(
         return Ok(None);
     }
     let mut room = Vec::new(alloc);
-    let mut changed = Places::new(alloc, most, right.words().min(most.saturating_mul(WORDS)))?;
+    let mut changed = no_changes(alloc, most, right.words())?;
     if !find_changes(
         left,
         left_index,

@@ -2,7 +2,7 @@ ghost use Rattle.std.specs.Prelude.{◌≡◌, ◌<◌, true, length, OnOk, IfOk
 ghost use Rattle.item_knowledge.specs.Entries.{same_entries};
 ghost use Rattle.item_knowledge.specs.Gathering as spec;
 ghost use Rattle.item_knowledge.specs.Places.{Placed};
-ghost use Rattle.item_knowledge.specs.Rows.{pairs, IsRow, grouped};
+ghost use Rattle.item_knowledge.specs.Rows.{pairs, IsRow, grouped, vectors_in};
 
 use crate::group::Group;
 use crate::places::Places;
@@ -27,11 +27,11 @@ pub(crate) fn add(
 ) -> Result<usize, AllocError>
     requires placed { Placed places.old groups.old.items }
     requires row { IsRow row.now }
-    ensures groups { OnOk result (grouped groups.new.items places.new.rows
-        ≡ spec.add picture (pairs row.now) (grouped groups.old.items places.old.rows)) }
+    ensures groups { OnOk result (grouped groups.new.items (vectors_in places.new.rows)
+        ≡ spec.add picture (pairs row.now) (grouped groups.old.items (vectors_in places.old.rows))) }
     ensures placed { OnOk result (Placed places.new groups.new.items) }
     ensures below { IfOk result (λ k. k < length groups.new.items) }
-    ensures place { IfOk result (λ k. spec.place (grouped groups.new.items places.new.rows) (pairs row.now) ≡ Some k) }
+    ensures place { IfOk result (λ k. spec.place (grouped groups.new.items (vectors_in places.new.rows)) (pairs row.now) ≡ Some k) }
 {
     let bucket = places.bucket(row);
     if let Some(k) = places.find(bucket, row) {
@@ -39,6 +39,6 @@ pub(crate) fn add(
         return Ok(k);
     }
     groups.push(Group::new(alloc, picture))?;
-    let k = places.push(bucket, row)?;
+    let k = places.push(bucket, &[], row)?;
     Ok(k)
 }

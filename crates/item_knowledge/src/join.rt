@@ -44,6 +44,8 @@ pub(crate) fn join(xs: &[u64], ys: &[u64], out: &mut Vec<u64>) -> Result<(), All
         out.extend_from_slice(&xs[i..])?;
         return Ok(());
     }
-    out.extend_from_slice(&ys[j..])?;
+    if j < ys.len() {
+        out.extend_from_slice(&ys[j..])?;
+    }
     Ok(())
 }

@@ -1,6 +1,7 @@
 //! What a device knows: of which picture which versions.
 #![tactic(auto)]
 
+mod apart;
 mod carry;
 mod fragment;
 mod gather;

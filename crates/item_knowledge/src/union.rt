@@ -3,8 +3,9 @@ ghost use Rattle.item_knowledge.specs.Fragments.{entries_at, is_normal};
 ghost use Rattle.item_knowledge.specs.Gathering.{IsSide, IsUnion, pair_vector, groups_of, index_of, star_first};
 ghost use Rattle.item_knowledge.specs.Kept.{is_side_within};
 ghost use Rattle.item_knowledge.specs.Places.{Placed};
-ghost use Rattle.item_knowledge.specs.Rows.{pairs, IsRow, AreRows, fragments_of, rows_of, grouped};
+ghost use Rattle.item_knowledge.specs.Rows.{pairs, IsRow, AreRows, fragments_of, rows_of, grouped, vectors_in};
 
+use crate::apart::apart;
 use crate::carry::carried;
 use crate::gather::{add, same_row};
 use crate::group::Group;
@@ -86,13 +87,13 @@ fn write(
 ) -> Result<(), AllocError>
     requires star { IsRow star.now }
     requires placed { Placed places.now groups.now }
-    ensures { OnOk result (out.new ≡ rows_of (star_first (pairs star.now) (grouped groups.now places.now.rows))) }
+    ensures { OnOk result (out.new ≡ rows_of (star_first (pairs star.now) (grouped groups.now (vectors_in places.now.rows)))) }
 {
     let words = pictures.saturating_add(places.rows.words());
     begin(star, groups.len(), words, out)?;
     for k in 0..groups.len() {
         groups[k].place(out)?;
-        out.place(places.rows.row(k))?;
+        out.place(places.vector(k))?;
     }
     Ok(())
 }
@@ -107,7 +108,8 @@ fn no_groups(
     ensures placed { IfOk result (λ all. Placed all.1 all.0.items) }
     ensures index { IfOk result (λ all. all.2.items ≡ []) }
 {
-    let places = Places::new(alloc, count, words)?;
+    let rows = Rows::with_room(alloc, count.saturating_mul(2), words)?;
+    let places = Places::new(alloc, rows, count, count)?;
     let groups = Vec::with_capacity(alloc, count)?;
     let index = Vec::with_capacity(alloc, count)?;
     Ok((groups, places, index))
@@ -129,7 +131,7 @@ fn groups(
     requires star_row { IsRow star.now }
     requires star { pairs star.now ≡ pair_vector (fragments_of left.now) (fragments_of right.now) (0, 0) }
     ensures placed { IfOk result (λ all. Placed all.1 all.0.items) }
-    ensures groups { IfOk result (λ all. grouped all.0.items all.1.rows
+    ensures groups { IfOk result (λ all. grouped all.0.items (vectors_in all.1.rows)
         ≡ groups_of (fragments_of left.now) (fragments_of right.now) left_index.now right_index.now) }
     ensures index { IfOk result (λ all. all.2.items
         ≡ index_of (fragments_of left.now) (fragments_of right.now) left_index.now right_index.now) }
@@ -176,6 +178,9 @@ pub(crate) fn union(
     let mut room = Vec::new(alloc);
     let star = pair(left, left_index, right, right_index, 0, 0, &mut room)?;
     if let Some(index) = carried(alloc, left, left_index, right, right_index, star, out)? {
+        return Ok(index);
+    }
+    if let Some(index) = apart(alloc, left, left_index, right, right_index, star, out)? {
         return Ok(index);
     }
     let (listed, places, index) = groups(alloc, left, left_index, right, right_index, star)?;

@@ -2,7 +2,7 @@ use Rattle.std.proofs.Common.{rules, ◌≡◌, ℕ, ◌<◌, true, false, lengt
 use Rattle.item_knowledge.specs.Entries.{same_entries}
 use Rattle.item_knowledge.specs.Gathering.{paired, pair_vector, groups_of, index_of}
 use Rattle.item_knowledge.specs.Carrying.{HasCome, Stays}
-use Rattle.item_knowledge.specs.Rows.{fragments_of}
+use Rattle.item_knowledge.specs.Rows.{fragments_of, vectors_in}
 use Rattle.item_knowledge.proofs.MergeLemmas.{drop_next}
 use Rattle.item_knowledge.proofs.RowLemmas.{rows_read}
 use Rattle.item_knowledge.proofs.UnionLemmas.{above, entries_order, row_range}
@@ -70,7 +70,7 @@ origin-requires-clause-a c =
 
 pub loop-i-init : goal.loop-i-init
 loop-i-init c =
-    none_under_way c.args.left.now (pair_vector (fragments_of c.args.left.now) (fragments_of c.args.right.now)) c.args.star.now c.args.changed.now.rows c.args.table.now
+    none_under_way c.args.left.now (pair_vector (fragments_of c.args.left.now) (fragments_of c.args.right.now)) c.args.star.now (vectors_in c.args.changed.now.rows) c.args.table.now
     (paired c.args.left_index.now c.args.right_index.now) c.args.out.now c.args.index.now.items c.requires.left.star c.requires.star_row c.requires.table c.requires.out c.requires.index
 
 pub loop-i-preserved-then-stays : goal.loop-i-preserved-then-stays
@@ -79,11 +79,11 @@ loop-i-preserved-then-stays c =
     let less : c.loop-i.i < length c.args.table.now = c.loop-i-test.true in
     let there = (row_range (fragments_of c.args.left.now) (fragments_of c.args.right.now) c.args.left_index.now c.args.right_index.now c.args.table.now c.loop-i.i r
     c.requires.left c.requires.right c.requires.table less (row_any c.args.table.now c.loop-i.i (0, (0, 0)) r less)) in
-    let stays : Stays c.args.left.now c.args.right.now c.args.changed.now.rows c.loop-i.last r.0 r.1.0 r.1.1 = c.stays.ensures c.if-stays.true in
-    stays_under_way c.args.left.now c.args.right.now c.args.left_index.now c.args.right_index.now c.args.star.now c.args.changed.now.rows c.args.table.now c.loop-i.out c.run_to.new.out
+    let stays : Stays c.args.left.now c.args.right.now (vectors_in c.args.changed.now.rows) c.loop-i.last r.0 r.1.0 r.1.1 = c.stays.ensures c.if-stays.true in
+    stays_under_way c.args.left.now c.args.right.now c.args.left_index.now c.args.right_index.now c.args.star.now (vectors_in c.args.changed.now.rows) c.args.table.now c.loop-i.out c.run_to.new.out
     c.loop-i.index.items c.add_number.new.index.items c.loop-i.i c.loop-i.from c.in_ok-from.from c.loop-i.last c.loop-i.next
     (groups_of (fragments_of c.args.left.now) (fragments_of c.args.right.now) c.args.left_index.now c.args.right_index.now) (index_of (fragments_of c.args.left.now) (fragments_of c.args.right.now) c.args.left_index.now c.args.right_index.now)
-    r c.requires.left_rows c.requires.left c.requires.right c.requires.normal c.requires.star c.requires.left_star c.requires.changed.once (drop_next c.args.table.now c.loop-i.i (0, (0, 0)) less)
+    r c.requires.left_rows c.requires.left c.requires.right c.requires.normal c.requires.star c.requires.left_star c.requires.changed.placed.once (drop_next c.args.table.now c.loop-i.i (0, (0, 0)) less)
     stays there.0 there.1 c.in_ok-from.ensures.order c.in_ok-from.ensures.run (search rules) c.loop-i.invariant
 
 pub loop-i-preserved-then-same_row : goal.loop-i-preserved-then-same_row
@@ -92,7 +92,7 @@ loop-i-preserved-then-same_row c =
     let r : ℕ × (ℕ × ℕ) = get_or c.args.table.now c.loop-i.i (0, (0, 0)) in
     let less : c.loop-i.i < length c.args.table.now = c.loop-i-test.true in
     let same : same_entries (f (0, 0)) (f r.1) ≡ true = (λ j. same_entries (sym c.requires.star j) (sym c.in_ok-row.ensures.entries j)) ∙ (sym c.same_row.ensures ∙ search rules) in
-    star_under_way c.args.left.now f c.args.star.now c.args.changed.now.rows c.args.table.now c.loop-i.out c.loop-i.index.items c.loop-i.i c.loop-i.from c.loop-i.last c.loop-i.next
+    star_under_way c.args.left.now f c.args.star.now (vectors_in c.args.changed.now.rows) c.args.table.now c.loop-i.out c.loop-i.index.items c.loop-i.i c.loop-i.from c.loop-i.last c.loop-i.next
     (groups_of (fragments_of c.args.left.now) (fragments_of c.args.right.now) c.args.left_index.now c.args.right_index.now) (index_of (fragments_of c.args.left.now) (fragments_of c.args.right.now) c.args.left_index.now c.args.right_index.now)
     r (drop_next c.args.table.now c.loop-i.i (0, (0, 0)) less) same c.loop-i.invariant
 
@@ -104,8 +104,8 @@ overflow_add-last-in-loop-i c =
 pub overflow_add-from : goal.overflow_add-from
 overflow_add-from c =
     let rows = rows_read c.args.left.now c.requires.left_rows in
-    let come : HasCome (fragments_of c.args.left.now) c.args.changed.now.rows c.in_ok-row.row.now c.loop-i.last c.loop-i.next c.in-Some.came c.in-Some.changes = search rules in
-    let there = come_below c.args.left.now c.args.changed.now.rows c.in_ok-row.row.now c.loop-i.last c.loop-i.next c.in-Some.came c.in-Some.changes c.loop-i.invariant.there come in
+    let come : HasCome (fragments_of c.args.left.now) (vectors_in c.args.changed.now.rows) c.in_ok-row.row.now c.loop-i.last c.loop-i.next c.in-Some.came c.in-Some.changes = search rules in
+    let there = come_below c.args.left.now (vectors_in c.args.changed.now.rows) c.in_ok-row.row.now c.loop-i.last c.loop-i.next c.in-Some.came c.in-Some.changes c.loop-i.invariant.there come in
     omega (arith, rows, there, c.rows-count.ensures, c.rows-count.type_inv)
 
 pub loop-i-preserved : goal.loop-i-preserved
@@ -115,11 +115,11 @@ loop-i-preserved c =
     let row = c.in_ok-row.row.now in
     let less : c.loop-i.i < length c.args.table.now = c.loop-i-test.true in
     let other : same_entries (f (0, 0)) (f r.1) ≡ false = (λ j. same_entries (sym c.requires.star j) (sym c.in_ok-row.ensures.entries j)) ∙ (sym c.same_row.ensures ∙ search rules) in
-    let come : HasCome (fragments_of c.args.left.now) c.args.changed.now.rows row c.loop-i.last c.loop-i.next c.in-Some.came c.in-Some.changes = search rules in
-    one_under_way c.args.left.now f c.args.star.now c.args.changed.now.rows c.args.table.now c.loop-i.out c.place_behind.new.out c.loop-i.index.items c.add_number-in-loop-i.new.index.items
+    let come : HasCome (fragments_of c.args.left.now) (vectors_in c.args.changed.now.rows) row c.loop-i.last c.loop-i.next c.in-Some.came c.in-Some.changes = search rules in
+    one_under_way c.args.left.now f c.args.star.now (vectors_in c.args.changed.now.rows) c.args.table.now c.loop-i.out c.place_behind.new.out c.loop-i.index.items c.add_number-in-loop-i.new.index.items
     c.loop-i.i c.loop-i.from c.loop-i.last c.loop-i.next c.in-Some.came c.in-Some.changes
     (groups_of (fragments_of c.args.left.now) (fragments_of c.args.right.now) c.args.left_index.now c.args.right_index.now) (index_of (fragments_of c.args.left.now) (fragments_of c.args.right.now) c.args.left_index.now c.args.right_index.now)
-    r row c.requires.normal c.requires.changed.once (drop_next c.args.table.now c.loop-i.i (0, (0, 0)) less) c.in_ok-row.ensures.row c.in_ok-row.ensures.entries other come
+    r row c.requires.normal c.requires.changed.placed.once (drop_next c.args.table.now c.loop-i.i (0, (0, 0)) less) c.in_ok-row.ensures.row c.in_ok-row.ensures.entries other come
     (search rules) (search rules) c.loop-i.invariant
 
 pub overflow_mul-from : goal.overflow_mul-from

@@ -1,5 +1,5 @@
 use Rattle.std.proofs.Common.{rules, ◌≡◌, ◌+◌, ◌++◌, ◌∷◌, [], max, get_or, length, take, drop, ◌-◌, arith, sym, subst, ap, ◌∙◌}
-use Rattle.std.proofs.lemmas.List.{take_rest}
+use Rattle.std.proofs.lemmas.List.{take_rest, drop_all, append-nil}
 use Rattle.item_knowledge.specs.Entries.{joined}
 use Rattle.item_knowledge.specs.Rows.{pairs, flat, IsRow}
 use Rattle.item_knowledge.proofs.RowLemmas.{row_step, left_taken, right_taken, both_taken, left_merged, right_merged, flat_row, pairs_flat}
@@ -57,14 +57,26 @@ returns-then-i-xs-clause-entries c =
     let all = left_merged c.args.xs.now c.args.ys.now c.loop-i.out.items c.extend_from_slice.new.self.items c.loop-i.i c.loop-i.j c.loop-i.invariant.rows (omega arith) (is ∙ ap (λ ws. c.loop-i.out.items ++ ws) (take_rest c.args.xs.now c.loop-i.i)) in
     ap pairs all ∙ pairs_flat (joined (pairs c.args.xs.now) (pairs c.args.ys.now))
 
-pub returns-clause-row : goal.returns-clause-row
-returns-clause-row c =
-    let is : c.extend_from_slice-2.new.self.items ≡ c.loop-i.out.items ++ take (length c.args.ys.now - c.loop-i.j) (drop c.loop-i.j c.args.ys.now) = search rules in
-    let all = right_merged c.args.xs.now c.args.ys.now c.loop-i.out.items c.extend_from_slice-2.new.self.items c.loop-i.i c.loop-i.j c.loop-i.invariant.rows (omega arith) (is ∙ ap (λ ws. c.loop-i.out.items ++ ws) (take_rest c.args.ys.now c.loop-i.j)) in
+pub returns-in_ok-extend_from_slice-2-clause-row : goal.returns-in_ok-extend_from_slice-2-clause-row
+returns-in_ok-extend_from_slice-2-clause-row c =
+    let is : c.extend_from_slice-then-j-ys-2.new.self.items ≡ c.loop-i.out.items ++ take (length c.args.ys.now - c.loop-i.j) (drop c.loop-i.j c.args.ys.now) = search rules in
+    let all = right_merged c.args.xs.now c.args.ys.now c.loop-i.out.items c.extend_from_slice-then-j-ys-2.new.self.items c.loop-i.i c.loop-i.j c.loop-i.invariant.rows (omega arith) (is ∙ ap (λ ws. c.loop-i.out.items ++ ws) (take_rest c.args.ys.now c.loop-i.j)) in
     subst IsRow (sym all) (flat_row (joined (pairs c.args.xs.now) (pairs c.args.ys.now)))
 
-pub returns-clause-entries : goal.returns-clause-entries
-returns-clause-entries c =
-    let is : c.extend_from_slice-2.new.self.items ≡ c.loop-i.out.items ++ take (length c.args.ys.now - c.loop-i.j) (drop c.loop-i.j c.args.ys.now) = search rules in
-    let all = right_merged c.args.xs.now c.args.ys.now c.loop-i.out.items c.extend_from_slice-2.new.self.items c.loop-i.i c.loop-i.j c.loop-i.invariant.rows (omega arith) (is ∙ ap (λ ws. c.loop-i.out.items ++ ws) (take_rest c.args.ys.now c.loop-i.j)) in
+pub returns-in_ok-extend_from_slice-2-clause-entries : goal.returns-in_ok-extend_from_slice-2-clause-entries
+returns-in_ok-extend_from_slice-2-clause-entries c =
+    let is : c.extend_from_slice-then-j-ys-2.new.self.items ≡ c.loop-i.out.items ++ take (length c.args.ys.now - c.loop-i.j) (drop c.loop-i.j c.args.ys.now) = search rules in
+    let all = right_merged c.args.xs.now c.args.ys.now c.loop-i.out.items c.extend_from_slice-then-j-ys-2.new.self.items c.loop-i.i c.loop-i.j c.loop-i.invariant.rows (omega arith) (is ∙ ap (λ ws. c.loop-i.out.items ++ ws) (take_rest c.args.ys.now c.loop-i.j)) in
+    ap pairs all ∙ pairs_flat (joined (pairs c.args.xs.now) (pairs c.args.ys.now))
+
+pub returns-else-j-ys-2-clause-row : goal.returns-else-j-ys-2-clause-row
+returns-else-j-ys-2-clause-row c =
+    let none : drop c.loop-i.j c.args.ys.now ≡ [] = drop_all c.loop-i.j c.args.ys.now (omega arith) in
+    let all = right_merged c.args.xs.now c.args.ys.now c.loop-i.out.items c.loop-i.out.items c.loop-i.i c.loop-i.j c.loop-i.invariant.rows (omega arith) (sym (ap (λ ws. c.loop-i.out.items ++ ws) none ∙ append-nil c.loop-i.out.items)) in
+    subst IsRow (sym all) (flat_row (joined (pairs c.args.xs.now) (pairs c.args.ys.now)))
+
+pub returns-else-j-ys-2-clause-entries : goal.returns-else-j-ys-2-clause-entries
+returns-else-j-ys-2-clause-entries c =
+    let none : drop c.loop-i.j c.args.ys.now ≡ [] = drop_all c.loop-i.j c.args.ys.now (omega arith) in
+    let all = right_merged c.args.xs.now c.args.ys.now c.loop-i.out.items c.loop-i.out.items c.loop-i.i c.loop-i.j c.loop-i.invariant.rows (omega arith) (sym (ap (λ ws. c.loop-i.out.items ++ ws) none ∙ append-nil c.loop-i.out.items)) in
     ap pairs all ∙ pairs_flat (joined (pairs c.args.xs.now) (pairs c.args.ys.now))
