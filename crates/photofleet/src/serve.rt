@@ -14,6 +14,7 @@ use fleet_runner::{RunError, plain_stream};
 use std::alloc::Global;
 use std::convert::AsStr;
 use std::io::Write;
+use std::mem::replace;
 use std::sync::Wait;
 use std::thread::Threads;
 
@@ -51,37 +52,40 @@ pub fn serve<S: AsStr, O: Opener, W: Write, E: Write, T: Threads + Wait + Copy +
         ⊎ OfFile (O.content opener.old) (map S.text words.now) (WritesPart (W.contents out.old) (W.contents out.new)) }
 {
     match request_of(alloc, words) {
-        Ok(request) => {
-            let done = perform(rt, alloc, &request, opener, out);
+        Ok(mut request) => {
+            let done = perform(rt, alloc, &mut request, opener, out);
             status_of(done, err)
         }
         Err(refusal) => refused(alloc, &refusal, out, err),
     }
 }
 
-// Does what was asked for, and writes what comes of it.
+// Does what was asked for, and writes what comes of it. An order is taken out of the request.
 fn perform<O: Opener, W: Write, T: Threads + Wait + Copy + Send + 'static>(
     rt: T,
     alloc: Global,
-    request: &Request<'_>,
+    request: &mut Request<'_>,
     opener: &mut O,
     out: &mut W,
 ) -> Result<(), RunError>
-    ensures written { OnOk result (IfSome (O.content opener.old request.now.file.now) (WritesAll (W.contents out.old)
-        (W.contents out.new) (work_of request.now.job))) }
+    ensures written { OnOk result (IfSome (O.content opener.old request.old.file.now) (WritesAll (W.contents out.old)
+        (W.contents out.new) (work_of request.old.job))) }
     ensures first { status_of result ≡ 4 → (out.new ≡ out.old)
-        ⊎ IfSome (O.content opener.old request.now.file.now) (WritesSome (W.contents out.old)
-        (W.contents out.new) (work_of request.now.job)) }
+        ⊎ IfSome (O.content opener.old request.old.file.now) (WritesSome (W.contents out.old)
+        (W.contents out.new) (work_of request.old.job)) }
     ensures front { result ≡ Err Write
-        → IfSome (O.content opener.old request.now.file.now) (WritesPart (W.contents out.old)
-        (W.contents out.new) (work_of request.now.job)) }
+        → IfSome (O.content opener.old request.old.file.now) (WritesPart (W.contents out.old)
+        (W.contents out.new) (work_of request.old.job)) }
     ensures nothing { (fault : script.ScriptFault) → result ≡ Err (Script fault) → out.new ≡ out.old }
 {
     let mut source = opener.open(request.file).map_err(RunError::Script)?;
-    match &request.job {
+    match &mut request.job {
         Job::Plain => plain_stream(alloc, &mut source, out),
         Job::Run(workers) => workers_stream(rt, alloc, &mut source, out, *workers),
-        Job::Replay(order) => replay_stream(alloc, &mut source, out, order.as_slice()),
+        Job::Replay(order) => {
+            let order = replace(order, Vec::new(alloc));
+            replay_stream(alloc, &mut source, out, order)
+        }
         Job::Batches => plan_stream(alloc, &mut source, out),
     }
 }

@@ -50,16 +50,16 @@ pub fn replay_stream<R: Read, W: Write>(
     alloc: Global,
     reader: &mut R,
     writer: &mut W,
-    order: &[u32],
+    order: Vec<u32>,
 ) -> Result<(), RunError>
     ensures written { OnOk result (IfSome (R.remaining reader.old) (WritesAll (W.contents writer.old)
-        (W.contents writer.new) (replay order.now))) }
+        (W.contents writer.new) (replay order.items))) }
     ensures first { result ≡ Err NoMemory → (writer.new ≡ writer.old)
-        ⊎ IfSome (R.remaining reader.old) (WritesSome (W.contents writer.old) (W.contents writer.new) (replay order.now)) }
+        ⊎ IfSome (R.remaining reader.old) (WritesSome (W.contents writer.old) (W.contents writer.new) (replay order.items)) }
     ensures front { result ≡ Err Write
-        → IfSome (R.remaining reader.old) (WritesPart (W.contents writer.old) (W.contents writer.new) (replay order.now)) }
+        → IfSome (R.remaining reader.old) (WritesPart (W.contents writer.old) (W.contents writer.new) (replay order.items)) }
     ensures unlawful { result ≡ Err NotLawful → (writer.new ≡ writer.old)
-        × IfSome (R.remaining reader.old) (λ input. IsUnlawfulFor input order.now) }
+        × IfSome (R.remaining reader.old) (λ input. IsUnlawfulFor input order.items) }
     ensures nothing { (fault : ScriptFault) → result ≡ Err (Script fault) → writer.new ≡ writer.old }
     ensures err { IfErr result (λ e. e ≢ NoWorker) }
 {
@@ -67,7 +67,9 @@ pub fn replay_stream<R: Read, W: Write>(
         Ok(script) => script,
         Err(fault) => return Err(RunError::Script(fault)),
     };
-    let outcome = replay(alloc, &script, order)?;
+    let outcome = replay(alloc, &script, &order)?;
+    // It is long. Given back behind the many small pieces of the outcome it would have the C library go over all of them.
+    drop(order);
     write_reports(alloc, writer, &script, outcome.reports.as_slice())
 }
 
