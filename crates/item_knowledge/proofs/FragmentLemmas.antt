@@ -133,7 +133,7 @@ find_first star g gs a = find_here g gs (first g.pictures) (first_listed g.pictu
 same_lists : (star : List Entry) (g h : Fragment) (gs hs : List Fragment) → are_groups star (g ∷ gs) ≡ true → are_groups star (h ∷ hs) ≡ true → g.entries ≡ h.entries → ((p : ℕ) → find (g ∷ gs) p ≡ find (h ∷ hs) p) → (p : ℕ) → lists g.pictures p ≡ true → lists h.pictures p ≡ true
 same_lists star g h gs hs a b e f p l = lists_by_find star h hs p b (sym (f p) ∙ (find_here g gs p l ∙ ap (λ x. Some x) e))
 
-both_ways_lists : (x y : Bool) → (x ≡ true → y ≡ true) → (y ≡ true → x ≡ true) → x ≡ y
+pub both_ways_lists : (x y : Bool) → (x ≡ true → y ≡ true) → (y ≡ true → x ≡ true) → x ≡ y
 both_ways_lists true true f g = refl
 both_ways_lists true false f g = sym (f refl)
 both_ways_lists false true f g = g refl

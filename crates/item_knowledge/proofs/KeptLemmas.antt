@@ -1,5 +1,5 @@
 -- What is kept denotes what is known.
-use Rattle.std.proofs.Common.{◌≡◌, ℕ, ◌+◌, ◌<◌, Bool, true, false, leb, eqb, max, cond, ◌&&◌, ◌||◌, ◌↔◌, List, [], ◌∷◌, length, refl, sym, subst, ap, ◌∙◌, inl, inr, arith}
+use Rattle.std.proofs.Common.{◌≡◌, ℕ, ◌+◌, ◌<◌, Bool, true, false, leb, eqb, max, cond, ◌&&◌, ◌||◌, List, [], ◌∷◌, length, refl, sym, subst, ap, ◌∙◌, inl, inr, arith}
 use Rattle.std.specs.List.{list_all}
 use Rattle.std.proofs.lemmas.Bool.{and_parts, and_from, le-leb, eq-eqb, ne_eqb, cases_Bool, cases_eq, false≢true}
 use Rattle.std.proofs.lemmas.Bool.Decides.{nat_tests}
@@ -8,11 +8,11 @@ use Rattle.photo_version.specs.Version.{Version, same_version}
 use Rattle.item_knowledge.specs.Tables.{at}
 use Rattle.item_knowledge.specs.Entries.{Entry, denotes, is_vector, bound, leq}
 use Rattle.item_knowledge.specs.Fragments.{Fragment, knows, is_normal, entries_at}
-use Rattle.item_knowledge.specs.Rows.{fragments_of, rows_of}
+use Rattle.item_knowledge.specs.Rows.{fragments_of}
 use Rattle.item_knowledge.specs.Gathering.{vector_of, IsSide, IsUnion}
 use Rattle.item_knowledge.specs.Kept.{IsKept, is_side_within, star_bound}
 use Rattle.item_knowledge.proofs.EntryLemmas.{denotes-bound}
-use Rattle.item_knowledge.proofs.FragmentLemmas.{normal_parts, one_normal, leq_at, leq_denotes, star_of_every}
+use Rattle.item_knowledge.proofs.FragmentLemmas.{normal_parts, leq_at, leq_denotes, star_of_every}
 use Rattle.item_knowledge.proofs.JoinLemmas.{leq_from}
 use Rattle.item_knowledge.proofs.UnionLemmas.{above, at_number, side_vector, normal_side, knows_vector}
 
@@ -41,16 +41,6 @@ kept_vector rows xs k h l = (above (fragments_of rows) xs k (kept_side rows xs h
 -- what is known after a union
 pub learned : (rows : List (List ℕ)) (xs : List (ℕ × ℕ)) (gs us : List Fragment) (ys zs : List (ℕ × ℕ)) → IsKept rows xs → IsUnion (fragments_of rows) xs gs ys us zs → (p : ℕ) (v : Version) → 0 < p → knows us p v ≡ (knows (fragments_of rows) p v || denotes (vector_of gs ys p) v)
 learned rows xs gs us ys zs h u p v z = u.pairs p v z ∙ ap (λ b. b || denotes (vector_of gs ys p) v) (sym (kept_knows rows xs p v h))
-
--- rows are equal where their pairs are
-pub same_pairs : (rows others : List (List ℕ)) (xs ys : List (ℕ × ℕ)) → IsKept rows xs → IsKept others ys → (rows ≡ others) ↔ ((p : ℕ) (v : Version) → 0 < p → knows (fragments_of rows) p v ≡ knows (fragments_of others) p v)
-same_pairs rows others xs ys h g = (
-  λ e p v z. ap (λ rs. knows (fragments_of rs) p v) e,
-  λ all. sym h.rows ∙ (ap rows_of (one_normal (fragments_of rows) (fragments_of others) h.normal g.normal all) ∙ g.rows),
-)
-
-pub same_fragments : (rows others : List (List ℕ)) (xs ys : List (ℕ × ℕ)) → IsKept rows xs → IsKept others ys → (rows ≡ others) ↔ (fragments_of rows ≡ fragments_of others)
-same_fragments rows others xs ys h g = (λ e. ap fragments_of e, λ e. sym h.rows ∙ (ap rows_of e ∙ g.rows))
 
 -- Inclusion
 

@@ -21,6 +21,7 @@ pub mod WithinLemmas
 pub mod TableRowLemmas
 pub mod KnownLemmas
 pub mod PutLemmas
+pub mod LateLemmas
 pub mod NextLemmas
 pub mod NormalLemmas
 pub mod CarryLemmas

@@ -21,13 +21,13 @@ bound_none es i a l = ap (λ ds. bound ds a) (drop_all i es l)
 
 -- A bound that is raised in place is the join with the one entry
 
-joined_none : (es : List Entry) → in_order es ≡ true → joined es [] ≡ es
+pub joined_none : (es : List Entry) → in_order es ≡ true → joined es [] ≡ es
 joined_none [] h = refl
 joined_none (e ∷ es) h =
     let a = and_parts (keys_pass (λ k. ltb e.0 k) es) (in_order es) h in
     merge_left (λ n. n) (λ n m. max n m) (λ m. m) e es [] a.0 refl ∙ ap (λ ds. e ∷ ds) (joined_none es a.1)
 
-above_at : (k : ℕ) (es : List Entry) (i : ℕ) → keys_pass (λ n. ltb k n) es ≡ true → i < length es → k < (get_or es i (0, 0)).0
+pub above_at : (k : ℕ) (es : List Entry) (i : ℕ) → keys_pass (λ n. ltb k n) es ≡ true → i < length es → k < (get_or es i (0, 0)).0
 above_at k [] i h l = absurd (omega arith)
 above_at k (e ∷ es) zero h l = ltb-true k e.0 (and_parts (ltb k e.0) (keys_pass (λ n. ltb k n) es) h).0
 above_at k (e ∷ es) (suc i) h l = above_at k es i (and_parts (ltb k e.0) (keys_pass (λ n. ltb k n) es) h).1 (omega arith)

@@ -94,11 +94,11 @@ groups_raised e star (g ∷ gs) m =
 
 -- what raised fragments show of a picture
 
-length_raised : (e : Entry) (fs : List Fragment) → length (all_raised e fs) ≡ length fs
+pub length_raised : (e : Entry) (fs : List Fragment) → length (all_raised e fs) ≡ length fs
 length_raised e [] = refl
 length_raised e (f ∷ fs) = ap suc (length_raised e fs)
 
-entries_raised : (e : Entry) (fs : List Fragment) (k : ℕ) → k < length fs → entries_at (all_raised e fs) k ≡ joined (entries_at fs k) (e ∷ [])
+pub entries_raised : (e : Entry) (fs : List Fragment) (k : ℕ) → k < length fs → entries_at (all_raised e fs) k ≡ joined (entries_at fs k) (e ∷ [])
 entries_raised e [] k l = absurd (omega arith)
 entries_raised e (f ∷ fs) zero l = refl
 entries_raised e (f ∷ fs) (suc k) l = entries_raised e fs k (omega arith)

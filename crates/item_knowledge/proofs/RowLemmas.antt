@@ -2,9 +2,6 @@
 use Rattle.std.proofs.Common.{◌≡◌, ℕ, zero, suc, ◌+◌, ◌*◌, ◌<◌, ◌≤◌, Bool, true, false, leb, ltb, eqb, ◌&&◌, max, List, [], ◌∷◌, ◌++◌, length, get_or, drop, refl, sym, subst, ap, ◌∙◌, inl, inr, arith, append_assoc, length-append}
 use Rattle.std.proofs.lemmas.List.{drop_all}
 use Rattle.std.specs.Cmp.Lexicographic.{pointwise}
-use Rattle.std.specs.Bool.{Decides}
-use Rattle.std.proofs.lemmas.Bool.Decides.{Decides-eqb}
-use Rattle.std.proofs.lemmas.Slice.Eq.{slice_eq-Decides}
 use Rattle.std.proofs.lemmas.Bool.{and_parts, and_from, lt-ltb, cases_lt, eq-eqb, ne_eqb, le-leb, lt-leb, eqb-true}
 use Rattle.item_knowledge.specs.Tables.{keys_pass, in_order}
 use Rattle.item_knowledge.specs.Entries.{Entry, same_entries, joined, bound, leq}
@@ -249,12 +246,6 @@ both_taken xs ys out new i j n m l k e greater is =
     let two : i + 1 + 1 ≡ i + 2 = omega arith in
     let also : j + 1 + 1 ≡ j + 2 = omega arith in
     subst (λ h. Rows xs ys new h (j + 2)) two (subst (λ h. Rows xs ys new (i + 1 + 1) h) also (subst (λ ws. Rows xs ys ws (i + 1 + 1) (j + 1 + 1)) (sym is) (word_both xs ys out i j n m l k e greater)))
-
--- Lists of rows
-
--- lists of vectors of words compare as the lists of their words
-pub same_lists : (xs ys : List (List ℕ)) → Decides (pointwise (λ x y. pointwise (λ a b. eqb a b) x y) xs ys) (xs ≡ ys)
-same_lists xs ys = slice_eq-Decides {A = List ℕ} (λ x y. slice_eq-Decides {A = ℕ} (λ a b. Decides-eqb a b) x y (pointwise (λ a b. eqb a b) x y) refl) xs ys (pointwise (λ x y. pointwise (λ a b. eqb a b) x y) xs ys) refl
 
 -- A search along a row
 

@@ -6,6 +6,7 @@ pub mod Gathering
 pub mod Raising
 pub mod Places
 pub mod Kept
+pub mod Late
 pub mod Staged
 pub mod Spare
 pub mod Coding

@@ -1,3 +1,7 @@
+ghost use Rattle.std.specs.Prelude.{◌≡◌};
+ghost use Rattle.item_knowledge.specs.Late.{late_entry};
+
+use crate::live::Entry;
 use crate::search::entry_at;
 use photo_version::Author;
 use std::marker::Model;
@@ -7,6 +11,8 @@ use std::marker::Model;
 pub struct Fragment<'a> {
     pictures: &'a [u64],
     row: &'a [u64],
+    // Whose bound is shown as another than the one in the row.
+    late: Option<Entry>,
 }
 
 impl<'a> Model for Fragment<'a> {
@@ -14,15 +20,16 @@ impl<'a> Model for Fragment<'a> {
     ghost use Rattle.item_knowledge.specs.Entries.{is_vector};
     ghost use Rattle.item_knowledge.specs.Fragments as spec;
     ghost use Rattle.item_knowledge.specs.Coding.{fragment_code};
+    ghost use Rattle.item_knowledge.specs.Late.{late_entries};
     ghost use Rattle.item_knowledge.specs.Rows.{pairs, IsRow};
 
     ghost Value = { spec.Fragment };
 
     ghost coded = { fragment_code };
 
-    ghost view = { λ f. record { pictures = f.pictures.now; entries = pairs f.row.now } };
+    ghost view = { λ f. record { pictures = f.pictures.now; entries = late_entries f.late (pairs f.row.now) } };
 
-    ghost invariant = { λ f. IsRow f.row.now × (is_vector (pairs f.row.now) ≡ true) };
+    ghost invariant = { λ f. IsRow f.row.now × (is_vector (late_entries f.late (pairs f.row.now)) ≡ true) };
 }
 
 impl<'a> Fragment<'a> {
@@ -30,14 +37,19 @@ impl<'a> Fragment<'a> {
     ghost use Rattle.photo_version.specs.Author.{author_word, author_of_word};
     ghost use Rattle.item_knowledge.specs.Entries.{is_vector};
     ghost use Rattle.item_knowledge.specs.Fragments.{is_empty};
+    ghost use Rattle.item_knowledge.specs.Late.{late_entries};
     ghost use Rattle.item_knowledge.specs.Rows.{pairs, IsRow};
 
-    pub(crate) fn new(pictures: &'a [u64], row: &'a [u64]) -> Fragment<'a>
+    pub(crate) fn new(pictures: &'a [u64], row: &'a [u64], late: Option<Entry>) -> Fragment<'a>
         requires row { IsRow row.now }
-        requires vector { is_vector (pairs row.now) ≡ true }
-        ensures { result ≡ record { pictures = pictures.now; entries = pairs row.now } }
+        requires vector { is_vector (late_entries late (pairs row.now)) ≡ true }
+        ensures { result ≡ record { pictures = pictures.now; entries = late_entries late (pairs row.now) } }
     {
-        Fragment { pictures, row }
+        Fragment {
+            pictures,
+            row,
+            late,
+        }
     }
 
     /// Whether this is the star.
@@ -69,7 +81,19 @@ impl<'a> Fragment<'a> {
         ensures number { result.1 ≡ (get_or self.now.entries i (0, 0)).1 }
         ensures above_zero { 0 < result.1 }
     {
-        let (word, number) = entry_at(self.row, i);
+        let (word, number) = shown(self.late, entry_at(self.row, i));
         (Author::of_word(word), number as u32)
     }
+}
+
+// An entry as it is shown, where one author's is another.
+fn shown(late: Option<Entry>, entry: Entry) -> Entry
+    ensures { result ≡ late_entry late entry }
+{
+    if let Some(other) = late {
+        if other.0 == entry.0 {
+            return other;
+        }
+    }
+    entry
 }

@@ -1,16 +1,17 @@
 use crate::Fragment;
 use crate::index::IndexEntry;
 use crate::known::has_table;
-use crate::raise::{is_level, raise};
+use crate::live::LiveRows;
+use crate::raise::is_level;
 use crate::rows::Rows;
-use crate::search::{bound_at, number_at, number_near};
-use crate::table_rows::{star_alone, told, told_one, vector_of as vector_of_row};
-use crate::union::{entries, is_within, union};
+use crate::search::{number_at, number_near};
+use crate::table_rows::{star_alone, told, told_one, vector_of as vector_of_fragment};
+use crate::union::is_within;
 use photo_record::PicNo;
 use photo_version::{Vector, Version};
 use std::alloc::{AllocError, Global};
 use std::marker::Model;
-use std::mem::{replace, swap};
+use std::mem::replace;
 
 // What is staged.
 #[derive(Debug, Drop)]
@@ -32,7 +33,7 @@ enum Staged {
 #[derive(Debug, Drop)]
 pub struct Knowledge {
     alloc: Global,
-    live: Rows,
+    live: LiveRows,
     index: Vec<IndexEntry>,
     spare: Rows,
     staged: Staged,
@@ -56,7 +57,7 @@ impl Model for Knowledge {
 
 impl Knowledge {
     ghost use Rattle.std.specs.Prelude.{◌≡◌, ◌↔◌, ℕ, ◌<◌, ◌≤◌, ◌+◌, ◌||◌, ◌&&◌, ◌==◌, ◌-◌, max, if◌then◌else◌, []};
-    ghost use Rattle.std.specs.Prelude.{◌∷◌, true, false, IsTrue, length, get_or, None, IfOk, IfSome, OnOk, OnErr};
+    ghost use Rattle.std.specs.Prelude.{◌∷◌, true, false, nat_le, IsTrue, length, get_or, None, IfOk, IfSome, OnOk, OnErr};
     ghost use Rattle.std.specs.Option.{is_some};
     ghost use Rattle.photo_version.specs.Author.{Author, same_author, author_word};
     ghost use Rattle.photo_version.specs.Version as versions;
@@ -75,10 +76,10 @@ impl Knowledge {
         ensures value { IfOk result (λ k. k ≡ settled nothing_known) }
         ensures nothing { IfOk result (λ k. (p : ℕ) (v : versions.Version) → spec.knows k.known p v ≡ false) }
     {
-        let live = star_alone(alloc, &[], 2)?;
+        let star = star_alone(alloc, &[], 2)?;
         Ok(Knowledge {
             alloc,
-            live,
+            live: LiveRows::new(star),
             index: Vec::new(alloc),
             spare: Rows::new(alloc),
             staged: Staged::Nothing,
@@ -93,8 +94,8 @@ impl Knowledge {
             return true;
         }
         let (number, _place) = number_at(&self.index, u64::from(picture.value()));
-        let row = entries(&self.live, number);
-        u64::from(version.n()) <= bound_at(row, version.author().word())
+        self.live
+            .has_beyond(number, version.author().word(), u64::from(version.n()))
     }
 
     /// Whether of the picture the version is known, and a hint for the next question. Takes no memory. Any hint will do;
@@ -106,17 +107,18 @@ impl Knowledge {
             return (true, hint);
         }
         let (number, next) = number_near(&self.index, hint, u64::from(picture.value()));
-        let row = entries(&self.live, number);
-        let known = u64::from(version.n()) <= bound_at(row, version.author().word());
+        let known = self
+            .live
+            .has_beyond(number, version.author().word(), u64::from(version.n()));
         (known, next)
     }
 
     // Whether the star has a version, which is then known of every picture.
     fn has_of_every(&self, version: Version) -> bool
-        ensures { result ≡ true → (p : ℕ) → 0 < p → spec.knows self.now.known p version ≡ true }
+        ensures star { result ≡ nat_le version.number (star_bound self.now.known version.author) }
+        ensures every { result ≡ true → (p : ℕ) → 0 < p → spec.knows self.now.known p version ≡ true }
     {
-        let star = entries(&self.live, 0);
-        u64::from(version.n()) <= bound_at(star, version.author().word())
+        u64::from(version.n()) <= self.live.bound(0, version.author().word())
     }
 
     /// The number of fragments, the star among them.
@@ -124,7 +126,7 @@ impl Knowledge {
         ensures value { result ≡ length self.now.known }
         ensures normal { spec.is_normal self.now.known ≡ true }
     {
-        self.live.rows() / 2
+        self.live.len()
     }
 
     /// The fragment of a number, from 0, which is the star. It is lent, and copies nothing.
@@ -132,9 +134,7 @@ impl Knowledge {
         requires { k < length self.now.known }
         ensures { result ≡ get_or self.now.known k spec.nothing }
     {
-        // For its fact alone: the rows are fewer than 2 ^ 63.
-        let _count = self.live.rows();
-        Fragment::new(self.live.row(2 * k), entries(&self.live, k))
+        self.live.fragment(k)
     }
 
     /// Whether both denote the same pairs. Takes no memory.
@@ -143,7 +143,10 @@ impl Knowledge {
         ensures pairs { IsTrue result ↔ ((p : ℕ) (v : versions.Version) → 0 < p → spec.knows self.now.known p v
             ≡ spec.knows other.now.known p v) }
     {
-        self.live.same(&other.live)
+        // For their fact alone: both are in normal form.
+        let _index = &self.index;
+        let _other_index = &other.index;
+        self.has_all(other) && other.has_all(self)
     }
 
     /// Whether all that the other knows is known here too. Takes no memory.
@@ -159,7 +162,7 @@ impl Knowledge {
         ensures { IfOk result (λ vector. (v : versions.Version) → vectors.denotes vector v ≡ spec.knows self.now.known picture v) }
     {
         let (number, _place) = number_at(&self.index, u64::from(picture.value()));
-        vector_of_row(self.alloc, entries(&self.live, number))
+        vector_of_fragment(self.alloc, &self.live.fragment(number))
     }
 
     // Stages what is known and what a side denotes.
@@ -175,15 +178,10 @@ impl Knowledge {
         ensures refused { OnErr result (self.new.staged ≡ None) }
     {
         self.staged = Staged::Nothing;
-        let index = union(
-            self.alloc,
-            &self.live,
-            &self.index,
-            rows,
-            index,
-            &mut self.spare,
-        )?;
-        self.staged = Staged::Spare(index);
+        let written = self
+            .live
+            .union(self.alloc, &self.index, rows, index, &mut self.spare)?;
+        self.staged = Staged::Spare(written);
         Ok(())
     }
 
@@ -194,11 +192,17 @@ impl Knowledge {
         ensures staged { OnOk result (IsStagedUnion self.new.staged self.old.known other.now.known) }
         ensures refused { OnErr result (self.new.staged ≡ None) }
     {
+        self.staged = Staged::Nothing;
         if is_within(&other.live, &other.index, &self.live, &self.index) {
             self.staged = Staged::AllKnown;
             return Ok(());
         }
-        self.stage_union(&other.live, &other.index)?;
+        if let Some(rows) = other.live.settled() {
+            self.stage_union(rows, &other.index)?;
+            return Ok(());
+        }
+        let rows = other.live.to_rows()?;
+        self.stage_union(&rows, &other.index)?;
         Ok(())
     }
 
@@ -220,7 +224,7 @@ impl Knowledge {
     {
         if let Staged::Spare(index) = replace(&mut self.staged, Staged::Nothing) {
             self.index = index;
-            swap(&mut self.live, &mut self.spare);
+            self.live.swap(&mut self.spare);
             self.spare.clear();
         }
     }
@@ -263,7 +267,7 @@ impl Knowledge {
         self.staged = Staged::Nothing;
         let author = version.author().word();
         let n = u64::from(version.n());
-        raise(&mut self.live, author, n);
+        self.live.raise(author, n);
     }
 
     /// Learns of the picture all versions of the vector. Its only error is want of memory, which changes nothing that is
@@ -361,11 +365,11 @@ impl Knowledge {
     pub fn try_clone(&self) -> Result<Knowledge, AllocError>
         ensures { IfOk result (λ copy. copy ≡ settled self.now.known) }
     {
-        let live = self.live.try_clone()?;
+        let rows = self.live.to_rows()?;
         let index = self.index.to_vec(self.alloc)?;
         Ok(Knowledge {
             alloc: self.alloc,
-            live,
+            live: LiveRows::new(rows),
             index,
             spare: Rows::new(self.alloc),
             staged: Staged::Nothing,

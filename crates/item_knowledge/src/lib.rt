@@ -11,6 +11,7 @@ mod join;
 mod knowledge;
 mod known;
 pub mod laws;
+mod live;
 mod pairing;
 mod places;
 mod raise;

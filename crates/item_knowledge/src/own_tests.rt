@@ -44,3 +44,65 @@ fn own_versions_are_raised_in_place(rt: HostRuntime) -> Result<(), Fail> {
     assert!(rt; knowledge.fragments() == 2 && !knowledge.knows(seven, version(0, 3)));
     Ok(())
 }
+
+// The same, when its own third version is known.
+fn risen(alloc: Global) -> Result<Knowledge, Fail> {
+    let mut knowledge = own_and_other(alloc)?;
+    knowledge.raise_own(version(0, 2));
+    knowledge.learn_own(version(0, 3))?;
+    Ok(knowledge)
+}
+
+#[test]
+fn a_fragment_shows_a_bound_that_rose(rt: HostRuntime) -> Result<(), Fail> {
+    let knowledge = risen(rt.alloc())?;
+    assert!(rt; knowledge.fragments() == 2);
+    let seven = knowledge.fragment(1);
+    assert!(rt; seven.len() == 2);
+    assert!(rt; seven.entry(0).1 == 3 && seven.entry(1).1 == 1);
+    assert!(rt;
+        knowledge.of(picture(7)?)?.has(version(0, 3))
+            && !knowledge.of(picture(5)?)?.has(version(0, 4))
+    );
+    Ok(())
+}
+
+#[test]
+fn a_bound_that_rose_is_compared(rt: HostRuntime) -> Result<(), Fail> {
+    let knowledge = risen(rt.alloc())?;
+    let twin = risen(rt.alloc())?;
+    let copy = knowledge.try_clone()?;
+    let before = own_and_other(rt.alloc())?;
+    assert!(rt; knowledge.same(&twin) && knowledge.same(&copy) && copy.same(&knowledge));
+    assert!(rt;
+        knowledge.has_all(&before) && !before.has_all(&knowledge) && !before.same(&knowledge)
+    );
+    Ok(())
+}
+
+#[test]
+fn a_bound_that_rose_is_learned(rt: HostRuntime) -> Result<(), Fail> {
+    let mut knowledge = risen(rt.alloc())?;
+    let mut other = own_and_other(rt.alloc())?;
+    other.learn_all(&knowledge)?;
+    assert!(rt; other.same(&knowledge));
+    let first = Vector::new(rt.alloc()).with(version(1, 1))?;
+    knowledge.learn(picture(5)?, &first)?;
+    assert!(rt; knowledge.fragments() == 2 && knowledge.knows(picture(5)?, version(0, 3)));
+    assert!(rt; knowledge.has_all(&other) && !other.has_all(&knowledge));
+    Ok(())
+}
+
+// Two authors' bounds rise in turn: the one that rose first stands in the rows then.
+#[test]
+fn two_authors_bounds_rise(rt: HostRuntime) -> Result<(), Fail> {
+    let mut knowledge = Knowledge::new(rt.alloc())?;
+    knowledge.learn_own(version(0, 1))?;
+    knowledge.learn_own(version(1, 1))?;
+    knowledge.learn_own(version(0, 2))?;
+    knowledge.learn_own(version(1, 2))?;
+    let five = picture(5)?;
+    assert!(rt; knowledge.knows(five, version(0, 2)) && knowledge.knows(five, version(1, 2)));
+    assert!(rt; !knowledge.knows(five, version(0, 3)) && !knowledge.knows(five, version(1, 3)));
+    Ok(())
+}

@@ -24,7 +24,7 @@ impl Model for Rows {
 
 impl Rows {
     ghost use Rattle.fragment_arena.specs.Arena.{run};
-    ghost use Rattle.std.specs.Prelude.{◌≡◌, ◌<◌, ◌≤◌, ◌↔◌, IsTrue, [], ◌∷◌, ◌++◌, length, get_or, set, OnOk, OnErr, IfOk};
+    ghost use Rattle.std.specs.Prelude.{◌≡◌, ◌<◌, ◌≤◌, [], ◌∷◌, ◌++◌, length, get_or, set, OnOk, OnErr, IfOk};
 
     /// No rows. Takes no memory.
     pub(crate) fn new(alloc: Global) -> Rows
@@ -146,21 +146,6 @@ impl Rows {
     {
         self.arena.clear();
         self.words = 0;
-    }
-
-    /// Whether both have the same rows.
-    pub(crate) fn same(&self, other: &Rows) -> bool
-        ensures { IsTrue result ↔ (self.now ≡ other.now) }
-    {
-        if self.rows() != other.rows() {
-            return false;
-        }
-        for i in 0..self.rows() {
-            if self.row(i) != other.row(i) {
-                return false;
-            }
-        }
-        true
     }
 
     /// An equal list of rows.

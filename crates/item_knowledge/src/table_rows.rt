@@ -5,11 +5,11 @@ ghost use Rattle.item_knowledge.specs.Entries.{is_vector};
 ghost use Rattle.item_knowledge.specs.Rows.{pairs, flat, IsRow, rows_of};
 ghost use Rattle.item_knowledge.specs.TableRows as spec;
 
+use crate::Fragment;
 use crate::index::IndexEntry;
 use crate::rows::Rows;
-use crate::search::entry_at;
 use photo_record::PicNo;
-use photo_version::{Author, Vector};
+use photo_version::Vector;
 use std::alloc::{AllocError, Global};
 
 /// Writes the entries of a vector as a row of words, in place of what was there.
@@ -27,16 +27,14 @@ pub(crate) fn write_row(vector: &Vector, row: &mut Vec<u64>) -> Result<(), Alloc
     Ok(())
 }
 
-/// The vector of the entries of a row.
-pub(crate) fn vector_of(alloc: Global, row: &[u64]) -> Result<Vector, AllocError>
-    requires row { IsRow row.now }
-    requires vector { is_vector (pairs row.now) ≡ true }
-    ensures { IfOk result (λ vector. vector ≡ spec.bounds_of (pairs row.now)) }
+/// The vector of a fragment.
+pub(crate) fn vector_of(alloc: Global, fragment: &Fragment<'_>) -> Result<Vector, AllocError>
+    requires { is_vector fragment.now.entries ≡ true }
+    ensures { IfOk result (λ vector. vector ≡ spec.bounds_of fragment.now.entries) }
 {
     let mut bounds = Vec::new(alloc);
-    for i in 0..row.len() / 2 {
-        let (word, n) = entry_at(row, i);
-        bounds.push((Author::of_word(word), n as u32))?;
+    for i in 0..fragment.len() {
+        bounds.push(fragment.entry(i))?;
     }
     Vector::from_entries(alloc, bounds)
 }

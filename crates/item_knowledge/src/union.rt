@@ -11,10 +11,11 @@ use crate::gather::{add, same_row};
 use crate::group::Group;
 use crate::index::IndexEntry;
 use crate::join::join;
+use crate::live::LiveRows;
 use crate::pairing::paired_numbers;
 use crate::places::Places;
 use crate::rows::Rows;
-use crate::search::{is_leq, number_from};
+use crate::search::number_from;
 use std::alloc::{AllocError, Global};
 
 /// The entries of the fragment of a number, as a row of words.
@@ -190,9 +191,9 @@ pub(crate) fn union(
 
 /// Whether each vector of the one side is at most the other's at the same picture. Takes no memory.
 pub(crate) fn is_within(
-    rows: &Rows,
+    rows: &LiveRows,
     index: &[IndexEntry],
-    others: &Rows,
+    others: &LiveRows,
     others_index: &[IndexEntry],
 ) -> bool
     requires rows { AreRows rows.now }
@@ -201,7 +202,7 @@ pub(crate) fn is_within(
     requires right { IsSide (fragments_of others.now) others_index.now }
     ensures { result ≡ is_side_within (fragments_of rows.now) index.now (fragments_of others.now) others_index.now }
 {
-    if !is_leq(entries(rows, 0), entries(others, 0)) {
+    if !rows.is_leq(0, others, 0) {
         return false;
     }
     let mut j = 0;
@@ -209,7 +210,7 @@ pub(crate) fn is_within(
         let (picture, number) = index[i];
         let (other, next) = number_from(others_index, j, picture);
         j = next;
-        if !is_leq(entries(rows, number), entries(others, other)) {
+        if !rows.is_leq(number, others, other) {
             return false;
         }
     }

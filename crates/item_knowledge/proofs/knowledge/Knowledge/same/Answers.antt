@@ -1,12 +1,24 @@
-use Rattle.std.proofs.Common.{ap, sym, ◌∙◌}
-use Rattle.item_knowledge.specs.Fragments.{knows}
-use Rattle.item_knowledge.proofs.KeptLemmas.{same_pairs}
+use Rattle.std.proofs.Common.{◌≡◌, true, sym, subst, ap, ◌∙◌}
+use Rattle.item_knowledge.specs.Fragments.{knows, is_normal}
+use Rattle.item_knowledge.proofs.FragmentLemmas.{both_ways_lists, one_normal}
 use Rattle.item_knowledge.proofs.StagedLemmas.{known_of}
 use Rattle.item_knowledge.proofs.knowledge.Knowledge.same.Goals as goal
 
-pub returns-clause-pairs : goal.returns-clause-pairs
-returns-clause-pairs c =
-    let both = same_pairs c.self.inside.live c.other.inside.live c.self.inside.index.items c.other.inside.index.items c.self.invariant.kept c.other.invariant.kept in (
-      λ yes_same p v z. sym (ap (λ fs. knows fs p v) (known_of c.self.view_is)) ∙ (both.0 (c.same.ensures.0 yes_same) p v z ∙ ap (λ fs. knows fs p v) (known_of c.other.view_is)),
-      λ all. c.same.ensures.1 (both.1 (λ p v z. ap (λ fs. knows fs p v) (known_of c.self.view_is) ∙ (all p v z ∙ sym (ap (λ fs. knows fs p v) (known_of c.other.view_is))))),
+pub returns-then-has_all-clause-value : goal.returns-then-has_all-clause-value
+returns-then-has_all-clause-value c =
+    let fs = c.args.self.now.known in
+    let gs = c.args.other.now.known in (
+      λ yes. one_normal fs gs
+          (subst (λ hs. is_normal hs ≡ true) (known_of c.self.view_is) c.self.invariant.kept.normal)
+          (subst (λ hs. is_normal hs ≡ true) (known_of c.other.view_is) c.other.invariant.kept.normal)
+          (λ p v z. both_ways_lists (knows fs p v) (knows gs p v) (c.has_all-then-has_all.ensures.0 yes p v z) (c.has_all.ensures.0 c.if-has_all.true p v z)),
+      λ e. c.has_all-then-has_all.ensures.1 (λ p v z k. sym (ap (λ hs. knows hs p v) e) ∙ k),
+    )
+
+pub returns-then-has_all-clause-pairs : goal.returns-then-has_all-clause-pairs
+returns-then-has_all-clause-pairs c =
+    let fs = c.args.self.now.known in
+    let gs = c.args.other.now.known in (
+      λ yes p v z. both_ways_lists (knows fs p v) (knows gs p v) (c.has_all-then-has_all.ensures.0 yes p v z) (c.has_all.ensures.0 c.if-has_all.true p v z),
+      λ all. c.has_all-then-has_all.ensures.1 (λ p v z k. sym (all p v z) ∙ k),
     )

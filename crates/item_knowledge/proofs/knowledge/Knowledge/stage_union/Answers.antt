@@ -14,13 +14,13 @@ union-requires-clause-left c = subst (IsSide (fragments_of c.self.inside.live)) 
 
 pub returns-clause-star : goal.returns-clause-star
 returns-clause-star c a =
-    let union : IsUnion (fragments_of c.self.inside.live) c.deref.result.now (fragments_of c.args.rows.now) c.args.index.now (fragments_of c.union.new.out) c.in_ok-index.index.items = search rules in
+    let union : IsUnion (fragments_of c.self.inside.live) c.deref.result.now (fragments_of c.args.rows.now) c.args.index.now (fragments_of c.union.new.out) c.in_ok-written.written.items = search rules in
     union.star (author_word a)
     ∙ ap (λ fs. max (star_bound fs a) (bound (entries_at (fragments_of c.args.rows.now) 0) (author_word a))) (known_of c.self.view_is)
 
 pub returns-clause-pairs : goal.returns-clause-pairs
 returns-clause-pairs c p v z =
-    let union : IsUnion (fragments_of c.self.inside.live) c.deref.result.now (fragments_of c.args.rows.now) c.args.index.now (fragments_of c.union.new.out) c.in_ok-index.index.items = search rules in
-    let made = subst (λ xs. IsUnion (fragments_of c.self.inside.live) xs (fragments_of c.args.rows.now) c.args.index.now (fragments_of c.union.new.out) c.in_ok-index.index.items) c.deref.ensures.value union in
-    learned c.self.inside.live c.self.inside.index.items (fragments_of c.args.rows.now) (fragments_of c.union.new.out) c.args.index.now c.in_ok-index.index.items c.self.invariant.kept made p v z
+    let union : IsUnion (fragments_of c.self.inside.live) c.deref.result.now (fragments_of c.args.rows.now) c.args.index.now (fragments_of c.union.new.out) c.in_ok-written.written.items = search rules in
+    let made = subst (λ xs. IsUnion (fragments_of c.self.inside.live) xs (fragments_of c.args.rows.now) c.args.index.now (fragments_of c.union.new.out) c.in_ok-written.written.items) c.deref.ensures.value union in
+    learned c.self.inside.live c.self.inside.index.items (fragments_of c.args.rows.now) (fragments_of c.union.new.out) c.args.index.now c.in_ok-written.written.items c.self.invariant.kept made p v z
     ∙ ap (λ fs. knows fs p v || denotes (vector_of (fragments_of c.args.rows.now) c.args.index.now p) v) (known_of c.self.view_is)

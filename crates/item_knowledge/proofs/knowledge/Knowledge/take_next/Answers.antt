@@ -28,7 +28,7 @@ invariant_of-self c =
     let above : 0 < c.from-n.result = omega arith in
     let fits : c.from-n.result ≤ most_number = omega arith in
     let own = own_from w c.self.inside.live c.self.inside.index.items c.args.self.now.known c.word-author.result c.from-n.result c.self.invariant.kept (known_of c.self.view_is) word n c.word-author.ensures.of_author above fits c.requires.first c.requires.next c.requires.level in
-    record { kept = (owned w c.self.inside.live c.self.inside.index.items c.raise.new.rows own (c.raise.ensures ∙ (λ j. rows_of (all_raised (word j, n j) (fragments_of c.self.inside.live))))).kept; spare_kept = tt }
+    record { kept = (owned w c.self.inside.live c.self.inside.index.items c.raise.new.self own (c.raise.ensures ∙ (λ j. rows_of (all_raised (word j, n j) (fragments_of c.self.inside.live))))).kept; spare_kept = tt }
 
 pub returns-clause-star : goal.returns-clause-star
 returns-clause-star c a =
@@ -38,7 +38,7 @@ returns-clause-star c a =
     let above : 0 < c.from-n.result = omega arith in
     let fits : c.from-n.result ≤ most_number = omega arith in
     let own = own_from w c.self.inside.live c.self.inside.index.items c.args.self.now.known c.word-author.result c.from-n.result c.self.invariant.kept (known_of c.self.view_is) word n c.word-author.ensures.of_author above fits c.requires.first c.requires.next c.requires.level in
-    (owned w c.self.inside.live c.self.inside.index.items c.raise.new.rows own (c.raise.ensures ∙ (λ j. rows_of (all_raised (word j, n j) (fragments_of c.self.inside.live))))).star a
+    (owned w c.self.inside.live c.self.inside.index.items c.raise.new.self own (c.raise.ensures ∙ (λ j. rows_of (all_raised (word j, n j) (fragments_of c.self.inside.live))))).star a
     ∙ ap (λ fs. cond (same_author w.author a) w.number (star_bound fs a)) (known_of c.self.view_is)
 
 pub returns-clause-learned : goal.returns-clause-learned
@@ -49,5 +49,5 @@ returns-clause-learned c p v z =
     let above : 0 < c.from-n.result = omega arith in
     let fits : c.from-n.result ≤ most_number = omega arith in
     let own = own_from w c.self.inside.live c.self.inside.index.items c.args.self.now.known c.word-author.result c.from-n.result c.self.invariant.kept (known_of c.self.view_is) word n c.word-author.ensures.of_author above fits c.requires.first c.requires.next c.requires.level in
-    (owned w c.self.inside.live c.self.inside.index.items c.raise.new.rows own (c.raise.ensures ∙ (λ j. rows_of (all_raised (word j, n j) (fragments_of c.self.inside.live))))).learned p v z
+    (owned w c.self.inside.live c.self.inside.index.items c.raise.new.self own (c.raise.ensures ∙ (λ j. rows_of (all_raised (word j, n j) (fragments_of c.self.inside.live))))).learned p v z
     ∙ ap (λ fs. knows fs p v || same_version w v) (known_of c.self.view_is)

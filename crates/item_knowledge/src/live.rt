@@ -1,0 +1,220 @@
+ghost use Rattle.std.specs.Prelude.{◌≡◌, None};
+ghost use Rattle.item_knowledge.specs.Late as spec;
+
+use crate::Fragment;
+use crate::index::IndexEntry;
+use crate::raise::raise;
+use crate::rows::Rows;
+use crate::search::{bound_at, is_leq};
+use crate::union::{entries, union};
+use std::alloc::{AllocError, Global};
+use std::marker::Model;
+use std::mem::swap;
+
+/// An author's word, and up to which number its versions are known.
+pub(crate) type Entry = (u64, u64);
+
+/// The rows of what is known. An author whose bound rises in all of them may have it beside the rows at first: a device's
+/// own rises with each version that it makes, and the next union writes each row anew.
+#[derive(Debug, Drop)]
+pub(crate) struct LiveRows {
+    rows: Rows,
+    // Whose bound is still to be raised in each row, and to what.
+    late: Option<Entry>,
+}
+
+impl Model for LiveRows {
+    ghost use Rattle.std.specs.Prelude.{ℕ, List};
+    ghost use Rattle.std.specs.Coded.{coded_ℕ, coded_list};
+    ghost use Rattle.item_knowledge.specs.Late.{shown, IsLate};
+
+    ghost Value = { List (List ℕ) };
+
+    ghost coded = { coded_list (coded_list coded_ℕ) };
+
+    ghost view = { λ r. shown r.late r.rows };
+
+    ghost invariant = { λ r. IsLate r.late r.rows };
+}
+
+impl LiveRows {
+    ghost use Rattle.std.specs.Prelude.{◌≡◌, ◌<◌, true, nat_le, length, get_or, IfOk, OnOk, IfSome};
+    ghost use Rattle.item_knowledge.specs.Tables.{in_order};
+    ghost use Rattle.item_knowledge.specs.Entries.{bound, leq, is_vector};
+    ghost use Rattle.item_knowledge.specs.Fragments.{entries_at, nothing, is_normal};
+    ghost use Rattle.item_knowledge.specs.Gathering.{IsSide, IsUnion};
+    ghost use Rattle.item_knowledge.specs.Raising.{all_raised, are_risen};
+    ghost use Rattle.item_knowledge.specs.Rows.{AreRows, fragments_of, rows_of};
+
+    /// Rows in which each bound stands.
+    pub(crate) fn new(rows: Rows) -> LiveRows
+        ensures { result ≡ rows }
+    {
+        LiveRows { rows, late: None }
+    }
+
+    /// The number of fragments.
+    pub(crate) fn len(&self) -> usize
+        requires { AreRows self.now }
+        ensures { result ≡ length (fragments_of self.now) }
+    {
+        self.rows.rows() / 2
+    }
+
+    /// The bound of an author in the fragment of a number, 0 where it has none.
+    pub(crate) fn bound(&self, k: usize, author: u64) -> u64
+        requires rows { AreRows self.now }
+        requires number { k < length (fragments_of self.now) }
+        requires order { in_order (entries_at (fragments_of self.now) k) ≡ true }
+        ensures { result ≡ bound (entries_at (fragments_of self.now) k) author }
+    {
+        if let Some(n) = late_of(self.late, author) {
+            return n;
+        }
+        bound_at(entries(&self.rows, k), author)
+    }
+
+    /// Whether the fragment of a number has an author's bound of `n` at least, where the star's is smaller.
+    pub(crate) fn has_beyond(&self, k: usize, author: u64, n: u64) -> bool
+        requires rows { AreRows self.now }
+        requires number { k < length (fragments_of self.now) }
+        requires order { in_order (entries_at (fragments_of self.now) k) ≡ true }
+        requires star { bound (entries_at (fragments_of self.now) 0) author < n }
+        ensures { result ≡ nat_le n (bound (entries_at (fragments_of self.now) k) author) }
+    {
+        // A bound that is still to be raised is the star's too.
+        n <= bound_at(entries(&self.rows, k), author)
+    }
+
+    /// The fragment of a number. It is lent, and copies nothing.
+    pub(crate) fn fragment(&self, k: usize) -> Fragment<'_>
+        requires rows { AreRows self.now }
+        requires number { k < length (fragments_of self.now) }
+        requires vector { is_vector (entries_at (fragments_of self.now) k) ≡ true }
+        ensures { result ≡ get_or (fragments_of self.now) k nothing }
+    {
+        // For its fact alone: the rows are fewer than 2 ^ 63.
+        let _count = self.rows.rows();
+        Fragment::new(self.rows.row(2 * k), entries(&self.rows, k), self.late)
+    }
+
+    // Whether each bound of a fragment is at most that of the fragment of a number here.
+    fn has(&self, k: usize, fragment: &Fragment<'_>) -> bool
+        requires rows { AreRows self.now }
+        requires number { k < length (fragments_of self.now) }
+        requires order { in_order (entries_at (fragments_of self.now) k) ≡ true }
+        ensures { result ≡ leq fragment.now.entries (entries_at (fragments_of self.now) k) }
+    {
+        for i in 0..fragment.len() {
+            let (author, n) = fragment.entry(i);
+            if self.bound(k, author.word()) < u64::from(n) {
+                return false;
+            }
+        }
+        true
+    }
+
+    /// Whether each bound of the fragment of a number is at most that of another's of its number.
+    pub(crate) fn is_leq(&self, k: usize, others: &LiveRows, l: usize) -> bool
+        requires rows { AreRows self.now }
+        requires others { AreRows others.now }
+        requires number { k < length (fragments_of self.now) }
+        requires other { l < length (fragments_of others.now) }
+        requires vector { is_vector (entries_at (fragments_of self.now) k) ≡ true }
+        requires order { in_order (entries_at (fragments_of others.now) l) ≡ true }
+        ensures { result ≡ leq (entries_at (fragments_of self.now) k) (entries_at (fragments_of others.now) l) }
+    {
+        if let (Some(rows), Some(other_rows)) = (self.settled(), others.settled()) {
+            return is_leq(entries(rows, k), entries(other_rows, l));
+        }
+        others.has(l, &self.fragment(k))
+    }
+
+    /// Raises the author's bound to `n` in each fragment, where each has one. It takes no memory, and touches no row as long
+    /// as one author's is raised again and again.
+    pub(crate) fn raise(&mut self, author: u64, n: u64)
+        requires rows { AreRows self.old }
+        requires risen { are_risen (author, n) (fragments_of self.old) ≡ true }
+        ensures { self.new ≡ rows_of (all_raised (author, n) (fragments_of self.old)) }
+    {
+        if late_of(self.late, author).is_none() {
+            settle(&mut self.rows, &mut self.late);
+        }
+        self.late = Some((author, n));
+    }
+
+    /// The rows, where each bound stands in them.
+    pub(crate) fn settled(&self) -> Option<&Rows>
+        ensures { IfSome result (λ rows. rows.now ≡ self.now) }
+    {
+        if self.late.is_some() {
+            return None;
+        }
+        Some(&self.rows)
+    }
+
+    /// Has the rows of another list, which has those that were here, in some state.
+    pub(crate) fn swap(&mut self, others: &mut Rows)
+        ensures { self.new ≡ others.old }
+    {
+        self.late = None;
+        swap(&mut self.rows, others);
+    }
+
+    /// Writes the normal form of what either side denotes, and gives its index. What is shown here stays.
+    pub(crate) fn union(
+        &mut self,
+        alloc: Global,
+        index: &[IndexEntry],
+        others: &Rows,
+        others_index: &[IndexEntry],
+        out: &mut Rows,
+    ) -> Result<Vec<IndexEntry>, AllocError>
+        requires rows { AreRows self.old }
+        requires others { AreRows others.now }
+        requires left { IsSide (fragments_of self.old) index.now }
+        requires right { IsSide (fragments_of others.now) others_index.now }
+        requires normal { is_normal (fragments_of self.old) ≡ true }
+        ensures same { self.new ≡ self.old }
+        ensures rows { OnOk result (AreRows out.new) }
+        ensures union { IfOk result (λ written. IsUnion (fragments_of self.old) index.now (fragments_of others.now) others_index.now
+            (fragments_of out.new) written.items) }
+    {
+        settle(&mut self.rows, &mut self.late);
+        union(alloc, &self.rows, index, others, others_index, out)
+    }
+
+    /// A copy of the rows, in which each bound stands.
+    pub(crate) fn to_rows(&self) -> Result<Rows, AllocError>
+        ensures { IfOk result (λ rows. rows ≡ self.now) }
+    {
+        let mut rows = self.rows.try_clone()?;
+        let mut late = self.late;
+        settle(&mut rows, &mut late);
+        Ok(rows)
+    }
+}
+
+// The bound of an author that is still to be raised.
+fn late_of(late: Option<Entry>, author: u64) -> Option<u64>
+    ensures { result ≡ spec.late_of late author }
+{
+    if let Some((raised, n)) = late {
+        if raised == author {
+            return Some(n);
+        }
+    }
+    None
+}
+
+// Raises in each row the bound that is still to be raised. Takes no memory.
+fn settle(rows: &mut Rows, late: &mut Option<Entry>)
+    requires { spec.IsLate late.old rows.old }
+    ensures rows { rows.new ≡ spec.shown late.old rows.old }
+    ensures late { late.new ≡ None }
+{
+    if let Some((author, n)) = *late {
+        raise(rows, author, n);
+        *late = None;
+    }
+}
