@@ -53,17 +53,28 @@ fn risen(alloc: Global) -> Result<Knowledge, Fail> {
     Ok(knowledge)
 }
 
+// Whether of a picture the device's `n`th version is in the vector of what is known.
+fn has(knowledge: &Knowledge, number: u32, n: u32) -> Result<bool, Fail>
+    requires { 0 < n }
+{
+    let vector = knowledge.of(picture(number)?)?;
+    Ok(vector.has(version(0, n)))
+}
+
+// Whether the fragment behind the star has two entries, up to these numbers.
+fn shows(knowledge: &Knowledge, first: u32, second: u32) -> bool {
+    if knowledge.fragments() != 2 {
+        return false;
+    }
+    let fragment = knowledge.fragment(1);
+    fragment.len() == 2 && fragment.entry(0).1 == first && fragment.entry(1).1 == second
+}
+
 #[test]
 fn a_fragment_shows_a_bound_that_rose(rt: HostRuntime) -> Result<(), Fail> {
     let knowledge = risen(rt.alloc())?;
-    assert!(rt; knowledge.fragments() == 2);
-    let seven = knowledge.fragment(1);
-    assert!(rt; seven.len() == 2);
-    assert!(rt; seven.entry(0).1 == 3 && seven.entry(1).1 == 1);
-    assert!(rt;
-        knowledge.of(picture(7)?)?.has(version(0, 3))
-            && !knowledge.of(picture(5)?)?.has(version(0, 4))
-    );
+    assert!(rt; shows(&knowledge, 3, 1));
+    assert!(rt; has(&knowledge, 7, 3)? && has(&knowledge, 5, 3)? && !has(&knowledge, 5, 4)?);
     Ok(())
 }
 
@@ -80,16 +91,31 @@ fn a_bound_that_rose_is_compared(rt: HostRuntime) -> Result<(), Fail> {
     Ok(())
 }
 
+// Whether a knowledge is the same as another once it learned all of it.
+fn is_learned(one: &mut Knowledge, other: &Knowledge) -> bool {
+    one.learn_all(other).is_ok() && one.same(other)
+}
+
+// Of picture 5 another device's first version is learned.
+fn learn_other(alloc: Global, knowledge: &mut Knowledge) -> Result<(), Fail> {
+    let first = Vector::new(alloc).with(version(1, 1))?;
+    knowledge.learn(picture(5)?, &first)?;
+    Ok(())
+}
+
 #[test]
 fn a_bound_that_rose_is_learned(rt: HostRuntime) -> Result<(), Fail> {
-    let mut knowledge = risen(rt.alloc())?;
+    let knowledge = risen(rt.alloc())?;
     let mut other = own_and_other(rt.alloc())?;
-    other.learn_all(&knowledge)?;
-    assert!(rt; other.same(&knowledge));
-    let first = Vector::new(rt.alloc()).with(version(1, 1))?;
-    knowledge.learn(picture(5)?, &first)?;
-    assert!(rt; knowledge.fragments() == 2 && knowledge.knows(picture(5)?, version(0, 3)));
-    assert!(rt; knowledge.has_all(&other) && !other.has_all(&knowledge));
+    assert!(rt; is_learned(&mut other, &knowledge));
+    Ok(())
+}
+
+#[test]
+fn a_bound_that_rose_stays_where_more_is_learned(rt: HostRuntime) -> Result<(), Fail> {
+    let mut knowledge = risen(rt.alloc())?;
+    learn_other(rt.alloc(), &mut knowledge)?;
+    assert!(rt; shows(&knowledge, 3, 1) && has(&knowledge, 5, 3)? && !has(&knowledge, 5, 4)?);
     Ok(())
 }
 
