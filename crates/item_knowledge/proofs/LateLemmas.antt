@@ -1,13 +1,13 @@
 -- Rows in which an author's bound is still to be raised, as they are shown.
 use Rattle.std.proofs.Common.{◌≡◌, ℕ, zero, suc, ◌*◌, ◌<◌, ◌≤◌, Bool, true, false, leb, ltb, eqb, cond, max, List, [], ◌∷◌, length, get_or, Option, None, Some, refl, sym, subst, ap, ◌∙◌, inl, inr, arith}
-use Rattle.std.specs.Option.{is_some}
+use Rattle.std.specs.Option.{is_some, unwrap_or}
 use Rattle.std.proofs.lemmas.Bool.{and_parts, and_from, lt-ltb, false≢true, ltb-true, le-leb, lt-leb, eq-eqb, eqb-true, ne_eqb, cases_eq}
 use Rattle.std.proofs.lemmas.Option.{none-some, cond_some}
 use Rattle.std.proofs.Math.Nat.{max-zero, zero-max}
 use Rattle.item_knowledge.specs.Tables.{keys_pass, in_order}
 use Rattle.item_knowledge.specs.Entries.{Entry, is_vector, bound, joined}
 use Rattle.item_knowledge.specs.Fragments.{Fragment, entries_at, nothing}
-use Rattle.item_knowledge.specs.Late.{late_entry, late_entries, late_of, shown, IsLate}
+use Rattle.item_knowledge.specs.Late.{late_entries, late_of, shown, IsLate}
 use Rattle.item_knowledge.specs.Raising.{raised, all_raised, is_risen, are_risen}
 use Rattle.item_knowledge.specs.Rows.{AreRows, fragments_of, rows_of}
 use Rattle.item_knowledge.proofs.EntryLemmas.{entry_of, EntryParts}
@@ -17,6 +17,9 @@ use Rattle.item_knowledge.proofs.RowLemmas.{fragments_rows, rows_read}
 use Rattle.item_knowledge.proofs.TableLemmas.{merge_left, merge_both, merge_at}
 
 -- An entry in place of the author's
+
+abbrev late_entry : Option Entry → Entry → Entry
+late_entry late x = (x.0, unwrap_or (late_of late x.0) x.1)
 
 -- where no entry is the author's, none is replaced
 none_late : (e : Entry) (es : List Entry) → keys_pass (λ k. ltb e.0 k) es ≡ true → es ≡ late_entries (Some e) es
@@ -43,7 +46,7 @@ joined_late e (x ∷ es) h =
           let here : bound (x ∷ es) e.0 ≡ x.1 = rw (eq-eqb x.0 e.0 same) refl in
           let least = h.most in
           let most : max x.1 e.1 ≡ e.1 = omega arith in
-          let comes : late_entry (Some e) x ≡ e = rw (eq-eqb e.0 x.0 (sym same)) refl in
+          let comes : late_entry (Some e) x ≡ e = rw (eq-eqb e.0 x.0 (sym same)) (λ i. (same i, e.1)) in
           merge_both (λ k. k) (λ k j. max k j) (λ j. j) x es e [] same p.0
           ∙ (λ i. (same i, most i) ∷ joined_none es p.1 i)
           ∙ (λ i. sym comes i ∷ none_late e es (subst (λ k. keys_pass (λ j. ltb k j) es ≡ true) same p.0) i)
@@ -81,9 +84,9 @@ late_at late [] i l = absurd (omega arith)
 late_at late (x ∷ es) zero l = refl
 late_at late (x ∷ es) (suc i) l = late_at late es i (omega arith)
 
-pub shown_parts : (late : Option Entry) (es : List Entry) (i : ℕ) (entry result : Entry) → is_vector (late_entries late es) ≡ true → i < length (late_entries late es) → entry ≡ get_or es i (0, 0) → result ≡ late_entry late entry → EntryParts result
-shown_parts late es i entry result h below is shows =
-    subst EntryParts (late_at late es i (subst (λ n. i < n) (late_length late es) below) ∙ (ap (late_entry late) (sym is) ∙ sym shows)) (entry_of (late_entries late es) i h below)
+pub shown_parts : (late : Option Entry) (es : List Entry) (i : ℕ) (entry : Entry) (number : ℕ) → is_vector (late_entries late es) ≡ true → i < length (late_entries late es) → entry ≡ get_or es i (0, 0) → number ≡ unwrap_or (late_of late entry.0) entry.1 → EntryParts (entry.0, number)
+shown_parts late es i entry number h below is shows =
+    subst EntryParts (late_at late es i (subst (λ n. i < n) (late_length late es) below) ∙ (ap (late_entry late) (sym is) ∙ (λ j. (entry.0, sym shows j)))) (entry_of (late_entries late es) i h below)
 
 abbrev pub IsRisenAt : Option Entry → List Entry → Type 0
 IsRisenAt None es = Unit {0}
@@ -203,10 +206,8 @@ late_again e n (x ∷ es) = λ i. one x i ∷ late_again e n es i
     one : (x : Entry) → late_entry (Some (e.0, n)) (late_entry (Some e) x) ≡ late_entry (Some (e.0, n)) x
     one x = elim (cases_eq e.0 x.0) [
       | inl same ↦
-          let comes : late_entry (Some e) x ≡ e = rw (eq-eqb e.0 x.0 same) refl in
-          let here : late_entry (Some (e.0, n)) e ≡ (e.0, n) = rw (eq-eqb e.0 e.0 refl) refl in
-          let there : late_entry (Some (e.0, n)) x ≡ (e.0, n) = rw (eq-eqb e.0 x.0 same) refl in
-          ap (late_entry (Some (e.0, n))) comes ∙ (here ∙ sym there)
+          let again : late_of (Some (e.0, n)) x.0 ≡ Some n = rw (eq-eqb e.0 x.0 same) refl in
+          λ i. (x.0, (ap (λ o. unwrap_or o (unwrap_or (late_of (Some e) x.0) x.1)) again ∙ sym (ap (λ o. unwrap_or o x.1) again)) i)
       | inr other ↦
           let stays : late_entry (Some e) x ≡ x = rw (ne_eqb e.0 x.0 other) refl in
           ap (late_entry (Some (e.0, n))) stays

@@ -1,7 +1,4 @@
-ghost use Rattle.std.specs.Prelude.{◌≡◌};
-ghost use Rattle.item_knowledge.specs.Late.{late_entry};
-
-use crate::live::Entry;
+use crate::live::{Entry, late_of};
 use crate::search::entry_at;
 use photo_version::Author;
 use std::marker::Model;
@@ -81,19 +78,8 @@ impl<'a> Fragment<'a> {
         ensures number { result.1 ≡ (get_or self.now.entries i (0, 0)).1 }
         ensures above_zero { 0 < result.1 }
     {
-        let (word, number) = shown(self.late, entry_at(self.row, i));
+        let (word, raised) = entry_at(self.row, i);
+        let number = late_of(self.late, word).unwrap_or(raised);
         (Author::of_word(word), number as u32)
     }
-}
-
-// An entry as it is shown, where one author's is another.
-fn shown(late: Option<Entry>, entry: Entry) -> Entry
-    ensures { result ≡ late_entry late entry }
-{
-    if let Some(other) = late {
-        if other.0 == entry.0 {
-            return other;
-        }
-    }
-    entry
 }

@@ -153,7 +153,7 @@ impl LiveRows {
         Some(&self.rows)
     }
 
-    /// Has the rows of another list, which has those that were here, in some state.
+    /// Takes the rows of another list, in which each bound stands, for those that were here.
     pub(crate) fn swap(&mut self, others: &mut Rows)
         ensures { self.new ≡ others.old }
     {
@@ -195,8 +195,8 @@ impl LiveRows {
     }
 }
 
-// The bound of an author that is still to be raised.
-fn late_of(late: Option<Entry>, author: u64) -> Option<u64>
+/// The bound of an author that is still to be raised.
+pub(crate) fn late_of(late: Option<Entry>, author: u64) -> Option<u64>
     ensures { result ≡ spec.late_of late author }
 {
     if let Some((raised, n)) = late {
