@@ -65,7 +65,8 @@ impl FragmentArena {
         Ok(())
     }
 
-    /// One row more, at the end; gives its place, and leaves nothing reserved. A refusal changes nothing.
+    /// One row more, at the end; gives its place, and leaves nothing reserved. A refusal changes nothing. A row of 2^32 words
+    /// (32 GiB) and more is refused like one for which there is no memory.
     pub fn place(&mut self, words: &[u64]) -> Result<Row, AllocError>
         ensures row { IfOk result (λ row. row ≡ length self.old.rows) }
         ensures placed { OnOk result (self.new ≡ arena (self.old.rows ++ words.now ∷ []) 0 0) }

@@ -2,6 +2,9 @@ use fragment_arena::{FragmentArena, Row};
 use std::alloc::{AllocError, Global};
 use std::marker::Model;
 
+// So many words at most are reserved ahead (2 GiB); rows beyond them find room as they come.
+const MOST_AHEAD: usize = 0x1000_0000;
+
 /// Rows of words, each at its place from 0, in an arena.
 #[derive(Debug, Drop)]
 pub(crate) struct Rows {
@@ -42,7 +45,7 @@ impl Rows {
         ensures { IfOk result (λ rows. rows ≡ []) }
     {
         let mut arena = FragmentArena::new(alloc);
-        arena.reserve(words, count)?;
+        arena.reserve(words.min(MOST_AHEAD), count)?;
         Ok(Rows {
             alloc,
             arena,
@@ -54,7 +57,7 @@ impl Rows {
     pub(crate) fn reserve(&mut self, count: usize, words: usize) -> Result<(), AllocError>
         ensures { self.new ≡ self.old }
     {
-        self.arena.reserve(words, count)?;
+        self.arena.reserve(words.min(MOST_AHEAD), count)?;
         Ok(())
     }
 

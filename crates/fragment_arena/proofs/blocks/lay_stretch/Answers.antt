@@ -32,7 +32,7 @@ push_moved-requires-clause-fits c =
     let written = ap length c.write.ensures.words ∙ length-append c.index_mut-last.result.now.words c.slice.result.now in
     let cut_off = ap length c.slice.ensures ∙ length-take c.args.words (drop first.from c.index-others-first.result.words) in
     let rest = length-drop first.from c.index-others-first.result.words in
-    omega (arith, there, is, written, cut_off, rest, c.requires.counted, c.len-at.ensures, c.len-len.ensures, c.len-len.type_inv)
+    omega (arith, there, is, written, cut_off, rest, c.requires.counted, c.len-at.ensures, c.capacity-capacity.ensures.value, c.capacity-capacity.ensures.fits)
 
 there : (c : After-push_moved) → c.len-block.result - 1 < length c.args.blocks.now.items
 there c = omega (arith, c.len-block.ensures, c.args.blocks.now.ok.0, c.requires.block)

@@ -18,6 +18,7 @@ invariant_of-result c =
       words_are_there = omega arith;
       rows_are_there = fits;
       block_is_there = λ some. absurd (omega (arith, some));
+      few = omega (arith, copies.counted, c.self.invariant.few);
     }
 
 pub returns : goal.returns
