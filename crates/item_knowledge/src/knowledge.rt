@@ -206,6 +206,14 @@ impl Knowledge {
         Ok(())
     }
 
+    /// Puts a bound that waits beside the rows into them, so that a union with this knowledge as the other side needs no copy
+    /// of it. What is known and what is staged stay. It takes no memory.
+    pub fn settle_bounds(&mut self)
+        ensures { self.new ≡ self.old }
+    {
+        self.live.settle();
+    }
+
     /// Whether something is staged.
     pub fn staged(&self) -> bool
         ensures there { result ≡ is_some self.now.staged }

@@ -143,6 +143,13 @@ impl LiveRows {
         self.late = Some((author, n));
     }
 
+    /// Raises in each row the bound that is still to be raised. It takes no memory.
+    pub(crate) fn settle(&mut self)
+        ensures { self.new ≡ self.old }
+    {
+        settle(&mut self.rows, &mut self.late);
+    }
+
     /// The rows, where each bound stands in them.
     pub(crate) fn settled(&self) -> Option<&Rows>
         ensures { IfSome result (λ rows. rows.now ≡ self.now) }
