@@ -5,7 +5,10 @@ ghost use Rattle.photo_device.specs.Learning.{IsOwnLearned};
 
 use crate::prepared::Prepared;
 use crate::takes::{rooms, take_in, take_others};
-use crate::{Change, ChangeFault, Conflict, Held, HeldSet, NarrowFault, Place, conflicts};
+use crate::{
+    Change, ChangeFault, Conflict, Held, HeldList, HeldSet, NarrowFault, Place, VersionList,
+    conflicts,
+};
 use item_knowledge::Knowledge;
 use photo_filter_rules::{Filter, covers};
 use photo_record::{PicNo, Record};
@@ -316,20 +319,49 @@ impl Device {
         ensures unstaged { OnErr result (self.new.staged ≡ None) }
         ensures returned { IfErr result (λ e. e.0 ≡ change) }
     {
+        let Change { drops, takes, gain } = change;
+        if let Err((drops, takes, refused)) = self.stage_lent(drops, takes, &gain, room) {
+            return Err((Change { drops, takes, gain }, refused));
+        }
+        Ok(())
+    }
+
+    /// Prepares a change as `stage` does, where what is learned is lent, so that nobody has to copy it.
+    ///
+    /// Its only error is want of memory (also for more versions than can be counted), which leaves nothing staged and gives
+    /// both lists back.
+    pub fn stage_lent(
+        &mut self,
+        drops: VersionList,
+        takes: HeldList,
+        gain: &Knowledge,
+        room: usize,
+    ) -> Result<(), (VersionList, HeldList, AllocError)>
+        requires drops { AllByRecursion (λ v. is_some (find_version v (self.old.store ++ self.old.out)) ≡ true) drops }
+        requires new { AllByRecursion (λ h. find_version h.version (self.old.store ++ self.old.out) ≡ None) takes }
+        requires distinct { (v : versions.Version) → count_of v takes ≤ 1 }
+        requires earlier { AllByRecursion HasEarlier takes }
+        requires known { AllByRecursion (IsKnownBy gain.now.known) takes }
+        requires own { (p n : ℕ) → 0 < p → knows gain.now.known p (versions.version self.old.author n) ≡ true → n ≤ self.old.counter }
+        ensures staged { OnOk result (HasStaged drops takes gain.now.known room self.old self.new) }
+        ensures err { OnErr result (IsAsItWas self.old self.new) }
+        ensures unstaged { OnErr result (self.new.staged ≡ None) }
+        ensures drops_back { IfErr result (λ e. e.0 ≡ drops) }
+        ensures takes_back { IfErr result (λ e. e.1 ≡ takes) }
+    {
         self.prepared = None;
-        let Some(more) = change.takes.len().checked_add(room) else {
-            return Err((change, AllocError));
+        let Some(more) = takes.len().checked_add(room) else {
+            return Err((drops, takes, AllocError));
         };
         let (in_store, in_out) = match rooms(&mut self.store, &mut self.out, more) {
             Ok(rooms) => rooms,
-            Err(refused) => return Err((change, refused)),
+            Err(refused) => return Err((drops, takes, refused)),
         };
         // For its fact alone: a knowledge is in normal form.
-        let _fragments = change.gain.fragments();
-        if let Err(refused) = self.knowledge.stage(&change.gain) {
-            return Err((change, refused));
+        let _fragments = gain.fragments();
+        if let Err(refused) = self.knowledge.stage(gain) {
+            return Err((drops, takes, refused));
         }
-        let Change { drops, takes, .. } = change;
         self.prepared = Some(Prepared {
             drops,
             takes,
@@ -338,6 +370,13 @@ impl Device {
             in_out,
         });
         Ok(())
+    }
+
+    /// Makes its knowledge one that a union needs no copy of, as `Knowledge::settle_bounds` does. It takes no memory.
+    pub fn settle_bounds(&mut self)
+        ensures { self.new ≡ self.old }
+    {
+        self.knowledge.settle_bounds();
     }
 
     /// Whether a change is staged.

@@ -3,26 +3,26 @@ use Rattle.std.specs.Prelude.{None}
 use Rattle.item_knowledge.specs.Staged.{IsStagedUnion}
 use Rattle.photo_device.specs.Device.{Kept}
 use Rattle.photo_device.proofs.Staged.{MayStage, stages, has_staged}
-use Rattle.photo_device.proofs.device.Device.stage.Goals as goal
+use Rattle.photo_device.proofs.device.Device.stage_lent.Goals as goal
 
 pub invariant_of-self-2 : goal.invariant_of-self-2
 invariant_of-self-2 c =
-    let may = subst (MayStage c.args.change.takes c.args.change.gain.known) (sym c.self.view_is) (record {
+    let may = subst (MayStage c.args.takes c.args.gain.now.known) (sym c.self.view_is) (record {
       new = c.requires.new;
       distinct = c.requires.distinct;
       earlier = c.requires.earlier;
       known = c.requires.known;
       own = c.requires.own;
     }) in
-    let more : c.in-Some.more ≡ length c.args.change.takes + c.args.room = search rules in
+    let more : c.in-Some.more ≡ length c.args.takes + c.args.room = search rules in
     rw (c.in-Ok.ensures.store_kept, c.in-Ok.ensures.out_kept)
-    (stages c.stage.new.self (record { drops = c.args.change.drops; takes = c.args.change.takes; room = c.args.room; in_store = c.in-Ok.rooms.0; in_out = c.in-Ok.rooms.1 }) c.args.change.gain.known _ c.stage.ensures.known c.in_default-stage.ensures.staged c.fragments-fragments.ensures.normal may
+    (stages c.stage.new.self (record { drops = c.args.drops; takes = c.args.takes; room = c.args.room; in_store = c.in-Ok.rooms.0; in_out = c.in-Ok.rooms.1 }) c.args.gain.now.known _ c.stage.ensures.known c.in_default-stage.ensures.staged c.fragments-fragments.ensures.normal may
     c.in-Ok.ensures.store (c.in-Ok.ensures.store_more ∙ more) c.in-Ok.ensures.out (c.in-Ok.ensures.out_more ∙ more) c.self.invariant.device)
 
 pub returns-clause-staged : goal.returns-clause-staged
 returns-clause-staged c =
-    has_staged c.stage.new.self.staged (record { drops = c.args.change.drops; takes = c.args.change.takes; room = c.args.room; in_store = c.in-Ok.rooms.0; in_out = c.in-Ok.rooms.1 }) c.args.change.gain.known c.args.self.now _
-    (subst (λ (d : Kept). IsStagedUnion c.stage.new.self.staged d.knowledge c.args.change.gain.known) c.self.view_is c.in_default-stage.ensures.staged) refl
+    has_staged c.stage.new.self.staged (record { drops = c.args.drops; takes = c.args.takes; room = c.args.room; in_store = c.in-Ok.rooms.0; in_out = c.in-Ok.rooms.1 }) c.args.gain.now.known c.args.self.now _
+    (subst (λ (d : Kept). IsStagedUnion c.stage.new.self.staged d.knowledge c.args.gain.now.known) c.self.view_is c.in_default-stage.ensures.staged) refl
     ((λ i. record {
       author = c.self.inside.author;
       tree = c.self.inside.filter;
