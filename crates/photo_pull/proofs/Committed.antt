@@ -1,21 +1,21 @@
 -- What a pull stages on the target, and commits with what the source handed over.
-use Rattle.std.proofs.Common.{◌≡◌, ℕ, suc, ◌+◌, ◌<◌, ◌≤◌, Bool, true, false, cond, ◌||◌, List, [], ◌∷◌, ◌++◌, length, refl, sym, ap, ◌∙◌, subst, arith}
-use Rattle.std.specs.Prelude.{filter, Option, Some, None, IfSome, is_some}
-use Rattle.std.specs.List.{AllByRecursion, filter_map, cons_option}
+use Rattle.std.proofs.Common.{◌≡◌, ℕ, suc, ◌+◌, ◌≤◌, Bool, true, false, cond, ◌||◌, List, [], ◌∷◌, ◌++◌, length, refl, sym, ap, ◌∙◌, subst, arith}
+use Rattle.std.specs.Prelude.{filter, Option, Some, IfSome, is_some}
+use Rattle.std.specs.List.{AllByRecursion, cons_option}
 use Rattle.std.proofs.Math.Bool.{or-true}
 use Rattle.photo_version.specs.Version.{Version, same_version}
 use Rattle.item_knowledge.specs.Fragments.{Fragment, knows}
 use Rattle.photo_device.specs.declared.held.Held.{Held}
 use Rattle.photo_device.specs.Held.{find_version, count_of, times_in, helds_at, entries_of}
-use Rattle.photo_device.specs.Device.{Kept, Staging, ModelDevice, Shows, IsAsItWas, changed, unstaged}
+use Rattle.photo_device.specs.Device.{Kept, Staging, ModelDevice, Shows, changed, unstaged}
 use Rattle.photo_device.specs.Own.{HasEarlier, IsKnownBy}
 use Rattle.photo_device.specs.Staging.{HasStaged, MayHand}
 use Rattle.photo_device.proofs.AllLemmas.{all_back}
-use Rattle.photo_device.proofs.Counts.{count_of-append, count_of-filter}
+use Rattle.photo_device.proofs.Counts.{count_of-append}
 use Rattle.photo_device.proofs.OwnLemmas.{known_later}
 use Rattle.photo_device.proofs.Changed.{all_new}
 use Rattle.photo_device.proofs.Staged.{shows_alike}
-use Rattle.photo_pull.specs.OnHeld.{is_new, new_waiting, taken_stored, versions}
+use Rattle.photo_pull.specs.OnHeld.{new_waiting, taken_stored, versions}
 use Rattle.photo_pull.proofs.Ready.{AreReady}
 use Rattle.photo_pull.proofs.Asked.{takes_new, takes_distinct, waiting_earlier, waiting_found}
 use Rattle.photo_pull.proofs.Changes.{takes}

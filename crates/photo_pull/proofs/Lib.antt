@@ -10,3 +10,4 @@ pub mod TableLemmas
 pub mod Findings
 pub mod Moved
 mod Committed
+mod StagedFound

@@ -1,49 +1,42 @@
-//! What a target is to drop, to take and to learn.
-ghost use Rattle.std.specs.Prelude.{◌≡◌, ℕ, ◌+◌, ◌<◌, ◌≤◌, ◌++◌, true, [], length, if◌then◌else◌, vec_len, vec_capacity, IfOk};
+//! What a target is to drop, to take and to learn, and its staging.
+ghost use Rattle.std.specs.Prelude.{◌≡◌, ◌+◌, ◌≤◌, ◌++◌, true, None, List, [], length, vec_len, vec_capacity, IfOk, OnOk, OnErr};
 ghost use Rattle.std.specs.List.Sorted.{IsPermutation};
 ghost use Rattle.photo_version.specs.Version as spec;
 ghost use Rattle.photo_version.specs.Vector.{denotes};
-ghost use Rattle.item_knowledge.specs.Fragments.{knows};
+ghost use Rattle.item_knowledge.specs.Fragments.{Fragment};
 ghost use Rattle.item_knowledge.specs.Tables.{in_order, at};
+ghost use Rattle.photo_device.specs.Device.{IsAsItWas};
+ghost use Rattle.photo_device.specs.Staging.{HasStaged};
 ghost use Rattle.photo_pull.specs.OnHeld.{versions};
+ghost use Rattle.photo_pull.specs.Findings.{IsGain, gain_found, drops_found, MayStage, HasStagedGain, HasStagedFound};
 
 use crate::filtered::push_versions;
 use crate::finding::Finding;
 use item_knowledge::Knowledge;
-use photo_device::{Change, Held, ItemList};
+use photo_device::{Device, Held, HeldList, VersionList};
 use photo_record::PicNo;
 use photo_version::{Vector, Version};
 use std::alloc::{AllocError, Global};
 
-// All of a knowledge where the answer is yes, and what a table says otherwise.
-fn gain_of(
-    alloc: Global,
-    learned: bool,
-    taught: &Knowledge,
-    told: &[(PicNo, Vector)],
-) -> Result<Knowledge, AllocError>
+// What a table says.
+fn gain_of(alloc: Global, told: &[(PicNo, Vector)]) -> Result<Knowledge, AllocError>
     requires { in_order told.now ≡ true }
-    ensures { IfOk result (λ gain. (p : ℕ) (v : spec.Version) → 0 < p
-        → knows gain.known p v ≡ (if learned then knows taught.now.known p v else denotes (at [] told.now p) v)) }
+    ensures { IfOk result (λ gain. IsGain gain.known (λ p. denotes (at [] told.now p))) }
 {
-    if learned {
-        let all = taught.try_clone()?;
-        return Ok(all);
-    }
     let mut gain = Knowledge::new(alloc)?;
     gain.learn_table(told)?;
     Ok(gain)
 }
 
 // The versions of what a device drops, in order.
-fn drops_of(alloc: Global, stored: &[Held], waiting: &[Held]) -> Result<Vec<Version>, AllocError>
-    ensures { IfOk result (λ drops. IsPermutation (versions stored.now ++ versions waiting.now) drops.items) }
+fn drops_of(alloc: Global, stored: &[Held], waiting: &[Held]) -> Result<VersionList, AllocError>
+    ensures { IfOk result (λ drops. IsPermutation (versions stored.now ++ versions waiting.now) drops) }
 {
     let mut drops = Vec::new(alloc);
     push_versions(&mut drops, stored)?;
     push_versions(&mut drops, waiting)?;
     drops.sort_unstable();
-    Ok(drops)
+    Ok(VersionList::new(drops))
 }
 
 /// The versions that the source hands over, in the order of its out, and an empty list with room for them.
@@ -61,24 +54,78 @@ pub(crate) fn handed_of(
     Ok((asked, handed))
 }
 
-/// What the target is to drop, to take of the source's store and to learn after what was found.
-pub(crate) fn change_for(
+// Stages a change by which the target learns all that the source knows. The source lends it, so it isn't copied.
+fn stage_taught(
+    drops: VersionList,
+    takes: HeldList,
+    target: &mut Device,
+    source: &mut Device,
+    room: usize,
+) -> Result<(), AllocError>
+    requires may { MayStage drops takes source.old.knowledge target.old }
+    ensures staged { OnOk result (HasStaged drops takes source.old.knowledge room target.old target.new) }
+    ensures err { OnErr result (IsAsItWas target.old target.new) }
+    ensures unstaged { OnErr result (target.new.staged ≡ None) }
+    ensures source { source.new ≡ source.old }
+{
+    source.settle_bounds();
+    if let Err((_, _, refused)) = target.stage_lent(drops, takes, source.knowledge(), room) {
+        return Err(refused);
+    }
+    Ok(())
+}
+
+// Stages a change by which the target learns what it is told.
+fn stage_told(
+    alloc: Global,
+    drops: VersionList,
+    takes: HeldList,
+    told: &[(PicNo, Vector)],
+    target: &mut Device,
+    room: usize,
+) -> Result<(), AllocError>
+    requires order { in_order told.now ≡ true }
+    requires unstaged { target.old.staged ≡ None }
+    requires may { (gain : List Fragment) → IsGain gain (λ p. denotes (at [] told.now p)) → MayStage drops takes gain target.old }
+    ensures staged { OnOk result (HasStagedGain drops takes (λ p. denotes (at [] told.now p)) room target.old target.new) }
+    ensures err { OnErr result (IsAsItWas target.old target.new) }
+    ensures unstaged { OnErr result (target.new.staged ≡ None) }
+{
+    let gain = gain_of(alloc, told)?;
+    if let Err((_, _, refused)) = target.stage_lent(drops, takes, &gain, room) {
+        return Err(refused);
+    }
+    Ok(())
+}
+
+/// Stages on the target what was found, with room for so many versions that are handed over. Its only error is want of
+/// memory, which leaves nothing staged.
+pub(crate) fn stage_found(
     alloc: Global,
     finding: Finding,
-    taught: &Knowledge,
-) -> Result<Change, AllocError>
-    requires { in_order finding.told.items ≡ true }
-    ensures drops { IfOk result
-        (λ change. IsPermutation (versions finding.dropped.stored.items ++ versions finding.dropped.waiting.items) change.drops) }
-    ensures takes { IfOk result (λ change. change.takes ≡ finding.taken.items) }
-    ensures gain { IfOk result (λ change. (p : ℕ) (v : spec.Version) → 0 < p → knows change.gain.known p v
-        ≡ (if finding.learned then knows taught.now.known p v else denotes (at [] finding.told.items p) v)) }
+    target: &mut Device,
+    source: &mut Device,
+    room: usize,
+) -> Result<(), AllocError>
+    requires order { in_order finding.told.items ≡ true }
+    requires unstaged { target.old.staged ≡ None }
+    requires may { (drops : List spec.Version) (gain : List Fragment) → IsPermutation (drops_found finding) drops
+        → IsGain gain (gain_found source.old finding) → MayStage drops finding.taken.items gain target.old }
+    ensures staged { OnOk result (HasStagedFound finding room source.old target.old target.new) }
+    ensures err { OnErr result (IsAsItWas target.old target.new) }
+    ensures unstaged { OnErr result (target.new.staged ≡ None) }
+    ensures source { source.new ≡ source.old }
 {
     let drops = drops_of(alloc, &finding.dropped.stored, &finding.dropped.waiting)?;
-    let gain = gain_of(alloc, finding.learned, taught, &finding.told)?;
-    Ok(Change {
-        drops: ItemList::new(drops),
-        takes: ItemList::new(finding.taken),
-        gain,
-    })
+    let Finding {
+        learned,
+        taken,
+        told,
+        ..
+    } = finding;
+    let takes = HeldList::new(taken);
+    if learned {
+        return stage_taught(drops, takes, target, source, room);
+    }
+    stage_told(alloc, drops, takes, &told, target, room)
 }

@@ -8,7 +8,7 @@ ghost use Rattle.photo_device.specs.Device.{ModelDevice, Shows, IsAsItWas};
 ghost use Rattle.photo_pull.specs.Pull.{pulled, handed_over, counts_of};
 
 use crate::PullCounts;
-use crate::change::{change_for, handed_of};
+use crate::change::{handed_of, stage_found};
 use crate::finding::found_between;
 use photo_device::Device;
 use std::alloc::{AllocError, Global};
@@ -67,10 +67,7 @@ fn pull_between(
         return Ok(counts);
     }
     let (asked, mut handed) = handed_of(alloc, &finding)?;
-    let change = change_for(alloc, finding, source.knowledge())?;
-    if let Err((_, refused)) = target.stage(change, asked.len()) {
-        return Err(refused);
-    }
+    stage_found(alloc, finding, target, source, asked.len())?;
     source.hand_over(&asked, &mut handed);
     target.commit(handed);
     Ok(counts)
