@@ -10,6 +10,7 @@ use crate::knowledges::told;
 use crate::records::rated;
 use crate::runs::runs_command;
 use crate::verdict::{Verdict, judged, mark};
+use item_knowledge::Knowledge;
 use photo_device::{
     Change, ChangeFault, Device, Held, HeldList, HeldSet, NarrowFault, Place, VersionList,
 };
@@ -33,6 +34,7 @@ pub fn verdict(alloc: Global, call: &str) -> Option<Verdict> {
 fn verdict_on_others(alloc: Global, call: &str) -> Option<Verdict> {
     match call {
         "Device::stage" => on_device(alloc, 2, Call::Stage),
+        "Device::stage_lent" => on_device(alloc, 2, Call::StageLent),
         "Device::narrow" => on_device(alloc, 2, Call::Narrow),
         "Device::conflicts" => conflicts(alloc),
         "Held::try_clone" => on_device(alloc, 1, Call::CopyHeld),
@@ -47,6 +49,7 @@ enum Call {
     Edit,
     Remove,
     Stage,
+    StageLent,
     Narrow,
     CopyHeld,
     List,
@@ -83,6 +86,7 @@ fn calls(alloc: Global, device: &mut Device, call: Call) -> Option<bool> {
         Call::Make => makes(alloc, device),
         Call::Edit => edits(alloc, device),
         Call::Remove => removes(alloc, device),
+        Call::StageLent => stages_lent(alloc, device),
         Call::CopyHeld => copies_first(alloc, device.store()),
         Call::Command => runs_command(alloc, device),
         _ => lists(alloc, device.store()),
@@ -290,6 +294,37 @@ fn is_change(alloc: Global, change: &Change) -> bool {
             change.gain.same(&gain) && change.drops.is_empty() && change.takes.is_empty()
         }
         None => false,
+    }
+}
+
+// Lends a device three versions of another one's, and has it take and give up nothing.
+fn stages_lent(alloc: Global, device: &mut Device) -> Option<bool> {
+    let gain = told(alloc, 7, 3)?;
+    if device.author().value() != 0 {
+        return None;
+    }
+    stages_gain(alloc, device, &gain)
+}
+
+// None where memory was wanted, nothing is staged, and both lists came back.
+fn stages_gain(alloc: Global, device: &mut Device, gain: &Knowledge) -> Option<bool>
+    requires zero { device.old.author.device ≡ 0 }
+    requires gain { (p : ℕ) (v : versions.Version) → 0 < p
+        → knows gain.now.known p v ≡ ((7 == p) && denotes ((author 1, 3) ∷ []) v) }
+{
+    let drops = VersionList::new(Vec::new(alloc));
+    let takes = HeldList::new(Vec::new(alloc));
+    mark(alloc);
+    let done = device.stage_lent(drops, takes, gain, 2);
+    mark(alloc);
+    match done {
+        Ok(()) => Some(device.staged()),
+        Err((drops, takes, _)) => {
+            if device.staged() || !drops.is_empty() || !takes.is_empty() {
+                return Some(false);
+            }
+            None
+        }
     }
 }
 

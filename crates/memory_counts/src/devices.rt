@@ -24,14 +24,15 @@ fn device(alloc: Global) -> Option<Device> {
     Some(device)
 }
 
-/// `held` and the readers of a device.
+/// `held` and the readers of a device, and `settle_bounds`, which first finds a bound that waits.
 pub fn answer(alloc: Global, times: u32) -> Option<bool> {
-    let device = device(alloc)?;
-    Some(answer_of(&device, times))
+    let mut device = device(alloc)?;
+    Some(answer_of(&mut device, times))
 }
 
-fn answer_of(device: &Device, times: u32) -> bool {
+fn answer_of(device: &mut Device, times: u32) -> bool {
     for _ in 0..times {
+        device.settle_bounds();
         if !has_parts(device) || !has_last(device) {
             return false;
         }
