@@ -214,6 +214,12 @@ impl Knowledge {
         self.live.settle();
     }
 
+    /// Whether no bound waits beside the rows.
+    #[cfg(test)]
+    pub(crate) fn has_settled(&self) -> bool {
+        self.live.settled().is_some()
+    }
+
     /// Whether something is staged.
     pub fn staged(&self) -> bool
         ensures there { result ≡ is_some self.now.staged }

@@ -78,6 +78,17 @@ fn a_fragment_shows_a_bound_that_rose(rt: HostRuntime) -> Result<(), Fail> {
     Ok(())
 }
 
+// No clause tells of it, since what is known stays.
+#[test]
+fn a_bound_that_waits_is_put_into_the_rows(rt: HostRuntime) -> Result<(), Fail> {
+    let mut knowledge = own_and_other(rt.alloc())?;
+    knowledge.raise_own(version(0, 2));
+    assert!(rt; !knowledge.has_settled());
+    knowledge.settle_bounds();
+    assert!(rt; knowledge.has_settled() && has(&knowledge, 7, 2)? && !has(&knowledge, 7, 3)?);
+    Ok(())
+}
+
 #[test]
 fn a_bound_that_rose_is_compared(rt: HostRuntime) -> Result<(), Fail> {
     let knowledge = risen(rt.alloc())?;
