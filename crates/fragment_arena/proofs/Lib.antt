@@ -6,3 +6,4 @@ pub mod RowLemmas
 pub mod RunLemmas
 pub mod WrittenLemmas
 mod StretchLemmas
+mod PairLemmas

@@ -104,6 +104,23 @@ impl FragmentArena {
         Row::at(place)
     }
 
+    /// Two rows more, at the end, in room that was reserved: one of a single word, and one of others; gives the place of the
+    /// second. Takes no memory.
+    pub fn place_reserved_pair(&mut self, word: u64, words: &[u64]) -> Row
+        requires words { length words.now + 1 ≤ self.old.reserved_words }
+        requires slots { 2 ≤ self.old.reserved_rows }
+        ensures row { result ≡ length self.old.rows + 1 }
+        ensures rows { self.new.rows ≡ (self.old.rows ++ (word ∷ []) ∷ []) ++ words.now ∷ [] }
+        ensures words { self.new.reserved_words + (length words.now + 1) ≡ self.old.reserved_words }
+        ensures slots { self.new.reserved_rows + 2 ≡ self.old.reserved_rows }
+    {
+        self.reserved_words -= words.len() + 1;
+        self.reserved_rows -= 2;
+        let place = self.spans.len() + 1;
+        blocks::lay_pair(&mut self.blocks, &mut self.spans, word, words);
+        Row::at(place)
+    }
+
     /// The rows of another arena from one place up to another, at the end, in room that was reserved. Takes no memory.
     pub fn place_run(&mut self, other: &FragmentArena, from: usize, to: usize)
         requires order { from ≤ to }

@@ -38,6 +38,41 @@ fn rows_stand_at_their_places(rt: HostRuntime) -> Result<(), Fail> {
     Ok(())
 }
 
+// Whether pairs of rows stand where they were placed, up to the very last of what was reserved.
+fn places_pairs(arena: &mut FragmentArena) -> Option<bool> {
+    arena.place(&[4]).ok()?;
+    arena.reserve(6, 4).ok()?;
+    let second = arena.place_reserved_pair(11, &[12, 13]);
+    let placed = second.place() == 2 && has_row(arena, 1, &[11]) && has_row(arena, 2, &[12, 13]);
+    let left = arena.has_reserved(3) && !arena.has_reserved(4);
+    let last = arena.place_reserved_pair(14, &[15, 16]);
+    let full = last.place() == 4 && arena.rows() == 5 && !arena.has_reserved(0);
+    let first = has_row(arena, 0, &[4]) && has_row(arena, 1, &[11]) && has_row(arena, 2, &[12, 13]);
+    let behind = has_row(arena, 3, &[14]) && has_row(arena, 4, &[15, 16]);
+    Some(placed && left && full && first && behind)
+}
+
+// Whether the second row of a pair may have no words, where there is room for one word alone.
+fn places_a_short_pair(arena: &mut FragmentArena) -> Option<bool> {
+    arena.clear();
+    arena.reserve(1, 2).ok()?;
+    let row = arena.place_reserved_pair(21, &[]);
+    Some(
+        row.place() == 1 && arena.rows() == 2 && has_row(arena, 0, &[21]) && has_row(arena, 1, &[]),
+    )
+}
+
+fn pairs_are_placed(alloc: Global) -> bool {
+    let mut arena = FragmentArena::new(alloc);
+    places_pairs(&mut arena) == Some(true) && places_a_short_pair(&mut arena) == Some(true)
+}
+
+#[test]
+fn pairs_stand_at_their_places(rt: HostRuntime) -> Result<(), Fail> {
+    assert!(rt; pairs_are_placed(rt.alloc()));
+    Ok(())
+}
+
 // Places rows of 0 to 299 words, each of its own number.
 fn place_stairs(alloc: Global, arena: &mut FragmentArena) -> Result<(), AllocError> {
     for i in 0..300 {
@@ -148,6 +183,85 @@ fn words_are_written_over(alloc: Global) -> bool {
 #[test]
 fn a_word_is_written_over(rt: HostRuntime) -> Result<(), Fail> {
     assert!(rt; words_are_written_over(rt.alloc()));
+    Ok(())
+}
+
+// Runs of the stairs, each with its first row, the row behind its last one, and its words. The first blocks have 32, 64,
+// 128 and 256 words, so that they begin with the rows 0, 8, 14 and 21.
+const RUNS: &[(usize, usize, usize)] = &[
+    (0, 0, 0),
+    (9, 9, 0),
+    (300, 300, 0),
+    (0, 8, 28),
+    (8, 14, 63),
+    (9, 13, 42),
+    (14, 15, 14),
+    (13, 15, 27),
+    (8, 21, 182),
+    (7, 22, 210),
+    (299, 300, 299),
+    (0, 300, 44_850),
+];
+
+// Whether rows of two arenas have the same words, so many from one place on in the one and from another in the other.
+fn are_same(
+    arena: &FragmentArena,
+    first: usize,
+    other: &FragmentArena,
+    from: usize,
+    count: usize,
+) -> bool {
+    for i in 0..count {
+        let (Some(place), Some(there)) = (first.checked_add(i), from.checked_add(i)) else {
+            return false;
+        };
+        if place >= arena.rows() || !has_row(other, there, arena.row(Row::at(place))) {
+            return false;
+        }
+    }
+    true
+}
+
+// Whether a run has so many words, and comes to another arena behind its rows.
+fn takes_run(
+    arena: &FragmentArena,
+    from: usize,
+    to: usize,
+    words: usize,
+    other: &mut FragmentArena,
+) -> Option<bool> {
+    if from > to || to > arena.rows() {
+        return None;
+    }
+    let counted = arena.words_of_run(from, to)?;
+    other.place(&[1, 2, 3]).ok()?;
+    let first = other.rows();
+    other.reserve(counted, to - from).ok()?;
+    other.place_run(arena, from, to);
+    let rows = other.rows() - first == to - from;
+    Some(counted == words && rows && are_same(other, first, arena, from, to - from))
+}
+
+fn takes_runs(alloc: Global, arena: &FragmentArena) -> bool {
+    let mut other = FragmentArena::new(alloc);
+    for (from, to, words) in RUNS {
+        if takes_run(arena, *from, *to, *words, &mut other) != Some(true) {
+            return false;
+        }
+    }
+    true
+}
+
+fn runs_are_taken(alloc: Global) -> bool {
+    let Ok(arena) = stairs(alloc) else {
+        return false;
+    };
+    takes_runs(alloc, &arena)
+}
+
+#[test]
+fn runs_lie_in_one_block_and_in_more(rt: HostRuntime) -> Result<(), Fail> {
+    assert!(rt; runs_are_taken(rt.alloc()));
     Ok(())
 }
 
