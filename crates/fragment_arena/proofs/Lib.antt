@@ -6,4 +6,5 @@ pub mod RowLemmas
 pub mod RunLemmas
 pub mod WrittenLemmas
 mod StretchLemmas
+mod LineLemmas
 mod PairLemmas

@@ -1,19 +1,7 @@
 -- A run of rows of another arena, placed stretch by stretch.
-use Rattle.std.proofs.Common.{◌≡◌, ℕ, zero, suc, ◌+◌, ◌-◌, ◌<◌, ◌≤◌, List, [], ◌∷◌, ◌++◌, length, take, drop, get_or, sym, ap, ◌∙◌, arith, append-nil, append_assoc}
+use Rattle.std.proofs.Common.{◌≡◌, ℕ, zero, suc, ◌+◌, ◌-◌, ◌<◌, ◌≤◌, List, [], ◌∷◌, ◌++◌, take, drop, sym, ap, ◌∙◌, arith, append-nil, append_assoc}
 use Rattle.std.proofs.Math.Seq.{take-add, drop-nil}
 use Rattle.fragment_arena.specs.Arena.{run, words_in}
-
-pub run-next : (rows : List (List ℕ)) (from to : ℕ) → from < to → to ≤ length rows → run rows from to ≡ get_or rows from [] ∷ run rows (from + 1) to
-run-next [] from to lt le = absurd (omega (arith, lt, le))
-run-next (x ∷ xs) zero zero lt le = absurd (omega (arith, lt))
-run-next (x ∷ xs) zero (suc t) lt le =
-    let all : suc t - 0 ≡ suc t = omega arith in let rest : suc t - (0 + 1) ≡ t = omega arith in
-    ap (λ k. take k (x ∷ xs)) all ∙ ap (λ k. x ∷ take k xs) (sym rest)
-run-next (x ∷ xs) (suc f) zero lt le = absurd (omega (arith, lt))
-run-next (x ∷ xs) (suc f) (suc t) lt le =
-    let same : suc t - suc f ≡ t - f = omega arith in let less : suc t - (suc f + 1) ≡ t - (f + 1) = omega arith in let place : suc f + 1 ≡ suc (f + 1) = omega arith in
-    ap (λ k. take k (drop f xs)) same ∙ run-next xs f t (omega (arith, lt)) (omega (arith, le))
-    ∙ (λ i. get_or xs f [] ∷ take (sym less i) (drop (sym place i) (x ∷ xs)))
 
 pub run-none : (rows : List (List ℕ)) (to : ℕ) → run rows to to ≡ []
 run-none rows to = let none : to - to ≡ 0 = omega arith in ap (λ k. take k (drop to rows)) none
@@ -34,10 +22,11 @@ words-append : (xs ys : List (List ℕ)) → words_in (xs ++ ys) ≡ words_in xs
 words-append [] ys = omega arith
 words-append (x ∷ xs) ys = let rest = words-append xs ys in omega (arith, rest)
 
+pub words-split : (rows : List (List ℕ)) (from mid to : ℕ) → from ≤ mid → mid ≤ to → words_in (run rows from to) ≡ words_in (run rows from mid) + words_in (run rows mid to)
+words-split rows from mid to low high = ap words_in (run-split rows from mid to low high) ∙ words-append (run rows from mid) (run rows mid to)
+
 pub run-less : (rows : List (List ℕ)) (from mid to : ℕ) → from ≤ mid → mid ≤ to → words_in (run rows from mid) ≤ words_in (run rows from to)
-run-less rows from mid to low high =
-    let all : words_in (run rows from to) ≡ words_in (run rows from mid) + words_in (run rows mid to) = ap words_in (run-split rows from mid to low high) ∙ words-append (run rows from mid) (run rows mid to) in
-    omega (arith, all)
+run-less rows from mid to low high = omega (arith, words-split rows from mid to low high)
 
 -- rows were placed up to this place of a run, and words and slots for them were taken out of what is reserved
 pub record IsPlaced (rows : List (List ℕ)) (from to place : ℕ) (old new : List (List ℕ)) (old_words new_words old_slots new_slots : ℕ) : Type 0 where
@@ -69,9 +58,6 @@ all-placed rows from to place old new old_words new_words old_slots new_slots en
 pub room-left : (rows : List (List ℕ)) (from to place : ℕ) (old new : List (List ℕ)) (old_words new_words old_slots new_slots : ℕ) → from ≤ place → place < to
     → words_in (run rows from to) ≤ old_words → to - from ≤ old_slots → IsPlaced rows from to place old new old_words new_words old_slots new_slots → (words_in (run rows place to) ≤ new_words) × (to - place ≤ new_slots)
 room-left rows from to place old new old_words new_words old_slots new_slots low lt words slots h = (omega (arith, words, h.words), omega (arith, slots, h.slots, low, lt))
-
-pub words-next : (rows : List (List ℕ)) (place to : ℕ) (row : List ℕ) → place < to → to ≤ length rows → row ≡ get_or rows place [] → words_in (run rows place to) ≡ length row + words_in (run rows (place + 1) to)
-words-next rows place to row lt le is = ap words_in (run-next rows place to lt le) ∙ ap (λ r. length r + words_in (run rows (place + 1) to)) (sym is)
 
 pub words-none : (rows : List (List ℕ)) (place to : ℕ) → place ≡ to → words_in (run rows place to) ≡ 0
 words-none rows place to end = ap words_in (ap (λ k. run rows k to) end ∙ run-none rows to)

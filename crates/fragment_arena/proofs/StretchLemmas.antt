@@ -4,24 +4,12 @@ use Rattle.std.proofs.Math.Seq.{drop-append_seam}
 use Rattle.std.proofs.lemmas.List.{drop-take, length-drop, length-take, get_or-set_same}
 use Rattle.fragment_arena.specs.Arena.{run, words_in}
 use Rattle.fragment_arena.specs.Words.{Words}
-use Rattle.fragment_arena.specs.Rows.{empty_block, block_at, row_of, rows_of, IsWithin, AreWithin, AllAfter, AreApart, last_room, no_span, cut, spanned, AreBeside, moved}
-use Rattle.fragment_arena.proofs.WrittenLemmas.{spanned-snoc}
+use Rattle.fragment_arena.specs.Rows.{empty_block, block_at, row_of, rows_of, AreWithin, last_room, no_span, cut, spanned, AreBeside, moved}
 use Rattle.fragment_arena.specs.declared.row.Span.{Span}
 use Rattle.fragment_arena.proofs.RunLemmas.{drop-drop}
 use Rattle.fragment_arena.proofs.RowLemmas.{rows-kept, AreWithin-kept, written-kept}
 
--- A part of a list with one more, and in two
-
-pub cut-snoc : (spans : List Span) (from to : ℕ) (d : Span) → from ≤ to → to < length spans → cut spans from (to + 1) ≡ cut spans from to ++ get_or spans to d ∷ []
-cut-snoc [] from to d le lt = absurd (omega (arith, lt))
-cut-snoc (x ∷ xs) zero zero d le lt = refl
-cut-snoc (x ∷ xs) zero (suc t) d le lt =
-    let all : suc t + 1 - 0 ≡ suc (t + 1 - 0) = omega arith in let rest : suc t - 0 ≡ suc (t - 0) = omega arith in
-    ap (λ k. take k (x ∷ xs)) all ∙ ap (λ ys. x ∷ ys) (cut-snoc xs 0 t d (omega arith) (omega (arith, lt))) ∙ ap (λ k. take k (x ∷ xs) ++ get_or xs t d ∷ []) (sym rest)
-cut-snoc (x ∷ xs) (suc f) zero d le lt = absurd (omega (arith, le))
-cut-snoc (x ∷ xs) (suc f) (suc t) d le lt =
-    let more : suc t + 1 - suc f ≡ t + 1 - f = omega arith in let same : suc t - suc f ≡ t - f = omega arith in
-    ap (λ k. take k (drop f xs)) more ∙ cut-snoc xs f t d (omega (arith, le)) (omega (arith, lt)) ∙ ap (λ k. take k (drop f xs) ++ get_or xs t d ∷ []) (sym same)
+-- A part of a list
 
 pub cut-next : (spans : List Span) (from to : ℕ) (d : Span) → from < to → to ≤ length spans → cut spans from to ≡ get_or spans from d ∷ cut spans (from + 1) to
 cut-next [] from to d lt le = absurd (omega (arith, lt, le))
@@ -37,40 +25,6 @@ cut-next (x ∷ xs) (suc f) (suc t) d lt le =
 
 pub cut-none : (spans : List Span) (to : ℕ) → cut spans to to ≡ []
 cut-none spans to = let none : to - to ≡ 0 = omega arith in ap (λ k. take k (drop to spans)) none
-
-beside-snoc : (block at : ℕ) (ss : List Span) (s : Span) → AreBeside block at ss → s.block ≡ block → s.from ≡ at + spanned ss → AreBeside block at (ss ++ s ∷ [])
-beside-snoc block at [] s b same from = (same, omega (arith, from), tt)
-beside-snoc block at (t ∷ ts) s b same from = (b.0, b.1, beside-snoc block (at + t.len) ts s b.2 same (omega (arith, from)))
-
--- a stretch is under way: its words are counted, and its rows lie side by side
-pub record IsStretch (spans : List Span) (from place words : ℕ) : Type 0 where
-  pub further : from < place
-  pub counted : words ≡ spanned (cut spans from place)
-  pub beside : AreBeside (get_or spans from no_span).block (get_or spans from no_span).from (cut spans from place)
-
-pub one-stretched : (spans : List Span) (from words : ℕ) → from < length spans → words ≡ (get_or spans from no_span).len → IsStretch spans from (from + 1) words
-one-stretched spans from words lt is =
-    let one : cut spans from (from + 1) ≡ get_or spans from no_span ∷ [] = cut-snoc spans from from no_span (omega arith) lt ∙ ap (λ ss. ss ++ get_or spans from no_span ∷ []) (cut-none spans from) in
-    let count : spanned (get_or spans from no_span ∷ []) ≡ (get_or spans from no_span).len = omega arith in
-    record {
-      further = omega arith;
-      counted = is ∙ sym count ∙ ap spanned (sym one);
-      beside = subst (λ ss. AreBeside (get_or spans from no_span).block (get_or spans from no_span).from ss) (sym one) (refl, refl, tt);
-    }
-
-pub more-stretched : (spans : List Span) (from place words more : ℕ) → place < length spans → (get_or spans place no_span).block ≡ (get_or spans from no_span).block
-    → (get_or spans from no_span).from ≤ (get_or spans place no_span).from → (get_or spans place no_span).from - (get_or spans from no_span).from ≡ words → more ≡ words + (get_or spans place no_span).len
-    → IsStretch spans from place words → IsStretch spans from (place + 1) more
-more-stretched spans from place words more lt same low gap is h =
-    let s = get_or spans place no_span in
-    let one : cut spans from (place + 1) ≡ cut spans from place ++ s ∷ [] = cut-snoc spans from place no_span (omega (arith, h.further)) lt in
-    let count = spanned-snoc (cut spans from place) s in
-    record {
-      further = omega (arith, h.further);
-      counted = is ∙ ap (λ n. n + s.len) h.counted ∙ sym count ∙ ap spanned (sym one);
-      beside = subst (λ ss. AreBeside (get_or spans from no_span).block (get_or spans from no_span).from ss) (sym one)
-          (beside-snoc (get_or spans from no_span).block (get_or spans from no_span).from (cut spans from place) s h.beside same (omega (arith, low, gap, h.counted)));
-    }
 
 -- Words that are the same in two places
 
@@ -104,14 +58,6 @@ moved-within : (blocks : List Words) (block at : ℕ) (ss : List Span) → block
 moved-within blocks block at [] lt le = tt
 moved-within blocks block at (s ∷ ss) lt le = ((lt, omega (arith, le)), moved-within blocks block (at + s.len) ss lt (omega (arith, le)))
 
-moved-after : (t : Span) (block at : ℕ) (ss : List Span) → (t.block ≡ block → t.from + t.len ≤ at) → AllAfter t (moved block at ss)
-moved-after t block at [] h = tt
-moved-after t block at (s ∷ ss) h = (h, moved-after t block (at + s.len) ss (λ same. let low = h same in omega (arith, low)))
-
-moved-apart : (block at : ℕ) (ss : List Span) → AreApart (moved block at ss)
-moved-apart block at [] = tt
-moved-apart block at (s ∷ ss) = (moved-after (record { block = block; from = at; len = s.len }) block (at + s.len) ss (λ same. omega arith), moved-apart block (at + s.len) ss)
-
 rows-append : (blocks : List Words) (ss ts : List Span) → rows_of blocks (ss ++ ts) ≡ rows_of blocks ss ++ rows_of blocks ts
 rows-append blocks [] ts = refl
 rows-append blocks (s ∷ ss) ts = ap (λ rows. row_of blocks s ∷ rows) (rows-append blocks ss ts)
@@ -119,19 +65,6 @@ rows-append blocks (s ∷ ss) ts = ap (λ rows. row_of blocks s ∷ rows) (rows-
 within-append : (blocks : List Words) (ss ts : List Span) → AreWithin blocks ss → AreWithin blocks ts → AreWithin blocks (ss ++ ts)
 within-append blocks [] ts w v = v
 within-append blocks (s ∷ ss) ts w v = (w.0, within-append blocks ss ts w.1 v)
-
-after-append : (t : Span) (ss ts : List Span) → AllAfter t ss → AllAfter t ts → AllAfter t (ss ++ ts)
-after-append t [] ts a b = b
-after-append t (s ∷ ss) ts a b = (a.0, after-append t ss ts a.1 b)
-
--- a row of old words ends before what is written behind them
-ends-before : (blocks : List Words) (s : Span) (block at : ℕ) → IsWithin blocks s → at ≡ length (block_at blocks block).words → s.block ≡ block → s.from + s.len ≤ at
-ends-before blocks s block at w e same = let there = ap (λ k. length (block_at blocks k).words) same in omega (arith, w.1, e, there)
-
-apart-append : (blocks : List Words) (ss : List Span) (block at : ℕ) (ts : List Span) → AreWithin blocks ss → at ≡ length (block_at blocks block).words → AreApart ss → AreApart (ss ++ moved block at ts)
-apart-append blocks [] block at ts w e a = moved-apart block at ts
-apart-append blocks (s ∷ ss) block at ts w e a =
-    (after-append s ss (moved block at ts) a.0 (moved-after s block at ts (ends-before blocks s block at w.0 e)), apart-append blocks ss block at ts w.1 e a.1)
 
 -- The words of a stretch are written behind those of a block
 
@@ -168,9 +101,6 @@ module _ (blocks others : List Words) (spans ss : List Span) (b : Words) (block 
       let rest = length-drop from (block_at others from_block).words in
       within-append new spans (moved block at ss) (AreWithin-kept blocks new spans (written-kept blocks block b part e) w)
       (moved-within new block at ss (omega (arith, long, lt)) (omega (arith, more, count, rest, there, is)))
-
-  pub stretch-apart : AreApart spans → AreApart (spans ++ moved block at ss)
-  stretch-apart a = apart-append blocks spans block at ss w is a
 
 pub last_room-set : (blocks : List Words) (k : ℕ) (b : Words) → k < length blocks → k ≡ length blocks - 1 → last_room (set blocks k b) ≡ b.room
 last_room-set blocks k b lt e =

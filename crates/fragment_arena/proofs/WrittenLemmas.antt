@@ -16,7 +16,7 @@ written-set (x ∷ xs) (suc k) b lt = omega (arith, written-set xs k b (omega (a
 pub written-put : (blocks : List Words) (k : ℕ) (b : Words) → k < length blocks → length b.words ≡ length (block_at blocks k).words → written_in (set blocks k b) ≡ written_in blocks
 written-put blocks k b lt same = omega (arith, written-set blocks k b lt, same)
 
-pub spanned-snoc : (spans : List Span) (s : Span) → spanned (spans ++ s ∷ []) ≡ spanned spans + s.len
+spanned-snoc : (spans : List Span) (s : Span) → spanned (spans ++ s ∷ []) ≡ spanned spans + s.len
 spanned-snoc [] s = omega arith
 spanned-snoc (t ∷ ts) s = omega (arith, spanned-snoc ts s)
 

@@ -171,8 +171,11 @@ impl FragmentArena {
         ensures { IfSome result (λ words. words ≡ words_in (run self.now.rows from to)) }
     {
         let mut words: usize = 0;
-        for place in from..to {
-            words = words.checked_add(self.row(Row::at(place)).len())?;
+        let mut place = from;
+        while place < to {
+            let (end, more) = blocks::stretch(&self.spans, place, to);
+            words = words.checked_add(more)?;
+            place = end;
         }
         Some(words)
     }

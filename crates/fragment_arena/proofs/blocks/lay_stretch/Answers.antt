@@ -2,7 +2,8 @@ use Rattle.std.proofs.Common.{◌≡◌, ◌+◌, ◌-◌, ◌<◌, ◌≤◌, �
 use Rattle.std.proofs.lemmas.List.{length-append, length-drop, length-take}
 use Rattle.fragment_arena.specs.Rows.{block_at, no_span, cut, spanned, moved}
 use Rattle.fragment_arena.proofs.RowLemmas.{AreWithin-at, block_at-any}
-use Rattle.fragment_arena.proofs.StretchLemmas.{stretch-rows, stretch-within, stretch-apart, stretch-there, last_room-set}
+use Rattle.fragment_arena.proofs.StretchLemmas.{cut-next, stretch-rows, stretch-within, stretch-there, last_room-set}
+use Rattle.fragment_arena.proofs.LineLemmas.{moved-line, moved-there}
 use Rattle.fragment_arena.proofs.WrittenLemmas.{spanned-moved, written-stretched}
 use Rattle.fragment_arena.proofs.blocks.lay_stretch.Goals as goal
 use Rattle.fragment_arena.proofs.blocks.lay_stretch.Goals.{After-push_moved}
@@ -36,6 +37,9 @@ push_moved-requires-clause-fits c =
 
 there : (c : After-push_moved) → c.len-block.result - 1 < length c.args.blocks.now.items
 there c = omega (arith, c.len-block.ensures, c.args.blocks.now.ok.0, c.requires.block)
+
+count : (c : After-push_moved) → length c.args.blocks.now.items ≡ c.len-block.result - 1 + 1
+count c = omega (arith, c.len-block.ensures, c.args.blocks.now.ok.0, c.requires.block)
 
 last : (c : After-push_moved) → c.index_mut-last.result.now ≡ block_at c.args.blocks.now.items (c.len-block.result - 1)
 last c = c.index_mut-last.ensures.value ∙ block_at-any c.args.blocks.now.items (c.len-block.result - 1) c.index_mut-last.result.now (there c)
@@ -73,11 +77,22 @@ returns-clause-within c =
     rw c.push_moved.ensures.spans (stretch-within c.args.blocks.now.items c.args.others.now c.args.spans.now.items (cut c.args.other_spans.now c.args.from c.args.to) c.write.new.self (c.len-block.result - 1) c.len-at.result first.block first.from
     (there c) (written c) (ends c) (from c) c.requires.beside c.requires.within)
 
-pub returns-clause-apart : goal.returns-clause-apart
-returns-clause-apart c =
+pub returns-clause-line : goal.returns-clause-line
+returns-clause-line c =
+    rw c.push_moved.ensures.spans (moved-line c.args.blocks.now.items c.args.spans.now.items (c.len-block.result - 1) c.len-at.result c.requires.within c.requires.ends (count c) (from c) (cut c.args.other_spans.now c.args.from c.args.to)
+    c.requires.line)
+
+pub returns-clause-ends : goal.returns-clause-ends
+returns-clause-ends c =
     let first = get_or c.args.other_spans.now c.args.from no_span in
-    rw c.push_moved.ensures.spans (stretch-apart c.args.blocks.now.items c.args.others.now c.args.spans.now.items (cut c.args.other_spans.now c.args.from c.args.to) c.write.new.self (c.len-block.result - 1) c.len-at.result first.block first.from
-    (there c) (written c) (ends c) (from c) c.requires.beside c.requires.within c.requires.apart)
+    let stretch = cut c.args.other_spans.now c.args.from c.args.to in
+    let words = (block_at c.args.others.now first.block).words in
+    let cut_off = length-take (spanned stretch) (drop first.from words) in
+    let rest = length-drop first.from words in
+    let stop = ends c in
+    let some = ap length (cut-next c.args.other_spans.now c.args.from c.args.to no_span c.requires.order c.requires.there) in
+    rw c.push_moved.ensures.spans (moved-there c.args.blocks.now.items c.args.spans.now.items (c.len-block.result - 1) c.len-at.result c.requires.within c.requires.ends (count c) (from c) stretch c.write.new.self
+    (take (spanned stretch) (drop first.from words)) (omega (arith, some)) (written c) (omega (arith, cut_off, rest, stop)))
 
 pub returns-clause-words : goal.returns-clause-words
 returns-clause-words c =

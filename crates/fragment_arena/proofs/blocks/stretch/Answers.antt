@@ -1,10 +1,19 @@
-use Rattle.std.proofs.Common.{rules, ◌≡◌, ◌+◌, ◌<◌, length, get_or, arith}
-use Rattle.fragment_arena.specs.Rows.{no_span}
-use Rattle.fragment_arena.proofs.StretchLemmas.{more-stretched}
+use Rattle.std.proofs.Common.{arith}
+use Rattle.fragment_arena.proofs.LineLemmas.{one-block}
 use Rattle.fragment_arena.proofs.blocks.stretch.Goals as goal
 
-pub loop-place-preserved : goal.loop-place-preserved
-loop-place-preserved c =
-    let there : c.loop-place.place < length c.args.spans.now = omega (arith, c.loop-place-test.true, c.requires.there) in
-    let adds : c.in-Some.more ≡ c.loop-place.words + (get_or c.args.spans.now c.loop-place.place no_span).len = search rules in
-    more-stretched c.args.spans.now c.args.from c.loop-place.place c.loop-place.words c.in-Some.more there c.if-span-first.false c.if-span-first-2.false c.if-span-first-3.false adds c.loop-place.invariant
+pub overflow_sub-result : goal.overflow_sub-result
+overflow_sub-result c =
+    let end = c.end_in_block-end in
+    (one-block c.args.spans.now c.args.from end.result c.args.to end.ensures.further end.ensures.there c.requires.there end.ensures.same c.requires.line).low
+
+pub returns-clause-words : goal.returns-clause-words
+returns-clause-words c =
+    let end = c.end_in_block-end in
+    let row = one-block c.args.spans.now c.args.from end.result c.args.to end.ensures.further end.ensures.there c.requires.there end.ensures.same c.requires.line in
+    omega (arith, row.low, row.ends)
+
+pub returns-clause-beside : goal.returns-clause-beside
+returns-clause-beside c =
+    let end = c.end_in_block-end in
+    (one-block c.args.spans.now c.args.from end.result c.args.to end.ensures.further end.ensures.there c.requires.there end.ensures.same c.requires.line).beside

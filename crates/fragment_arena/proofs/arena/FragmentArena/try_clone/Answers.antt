@@ -1,8 +1,9 @@
 use Rattle.std.proofs.Common.{rules, ◌≡◌, ◌+◌, ◌≤◌, length, sym, subst, ap, ◌∙◌, arith}
 use Rattle.std.specs.Vec.{vec_len, vec_capacity}
 use Rattle.fragment_arena.specs.Arena.{arena}
-use Rattle.fragment_arena.specs.Rows.{rows_of, AreWithin, AreApart, AreCopies, spanned}
+use Rattle.fragment_arena.specs.Rows.{rows_of, AreWithin, AreInLine, EndsThere, AreCopies, spanned}
 use Rattle.fragment_arena.proofs.RowLemmas.{copies-rows, copies-within}
+use Rattle.fragment_arena.proofs.LineLemmas.{EndsThere-same}
 use Rattle.fragment_arena.proofs.WrittenLemmas.{written-copies}
 use Rattle.fragment_arena.proofs.arena.FragmentArena.try_clone.Goals as goal
 
@@ -13,7 +14,9 @@ invariant_of-result c =
     let fits : vec_len c.in_ok-spans.spans + 0 ≤ vec_capacity c.in_ok-spans.spans = search rules in
     record {
       within = subst (AreWithin c.in_ok-blocks.blocks.items) (sym spans) (copies-within c.self.inside.blocks.items c.in_ok-blocks.blocks.items c.self.inside.spans.items copies c.self.invariant.within);
-      apart = subst AreApart (sym spans) c.self.invariant.apart;
+      line = subst AreInLine (sym spans) c.self.invariant.line;
+      ends = subst (EndsThere c.in_ok-blocks.blocks.items) (sym spans)
+          (EndsThere-same c.self.inside.blocks.items c.in_ok-blocks.blocks.items c.self.inside.spans.items (λ k lt. ap length (copies.same k lt)) c.self.invariant.within c.self.invariant.ends);
       no_more = written-copies c.self.inside.blocks.items c.in_ok-blocks.blocks.items copies ∙ c.self.invariant.no_more ∙ ap spanned (sym spans);
       words_are_there = omega arith;
       rows_are_there = fits;
