@@ -50,7 +50,8 @@ impl FragmentArena {
         }
     }
 
-    /// Reserves room for at least so many words and so many rows. A refusal changes nothing.
+    /// Reserves room for at least so many words and so many rows. A refusal changes nothing; 2^32 words (32 GiB) and more are
+    /// refused like those for which there is no memory.
     pub fn reserve(&mut self, words: usize, rows: usize) -> Result<(), AllocError>
         ensures reserved { OnOk result
             (self.new ≡ arena self.old.rows (max self.old.reserved_words words) (max self.old.reserved_rows rows)) }
@@ -86,6 +87,13 @@ impl FragmentArena {
         ensures { result ≡ (nat_le words self.now.reserved_words && nat_lt 0 self.now.reserved_rows) }
     {
         words <= self.reserved_words && self.reserved_rows > 0
+    }
+
+    /// Whether two rows, of a single word and of so many others, find room that was reserved.
+    pub fn has_reserved_pair(&self, words: usize) -> bool
+        ensures { result ≡ (nat_lt words self.now.reserved_words && nat_lt 1 self.now.reserved_rows) }
+    {
+        words < self.reserved_words && self.reserved_rows > 1
     }
 
     /// One row more, at the end, in room that was reserved; gives its place. Takes no memory.

@@ -44,9 +44,9 @@ fn places_pairs(arena: &mut FragmentArena) -> Option<bool> {
     arena.reserve(6, 4).ok()?;
     let second = arena.place_reserved_pair(11, &[12, 13]);
     let placed = second.place() == 2 && has_row(arena, 1, &[11]) && has_row(arena, 2, &[12, 13]);
-    let left = arena.has_reserved(3) && !arena.has_reserved(4);
+    let left = arena.has_reserved_pair(2) && !arena.has_reserved_pair(3);
     let last = arena.place_reserved_pair(14, &[15, 16]);
-    let full = last.place() == 4 && arena.rows() == 5 && !arena.has_reserved(0);
+    let full = last.place() == 4 && arena.rows() == 5 && !arena.has_reserved_pair(0);
     let first = has_row(arena, 0, &[4]) && has_row(arena, 1, &[11]) && has_row(arena, 2, &[12, 13]);
     let behind = has_row(arena, 3, &[14]) && has_row(arena, 4, &[15, 16]);
     Some(placed && left && full && first && behind)
@@ -55,11 +55,13 @@ fn places_pairs(arena: &mut FragmentArena) -> Option<bool> {
 // Whether the second row of a pair may have no words, where there is room for one word alone.
 fn places_a_short_pair(arena: &mut FragmentArena) -> Option<bool> {
     arena.clear();
+    arena.reserve(1, 1).ok()?;
+    let one_row = !arena.has_reserved_pair(0);
     arena.reserve(1, 2).ok()?;
+    let two_rows = arena.has_reserved_pair(0) && !arena.has_reserved_pair(1);
     let row = arena.place_reserved_pair(21, &[]);
-    Some(
-        row.place() == 1 && arena.rows() == 2 && has_row(arena, 0, &[21]) && has_row(arena, 1, &[]),
-    )
+    let placed = row.place() == 1 && has_row(arena, 0, &[21]) && has_row(arena, 1, &[]);
+    Some(one_row && two_rows && placed && arena.rows() == 2)
 }
 
 fn pairs_are_placed(alloc: Global) -> bool {
