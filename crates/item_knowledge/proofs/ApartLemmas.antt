@@ -6,10 +6,10 @@ use Rattle.item_knowledge.specs.Fragments.{Fragment, entries_at}
 use Rattle.item_knowledge.specs.Gathering.{place, star_first}
 use Rattle.item_knowledge.specs.Places.{is_new}
 use Rattle.item_knowledge.specs.Rows.{pairs, flat, IsRow, vectors_in}
-use Rattle.item_knowledge.specs.Carrying.{groups_in}
+use Rattle.item_knowledge.specs.Carrying.{groups_in, IsWritten}
 use Rattle.item_knowledge.proofs.FragmentLemmas.{entries_decide}
 use Rattle.item_knowledge.proofs.RowLemmas.{pairs_flat, vectors_row, vectors_length}
-use Rattle.item_knowledge.proofs.CarryLemmas.{IsWritten, place_none}
+use Rattle.item_knowledge.proofs.CarryLemmas.{place_none}
 
 module _ (f : ℕ × ℕ → List Entry) (table : List (ℕ × (ℕ × ℕ))) (out : List (List ℕ)) (numbers : List (ℕ × ℕ)) (i : ℕ) (all : List Fragment) (every : List (ℕ × ℕ)) (h : IsWritten f (f (0, 0)) table out numbers i all every) where
   -- the vectors are the star's and those of the groups

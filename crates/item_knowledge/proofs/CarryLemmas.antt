@@ -7,11 +7,11 @@ use Rattle.item_knowledge.specs.Fragments.{Fragment, are_groups, is_normal, goes
 use Rattle.item_knowledge.specs.Gathering.{add, gathered, indexed, place, after, star_first}
 use Rattle.item_knowledge.specs.Places.{is_new}
 use Rattle.item_knowledge.specs.Rows.{pairs, flat, IsRow, rows_of}
-use Rattle.item_knowledge.specs.Carrying.{Origin, HasCome, groups_in}
+use Rattle.item_knowledge.specs.Carrying.{Origin, HasCome, groups_in, IsWritten, IsCarried}
 use Rattle.item_knowledge.proofs.FragmentLemmas.{entries_decide, before_parts, groups_parts, normal_parts}
 use Rattle.item_knowledge.proofs.RowLemmas.{fragments_rows}
 use Rattle.item_knowledge.proofs.PlaceLemmas.{of_one, add_absent, place_of_added, place_later}
-use Rattle.item_knowledge.proofs.IndexLemmas.{IsGathered, none_gathered, star_passed, one_gathered, all_gathered}
+use Rattle.item_knowledge.proofs.IndexLemmas.{none_gathered, star_passed, one_gathered, all_gathered}
 
 -- Vectors of a normal form differ
 
@@ -79,11 +79,6 @@ groups_rows star gs rows e = ap groups_in e ∙ ap (λ fs. drop 1 fs) (fragments
 
 -- What is written up to a place of the table: groups of one picture each
 
-pub record IsWritten (f : ℕ × ℕ → List Entry) (star : List Entry) (table : List (ℕ × (ℕ × ℕ))) (out : List (List ℕ)) (numbers : List (ℕ × ℕ)) (i : ℕ) (all : List Fragment) (every : List (ℕ × ℕ)) : Type 0 where
-  pub whole : out ≡ rows_of (star_first star (groups_in out))
-  pub gathered : IsGathered (f (0, 0)) f table (groups_in out) numbers i all every
-  pub counted : length numbers ≡ length (groups_in out)
-
 pub none_written : (f : ℕ × ℕ → List Entry) (star : List Entry) (table rows : List (ℕ × (ℕ × ℕ))) (out : List (List ℕ)) (numbers : List (ℕ × ℕ)) → table ≡ rows → out ≡ rows_of (star_first star []) → numbers ≡ []
     → IsWritten f star table out numbers 0 (gathered (f (0, 0)) f rows []) (indexed (f (0, 0)) f rows [])
 none_written f star table rows out numbers t written n =
@@ -135,11 +130,6 @@ all_written f star table out numbers i all every l h =
     let ends = all_gathered (f (0, 0)) f table (groups_in out) numbers i all every l h.gathered in
     (h.whole ∙ ap (λ gs. rows_of (star_first star gs)) ends.0, ends.1)
 
--- the same, where each row comes from the left or is a changed one
-pub record IsCarried (fs : List Fragment) (f : ℕ × ℕ → List Entry) (star : List ℕ) (changed : List (List ℕ)) (table : List (ℕ × (ℕ × ℕ))) (out : List (List ℕ)) (numbers : List (ℕ × ℕ)) (i last next : ℕ) (all : List Fragment) (every : List (ℕ × ℕ)) : Type 0 where
-  pub written : IsWritten f (pairs star) table out numbers i all every
-  pub apart : (k : ℕ) → k < length (groups_in out) → Origin fs changed last next (entries_at (groups_in out) k)
-
 pub none_carried : (fs : List Fragment) (f : ℕ × ℕ → List Entry) (star : List ℕ) (changed : List (List ℕ)) (table rows : List (ℕ × (ℕ × ℕ))) (out : List (List ℕ)) (numbers : List (ℕ × ℕ)) → IsRow star → table ≡ rows → out ≡ [] ∷ star ∷ [] → numbers ≡ []
     → IsCarried fs f star changed table out numbers 0 0 0 (gathered (f (0, 0)) f rows []) (indexed (f (0, 0)) f rows [])
 none_carried fs f star changed table rows out numbers s t o n =
@@ -171,9 +161,3 @@ one_carried fs f star changed table out new numbers more i last next last_then n
 pub all_carried : (fs : List Fragment) (f : ℕ × ℕ → List Entry) (star : List ℕ) (changed : List (List ℕ)) (table : List (ℕ × (ℕ × ℕ))) (out : List (List ℕ)) (numbers : List (ℕ × ℕ)) (i last next : ℕ) (all : List Fragment) (every : List (ℕ × ℕ))
     → length table ≤ i → IsCarried fs f star changed table out numbers i last next all every → (out ≡ rows_of (star_first (pairs star) all)) × (numbers ≡ every)
 all_carried fs f star changed table out numbers i last next all every l h = all_written f (pairs star) table out numbers i all every l h.written
-
--- the row of a table at a place that there is
-pub row_any : (table : List (ℕ × (ℕ × ℕ))) (i : ℕ) (d e : ℕ × (ℕ × ℕ)) → i < length table → get_or table i d ≡ get_or table i e
-row_any [] i d e l = absurd (omega (arith, l))
-row_any (r ∷ rs) zero d e l = refl
-row_any (r ∷ rs) (suc i) d e l = row_any rs i d e (omega (arith, l))

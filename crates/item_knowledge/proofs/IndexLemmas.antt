@@ -6,7 +6,7 @@ use Rattle.std.proofs.lemmas.Bool.{and_parts, and_from, lt-ltb, eq-eqb, ne_eqb, 
 use Rattle.item_knowledge.specs.Tables.{keys_pass, in_order, at}
 use Rattle.item_knowledge.specs.Entries.{Entry, same_entries}
 use Rattle.item_knowledge.specs.Fragments.{Fragment, entries_at}
-use Rattle.item_knowledge.specs.Gathering.{add, add_unless, gathered, indexed, number, place}
+use Rattle.item_knowledge.specs.Gathering.{add, add_unless, gathered, indexed, number, place, IsGathered}
 use Rattle.item_knowledge.proofs.FragmentLemmas.{entries_decide}
 use Rattle.item_knowledge.proofs.AddLemmas.{add_here, add_later}
 use Rattle.item_knowledge.proofs.GatherLemmas.{unless_same, unless_other, row_vector, row_none}
@@ -146,10 +146,6 @@ indexed_vectors star f (r ∷ rs) gs q o =
     ]
 
 -- A table on the way: the groups so far with their index, and the rows that are left
-
-pub record IsGathered (star : List Entry) (f : ℕ × ℕ → List Entry) (table : List (ℕ × (ℕ × ℕ))) (gs : List Fragment) (numbers : List (ℕ × ℕ)) (i : ℕ) (all : List Fragment) (every : List (ℕ × ℕ)) : Type 0 where
-  pub rest : gathered star f (drop i table) gs ≡ all
-  pub index : numbers ++ indexed star f (drop i table) gs ≡ every
 
 pub none_gathered : (star : List Entry) (f : ℕ × ℕ → List Entry) (table rows : List (ℕ × (ℕ × ℕ))) (gs : List Fragment) (numbers : List (ℕ × ℕ)) → table ≡ rows → gs ≡ [] → numbers ≡ [] → IsGathered star f table gs numbers 0 (gathered star f rows []) (indexed star f rows [])
 none_gathered star f table rows gs numbers t g n = record {

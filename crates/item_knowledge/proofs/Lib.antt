@@ -27,3 +27,5 @@ pub mod NormalLemmas
 pub mod CarryLemmas
 pub mod ApartLemmas
 pub mod SpanLemmas
+pub mod PairingLemmas
+pub mod WayLemmas

@@ -6,12 +6,12 @@ use Rattle.item_knowledge.specs.Entries.{Entry, same_entries, bound}
 use Rattle.item_knowledge.specs.Fragments.{Fragment, are_groups, is_normal, entries_at}
 use Rattle.item_knowledge.specs.Gathering.{IsSide, pair_vector, gathered, indexed, star_first}
 use Rattle.item_knowledge.specs.Rows.{pairs, flat, IsRow, AreRows, fragments_of, rows_of}
-use Rattle.item_knowledge.specs.Carrying.{HasCome, AddsNothing, Stays}
+use Rattle.item_knowledge.specs.Carrying.{HasCome, AddsNothing, Stays, IsUnderWay}
 use Rattle.item_knowledge.proofs.FragmentLemmas.{entries_decide, groups_parts, normal_parts, leq_at}
 use Rattle.item_knowledge.proofs.RowLemmas.{pairs_flat, flat_row, entries_read, rows_read}
 use Rattle.item_knowledge.proofs.JoinLemmas.{joined_bound, joined_left, leq_from}
 use Rattle.item_knowledge.proofs.UnionLemmas.{above}
-use Rattle.item_knowledge.proofs.CarryLemmas.{IsCarried, none_carried, star_carried, one_carried, all_carried}
+use Rattle.item_knowledge.proofs.CarryLemmas.{none_carried, star_carried, one_carried, all_carried}
 
 -- A run with one more row
 
@@ -72,12 +72,6 @@ stays_joint fs gs xs ys star a b left right joint same l m (inl e) = ap (λ k. p
 stays_joint fs gs xs ys star a b left right joint same l m (inr within) = joined_left (entries_at fs a) (entries_at gs b) (above fs xs a left l).vector (above gs ys b right m).vector within
 
 -- What is written and what is still to be written
-
--- up to a place of the table, where a run of the left's fragments is still to be written
-pub record IsUnderWay (left : List (List ℕ)) (f : ℕ × ℕ → List Entry) (star : List ℕ) (changed : List (List ℕ)) (table : List (ℕ × (ℕ × ℕ))) (out : List (List ℕ)) (numbers : List (ℕ × ℕ)) (i from last next : ℕ) (all : List Fragment) (every : List (ℕ × ℕ)) : Type 0 where
-  pub carried : IsCarried (fragments_of left) f star changed table (out ++ run left (2 * from) (2 * (last + 1))) numbers i last next all every
-  pub order : from ≤ last + 1
-  pub there : last < length (fragments_of left)
 
 nothing_pending : (left out : List (List ℕ)) (to : ℕ) → out ++ run left to to ≡ out
 nothing_pending left out to = ap (λ rs. out ++ rs) (run_empty left to) ∙ append-nil out

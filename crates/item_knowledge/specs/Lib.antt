@@ -13,4 +13,5 @@ pub mod Coding
 pub mod TableRows
 pub mod Laws
 pub mod Examples
+pub mod Pairing
 pub mod Carrying

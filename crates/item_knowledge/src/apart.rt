@@ -1,11 +1,11 @@
 // A union in which no two pictures that are listed have the same vector: each row is written once, where it stays.
 ghost use Rattle.std.specs.Prelude.{◌≡◌, [], ◌∷◌, true, IfOk, IfSome, OnOk};
-ghost use Rattle.item_knowledge.specs.Gathering.{IsSide, paired, pair_vector, groups_of, index_of, star_first};
+ghost use Rattle.item_knowledge.specs.Gathering.{IsSide, pair_vector, groups_of, index_of, star_first};
 ghost use Rattle.item_knowledge.specs.Places.{IsFound};
 ghost use Rattle.item_knowledge.specs.Rows.{pairs, IsRow, AreRows, fragments_of, rows_of};
 
 use crate::index::IndexEntry;
-use crate::pairing::paired_numbers;
+use crate::pairing::Pairing;
 use crate::places::Places;
 use crate::rows::Rows;
 use crate::union::pair;
@@ -30,7 +30,8 @@ fn star_placed(
         words.saturating_add(star.len()),
     )?;
     let vectors = count.saturating_add(1);
-    let mut places = Places::new(alloc, rows, vectors, vectors)?;
+    // Most of them differ, so half of the buckets at least are to be free.
+    let mut places = Places::new(alloc, rows, vectors, vectors.saturating_mul(2))?;
     let bucket = places.bucket(star);
     places.push(bucket, &[], star)?;
     Ok(places)
@@ -43,7 +44,6 @@ fn place_apart(
     left_index: &[IndexEntry],
     right: &Rows,
     right_index: &[IndexEntry],
-    table: &[(u64, (usize, usize))],
     room: &mut Vec<u64>,
     index: &mut Vec<IndexEntry>,
     places: &mut Places,
@@ -52,7 +52,6 @@ fn place_apart(
     requires right_rows { AreRows right.now }
     requires left { IsSide (fragments_of left.now) left_index.now }
     requires right { IsSide (fragments_of right.now) right_index.now }
-    requires table { table.now ≡ paired left_index.now right_index.now }
     requires index { index.old.items ≡ [] }
     requires found { IsFound places.old }
     requires star { places.old.rows ≡ rows_of (star_first (pair_vector (fragments_of left.now) (fragments_of right.now) (0, 0)) []) }
@@ -62,8 +61,8 @@ fn place_apart(
     ensures index { IfOk result (λ whole. whole ≡ true → index.new.items
         ≡ index_of (fragments_of left.now) (fragments_of right.now) left_index.now right_index.now) }
 {
-    for i in 0..table.len() {
-        let (picture, (a, b)) = table[i];
+    let mut pairing = Pairing::new();
+    while let Some((picture, (a, b))) = pairing.next(left_index, right_index) {
         let row = pair(left, left_index, right, right_index, a, b, room)?;
         let bucket = places.bucket(row);
         if let Some(k) = places.find(bucket, row) {
@@ -101,19 +100,18 @@ pub(crate) fn apart(
     ensures index { IfOk result (λ found. IfSome found (λ index. index.items
         ≡ index_of (fragments_of left.now) (fragments_of right.now) left_index.now right_index.now)) }
 {
-    let table = paired_numbers(alloc, left_index, right_index)?;
-    let mut index = Vec::with_capacity(alloc, table.len())?;
+    let count = left_index.len().saturating_add(right_index.len());
+    let mut index = Vec::with_capacity(alloc, count)?;
     let words = left
         .words()
         .max(right.words())
-        .saturating_add(2 * table.len());
-    let mut places = star_placed(alloc, star, table.len(), words, out)?;
+        .saturating_add(count.saturating_mul(2));
+    let mut places = star_placed(alloc, star, count, words, out)?;
     let whole = place_apart(
         left,
         left_index,
         right,
         right_index,
-        &table,
         &mut Vec::new(alloc),
         &mut index,
         &mut places,

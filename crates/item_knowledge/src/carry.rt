@@ -5,14 +5,14 @@ ghost use Rattle.fragment_arena.specs.Arena.{run};
 ghost use Rattle.item_knowledge.specs.Carrying.{HasCome, AddsNothing, Stays};
 ghost use Rattle.item_knowledge.specs.Entries.{is_vector};
 ghost use Rattle.item_knowledge.specs.Fragments.{is_normal, entries_at};
-ghost use Rattle.item_knowledge.specs.Gathering.{IsSide, paired, pair_vector, groups_of, index_of, star_first};
+ghost use Rattle.item_knowledge.specs.Gathering.{IsSide, pair_vector, groups_of, index_of, star_first};
 ghost use Rattle.item_knowledge.specs.Places.{IsFound};
 ghost use Rattle.item_knowledge.specs.Rows.{pairs, IsRow, AreRows, fragments_of, rows_of, vectors_in};
 ghost use Rattle.item_knowledge.specs.Tables.{in_order};
 
 use crate::gather::same_row;
 use crate::index::IndexEntry;
-use crate::pairing::paired_numbers;
+use crate::pairing::Pairing;
 use crate::places::Places;
 use crate::rows::Rows;
 use crate::search::{is_leq, number_near};
@@ -155,8 +155,7 @@ fn place_behind(
     // For its fact alone: the rows are fewer than 2 ^ 63.
     let _count = left.rows();
     out.place_run(left, 2 * from, 2 * to)?;
-    out.place(&[picture])?;
-    out.place(row)?;
+    out.place_fragment(&[picture], row)?;
     Ok(())
 }
 
@@ -177,7 +176,6 @@ fn carry(
     right_index: &[IndexEntry],
     star: &[u64],
     changed: &Places,
-    table: &[(u64, (usize, usize))],
     room: &mut Vec<u64>,
     index: &mut Vec<IndexEntry>,
     out: &mut Rows,
@@ -191,7 +189,6 @@ fn carry(
     requires star { pairs star.now ≡ pair_vector (fragments_of left.now) (fragments_of right.now) (0, 0) }
     requires left_star { pairs star.now ≡ entries_at (fragments_of left.now) 0 }
     requires changed { IsFound changed.now }
-    requires table { table.now ≡ paired left_index.now right_index.now }
     requires index { index.old.items ≡ [] }
     requires out { out.old ≡ [] ∷ star.now ∷ [] }
     ensures rows { IfOk result (λ whole. whole ≡ true → out.new
@@ -205,8 +202,8 @@ fn carry(
     let mut from = 1;
     let mut last = 0;
     let mut next = 0;
-    for i in 0..table.len() {
-        let (picture, (a, b)) = table[i];
+    let mut pairing = Pairing::new();
+    while let Some((picture, (a, b))) = pairing.next(left_index, right_index) {
         if stays(left, right, changed, last, picture, a, b) {
             from = run_to(left, from, last + 1, a, out)?;
             add_number(picture, index)?;
@@ -288,7 +285,7 @@ fn no_changes(alloc: Global, count: usize, words: usize) -> Result<Places, Alloc
         words.min(count.saturating_mul(WORDS)),
     )?;
     // Each row that stays is looked for, so most buckets are to be free.
-    Places::new(alloc, rows, count, count.saturating_mul(4))
+    Places::new(alloc, rows, count, count.saturating_mul(16))
 }
 
 /// Writes the normal form of what either side denotes, and gives its index, where the right has nothing beyond the left's
@@ -337,11 +334,11 @@ pub(crate) fn carried(
     )? {
         return Ok(None);
     }
-    let table = paired_numbers(alloc, left_index, right_index)?;
-    let mut index = Vec::with_capacity(alloc, table.len())?;
+    let count = left_index.len().saturating_add(right_index.len());
+    let mut index = Vec::with_capacity(alloc, count)?;
     begin(
         star,
-        table.len(),
+        count,
         left.words().saturating_add(changed.rows.words()),
         out,
     )?;
@@ -352,7 +349,6 @@ pub(crate) fn carried(
         right_index,
         star,
         &changed,
-        &table,
         &mut room,
         &mut index,
         out,

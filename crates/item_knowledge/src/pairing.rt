@@ -1,49 +1,61 @@
-ghost use Rattle.std.specs.Prelude.{◌≡◌, true, IfOk};
-ghost use Rattle.item_knowledge.specs.Tables.{in_order};
-ghost use Rattle.item_knowledge.specs.Gathering as spec;
+ghost use Rattle.item_knowledge.specs.Pairing as spec;
 
 use crate::index::IndexEntry;
-use std::alloc::{AllocError, Global};
 
-/// Beside each picture that either index names the numbers of its fragments on both sides, 0 for the star.
-pub(crate) fn paired_numbers(
-    alloc: Global,
-    xs: &[IndexEntry],
-    ys: &[IndexEntry],
-) -> Result<Vec<(u64, (usize, usize))>, AllocError>
-    requires left { in_order xs.now ≡ true }
-    requires right { in_order ys.now ≡ true }
-    ensures { IfOk result (λ r. r.items ≡ spec.paired xs.now ys.now) }
-{
-    let mut out = Vec::with_capacity(alloc, xs.len().saturating_add(ys.len()))?;
-    let mut i = 0;
-    let mut j = 0;
-    while i < xs.len() && j < ys.len() {
-        let x = xs[i];
-        let y = ys[j];
+/// How far two indexes have been gone along together.
+#[derive(Clone, Copy)]
+pub(crate) struct Pairing {
+    pub left: usize,
+    pub right: usize,
+}
+
+impl Pairing {
+    ghost use Rattle.std.specs.Prelude.{◌≡◌, ◌<◌, ◌∷◌, [], true, None, IfSome};
+    ghost use Rattle.item_knowledge.specs.Tables.{in_order};
+
+    /// At the first pictures of both.
+    pub(crate) fn new() -> Pairing
+        ensures left { result.left ≡ 0 }
+        ensures right { result.right ≡ 0 }
+    {
+        Pairing { left: 0, right: 0 }
+    }
+
+    /// The next picture that either index names, and beside it the numbers of its fragments on both sides, 0 for the star.
+    pub(crate) fn next(
+        &mut self,
+        xs: &[IndexEntry],
+        ys: &[IndexEntry],
+    ) -> Option<(u64, (usize, usize))>
+        requires left { in_order xs.now ≡ true }
+        requires right { in_order ys.now ≡ true }
+        ensures next { IfSome result (λ r. spec.left_of self.old xs.now ys.now ≡ r ∷ spec.left_of self.new xs.now ys.now) }
+        ensures further { IfSome result (λ _. spec.to_come self.new xs.now ys.now < spec.to_come self.old xs.now ys.now) }
+        ensures none { result ≡ None → spec.left_of self.old xs.now ys.now ≡ [] }
+    {
+        if self.left >= xs.len() {
+            if self.right >= ys.len() {
+                return None;
+            }
+            let y = ys[self.right];
+            self.right += 1;
+            return Some((y.0, (0, y.1)));
+        }
+        let x = xs[self.left];
+        if self.right >= ys.len() {
+            self.left += 1;
+            return Some((x.0, (x.1, 0)));
+        }
+        let y = ys[self.right];
         if x.0 < y.0 {
-            out.push((x.0, (x.1, 0)))?;
-            i += 1;
-            continue;
+            self.left += 1;
+            return Some((x.0, (x.1, 0)));
         }
+        self.right += 1;
         if y.0 < x.0 {
-            out.push((y.0, (0, y.1)))?;
-            j += 1;
-            continue;
+            return Some((y.0, (0, y.1)));
         }
-        out.push((x.0, (x.1, y.1)))?;
-        i += 1;
-        j += 1;
+        self.left += 1;
+        Some((x.0, (x.1, y.1)))
     }
-    while i < xs.len() {
-        let x = xs[i];
-        out.push((x.0, (x.1, 0)))?;
-        i += 1;
-    }
-    while j < ys.len() {
-        let y = ys[j];
-        out.push((y.0, (0, y.1)))?;
-        j += 1;
-    }
-    Ok(out)
 }

@@ -154,8 +154,7 @@ impl Places {
     {
         let place = self.before.len();
         self.before.push(self.heads[bucket])?;
-        self.rows.place(pictures)?;
-        self.rows.place(row)?;
+        self.rows.place_fragment(pictures, row)?;
         self.heads[bucket] = self.before.len();
         Ok(place)
     }

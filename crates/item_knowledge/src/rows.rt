@@ -81,6 +81,24 @@ impl Rows {
         Ok(row.place())
     }
 
+    /// The two rows of a fragment, at the end.
+    pub(crate) fn place_fragment(
+        &mut self,
+        pictures: &[u64],
+        words: &[u64],
+    ) -> Result<(), AllocError>
+        ensures { OnOk result (self.new ≡ (self.old ++ pictures.now ∷ []) ++ words.now ∷ []) }
+    {
+        if pictures.len() == 1 && self.arena.has_reserved_pair(words.len()) {
+            let _row = self.arena.place_reserved_pair(pictures[0], words);
+            self.words = self.words.saturating_add(words.len()).saturating_add(1);
+            return Ok(());
+        }
+        self.place(pictures)?;
+        self.place(words)?;
+        Ok(())
+    }
+
     /// One row more, at the end, of a word and others behind it; gives its place.
     pub(crate) fn place_first(&mut self, first: u64, others: &[u64]) -> Result<usize, AllocError>
         ensures place { IfOk result (λ place. place ≡ length self.old) }

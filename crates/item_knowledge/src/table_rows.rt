@@ -50,8 +50,7 @@ fn place_told(
     ensures vector { OnOk result (is_vector (spec.entries_of vector.now) ≡ true) }
 {
     write_row(vector, row)?;
-    rows.place(&[picture])?;
-    rows.place(row)?;
+    rows.place_fragment(&[picture], row)?;
     Ok(())
 }
 

@@ -12,7 +12,7 @@ use crate::group::Group;
 use crate::index::IndexEntry;
 use crate::join::join;
 use crate::live::LiveRows;
-use crate::pairing::paired_numbers;
+use crate::pairing::Pairing;
 use crate::places::Places;
 use crate::rows::Rows;
 use crate::search::number_from;
@@ -137,17 +137,15 @@ fn groups(
     ensures index { IfOk result (λ all. all.2.items
         ≡ index_of (fragments_of left.now) (fragments_of right.now) left_index.now right_index.now) }
 {
-    let table = paired_numbers(alloc, left_index, right_index)?;
-    let (mut groups, mut places, mut index) = no_groups(
-        alloc,
-        table.len(),
-        left.words()
-            .max(right.words())
-            .saturating_add(2 * table.len()),
-    )?;
+    let count = left_index.len().saturating_add(right_index.len());
+    let words = left
+        .words()
+        .max(right.words())
+        .saturating_add(count.saturating_mul(2));
+    let (mut groups, mut places, mut index) = no_groups(alloc, count, words)?;
     let mut room = Vec::new(alloc);
-    for i in 0..table.len() {
-        let (picture, (a, b)) = table[i];
+    let mut pairing = Pairing::new();
+    while let Some((picture, (a, b))) = pairing.next(left_index, right_index) {
         let row = pair(left, left_index, right, right_index, a, b, &mut room)?;
         if same_row(star, row) {
             continue;

@@ -1,78 +1,80 @@
-use Rattle.std.proofs.Common.{rules, ◌≡◌, ◌<◌, ◌+◌, ◌∷◌, true, false, Some, length, drop, sym, ap, ◌∙◌, arith}
+use Rattle.std.proofs.Common.{rules, ◌≡◌, ℕ, ◌+◌, ◌∷◌, true, false, Some, drop, refl, sym, ap, ◌∙◌}
 use Rattle.item_knowledge.specs.Entries.{same_entries}
 use Rattle.item_knowledge.specs.Gathering.{paired, pair_vector, groups_of, index_of, add, place}
 use Rattle.item_knowledge.specs.Rows.{fragments_of, grouped, pairs, vectors_in}
-use Rattle.item_knowledge.proofs.MergeLemmas.{drop_next}
 use Rattle.item_knowledge.proofs.IndexLemmas.{none_gathered, star_passed, one_gathered, all_gathered}
-use Rattle.item_knowledge.proofs.UnionLemmas.{row_range}
+use Rattle.item_knowledge.proofs.PairingLemmas.{next_row, along_first, along_next, along_all, inside}
 use Rattle.item_knowledge.proofs.union.groups.Goals as goal
 
 pub pair-requires-clause-a : goal.pair-requires-clause-a
 pair-requires-clause-a c =
-    let is : c.in_ok-table.table.items ≡ paired c.args.left_index.now c.args.right_index.now = search rules in
-    let less : c.loop-i.i < length c.in_ok-table.table.items = omega (arith, c.in_ok-table.table.ok) in
-    (row_range (fragments_of c.args.left.now) (fragments_of c.args.right.now) c.args.left_index.now c.args.right_index.now c.in_ok-table.table.items c.loop-i.i c.index.result.now
-    c.requires.left c.requires.right is less c.index.ensures).0
+    (inside (fragments_of c.args.left.now) (fragments_of c.args.right.now) c.args.left_index.now c.args.right_index.now c.loop-picture.pairing c.next.new.self c.loop-picture.invariant.place (c.in-Some.picture, (c.in-Some.a, c.in-Some.b))
+    c.requires.left c.requires.right c.loop-picture.invariant.along c.in-Some.ensures.next).0
 
 pub pair-requires-clause-b : goal.pair-requires-clause-b
 pair-requires-clause-b c =
-    let is : c.in_ok-table.table.items ≡ paired c.args.left_index.now c.args.right_index.now = search rules in
-    let less : c.loop-i.i < length c.in_ok-table.table.items = omega (arith, c.in_ok-table.table.ok) in
-    (row_range (fragments_of c.args.left.now) (fragments_of c.args.right.now) c.args.left_index.now c.args.right_index.now c.in_ok-table.table.items c.loop-i.i c.index.result.now
-    c.requires.left c.requires.right is less c.index.ensures).1
+    (inside (fragments_of c.args.left.now) (fragments_of c.args.right.now) c.args.left_index.now c.args.right_index.now c.loop-picture.pairing c.next.new.self c.loop-picture.invariant.place (c.in-Some.picture, (c.in-Some.a, c.in-Some.b))
+    c.requires.left c.requires.right c.loop-picture.invariant.along c.in-Some.ensures.next).1
 
-pub loop-i-init : goal.loop-i-init
-loop-i-init c =
-    let is : c.in_ok-table.table.items ≡ paired c.args.left_index.now c.args.right_index.now = c.in_ok-table.ensures in
+pub loop-picture-init : goal.loop-picture-init
+loop-picture-init c = record {
+  place = 0;
+  along = along_first c.args.left_index.now c.args.right_index.now c.new-pairing.result c.new-pairing.ensures.left c.new-pairing.ensures.right;
+  gathered = none_gathered (pair_vector (fragments_of c.args.left.now) (fragments_of c.args.right.now) (0, 0)) (pair_vector (fragments_of c.args.left.now) (fragments_of c.args.right.now)) (paired c.args.left_index.now c.args.right_index.now) (paired c.args.left_index.now c.args.right_index.now)
+      (grouped c.in_ok-groups.groups.items (vectors_in c.in_ok-groups.places.rows)) c.in_ok-groups.index.items refl (ap (λ gs. grouped gs (vectors_in c.in_ok-groups.places.rows)) c.in_ok-groups.ensures.groups) c.in_ok-groups.ensures.index;
+  placed = c.in_ok-groups.ensures.placed;
+}
+
+pub loop-picture-preserved-then-same_row : goal.loop-picture-preserved-then-same_row
+loop-picture-preserved-then-same_row c =
+    let f = pair_vector (fragments_of c.args.left.now) (fragments_of c.args.right.now) in
+    let table = paired c.args.left_index.now c.args.right_index.now in
+    let all = groups_of (fragments_of c.args.left.now) (fragments_of c.args.right.now) c.args.left_index.now c.args.right_index.now in
+    let every = index_of (fragments_of c.args.left.now) (fragments_of c.args.right.now) c.args.left_index.now c.args.right_index.now in
+    let r : ℕ × (ℕ × ℕ) = (c.in-Some.picture, (c.in-Some.a, c.in-Some.b)) in
+    let i = c.loop-picture.invariant.place in
+    let is : drop i table ≡ r ∷ drop (i + 1) table = next_row c.args.left_index.now c.args.right_index.now c.loop-picture.pairing c.next.new.self i r c.loop-picture.invariant.along c.in-Some.ensures.next in
+    let same : same_entries (f (0, 0)) (f r.1) ≡ true = (λ j. same_entries (sym c.requires.star j) (sym c.in_ok-row.ensures.entries j)) ∙ (sym c.same_row.ensures ∙ search rules) in
     record {
-      gathered = none_gathered (pair_vector (fragments_of c.args.left.now) (fragments_of c.args.right.now) (0, 0)) (pair_vector (fragments_of c.args.left.now) (fragments_of c.args.right.now)) c.in_ok-table.table.items (paired c.args.left_index.now c.args.right_index.now)
-          (grouped c.in_ok-groups.groups.items (vectors_in c.in_ok-groups.places.rows)) c.in_ok-groups.index.items is (ap (λ gs. grouped gs (vectors_in c.in_ok-groups.places.rows)) c.in_ok-groups.ensures.groups) c.in_ok-groups.ensures.index;
-      placed = c.in_ok-groups.ensures.placed;
+      place = i + 1;
+      along = along_next c.args.left_index.now c.args.right_index.now c.loop-picture.pairing c.next.new.self i r c.loop-picture.invariant.along c.in-Some.ensures.next;
+      gathered = star_passed (f (0, 0)) f table (grouped c.loop-picture.groups.items (vectors_in c.loop-picture.places.rows)) c.loop-picture.index.items i all every r is c.loop-picture.invariant.gathered same;
+      placed = c.loop-picture.invariant.placed;
     }
 
-pub loop-i-preserved-then-same_row : goal.loop-i-preserved-then-same_row
-loop-i-preserved-then-same_row c =
-    let r = c.index.result.now in
-    let less : c.loop-i.i < length c.in_ok-table.table.items = omega (arith, c.in_ok-table.table.ok) in
-    let got : drop c.loop-i.i c.in_ok-table.table.items ≡ r ∷ drop (c.loop-i.i + 1) c.in_ok-table.table.items = drop_next c.in_ok-table.table.items c.loop-i.i r less ∙ ap (λ x. x ∷ drop (c.loop-i.i + 1) c.in_ok-table.table.items) (sym c.index.ensures) in
-    let entries : pairs c.in_ok-row.row.now ≡ pair_vector (fragments_of c.args.left.now) (fragments_of c.args.right.now) r.1 = c.in_ok-row.ensures.entries in
-    let same : same_entries (pair_vector (fragments_of c.args.left.now) (fragments_of c.args.right.now) (0, 0)) (pair_vector (fragments_of c.args.left.now) (fragments_of c.args.right.now) r.1) ≡ true = (λ j. same_entries (sym c.requires.star j) (sym entries j)) ∙ (sym c.same_row.ensures ∙ search rules) in
+pub loop-picture-preserved : goal.loop-picture-preserved
+loop-picture-preserved c =
+    let f = pair_vector (fragments_of c.args.left.now) (fragments_of c.args.right.now) in
+    let table = paired c.args.left_index.now c.args.right_index.now in
+    let all = groups_of (fragments_of c.args.left.now) (fragments_of c.args.right.now) c.args.left_index.now c.args.right_index.now in
+    let every = index_of (fragments_of c.args.left.now) (fragments_of c.args.right.now) c.args.left_index.now c.args.right_index.now in
+    let r : ℕ × (ℕ × ℕ) = (c.in-Some.picture, (c.in-Some.a, c.in-Some.b)) in
+    let i = c.loop-picture.invariant.place in
+    let is : drop i table ≡ r ∷ drop (i + 1) table = next_row c.args.left_index.now c.args.right_index.now c.loop-picture.pairing c.next.new.self i r c.loop-picture.invariant.along c.in-Some.ensures.next in
+    let entries : pairs c.in_ok-row.row.now ≡ f r.1 = c.in_ok-row.ensures.entries in
+    let other : same_entries (f (0, 0)) (f r.1) ≡ false = (λ j. same_entries (sym c.requires.star j) (sym entries j)) ∙ (sym c.same_row.ensures ∙ search rules) in
+    let groups : grouped c.add.new.groups.items (vectors_in c.add.new.places.rows) ≡ add r.0 (f r.1) (grouped c.loop-picture.groups.items (vectors_in c.loop-picture.places.rows)) = c.in_ok-k.ensures.groups ∙ ap (λ v. add r.0 v (grouped c.loop-picture.groups.items (vectors_in c.loop-picture.places.rows))) entries in
+    let found : place (grouped c.add.new.groups.items (vectors_in c.add.new.places.rows)) (f r.1) ≡ Some c.in_ok-k.k = ap (λ v. place (grouped c.add.new.groups.items (vectors_in c.add.new.places.rows)) v) (sym entries) ∙ c.in_ok-k.ensures.place in
     record {
-      gathered = star_passed (pair_vector (fragments_of c.args.left.now) (fragments_of c.args.right.now) (0, 0)) (pair_vector (fragments_of c.args.left.now) (fragments_of c.args.right.now)) c.in_ok-table.table.items (grouped c.loop-i.groups.items (vectors_in c.loop-i.places.rows)) c.loop-i.index.items c.loop-i.i
-          (groups_of (fragments_of c.args.left.now) (fragments_of c.args.right.now) c.args.left_index.now c.args.right_index.now) (index_of (fragments_of c.args.left.now) (fragments_of c.args.right.now) c.args.left_index.now c.args.right_index.now)
-          r got c.loop-i.invariant.gathered same;
-      placed = c.loop-i.invariant.placed;
-    }
-
-pub loop-i-preserved : goal.loop-i-preserved
-loop-i-preserved c =
-    let r = c.index.result.now in
-    let less : c.loop-i.i < length c.in_ok-table.table.items = omega (arith, c.in_ok-table.table.ok) in
-    let got : drop c.loop-i.i c.in_ok-table.table.items ≡ r ∷ drop (c.loop-i.i + 1) c.in_ok-table.table.items = drop_next c.in_ok-table.table.items c.loop-i.i r less ∙ ap (λ x. x ∷ drop (c.loop-i.i + 1) c.in_ok-table.table.items) (sym c.index.ensures) in
-    let entries : pairs c.in_ok-row.row.now ≡ pair_vector (fragments_of c.args.left.now) (fragments_of c.args.right.now) r.1 = c.in_ok-row.ensures.entries in
-    let same : same_entries (pair_vector (fragments_of c.args.left.now) (fragments_of c.args.right.now) (0, 0)) (pair_vector (fragments_of c.args.left.now) (fragments_of c.args.right.now) r.1) ≡ false = (λ j. same_entries (sym c.requires.star j) (sym entries j)) ∙ (sym c.same_row.ensures ∙ search rules) in
-    let groups : grouped c.add.new.groups.items (vectors_in c.add.new.places.rows) ≡ add r.0 (pair_vector (fragments_of c.args.left.now) (fragments_of c.args.right.now) r.1) (grouped c.loop-i.groups.items (vectors_in c.loop-i.places.rows)) = c.in_ok-k.ensures.groups ∙ ap (λ v. add r.0 v (grouped c.loop-i.groups.items (vectors_in c.loop-i.places.rows))) entries in
-    let found : place (grouped c.add.new.groups.items (vectors_in c.add.new.places.rows)) (pair_vector (fragments_of c.args.left.now) (fragments_of c.args.right.now) r.1) ≡ Some c.in_ok-k.k = ap (λ v. place (grouped c.add.new.groups.items (vectors_in c.add.new.places.rows)) v) (sym entries) ∙ c.in_ok-k.ensures.place in
-    record {
-      gathered = one_gathered (pair_vector (fragments_of c.args.left.now) (fragments_of c.args.right.now) (0, 0)) (pair_vector (fragments_of c.args.left.now) (fragments_of c.args.right.now)) c.in_ok-table.table.items (grouped c.loop-i.groups.items (vectors_in c.loop-i.places.rows)) (grouped c.add.new.groups.items (vectors_in c.add.new.places.rows))
-          c.loop-i.index.items c.push.new.self.items c.loop-i.i c.in_ok-k.k
-          (groups_of (fragments_of c.args.left.now) (fragments_of c.args.right.now) c.args.left_index.now c.args.right_index.now) (index_of (fragments_of c.args.left.now) (fragments_of c.args.right.now) c.args.left_index.now c.args.right_index.now)
-          r got c.loop-i.invariant.gathered same groups found c.in_ok-push.ensures.items;
+      place = i + 1;
+      along = along_next c.args.left_index.now c.args.right_index.now c.loop-picture.pairing c.next.new.self i r c.loop-picture.invariant.along c.in-Some.ensures.next;
+      gathered = one_gathered (f (0, 0)) f table (grouped c.loop-picture.groups.items (vectors_in c.loop-picture.places.rows)) (grouped c.add.new.groups.items (vectors_in c.add.new.places.rows)) c.loop-picture.index.items c.push.new.self.items i c.in_ok-k.k all every
+          r is c.loop-picture.invariant.gathered other groups found c.in_ok-push.ensures.items;
       placed = c.in_ok-k.ensures.placed;
     }
 
 pub returns-clause-groups : goal.returns-clause-groups
 returns-clause-groups c =
     (all_gathered (pair_vector (fragments_of c.args.left.now) (fragments_of c.args.right.now) (0, 0)) (pair_vector (fragments_of c.args.left.now) (fragments_of c.args.right.now))
-    c.in_ok-table.table.items (grouped c.loop-i.groups.items (vectors_in c.loop-i.places.rows)) c.loop-i.index.items c.loop-i.i
+    (paired c.args.left_index.now c.args.right_index.now) (grouped c.loop-picture.groups.items (vectors_in c.loop-picture.places.rows)) c.loop-picture.index.items c.loop-picture.invariant.place
     (groups_of (fragments_of c.args.left.now) (fragments_of c.args.right.now) c.args.left_index.now c.args.right_index.now)
     (index_of (fragments_of c.args.left.now) (fragments_of c.args.right.now) c.args.left_index.now c.args.right_index.now)
-    (omega (arith, c.in_ok-table.table.ok)) c.loop-i.invariant.gathered).0
+    (along_all c.args.left_index.now c.args.right_index.now c.loop-picture.pairing c.loop-picture.invariant.place c.loop-picture.invariant.along (c.next.ensures.none (search rules))) c.loop-picture.invariant.gathered).0
 
 pub returns-clause-index : goal.returns-clause-index
 returns-clause-index c =
     (all_gathered (pair_vector (fragments_of c.args.left.now) (fragments_of c.args.right.now) (0, 0)) (pair_vector (fragments_of c.args.left.now) (fragments_of c.args.right.now))
-    c.in_ok-table.table.items (grouped c.loop-i.groups.items (vectors_in c.loop-i.places.rows)) c.loop-i.index.items c.loop-i.i
+    (paired c.args.left_index.now c.args.right_index.now) (grouped c.loop-picture.groups.items (vectors_in c.loop-picture.places.rows)) c.loop-picture.index.items c.loop-picture.invariant.place
     (groups_of (fragments_of c.args.left.now) (fragments_of c.args.right.now) c.args.left_index.now c.args.right_index.now)
     (index_of (fragments_of c.args.left.now) (fragments_of c.args.right.now) c.args.left_index.now c.args.right_index.now)
-    (omega (arith, c.in_ok-table.table.ok)) c.loop-i.invariant.gathered).1
+    (along_all c.args.left_index.now c.args.right_index.now c.loop-picture.pairing c.loop-picture.invariant.place c.loop-picture.invariant.along (c.next.ensures.none (search rules))) c.loop-picture.invariant.gathered).1
