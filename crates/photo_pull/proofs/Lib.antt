@@ -1,6 +1,7 @@
 pub mod Along
 pub mod Members
 pub mod Ranges
+mod GapLemmas
 pub mod Ready
 pub mod Told
 pub mod Shown

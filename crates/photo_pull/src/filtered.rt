@@ -141,6 +141,10 @@ pub(crate) fn dropped_of(
     let mut gap = Gap::none();
     let mut hints = Hints::new();
     for block in set.blocks() {
+        // Its pictures have no news, so it is not gone over.
+        if !followed && gap.has_all(block) {
+            continue;
+        }
         push_dropped(
             &mut found, news, followed, device, &mut gap, &mut hints, block,
         )?;

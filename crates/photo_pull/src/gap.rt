@@ -1,3 +1,4 @@
+use photo_device::Held;
 use photo_record::PicNo;
 
 /// Pictures of which a device is told nothing new: from the first up to before the second.
@@ -8,7 +9,9 @@ pub(crate) struct Gap {
 }
 
 impl Gap {
-    ghost use Rattle.std.specs.Prelude.{◌≡◌, ◌&&◌, nat_le, nat_lt};
+    ghost use Rattle.std.specs.Prelude.{◌≡◌, ◌&&◌, nat_le, nat_lt, true};
+    ghost use Rattle.std.specs.List.{list_all};
+    ghost use Rattle.photo_device.specs.Held.{are_in_order};
 
     /// No picture.
     pub fn none() -> Gap
@@ -23,5 +26,16 @@ impl Gap {
         ensures { result ≡ (nat_le self.now.from picture && nat_lt picture self.now.end) }
     {
         self.from <= picture.value() && picture.value() < self.end
+    }
+
+    /// Whether the pictures of a list in order are all among them.
+    pub fn has_all(&self, list: &[Held]) -> bool
+        requires { are_in_order list.now ≡ true }
+        ensures { result ≡ list_all (λ h. nat_le self.now.from h.picture && nat_lt h.picture self.now.end) list.now }
+    {
+        match (list.first(), list.last()) {
+            (Some(first), Some(last)) => self.has(first.picture) && self.has(last.picture),
+            _ => true,
+        }
     }
 }
