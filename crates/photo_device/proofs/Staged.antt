@@ -18,7 +18,7 @@ use Rattle.photo_device.specs.Held.{entries_of, held_before, count_of, find_vers
 use Rattle.photo_device.specs.Device.{Kept, Staging, ModelDevice, Shows, changed, unstaged, IsAsItWas}
 use Rattle.photo_device.specs.Own.{HasEarlier, IsKnownBy, IsDevice}
 use Rattle.photo_device.specs.Taking.{is_on_side, AreNewTo, with_side}
-use Rattle.photo_device.specs.Staging.{HasStaged, MayHand, staging_of, IsAhead, IsPrepared, AreParts}
+use Rattle.photo_device.specs.Staging.{HasStaged, MayHand, MayStage, staging_of, IsAhead, IsPrepared, AreParts}
 use Rattle.photo_device.proofs.AllLemmas.{all_append}
 use Rattle.photo_device.proofs.Counts.{count_of-append, count_of-filter}
 use Rattle.photo_device.proofs.OwnLemmas.{known_later}
@@ -269,16 +269,9 @@ all_in_store tree coming store out store_now out_now new are = has_taken true tr
 pub all_in_out : (tree : Tree) (coming : List Held) (store out store_now out_now : RoomyHelds) → AreNewTo out.helds coming → ArePut tree coming store out [] store_now out_now → out_now.helds ≡ with_side false tree coming out.helds
 all_in_out tree coming store out store_now out_now new are = has_taken false tree coming out.helds out_now.helds new are.in_out
 
--- What a change has to be for a device on which it is staged
+-- What a device keeps for a change that may be staged on it
 
-pub record MayStage (takes : List Held) (gain : List Fragment) (d : Kept) : Type 0 where
-  pub new : AllByRecursion (λ h. find_version h.version (d.store ++ d.out) ≡ None) takes
-  pub distinct : (v : Version) → count_of v takes ≤ 1
-  pub earlier : AllByRecursion HasEarlier takes
-  pub known : AllByRecursion (IsKnownBy gain) takes
-  pub own : (p n : ℕ) → 0 < p → knows gain p (version d.author n) ≡ true → n ≤ d.counter
-
-pub stages : (new : Knowing) (p : Prepared) (gain : List Fragment) (d : Kept) → new.known ≡ d.knowledge → IsStagedUnion new.staged d.knowledge gain → is_normal gain ≡ true → MayStage p.takes gain d
+pub stages : (new : Knowing) (p : Prepared) (gain : List Fragment) (d : Kept) → new.known ≡ d.knowledge → IsStagedUnion new.staged d.knowledge gain → is_normal gain ≡ true → MayStage p.drops p.takes gain d
     → p.in_store.most ≡ length d.store → p.in_store.more ≡ length p.takes + p.room → p.in_out.most ≡ length d.out → p.in_out.more ≡ length p.takes + p.room → IsDevice (unstaged d)
     → AreParts (Some p) new.staged (record (unstaged d) { knowledge = new.known })
 stages new p gain d known union normal may store_most store_more out_most out_more is = record {

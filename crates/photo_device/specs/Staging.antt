@@ -1,11 +1,11 @@
 -- A change that is staged on a device, and committed later together with versions that are handed over.
 use Rattle.std.specs.Prelude.{◌≡◌, ℕ, ◌+◌, ◌≤◌, ◌<◌, true, ◌||◌, List, ◌++◌, length, Option, None, Some, is_some, IfSome}
 use Rattle.std.specs.List.{AllByRecursion}
-use Rattle.photo_version.specs.Version.{Version}
+use Rattle.photo_version.specs.Version.{Version, version}
 use Rattle.item_knowledge.specs.Fragments.{Fragment, knows}
 use Rattle.photo_device.specs.declared.held.Held.{Held}
 use Rattle.photo_device.specs.declared.prepared.Prepared.{Prepared}
-use Rattle.photo_device.specs.Held.{count_of}
+use Rattle.photo_device.specs.Held.{find_version, count_of}
 use Rattle.photo_device.specs.Device.{Kept, Staging, IsAsItWas}
 use Rattle.photo_device.specs.Own.{HasEarlier, IsDevice, IsKnownBy, KnowsItsOwn}
 
@@ -25,6 +25,17 @@ pub record MayHand (handed : List Held) (s : Staging) (d : Kept) : Type 0 where
   pub earlier : AllByRecursion HasEarlier handed
   -- each will be known with its history
   pub known : AllByRecursion (IsKnownBy s.knowledge) handed
+
+-- a change may be staged on a device
+pub record MayStage (drops : List Version) (takes : List Held) (gain : List Fragment) (d : Kept) : Type 0 where
+  -- what is given up is held, and no version is taken twice, or held already
+  pub held : AllByRecursion (λ v. is_some (find_version v (d.store ++ d.out)) ≡ true) drops
+  pub new : AllByRecursion (λ h. find_version h.version (d.store ++ d.out) ≡ None) takes
+  pub distinct : (v : Version) → count_of v takes ≤ 1
+  pub earlier : AllByRecursion HasEarlier takes
+  -- each is learned with its history, and of the device's own versions none that it hasn't made
+  pub known : AllByRecursion (IsKnownBy gain) takes
+  pub own : (p n : ℕ) → 0 < p → knows gain p (version d.author n) ≡ true → n ≤ d.counter
 
 -- Machinery of the proofs: what a device keeps for a change that is staged
 

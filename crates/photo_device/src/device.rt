@@ -70,7 +70,7 @@ impl Device {
     ghost use Rattle.photo_device.specs.Held.{find_version, find_version_of, has_picture, count_of, times_in};
     ghost use Rattle.photo_device.specs.Held.{entry_of, entries_of, helds_at};
     ghost use Rattle.photo_device.specs.Own.{HasEarlier, HasMade, IsDevice, IsKnownBy, IsNext, KnowsItsOwn};
-    ghost use Rattle.photo_device.specs.Staging.{HasStaged, MayHand};
+    ghost use Rattle.photo_device.specs.Staging.{HasStaged, MayHand, MayStage};
     ghost use Rattle.photo_version.specs.Version as versions;
     ghost use Rattle.item_knowledge.specs.Fragments.{knows};
     ghost use Rattle.photo_device.specs.Device.{ModelDevice, Shows, holds, is_held, opening, unstaged, IsAsItWas};
@@ -337,12 +337,7 @@ impl Device {
         gain: &Knowledge,
         room: usize,
     ) -> Result<(), (VersionList, HeldList, AllocError)>
-        requires drops { AllByRecursion (λ v. is_some (find_version v (self.old.store ++ self.old.out)) ≡ true) drops }
-        requires new { AllByRecursion (λ h. find_version h.version (self.old.store ++ self.old.out) ≡ None) takes }
-        requires distinct { (v : versions.Version) → count_of v takes ≤ 1 }
-        requires earlier { AllByRecursion HasEarlier takes }
-        requires known { AllByRecursion (IsKnownBy gain.now.known) takes }
-        requires own { (p n : ℕ) → 0 < p → knows gain.now.known p (versions.version self.old.author n) ≡ true → n ≤ self.old.counter }
+        requires may { MayStage drops takes gain.now.known self.old }
         ensures staged { OnOk result (HasStaged drops takes gain.now.known room self.old self.new) }
         ensures err { OnErr result (IsAsItWas self.old self.new) }
         ensures unstaged { OnErr result (self.new.staged ≡ None) }

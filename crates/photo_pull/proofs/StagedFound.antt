@@ -12,12 +12,12 @@ use Rattle.photo_device.specs.declared.held.Held.{Held}
 use Rattle.photo_device.specs.Held.{entries_of, find_version, count_of}
 use Rattle.photo_device.specs.Device.{Kept, ModelDevice, Shows, changed}
 use Rattle.photo_device.specs.Own.{HasEarlier, IsKnownBy}
-use Rattle.photo_device.specs.Staging.{MayHand}
+use Rattle.photo_device.specs.Staging.{MayHand, MayStage}
 use Rattle.photo_device.proofs.AllLemmas.{all_front}
 use Rattle.photo_pull.specs.declared.finding.Finding.{Finding}
 use Rattle.photo_pull.specs.OnHeld.{gains, new_waiting}
 use Rattle.photo_pull.specs.Pull.{pulled}
-use Rattle.photo_pull.specs.Findings.{IsFound, IsGain, gain_found, drops_found, MayStage, HasStagedFound}
+use Rattle.photo_pull.specs.Findings.{IsFound, IsGain, gain_found, drops_found, HasStagedFound}
 use Rattle.photo_pull.proofs.Ready.{AreReady}
 use Rattle.photo_pull.proofs.Changes.{shows_pulled}
 use Rattle.photo_pull.proofs.Asked.{drops_held, takes_new, takes_earlier, takes_known, gain_own}

@@ -1,15 +1,12 @@
 -- Machinery of the proofs: what the code finds between two devices is what `OnHeld` says, and is staged on one of them.
-use Rattle.std.specs.Prelude.{◌≡◌, ℕ, ◌+◌, ◌<◌, ◌≤◌, Bool, true, false, ◌||◌, if◌then◌else◌, List, [], ◌++◌, length, None, is_some}
-use Rattle.std.specs.List.{AllByRecursion}
+use Rattle.std.specs.Prelude.{◌≡◌, ℕ, ◌+◌, ◌<◌, Bool, true, false, ◌||◌, if◌then◌else◌, List, [], ◌++◌, length}
 use Rattle.std.specs.List.Sorted.{IsPermutation}
-use Rattle.photo_version.specs.Version.{Version, Versions, version}
+use Rattle.photo_version.specs.Version.{Version, Versions}
 use Rattle.photo_version.specs.Vector.{Bound, denotes}
 use Rattle.item_knowledge.specs.Fragments.{Fragment, knows}
 use Rattle.item_knowledge.specs.Tables.{in_order, at}
 use Rattle.photo_device.specs.declared.held.Held.{Held}
-use Rattle.photo_device.specs.Held.{find_version, count_of}
 use Rattle.photo_device.specs.Device.{Kept}
-use Rattle.photo_device.specs.Own.{HasEarlier, IsKnownBy}
 use Rattle.photo_device.specs.Staging.{HasStaged}
 use Rattle.photo_pull.specs.OnHeld.{tells, new_waiting, dropped_stored, dropped_waiting, heard, taken_stored, learns, versions}
 use Rattle.photo_pull.specs.declared.finding.Finding.{Finding}
@@ -39,15 +36,6 @@ gain_found s f p = λ v. if f.learned then knows s.knowledge p v else denotes (a
 -- what it drops
 abbrev pub drops_found : Finding → List Version
 drops_found f = versions f.dropped.stored.items ++ versions f.dropped.waiting.items
-
--- a change may be staged on a device
-pub record MayStage (drops : List Version) (takes : List Held) (gain : List Fragment) (d : Kept) : Type 0 where
-  pub held : AllByRecursion (λ v. is_some (find_version v (d.store ++ d.out)) ≡ true) drops
-  pub new : AllByRecursion (λ h. find_version h.version (d.store ++ d.out) ≡ None) takes
-  pub distinct : (v : Version) → count_of v takes ≤ 1
-  pub earlier : AllByRecursion HasEarlier takes
-  pub known : AllByRecursion (IsKnownBy gain) takes
-  pub own : (p n : ℕ) → 0 < p → knows gain p (version d.author n) ≡ true → n ≤ d.counter
 
 -- a change is staged on a device, by which it learns what is said
 pub record HasStagedGain (drops : List Version) (takes : List Held) (said : ℕ → Versions) (room : ℕ) (old new : Kept) : Type 0 where

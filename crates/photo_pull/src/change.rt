@@ -6,9 +6,9 @@ ghost use Rattle.photo_version.specs.Vector.{denotes};
 ghost use Rattle.item_knowledge.specs.Fragments.{Fragment};
 ghost use Rattle.item_knowledge.specs.Tables.{in_order, at};
 ghost use Rattle.photo_device.specs.Device.{IsAsItWas};
-ghost use Rattle.photo_device.specs.Staging.{HasStaged};
+ghost use Rattle.photo_device.specs.Staging.{HasStaged, MayStage};
 ghost use Rattle.photo_pull.specs.OnHeld.{versions};
-ghost use Rattle.photo_pull.specs.Findings.{IsGain, gain_found, drops_found, MayStage, HasStagedGain, HasStagedFound};
+ghost use Rattle.photo_pull.specs.Findings.{IsGain, gain_found, drops_found, HasStagedGain, HasStagedFound};
 
 use crate::filtered::push_versions;
 use crate::finding::Finding;

@@ -2,8 +2,9 @@ use Rattle.std.proofs.Common.{◌++◌, [], sym, subst}
 use Rattle.std.specs.List.Sorted.{IsPermutation}
 use Rattle.photo_version.specs.Vector.{denotes}
 use Rattle.item_knowledge.specs.Tables.{at}
+use Rattle.photo_device.specs.Staging.{MayStage}
 use Rattle.photo_pull.specs.OnHeld.{versions}
-use Rattle.photo_pull.specs.Findings.{IsGain, drops_found, MayStage}
+use Rattle.photo_pull.specs.Findings.{IsGain, drops_found}
 use Rattle.photo_pull.proofs.StagedFound.{gain_taught, gain_told}
 use Rattle.photo_pull.proofs.change.stage_found.Goals as goal
 

@@ -2,18 +2,13 @@ use Rattle.std.proofs.Common.{◌≡◌, ◌+◌, length, refl, sym, ap, ◌∙�
 use Rattle.std.specs.Prelude.{None}
 use Rattle.item_knowledge.specs.Staged.{IsStagedUnion}
 use Rattle.photo_device.specs.Device.{Kept}
-use Rattle.photo_device.proofs.Staged.{MayStage, stages, has_staged}
+use Rattle.photo_device.specs.Staging.{MayStage}
+use Rattle.photo_device.proofs.Staged.{stages, has_staged}
 use Rattle.photo_device.proofs.device.Device.stage_lent.Goals as goal
 
 pub invariant_of-self-2 : goal.invariant_of-self-2
 invariant_of-self-2 c =
-    let may = subst (MayStage c.args.takes c.args.gain.now.known) (sym c.self.view_is) (record {
-      new = c.requires.new;
-      distinct = c.requires.distinct;
-      earlier = c.requires.earlier;
-      known = c.requires.known;
-      own = c.requires.own;
-    }) in
+    let may = subst (MayStage c.args.drops c.args.takes c.args.gain.now.known) (sym c.self.view_is) c.requires.may in
     let more : c.in-Some.more ≡ length c.args.takes + c.args.room = search rules in
     rw (c.in-Ok.ensures.store_kept, c.in-Ok.ensures.out_kept)
     (stages c.stage.new.self (record { drops = c.args.drops; takes = c.args.takes; room = c.args.room; in_store = c.in-Ok.rooms.0; in_out = c.in-Ok.rooms.1 }) c.args.gain.now.known _ c.stage.ensures.known c.in_default-stage.ensures.staged c.fragments-fragments.ensures.normal may
