@@ -23,3 +23,4 @@ pub mod Grouping
 pub mod Runs
 pub mod Merging
 pub mod Handed
+pub mod GivenUp

@@ -301,6 +301,9 @@ committing prepared o p handed d now is same parts may = record {
   may = may_hand prepared o p handed d is (subst (λ (e : Kept). IfSome e.staged (λ s. MayHand handed s e)) (sym same) may);
 }
 
+pub held_once : (p : Prepared) (o : Option (List Fragment)) (handed : List Held) (d : Kept) → IsCommitting p o handed d → (v : Version) → count_of v d.store + count_of v d.out ≤ 1
+held_once p o handed d are v = let all = all_coming o p handed d are.prepared are.may v in omega arith
+
 pub store_new : (p : Prepared) (o : Option (List Fragment)) (handed : List Held) (d : Kept) (drops : List Version) → IsCommitting p o handed d → AreNewTo (helds_without drops d.store) (handed ++ p.takes)
 store_new p o handed d drops are = coming_to (λ (h : Held). not (is_listed drops h.version)) handed p.takes d.store (λ v. let all = all_coming o p handed d are.prepared are.may v in omega arith)
 

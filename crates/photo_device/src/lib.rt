@@ -5,6 +5,7 @@ mod change;
 mod conflict;
 mod conflicts;
 mod device;
+mod drops;
 mod fault;
 mod held;
 mod held_set;

@@ -9,6 +9,5 @@ pub mod Changes
 pub mod Asked
 pub mod TableLemmas
 pub mod Findings
-pub mod Moved
 mod Committed
 mod StagedFound

@@ -1,14 +1,12 @@
 //! What a target is to drop, to take and to learn, and its staging.
 ghost use Rattle.std.specs.Prelude.{◌≡◌, ◌+◌, ◌≤◌, ◌++◌, true, None, List, [], length, vec_len, vec_capacity, IfOk, OnOk, OnErr};
-ghost use Rattle.std.specs.List.Sorted.{IsPermutation};
-ghost use Rattle.photo_version.specs.Version as spec;
 ghost use Rattle.photo_version.specs.Vector.{denotes};
 ghost use Rattle.item_knowledge.specs.Fragments.{Fragment};
 ghost use Rattle.item_knowledge.specs.Tables.{in_order, at};
 ghost use Rattle.photo_device.specs.Device.{IsAsItWas};
 ghost use Rattle.photo_device.specs.Staging.{HasStaged, MayStage};
 ghost use Rattle.photo_pull.specs.OnHeld.{versions};
-ghost use Rattle.photo_pull.specs.Findings.{IsGain, gain_found, drops_found, HasStagedGain, HasStagedFound};
+ghost use Rattle.photo_pull.specs.Findings.{IsGain, gain_found, drops_found, HasStagedGain};
 
 use crate::filtered::push_versions;
 use crate::finding::Finding;
@@ -28,15 +26,34 @@ fn gain_of(alloc: Global, told: &[(PicNo, Vector)]) -> Result<Knowledge, AllocEr
     Ok(gain)
 }
 
-// The versions of what a device drops, in order.
-fn drops_of(alloc: Global, stored: &[Held], waiting: &[Held]) -> Result<VersionList, AllocError>
-    ensures { IfOk result (λ drops. IsPermutation (versions stored.now ++ versions waiting.now) drops) }
+// Puts the versions of those of a list behind others, and the picture of each as a hint where it is held.
+fn push_drops(
+    drops: &mut Vec<Version>,
+    pictures: &mut Vec<PicNo>,
+    list: &[Held],
+) -> Result<(), AllocError>
+    ensures { OnOk result (drops.new.items ≡ drops.old.items ++ versions list.now) }
+{
+    for held in list {
+        drops.push(held.version)?;
+        pictures.push(held.picture)?;
+    }
+    Ok(())
+}
+
+// The versions of what a device drops, and the picture of each.
+fn drops_of(
+    alloc: Global,
+    stored: &[Held],
+    waiting: &[Held],
+) -> Result<(VersionList, Vec<PicNo>), AllocError>
+    ensures { IfOk result (λ all. all.0 ≡ versions stored.now ++ versions waiting.now) }
 {
     let mut drops = Vec::new(alloc);
-    push_versions(&mut drops, stored)?;
-    push_versions(&mut drops, waiting)?;
-    drops.sort_unstable();
-    Ok(VersionList::new(drops))
+    let mut pictures = Vec::new(alloc);
+    push_drops(&mut drops, &mut pictures, stored)?;
+    push_drops(&mut drops, &mut pictures, waiting)?;
+    Ok((VersionList::new(drops), pictures))
 }
 
 /// The versions that the source hands over, in the order of its out, and an empty list with room for them.
@@ -57,6 +74,7 @@ pub(crate) fn handed_of(
 // Stages a change by which the target learns all that the source knows. The source lends it, so it isn't copied.
 fn stage_taught(
     drops: VersionList,
+    pictures: Vec<PicNo>,
     takes: HeldList,
     target: &mut Device,
     source: &mut Device,
@@ -69,7 +87,8 @@ fn stage_taught(
     ensures source { source.new ≡ source.old }
 {
     source.settle_bounds();
-    if let Err((_, _, refused)) = target.stage_lent(drops, takes, source.knowledge(), room) {
+    let gain = source.knowledge();
+    if let Err((_, _, refused)) = target.stage_lent(drops, pictures, takes, gain, room) {
         return Err(refused);
     }
     Ok(())
@@ -79,6 +98,7 @@ fn stage_taught(
 fn stage_told(
     alloc: Global,
     drops: VersionList,
+    pictures: Vec<PicNo>,
     takes: HeldList,
     told: &[(PicNo, Vector)],
     target: &mut Device,
@@ -92,7 +112,7 @@ fn stage_told(
     ensures unstaged { OnErr result (target.new.staged ≡ None) }
 {
     let gain = gain_of(alloc, told)?;
-    if let Err((_, _, refused)) = target.stage_lent(drops, takes, &gain, room) {
+    if let Err((_, _, refused)) = target.stage_lent(drops, pictures, takes, &gain, room) {
         return Err(refused);
     }
     Ok(())
@@ -109,14 +129,15 @@ pub(crate) fn stage_found(
 ) -> Result<(), AllocError>
     requires order { in_order finding.told.items ≡ true }
     requires unstaged { target.old.staged ≡ None }
-    requires may { (drops : List spec.Version) (gain : List Fragment) → IsPermutation (drops_found finding) drops
-        → IsGain gain (gain_found source.old finding) → MayStage drops finding.taken.items gain target.old }
-    ensures staged { OnOk result (HasStagedFound finding room source.old target.old target.new) }
+    requires may { (gain : List Fragment) → IsGain gain (gain_found source.old finding)
+        → MayStage (drops_found finding) finding.taken.items gain target.old }
+    ensures staged { OnOk result
+        (HasStagedGain (drops_found finding) finding.taken.items (gain_found source.old finding) room target.old target.new) }
     ensures err { OnErr result (IsAsItWas target.old target.new) }
     ensures unstaged { OnErr result (target.new.staged ≡ None) }
     ensures source { source.new ≡ source.old }
 {
-    let drops = drops_of(alloc, &finding.dropped.stored, &finding.dropped.waiting)?;
+    let (drops, pictures) = drops_of(alloc, &finding.dropped.stored, &finding.dropped.waiting)?;
     let Finding {
         learned,
         taken,
@@ -125,7 +146,7 @@ pub(crate) fn stage_found(
     } = finding;
     let takes = HeldList::new(taken);
     if learned {
-        return stage_taught(drops, takes, target, source, room);
+        return stage_taught(drops, pictures, takes, target, source, room);
     }
-    stage_told(alloc, drops, takes, &told, target, room)
+    stage_told(alloc, drops, pictures, takes, &told, target, room)
 }

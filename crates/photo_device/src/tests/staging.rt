@@ -2,9 +2,11 @@ ghost use Rattle.std.specs.Prelude.{◌≡◌, ℕ, false};
 ghost use Rattle.photo_version.specs.Version as versions;
 ghost use Rattle.item_knowledge.specs.Fragments.{knows};
 
+use super::sets::version;
 use super::{lists, made_all, on_device, opened};
 use crate::{Change, Device, HeldList, VersionList};
 use item_knowledge::Knowledge;
+use photo_record::PicNo;
 use photo_version::Version;
 use std::alloc::Global;
 
@@ -73,4 +75,84 @@ fn with_another(alloc: Global, one: &mut Device) -> bool {
 #[test]
 fn a_change_is_dropped_or_committed(rt: HostRuntime) {
     assert!(rt; on_device(rt.alloc(), 0, "all", with_another));
+}
+
+// Pictures as hints where what is given up is held.
+fn hinted(alloc: Global, numbers: &[u32]) -> Option<Vec<PicNo>> {
+    let mut pictures = Vec::new(alloc);
+    for number in numbers {
+        pictures.push(PicNo::new(*number)?).ok()?;
+    }
+    Some(pictures)
+}
+
+// Stages on device 0 that it gives up its versions 3, 2 and 5, where it holds them.
+fn stages_three(alloc: Global, device: &mut Device, hints: &[u32]) -> bool {
+    match (hinted(alloc, hints), Knowledge::new(alloc)) {
+        (Some(pictures), Ok(gain)) => stages_drops(alloc, device, pictures, &gain),
+        _ => false,
+    }
+}
+
+fn stages_drops(alloc: Global, device: &mut Device, pictures: Vec<PicNo>, gain: &Knowledge) -> bool
+    requires { (p : ℕ) (v : versions.Version) → knows gain.now.known p v ≡ false }
+{
+    let (Some(one), Some(two), Some(three)) = (version(0, 3), version(0, 2), version(0, 5)) else {
+        return false;
+    };
+    if device.held(one).is_none() {
+        return false;
+    }
+    if device.held(two).is_none() {
+        return false;
+    }
+    if device.held(three).is_none() {
+        return false;
+    }
+    let Ok(drops) = Vec::from_slice(alloc, &[one, two, three]) else {
+        return false;
+    };
+    let drops = VersionList::new(drops);
+    let takes = HeldList::new(Vec::new(alloc));
+    device.stage_lent(drops, pictures, takes, gain, 0).is_ok()
+}
+
+// Each version is of the picture of its number: 1, 3 and 5 go to the store of a device that keeps what is rated 3 or more, and
+// 2 and 4 to its out.
+const FIVE_PICTURES: &[(u32, u8)] = &[(1, 5), (2, 1), (3, 4), (4, 2), (5, 5)];
+
+fn keeps_one_and_four(alloc: Global, device: &mut Device, hints: &[u32]) -> bool {
+    made_all(alloc, device, FIVE_PICTURES)
+        && stages_three(alloc, device, hints)
+        && commits(alloc, device)
+        && lists(device.store(), &[(1, 1)])
+        && lists(device.out(), &[(4, 4)])
+}
+
+fn gives_up_by(alloc: Global, hints: &[u32]) -> bool {
+    match opened(alloc, 0, "rating >= 3") {
+        Some(mut device) => keeps_one_and_four(alloc, &mut device, hints),
+        None => false,
+    }
+}
+
+// The versions that go are of the pictures 3, 2 and 5.
+const HINTS: &[(&str, &[u32])] = &[
+    ("right", &[3, 2, 5]),
+    ("none", &[]),
+    ("one", &[3]),
+    ("two", &[3, 2]),
+    ("more", &[3, 2, 5, 1, 4]),
+    ("of no picture that is held", &[9, 9, 9]),
+    ("of each other", &[2, 5, 3]),
+    ("of what stays", &[1, 4, 1]),
+    ("wrong first", &[1, 2, 5]),
+    ("wrong last", &[3, 2, 4]),
+];
+
+#[test]
+fn hints_change_nothing_that_is_given_up(rt: HostRuntime) {
+    for (name, hints) in HINTS {
+        assert!(rt; gives_up_by(rt.alloc(), hints), "{name}");
+    }
 }
