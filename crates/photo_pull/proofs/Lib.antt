@@ -9,5 +9,6 @@ pub mod Changes
 pub mod Asked
 pub mod TableLemmas
 pub mod Findings
+pub mod Moved
 mod Committed
 mod StagedFound

@@ -3,6 +3,7 @@ use Rattle.std.proofs.Common.{◌≡◌, ℕ, ◌<◌, ◌≤◌, true, false, c
 use Rattle.std.specs.Prelude.{IfSome}
 use Rattle.std.specs.Option.{is_some}
 use Rattle.std.specs.List.{AllByRecursion}
+use Rattle.std.specs.List.Sorted.{IsPermutation}
 use Rattle.photo_version.specs.Version.{Version, version}
 use Rattle.photo_version.specs.Vector.{denotes}
 use Rattle.item_knowledge.specs.Fragments.{Fragment, knows}
@@ -16,12 +17,13 @@ use Rattle.photo_device.proofs.AllLemmas.{all_front}
 use Rattle.photo_pull.specs.declared.finding.Finding.{Finding}
 use Rattle.photo_pull.specs.OnHeld.{gains, new_waiting}
 use Rattle.photo_pull.specs.Pull.{pulled}
-use Rattle.photo_pull.specs.Findings.{IsFound, IsGain, gain_found, drops_found, HasStagedGain}
+use Rattle.photo_pull.specs.Findings.{IsFound, IsGain, gain_found, drops_found, HasStagedFound}
 use Rattle.photo_pull.proofs.Ready.{AreReady}
 use Rattle.photo_pull.proofs.Changes.{shows_pulled}
 use Rattle.photo_pull.proofs.Asked.{drops_held, takes_new, takes_earlier, takes_known, gain_own}
 use Rattle.photo_pull.proofs.Committed.{taken_distinct, may_hand, shows_gained}
 use Rattle.photo_pull.proofs.Findings.{gain_is, drops_are, shows_change}
+use Rattle.photo_pull.proofs.Moved.{all_moved, changed_moved}
 
 -- what is learned, where it is all that the source knows, and else
 
@@ -35,9 +37,9 @@ module _ (t s : Kept) (ready : AreReady t s) (f : Finding) (found : IsFound t s 
   gained : (gain : List Fragment) → IsGain gain (gain_found s f) → (p : ℕ) (v : Version) → 0 < p → knows gain p v ≡ gains t s p v
   gained gain is p v above = is.pairs p v above ∙ gain_is t s f found ready p v
 
-  pub may_stage : ((p n : ℕ) → 0 < p → knows s.knowledge p (version t.author n) ≡ true → n ≤ t.counter) → (gain : List Fragment) → IsGain gain (gain_found s f) → MayStage (drops_found f) f.taken.items gain t
-  may_stage own gain is = record {
-    held = subst (AllByRecursion (λ v. is_some (find_version v (t.store ++ t.out)) ≡ true)) (sym (drops_are t s f found)) (drops_held t s ready);
+  pub may_stage : ((p n : ℕ) → 0 < p → knows s.knowledge p (version t.author n) ≡ true → n ≤ t.counter) → (ds : List Version) (gain : List Fragment) → IsPermutation (drops_found f) ds → IsGain gain (gain_found s f) → MayStage ds f.taken.items gain t
+  may_stage own ds gain permuted is = record {
+    held = all_moved (λ v. is_some (find_version v (t.store ++ t.out))) (drops_found f) ds permuted (subst (AllByRecursion (λ v. is_some (find_version v (t.store ++ t.out)) ≡ true)) (sym (drops_are t s f found)) (drops_held t s ready));
     new = subst (AllByRecursion (λ (h : Held). find_version h.version (t.store ++ t.out) ≡ None)) (sym found.taken) (all_front _ _ _ (takes_new t s ready));
     distinct = λ v. subst (λ l. count_of v l ≤ 1) (sym found.taken) (taken_distinct t s ready v);
     earlier = subst (AllByRecursion HasEarlier) (sym found.taken) (all_front _ _ _ (takes_earlier t s ready));
@@ -45,15 +47,16 @@ module _ (t s : Kept) (ready : AreReady t s) (f : Finding) (found : IsFound t s 
     own = gain_own t s ready gain (gained gain is) own;
   }
 
-  module _ (room : ℕ) (new : Kept) (has : HasStagedGain (drops_found f) f.taken.items (gain_found s f) room t new) (handed : List Held) (handed_is : handed ≡ new_waiting t s) where
+  module _ (room : ℕ) (new : Kept) (has : HasStagedFound f room s t new) (handed : List Held) (handed_is : handed ≡ new_waiting t s) where
     pub may_hand_found : length handed ≤ room → IfSome new.staged (λ st. MayHand handed st new)
     may_hand_found few =
-        may_hand t s ready has.gain room (drops_found f) f.taken.items handed new found.taken handed_is has.staged few (takes_known t s ready has.gain (gained has.gain has.is_gain))
+        may_hand t s ready has.change.gain room has.drops f.taken.items handed new found.taken handed_is has.change.staged few (takes_known t s ready has.change.gain (gained has.change.gain has.change.is_gain))
 
     pub shows_found : (after : Kept) → IfSome new.staged (λ st. (m : ModelDevice) → Shows new m → Shows after (changed st.drops (entries_of (st.takes ++ handed)) (knows st.knowledge) m))
         → (tm sm : ModelDevice) → Shows t tm → Shows s sm → Shows after (pulled tm sm)
     shows_found after clause tm sm shows_t shows_s =
-        let gain = knows has.gain in
-        shows_pulled t s ready tm sm shows_t shows_s after gain (gained has.gain has.is_gain)
+        let gain = knows has.change.gain in
+        shows_pulled t s ready tm sm shows_t shows_s after gain (gained has.change.gain has.change.is_gain)
         (shows_change t s f found after (drops_found f) (f.taken.items ++ handed) gain (drops_are t s f found) (λ i. found.taken i ++ handed_is i)
-        (shows_gained has.gain room (drops_found f) f.taken.items handed t new after has.staged clause))
+        (λ m shows. subst (Shows after) (changed_moved (drops_found f) has.drops has.permuted (entries_of (f.taken.items ++ handed)) gain m)
+        (shows_gained has.change.gain room has.drops f.taken.items handed t new after has.change.staged clause m shows)))

@@ -1,5 +1,6 @@
 -- Machinery of the proofs: what the code finds between two devices is what `OnHeld` says, and is staged on one of them.
 use Rattle.std.specs.Prelude.{◌≡◌, ℕ, ◌+◌, ◌<◌, Bool, true, false, ◌||◌, if◌then◌else◌, List, [], ◌++◌, length}
+use Rattle.std.specs.List.Sorted.{IsPermutation}
 use Rattle.photo_version.specs.Version.{Version, Versions}
 use Rattle.photo_version.specs.Vector.{Bound, denotes}
 use Rattle.item_knowledge.specs.Fragments.{Fragment, knows}
@@ -41,3 +42,9 @@ pub record HasStagedGain (drops : List Version) (takes : List Held) (said : ℕ 
   pub gain : List Fragment
   pub is_gain : IsGain gain said
   pub staged : HasStaged drops takes gain room old new
+
+-- the change that was found is staged on a device
+pub record HasStagedFound (f : Finding) (room : ℕ) (s old new : Kept) : Type 0 where
+  pub drops : List Version
+  pub permuted : IsPermutation (drops_found f) drops
+  pub change : HasStagedGain drops f.taken.items (gain_found s f) room old new

@@ -1,12 +1,14 @@
 //! What a target is to drop, to take and to learn, and its staging.
 ghost use Rattle.std.specs.Prelude.{◌≡◌, ◌+◌, ◌≤◌, ◌++◌, true, None, List, [], length, vec_len, vec_capacity, IfOk, OnOk, OnErr};
+ghost use Rattle.std.specs.List.Sorted.{IsPermutation};
+ghost use Rattle.photo_version.specs.Version as spec;
 ghost use Rattle.photo_version.specs.Vector.{denotes};
 ghost use Rattle.item_knowledge.specs.Fragments.{Fragment};
 ghost use Rattle.item_knowledge.specs.Tables.{in_order, at};
 ghost use Rattle.photo_device.specs.Device.{IsAsItWas};
 ghost use Rattle.photo_device.specs.Staging.{HasStaged, MayStage};
 ghost use Rattle.photo_pull.specs.OnHeld.{versions};
-ghost use Rattle.photo_pull.specs.Findings.{IsGain, gain_found, drops_found, HasStagedGain};
+ghost use Rattle.photo_pull.specs.Findings.{IsGain, gain_found, drops_found, HasStagedGain, HasStagedFound};
 
 use crate::filtered::push_versions;
 use crate::finding::Finding;
@@ -15,6 +17,10 @@ use photo_device::{Device, Held, HeldList, VersionList};
 use photo_record::PicNo;
 use photo_version::{Vector, Version};
 use std::alloc::{AllocError, Global};
+
+// A version that goes is looked for by its picture where at least so many are held for each that goes: the search and the
+// gap that it leaves in its block cost about as much as it takes to go along so many.
+const HELD_BY_DROP: usize = 64;
 
 // What a table says.
 fn gain_of(alloc: Global, told: &[(PicNo, Vector)]) -> Result<Knowledge, AllocError>
@@ -26,33 +32,40 @@ fn gain_of(alloc: Global, told: &[(PicNo, Vector)]) -> Result<Knowledge, AllocEr
     Ok(gain)
 }
 
-// Puts the versions of those of a list behind others, and the picture of each as a hint where it is held.
-fn push_drops(
-    drops: &mut Vec<Version>,
-    pictures: &mut Vec<PicNo>,
-    list: &[Held],
-) -> Result<(), AllocError>
-    ensures { OnOk result (drops.new.items ≡ drops.old.items ++ versions list.now) }
-{
+// Puts the pictures of those of a list behind others.
+fn push_pictures(pictures: &mut Vec<PicNo>, list: &[Held]) -> Result<(), AllocError> {
     for held in list {
-        drops.push(held.version)?;
         pictures.push(held.picture)?;
     }
     Ok(())
 }
 
-// The versions of what a device drops, and the picture of each.
+// Whether so many versions are few of those that a device holds.
+fn are_few(count: usize, device: &Device) -> bool {
+    let held = device.store().len().saturating_add(device.out().len());
+    count <= held / HELD_BY_DROP
+}
+
+// The versions of what a device drops. Where these are few, the picture of each comes with them, by which it is found;
+// otherwise they are in order, since all that the device holds is gone along for them.
 fn drops_of(
     alloc: Global,
+    device: &Device,
     stored: &[Held],
     waiting: &[Held],
 ) -> Result<(VersionList, Vec<PicNo>), AllocError>
-    ensures { IfOk result (λ all. all.0 ≡ versions stored.now ++ versions waiting.now) }
+    ensures { IfOk result (λ all. IsPermutation (versions stored.now ++ versions waiting.now) all.0) }
 {
     let mut drops = Vec::new(alloc);
+    push_versions(&mut drops, stored)?;
+    push_versions(&mut drops, waiting)?;
     let mut pictures = Vec::new(alloc);
-    push_drops(&mut drops, &mut pictures, stored)?;
-    push_drops(&mut drops, &mut pictures, waiting)?;
+    if are_few(drops.len(), device) {
+        push_pictures(&mut pictures, stored)?;
+        push_pictures(&mut pictures, waiting)?;
+        return Ok((VersionList::new(drops), pictures));
+    }
+    drops.sort_unstable();
     Ok((VersionList::new(drops), pictures))
 }
 
@@ -87,8 +100,13 @@ fn stage_taught(
     ensures source { source.new ≡ source.old }
 {
     source.settle_bounds();
-    let gain = source.knowledge();
-    if let Err((_, _, refused)) = target.stage_lent(drops, pictures, takes, gain, room) {
+    if let Err((_, _, refused)) = target.stage_lent(
+        drops,
+        pictures,
+        takes,
+        source.knowledge(),
+        room,
+    ) {
         return Err(refused);
     }
     Ok(())
@@ -129,15 +147,19 @@ pub(crate) fn stage_found(
 ) -> Result<(), AllocError>
     requires order { in_order finding.told.items ≡ true }
     requires unstaged { target.old.staged ≡ None }
-    requires may { (gain : List Fragment) → IsGain gain (gain_found source.old finding)
-        → MayStage (drops_found finding) finding.taken.items gain target.old }
-    ensures staged { OnOk result
-        (HasStagedGain (drops_found finding) finding.taken.items (gain_found source.old finding) room target.old target.new) }
+    requires may { (drops : List spec.Version) (gain : List Fragment) → IsPermutation (drops_found finding) drops
+        → IsGain gain (gain_found source.old finding) → MayStage drops finding.taken.items gain target.old }
+    ensures staged { OnOk result (HasStagedFound finding room source.old target.old target.new) }
     ensures err { OnErr result (IsAsItWas target.old target.new) }
     ensures unstaged { OnErr result (target.new.staged ≡ None) }
     ensures source { source.new ≡ source.old }
 {
-    let (drops, pictures) = drops_of(alloc, &finding.dropped.stored, &finding.dropped.waiting)?;
+    let (drops, pictures) = drops_of(
+        alloc,
+        target,
+        &finding.dropped.stored,
+        &finding.dropped.waiting,
+    )?;
     let Finding {
         learned,
         taken,

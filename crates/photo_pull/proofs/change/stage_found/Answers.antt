@@ -1,6 +1,8 @@
-use Rattle.std.proofs.Common.{◌≡◌, ◌++◌, [], ◌∙◌, subst}
+use Rattle.std.proofs.Common.{◌++◌, [], sym, subst}
+use Rattle.std.specs.List.Sorted.{IsPermutation}
 use Rattle.photo_version.specs.Vector.{denotes}
 use Rattle.item_knowledge.specs.Tables.{at}
+use Rattle.photo_device.specs.Staging.{MayStage}
 use Rattle.photo_pull.specs.OnHeld.{versions}
 use Rattle.photo_pull.specs.Findings.{IsGain, drops_found}
 use Rattle.photo_pull.proofs.StagedFound.{gain_taught, gain_told}
@@ -8,13 +10,17 @@ use Rattle.photo_pull.proofs.change.stage_found.Goals as goal
 
 pub stage_taught-requires : goal.stage_taught-requires
 stage_taught-requires c =
-    let drops : c.in_ok-drops.drops ≡ drops_found c.args.finding = c.in_ok-drops.ensures ∙ (λ i. versions (c.deref.ensures.value i) ++ versions (c.deref-2.ensures.value i)) in
+    let permuted : IsPermutation (drops_found c.args.finding) c.in_ok-drops.drops =
+    subst (λ l. IsPermutation l c.in_ok-drops.drops) (λ i. versions (c.deref.ensures.value i) ++ versions (c.deref-2.ensures.value i)) c.in_ok-drops.ensures in
     record {
-      may = rw (drops, c.new-takes.ensures) (c.requires.may c.args.source.now.knowledge (gain_taught c.args.source.now c.args.finding c.if-learned.true));
+      may = subst (λ l. MayStage c.in_ok-drops.drops l c.args.source.now.knowledge c.args.target.now) (sym c.new-takes.ensures)
+          (c.requires.may c.in_ok-drops.drops c.args.source.now.knowledge permuted (gain_taught c.args.source.now c.args.finding c.if-learned.true));
     }
 
 pub stage_told-requires-clause-may : goal.stage_told-requires-clause-may
 stage_told-requires-clause-may c = λ gain is.
-    let drops : c.in_ok-drops.drops ≡ drops_found c.args.finding = c.in_ok-drops.ensures ∙ (λ i. versions (c.deref.ensures.value i) ++ versions (c.deref-2.ensures.value i)) in
-    rw (drops, c.new-takes.ensures)
-    (c.requires.may gain (gain_told c.args.source.now c.args.finding c.if-learned.false gain (subst (λ table. IsGain gain (λ p. denotes (at [] table p))) c.deref-3.ensures.value is)))
+    let permuted : IsPermutation (drops_found c.args.finding) c.in_ok-drops.drops =
+    subst (λ l. IsPermutation l c.in_ok-drops.drops) (λ i. versions (c.deref.ensures.value i) ++ versions (c.deref-2.ensures.value i)) c.in_ok-drops.ensures in
+    subst (λ l. MayStage c.in_ok-drops.drops l gain c.args.target.now) (sym c.new-takes.ensures)
+    (c.requires.may c.in_ok-drops.drops gain permuted (gain_told c.args.source.now c.args.finding c.if-learned.false gain
+    (subst (λ table. IsGain gain (λ p. denotes (at [] table p))) c.deref-3.ensures.value is)))

@@ -41,7 +41,7 @@ hand_over-requires-clause-distinct c = λ v.
     subst (λ vs. times_in v vs ≤ 1) (sym asked) (asked_once c.args.target.now c.args.source.now ready v)
 
 pub commit-requires-clause-staged : goal.commit-requires-clause-staged
-commit-requires-clause-staged c = is_staged _ _ _ _ _ _ c.in_ok-stage_found.ensures.staged.staged
+commit-requires-clause-staged c = is_staged _ _ _ _ _ _ c.in_ok-stage_found.ensures.staged.change.staged
 
 pub commit-requires-clause-handed : goal.commit-requires-clause-handed
 commit-requires-clause-handed c =
