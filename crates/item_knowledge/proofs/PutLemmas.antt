@@ -32,7 +32,7 @@ above_at k [] i h l = absurd (omega arith)
 above_at k (e ∷ es) zero h l = ltb-true k e.0 (and_parts (ltb k e.0) (keys_pass (λ n. ltb k n) es) h).0
 above_at k (e ∷ es) (suc i) h l = above_at k es i (and_parts (ltb k e.0) (keys_pass (λ n. ltb k n) es) h).1 (omega arith)
 
-entry_bound : (es : List Entry) (i a : ℕ) → in_order es ≡ true → i < length es → (get_or es i (0, 0)).0 ≡ a → bound es a ≡ (get_or es i (0, 0)).1
+pub entry_bound : (es : List Entry) (i a : ℕ) → in_order es ≡ true → i < length es → (get_or es i (0, 0)).0 ≡ a → bound es a ≡ (get_or es i (0, 0)).1
 entry_bound [] i a h l e = absurd (omega arith)
 entry_bound (x ∷ es) zero a h l e = rw (eq-eqb x.0 a e) refl
 entry_bound (x ∷ es) (suc i) a h l e =

@@ -44,6 +44,14 @@ absent_at (x ∷ xs) p (suc i) e o h n =
     let less = h.below 0 e (omega arith) in
     rw (ne_eqb x.0 p (λ same. absurd (omega arith))) (absent_at xs p i e a.1 (record { below = λ k d g. h.below (suc k) d (omega arith); from = λ k d g m. h.from (suc k) d (omega arith) (omega arith) }) (λ l. n (omega arith)))
 
+pub found_there : (xs : List (ℕ × ℕ)) (p i : ℕ) (e : ℕ × ℕ) → in_order xs ≡ true → i < length xs → (get_or xs i e).0 ≡ p → (get_or xs i e).1 ≡ at 0 xs p
+found_there [] p i e o l s = absurd (omega arith)
+found_there (x ∷ xs) p zero e o l s = rw (eq-eqb x.0 p s) refl
+found_there (x ∷ xs) p (suc i) e o l s =
+    let a = and_parts (keys_pass (λ k. ltb x.0 k) xs) (in_order xs) o in
+    let less = first_below x.0 xs i e a.0 (omega arith) in
+    rw (ne_eqb x.0 p (λ same. absurd (omega arith))) (found_there xs p i e a.1 (omega arith) s)
+
 pub is_place : (p : ℕ) (xs : List (ℕ × ℕ)) (i : ℕ) → IsPartitionPoint (λ r. ltb r.0 p ≡ true) (λ r. ltb r.0 p ≡ false) xs i → IsPlace p xs i
 is_place p xs i h = record {
   below = λ k d l. ltb-true (get_or xs k d).0 p (search (rules, h.0));

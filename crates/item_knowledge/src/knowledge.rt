@@ -103,14 +103,9 @@ impl Knowledge {
     pub fn knows_near(&self, hint: usize, picture: PicNo, version: Version) -> (bool, usize)
         ensures { result.0 ≡ spec.knows self.now.known picture version }
     {
-        if self.has_of_every(version) {
-            return (true, hint);
-        }
         let (number, next) = number_near(&self.index, hint, u64::from(picture.value()));
-        let known = self
-            .live
-            .has_beyond(number, version.author().word(), u64::from(version.n()));
-        (known, next)
+        let bound = self.live.bound(number, version.author().word());
+        (u64::from(version.n()) <= bound, next)
     }
 
     // Whether the star has a version, which is then known of every picture.

@@ -1,4 +1,4 @@
-ghost use Rattle.std.specs.Prelude.{◌≡◌, ℕ, ◌<◌, ◌≤◌, true, length, get_or, drop};
+ghost use Rattle.std.specs.Prelude.{◌≡◌, ℕ, ◌<◌, ◌≤◌, true, length, get_or, drop, IfSome};
 ghost use Rattle.item_knowledge.specs.Tables.{in_order, at};
 ghost use Rattle.item_knowledge.specs.Entries.{bound, leq, is_vector};
 ghost use Rattle.item_knowledge.specs.Rows.{pairs, IsRow};
@@ -45,12 +45,34 @@ fn is_ahead(index: &[IndexEntry], place: usize, picture: u64) -> bool {
     last >= index.len() || picture <= index[last].0
 }
 
+// The number of the fragment to which an index leads from a picture, where the picture stands at that place.
+fn number_there(index: &[IndexEntry], place: usize, picture: u64) -> Option<usize>
+    requires { in_order index.now ≡ true }
+    ensures { IfSome result (λ number. number ≡ at 0 index.now picture) }
+{
+    if place >= index.len() {
+        return None;
+    }
+    let row = index[place];
+    if row.0 != picture {
+        return None;
+    }
+    Some(row.1)
+}
+
 /// The number of the fragment to which an index leads from a picture, 0 for the star, and a hint for a later picture. The
 /// work is small where the hint is that of an earlier picture close by; the number is right with any hint.
 pub(crate) fn number_near(index: &[IndexEntry], hint: usize, picture: u64) -> (usize, usize)
     requires { in_order index.now ≡ true }
     ensures { result.0 ≡ at 0 index.now picture }
 {
+    if let Some(number) = number_there(index, hint, picture) {
+        return (number, hint);
+    }
+    let next = hint.saturating_add(1);
+    if let Some(number) = number_there(index, next, picture) {
+        return (number, next);
+    }
     if is_behind(index, hint, picture) {
         if is_ahead(index, hint, picture) {
             return number_from(index, hint, picture);
@@ -70,6 +92,18 @@ pub(crate) fn entry_at(row: &[u64], i: usize) -> (u64, u64)
     (row[2 * i], row[2 * i + 1])
 }
 
+// The bound of an author in a row, where the author's entry stands at that place.
+fn bound_there(row: &[u64], place: usize, author: u64) -> Option<u64>
+    requires row { IsRow row.now }
+    requires order { in_order (pairs row.now) ≡ true }
+    ensures { IfSome result (λ n. n ≡ bound (pairs row.now) author) }
+{
+    if place >= row.len() / 2 || row[2 * place] != author {
+        return None;
+    }
+    Some(row[2 * place + 1])
+}
+
 /// The bound of an author in a row of entries in order, 0 where it has none.
 #[tactic(auto, using(crate::proofs::RowLemmas::row_step))]
 pub(crate) fn bound_at(row: &[u64], author: u64) -> u64
@@ -77,6 +111,10 @@ pub(crate) fn bound_at(row: &[u64], author: u64) -> u64
     requires order { in_order (pairs row.now) ≡ true }
     ensures { result ≡ bound (pairs row.now) author }
 {
+    // Devices are numbered from 0, so where each before it has an entry too, an author's stands at its own number.
+    if let Some(n) = bound_there(row, author as usize, author) {
+        return n;
+    }
     let mut i = 0;
     while i < row.len() && row[i] < author {
         i += 2;
