@@ -6,7 +6,7 @@ use Rattle.item_knowledge.specs.Fragments.{Fragment, entries_at}
 use Rattle.item_knowledge.specs.Gathering.{place, star_first}
 use Rattle.item_knowledge.specs.Places.{is_new}
 use Rattle.item_knowledge.specs.Rows.{pairs, flat, IsRow, vectors_in}
-use Rattle.item_knowledge.specs.Carrying.{groups_in, IsWritten}
+use Rattle.item_knowledge.proofs.OnTheWay.{groups_in, IsWritten}
 use Rattle.item_knowledge.proofs.FragmentLemmas.{entries_decide}
 use Rattle.item_knowledge.proofs.RowLemmas.{pairs_flat, vectors_row, vectors_length}
 use Rattle.item_knowledge.proofs.CarryLemmas.{place_none}

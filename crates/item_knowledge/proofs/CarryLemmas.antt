@@ -7,7 +7,8 @@ use Rattle.item_knowledge.specs.Fragments.{Fragment, are_groups, is_normal, goes
 use Rattle.item_knowledge.specs.Gathering.{add, gathered, indexed, place, after, star_first}
 use Rattle.item_knowledge.specs.Places.{is_new}
 use Rattle.item_knowledge.specs.Rows.{pairs, flat, IsRow, rows_of}
-use Rattle.item_knowledge.specs.Carrying.{Origin, HasCome, groups_in, IsWritten, IsCarried}
+use Rattle.item_knowledge.specs.Carrying.{HasCome}
+use Rattle.item_knowledge.proofs.OnTheWay.{Origin, groups_in, IsWritten, IsCarried}
 use Rattle.item_knowledge.proofs.FragmentLemmas.{entries_decide, before_parts, groups_parts, normal_parts}
 use Rattle.item_knowledge.proofs.RowLemmas.{fragments_rows}
 use Rattle.item_knowledge.proofs.PlaceLemmas.{of_one, add_absent, place_of_added, place_later}

@@ -10,6 +10,7 @@ pub mod AddLemmas
 pub mod GatherLemmas
 pub mod ChainLemmas
 pub mod PlaceLemmas
+pub mod OnTheWay
 pub mod IndexLemmas
 pub mod UnionLemmas
 pub mod RaiseLemmas

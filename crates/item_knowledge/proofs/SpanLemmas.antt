@@ -6,7 +6,8 @@ use Rattle.item_knowledge.specs.Entries.{Entry, same_entries, bound}
 use Rattle.item_knowledge.specs.Fragments.{Fragment, are_groups, is_normal, entries_at}
 use Rattle.item_knowledge.specs.Gathering.{IsSide, pair_vector, gathered, indexed, star_first}
 use Rattle.item_knowledge.specs.Rows.{pairs, flat, IsRow, AreRows, fragments_of, rows_of}
-use Rattle.item_knowledge.specs.Carrying.{HasCome, AddsNothing, Stays, IsUnderWay}
+use Rattle.item_knowledge.specs.Carrying.{HasCome, AddsNothing, Stays}
+use Rattle.item_knowledge.proofs.OnTheWay.{IsUnderWay}
 use Rattle.item_knowledge.proofs.FragmentLemmas.{entries_decide, groups_parts, normal_parts, leq_at}
 use Rattle.item_knowledge.proofs.RowLemmas.{pairs_flat, flat_row, entries_read, rows_read}
 use Rattle.item_knowledge.proofs.JoinLemmas.{joined_bound, joined_left, leq_from}

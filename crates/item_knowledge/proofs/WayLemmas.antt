@@ -6,7 +6,8 @@ use Rattle.item_knowledge.specs.Gathering.{IsSide, paired, pair_vector, groups_o
 use Rattle.item_knowledge.specs.declared.pairing.Pairing.{Pairing}
 use Rattle.item_knowledge.specs.Pairing.{left_of}
 use Rattle.item_knowledge.specs.Rows.{pairs, IsRow, fragments_of, rows_of}
-use Rattle.item_knowledge.specs.Carrying.{HasCome, Stays, CanCarry, IsOnTheWay}
+use Rattle.item_knowledge.specs.Carrying.{HasCome, Stays}
+use Rattle.item_knowledge.proofs.OnTheWay.{CanCarry, IsOnTheWay}
 use Rattle.item_knowledge.proofs.PairingLemmas.{next_row, along_first, along_next, along_all, inside}
 use Rattle.item_knowledge.proofs.SpanLemmas.{none_under_way, star_under_way, stays_under_way, one_under_way, all_under_way}
 

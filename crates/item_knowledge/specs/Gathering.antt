@@ -1,5 +1,5 @@
 -- Machinery of the proofs: the union of two lists of fragments, picture by picture, as the code gathers it.
-use Rattle.std.specs.Prelude.{◌≡◌, ℕ, Bool, suc, ◌<◌, true, ◌&&◌, ◌||◌, max, nat_lt, if◌then◌else◌, List, [], ◌∷◌, ◌++◌, length, drop, Option, None, Some}
+use Rattle.std.specs.Prelude.{◌≡◌, ℕ, Bool, suc, ◌<◌, true, ◌&&◌, ◌||◌, max, nat_lt, if◌then◌else◌, List, [], ◌∷◌, ◌++◌, length, Option, None, Some}
 use Rattle.std.specs.List.{list_all}
 use Rattle.photo_version.specs.Version.{Version}
 use Rattle.item_knowledge.specs.Tables.{merge, at, in_order, keys_pass}
@@ -82,11 +82,6 @@ groups_of fs gs xs ys = gathered (pair_vector fs gs (0, 0)) (pair_vector fs gs) 
 -- and their index
 abbrev pub index_of : List Fragment → List Fragment → List (ℕ × ℕ) → List (ℕ × ℕ) → List (ℕ × ℕ)
 index_of fs gs xs ys = indexed (pair_vector fs gs (0, 0)) (pair_vector fs gs) (paired xs ys) []
-
--- a table on the way: the groups so far with their index, and the rows that are left
-pub record IsGathered (star : List Entry) (f : ℕ × ℕ → List Entry) (table : List (ℕ × (ℕ × ℕ))) (gs : List Fragment) (numbers : List (ℕ × ℕ)) (i : ℕ) (all : List Fragment) (every : List (ℕ × ℕ)) : Type 0 where
-  pub rest : gathered star f (drop i table) gs ≡ all
-  pub index : numbers ++ indexed star f (drop i table) gs ≡ every
 
 -- what holds of the union of two sides
 pub record IsUnion (fs : List Fragment) (xs : List (ℕ × ℕ)) (gs : List Fragment) (ys : List (ℕ × ℕ)) (us : List Fragment) (zs : List (ℕ × ℕ)) : Type 0 where

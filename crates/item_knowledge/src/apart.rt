@@ -5,7 +5,7 @@ ghost use Rattle.item_knowledge.specs.Places.{IsFound};
 ghost use Rattle.item_knowledge.specs.Rows.{pairs, IsRow, AreRows, fragments_of, rows_of};
 
 use crate::index::IndexEntry;
-use crate::pairing::{Pairing, about_all};
+use crate::pairing::{Pairing, pictures_together};
 use crate::places::Places;
 use crate::rows::Rows;
 use crate::union::pair;
@@ -100,7 +100,7 @@ pub(crate) fn apart(
     ensures index { IfOk result (λ found. IfSome found (λ index. index.items
         ≡ index_of (fragments_of left.now) (fragments_of right.now) left_index.now right_index.now)) }
 {
-    let count = about_all(left_index, right_index);
+    let count = pictures_together(left_index, right_index);
     let mut index = Vec::with_capacity(alloc, count)?;
     let words = left
         .words()

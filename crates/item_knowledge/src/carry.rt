@@ -12,7 +12,7 @@ ghost use Rattle.item_knowledge.specs.Tables.{in_order};
 
 use crate::gather::same_row;
 use crate::index::IndexEntry;
-use crate::pairing::{Pairing, about_all};
+use crate::pairing::{Pairing, pictures_together};
 use crate::places::Places;
 use crate::rows::Rows;
 use crate::search::{is_leq, number_near};
@@ -334,7 +334,7 @@ pub(crate) fn carried(
     )? {
         return Ok(None);
     }
-    let count = about_all(left_index, right_index);
+    let count = pictures_together(left_index, right_index);
     let mut index = Vec::with_capacity(alloc, count)?;
     begin(
         star,

@@ -3,7 +3,7 @@ ghost use Rattle.item_knowledge.specs.Pairing as spec;
 use crate::index::IndexEntry;
 
 /// About how many pictures two indexes name together, for room that is taken ahead: mostly the shorter has few of its own.
-pub(crate) fn about_all(xs: &[IndexEntry], ys: &[IndexEntry]) -> usize {
+pub(crate) fn pictures_together(xs: &[IndexEntry], ys: &[IndexEntry]) -> usize {
     let more = xs.len().max(ys.len());
     let fewer = xs.len().min(ys.len());
     more.saturating_add(fewer.min(more / 8 + 16))

@@ -12,7 +12,7 @@ use crate::group::Group;
 use crate::index::IndexEntry;
 use crate::join::join;
 use crate::live::LiveRows;
-use crate::pairing::{Pairing, about_all};
+use crate::pairing::{Pairing, pictures_together};
 use crate::places::Places;
 use crate::rows::Rows;
 use crate::search::number_from;
@@ -137,7 +137,7 @@ fn groups(
     ensures index { IfOk result (λ all. all.2.items
         ≡ index_of (fragments_of left.now) (fragments_of right.now) left_index.now right_index.now) }
 {
-    let count = about_all(left_index, right_index);
+    let count = pictures_together(left_index, right_index);
     let words = left
         .words()
         .max(right.words())

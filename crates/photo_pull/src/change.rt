@@ -18,8 +18,8 @@ use photo_record::PicNo;
 use photo_version::{Vector, Version};
 use std::alloc::{AllocError, Global};
 
-// A version that goes is looked for by its picture where at least so many are held for each that goes: the search and the
-// gap that it leaves in its block cost about as much as it takes to go along so many.
+// A version that goes is looked for by its picture where at least so many are held for each that goes: then the searches
+// cost less than it does to go along all that is held.
 const HELD_BY_DROP: usize = 64;
 
 // What a table says.

@@ -3,7 +3,7 @@ use Rattle.item_knowledge.specs.Entries.{same_entries}
 use Rattle.item_knowledge.specs.Gathering.{paired, pair_vector, groups_of, index_of, place}
 use Rattle.item_knowledge.specs.Places.{is_new}
 use Rattle.item_knowledge.specs.Rows.{pairs, fragments_of, vectors_in}
-use Rattle.item_knowledge.specs.Carrying.{groups_in}
+use Rattle.item_knowledge.proofs.OnTheWay.{groups_in}
 use Rattle.item_knowledge.proofs.CarryLemmas.{none_written, star_written, one_written, all_written}
 use Rattle.item_knowledge.proofs.ApartLemmas.{vectors_counted, first_is_star, new_is_other, new_has_no_place}
 use Rattle.item_knowledge.proofs.PairingLemmas.{next_row, along_first, along_next, along_all, inside}

@@ -1,9 +1,9 @@
 use Rattle.std.proofs.Common.{ℕ}
-use Rattle.item_knowledge.specs.Carrying.{IsWritten}
 use Rattle.item_knowledge.specs.Gathering.{paired, pair_vector, groups_of, index_of}
 use Rattle.item_knowledge.specs.Pairing.{to_come, IsAlong}
 use Rattle.item_knowledge.specs.Places.{IsFound}
 use Rattle.item_knowledge.specs.Rows.{fragments_of}
+use Rattle.item_knowledge.proofs.OnTheWay.{IsWritten}
 use Rattle.item_knowledge.proofs.apart.place_apart.Given as goal
 
 abbrev pub invariant-loop-picture : goal.invariant-loop-picture

@@ -1,8 +1,9 @@
 use Rattle.std.proofs.Common.{rules, ◌≡◌, ℕ, true, false, sym, ◌∙◌, arith}
 use Rattle.item_knowledge.specs.Entries.{same_entries}
 use Rattle.item_knowledge.specs.Gathering.{pair_vector}
-use Rattle.item_knowledge.specs.Carrying.{HasCome, Stays, CanCarry}
+use Rattle.item_knowledge.specs.Carrying.{HasCome, Stays}
 use Rattle.item_knowledge.specs.Rows.{fragments_of, vectors_in}
+use Rattle.item_knowledge.proofs.OnTheWay.{CanCarry}
 use Rattle.item_knowledge.proofs.RowLemmas.{rows_read}
 use Rattle.item_knowledge.proofs.UnionLemmas.{above, entries_order}
 use Rattle.item_knowledge.proofs.SpanLemmas.{come_below}

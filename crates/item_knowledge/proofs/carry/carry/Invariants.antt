@@ -1,6 +1,6 @@
-use Rattle.item_knowledge.specs.Carrying.{IsOnTheWay}
 use Rattle.item_knowledge.specs.Pairing.{to_come}
 use Rattle.item_knowledge.specs.Rows.{vectors_in}
+use Rattle.item_knowledge.proofs.OnTheWay.{IsOnTheWay}
 use Rattle.item_knowledge.proofs.carry.carry.Given as goal
 
 abbrev pub invariant-loop-next : goal.invariant-loop-next

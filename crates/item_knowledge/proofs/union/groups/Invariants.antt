@@ -1,8 +1,9 @@
 use Rattle.std.proofs.Common.{ℕ}
-use Rattle.item_knowledge.specs.Gathering.{paired, pair_vector, groups_of, index_of, IsGathered}
+use Rattle.item_knowledge.specs.Gathering.{paired, pair_vector, groups_of, index_of}
 use Rattle.item_knowledge.specs.Pairing.{to_come, IsAlong}
 use Rattle.item_knowledge.specs.Places.{Placed}
 use Rattle.item_knowledge.specs.Rows.{fragments_of, grouped, vectors_in}
+use Rattle.item_knowledge.proofs.OnTheWay.{IsGathered}
 use Rattle.item_knowledge.proofs.union.groups.Given as goal
 
 abbrev pub invariant-loop-picture : goal.invariant-loop-picture
