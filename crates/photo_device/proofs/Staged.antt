@@ -1,6 +1,6 @@
 -- What is true of a device on which a change is staged, and after its commit.
 use Rattle.std.proofs.Common.{◌≡◌, ℕ, ◌+◌, ◌≤◌, ◌<◌, Bool, true, false, not, cond, ◌||◌, List, [], ◌∷◌, ◌++◌, length, refl, sym, ap, ◌∙◌, arith, subst, inl, inr}
-use Rattle.std.specs.Prelude.{filter, Option, Some, None, IfSome}
+use Rattle.std.specs.Prelude.{filter, Option, Some, None, is_some, IfSome}
 use Rattle.std.specs.List.{AllByRecursion}
 use Rattle.std.proofs.Math.Bool.{or-true}
 use Rattle.std.proofs.lemmas.Bool.{cases_Bool, false≢true}
@@ -287,6 +287,12 @@ stages new p gain d known union normal may store_most store_more out_most out_mo
     out_room = omega arith;
   };
 }
+
+-- where nothing is staged nothing is prepared, whatever else of the device is new
+pub none_fits : (prepared : Option Prepared) (o : Option (List Fragment)) (d e : Kept) → AreParts prepared o d → staging_of prepared o ≡ None → IsDevice e → AreParts prepared o e
+none_fits None o d e parts none is = record { device = is; fits = tt }
+none_fits (Some p) None d e parts none is = absurd (false≢true parts.fits.there)
+none_fits (Some p) (Some fs) d e parts none is = absurd (false≢true (sym (ap is_some none)))
 
 -- What a device and what is handed to it have to be for a commit
 

@@ -405,7 +405,7 @@ impl Device {
         ensures handed { handed.new.items ≡ handed.old.items ++ helds_at asked.now self.old.out }
         ensures staged { self.new.staged ≡ None }
     {
-        self.prepared = None;
+        self.unstage();
         self.out.hand_over(asked, handed);
     }
 
@@ -457,7 +457,7 @@ impl Device {
         ensures err { OnErr result (IsAsItWas self.old self.new) }
         ensures staged { self.new.staged ≡ None }
     {
-        self.prepared = None;
+        self.unstage();
         if !covers(&self.filter, &filter) {
             return Err((filter, NarrowFault::NotNarrower));
         }

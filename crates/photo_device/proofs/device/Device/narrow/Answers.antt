@@ -4,7 +4,7 @@ use Rattle.photo_device.specs.declared.held.Held.{Held}
 use Rattle.photo_device.specs.Device.{Kept, Shows}
 use Rattle.photo_device.proofs.Narrowed.{shorter, narrows_device, shows_narrowed, moved_away}
 use Rattle.std.specs.Prelude.{None}
-use Rattle.photo_device.proofs.Staged.{shows_staged}
+use Rattle.photo_device.proofs.Staged.{shows_staged, none_fits}
 use Rattle.photo_device.proofs.device.Device.narrow.Goals as goal
 
 pub overflow_sub-result : goal.overflow_sub-result
@@ -17,16 +17,19 @@ overflow_sub-result c =
 pub invariant_of-self-2 : goal.invariant_of-self-2
 invariant_of-self-2 c =
     let out = c.in_default.ensures.ok in
-    rw (c.keep_matched.ensures, out) (record { device = narrows_device c.args.filter _ c.self.invariant.device; fits = tt })
+    let none = ap (λ (d : Kept). d.staged) (c.self.view_is ∙ c.unstage.ensures) in
+    rw (c.keep_matched.ensures, out) (none_fits c.self.inside.prepared c.self.inside.knowledge.staged _ _ c.self.invariant none (narrows_device c.args.filter _ c.self.invariant.device))
 
 pub returns-clause-shows : goal.returns-clause-shows
 returns-clause-shows c =
     λ m shows.
     let out = c.in_default.ensures.ok in
-    rw (c.keep_matched.ensures, out) (shows_narrowed c.args.filter _ m (shows_staged _ None m (subst (λ (d : Kept). Shows d m) (sym c.self.view_is) shows)))
+    let before = subst (λ (d : Kept). Shows d m) (sym (c.self.view_is ∙ c.unstage.ensures)) (shows_staged c.args.self.now None m shows) in
+    rw (c.keep_matched.ensures, out) (shows_narrowed c.args.filter _ m before)
 
 pub returns-clause-moved : goal.returns-clause-moved
 returns-clause-moved c =
     λ m shows.
     let kept = c.len.ensures ∙ ap length c.keep_matched.ensures in
-    (λ i. c.len-before.ensures i - kept i) ∙ moved_away c.args.filter _ m (subst (λ (d : Kept). Shows d m) (sym c.self.view_is) shows)
+    let before = subst (λ (d : Kept). Shows d m) (sym (c.self.view_is ∙ c.unstage.ensures)) (shows_staged c.args.self.now None m shows) in
+    (λ i. c.len-before.ensures i - kept i) ∙ moved_away c.args.filter _ m before
