@@ -5,6 +5,7 @@ mod block_list;
 mod blocks;
 mod gather;
 mod kept;
+pub mod laws;
 mod near;
 mod placed;
 mod room;
