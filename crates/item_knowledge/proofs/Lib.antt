@@ -30,3 +30,4 @@ pub mod ApartLemmas
 pub mod SpanLemmas
 pub mod PairingLemmas
 pub mod WayLemmas
+pub mod StagedExamples

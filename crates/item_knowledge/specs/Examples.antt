@@ -1,8 +1,9 @@
 -- The definitions at some fragments.
-use Rattle.std.specs.Prelude.{◌≡◌, ℕ, true, false, List, [], ◌∷◌}
+use Rattle.std.specs.Prelude.{◌≡◌, ℕ, true, false, List, [], ◌∷◌, Some, None}
 use Rattle.photo_version.specs.Version.{Version}
 use Rattle.item_knowledge.specs.Entries.{Entry, joined}
 use Rattle.item_knowledge.specs.Fragments.{Fragment, knows, is_normal, known}
+use Rattle.item_knowledge.specs.Staged.{IsStagedUnion}
 
 abbrev of : List ℕ → List Entry → Fragment
 of pictures entries = record { pictures = pictures; entries = entries }
@@ -48,3 +49,28 @@ pub record TheNormalForms : Type 0 where
 
 pub record TheVectors : Type 0 where
   pub join : joined ((0, 2) ∷ []) ((0, 1) ∷ (1, 3) ∷ []) ≡ (0, 2) ∷ (1, 3) ∷ []
+
+-- of picture 8 the first version of device 1
+abbrev other : List Fragment
+other = of [] [] ∷ of (8 ∷ []) ((1, 1) ∷ []) ∷ []
+
+-- of every picture the first version of device 0, and of picture 8 that of device 1 besides
+abbrev both : List Fragment
+both = of [] ((0, 1) ∷ []) ∷ of (8 ∷ []) ((0, 1) ∷ (1, 1) ∷ []) ∷ []
+
+-- what is staged where it is to be the union of `of_every` and `other`, and, before a ⊥, what isn't
+pub record TheStaged : Type 0 where
+  pub union : IsStagedUnion (Some both) of_every other
+  pub other_way : IsStagedUnion (Some both) other of_every
+  pub normal : is_normal both ≡ true
+  -- with nothing more, it is what is known
+  pub same : IsStagedUnion (Some of_every) of_every none
+  -- nothing is staged, even where nothing is known
+  pub nothing : IsStagedUnion None none none → ⊥
+  -- one of the two is staged alone
+  pub first_alone : IsStagedUnion (Some of_every) of_every other → ⊥
+  pub second_alone : IsStagedUnion (Some other) of_every other → ⊥
+  -- what is known of picture 8 is staged of every picture
+  pub of_all : IsStagedUnion (Some (of [] ((0, 1) ∷ (1, 1) ∷ []) ∷ [])) of_every other → ⊥
+  -- a second version of device 0 is staged
+  pub too_late : IsStagedUnion (Some (of [] ((0, 2) ∷ []) ∷ of (8 ∷ []) ((0, 2) ∷ (1, 1) ∷ []) ∷ [])) of_every other → ⊥

@@ -1,4 +1,5 @@
 use Rattle.std.specs.Prelude.{refl}
+use Rattle.item_knowledge.proofs.StagedExamples.{the_staged}
 use Rattle.item_knowledge.proofs.laws.examples.Goals as goal
 
 pub returns : goal.returns
@@ -27,4 +28,5 @@ returns c = record {
     unsorted = refl;
   };
   vectors = record { join = refl };
+  staged = the_staged;
 }
