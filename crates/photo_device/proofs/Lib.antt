@@ -24,3 +24,4 @@ pub mod Runs
 pub mod Merging
 pub mod Handed
 pub mod GivenUp
+pub mod WorkedExamples

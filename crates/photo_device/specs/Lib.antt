@@ -10,6 +10,7 @@ pub mod Listing
 pub mod Own
 pub mod Staging
 pub mod Taking
+pub mod Examples
 pub mod Coding
 pub use Rattle.photo_record.specs.Limits
 pub use Rattle.photo_record.specs.Calendar

@@ -2,6 +2,7 @@
 ghost use Rattle.std.specs.Prelude.{◌≡◌, None};
 ghost use Rattle.std.specs.List.{AllByRecursion};
 ghost use Rattle.photo_device.specs.Own.{IsKnownBy, KnowsItsOwn};
+ghost use Rattle.photo_device.specs.Examples.{MayStageAsTold, HasStagedAsTold, MayHandAsTold};
 
 use crate::Device;
 use item_knowledge::Knowledge;
@@ -17,3 +18,10 @@ pub fn with_knowledge(device: Device, knowledge: Knowledge) -> Device
 {
     device.with(knowledge)
 }
+
+/// The definitions at some changes: which may be staged, what staging leaves, and what may be handed over with one.
+pub fn examples()
+    ensures may_stage { MayStageAsTold }
+    ensures has_staged { HasStagedAsTold }
+    ensures may_hand { MayHandAsTold }
+{}

@@ -1,0 +1,150 @@
+-- The worked examples: what a number or a version stands for computes, and what holds of all is shown.
+use Rattle.std.proofs.Common.{◌≡◌, ℕ, ◌≤◌, Bool, true, false, cond, ltb, leb, ◌&&◌, ◌||◌, List, [], ◌∷◌, length, refl, sym, ap, ◌∙◌, inl, inr, arith, subst}
+use Rattle.std.specs.Prelude.{Option, Some, None, is_some}
+use Rattle.std.proofs.lemmas.Bool.{and_parts, leb-true, lt-leb, le-leb, le-ltb, cases_lt, cases_Bool, false≢true}
+use Rattle.photo_version.specs.Version.{Version, same_version}
+use Rattle.item_knowledge.specs.Entries.{denotes_one}
+use Rattle.item_knowledge.specs.Fragments.{Fragment, knows, lists}
+use Rattle.photo_device.specs.declared.held.Held.{Held}
+use Rattle.photo_device.specs.Held.{count_of}
+use Rattle.photo_device.specs.Device.{Kept, Staging}
+use Rattle.photo_device.specs.Own.{HasEarlier, IsKnownBy}
+use Rattle.photo_device.specs.Examples.{nth, first, edited, other, gain, learned, MayStageAsTold, HasStagedAsTold, MayHandAsTold}
+use Rattle.photo_device.proofs.Counts.{one_of, count_of-cons, same_version_is}
+
+no : false ≡ true → ⊥
+no e = false≢true e
+
+-- an author's first version has none before it
+before_first : (n : ℕ) → false ≡ (leb 1 n && ltb n 1)
+before_first n =
+    elim (cases_lt n 1) [
+      | inl none ↦ rw (lt-leb 1 n none) refl
+      | inr some ↦ rw (le-leb 1 n some, le-ltb n 1 some) refl
+    ]
+
+edited_earlier : HasEarlier edited
+edited_earlier = record { own = before_first }
+
+other_earlier : HasEarlier other
+other_earlier = record { own = before_first }
+
+-- where the first of two is, one of them is
+first_of_two : (a b : Bool) → (a || false) ≡ true → ((a || (b || false)) || false) ≡ true
+first_of_two true b e = refl
+first_of_two false b e = absurd (no e)
+
+edited_known : IsKnownBy gain edited
+edited_known = record {
+  above = omega arith;
+  itself = refl;
+  history = λ v e. first_of_two (denotes_one (0, 1) v) (denotes_one (1, 1) v) e;
+}
+
+other_known : IsKnownBy learned other
+other_known = record { above = omega arith; itself = refl; history = λ v e. absurd (no e) }
+
+-- of the camera's versions the first alone is learned, of picture 7
+own_part : (l m a : Bool) → ((l && (a || false)) || ((m && false) || false)) ≡ true → a ≡ true
+own_part true m true e = refl
+own_part true true false e = e
+own_part true false false e = e
+own_part false true a e = absurd (no e)
+own_part false false a e = absurd (no e)
+
+abbrev number : Bool → ℕ
+number b = cond b 1 0
+
+one_or_none : (b : Bool) → number b ≤ 1
+one_or_none true = omega arith
+one_or_none false = omega arith
+
+-- one version is there once, and each of three, that are different, too
+alone : (v : Version) (h : Held) → count_of v (h ∷ []) ≤ 1
+alone v h = omega (arith, count_of-cons v h [], one_or_none (same_version h.version v))
+
+three : (v : Version) → count_of v (other ∷ edited ∷ first ∷ []) ≤ 1
+three v =
+    elim (cases_Bool (same_version other.version v)) [
+      | inl is ↦ subst (λ w. count_of w (other ∷ edited ∷ first ∷ []) ≤ 1) (same_version_is other.version v is) (omega arith)
+      | inr not_other ↦ elim (cases_Bool (same_version edited.version v)) [
+        | inl is ↦ subst (λ w. count_of w (other ∷ edited ∷ first ∷ []) ≤ 1) (same_version_is edited.version v is) (omega arith)
+        | inr not_edited ↦
+            let skips : one_of v other ≡ 0 = ap number not_other in
+            let skips_next : one_of v edited ≡ 0 = ap number not_edited in
+            omega (arith, count_of-cons v other (edited ∷ first ∷ []), count_of-cons v edited (first ∷ []), skips, skips_next, alone v first)
+      ]
+    ]
+
+two : (v : Version) → count_of v (edited ∷ first ∷ []) ≤ 1
+two v = omega (arith, count_of-cons v other (edited ∷ first ∷ []), three v)
+
+pub may_stage_as_told : MayStageAsTold
+may_stage_as_told = record {
+  edit = record {
+    held = (refl, tt);
+    new = (refl, tt);
+    distinct = λ v. alone v edited;
+    earlier = (edited_earlier, tt);
+    known = (edited_known, tt);
+    own = λ p n above e.
+        let there : (leb 1 n && leb n 1) ≡ true = own_part (lists (7 ∷ []) p) (lists (9 ∷ []) p) (leb 1 n && leb n 1) e in
+        leb-true n 1 (and_parts (leb 1 n) (leb n 1) there).1;
+  };
+  none = record { held = tt; new = tt; distinct = λ v. omega arith; earlier = tt; known = tt; own = λ p n above e. absurd (no e) };
+  not_held = λ m. no m.held.0;
+  found = refl;
+  held = λ m. no (sym (ap is_some m.new.0));
+  count = refl;
+  twice = λ m. let bad : 2 ≤ 1 = m.distinct (nth 1 1) in omega arith;
+  gap = λ m. no (m.earlier.0.own 1);
+  not_learned = λ m. no m.known.0.itself;
+  no_history = λ m. no (m.known.0.history (nth 0 1) refl);
+  of_another = λ m. no m.known.0.itself;
+  not_made = λ m. let bad : 2 ≤ 1 = m.own 9 2 (omega arith) refl in omega arith;
+}
+
+-- what will be known is what is known and what is gained, of a picture that is 7 (l), 9 (m) or neither
+joined : (a b c l m : Bool) → ((a || false) || ((l && (a || (b || false))) || ((m && (a || (c || false))) || false)))
+    ≡ (((a || false) || false) || ((l && (a || (b || false))) || ((m && (c || false)) || false)))
+joined true b c l m = refl
+joined false b c l m = refl
+
+-- what is staged, by its parts
+abbrev room_of : Option Staging → ℕ
+room_of None = 0
+room_of (Some s) = s.room
+
+abbrev knowledge_of : Option Staging → List Fragment
+knowledge_of None = []
+knowledge_of (Some s) = s.knowledge
+
+pub has_staged_as_told : HasStagedAsTold
+has_staged_as_told = record {
+  edit = record {
+    rest = refl;
+    knowledge = learned;
+    staged = refl;
+    learned = λ p v above. joined (denotes_one (0, 1) v) (denotes_one (1, 1) v) (denotes_one (2, 1) v) (lists (7 ∷ []) p) (lists (9 ∷ []) p);
+  };
+  not_yet = refl;
+  will = refl;
+  of_nine = refl;
+  still = refl;
+  nothing = λ h. no (ap is_some h.staged);
+  other_room = λ h. let bad : 1 ≡ 2 = ap room_of h.staged in omega arith;
+  at_once = λ h. let bad : 0 ≡ 1 = ap (λ (d : Kept). length d.store) h.rest in omega arith;
+  forgotten = λ h. no (ap (λ s. knows (knowledge_of s) 7 (nth 1 1)) h.staged ∙ h.learned 7 (nth 1 1) (omega arith));
+  of_every = λ h. no (sym (ap (λ s. knows (knowledge_of s) 8 (nth 1 1)) h.staged ∙ h.learned 8 (nth 1 1) (omega arith)));
+}
+
+pub may_hand_as_told : MayHandAsTold
+may_hand_as_told = record {
+  new_one = record { few = omega arith; once = three; earlier = (other_earlier, tt); known = (other_known, tt) };
+  none = record { few = omega arith; once = two; earlier = tt; known = tt };
+  no_room = λ m. let bad : 1 ≤ 0 = m.few in omega arith;
+  twice = λ m. let bad : 2 ≤ 1 = m.once (nth 2 1) in omega arith;
+  taken = λ m. let bad : 2 ≤ 1 = m.once (nth 1 1) in omega arith;
+  held = λ m. let bad : 2 ≤ 1 = m.once (nth 0 1) in omega arith;
+  not_known = λ m. no m.known.0.itself;
+}

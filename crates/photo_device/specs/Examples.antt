@@ -1,0 +1,119 @@
+-- Changes that may be staged, versions that may be handed over with them, and what staging leaves, worked.
+use Rattle.std.specs.Prelude.{◌≡◌, ℕ, true, false, pos, List, [], ◌∷◌, Some, None}
+use Rattle.photo_record.specs.declared.record.Record.{Record}
+use Rattle.photo_record.specs.declared.record.Record.TheVariants.{Picture}
+use Rattle.photo_filter_text.specs.Tree.{All}
+use Rattle.photo_version.specs.Author.{author}
+use Rattle.photo_version.specs.Version.{Version, version}
+use Rattle.photo_version.specs.Vector.{Bound}
+use Rattle.item_knowledge.specs.Fragments.{Fragment, knows}
+use Rattle.photo_device.specs.declared.held.Held.{Held}
+use Rattle.photo_device.specs.Held.{find_version, count_of}
+use Rattle.photo_device.specs.Device.{Kept, Staging}
+use Rattle.photo_device.specs.Staging.{HasStaged, MayHand, MayStage}
+
+abbrev pub bright : Record
+bright = Picture 5 (pos 19_844) []
+
+-- a version of the device at a place
+abbrev pub nth : ℕ → ℕ → Version
+nth place number = version (author place) number
+
+abbrev pub of : List ℕ → List (ℕ × ℕ) → Fragment
+of pictures entries = record { pictures = pictures; entries = entries }
+
+abbrev pub held_of : ℕ → Version → List Bound → Held
+held_of picture v history = record { picture = picture; version = v; made_with = history; content = bright }
+
+-- the first device made picture 7, the second edited it, and the third made picture 9
+
+abbrev pub first : Held
+first = held_of 7 (nth 0 1) []
+
+abbrev pub edited : Held
+edited = held_of 7 (nth 1 1) ((author 0, 1) ∷ [])
+
+abbrev pub other : Held
+other = held_of 9 (nth 2 1) []
+
+-- the first device, which holds and knows just what it made
+abbrev pub camera : Kept
+camera = record {
+  author = author 0;
+  tree = All;
+  counter = 1;
+  store = first ∷ [];
+  out = [];
+  knowledge = of [] ((0, 1) ∷ []) ∷ [];
+  staged = None;
+}
+
+-- what it is to learn: of picture 7 the edit with what that was made with, and of picture 9 the version there is
+abbrev pub gain : List Fragment
+gain = of [] [] ∷ of (7 ∷ []) ((0, 1) ∷ (1, 1) ∷ []) ∷ of (9 ∷ []) ((2, 1) ∷ []) ∷ []
+
+-- what it will know then
+abbrev pub learned : List Fragment
+learned = of [] ((0, 1) ∷ []) ∷ of (7 ∷ []) ((0, 1) ∷ (1, 1) ∷ []) ∷ of (9 ∷ []) ((0, 1) ∷ (2, 1) ∷ []) ∷ []
+
+-- the change by which the edit takes the place of the first version, with room for one that is handed over
+abbrev pub change : Staging
+change = record { drops = nth 0 1 ∷ []; takes = edited ∷ []; knowledge = learned; room = 1 }
+
+abbrev pub ready : Kept
+ready = record camera { staged = Some change }
+
+-- which changes may be staged on the camera, and, before a ⊥, which may not
+pub record MayStageAsTold : Type 0 where
+  pub edit : MayStage (nth 0 1 ∷ []) (edited ∷ []) gain camera
+  -- a change of nothing
+  pub none : MayStage [] [] [] camera
+  -- a version is given up that isn't held
+  pub not_held : MayStage (nth 1 1 ∷ []) (edited ∷ []) gain camera → ⊥
+  -- one is taken that is held, though it is given up as well
+  pub found : find_version (nth 0 1) camera.store ≡ Some first
+  pub held : MayStage (nth 0 1 ∷ []) (first ∷ []) gain camera → ⊥
+  -- one is taken twice
+  pub count : count_of (nth 1 1) (edited ∷ edited ∷ []) ≡ 2
+  pub twice : MayStage (nth 0 1 ∷ []) (edited ∷ edited ∷ []) gain camera → ⊥
+  -- one is taken that is its author's second, and was made without the first
+  pub gap : MayStage [] (held_of 7 (nth 1 2) [] ∷ []) (of [] ((1, 2) ∷ []) ∷ []) camera → ⊥
+  -- one is taken and not learned, or without what it was made with, or of another picture alone
+  pub not_learned : MayStage (nth 0 1 ∷ []) (edited ∷ []) [] camera → ⊥
+  pub no_history : MayStage (nth 0 1 ∷ []) (edited ∷ []) (of [] [] ∷ of (7 ∷ []) ((1, 1) ∷ []) ∷ []) camera → ⊥
+  pub of_another : MayStage (nth 0 1 ∷ []) (edited ∷ []) (of [] [] ∷ of (9 ∷ []) ((0, 1) ∷ (1, 1) ∷ []) ∷ []) camera → ⊥
+  -- the camera learns of a second version of its own, and has made one
+  pub not_made : MayStage [] [] (of [] [] ∷ of (9 ∷ []) ((0, 2) ∷ []) ∷ []) camera → ⊥
+
+-- what staging the change leaves, and, before a ⊥, what it doesn't
+pub record HasStagedAsTold : Type 0 where
+  pub edit : HasStaged (nth 0 1 ∷ []) (edited ∷ []) gain 1 camera ready
+  -- not yet known, and to be known of its picture alone
+  pub not_yet : knows ready.knowledge 7 (nth 1 1) ≡ false
+  pub will : knows learned 7 (nth 1 1) ≡ true
+  pub of_nine : knows learned 9 (nth 1 1) ≡ false
+  -- what was known stays known of each picture
+  pub still : knows learned 8 (nth 0 1) ≡ true
+  -- nothing is staged, or with other room
+  pub nothing : HasStaged (nth 0 1 ∷ []) (edited ∷ []) gain 1 camera camera → ⊥
+  pub other_room : HasStaged (nth 0 1 ∷ []) (edited ∷ []) gain 2 camera ready → ⊥
+  -- the first version is given up at once
+  pub at_once : HasStaged (nth 0 1 ∷ []) (edited ∷ []) gain 1 camera (record ready { store = [] }) → ⊥
+  -- the edit will not be known
+  pub forgotten : HasStaged (nth 0 1 ∷ []) (edited ∷ []) gain 1 camera (record camera { staged = Some (record change { knowledge = camera.knowledge }) }) → ⊥
+  -- it will be known of every picture
+  pub of_every : HasStaged (nth 0 1 ∷ []) (edited ∷ []) gain 1 camera (record camera { staged = Some (record change { knowledge = of [] ((0, 1) ∷ (1, 1) ∷ (2, 1) ∷ []) ∷ [] }) }) → ⊥
+
+-- which versions may be handed to the camera with that change, and, before a ⊥, which may not
+pub record MayHandAsTold : Type 0 where
+  pub new_one : MayHand (other ∷ []) change ready
+  pub none : MayHand [] change ready
+  -- there is room for fewer
+  pub no_room : MayHand (other ∷ []) (record change { room = 0 }) ready → ⊥
+  -- it is handed over twice, though there is room for two
+  pub twice : MayHand (other ∷ other ∷ []) (record change { room = 2 }) ready → ⊥
+  -- it is taken, or held, though that one is to be given up
+  pub taken : MayHand (edited ∷ []) change ready → ⊥
+  pub held : MayHand (first ∷ []) change ready → ⊥
+  -- it will not be known
+  pub not_known : MayHand (other ∷ []) (record change { knowledge = camera.knowledge }) ready → ⊥
