@@ -349,7 +349,7 @@ impl Device {
         ensures drops_back { IfErr result (λ e. e.0 ≡ drops) }
         ensures takes_back { IfErr result (λ e. e.1 ≡ takes) }
     {
-        self.prepared = None;
+        self.unstage();
         let Some(more) = takes.len().checked_add(room) else {
             return Err((drops, takes, AllocError));
         };

@@ -3,7 +3,7 @@ ghost use Rattle.photo_version.specs.Version as versions;
 ghost use Rattle.item_knowledge.specs.Fragments.{knows};
 
 use super::sets::version;
-use super::{lists, made_all, on_device, opened};
+use super::{filter_of, lists, made_all, on_device, opened};
 use crate::{Change, Device, HeldList, VersionList};
 use item_knowledge::Knowledge;
 use photo_record::PicNo;
@@ -75,6 +75,42 @@ fn with_another(alloc: Global, one: &mut Device) -> bool {
 #[test]
 fn a_change_is_dropped_or_committed(rt: HostRuntime) {
     assert!(rt; on_device(rt.alloc(), 0, "all", with_another));
+}
+
+// Narrows a device whose filter is 'all'.
+fn narrows(alloc: Global, device: &mut Device) -> bool {
+    match filter_of(alloc, "rating >= 4") {
+        Some(filter) => device.narrow(filter).is_ok(),
+        None => false,
+    }
+}
+
+// Hands over nothing of what waits on a device.
+fn hands_nothing_over(alloc: Global, device: &mut Device) -> bool {
+    let mut handed = Vec::new(alloc);
+    device.hand_over(&[], &mut handed);
+    handed.is_empty()
+}
+
+fn has_nothing_staged(device: &Device) -> bool {
+    !device.staged() && !device.knowledge().staged()
+}
+
+fn leaves_nothing_staged(alloc: Global, device: &mut Device) -> bool {
+    made_all(alloc, device, PICTURES)
+        && stages(alloc, device, 2)
+        && device.knowledge().staged()
+        && narrows(alloc, device)
+        && has_nothing_staged(device)
+        && stages(alloc, device, 2)
+        && hands_nothing_over(alloc, device)
+        && has_nothing_staged(device)
+        && holds_three(device)
+}
+
+#[test]
+fn nothing_stays_staged_in_what_is_known(rt: HostRuntime) {
+    assert!(rt; on_device(rt.alloc(), 0, "all", leaves_nothing_staged));
 }
 
 // Pictures as hints where what is given up is held.
