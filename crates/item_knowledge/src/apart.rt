@@ -4,7 +4,7 @@ ghost use Rattle.item_knowledge.specs.Gathering.{IsSide, pair_vector, groups_of,
 ghost use Rattle.item_knowledge.specs.Places.{IsFound};
 ghost use Rattle.item_knowledge.specs.Rows.{pairs, IsRow, AreRows, fragments_of, rows_of};
 
-use crate::index::IndexEntry;
+use crate::index::{IndexEntry, short};
 use crate::pairing::{Pairing, pictures_together};
 use crate::places::Places;
 use crate::rows::Rows;
@@ -71,8 +71,9 @@ fn place_apart(
             }
             return Ok(false);
         }
-        let number = places.push(bucket, &[picture], row)?;
-        index.push((picture, number))?;
+        let number = places.push(bucket, &[u64::from(picture)], row)?;
+        let kept = short(number)?;
+        index.push((picture, kept))?;
     }
     Ok(true)
 }

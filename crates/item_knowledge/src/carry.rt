@@ -11,7 +11,7 @@ ghost use Rattle.item_knowledge.specs.Rows.{pairs, IsRow, AreRows, fragments_of,
 ghost use Rattle.item_knowledge.specs.Tables.{in_order};
 
 use crate::gather::same_row;
-use crate::index::IndexEntry;
+use crate::index::{IndexEntry, short};
 use crate::pairing::{Pairing, pictures_together};
 use crate::places::Places;
 use crate::rows::Rows;
@@ -77,7 +77,7 @@ fn stays(
     right: &Rows,
     changed: &Places,
     last: usize,
-    picture: u64,
+    picture: u32,
     a: usize,
     b: usize,
 ) -> bool
@@ -102,7 +102,7 @@ fn stays(
     if pictures.len() != 1 {
         return false;
     }
-    if pictures[0] != picture {
+    if pictures[0] != u64::from(picture) {
         return false;
     }
     let row = entries(left, a);
@@ -143,7 +143,7 @@ fn place_behind(
     left: &Rows,
     from: usize,
     to: usize,
-    picture: u64,
+    picture: u32,
     row: &[u64],
     out: &mut Rows,
 ) -> Result<(), AllocError>
@@ -155,15 +155,16 @@ fn place_behind(
     // For its fact alone: the rows are fewer than 2 ^ 63.
     let _count = left.rows();
     out.place_run(left, 2 * from, 2 * to)?;
-    out.place_fragment(&[picture], row)?;
+    out.place_fragment(&[u64::from(picture)], row)?;
     Ok(())
 }
 
 // One picture more in the index, with the number of the next fragment.
-fn add_number(picture: u64, index: &mut Vec<IndexEntry>) -> Result<(), AllocError>
+fn add_number(picture: u32, index: &mut Vec<IndexEntry>) -> Result<(), AllocError>
     ensures { OnOk result (index.new.items ≡ index.old.items ++ (picture, length index.old.items + 1) ∷ []) }
 {
-    index.push((picture, index.len() + 1))?;
+    let number = short(index.len() + 1)?;
+    index.push((picture, number))?;
     Ok(())
 }
 
@@ -256,7 +257,8 @@ fn find_changes(
 {
     let mut hint = 0;
     for i in 0..right_index.len() {
-        let (picture, b) = right_index[i];
+        let (picture, number) = right_index[i];
+        let b = number as usize;
         let (a, near) = number_near(left_index, hint, picture);
         hint = near;
         if adds_nothing(left, right, a, b) {

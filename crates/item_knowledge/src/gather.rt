@@ -22,7 +22,7 @@ pub(crate) fn add(
     alloc: Global,
     groups: &mut Vec<Group>,
     places: &mut Places,
-    picture: u64,
+    picture: u32,
     row: &[u64],
 ) -> Result<usize, AllocError>
     requires placed { Placed places.old groups.old.items }
@@ -35,10 +35,10 @@ pub(crate) fn add(
 {
     let bucket = places.bucket(row);
     if let Some(k) = places.find(bucket, row) {
-        groups[k].push(picture)?;
+        groups[k].push(u64::from(picture))?;
         return Ok(k);
     }
-    groups.push(Group::new(alloc, picture))?;
+    groups.push(Group::new(alloc, u64::from(picture)))?;
     let k = places.push(bucket, &[], row)?;
     Ok(k)
 }

@@ -93,7 +93,7 @@ impl Knowledge {
         if self.has_of_every(version) {
             return true;
         }
-        let (number, _place) = number_at(&self.index, u64::from(picture.value()));
+        let (number, _place) = number_at(&self.index, picture.value());
         self.live
             .has_beyond(number, version.author().word(), u64::from(version.n()))
     }
@@ -103,7 +103,7 @@ impl Knowledge {
     pub fn knows_near(&self, hint: usize, picture: PicNo, version: Version) -> (bool, usize)
         ensures { result.0 ≡ spec.knows self.now.known picture version }
     {
-        let (number, next) = number_near(&self.index, hint, u64::from(picture.value()));
+        let (number, next) = number_near(&self.index, hint, picture.value());
         let bound = self.live.bound(number, version.author().word());
         (u64::from(version.n()) <= bound, next)
     }
@@ -156,7 +156,7 @@ impl Knowledge {
     pub fn of(&self, picture: PicNo) -> Result<Vector, AllocError>
         ensures { IfOk result (λ vector. (v : versions.Version) → vectors.denotes vector v ≡ spec.knows self.now.known picture v) }
     {
-        let (number, _place) = number_at(&self.index, u64::from(picture.value()));
+        let (number, _place) = number_at(&self.index, picture.value());
         vector_of_fragment(self.alloc, &self.live.fragment(number))
     }
 
@@ -289,7 +289,7 @@ impl Knowledge {
         ensures refused { OnErr result (self.new.known ≡ self.old.known) }
     {
         self.unstage();
-        let picture = u64::from(picture.value());
+        let picture = picture.value();
         let rows = told_one(self.alloc, picture, vector)?;
         self.take_union(&rows, &[(picture, 1)])?;
         Ok(())

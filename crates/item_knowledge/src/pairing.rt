@@ -33,7 +33,7 @@ impl Pairing {
         &mut self,
         xs: &[IndexEntry],
         ys: &[IndexEntry],
-    ) -> Option<(u64, (usize, usize))>
+    ) -> Option<(u32, (usize, usize))>
         requires left { in_order xs.now ≡ true }
         requires right { in_order ys.now ≡ true }
         ensures next { IfSome result (λ r. spec.left_of self.old xs.now ys.now ≡ r ∷ spec.left_of self.new xs.now ys.now) }
@@ -46,23 +46,23 @@ impl Pairing {
             }
             let y = ys[self.right];
             self.right += 1;
-            return Some((y.0, (0, y.1)));
+            return Some((y.0, (0, y.1 as usize)));
         }
         let x = xs[self.left];
         if self.right >= ys.len() {
             self.left += 1;
-            return Some((x.0, (x.1, 0)));
+            return Some((x.0, (x.1 as usize, 0)));
         }
         let y = ys[self.right];
         if x.0 < y.0 {
             self.left += 1;
-            return Some((x.0, (x.1, 0)));
+            return Some((x.0, (x.1 as usize, 0)));
         }
         self.right += 1;
         if y.0 < x.0 {
-            return Some((y.0, (0, y.1)));
+            return Some((y.0, (0, y.1 as usize)));
         }
         self.left += 1;
-        Some((x.0, (x.1, y.1)))
+        Some((x.0, (x.1 as usize, y.1 as usize)))
     }
 }

@@ -2,6 +2,7 @@ ghost use Rattle.std.specs.Prelude.{◌≡◌, ℕ, ◌<◌, ◌≤◌, ◌∷�
 ghost use Rattle.item_knowledge.specs.Places as spec;
 ghost use Rattle.item_knowledge.specs.Rows.{vectors_in};
 
+use crate::index::short;
 use crate::rows::Rows;
 use std::alloc::{AllocError, Global};
 
@@ -20,9 +21,9 @@ const MOST_BUCKETS: usize = 4_294_967_295;
 pub(crate) struct Places {
     pub(crate) rows: Rows,
     /// Of each bucket one more than the place of its latest vector, 0 for none.
-    pub(crate) heads: Vec<usize>,
+    pub(crate) heads: Vec<u32>,
     /// Beside each vector one more than the place of the one before it in its bucket, 0 for none.
-    pub(crate) before: Vec<usize>,
+    pub(crate) before: Vec<u32>,
 }
 
 // The sum of two words.
@@ -126,13 +127,13 @@ impl Places {
         ensures found { (k : ℕ) → result ≡ Some k → get_or (vectors_in self.now.rows) k [] ≡ row.now }
         ensures absent { result ≡ None → spec.is_new (vectors_in self.now.rows) row.now }
     {
-        let mut place = self.heads[bucket];
+        let mut place = self.heads[bucket] as usize;
         while place > 0 {
             let k = place - 1;
             if self.vector(k) == row {
                 return Some(k);
             }
-            place = self.before[k];
+            place = self.before[k] as usize;
         }
         None
     }
@@ -153,9 +154,10 @@ impl Places {
         ensures place { IfOk result (λ place. place ≡ length (vectors_in self.old.rows)) }
     {
         let place = self.before.len();
+        let next = short(place + 1)?;
         self.before.push(self.heads[bucket])?;
         self.rows.place_fragment(pictures, row)?;
-        self.heads[bucket] = self.before.len();
+        self.heads[bucket] = next;
         Ok(place)
     }
 }

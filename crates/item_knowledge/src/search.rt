@@ -10,7 +10,7 @@ const STEPS: usize = 32;
 
 /// The number of the fragment to which an index leads from a picture, 0 for the star, and the place in the index at which
 /// the picture stands or would stand.
-pub(crate) fn number_at(index: &[IndexEntry], picture: u64) -> (usize, usize)
+pub(crate) fn number_at(index: &[IndexEntry], picture: u32) -> (usize, usize)
     requires { in_order index.now ≡ true }
     ensures { result.0 ≡ at 0 index.now picture }
 {
@@ -22,11 +22,11 @@ pub(crate) fn number_at(index: &[IndexEntry], picture: u64) -> (usize, usize)
     if row.0 != picture {
         return (0, place);
     }
-    (row.1, place)
+    (row.1 as usize, place)
 }
 
 // Whether all pictures before a place in an index are smaller than this one.
-fn is_behind(index: &[IndexEntry], place: usize, picture: u64) -> bool
+fn is_behind(index: &[IndexEntry], place: usize, picture: u32) -> bool
     requires { in_order index.now ≡ true }
     ensures { result ≡ true → at 0 (drop place index.now) picture ≡ at 0 index.now picture }
 {
@@ -40,13 +40,13 @@ fn is_behind(index: &[IndexEntry], place: usize, picture: u64) -> bool
 }
 
 // Whether a picture can be seen, in an index, a few places from this one at the latest.
-fn is_ahead(index: &[IndexEntry], place: usize, picture: u64) -> bool {
+fn is_ahead(index: &[IndexEntry], place: usize, picture: u32) -> bool {
     let last = place.saturating_add(STEPS);
     last >= index.len() || picture <= index[last].0
 }
 
 // The number of the fragment to which an index leads from a picture, where the picture stands at that place.
-fn number_there(index: &[IndexEntry], place: usize, picture: u64) -> Option<usize>
+fn number_there(index: &[IndexEntry], place: usize, picture: u32) -> Option<usize>
     requires { in_order index.now ≡ true }
     ensures { IfSome result (λ number. number ≡ at 0 index.now picture) }
 {
@@ -57,12 +57,12 @@ fn number_there(index: &[IndexEntry], place: usize, picture: u64) -> Option<usiz
     if row.0 != picture {
         return None;
     }
-    Some(row.1)
+    Some(row.1 as usize)
 }
 
 /// The number of the fragment to which an index leads from a picture, 0 for the star, and a hint for a later picture. The
 /// work is small where the hint is that of an earlier picture close by; the number is right with any hint.
-pub(crate) fn number_near(index: &[IndexEntry], hint: usize, picture: u64) -> (usize, usize)
+pub(crate) fn number_near(index: &[IndexEntry], hint: usize, picture: u32) -> (usize, usize)
     requires { in_order index.now ≡ true }
     ensures { result.0 ≡ at 0 index.now picture }
 {
@@ -163,7 +163,7 @@ pub(crate) fn is_leq(row: &[u64], other: &[u64]) -> bool
 
 /// The number of the fragment to which an index leads from a picture, 0 for the star, where it is looked for from a
 /// place on; and the place from which one looks for a later picture.
-pub(crate) fn number_from(index: &[IndexEntry], from: usize, picture: u64) -> (usize, usize)
+pub(crate) fn number_from(index: &[IndexEntry], from: usize, picture: u32) -> (usize, usize)
     requires { in_order index.now ≡ true }
     ensures number { result.0 ≡ at 0 (drop from index.now) picture }
     ensures rest { (q : ℕ) → picture ≤ q → at 0 (drop result.1 index.now) q ≡ at 0 (drop from index.now) q }
@@ -175,7 +175,7 @@ pub(crate) fn number_from(index: &[IndexEntry], from: usize, picture: u64) -> (u
             return (0, place);
         }
         if row.0 == picture {
-            return (row.1, place);
+            return (row.1 as usize, place);
         }
         place += 1;
     }

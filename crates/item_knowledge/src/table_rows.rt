@@ -6,7 +6,7 @@ ghost use Rattle.item_knowledge.specs.Rows.{pairs, flat, IsRow, rows_of};
 ghost use Rattle.item_knowledge.specs.TableRows as spec;
 
 use crate::Fragment;
-use crate::index::IndexEntry;
+use crate::index::{IndexEntry, short};
 use crate::rows::Rows;
 use photo_record::PicNo;
 use photo_version::Vector;
@@ -42,7 +42,7 @@ pub(crate) fn vector_of(alloc: Global, fragment: &Fragment<'_>) -> Result<Vector
 // A fragment of one picture with the entries of a vector, at the end. The row is room to write in.
 fn place_told(
     rows: &mut Rows,
-    picture: u64,
+    picture: u32,
     vector: &Vector,
     row: &mut Vec<u64>,
 ) -> Result<(), AllocError>
@@ -50,7 +50,7 @@ fn place_told(
     ensures vector { OnOk result (is_vector (spec.entries_of vector.now) ≡ true) }
 {
     write_row(vector, row)?;
-    rows.place_fragment(&[picture], row)?;
+    rows.place_fragment(&[u64::from(picture)], row)?;
     Ok(())
 }
 
@@ -65,7 +65,7 @@ pub(crate) fn star_alone(alloc: Global, star: &[u64], count: usize) -> Result<Ro
 }
 
 /// The rows of what is told of one picture.
-pub(crate) fn told_one(alloc: Global, picture: u64, vector: &Vector) -> Result<Rows, AllocError>
+pub(crate) fn told_one(alloc: Global, picture: u32, vector: &Vector) -> Result<Rows, AllocError>
     ensures rows { IfOk result (λ rows. rows ≡ [] ∷ [] ∷ (picture ∷ []) ∷ flat (spec.entries_of vector.now) ∷ []) }
     ensures vector { OnOk result (is_vector (spec.entries_of vector.now) ≡ true) }
 {
@@ -90,9 +90,10 @@ pub(crate) fn told(
     let mut row = Vec::new(alloc);
     for i in 0..table.len() {
         let one = &table[i];
-        let picture = u64::from(one.0.value());
+        let picture = one.0.value();
         place_told(&mut rows, picture, &one.1, &mut row)?;
-        index.push((picture, i + 1))?;
+        let number = short(i + 1)?;
+        index.push((picture, number))?;
     }
     Ok((rows, index))
 }

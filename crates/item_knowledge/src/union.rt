@@ -9,7 +9,7 @@ use crate::apart::apart;
 use crate::carry::carried;
 use crate::gather::{add, same_row};
 use crate::group::Group;
-use crate::index::IndexEntry;
+use crate::index::{IndexEntry, short};
 use crate::join::join;
 use crate::live::LiveRows;
 use crate::pairing::{Pairing, pictures_together};
@@ -151,7 +151,8 @@ fn groups(
             continue;
         }
         let k = add(alloc, &mut groups, &mut places, picture, row)?;
-        index.push((picture, k + 1))?;
+        let number = short(k + 1)?;
+        index.push((picture, number))?;
     }
     Ok((groups, places, index))
 }
@@ -205,7 +206,8 @@ pub(crate) fn is_within(
     }
     let mut j = 0;
     for i in 0..index.len() {
-        let (picture, number) = index[i];
+        let (picture, own) = index[i];
+        let number = own as usize;
         let (other, next) = number_from(others_index, j, picture);
         j = next;
         if !rows.is_leq(number, others, other) {

@@ -60,13 +60,14 @@ loop-picture-preserved c =
     let other : same_entries (f (0, 0)) (f r.1) ≡ false = new_is_other f table c.loop-picture.places.rows c.loop-picture.index.items i all every c.loop-picture.invariant.written c.in_ok-row.row.now (f r.1) c.in_ok-row.ensures.row c.in_ok-row.ensures.entries new in
     let nowhere : place (groups_in c.loop-picture.places.rows) (pairs c.in_ok-row.row.now) ≡ None = new_has_no_place f table c.loop-picture.places.rows c.loop-picture.index.items i all every c.loop-picture.invariant.written c.in_ok-row.row.now c.in_ok-row.ensures.row new in
     let number : c.in_ok-number.number ≡ length c.loop-picture.index.items + 1 = c.in_ok-number.ensures.place ∙ vectors_counted f table c.loop-picture.places.rows c.loop-picture.index.items i all every c.loop-picture.invariant.written in
-    let pushed : c.push-in-Some.new.self.items ≡ c.loop-picture.index.items ++ (r.0, length c.loop-picture.index.items + 1) ∷ [] = c.in_ok-push.ensures.items ∙ ap (λ n. c.loop-picture.index.items ++ (r.0, n) ∷ []) number in
+    let rows : c.push.new.self.rows ≡ (c.loop-picture.places.rows ++ (r.0 ∷ []) ∷ []) ++ c.in_ok-row.row.now ∷ [] = search rules in
+    let pushed : c.push-in-Some.new.self.items ≡ c.loop-picture.index.items ++ (r.0, length c.loop-picture.index.items + 1) ∷ [] = c.in_ok-push.ensures.items ∙ ap (λ n. c.loop-picture.index.items ++ (r.0, n) ∷ []) (c.in_ok-kept.ensures ∙ number) in
     record {
       found = c.in_ok-number.ensures.found;
       place = i + 1;
       along = along_next c.args.left_index.now c.args.right_index.now c.loop-picture.pairing c.next.new.self i r c.loop-picture.invariant.along c.in-Some.ensures.next;
       written = one_written f (f (0, 0)) table c.loop-picture.places.rows c.push.new.self.rows c.loop-picture.index.items c.push-in-Some.new.self.items i all every r c.in_ok-row.row.now
-          is c.in_ok-row.ensures.row c.in_ok-row.ensures.entries other nowhere c.in_ok-number.ensures.rows pushed c.loop-picture.invariant.written;
+          is c.in_ok-row.ensures.row c.in_ok-row.ensures.entries other nowhere rows pushed c.loop-picture.invariant.written;
     }
 
 pub returns-clause-rows : goal.returns-clause-rows

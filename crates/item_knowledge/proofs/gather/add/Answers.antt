@@ -7,15 +7,17 @@ use Rattle.item_knowledge.proofs.gather.add.Goals as goal
 
 pub returns-in-Some-clause-groups : goal.returns-in-Some-clause-groups
 returns-in-Some-clause-groups c =
+    let pushed : c.push.new.self ≡ c.index_mut.result.now ++ c.args.picture ∷ [] = search rules in
     let less : c.in-Some.k < length (vectors_in c.args.places.now.rows) = c.find.ensures.below c.in-Some.k c.in-Some.is in
     let here = row_placed c.args.groups.now.items (vectors_in c.args.places.now.rows) c.args.row.now c.in-Some.k c.requires.placed.counted c.requires.placed.whole c.requires.placed.found.placed.once c.requires.row less (c.find.ensures.found c.in-Some.k c.in-Some.is) in
-    grown_is c.args.groups.now.items (vectors_in c.args.places.now.rows) c.args.row.now c.in-Some.k c.args.picture c.index_mut.result.now c.push.new.self c.requires.placed.counted less here c.index_mut.ensures.value c.in_ok-push.ensures.pushed
+    grown_is c.args.groups.now.items (vectors_in c.args.places.now.rows) c.args.row.now c.in-Some.k c.args.picture c.index_mut.result.now c.push.new.self c.requires.placed.counted less here c.index_mut.ensures.value pushed
 
 pub returns-in-Some-clause-place : goal.returns-in-Some-clause-place
 returns-in-Some-clause-place c =
+    let pushed : c.push.new.self ≡ c.index_mut.result.now ++ c.args.picture ∷ [] = search rules in
     let less : c.in-Some.k < length (vectors_in c.args.places.now.rows) = c.find.ensures.below c.in-Some.k c.in-Some.is in
     let here = row_placed c.args.groups.now.items (vectors_in c.args.places.now.rows) c.args.row.now c.in-Some.k c.requires.placed.counted c.requires.placed.whole c.requires.placed.found.placed.once c.requires.row less (c.find.ensures.found c.in-Some.k c.in-Some.is) in
-    let grown = grown_is c.args.groups.now.items (vectors_in c.args.places.now.rows) c.args.row.now c.in-Some.k c.args.picture c.index_mut.result.now c.push.new.self c.requires.placed.counted less here c.index_mut.ensures.value c.in_ok-push.ensures.pushed in
+    let grown = grown_is c.args.groups.now.items (vectors_in c.args.places.now.rows) c.args.row.now c.in-Some.k c.args.picture c.index_mut.result.now c.push.new.self c.requires.placed.counted less here c.index_mut.ensures.value pushed in
     ap (λ gs. spec.place gs (pairs c.args.row.now)) grown
     ∙ (place_grown c.args.picture (pairs c.args.row.now) (pairs c.args.row.now) (grouped c.args.groups.now.items (vectors_in c.args.places.now.rows)) c.in-Some.k here ∙ here)
 

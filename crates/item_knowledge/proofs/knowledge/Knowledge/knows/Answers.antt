@@ -27,7 +27,7 @@ has_beyond-requires-clause-order c =
 pub has_beyond-requires-clause-star : goal.has_beyond-requires-clause-star
 has_beyond-requires-clause-star c =
     let v = c.args.version in
-    let n : c.from-2.result ≡ v.number = search rules in
+    let n : c.from.result ≡ v.number = search rules in
     let word : c.word.result ≡ author_word v.author = search rules in
     let known = leb-false v.number (star_bound c.args.self.now.known v.author) (sym c.has_of_every.ensures.star ∙ c.if-has_of_every.false) in
     let less : bound (entries_at (fragments_of c.self.inside.live) 0) (author_word v.author) < v.number = subst (λ fs. star_bound fs v.author < v.number) (sym (known_of c.self.view_is)) known in
@@ -37,7 +37,7 @@ has_beyond-requires-clause-star c =
 pub returns : goal.returns
 returns c =
     let is : c.number_at-number.result.0 ≡ at 0 c.self.inside.index.items c.args.picture = search rules in
-    let n : c.from-2.result ≡ c.args.version.number = search rules in
+    let n : c.from.result ≡ c.args.version.number = search rules in
     let word : c.word.result ≡ author_word c.args.version.author = search rules in
     let above : 0 < c.args.version.number = omega arith in
     c.has_beyond.ensures

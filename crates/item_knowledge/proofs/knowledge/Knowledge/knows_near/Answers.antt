@@ -25,7 +25,7 @@ bound-bound-requires-clause-order c =
 pub returns : goal.returns
 returns c =
     let is : c.number_near-number.result.0 ≡ at 0 c.self.inside.index.items c.args.picture = search rules in
-    let n : c.from-2.result ≡ c.args.version.number = search rules in
+    let n : c.from.result ≡ c.args.version.number = search rules in
     let word : c.word.result ≡ author_word c.args.version.author = search rules in
     let above : 0 < c.args.version.number = omega arith in
     (λ i. leb (n i) ((c.bound-bound.ensures ∙ (λ j. bound (entries_at (fragments_of c.self.inside.live) (is j)) (word j))) i))

@@ -15,13 +15,13 @@ use Rattle.item_knowledge.proofs.knowledge.Knowledge.learn.Goals as goal
 
 pub take_union-requires-clause-rows : goal.take_union-requires-clause-rows
 take_union-requires-clause-rows c =
-    let all = told ((c.from-picture.result, c.args.vector.now) ∷ []) in
+    let all = told ((c.value-picture.result, c.args.vector.now) ∷ []) in
     let rows : c.in_ok-rows.rows ≡ rows_of all = c.in_ok-rows.ensures.rows in
     subst AreRows (sym rows) (rows_rows all)
 
 pub take_union-requires-clause-side : goal.take_union-requires-clause-side
 take_union-requires-clause-side c =
-    let q = c.from-picture.result in
+    let q = c.value-picture.result in
     let all = told ((q, c.args.vector.now) ∷ []) in
     let above : 0 < q = search rules in
     let rows : c.in_ok-rows.rows ≡ rows_of all = c.in_ok-rows.ensures.rows in
@@ -29,7 +29,7 @@ take_union-requires-clause-side c =
 
 pub returns-clause-learned : goal.returns-clause-learned
 returns-clause-learned c p v z =
-    let q = c.from-picture.result in
+    let q = c.value-picture.result in
     let all = told ((q, c.args.vector.now) ∷ []) in
     let same : q ≡ c.args.picture = search rules in
     let rows : c.in_ok-rows.rows ≡ rows_of all = c.in_ok-rows.ensures.rows in
@@ -40,7 +40,7 @@ returns-clause-learned c p v z =
 
 pub returns-clause-star : goal.returns-clause-star
 returns-clause-star c a =
-    let all = told ((c.from-picture.result, c.args.vector.now) ∷ []) in
+    let all = told ((c.value-picture.result, c.args.vector.now) ∷ []) in
     let rows : c.in_ok-rows.rows ≡ rows_of all = c.in_ok-rows.ensures.rows in
     let l : star_bound c.take_union.new.self.known a ≡ max (star_bound c.unstage.new.self.known a) (bound (entries_at (fragments_of c.in_ok-rows.rows) 0) (author_word a)) = c.in_ok-take_union.ensures.star a in
     l ∙ ((λ i. max (star_bound (known_of c.unstage.ensures i) a) (bound (entries_at (fragments_of (rows i)) 0) (author_word a))) ∙ max-zero (star_bound c.args.self.now.known a))

@@ -28,7 +28,7 @@ returns-clause-found c =
     let before : c.push.new.self.items ≡ c.args.self.now.before.items ++ get_or c.args.self.now.heads.items c.args.bucket 0 ∷ [] = c.in_ok-push.ensures.items ∙ ap (λ n. c.args.self.now.before.items ++ n ∷ []) head in
     let rows : c.place_fragment.new.self ≡ (c.args.self.now.rows ++ c.args.pictures.now ∷ []) ++ c.args.row.now ∷ [] = search rules in
     let vectors : vectors_in c.place_fragment.new.self ≡ vectors_in c.args.self.now.rows ++ c.args.row.now ∷ [] = ap vectors_in rows ∙ vectors_more c.args.self.now.rows c.args.pictures.now c.args.row.now c.requires.found.even in
-    let number : c.len.result ≡ length c.push.new.self.items = search rules in
+    let number : c.in_ok-next.next ≡ length c.push.new.self.items = search rules in
     record {
       placed = pushed c.args.self.now.heads.items c.args.self.now.before.items _ c.push.new.self.items (vectors_in c.args.self.now.rows) (vectors_in c.place_fragment.new.self) c.args.row.now c.args.bucket
           c.requires.found.placed c.requires.new is below before vectors (ap (set c.args.self.now.heads.items c.args.bucket) number);
