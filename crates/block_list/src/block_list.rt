@@ -1,6 +1,6 @@
 use crate::blocks::{element_at, insert_at, insert_in, remove_between, set_at, set_in};
 use crate::kept::retain_in;
-use crate::near::spot_near;
+use crate::near::{behind, spot_near};
 use crate::search::{element_behind, first_failing, index_of, is_alone, passes_behind, spot_of};
 use crate::taken::{spot_passing, take_at};
 use crate::{Room, Roomy, Spot};
@@ -29,7 +29,7 @@ impl<T> Model for BlockList<T> {
 }
 
 impl<T> BlockList<T> {
-    ghost use Rattle.std.specs.Prelude.{◌≡◌, ◌<◌, ◌≤◌, ◌==◌, Bool, true, false, not, [], length, slice_get, Some};
+    ghost use Rattle.std.specs.Prelude.{◌≡◌, ◌<◌, ◌≤◌, ◌==◌, Bool, true, false, not, [], length, slice_get, Some, ℕ, IfSome};
     ghost use Rattle.std.specs.Option.{option_copied};
     ghost use Rattle.std.specs.List.{find};
     ghost use Rattle.std.specs.List.Sorted.{IsPartitionedBy, IsPartitionPoint};
@@ -124,6 +124,13 @@ impl<T> BlockList<T> {
         let (block, place) = spot_near(&self.blocks, near, pred);
         let found = element_behind(&self.blocks, block, place);
         (found, Spot { block, place })
+    }
+
+    /// The element behind the one at which a search ended, and the hint of a search that ends there.
+    pub fn behind(&self, near: Spot) -> Option<(&T, Spot)>
+        ensures { IfSome result (λ r. (i : ℕ) × (slice_get self.now i ≡ Some r.0.now)) }
+    {
+        behind(&self.blocks, near)
     }
 }
 

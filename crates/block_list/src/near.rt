@@ -1,11 +1,11 @@
 //! The search over the blocks of a list, from a hint on. None of the blocks is empty.
-ghost use Rattle.std.specs.Prelude.{◌≡◌, ◌+◌, ◌<◌, Bool, true, false, length};
+ghost use Rattle.std.specs.Prelude.{◌≡◌, ◌+◌, ◌<◌, Bool, true, false, length, slice_get, Some, IfSome};
 ghost use Rattle.std.specs.List.Sorted.{IsPartitionedBy, IsPartitionPoint};
 ghost use Rattle.std.specs.Fn.{ComputesKey};
 ghost use Rattle.block_list.specs.Blocks.{joined, AreFilled, start_of, IsPlace};
 
 use crate::Spot;
-use crate::search::{passes_behind, spot_of};
+use crate::search::{element_behind, passes_behind, spot_of};
 
 // How many elements further than its hint a search goes before it looks at all blocks.
 const STEPS: usize = 16;
@@ -93,4 +93,28 @@ fn turns_at<T, P: Fn(&T) -> bool>(blocks: &[Vec<T>], block: usize, place: usize,
         return block == 0;
     }
     pred(&blocks[block][place - 1])
+}
+
+/// The element behind the one at a place in a block, and the place at which it stands. There is none where no element stands at
+/// that place.
+pub fn behind<T>(blocks: &[Vec<T>], spot: Spot) -> Option<(&T, Spot)>
+    requires { AreFilled blocks.now }
+    ensures { IfSome result (λ r. slice_get (joined blocks.now) (start_of blocks.now spot.block + (spot.place + 1)) ≡ Some r.0.now) }
+{
+    let Spot { block, place } = spot;
+    if block >= blocks.len() || place >= blocks[block].len() {
+        return None;
+    }
+    let next = place + 1;
+    let item = element_behind(blocks, block, next)?;
+    if next < blocks[block].len() {
+        return Some((item, Spot { block, place: next }));
+    }
+    Some((
+        item,
+        Spot {
+            block: block + 1,
+            place: 0,
+        },
+    ))
 }

@@ -387,3 +387,48 @@ fn rises_and_finds_from_hints(alloc: Global) -> bool {
 fn a_hint_changes_nothing_that_is_found(rt: HostRuntime) {
     assert!(rt; rises_and_finds_from_hints(rt.alloc()));
 }
+
+// Goes along a list of 0, 1, 2 and so on, from its first element to the one behind it, and so on to the last.
+fn goes_along(list: &BlockList<u32>, count: u32) -> bool {
+    let (_, mut near) = list.find_failing_near(Spot::start(), |_| false);
+    for wanted in 1..count {
+        match list.behind(near) {
+            Some((item, further)) if *item == wanted => near = further,
+            _ => return false,
+        }
+    }
+    list.behind(near).is_none()
+}
+
+fn goes_along_some(alloc: Global) -> bool {
+    for count in [1, 2, 127, 128, 275] {
+        match rising(alloc, count) {
+            Ok(list) if goes_along(&list, count) => {}
+            _ => return false,
+        }
+    }
+    true
+}
+
+#[test]
+fn each_element_is_behind_the_one_before_it(rt: HostRuntime) {
+    assert!(rt; goes_along_some(rt.alloc()));
+}
+
+// Whether nothing is behind a place that isn't there.
+fn ends_beyond(alloc: Global) -> bool {
+    let Ok(list) = rising(alloc, 275) else {
+        return false;
+    };
+    for (block, place) in [(2, 21), (2, 500), (7, 3), (usize::MAX, usize::MAX)] {
+        if list.behind(Spot { block, place }).is_some() {
+            return false;
+        }
+    }
+    BlockList::<u32>::new(alloc).behind(Spot::start()).is_none()
+}
+
+#[test]
+fn nothing_is_behind_a_place_that_is_not_there(rt: HostRuntime) {
+    assert!(rt; ends_beyond(rt.alloc()));
+}

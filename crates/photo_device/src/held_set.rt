@@ -132,6 +132,11 @@ impl HeldSet {
     pub fn has_near(&self, near: Spot, picture: PicNo, version: Version) -> (bool, Spot)
         ensures { result.0 ≡ has_version_of picture version self.now }
     {
+        if let Some((held, spot)) = self.items.behind(near) {
+            if held.is_of(picture, version) {
+                return (true, spot);
+            }
+        }
         let (found, spot) = self
             .items
             .find_failing_near(near, |held| held.is_before(picture, version));
