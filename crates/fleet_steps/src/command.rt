@@ -69,7 +69,7 @@ pub fn run_command(
                 pictures,
             })
         }
-        Command::Knowledge { device: number } => knowledge_of(*number, device.knowledge()),
+        Command::Knowledge { device: number } => knowledge_of(alloc, *number, device.knowledge()),
         Command::Knows {
             picture,
             version,
@@ -109,7 +109,7 @@ fn knows_of(knowledge: &Knowledge, picture: PicNo, version: Version) -> Report
 }
 
 // The report on a knowledge, which is in normal form. Its only error is want of memory.
-fn knowledge_of(device: u16, knowledge: &Knowledge) -> Result<Report, AllocError>
+fn knowledge_of(alloc: Global, device: u16, knowledge: &Knowledge) -> Result<Report, AllocError>
     ensures given { IfOk result (λ report. answer_of report ≡ KnowledgeOf device knowledge.now.known) }
     ensures normal { is_normal knowledge.now.known ≡ true }
 {
@@ -117,7 +117,7 @@ fn knowledge_of(device: u16, knowledge: &Knowledge) -> Result<Report, AllocError
     let _count = knowledge.fragments();
     Ok(Report::KnowledgeOf {
         device,
-        knowledge: knowledge.try_clone()?,
+        knowledge: Box::new(alloc, knowledge.try_clone()?)?,
     })
 }
 

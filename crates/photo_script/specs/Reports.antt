@@ -40,7 +40,7 @@ answer_of (report.Narrowed count) = Narrowed count
 answer_of (report.Pulled counts) = Pulled counts
 answer_of (report.Listed n store out) = Listed n (entries_of store) (entries_of out)
 answer_of (report.Conflicts n pictures) = Conflicts n pictures
-answer_of (report.KnowledgeOf n knowledge) = KnowledgeOf n knowledge.known
+answer_of (report.KnowledgeOf n knowledge) = KnowledgeOf n knowledge.value.known
 answer_of (report.Knows known) = Knows known
 
 -- what the answer to a command has to be: one answer, or the knowledge of a device, as the test of a picture and a version

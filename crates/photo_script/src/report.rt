@@ -40,10 +40,11 @@ pub enum Report {
         device: u16,
         pictures: ConflictList,
     },
-    /// What a device knows. The device is given by its place in order of declaration, from 0.
+    /// What a device knows. The device is given by its place in order of declaration, from 0. A knowledge is large, and one
+    /// is told by few reports, so it lies beside the report.
     KnowledgeOf {
         device: u16,
-        knowledge: Knowledge,
+        knowledge: Box<Knowledge>,
     },
     /// Whether a device knows a version of a picture.
     Knows(bool),

@@ -120,6 +120,7 @@ fn text_in(
     if usize::from(device) >= script.devices() || !is_knowledge_of(script, &knowledge) {
         return None;
     }
+    let knowledge = Box::new(alloc, knowledge).ok()?;
     let report = Report::KnowledgeOf { device, knowledge };
     report_text(alloc, script, number, &report).ok()
 }
