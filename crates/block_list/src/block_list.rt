@@ -126,7 +126,8 @@ impl<T> BlockList<T> {
         (found, Spot { block, place })
     }
 
-    /// The element behind the one at which a search ended, and the hint of a search that ends there.
+    /// The element behind the one at which a search ended, and the hint of a search that ends there. It is looked for beside
+    /// that one alone: no answer doesn't tell that there is none.
     pub fn behind(&self, near: Spot) -> Option<(&T, Spot)>
         ensures { IfSome result (λ r. (i : ℕ) × (slice_get self.now i ≡ Some r.0.now)) }
     {

@@ -4,7 +4,7 @@ ghost use Rattle.item_knowledge.specs.Gathering.{IsSide, pair_vector, groups_of,
 ghost use Rattle.item_knowledge.specs.Places.{IsFound};
 ghost use Rattle.item_knowledge.specs.Rows.{pairs, IsRow, AreRows, fragments_of, rows_of};
 
-use crate::index::{IndexEntry, short};
+use crate::index::{IndexEntry, to_u32};
 use crate::pairing::{Pairing, pictures_together};
 use crate::places::Places;
 use crate::rows::Rows;
@@ -72,7 +72,7 @@ fn place_apart(
             return Ok(false);
         }
         let number = places.push(bucket, &[u64::from(picture)], row)?;
-        let kept = short(number)?;
+        let kept = to_u32(number)?;
         index.push((picture, kept))?;
     }
     Ok(true)

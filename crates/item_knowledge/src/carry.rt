@@ -11,7 +11,7 @@ ghost use Rattle.item_knowledge.specs.Rows.{pairs, IsRow, AreRows, fragments_of,
 ghost use Rattle.item_knowledge.specs.Tables.{in_order};
 
 use crate::gather::same_row;
-use crate::index::{IndexEntry, short};
+use crate::index::{IndexEntry, to_u32};
 use crate::pairing::{Pairing, pictures_together};
 use crate::places::Places;
 use crate::rows::Rows;
@@ -163,7 +163,7 @@ fn place_behind(
 fn add_number(picture: u32, index: &mut Vec<IndexEntry>) -> Result<(), AllocError>
     ensures { OnOk result (index.new.items ≡ index.old.items ++ (picture, length index.old.items + 1) ∷ []) }
 {
-    let number = short(index.len() + 1)?;
+    let number = to_u32(index.len() + 1)?;
     index.push((picture, number))?;
     Ok(())
 }

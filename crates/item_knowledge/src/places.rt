@@ -2,7 +2,7 @@ ghost use Rattle.std.specs.Prelude.{◌≡◌, ℕ, ◌<◌, ◌≤◌, ◌∷�
 ghost use Rattle.item_knowledge.specs.Places as spec;
 ghost use Rattle.item_knowledge.specs.Rows.{vectors_in};
 
-use crate::index::short;
+use crate::index::to_u32;
 use crate::rows::Rows;
 use std::alloc::{AllocError, Global};
 
@@ -154,7 +154,7 @@ impl Places {
         ensures place { IfOk result (λ place. place ≡ length (vectors_in self.old.rows)) }
     {
         let place = self.before.len();
-        let next = short(place + 1)?;
+        let next = to_u32(place + 1)?;
         self.before.push(self.heads[bucket])?;
         self.rows.place_fragment(pictures, row)?;
         self.heads[bucket] = next;

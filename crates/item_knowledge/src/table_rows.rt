@@ -6,7 +6,7 @@ ghost use Rattle.item_knowledge.specs.Rows.{pairs, flat, IsRow, rows_of};
 ghost use Rattle.item_knowledge.specs.TableRows as spec;
 
 use crate::Fragment;
-use crate::index::{IndexEntry, short};
+use crate::index::{IndexEntry, to_u32};
 use crate::rows::Rows;
 use photo_record::PicNo;
 use photo_version::Vector;
@@ -92,7 +92,7 @@ pub(crate) fn told(
         let one = &table[i];
         let picture = one.0.value();
         place_told(&mut rows, picture, &one.1, &mut row)?;
-        let number = short(i + 1)?;
+        let number = to_u32(i + 1)?;
         index.push((picture, number))?;
     }
     Ok((rows, index))

@@ -9,7 +9,7 @@ use crate::apart::apart;
 use crate::carry::carried;
 use crate::gather::{add, same_row};
 use crate::group::Group;
-use crate::index::{IndexEntry, short};
+use crate::index::{IndexEntry, to_u32};
 use crate::join::join;
 use crate::live::LiveRows;
 use crate::pairing::{Pairing, pictures_together};
@@ -151,7 +151,7 @@ fn groups(
             continue;
         }
         let k = add(alloc, &mut groups, &mut places, picture, row)?;
-        let number = short(k + 1)?;
+        let number = to_u32(k + 1)?;
         index.push((picture, number))?;
     }
     Ok((groups, places, index))

@@ -61,7 +61,7 @@ loop-picture-preserved c =
     let nowhere : place (groups_in c.loop-picture.places.rows) (pairs c.in_ok-row.row.now) ≡ None = new_has_no_place f table c.loop-picture.places.rows c.loop-picture.index.items i all every c.loop-picture.invariant.written c.in_ok-row.row.now c.in_ok-row.ensures.row new in
     let number : c.in_ok-number.number ≡ length c.loop-picture.index.items + 1 = c.in_ok-number.ensures.place ∙ vectors_counted f table c.loop-picture.places.rows c.loop-picture.index.items i all every c.loop-picture.invariant.written in
     let rows : c.push.new.self.rows ≡ (c.loop-picture.places.rows ++ (r.0 ∷ []) ∷ []) ++ c.in_ok-row.row.now ∷ [] = search rules in
-    let pushed : c.push-in-Some.new.self.items ≡ c.loop-picture.index.items ++ (r.0, length c.loop-picture.index.items + 1) ∷ [] = c.in_ok-push.ensures.items ∙ ap (λ n. c.loop-picture.index.items ++ (r.0, n) ∷ []) (c.in_ok-kept.ensures ∙ number) in
+    let pushed : c.push-in-Some.new.self.items ≡ c.loop-picture.index.items ++ (r.0, length c.loop-picture.index.items + 1) ∷ [] = c.in_ok-push.ensures.items ∙ ap (λ n. c.loop-picture.index.items ++ (r.0, n) ∷ []) (c.in_ok-kept.ensures.value ∙ number) in
     record {
       found = c.in_ok-number.ensures.found;
       place = i + 1;

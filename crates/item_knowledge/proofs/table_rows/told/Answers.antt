@@ -18,7 +18,7 @@ loop-i-preserved c =
     let number : c.value-picture.result ≡ t.0 = search rules in
     let above : 0 < c.value-picture.result = search rules in
     let rows : c.place_told.new.rows ≡ c.loop-i.rows ++ (c.value-picture.result ∷ []) ∷ flat (entries_of t.1) ∷ [] = c.in_ok-place_told.ensures.rows in
-    let index : c.push.new.self.items ≡ c.loop-i.index.items ++ (c.value-picture.result, c.loop-i.i + 1) ∷ [] = c.in_ok-push.ensures.items ∙ ap (λ n. c.loop-i.index.items ++ (c.value-picture.result, n) ∷ []) c.in_ok-number.ensures in
+    let index : c.push.new.self.items ≡ c.loop-i.index.items ++ (c.value-picture.result, c.loop-i.i + 1) ∷ [] = c.in_ok-push.ensures.items ∙ ap (λ n. c.loop-i.index.items ++ (c.value-picture.result, n) ∷ []) c.in_ok-number.ensures.value in
     record {
       told = one_told c.args.table.now c.loop-i.i t c.loop-i.rows c.place_told.new.rows c.loop-i.index.items c.push.new.self.items (got_drop c.args.table.now c.loop-i.i t got) c.loop-i.invariant.told
           (rows ∙ ap (λ n. c.loop-i.rows ++ (n ∷ []) ∷ flat (entries_of t.1) ∷ []) number) (index ∙ ap (λ n. c.loop-i.index.items ++ (n, c.loop-i.i + 1) ∷ []) number) (subst (λ n. 0 < n) number above) c.in_ok-place_told.ensures.vector;

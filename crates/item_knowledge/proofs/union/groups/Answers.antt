@@ -59,7 +59,7 @@ loop-picture-preserved c =
       place = i + 1;
       along = along_next c.args.left_index.now c.args.right_index.now c.loop-picture.pairing c.next.new.self i r c.loop-picture.invariant.along c.in-Some.ensures.next;
       gathered = one_gathered (f (0, 0)) f table (grouped c.loop-picture.groups.items (vectors_in c.loop-picture.places.rows)) (grouped c.add.new.groups.items (vectors_in c.add.new.places.rows)) c.loop-picture.index.items c.push.new.self.items i c.in_ok-k.k all every
-          r is c.loop-picture.invariant.gathered other groups found (c.in_ok-push.ensures.items ∙ ap (λ n. c.loop-picture.index.items ++ (r.0, n) ∷ []) c.in_ok-number.ensures);
+          r is c.loop-picture.invariant.gathered other groups found (c.in_ok-push.ensures.items ∙ ap (λ n. c.loop-picture.index.items ++ (r.0, n) ∷ []) c.in_ok-number.ensures.value);
       placed = c.in_ok-k.ensures.placed;
     }
 
