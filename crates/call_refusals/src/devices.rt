@@ -35,6 +35,7 @@ fn verdict_on_others(alloc: Global, call: &str) -> Option<Verdict> {
     match call {
         "Device::stage" => on_device(alloc, 2, Call::Stage),
         "Device::stage_lent" => on_device(alloc, 2, Call::StageLent),
+        "Device::unknown_of" => on_device(alloc, 2, Call::Ask),
         "Device::narrow" => on_device(alloc, 2, Call::Narrow),
         "Device::conflicts" => conflicts(alloc),
         "Held::try_clone" => on_device(alloc, 1, Call::CopyHeld),
@@ -50,6 +51,7 @@ enum Call {
     Remove,
     Stage,
     StageLent,
+    Ask,
     Narrow,
     CopyHeld,
     List,
@@ -87,6 +89,7 @@ fn calls(alloc: Global, device: &mut Device, call: Call) -> Option<bool> {
         Call::Edit => edits(alloc, device),
         Call::Remove => removes(alloc, device),
         Call::StageLent => stages_lent(alloc, device),
+        Call::Ask => asks(alloc, device),
         Call::CopyHeld => copies_first(alloc, device.store()),
         Call::Command => runs_command(alloc, device),
         _ => lists(alloc, device.store()),
@@ -401,4 +404,19 @@ fn lists(alloc: Global, set: &HeldSet) -> Option<bool> {
     Some(
         list.len() == 2 && set.len() == 2 && list.get(0) == set.get(0) && list.get(1) == set.get(1),
     )
+}
+
+// Asks a device for what it doesn't know of another one's store.
+fn asks(alloc: Global, device: &mut Device) -> Option<bool> {
+    let mut other = Device::new(alloc, Author::new(1), filter_of(alloc, "all")?).ok()?;
+    make_all(alloc, &mut other, 2)?;
+    asks_of(alloc, device, other.store())
+}
+
+fn asks_of(alloc: Global, device: &mut Device, set: &HeldSet) -> Option<bool> {
+    mark(alloc);
+    let found = device.unknown_of(alloc, set);
+    mark(alloc);
+    let found = found.ok()?;
+    Some(found.len() == 2 && found[0] == *set.get(0) && found[1] == *set.get(1))
 }

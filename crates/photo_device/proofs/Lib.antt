@@ -5,6 +5,7 @@ pub mod Found
 pub mod Shown
 pub mod Holding
 pub mod AllLemmas
+pub mod NotedLemmas
 pub mod OwnLemmas
 pub mod Replacing
 pub mod Lexical

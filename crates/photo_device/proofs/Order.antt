@@ -1,9 +1,11 @@
 -- Held versions in order.
-use Rattle.std.proofs.Common.{◌≡◌, ℕ, zero, suc, ◌<◌, ◌≤◌, Bool, true, false, leb, ltb, cond, List, [], ◌∷◌, ◌++◌, length, get_or, take, drop, refl, sym, ap, ◌∙◌, inl, inr, arith}
+use Rattle.std.proofs.Common.{◌≡◌, ℕ, zero, suc, ◌<◌, ◌≤◌, Bool, true, false, leb, ltb, cond, List, [], ◌∷◌, ◌++◌, length, get_or, take, drop, Vec, refl, sym, ap, ◌∙◌, inl, inr, arith}
 use Rattle.std.specs.Prelude.{filter}
 use Rattle.std.specs.List.{list_all}
+use Rattle.std.specs.declared.alloc.Global.{Global}
 use Rattle.std.specs.List.Sorted.{IsNonDecreasingBy, IsPartitionPoint}
 use Rattle.std.proofs.lemmas.Bool.{and_parts, and_from, lt-ltb, le-ltb, ltb-true, ltb-false, eqb-false, eq-eqb, ne_eqb, cases_Bool, not-true, leb-true, leb-false, cases_lt, false≢true, cases_order}
+use Rattle.block_list.specs.Blocks.{joined}
 use Rattle.photo_device.specs.declared.held.Held.{Held}
 use Rattle.photo_device.specs.Ordered.{put}
 use Rattle.photo_device.specs.Entry.{is_of_other}
@@ -205,3 +207,14 @@ is_range p xs from to f t less most =
           let high = leb-false _ _ (most.1 to x (omega arith) (omega arith)) in
           absurd (omega arith)
     ] refl
+
+-- what passes in all blocks of a set in order
+pub in_order-passing : (p : Held → Bool) (items set : List Held) (blocks : List (Vec Held Global)) (k : ℕ) → length blocks ≤ k → joined blocks ≡ set → are_in_order set ≡ true → items ≡ filter p (joined (take k blocks)) → are_in_order items ≡ true
+in_order-passing p items set blocks k all of_set order passing =
+    ap are_in_order (passing ∙ ap (λ l. filter p (joined l)) (whole blocks k all) ∙ ap (filter p) of_set) ∙ in_order-filter p set order
+  where
+    whole : (xs : List (Vec Held Global)) (n : ℕ) → length xs ≤ n → take n xs ≡ xs
+    whole [] zero h = refl
+    whole [] (suc n) h = refl
+    whole (x ∷ xs) zero h = absurd (omega arith)
+    whole (x ∷ xs) (suc n) h = ap (λ l. x ∷ l) (whole xs n (omega arith))

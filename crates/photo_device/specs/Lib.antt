@@ -3,6 +3,7 @@ pub mod Entry
 pub mod Held
 pub mod Rising
 pub mod Marks
+pub mod Noted
 pub mod Device
 pub mod Conflicts
 pub mod Learning

@@ -4,6 +4,7 @@ ghost use Rattle.photo_device.specs.Device.{store_with, out_with};
 ghost use Rattle.photo_device.specs.Learning.{IsOwnLearned};
 
 use crate::drops::give_up;
+use crate::noted_knowledge::NotedKnowledge;
 use crate::prepared::Prepared;
 use crate::takes::{rooms, take_in, take_others};
 use crate::{
@@ -26,7 +27,7 @@ pub struct Device {
     counter: u32,
     store: HeldSet,
     out: HeldSet,
-    knowledge: Knowledge,
+    knowledge: NotedKnowledge,
     prepared: Option<Prepared>,
 }
 
@@ -62,13 +63,13 @@ impl Model for Device {
 }
 
 impl Device {
-    ghost use Rattle.std.specs.Prelude.{◌≡◌, ◌≢◌, ℕ, ◌+◌, ◌<◌, ◌≤◌, ◌||◌, ◌++◌, true, false, is_some, length, None};
+    ghost use Rattle.std.specs.Prelude.{◌≡◌, ◌≢◌, ℕ, ◌+◌, ◌<◌, ◌≤◌, ◌||◌, ◌++◌, true, false, not, filter, is_some, length, None};
     ghost use Rattle.std.specs.Prelude.{Err, IfOk, IfErr, IfSome, OnOk, OnErr};
     ghost use Rattle.std.specs.Prelude.{vec_len, vec_capacity};
     ghost use Rattle.std.specs.List.{AllByRecursion};
     ghost use Rattle.std.specs.Option.{option_copied, option_map};
     ghost use Rattle.photo_device.specs.Entry.{find_entry};
-    ghost use Rattle.photo_device.specs.Held.{find_version, find_version_of, has_picture, count_of, times_in};
+    ghost use Rattle.photo_device.specs.Held.{are_in_order, find_version, find_version_of, has_picture, count_of, times_in};
     ghost use Rattle.photo_device.specs.Held.{entry_of, entries_of, helds_at};
     ghost use Rattle.photo_device.specs.Own.{HasEarlier, HasMade, IsDevice, IsKnownBy, IsNext, KnowsItsOwn};
     ghost use Rattle.photo_device.specs.Staging.{HasStaged, MayHand, MayStage};
@@ -100,7 +101,7 @@ impl Device {
                 counter: 0,
                 store: HeldSet::new(alloc),
                 out: HeldSet::new(alloc),
-                knowledge,
+                knowledge: NotedKnowledge::new(alloc, knowledge),
                 prepared: None,
             }),
             Err(refused) => Err((filter, refused)),
@@ -143,7 +144,7 @@ impl Device {
         let held = Held {
             picture,
             version,
-            made_with: self.knowledge.of(picture)?,
+            made_with: self.knowledge.as_knowledge().of(picture)?,
             content: content.try_clone()?,
         };
         let place = Place::of(&self.filter, content);
@@ -157,6 +158,7 @@ impl Device {
         ensures ok { OnOk result (HasMade place held self.old self.new) }
         ensures err { OnErr result (self.new ≡ self.old) }
     {
+        self.knowledge.make_place(held.version)?;
         if self.counter == 0 {
             return self.add_first(place, held);
         }
@@ -170,10 +172,10 @@ impl Device {
         ensures err { OnErr result (self.new ≡ self.old) }
     {
         let version = held.version;
-        let knowledge = with_own(&self.knowledge, version)?;
+        let knowledge = with_own(self.knowledge.as_knowledge(), version)?;
         hold(&mut self.store, &mut self.out, place, held)?;
         self.prepared = None;
-        self.knowledge = knowledge;
+        self.knowledge = NotedKnowledge::new(self.store.alloc(), knowledge);
         self.counter = version.n();
         Ok(())
     }
@@ -235,7 +237,20 @@ impl Device {
         ensures value { result.now.known ≡ self.now.knowledge }
         ensures device { IsDevice (unstaged self.now) }
     {
-        &self.knowledge
+        self.knowledge.as_knowledge()
+    }
+
+    /// Copies of those of a set that it doesn't know, in their order. What it knows stays; it notes what it was found to know,
+    /// so that it is quicker to ask again.
+    ///
+    /// Its only error is want of memory, and none is wanted where it knows all.
+    pub fn unknown_of(&mut self, alloc: Global, set: &HeldSet) -> Result<Vec<Held>, AllocError>
+        ensures items { IfOk result (λ found. found.items
+            ≡ filter (λ h. not (knows self.old.knowledge h.picture h.version)) set.now) }
+        ensures ordered { IfOk result (λ found. are_in_order found.items ≡ true) }
+        ensures kept { self.new ≡ self.old }
+    {
+        self.knowledge.unknown_of(alloc, set)
     }
 
     /// What it holds of a version, in the store or in the out.
@@ -479,7 +494,7 @@ impl Device {
     {
         let mut device = self;
         device.prepared = None;
-        device.knowledge = knowledge;
+        device.knowledge = NotedKnowledge::new(device.store.alloc(), knowledge);
         device
     }
 

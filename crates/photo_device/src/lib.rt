@@ -12,6 +12,8 @@ mod held_set;
 mod item_list;
 pub mod laws;
 mod marks;
+mod noted_knowledge;
+mod noted_versions;
 mod place;
 mod prepared;
 mod range;

@@ -1,3 +1,4 @@
+mod asking;
 mod changes;
 mod knowing;
 mod narrowing;

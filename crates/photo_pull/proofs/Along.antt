@@ -1,12 +1,10 @@
 -- Searches along a list in order, from a place on.
-use Rattle.std.proofs.Common.{◌≡◌, ℕ, zero, suc, ◌+◌, ◌-◌, ◌<◌, ◌≤◌, Bool, true, false, ◌&&◌, ◌||◌, eqb, List, [], ◌∷◌, length, get_or, drop, refl, sym, ap, ◌∙◌, arith, add-one, take, Vec}
+use Rattle.std.proofs.Common.{◌≡◌, ℕ, zero, suc, ◌+◌, ◌-◌, ◌<◌, ◌≤◌, Bool, true, false, ◌&&◌, ◌||◌, eqb, List, [], ◌∷◌, length, get_or, drop, refl, sym, ap, ◌∙◌, arith, add-one}
 use Rattle.std.specs.Prelude.{filter}
-use Rattle.std.specs.declared.alloc.Global.{Global}
 use Rattle.std.proofs.lemmas.Bool.{ne_eqb, and_parts, eqb-true}
-use Rattle.block_list.specs.Blocks.{joined}
 use Rattle.photo_device.specs.declared.held.Held.{Held}
 use Rattle.photo_device.specs.Held.{are_in_order}
-use Rattle.photo_device.proofs.Order.{rises, in_order-filter}
+use Rattle.photo_device.proofs.Order.{rises}
 use Rattle.photo_pull.specs.OnHeld.{is_above, has_above}
 
 not_above : (x h : Held) → (x.picture ≡ h.picture → ⊥) → is_above x h ≡ false
@@ -75,14 +73,3 @@ none_over followed test stored waiting xs unfollowed none =
     nothing : (hs : List Held) → filter (λ h. false) hs ≡ []
     nothing [] = refl
     nothing (h ∷ hs) = nothing hs
-
--- what passes in all blocks of a set in order
-pub in_order-passing : (p : Held → Bool) (items set : List Held) (blocks : List (Vec Held Global)) (k : ℕ) → length blocks ≤ k → joined blocks ≡ set → are_in_order set ≡ true → items ≡ filter p (joined (take k blocks)) → are_in_order items ≡ true
-in_order-passing p items set blocks k all of_set order passing =
-    ap are_in_order (passing ∙ ap (λ l. filter p (joined l)) (whole blocks k all) ∙ ap (filter p) of_set) ∙ in_order-filter p set order
-  where
-    whole : (xs : List (Vec Held Global)) (n : ℕ) → length xs ≤ n → take n xs ≡ xs
-    whole [] zero h = refl
-    whole [] (suc n) h = refl
-    whole (x ∷ xs) zero h = absurd (omega arith)
-    whole (x ∷ xs) (suc n) h = ap (λ l. x ∷ l) (whole xs n (omega arith))

@@ -1,20 +1,33 @@
 -- Machinery of the proofs: what the code finds between two devices is what `OnHeld` says, and is staged on one of them.
 use Rattle.std.specs.Prelude.{◌≡◌, ℕ, ◌+◌, ◌<◌, Bool, true, false, ◌||◌, if◌then◌else◌, List, [], ◌++◌, length}
+use Rattle.std.specs.List.{AllByRecursion}
 use Rattle.std.specs.List.Sorted.{IsPermutation}
 use Rattle.photo_version.specs.Version.{Version, Versions}
 use Rattle.photo_version.specs.Vector.{Bound, denotes}
 use Rattle.item_knowledge.specs.Fragments.{Fragment, knows}
 use Rattle.item_knowledge.specs.Tables.{in_order, at}
 use Rattle.photo_device.specs.declared.held.Held.{Held}
+use Rattle.photo_device.specs.Held.{are_in_order}
 use Rattle.photo_device.specs.Device.{Kept}
+use Rattle.photo_device.specs.Own.{HasEarlier}
 use Rattle.photo_device.specs.Staging.{HasStaged}
-use Rattle.photo_pull.specs.OnHeld.{tells, new_waiting, dropped_stored, dropped_waiting, heard, taken_stored, learns, versions}
+use Rattle.photo_pull.specs.OnHeld.{tells, new_stored, new_waiting, dropped_stored, dropped_waiting, heard, taken_stored, learns, versions}
+use Rattle.photo_pull.specs.declared.part.Part.{Part}
 use Rattle.photo_pull.specs.declared.finding.Finding.{Finding}
 
 -- a table has what two lists tell, where it is wanted
 pub record IsTold (learned : Bool) (hs ws : List Held) (table : List (ℕ × List Bound)) : Type 0 where
   pub order : in_order table ≡ true
   pub told : learned ≡ false → (p : ℕ) (v : Version) → denotes (at [] table p) v ≡ (tells hs p v || tells ws p v)
+
+-- news are what the target doesn't know of what the source holds
+pub record AreNews (t s : Kept) (news : Part) : Type 0 where
+  pub stored : news.stored.items ≡ new_stored t s
+  pub waiting : news.waiting.items ≡ new_waiting t s
+  pub stored_order : are_in_order news.stored.items ≡ true
+  pub waiting_order : are_in_order news.waiting.items ≡ true
+  pub stored_earlier : AllByRecursion HasEarlier news.stored.items
+  pub waiting_earlier : AllByRecursion HasEarlier news.waiting.items
 
 pub record IsFound (t s : Kept) (f : Finding) : Type 0 where
   pub learned : f.learned ≡ learns t s

@@ -1,55 +1,17 @@
 //! Held versions that pass a test, in their order. A copy shares what the version carries.
 ghost use Rattle.std.specs.Prelude.{◌≡◌, ◌≤◌, ◌++◌, ◌&&◌, ◌||◌, not, true, length, filter, IfOk, OnOk};
 ghost use Rattle.photo_device.specs.Held.{are_in_order};
-ghost use Rattle.photo_pull.specs.OnHeld.{is_new, is_selected, has_above, has_below, has_same, versions};
+ghost use Rattle.photo_pull.specs.OnHeld.{is_selected, has_above, has_below, has_same, versions};
 ghost use Rattle.photo_pull.specs.Gaps.{IsGap};
 ghost use Rattle.item_knowledge.specs.Fragments.{knows};
 
 use crate::gap::Gap;
 use crate::hints::Hints;
 use crate::part::Part;
-use item_knowledge::Knowledge;
 use photo_device::{Device, Held, HeldSet};
 use photo_filter_rules::Filter;
 use photo_version::Version;
 use std::alloc::{AllocError, Global};
-
-// Puts copies of those of a list that a knowledge doesn't have behind others. Any hint will do.
-fn push_new(
-    found: &mut Vec<Held>,
-    knowledge: &Knowledge,
-    hint: &mut usize,
-    list: &[Held],
-) -> Result<(), AllocError>
-    ensures { OnOk result (found.new.items ≡ found.old.items ++ filter (is_new knowledge.now.known) list.now) }
-{
-    for held in list {
-        let (known, next) = knowledge.knows_near(*hint, held.picture, held.version);
-        *hint = next;
-        if known {
-            continue;
-        }
-        found.push(held.try_clone()?)?;
-    }
-    Ok(())
-}
-
-/// Copies of those of a set that a knowledge doesn't have. No memory is wanted where it has all.
-pub(crate) fn new_of(
-    alloc: Global,
-    knowledge: &Knowledge,
-    set: &HeldSet,
-) -> Result<Vec<Held>, AllocError>
-    ensures items { IfOk result (λ found. found.items ≡ filter (is_new knowledge.now.known) set.now) }
-    ensures ordered { IfOk result (λ found. are_in_order found.items ≡ true) }
-{
-    let mut found = Vec::new(alloc);
-    let mut hint = 0;
-    for block in set.blocks() {
-        push_new(&mut found, knowledge, &mut hint, block)?;
-    }
-    Ok(found)
-}
 
 // Whether a device knows a version and doesn't keep it.
 fn has_given_up(device: &Device, hints: &mut Hints, held: &Held) -> bool

@@ -3,10 +3,10 @@ ghost use Rattle.std.specs.List.{AllByRecursion};
 ghost use Rattle.photo_device.specs.Held.{are_in_order};
 ghost use Rattle.photo_device.specs.Own.{HasEarlier};
 ghost use Rattle.photo_pull.specs.OnHeld.{new_stored, new_waiting, dropped_stored, dropped_waiting, learns};
-ghost use Rattle.photo_pull.specs.Findings.{IsFound, IsTold};
+ghost use Rattle.photo_pull.specs.Findings.{AreNews, IsFound, IsTold};
 
 use crate::PullCounts;
-use crate::filtered::{dropped_of, heard_of, new_of, taken_of};
+use crate::filtered::{dropped_of, heard_of, taken_of};
 use crate::part::Part;
 use crate::table::table_of;
 use item_knowledge::Knowledge;
@@ -33,18 +33,17 @@ pub(crate) struct Finding {
     pub told: Vec<(PicNo, Vector)>,
 }
 
-// What the target doesn't know of what the source holds.
-fn news_of(alloc: Global, target: &Device, source: &Device) -> Result<Part, AllocError>
-    ensures stored { IfOk result (λ part. part.stored.items ≡ new_stored target.now source.now) }
-    ensures waiting { IfOk result (λ part. part.waiting.items ≡ new_waiting target.now source.now) }
-    ensures stored_order { IfOk result (λ part. are_in_order part.stored.items ≡ true) }
-    ensures waiting_order { IfOk result (λ part. are_in_order part.waiting.items ≡ true) }
-    ensures stored_earlier { IfOk result (λ part. AllByRecursion HasEarlier part.stored.items) }
-    ensures waiting_earlier { IfOk result (λ part. AllByRecursion HasEarlier part.waiting.items) }
+/// What the target doesn't know of what the source holds. It stays as it is. Its only error is want of memory.
+pub(crate) fn news_of(
+    alloc: Global,
+    target: &mut Device,
+    source: &Device,
+) -> Result<Part, AllocError>
+    ensures news { IfOk result (λ news. AreNews target.old source.now news) }
+    ensures kept { target.new ≡ target.old }
 {
-    let known = target.knowledge();
-    let stored = new_of(alloc, known, source.store())?;
-    let waiting = new_of(alloc, known, source.out())?;
+    let stored = target.unknown_of(alloc, source.store())?;
+    let waiting = target.unknown_of(alloc, source.out())?;
     Ok(Part { stored, waiting })
 }
 
@@ -91,16 +90,17 @@ fn told_of(
     Ok(table)
 }
 
-/// What a pull finds between two devices. Its only error is want of memory.
+/// What a pull finds between two devices, by what is new. Its only error is want of memory.
 pub(crate) fn found_between(
     alloc: Global,
+    news: Part,
     target: &Device,
     source: &Device,
 ) -> Result<Finding, AllocError>
+    requires news { AreNews target.now source.now news }
     ensures { IfOk result (λ finding. IsFound target.now source.now finding) }
 {
     let learned = covers(source.filter(), target.filter());
-    let news = news_of(alloc, target, source)?;
     let dropped = dropped_for(alloc, &news, learned, target, source)?;
     let Part { stored, waiting } = news;
     let heard = heard_of(target.filter(), &dropped, stored);

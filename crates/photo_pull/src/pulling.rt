@@ -6,10 +6,12 @@ ghost use Rattle.photo_device.specs.declared.held.Held.{Held};
 ghost use Rattle.photo_device.specs.Held.{find_version};
 ghost use Rattle.photo_device.specs.Device.{ModelDevice, Shows, IsAsItWas};
 ghost use Rattle.photo_pull.specs.Pull.{pulled, handed_over, counts_of};
+ghost use Rattle.photo_pull.specs.Findings.{AreNews};
 
 use crate::PullCounts;
 use crate::change::{handed_of, stage_found};
-use crate::finding::found_between;
+use crate::finding::{found_between, news_of};
+use crate::part::Part;
 use photo_device::Device;
 use std::alloc::{AllocError, Global};
 
@@ -61,7 +63,32 @@ fn pull_between(
     ensures target_still { target.new.staged ≡ None }
     ensures source_still { source.new.staged ≡ None }
 {
-    let finding = found_between(alloc, target, source)?;
+    let news = news_of(alloc, target, source)?;
+    pull_news(alloc, news, target, source)
+}
+
+// The pull by what is new to the target.
+fn pull_news(
+    alloc: Global,
+    news: Part,
+    target: &mut Device,
+    source: &mut Device,
+) -> Result<PullCounts, AllocError>
+    requires news { AreNews target.old source.old news }
+    requires one { (v : Version) (h g : Held) → find_version v (target.old.store ++ target.old.out) ≡ Some h
+        → find_version v (source.old.store ++ source.old.out) ≡ Some g → h.picture ≡ g.picture }
+    requires own { (p n : ℕ) → 0 < p → knows source.old.knowledge p (version target.old.author n) ≡ true → n ≤ target.old.counter }
+    requires target_unstaged { target.old.staged ≡ None }
+    requires source_unstaged { source.old.staged ≡ None }
+    ensures target { OnOk result ((t s : ModelDevice) → Shows target.old t → Shows source.old s → Shows target.new (pulled t s)) }
+    ensures source { OnOk result ((t s : ModelDevice) → Shows target.old t → Shows source.old s → Shows source.new (handed_over t s)) }
+    ensures counts { IfOk result (λ counts. (t s : ModelDevice) → Shows target.old t → Shows source.old s → counts ≡ counts_of t s) }
+    ensures target_kept { OnErr result (IsAsItWas target.old target.new) }
+    ensures source_kept { OnErr result (IsAsItWas source.old source.new) }
+    ensures target_still { target.new.staged ≡ None }
+    ensures source_still { source.new.staged ≡ None }
+{
+    let finding = found_between(alloc, news, target, source)?;
     let counts = finding.counts();
     if finding.is_nothing(target.knowledge(), source.knowledge()) {
         return Ok(counts);

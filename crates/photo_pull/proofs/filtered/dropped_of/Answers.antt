@@ -2,8 +2,9 @@ use Rattle.std.proofs.Common.{not, ◌&&◌, ◌||◌, ap, sym, ◌∙◌, arith
 use Rattle.std.specs.List.{list_all}
 use Rattle.item_knowledge.specs.Fragments.{knows}
 use Rattle.photo_device.specs.Held.{are_in_order}
+use Rattle.photo_device.proofs.Order.{in_order-passing}
 use Rattle.photo_pull.specs.OnHeld.{has_above, has_same}
-use Rattle.photo_pull.proofs.Along.{none_over, in_order-passing}
+use Rattle.photo_pull.proofs.Along.{none_over}
 use Rattle.photo_pull.proofs.GapLemmas.{lies_in, block_in_order, none_within, passed_over}
 use Rattle.photo_pull.proofs.filtered.dropped_of.Goals as goal
 

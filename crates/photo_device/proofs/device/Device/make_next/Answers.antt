@@ -2,6 +2,7 @@ use Rattle.std.specs.Prelude.{None}
 use Rattle.std.proofs.Common.{◌+◌, ◌||◌, List, rules, refl, sym, ap, ◌∙◌, subst}
 use Rattle.photo_version.specs.Version.{version, same_version}
 use Rattle.item_knowledge.specs.Fragments.{Fragment, knows}
+use Rattle.item_knowledge.specs.Staged.{Knowing}
 use Rattle.photo_device.specs.Device.{Kept, Shows, made, held_at}
 use Rattle.photo_device.proofs.Shown.{held, IsLearned, shows_made}
 use Rattle.photo_device.proofs.device.Device.make_next.Goals as goal
@@ -12,7 +13,7 @@ add-requires c =
     record {
       next = version_is.1 ∙ ap (λ (d : Kept). version d.author (d.counter + 1)) c.self.view_is;
       above = search rules;
-      history = λ v. c.in_ok-of.ensures v ∙ ap (λ (d : Kept). knows d.knowledge c.args.picture v) c.self.view_is;
+      history = λ v. c.in_ok-of.ensures v ∙ ap (λ (k : Knowing). knows k.known c.args.picture v) c.as_knowledge.ensures ∙ ap (λ (d : Kept). knows d.knowledge c.args.picture v) c.self.view_is;
     }
 
 pub returns-clause-shows : goal.returns-clause-shows
@@ -27,7 +28,7 @@ returns-clause-shows c =
     let rest = done.rest ∙ ap (λ (d : Kept). record (held_at c.of-place.result new d) { counter = d.counter + 1; knowledge = knowledge; staged = None }) (sym c.self.view_is) in
     let learned : IsLearned c.args.picture v c.in_ok-of.field-0 c.self.inside.knowledge.known knowledge = record {
       picture = search rules;
-      known = c.in_ok-of.ensures;
+      known = λ w. c.in_ok-of.ensures w ∙ ap (λ (k : Knowing). knows k.known c.args.picture w) c.as_knowledge.ensures;
       learned = λ q w above. done.learned q w above ∙ ap (λ (d : Kept). knows d.knowledge q w || same_version v w) (sym c.self.view_is);
     } in
     subst (λ (d : Kept). Shows d (made m c.args.picture c.args.content.now)) (sym rest)

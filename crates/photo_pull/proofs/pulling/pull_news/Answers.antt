@@ -9,7 +9,7 @@ use Rattle.photo_pull.proofs.Changes.{shows_unchanged, shows_pulled, shows_hande
 use Rattle.photo_pull.proofs.Committed.{asked_once, handed_are, is_staged, versions_long}
 use Rattle.photo_pull.proofs.Findings.{nothing_found, counts_found}
 use Rattle.photo_pull.proofs.StagedFound.{may_stage, may_hand_found, shows_found}
-use Rattle.photo_pull.proofs.pulling.pull_between.Goals as goal
+use Rattle.photo_pull.proofs.pulling.pull_news.Goals as goal
 
 pub returns-then-is_nothing-clause-target : goal.returns-then-is_nothing-clause-target
 returns-then-is_nothing-clause-target c = λ t s shows_t shows_s.

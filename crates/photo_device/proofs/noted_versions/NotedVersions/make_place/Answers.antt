@@ -1,0 +1,18 @@
+use Rattle.std.proofs.Common.{rules, ◌<◌, length, sym, subst}
+use Rattle.photo_device.specs.Noted.{AreKnown}
+use Rattle.photo_device.proofs.NotedLemmas.{known_behind, known_still}
+use Rattle.photo_device.proofs.noted_versions.NotedVersions.make_place.Goals as goal
+
+pub loop-preserved : goal.loop-preserved
+loop-preserved c known all =
+    subst (AreKnown known) (sym c.in_ok-push.ensures.items) (known_behind known c.loop.self.rows.items c.new.result c.new.ensures.items (c.loop.invariant known all))
+
+pub returns-in_err-fill : goal.returns-in_err-fill
+returns-in_err-fill c known all =
+    let within : c.from-author.result < length c.loop.self.rows.items = search rules in
+    known_still known c.loop.self.rows.items c.from-author.result _ c.index_mut.result.now c.fill.new.row within c.index_mut.ensures.value c.fill.ensures.items (c.loop.invariant known all)
+
+pub returns-in_ok-fill : goal.returns-in_ok-fill
+returns-in_ok-fill c known all =
+    let within : c.from-author.result < length c.loop.self.rows.items = search rules in
+    known_still known c.loop.self.rows.items c.from-author.result _ c.index_mut.result.now c.fill.new.row within c.index_mut.ensures.value c.fill.ensures.items (c.loop.invariant known all)

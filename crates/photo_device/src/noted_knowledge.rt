@@ -1,0 +1,165 @@
+ghost use Rattle.std.specs.Prelude.{◌≡◌, ◌++◌, true, not, filter, OnOk};
+ghost use Rattle.item_knowledge.specs.Fragments.{knows};
+ghost use Rattle.photo_device.specs.Noted.{AreKnown};
+
+use crate::noted_versions::NotedVersions;
+use crate::{Held, HeldSet};
+use item_knowledge::Knowledge;
+use photo_version::Version;
+use std::alloc::{AllocError, Global};
+use std::marker::Model;
+
+/// What a device knows, with notes of versions that it was found to know, by which they are found again in a few steps.
+/// Contracts see the knowledge alone.
+#[derive(Debug, Drop)]
+pub(crate) struct NotedKnowledge {
+    knowledge: Knowledge,
+    noted: NotedVersions,
+}
+
+impl Model for NotedKnowledge {
+    ghost use Rattle.item_knowledge.specs.Staged.{Knowing};
+    ghost use Rattle.item_knowledge.specs.Coding.{knowing_code};
+    ghost use Rattle.photo_device.specs.Noted.{AreKnown};
+
+    ghost Value = { Knowing };
+
+    ghost coded = { knowing_code };
+
+    ghost view = { λ k. k.knowledge };
+
+    ghost invariant = { λ k. AreKnown k.knowledge.known k.noted.rows.items };
+}
+
+impl NotedKnowledge {
+    ghost use Rattle.std.specs.Prelude.{◌≡◌, ℕ, ◌<◌, ◌≤◌, ◌+◌, ◌||◌, ◌++◌, if◌then◌else◌, true, not, filter, None, IfOk, IfSome, OnOk, OnErr};
+    ghost use Rattle.std.specs.Option.{is_some};
+    ghost use Rattle.photo_version.specs.Author.{Author, same_author};
+    ghost use Rattle.photo_version.specs.Version as versions;
+    ghost use Rattle.item_knowledge.specs.Fragments.{knows};
+    ghost use Rattle.item_knowledge.specs.Kept.{star_bound};
+    ghost use Rattle.item_knowledge.specs.Staged.{settled, IsStagedUnion};
+    ghost use Rattle.photo_device.specs.Held.{are_in_order};
+
+    /// A knowledge of which nothing is noted. It takes no memory.
+    pub fn new(alloc: Global, knowledge: Knowledge) -> NotedKnowledge
+        ensures { result ≡ knowledge }
+    {
+        NotedKnowledge {
+            knowledge,
+            noted: NotedVersions::new(alloc),
+        }
+    }
+
+    /// The knowledge.
+    pub fn as_knowledge(&self) -> &Knowledge
+        ensures { result.now ≡ self.now }
+    {
+        &self.knowledge
+    }
+
+    /// As `Knowledge::raise_own`.
+    pub fn raise_own(&mut self, version: Version)
+        requires first { 0 < star_bound self.old.known version.author }
+        requires next { version.number ≡ star_bound self.old.known version.author + 1 }
+        requires level { (p n : ℕ) → 0 < p → knows self.old.known p (versions.version version.author n) ≡ true
+            → n ≤ star_bound self.old.known version.author }
+        ensures star { (a : Author) → star_bound self.new.known a
+            ≡ (if same_author version.author a then version.number else star_bound self.old.known a) }
+        ensures learned { (p : ℕ) (v : versions.Version) → 0 < p → knows self.new.known p v
+            ≡ (knows self.old.known p v || versions.same_version version v) }
+        ensures staged { self.new.staged ≡ None }
+    {
+        self.knowledge.raise_own(version);
+    }
+
+    /// As `Knowledge::stage`.
+    pub fn stage(&mut self, gain: &Knowledge) -> Result<(), AllocError>
+        ensures known { self.new.known ≡ self.old.known }
+        ensures staged { OnOk result (IsStagedUnion self.new.staged self.old.known gain.now.known) }
+        ensures refused { OnErr result (self.new.staged ≡ None) }
+    {
+        self.knowledge.stage(gain)
+    }
+
+    /// As `Knowledge::settle_bounds`.
+    pub fn settle_bounds(&mut self)
+        ensures { self.new ≡ self.old }
+    {
+        self.knowledge.settle_bounds();
+    }
+
+    /// As `Knowledge::unstage`.
+    pub fn unstage(&mut self)
+        ensures { self.new ≡ settled self.old.known }
+    {
+        self.knowledge.unstage();
+    }
+
+    /// As `Knowledge::commit`, where what is staged has all that is known.
+    pub fn commit(&mut self)
+        requires there { is_some self.old.staged ≡ true }
+        requires more { IfSome self.old.staged (λ s. (p : ℕ) (v : versions.Version) → 0 < p → knows self.old.known p v ≡ true
+            → knows s p v ≡ true) }
+        ensures { IfSome self.old.staged (λ s. self.new ≡ settled s) }
+    {
+        self.knowledge.commit();
+    }
+
+    /// A place for the note of a version. Its only error is want of memory; what is known stays in any case.
+    pub fn make_place(&mut self, version: Version) -> Result<(), AllocError>
+        ensures { self.new ≡ self.old }
+    {
+        self.noted.make_place(version)
+    }
+
+    /// Copies of those of a set that aren't known. Its only error is want of memory, and none is wanted where all are known.
+    pub fn unknown_of(&mut self, alloc: Global, set: &HeldSet) -> Result<Vec<Held>, AllocError>
+        ensures items { IfOk result (λ found. found.items
+            ≡ filter (λ h. not (knows self.old.known h.picture h.version)) set.now) }
+        ensures ordered { IfOk result (λ found. are_in_order found.items ≡ true) }
+        ensures kept { self.new ≡ self.old }
+    {
+        let mut found = Vec::new(alloc);
+        let mut hint = 0;
+        for block in set.blocks() {
+            push_unknown(
+                &mut found,
+                &mut self.noted,
+                &self.knowledge,
+                &mut hint,
+                block,
+            )?;
+        }
+        Ok(found)
+    }
+}
+
+// Puts copies of those of a list that aren't known behind others. Any hint will do.
+fn push_unknown(
+    found: &mut Vec<Held>,
+    noted: &mut NotedVersions,
+    knowledge: &Knowledge,
+    hint: &mut usize,
+    list: &[Held],
+) -> Result<(), AllocError>
+    requires { AreKnown knowledge.now.known noted.old.rows.items }
+    ensures found { OnOk result (found.new.items
+        ≡ found.old.items ++ filter (λ h. not (knows knowledge.now.known h.picture h.version)) list.now) }
+    ensures noted { AreKnown knowledge.now.known noted.new.rows.items }
+{
+    for held in list {
+        if noted.has(held.picture, held.version) {
+            continue;
+        }
+        let (known, next) = knowledge.knows_near(*hint, held.picture, held.version);
+        *hint = next;
+        if known {
+            noted.note(held.picture, held.version);
+            continue;
+        }
+        noted.make_place(held.version)?;
+        found.push(held.try_clone()?)?;
+    }
+    Ok(())
+}

@@ -1,0 +1,91 @@
+ghost use Rattle.std.specs.Prelude.{◌≡◌, ◌++◌, ◌-◌, ◌<◌, true, length, replicate, List, OnOk};
+ghost use Rattle.item_knowledge.specs.Fragments.{Fragment, knows};
+ghost use Rattle.photo_device.specs.Noted.{AreKnown};
+
+use photo_record::PicNo;
+use photo_version::Version;
+use std::alloc::{AllocError, Global};
+
+// What stands at a version's place where nothing is noted. No picture has that number.
+const NOTHING: u32 = 0;
+
+/// Versions of which it was found that they are known, with their pictures. It is there for speed alone: to look here takes
+/// a few steps, where a knowledge has to be searched.
+///
+/// Each author has a row, and each of its versions a place there, by its number: the picture, or 0 where nothing is noted.
+#[derive(Debug, Drop)]
+pub(crate) struct NotedVersions {
+    rows: Vec<Vec<u32>>,
+    alloc: Global,
+}
+
+impl NotedVersions {
+    ghost use Rattle.std.specs.Prelude.{[]};
+
+    /// Nothing is noted. It takes no memory.
+    pub fn new(alloc: Global) -> NotedVersions
+        ensures { result.rows.items ≡ [] }
+    {
+        NotedVersions {
+            rows: Vec::new(alloc),
+            alloc,
+        }
+    }
+
+    /// Whether that version of that picture is noted. It takes no memory.
+    pub fn has(&self, picture: PicNo, version: Version) -> bool
+        ensures { result ≡ true → (known : List Fragment) → AreKnown known self.now.rows.items
+            → knows known picture version ≡ true }
+    {
+        let author = usize::from(version.author().value());
+        if author >= self.rows.len() {
+            return false;
+        }
+        let row = &self.rows[author];
+        let number = version.n() as usize;
+        number < row.len() && row[number] == picture.value()
+    }
+
+    /// Notes a version that is known, where there is a place for it. It takes no memory.
+    pub fn note(&mut self, picture: PicNo, version: Version)
+        ensures { (known : List Fragment) → knows known picture version ≡ true → AreKnown known self.old.rows.items
+            → AreKnown known self.new.rows.items }
+    {
+        let author = usize::from(version.author().value());
+        if author >= self.rows.len() {
+            return;
+        }
+        let row = &mut self.rows[author];
+        let number = version.n() as usize;
+        if number < row.len() {
+            row[number] = picture.value();
+        }
+    }
+
+    /// Places for the versions of its author up to this one, and some beyond. Its only error is want of memory.
+    pub fn make_place(&mut self, version: Version) -> Result<(), AllocError>
+        ensures { (known : List Fragment) → AreKnown known self.old.rows.items → AreKnown known self.new.rows.items }
+    {
+        let author = usize::from(version.author().value());
+        for _ in self.rows.len()..author + 1 {
+            self.rows.push(Vec::new(self.alloc))?;
+        }
+        if author < self.rows.len() {
+            fill(&mut self.rows[author], version.n())?;
+        }
+        Ok(())
+    }
+}
+
+// Makes a row reach beyond a place, by a quarter more, so that a row that grows and grows is seldom copied.
+fn fill(row: &mut Vec<u32>, number: u32) -> Result<(), AllocError>
+    ensures items { row.new.items ≡ row.old.items ++ replicate (length row.new.items - length row.old.items) 0 }
+    ensures reaches { OnOk result (number < length row.new.items) }
+{
+    let number = number as usize;
+    if number < row.len() {
+        return Ok(());
+    }
+    row.resize(number + number / 4 + 32, NOTHING)?;
+    Ok(())
+}
