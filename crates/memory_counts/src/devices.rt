@@ -56,6 +56,25 @@ fn has_last(device: &Device) -> bool {
     device.held(version).is_some() && device.held_of(picture, version).is_some()
 }
 
+/// `unknown_of` for a set of which a device knows all.
+pub fn answer_asked(alloc: Global, times: u32) -> Option<bool> {
+    let mut device = device(alloc)?;
+    match self::device(alloc) {
+        Some(twin) => Some(knows_all(alloc, &mut device, twin.store(), times)),
+        None => None,
+    }
+}
+
+fn knows_all(alloc: Global, device: &mut Device, set: &HeldSet, times: u32) -> bool {
+    for _ in 0..times {
+        match device.unknown_of(alloc, set) {
+            Ok(found) if found.is_empty() => {}
+            _ => return false,
+        }
+    }
+    true
+}
+
 /// The readers of a set of held versions.
 pub fn answer_sets(alloc: Global, times: u32) -> Option<bool> {
     let device = device(alloc)?;

@@ -30,6 +30,7 @@ fn of_others(alloc: Global, group: &str, times: u32) -> Option<bool> {
         "knowledge_commit" => knowledges::answer_commit(alloc, times),
         "device" => devices::answer(alloc, times),
         "held_set" => devices::answer_sets(alloc, times),
+        "asking" => devices::answer_asked(alloc, times),
         "script" => scripts::answer(alloc, times),
         "list" => lists::answer(alloc, times),
         "list_removing" => lists::answer_removing(alloc, times),
