@@ -418,5 +418,17 @@ fn asks_of(alloc: Global, device: &mut Device, set: &HeldSet) -> Option<bool> {
     let found = device.unknown_of(alloc, set);
     mark(alloc);
     let found = found.ok()?;
-    Some(found.len() == 2 && found[0] == *set.get(0) && found[1] == *set.get(1))
+    Some(are_those_of(&found, set))
+}
+
+fn are_those_of(found: &[Held], set: &HeldSet) -> bool {
+    if found.len() != set.len() {
+        return false;
+    }
+    for i in 0..found.len() {
+        if &found[i] != set.get(i) {
+            return false;
+        }
+    }
+    true
 }
