@@ -1,6 +1,7 @@
 -- A run of rows of another arena, placed stretch by stretch.
-use Rattle.std.proofs.Common.{◌≡◌, ℕ, zero, suc, ◌+◌, ◌-◌, ◌<◌, ◌≤◌, List, [], ◌∷◌, ◌++◌, take, drop, sym, ap, ◌∙◌, arith, append-nil, append_assoc}
+use Rattle.std.proofs.Common.{◌≡◌, ℕ, zero, suc, ◌+◌, ◌-◌, ◌<◌, ◌≤◌, List, [], ◌∷◌, ◌++◌, length, take, drop, sym, ap, ◌∙◌, arith, append-nil, append_assoc}
 use Rattle.std.proofs.Math.Seq.{take-add, drop-nil}
+use Rattle.std.proofs.lemmas.List.{length-drop, length-take}
 use Rattle.fragment_arena.specs.Arena.{run, words_in}
 
 pub run-none : (rows : List (List ℕ)) (to : ℕ) → run rows to to ≡ []
@@ -61,3 +62,16 @@ room-left rows from to place old new old_words new_words old_slots new_slots low
 
 pub words-none : (rows : List (List ℕ)) (place to : ℕ) → place ≡ to → words_in (run rows place to) ≡ 0
 words-none rows place to end = ap words_in (ap (λ k. run rows k to) end ∙ run-none rows to)
+
+-- the words of the rows before a run and those of the run are those of the rows before its end
+pub words-between : (rows : List (List ℕ)) (from to : ℕ) → from ≤ to → words_in (take from rows) + words_in (run rows from to) ≡ words_in (take to rows)
+words-between rows from to le =
+    let start : from - 0 ≡ from = omega arith in
+    let all : to - 0 ≡ to = omega arith in
+    let split = words-split rows 0 from to (omega arith) le in
+    let low = ap (λ n. words_in (take n rows)) start in
+    let high = ap (λ n. words_in (take n rows)) all in
+    omega (arith, split, low, high)
+
+pub run-long : (rows : List (List ℕ)) (from to : ℕ) → from ≤ to → to ≤ length rows → length (run rows from to) ≡ to - from
+run-long rows from to low high = omega (arith, length-take (to - from) (drop from rows), length-drop from rows, low, high)

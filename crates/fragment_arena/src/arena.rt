@@ -1,6 +1,6 @@
 use crate::blocks;
-use crate::raw_words::RawWords;
-use crate::row::{Row, Span};
+use crate::row::Row;
+use crate::row_block::RowBlock;
 use std::alloc::{AllocError, Global};
 use std::fmt;
 use std::marker::Model;
@@ -10,14 +10,13 @@ use std::marker::Model;
 #[derive(Drop)]
 pub struct FragmentArena {
     alloc: Global,
-    blocks: Vec<RawWords>,
-    spans: Vec<Span>,
+    blocks: Vec<RowBlock>,
+    count: usize,
     reserved_words: usize,
     reserved_rows: usize,
 }
 
 impl Model for FragmentArena {
-    ghost use Rattle.std.specs.Prelude.{vec_len, vec_capacity};
     ghost use Rattle.fragment_arena.specs.Arena.{Arena, arena_code};
     ghost use Rattle.fragment_arena.specs.Rows.{rows_of, IsArena};
 
@@ -26,10 +25,9 @@ impl Model for FragmentArena {
     ghost coded = { arena_code };
 
     ghost view = { λ a.
-        record { rows = rows_of a.blocks.items a.spans.items; reserved_words = a.reserved_words; reserved_rows = a.reserved_rows } };
+        record { rows = rows_of a.blocks.items; reserved_words = a.reserved_words; reserved_rows = a.reserved_rows } };
 
-    ghost invariant = { λ a.
-        IsArena a.blocks.items a.spans.items (vec_len a.spans) (vec_capacity a.spans) a.reserved_words a.reserved_rows };
+    ghost invariant = { λ a. IsArena a.blocks.items a.count a.reserved_words a.reserved_rows };
 }
 
 impl FragmentArena {
@@ -44,7 +42,7 @@ impl FragmentArena {
         FragmentArena {
             alloc,
             blocks: Vec::new(alloc),
-            spans: Vec::new(alloc),
+            count: 0,
             reserved_words: 0,
             reserved_rows: 0,
         }
@@ -59,8 +57,7 @@ impl FragmentArena {
     {
         let words = self.reserved_words.max(words);
         let rows = self.reserved_rows.max(rows);
-        self.spans.reserve(rows)?;
-        blocks::make_room(self.alloc, &mut self.blocks, &self.spans, words)?;
+        blocks::make_room(self.alloc, &mut self.blocks, self.count, words, rows)?;
         self.reserved_words = words;
         self.reserved_rows = rows;
         Ok(())
@@ -73,13 +70,10 @@ impl FragmentArena {
         ensures placed { OnOk result (self.new ≡ arena (self.old.rows ++ words.now ∷ []) 0 0) }
         ensures refused { OnErr result (self.new ≡ self.old) }
     {
-        self.spans.reserve(1)?;
-        blocks::make_room(self.alloc, &mut self.blocks, &self.spans, words.len())?;
-        self.reserved_words = 0;
-        self.reserved_rows = 0;
-        let place = self.spans.len();
-        blocks::lay(&mut self.blocks, &mut self.spans, words);
-        Ok(Row::at(place))
+        blocks::make_room(self.alloc, &mut self.blocks, self.count, words.len(), 1)?;
+        self.reserved_words = words.len();
+        self.reserved_rows = 1;
+        Ok(self.place_reserved(words))
     }
 
     /// Whether a row of so many words finds room that was reserved.
@@ -107,8 +101,10 @@ impl FragmentArena {
     {
         self.reserved_words -= words.len();
         self.reserved_rows -= 1;
-        let place = self.spans.len();
-        blocks::lay(&mut self.blocks, &mut self.spans, words);
+        let place = self.count;
+        let last = self.blocks.len() - 1;
+        self.blocks[last].place(words);
+        self.count += 1;
         Row::at(place)
     }
 
@@ -122,11 +118,8 @@ impl FragmentArena {
         ensures words { self.new.reserved_words + (length words.now + 1) ≡ self.old.reserved_words }
         ensures slots { self.new.reserved_rows + 2 ≡ self.old.reserved_rows }
     {
-        self.reserved_words -= words.len() + 1;
-        self.reserved_rows -= 2;
-        let place = self.spans.len() + 1;
-        blocks::lay_pair(&mut self.blocks, &mut self.spans, word, words);
-        Row::at(place)
+        self.place_reserved(&[word]);
+        self.place_reserved(words)
     }
 
     /// The rows of another arena from one place up to another, at the end, in room that was reserved. Takes no memory.
@@ -157,19 +150,14 @@ impl FragmentArena {
         ensures words { self.new.reserved_words + words_in (run other.now.rows from result) ≡ self.old.reserved_words }
         ensures slots { self.new.reserved_rows + (result - from) ≡ self.old.reserved_rows }
     {
-        let (end, words) = blocks::stretch(&other.spans, from, to);
-        self.reserved_words -= words;
-        self.reserved_rows -= end - from;
-        blocks::lay_stretch(
-            &mut self.blocks,
-            &mut self.spans,
-            &other.blocks,
-            &other.spans,
-            from,
-            end,
-            words,
-        );
-        end
+        let (block, first, end) = blocks::stretch(&other.blocks, from, to);
+        let other = &other.blocks[block];
+        self.reserved_words -= other.words_of_run(first, end);
+        self.reserved_rows -= end - first;
+        self.count += end - first;
+        let last = self.blocks.len() - 1;
+        self.blocks[last].place_run(other, first, end);
+        from + (end - first)
     }
 
     /// How many words the rows from one place up to another have together; none where that is no `usize`.
@@ -181,9 +169,9 @@ impl FragmentArena {
         let mut words: usize = 0;
         let mut place = from;
         while place < to {
-            let (end, more) = blocks::stretch(&self.spans, place, to);
-            words = words.checked_add(more)?;
-            place = end;
+            let (block, first, end) = blocks::stretch(&self.blocks, place, to);
+            words = words.checked_add(self.blocks[block].words_of_run(first, end))?;
+            place += end - first;
         }
         Some(words)
     }
@@ -193,7 +181,8 @@ impl FragmentArena {
         requires { row < length self.now.rows }
         ensures { result.now ≡ get_or self.now.rows row [] }
     {
-        blocks::row(&self.blocks, &self.spans, row.place())
+        let (block, row) = blocks::find(&self.blocks, row.place());
+        self.blocks[block].row(row)
     }
 
     /// Writes a word of a row in place of the one that is there. Takes no memory.
@@ -204,7 +193,8 @@ impl FragmentArena {
             ≡ arena (set self.old.rows row (set (get_or self.old.rows row []) i word)) self.old.reserved_words
             self.old.reserved_rows }
     {
-        blocks::put(&mut self.blocks, &self.spans, row.place(), i, word);
+        let (block, row) = blocks::find(&self.blocks, row.place());
+        self.blocks[block].put(row, i, word);
     }
 
     /// The number of rows.
@@ -212,19 +202,18 @@ impl FragmentArena {
         ensures value { result ≡ length self.now.rows }
         ensures fits { result < 2 ^ 63 }
     {
-        self.spans.len()
+        self.count
     }
 
     /// An arena with equal rows, and nothing reserved. Its only error is want of memory.
     pub fn try_clone(&self) -> Result<FragmentArena, AllocError>
         ensures { IfOk result (λ copy. copy ≡ arena self.now.rows 0 0) }
     {
-        let spans = self.spans.to_vec(self.alloc)?;
         let blocks = blocks::copies_of(self.alloc, &self.blocks)?;
         Ok(FragmentArena {
             alloc: self.alloc,
             blocks,
-            spans,
+            count: self.count,
             reserved_words: 0,
             reserved_rows: 0,
         })
@@ -243,7 +232,7 @@ impl FragmentArena {
     pub fn clear(&mut self)
         ensures { self.new ≡ arena [] 0 0 }
     {
-        self.spans.clear();
+        self.count = 0;
         blocks::clear(&mut self.blocks);
         self.reserved_words = 0;
         self.reserved_rows = 0;

@@ -149,6 +149,29 @@ fn memory_does_not_grow(rt: HostRuntime) -> Result<(), Fail> {
     Ok(())
 }
 
+// Whether a block without rows gives way to a larger one, and one with rows stays beside it.
+fn gives_way(arena: &mut FragmentArena) -> Option<bool> {
+    arena.reserve(40, 1).ok()?;
+    arena.reserve(1000, 1).ok()?;
+    let alone = arena.memory() == (1, 1000);
+    arena.place(&[7]).ok()?;
+    arena.reserve(3000, 2).ok()?;
+    let beside = arena.memory() == (2, 3000);
+    arena.place(&[8, 9]).ok()?;
+    Some(alone && beside && has_row(arena, 0, &[7]) && has_row(arena, 1, &[8, 9]))
+}
+
+fn a_block_gives_way(alloc: Global) -> bool {
+    let mut arena = FragmentArena::new(alloc);
+    gives_way(&mut arena) == Some(true)
+}
+
+#[test]
+fn a_block_without_rows_gives_way(rt: HostRuntime) -> Result<(), Fail> {
+    assert!(rt; a_block_gives_way(rt.alloc()));
+    Ok(())
+}
+
 // Whether a word is written over in its row alone.
 fn writes_over(arena: &mut FragmentArena) -> Option<bool> {
     arena.place(&[1, 2]).ok()?;
