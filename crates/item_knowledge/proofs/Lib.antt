@@ -26,6 +26,7 @@ pub mod LateLemmas
 pub mod NextLemmas
 pub mod NormalLemmas
 pub mod CarryLemmas
+pub mod AloneLemmas
 pub mod ApartLemmas
 pub mod SpanLemmas
 pub mod PairingLemmas

@@ -38,11 +38,6 @@ run_more rows from a le lt =
     ap (λ n. run rows (2 * from) n) e ∙ run_snoc rows (2 * from) (2 * a + 1) (omega (arith, le)) (omega (arith, lt))
     ∙ ap (λ rs. rs ++ get_or rows (2 * a + 1) [] ∷ []) (run_snoc rows (2 * from) (2 * a) (omega (arith, le)) (omega (arith, lt)))
 
-pub one_word : (ws : List ℕ) (w : ℕ) → length ws ≡ 1 → get_or ws 0 0 ≡ w → ws ≡ w ∷ []
-one_word [] w l e = absurd (omega (arith, l))
-one_word (x ∷ []) w l e = ap (λ y. y ∷ []) e
-one_word (x ∷ y ∷ ws) w l e = absurd (omega (arith, l))
-
 -- What stays has the vector of the union
 
 group_differs : (star : List Entry) (gs : List Fragment) (a : ℕ) → are_groups star gs ≡ true → a < length gs → star ≡ entries_at gs a → ⊥
@@ -126,8 +121,8 @@ stays_under_way left right xs ys star changed table out new numbers more i from 
     let is : row ≡ flat (entries_at fs a) = entries_read left a rows there in
     let is_row : IsRow row = subst IsRow (sym is) (flat_row (entries_at fs a)) in
     let entries : pairs row ≡ entries_at fs a = ap pairs is ∙ pairs_flat (entries_at fs a) in
-    let joint_a : pair_vector fs gs r.1 ≡ entries_at fs a = stays_joint fs gs xs ys (pairs star) a r.1.1 left_side right_side joint same there other_there s.nothing in
-    let positive : 0 < a = omega (arith, s.later) in
+    let joint_a : pair_vector fs gs r.1 ≡ entries_at fs a = stays_joint fs gs xs ys (pairs star) a r.1.1 left_side right_side joint same there other_there s.row.nothing in
+    let positive : 0 < a = omega (arith, s.row.later) in
     let other : same_entries (pair_vector fs gs (0, 0)) (pair_vector fs gs r.1) ≡ false = (λ j. same_entries ((sym joint ∙ same) j) (joint_a j)) ∙ differs fs a normal positive there in
     let inside : 2 * a + 1 < length left = omega (arith, rows_read left rows, there) in
     let placed : new ++ run left (2 * start) (2 * (a + 1)) ≡ ((out ++ run left (2 * from) (2 * (last + 1))) ++ (r.0 ∷ []) ∷ []) ++ row ∷ [] =
@@ -137,7 +132,7 @@ stays_under_way left right xs ys star changed table out new numbers more i from 
     ∙ (λ j. (written j ++ s.alone j ∷ []) ++ row ∷ []) in
     record {
       carried = one_carried fs (pair_vector fs gs) star changed table (out ++ run left (2 * from) (2 * (last + 1))) (new ++ run left (2 * start) (2 * (a + 1))) numbers more i last next a next all every r row
-          normal once d is_row (entries ∙ sym joint_a) other (inl (s.later, refl, there, sym entries, s.new)) placed pushed h.carried;
+          normal once d is_row (entries ∙ sym joint_a) other (inl (s.row.later, refl, there, sym entries, s.row.new)) placed pushed h.carried;
       order = omega (arith, begins);
       there = there;
     }

@@ -2,10 +2,10 @@
 // that stays is compared with the few that changed, in place of all. Neighbours that stay are written as one run.
 ghost use Rattle.std.specs.Prelude.{◌≡◌, ◌+◌, ◌*◌, ◌<◌, ◌≤◌, [], ◌∷◌, ◌++◌, true, length, IfOk, IfSome, OnOk};
 ghost use Rattle.fragment_arena.specs.Arena.{run};
-ghost use Rattle.item_knowledge.specs.Carrying.{HasCome, AddsNothing, Stays};
+ghost use Rattle.item_knowledge.specs.Carrying.{HasCome, AddsNothing, AreAlone, KeepsRow};
 ghost use Rattle.item_knowledge.specs.Entries.{is_vector};
 ghost use Rattle.item_knowledge.specs.Fragments.{is_normal, entries_at};
-ghost use Rattle.item_knowledge.specs.Gathering.{IsSide, pair_vector, groups_of, index_of, star_first};
+ghost use Rattle.item_knowledge.specs.Gathering.{IsSide, IsIndex, pair_vector, groups_of, index_of, star_first};
 ghost use Rattle.item_knowledge.specs.Places.{IsFound};
 ghost use Rattle.item_knowledge.specs.Rows.{pairs, IsRow, AreRows, fragments_of, rows_of, vectors_in};
 ghost use Rattle.item_knowledge.specs.Tables.{in_order};
@@ -70,17 +70,9 @@ fn adds_nothing(left: &Rows, right: &Rows, a: usize, b: usize) -> bool
     is_leq(entries(right, b), entries(left, a))
 }
 
-// Whether the left's fragment `a` comes as it stands: it lies behind those that came, it has this picture alone, the right
-// has nothing beyond it of that, and no changed row equals its own.
-fn stays(
-    left: &Rows,
-    right: &Rows,
-    changed: &Places,
-    last: usize,
-    picture: u32,
-    a: usize,
-    b: usize,
-) -> bool
+// Whether the row of the left's fragment `a` stays as it is: it lies behind those that came, the right's `b` has nothing beyond
+// it, and no changed row equals it.
+fn stays(left: &Rows, right: &Rows, changed: &Places, last: usize, a: usize, b: usize) -> bool
     requires left { AreRows left.now }
     requires right { AreRows right.now }
     requires changed { IsFound changed.now }
@@ -88,21 +80,12 @@ fn stays(
     requires b { b < length (fragments_of right.now) }
     requires order { in_order (entries_at (fragments_of left.now) a) ≡ true }
     requires vector { is_vector (entries_at (fragments_of right.now) b) ≡ true }
-    ensures { result ≡ true → Stays left.now right.now (vectors_in changed.now.rows) last picture a b }
+    ensures { result ≡ true → KeepsRow left.now right.now (vectors_in changed.now.rows) last a b }
 {
     if a <= last {
         return false;
     }
     if !adds_nothing(left, right, a, b) {
-        return false;
-    }
-    // For its fact alone: the rows are fewer than 2 ^ 63.
-    let _count = left.rows();
-    let pictures = left.row(2 * a);
-    if pictures.len() != 1 {
-        return false;
-    }
-    if pictures[0] != u64::from(picture) {
         return false;
     }
     let row = entries(left, a);
@@ -186,6 +169,7 @@ fn carry(
     requires left { IsSide (fragments_of left.now) left_index.now }
     requires right { IsSide (fragments_of right.now) right_index.now }
     requires normal { is_normal (fragments_of left.now) ≡ true }
+    requires alone { AreAlone left.now left_index.now }
     requires star_row { IsRow star.now }
     requires star { pairs star.now ≡ pair_vector (fragments_of left.now) (fragments_of right.now) (0, 0) }
     requires left_star { pairs star.now ≡ entries_at (fragments_of left.now) 0 }
@@ -205,7 +189,7 @@ fn carry(
     let mut next = 0;
     let mut pairing = Pairing::new();
     while let Some((picture, (a, b))) = pairing.next(left_index, right_index) {
-        if stays(left, right, changed, last, picture, a, b) {
+        if stays(left, right, changed, last, a, b) {
             from = run_to(left, from, last + 1, a, out)?;
             add_number(picture, index)?;
             last = a;
@@ -307,6 +291,7 @@ pub(crate) fn carried(
     requires left { IsSide (fragments_of left.now) left_index.now }
     requires right { IsSide (fragments_of right.now) right_index.now }
     requires normal { is_normal (fragments_of left.now) ≡ true }
+    requires listed { IsIndex left_index.now (fragments_of left.now) }
     requires star_row { IsRow star.now }
     requires star { pairs star.now ≡ pair_vector (fragments_of left.now) (fragments_of right.now) (0, 0) }
     ensures rows { IfOk result (λ found. IfSome found (λ _. out.new
@@ -317,7 +302,7 @@ pub(crate) fn carried(
 {
     let most = most_changes(left_index.len(), right_index.len());
     if left.rows() / 2 <= left_index.len() {
-        // Some fragment has several pictures.
+        // Some fragment has several pictures. Behind this check each has one.
         return Ok(None);
     }
     if !same_row(star, entries(left, 0)) {

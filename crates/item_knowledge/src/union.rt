@@ -1,6 +1,6 @@
 ghost use Rattle.std.specs.Prelude.{◌≡◌, ◌<◌, [], ◌∷◌, true, length, IfOk, OnOk};
 ghost use Rattle.item_knowledge.specs.Fragments.{entries_at, is_normal};
-ghost use Rattle.item_knowledge.specs.Gathering.{IsSide, IsUnion, pair_vector, groups_of, index_of, star_first};
+ghost use Rattle.item_knowledge.specs.Gathering.{IsSide, IsIndex, IsUnion, pair_vector, groups_of, index_of, star_first};
 ghost use Rattle.item_knowledge.specs.Kept.{is_side_within};
 ghost use Rattle.item_knowledge.specs.Places.{Placed};
 ghost use Rattle.item_knowledge.specs.Rows.{pairs, IsRow, AreRows, fragments_of, rows_of, grouped, vectors_in};
@@ -171,6 +171,7 @@ pub(crate) fn union(
     requires left { IsSide (fragments_of left.now) left_index.now }
     requires right { IsSide (fragments_of right.now) right_index.now }
     requires normal { is_normal (fragments_of left.now) ≡ true }
+    requires listed { IsIndex left_index.now (fragments_of left.now) }
     ensures rows { OnOk result (AreRows out.new) }
     ensures union { IfOk result (λ index. IsUnion (fragments_of left.now) left_index.now (fragments_of right.now) right_index.now
         (fragments_of out.new) index.items) }

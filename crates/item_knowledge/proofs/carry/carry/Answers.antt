@@ -6,6 +6,7 @@ use Rattle.item_knowledge.specs.Rows.{fragments_of, vectors_in}
 use Rattle.item_knowledge.proofs.OnTheWay.{CanCarry}
 use Rattle.item_knowledge.proofs.RowLemmas.{rows_read}
 use Rattle.item_knowledge.proofs.UnionLemmas.{above, entries_order}
+use Rattle.item_knowledge.proofs.AloneLemmas.{next_alone}
 use Rattle.item_knowledge.proofs.SpanLemmas.{come_below}
 use Rattle.item_knowledge.proofs.WayLemmas.{on_first, row_inside, on_star, on_stays, on_one, on_all}
 use Rattle.item_knowledge.proofs.carry.carry.Goals as goal
@@ -59,7 +60,11 @@ loop-next-preserved-then-stays c =
     let can : CanCarry c.args.left.now c.args.right.now c.args.left_index.now c.args.right_index.now c.args.star.now (vectors_in c.args.changed.now.rows) = record { left_rows = c.requires.left_rows; left_side = c.requires.left; right_side = c.requires.right; normal = c.requires.normal; joint = c.requires.star; same = c.requires.left_star; once = c.requires.changed.placed.once } in
     let on = c.loop-next.invariant in
     let r : ℕ × (ℕ × ℕ) = (c.in-Some.picture, (c.in-Some.a, c.in-Some.b)) in
-    let stays : Stays c.args.left.now c.args.right.now (vectors_in c.args.changed.now.rows) c.loop-next.last r.0 r.1.0 r.1.1 = c.stays.ensures c.if-stays.true in
+    let row = c.stays.ensures c.if-stays.true in
+    let stays : Stays c.args.left.now c.args.right.now (vectors_in c.args.changed.now.rows) c.loop-next.last r.0 r.1.0 r.1.1 = record {
+      row = row;
+      alone = next_alone c.args.left.now c.args.left_index.now c.args.right_index.now c.loop-next.pairing c.next.new.self on.place r c.requires.left.order c.requires.right.order c.requires.alone on.along c.in-Some.ensures.next (omega (arith, row.later));
+    } in
     on_stays c.args.left.now c.args.right.now c.args.left_index.now c.args.right_index.now c.args.star.now (vectors_in c.args.changed.now.rows) c.loop-next.out c.loop-next.index.items c.loop-next.pairing c.loop-next.from c.loop-next.last c.loop-next.next on c.next.new.self r c.run_to.new.out c.add_number.new.index.items c.in_ok-from.from can c.in-Some.ensures.next stays c.in_ok-from.ensures.order c.in_ok-from.ensures.run (search rules)
 
 pub pair-requires-clause-a : goal.pair-requires-clause-a

@@ -1,20 +1,9 @@
-use Rattle.std.proofs.Common.{rules, ◌≡◌, ◌<◌, ◌+◌, ◌*◌, [], length, get_or, subst, sym, ap, ◌∙◌, arith, None}
+use Rattle.std.proofs.Common.{rules, ◌≡◌, ◌<◌, ◌+◌, ◌*◌, [], length, get_or, subst, sym, ap, ◌∙◌, None}
 use Rattle.item_knowledge.specs.Places.{is_new}
 use Rattle.item_knowledge.specs.Rows.{flat, vectors_in}
-use Rattle.item_knowledge.proofs.RowLemmas.{rows_read, entries_read}
+use Rattle.item_knowledge.proofs.RowLemmas.{entries_read}
 use Rattle.item_knowledge.proofs.ChainLemmas.{bucket_below}
-use Rattle.item_knowledge.proofs.SpanLemmas.{one_word}
 use Rattle.item_knowledge.proofs.carry.stays.Goals as goal
-
-pub overflow_mul-a : goal.overflow_mul-a
-overflow_mul-a c =
-    let rows = rows_read c.args.left.now c.requires.left in
-    omega arith
-
-pub row-pictures-requires : goal.row-pictures-requires
-row-pictures-requires c =
-    let rows = rows_read c.args.left.now c.requires.left in
-    omega arith
 
 pub is_free-requires-clause-bucket : goal.is_free-requires-clause-bucket
 is_free-requires-clause-bucket c =
@@ -28,7 +17,6 @@ returns-then-is_free c h =
     record {
       later = c.if-a-last.false;
       nothing = c.adds_nothing.ensures (search rules);
-      alone = sym c.row-pictures.ensures ∙ one_word c.row-pictures.result.now c.args.picture (search rules) (search rules);
       new = subst (is_new (vectors_in c.args.changed.now.rows)) row new;
     }
 
@@ -41,6 +29,5 @@ returns c h =
     record {
       later = c.if-a-last.false;
       nothing = c.adds_nothing.ensures (search rules);
-      alone = sym c.row-pictures.ensures ∙ one_word c.row-pictures.result.now c.args.picture (search rules) (search rules);
       new = subst (is_new (vectors_in c.args.changed.now.rows)) row new;
     }
