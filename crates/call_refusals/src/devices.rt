@@ -12,7 +12,8 @@ use crate::runs::runs_command;
 use crate::verdict::{Verdict, judged, mark};
 use item_knowledge::Knowledge;
 use photo_device::{
-    Change, ChangeFault, Device, Held, HeldList, HeldSet, NarrowFault, Place, VersionList,
+    Change, ChangeFault, Device, Held, HeldSet, NarrowFault, Place, SharedHeld, SharedList,
+    VersionList,
 };
 use photo_filter_rules::Filter;
 use photo_record::{PicNo, Record};
@@ -39,6 +40,8 @@ fn verdict_on_others(alloc: Global, call: &str) -> Option<Verdict> {
         "Device::narrow" => on_device(alloc, 2, Call::Narrow),
         "Device::conflicts" => conflicts(alloc),
         "Held::try_clone" => on_device(alloc, 1, Call::CopyHeld),
+        "SharedHeld::new" => on_device(alloc, 1, Call::Share),
+        "SharedHeld::try_clone" => on_device(alloc, 1, Call::CopyShared),
         "HeldSet::to_list" => on_device(alloc, 2, Call::List),
         _ => None,
     }
@@ -54,6 +57,8 @@ enum Call {
     Ask,
     Narrow,
     CopyHeld,
+    Share,
+    CopyShared,
     List,
     Command,
 }
@@ -90,7 +95,9 @@ fn calls(alloc: Global, device: &mut Device, call: Call) -> Option<bool> {
         Call::Remove => removes(alloc, device),
         Call::StageLent => stages_lent(alloc, device),
         Call::Ask => asks(alloc, device),
-        Call::CopyHeld => copies_first(alloc, device.store()),
+        Call::CopyHeld => with_first(alloc, device.store(), copies_held),
+        Call::Share => with_first(alloc, device.store(), shares),
+        Call::CopyShared => with_first(alloc, device.store(), copies_shared),
         Call::Command => runs_command(alloc, device),
         _ => lists(alloc, device.store()),
     }
@@ -260,7 +267,7 @@ fn change(alloc: Global) -> Option<Change>
     let gain = told(alloc, 7, 3)?;
     Some(Change {
         drops: VersionList::new(Vec::new(alloc)),
-        takes: HeldList::new(Vec::new(alloc)),
+        takes: SharedList::new(Vec::new(alloc)),
         gain,
     })
 }
@@ -316,7 +323,7 @@ fn stages_gain(alloc: Global, device: &mut Device, gain: &Knowledge) -> Option<b
         → knows gain.now.known p v ≡ ((7 == p) && denotes ((author 1, 3) ∷ []) v) }
 {
     let drops = VersionList::new(Vec::new(alloc));
-    let takes = HeldList::new(Vec::new(alloc));
+    let takes = SharedList::new(Vec::new(alloc));
     let pictures = Vec::new(alloc);
     mark(alloc);
     let done = device.stage_lent(drops, pictures, takes, gain, 2);
@@ -382,11 +389,16 @@ fn finds_conflicts(alloc: Global, device: &Device) -> Option<bool> {
     }
 }
 
-fn copies_first(alloc: Global, set: &HeldSet) -> Option<bool> {
+// Makes a call with the first of a set.
+fn with_first(
+    alloc: Global,
+    set: &HeldSet,
+    call: fn(Global, &Held) -> Option<bool>,
+) -> Option<bool> {
     if set.is_empty() {
         return Some(false);
     }
-    copies_held(alloc, set.get(0))
+    call(alloc, set.get(0))
 }
 
 fn copies_held(alloc: Global, held: &Held) -> Option<bool> {
@@ -394,6 +406,22 @@ fn copies_held(alloc: Global, held: &Held) -> Option<bool> {
     let copy = held.try_clone();
     mark(alloc);
     Some(copy.ok()? == *held)
+}
+
+fn shares(alloc: Global, held: &Held) -> Option<bool> {
+    let copy = held.try_clone().ok()?;
+    mark(alloc);
+    let shared = SharedHeld::new(alloc, copy);
+    mark(alloc);
+    Some(shared.ok()?.as_held() == held)
+}
+
+fn copies_shared(alloc: Global, held: &Held) -> Option<bool> {
+    let shared = SharedHeld::new(alloc, held.try_clone().ok()?).ok()?;
+    mark(alloc);
+    let copy = shared.try_clone();
+    mark(alloc);
+    Some(copy.ok()?.as_held() == held)
 }
 
 fn lists(alloc: Global, set: &HeldSet) -> Option<bool> {
@@ -421,12 +449,12 @@ fn asks_of(alloc: Global, device: &mut Device, set: &HeldSet) -> Option<bool> {
     Some(are_those_of(&found, set))
 }
 
-fn are_those_of(found: &[Held], set: &HeldSet) -> bool {
+fn are_those_of(found: &[SharedHeld], set: &HeldSet) -> bool {
     if found.len() != set.len() {
         return false;
     }
     for i in 0..found.len() {
-        if &found[i] != set.get(i) {
+        if found[i].as_held() != set.get(i) {
             return false;
         }
     }

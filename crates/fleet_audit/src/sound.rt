@@ -9,7 +9,7 @@ ghost use Rattle.fleet_audit.specs.Audited.{has, is_placed, is_wanted};
 use crate::current::{current_of, is_outdated};
 use crate::stretch::stretch_len;
 use fleet_steps::IssueLog;
-use photo_device::{Device, Held, HeldSet};
+use photo_device::{Device, Held, HeldSet, SharedHeld};
 
 /// Whether a device stores just what it is to store of a log.
 pub fn is_sound(device: &Device, log: &IssueLog) -> bool
@@ -71,10 +71,12 @@ fn stores_nothing_else(device: &Device, log: &IssueLog) -> bool
     true
 }
 
-fn are_wanted(device: &Device, log: &IssueLog, helds: &[Held]) -> bool
+fn are_wanted(device: &Device, log: &IssueLog, helds: &[SharedHeld]) -> bool
     ensures { result ≡ list_all (is_wanted log.now device.now) helds.now }
 {
-    helds.iter().all(|held| is_wanted(device, log, held))
+    helds
+        .iter()
+        .all(|held| is_wanted(device, log, held.as_held()))
 }
 
 fn is_wanted(device: &Device, log: &IssueLog, held: &Held) -> bool

@@ -13,8 +13,11 @@ use Rattle.item_knowledge.specs.Coding.{fragments_code}
 use Rattle.photo_device.specs.Held.{RoomyHelds}
 use Rattle.photo_device.specs.Device.{Kept, Staging}
 
+abbrev pub held_code : Coded Held
+held_code = held.the_row.coded
+
 abbrev pub helds_code : Coded (List Held)
-helds_code = coded_list held.the_row.coded
+helds_code = coded_list held_code
 
 abbrev pub author_code : Coded Author
 author_code = code_by ℕ coded_ℕ (λ a. a.device) author (λ _. refl)

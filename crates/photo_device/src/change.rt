@@ -1,10 +1,10 @@
-use crate::{HeldList, VersionList};
+use crate::{SharedList, VersionList};
 use item_knowledge::Knowledge;
 
 /// What a device is to give up, to take and to learn.
 #[derive(Debug, Drop)]
 pub struct Change {
     pub drops: VersionList,
-    pub takes: HeldList,
+    pub takes: SharedList,
     pub gain: Knowledge,
 }

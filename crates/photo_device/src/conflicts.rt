@@ -38,7 +38,7 @@ fn listed(alloc: Global, set: &HeldSet) -> Result<Vec<Listed>, AllocError>
     let mut items = Vec::with_capacity(alloc, set.len())?;
     for block in set.blocks() {
         for held in block {
-            items.push((held.picture, held.version))?;
+            items.push((held.picture(), held.version()))?;
         }
     }
     Ok(items)

@@ -8,8 +8,8 @@ use crate::noted_knowledge::NotedKnowledge;
 use crate::prepared::Prepared;
 use crate::takes::{rooms, take_in, take_others};
 use crate::{
-    Change, ChangeFault, Conflict, Held, HeldList, HeldSet, NarrowFault, Place, VersionList,
-    conflicts,
+    Change, ChangeFault, Conflict, Held, HeldSet, NarrowFault, Place, SharedHeld, SharedList,
+    VersionList, conflicts,
 };
 use item_knowledge::Knowledge;
 use photo_filter_rules::{Filter, covers};
@@ -147,18 +147,19 @@ impl Device {
             made_with: self.knowledge.as_knowledge().of(picture)?,
             content: content.try_clone()?,
         };
+        let shared = SharedHeld::new(self.store.alloc(), held)?;
         let place = Place::of(&self.filter, content);
-        self.add(place, held)?;
+        self.add(place, shared)?;
         Ok((version, place))
     }
 
     // Holds its next version at a place, counts it, and knows it of every picture. An error leaves the device as it was.
-    fn add(&mut self, place: Place, held: Held) -> Result<(), AllocError>
+    fn add(&mut self, place: Place, held: SharedHeld) -> Result<(), AllocError>
         requires { IsNext held self.old }
         ensures ok { OnOk result (HasMade place held self.old self.new) }
         ensures err { OnErr result (self.new ≡ self.old) }
     {
-        self.knowledge.make_place(held.version)?;
+        self.knowledge.make_place(held.version())?;
         if self.counter == 0 {
             return self.add_first(place, held);
         }
@@ -166,12 +167,12 @@ impl Device {
     }
 
     // The first version wants memory for its author's bounds: so they are made in a copy of what is known.
-    fn add_first(&mut self, place: Place, held: Held) -> Result<(), AllocError>
+    fn add_first(&mut self, place: Place, held: SharedHeld) -> Result<(), AllocError>
         requires { IsNext held self.old }
         ensures ok { OnOk result (HasMade place held self.old self.new) }
         ensures err { OnErr result (self.new ≡ self.old) }
     {
-        let version = held.version;
+        let version = held.version();
         let knowledge = with_own(self.knowledge.as_knowledge(), version)?;
         hold(&mut self.store, &mut self.out, place, held)?;
         self.prepared = None;
@@ -181,13 +182,13 @@ impl Device {
     }
 
     // A later version raises bounds that are there already.
-    fn add_later(&mut self, place: Place, held: Held) -> Result<(), AllocError>
+    fn add_later(&mut self, place: Place, held: SharedHeld) -> Result<(), AllocError>
         requires some { 0 < self.old.counter }
         requires next { IsNext held self.old }
         ensures ok { OnOk result (HasMade place held self.old self.new) }
         ensures err { OnErr result (self.new ≡ self.old) }
     {
-        let version = held.version;
+        let version = held.version();
         hold(&mut self.store, &mut self.out, place, held)?;
         self.prepared = None;
         self.knowledge.raise_own(version);
@@ -244,7 +245,11 @@ impl Device {
     /// so that it is quicker to ask again.
     ///
     /// Its only error is want of memory, and none is wanted where it knows all.
-    pub fn unknown_of(&mut self, alloc: Global, set: &HeldSet) -> Result<Vec<Held>, AllocError>
+    pub fn unknown_of(
+        &mut self,
+        alloc: Global,
+        set: &HeldSet,
+    ) -> Result<Vec<SharedHeld>, AllocError>
         ensures items { IfOk result (λ found. found.items
             ≡ filter (λ h. not (knows self.old.knowledge h.picture h.version)) set.now) }
         ensures ordered { IfOk result (λ found. are_in_order found.items ≡ true) }
@@ -353,10 +358,10 @@ impl Device {
         &mut self,
         drops: VersionList,
         pictures: Vec<PicNo>,
-        takes: HeldList,
+        takes: SharedList,
         gain: &Knowledge,
         room: usize,
-    ) -> Result<(), (VersionList, HeldList, AllocError)>
+    ) -> Result<(), (VersionList, SharedList, AllocError)>
         requires may { MayStage drops takes gain.now.known self.old }
         ensures staged { OnOk result (HasStaged drops takes gain.now.known room self.old self.new) }
         ensures err { OnErr result (IsAsItWas self.old self.new) }
@@ -413,7 +418,7 @@ impl Device {
 
     /// Those of the versions that it holds in the out leave it, and come to the end of a list in the order asked for. Nothing
     /// is staged then. It takes no memory, and is quickest where they are asked for in the order of the out.
-    pub fn hand_over(&mut self, asked: &[Version], handed: &mut Vec<Held>)
+    pub fn hand_over(&mut self, asked: &[Version], handed: &mut Vec<SharedHeld>)
         requires distinct { (v : versions.Version) → times_in v asked.now ≤ 1 }
         requires room { vec_len handed.old + length asked.now ≤ vec_capacity handed.old }
         ensures shows { (m : ModelDevice) → Shows self.old m → Shows self.new (without_waiting asked.now m) }
@@ -426,7 +431,7 @@ impl Device {
 
     /// Makes the change that is staged, and takes the versions that were handed over besides, each into the store where the
     /// filter matches it and into the out otherwise. Nothing is staged then. It takes no memory.
-    pub fn commit(&mut self, handed: Vec<Held>)
+    pub fn commit(&mut self, handed: Vec<SharedHeld>)
         requires staged { is_some self.old.staged ≡ true }
         requires handed { IfSome self.old.staged (λ s. MayHand handed.items s self.old) }
         ensures shows { IfSome self.old.staged (λ s. (m : ModelDevice) → Shows self.old m
@@ -526,13 +531,18 @@ fn with_own(known: &Knowledge, version: Version) -> Result<Knowledge, AllocError
 }
 
 // Holds a version at a place, and nothing else of its picture. An error leaves both sets as they were.
-fn hold(store: &mut HeldSet, out: &mut HeldSet, place: Place, held: Held) -> Result<(), AllocError>
+fn hold(
+    store: &mut HeldSet,
+    out: &mut HeldSet,
+    place: Place,
+    held: SharedHeld,
+) -> Result<(), AllocError>
     ensures store { OnOk result (store.new ≡ store_with place held store.old) }
     ensures out { OnOk result (out.new ≡ out_with place held out.old) }
     ensures store_kept { OnErr result (store.new ≡ store.old) }
     ensures out_kept { OnErr result (out.new ≡ out.old) }
 {
-    let picture = held.picture;
+    let picture = held.picture();
     match place {
         Place::Store => {
             store.replace(held)?;

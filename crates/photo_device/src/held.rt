@@ -15,8 +15,6 @@ pub struct Held {
 }
 
 impl Held {
-    ghost use Rattle.photo_device.specs.Held.{stands_before, is_of};
-
     /// An equal held version. Its only error is want of memory.
     pub fn try_clone(&self) -> Result<Held, AllocError>
         ensures { IfOk result (λ copy. copy ≡ self.now) }
@@ -27,19 +25,5 @@ impl Held {
             made_with: self.made_with.try_clone()?,
             content: self.content.try_clone()?,
         })
-    }
-
-    /// Whether it stands before that version of that picture, in the order of a set.
-    pub(crate) fn is_before(&self, picture: PicNo, version: Version) -> bool
-        ensures { result ≡ stands_before self.now picture version }
-    {
-        self.picture < picture || (self.picture == picture && self.version < version)
-    }
-
-    /// Whether it is that version of that picture.
-    pub(crate) fn is_of(&self, picture: PicNo, version: Version) -> bool
-        ensures { result ≡ is_of self.now picture version }
-    {
-        self.picture == picture && self.version == version
     }
 }

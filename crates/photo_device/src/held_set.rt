@@ -5,7 +5,7 @@ ghost use Rattle.photo_device.specs.Held.{find_version};
 use crate::range::range_of;
 use crate::roomy_set::RoomySet;
 use crate::sought::Sought;
-use crate::{Held, HeldList};
+use crate::{Held, HeldList, SharedHeld};
 use block_list::{BlockList, Room, Spot};
 use photo_filter_rules::Filter;
 use photo_record::PicNo;
@@ -18,7 +18,7 @@ use std::marker::Model;
 /// It is kept in blocks, so that a version is put in or given up at little cost whatever its picture.
 #[derive(Debug, Drop)]
 pub struct HeldSet {
-    items: BlockList<Held>,
+    items: BlockList<SharedHeld>,
     alloc: Global,
 }
 
@@ -61,7 +61,7 @@ impl HeldSet {
     }
 
     /// The set of a list in order.
-    pub(crate) fn of_list(items: BlockList<Held>, alloc: Global) -> HeldSet
+    pub(crate) fn of_list(items: BlockList<SharedHeld>, alloc: Global) -> HeldSet
         requires { are_in_order items ≡ true }
         ensures { result ≡ items }
     {
@@ -69,7 +69,7 @@ impl HeldSet {
     }
 
     /// Room for so many versions more. Its only error is want of memory.
-    pub(crate) fn room(&mut self, more: usize) -> Result<Room<Held>, AllocError>
+    pub(crate) fn room(&mut self, more: usize) -> Result<Room<SharedHeld>, AllocError>
         ensures kept { self.new ≡ self.old }
         ensures most { IfOk result (λ room. room.most ≡ length self.old) }
         ensures more { IfOk result (λ room. room.more ≡ more) }
@@ -78,7 +78,7 @@ impl HeldSet {
     }
 
     /// The set with room that was taken before. It takes no memory.
-    pub(crate) fn open(self, room: Room<Held>) -> RoomySet
+    pub(crate) fn open(self, room: Room<SharedHeld>) -> RoomySet
         requires { length self ≤ room.most }
         ensures helds { result.helds ≡ self }
         ensures more { result.more ≡ room.more }
@@ -106,11 +106,11 @@ impl HeldSet {
         ensures item { slice_get self.now i ≡ Some result.now }
         ensures ordered { are_in_order self.now ≡ true }
     {
-        self.items.get(i)
+        self.items.get(i).as_held()
     }
 
     /// The held versions in blocks, which one after another are the set. For callers that go over all of them.
-    pub fn blocks(&self) -> &[Vec<Held>]
+    pub fn blocks(&self) -> &[Vec<SharedHeld>]
         ensures value { joined result.now ≡ self.now }
         ensures ordered { are_in_order self.now ≡ true }
     {
@@ -156,7 +156,7 @@ impl HeldSet {
         if !held.is_of(picture, version) {
             return None;
         }
-        Some(held)
+        Some(held.as_held())
     }
 
     /// The held versions as a list. Its only error is want of memory.
@@ -166,7 +166,7 @@ impl HeldSet {
         let mut items = Vec::with_capacity(self.alloc, self.items.len())?;
         for block in self.items.as_blocks() {
             for held in block {
-                items.push(held.try_clone()?)?;
+                items.push(held.as_held().try_clone()?)?;
             }
         }
         Ok(HeldList::new(items))
@@ -178,34 +178,34 @@ impl HeldSet {
     {
         for block in self.items.as_blocks() {
             if let Some(held) = find_in(block, version) {
-                return Some(held);
+                return Some(held.as_held());
             }
         }
         None
     }
 
     /// Puts a version in the place of all of its picture. An error leaves the set as it was.
-    pub(crate) fn replace(&mut self, held: Held) -> Result<(), AllocError>
+    pub(crate) fn replace(&mut self, held: SharedHeld) -> Result<(), AllocError>
         ensures ok { OnOk result (self.new ≡ replaced held self.old) }
         ensures err { OnErr result (self.new ≡ self.old) }
     {
-        let picture = held.picture;
+        let picture = held.picture();
         self.items.replace_between(
-            |other| other.picture < picture,
-            |other| other.picture <= picture,
+            |other| other.picture() < picture,
+            |other| other.picture() <= picture,
             held,
         )?;
         Ok(())
     }
 
     /// Puts a version among the others, of which none is of that version. An error leaves the set as it was.
-    pub(crate) fn insert(&mut self, held: Held) -> Result<(), AllocError>
+    pub(crate) fn insert(&mut self, held: SharedHeld) -> Result<(), AllocError>
         requires { find_version held.version self.old ≡ None }
         ensures ok { OnOk result (self.new ≡ put held_before held self.old) }
         ensures err { OnErr result (self.new ≡ self.old) }
     {
-        let (picture, version) = (held.picture, held.version);
-        let before = |other: &Held| other.is_before(picture, version);
+        let (picture, version) = (held.picture(), held.version());
+        let before = |other: &SharedHeld| other.is_before(picture, version);
         self.items.replace_between(&before, &before, held)?;
         Ok(())
     }
@@ -219,7 +219,7 @@ impl HeldSet {
             return;
         }
         let sought = Sought::new(versions);
-        self.items.retain(|held| !sought.has(held.version));
+        self.items.retain(|held| !sought.has(held.version()));
     }
 
     /// Gives up that version of that picture, if it has it; whether it had it. It is found by a search, which takes no memory.
@@ -239,7 +239,7 @@ impl HeldSet {
 
     /// Those of the versions that it has leave it, and come to the end of a list, in the order asked for. It takes no
     /// memory, and is quickest where they are asked for in the order of the set.
-    pub(crate) fn hand_over(&mut self, versions: &[Version], handed: &mut Vec<Held>)
+    pub(crate) fn hand_over(&mut self, versions: &[Version], handed: &mut Vec<SharedHeld>)
         requires once { (v : spec.Version) → count_of v self.old ≤ 1 }
         requires distinct { (v : spec.Version) → times_in v versions.now ≤ 1 }
         requires room { vec_len handed.old + length versions.now ≤ vec_capacity handed.old }
@@ -258,19 +258,19 @@ impl HeldSet {
     }
 
     // Takes the one of that version out, if it has it, and gives a hint for the next.
-    fn take_version(&mut self, near: Spot, version: Version) -> (Option<Held>, Spot)
+    fn take_version(&mut self, near: Spot, version: Version) -> (Option<SharedHeld>, Spot)
         requires { count_of version self.old ≤ 1 }
         ensures found { result.0 ≡ find_version version self.old }
         ensures rest { self.new ≡ helds_without (version ∷ []) self.old }
     {
-        self.items.take_near(near, |held| held.version == version)
+        self.items.take_near(near, |held| held.version() == version)
     }
 
     /// Gives up what the filter doesn't match. It takes no memory.
     pub(crate) fn keep_matched(&mut self, wanted: &Filter)
         ensures { self.new ≡ filter (λ h. matches wanted.now h.content) self.old }
     {
-        self.items.retain(|held| wanted.matches(&held.content));
+        self.items.retain(|held| wanted.matches(held.content()));
     }
 
     /// Gives up what the other set has as well. It takes no memory.
@@ -278,7 +278,7 @@ impl HeldSet {
         ensures { self.new ≡ filter (λ h. not (has_version_of h.picture h.version other.now)) self.old }
     {
         self.items
-            .retain(|held| !other.has(held.picture, held.version));
+            .retain(|held| !other.has(held.picture(), held.version()));
     }
 
     /// Gives up all versions of a picture.
@@ -296,16 +296,16 @@ impl HeldSet {
     pub(crate) fn has_picture(&self, picture: PicNo) -> bool
         ensures { result ≡ has_picture picture self.now }
     {
-        match self.items.find_failing(|held| held.picture < picture) {
-            Some(held) => held.picture == picture,
+        match self.items.find_failing(|held| held.picture() < picture) {
+            Some(held) => held.picture() == picture,
             None => false,
         }
     }
 }
 
 // The one of that version in a part of a set.
-fn find_in(items: &[Held], version: Version) -> Option<&Held>
+fn find_in(items: &[SharedHeld], version: Version) -> Option<&SharedHeld>
     ensures { option_copied result ≡ find_version version items.now }
 {
-    items.iter().find(|held| held.version == version)
+    items.iter().find(|held| held.version() == version)
 }

@@ -18,6 +18,7 @@ mod place;
 mod prepared;
 mod range;
 mod roomy_set;
+mod shared_held;
 mod sought;
 mod takes;
 
@@ -31,9 +32,13 @@ pub use held_set::HeldSet;
 pub use item_list::ItemList;
 use photo_version::Version;
 pub use place::Place;
+pub use shared_held::SharedHeld;
 
 /// Held versions, in an order.
 pub type HeldList = ItemList<Held>;
+
+/// Held versions that are shared, in an order.
+pub type SharedList = ItemList<SharedHeld>;
 
 /// Versions, in an order.
 pub type VersionList = ItemList<Version>;

@@ -3,7 +3,7 @@ ghost use Rattle.item_knowledge.specs.Fragments.{knows};
 ghost use Rattle.photo_device.specs.Noted.{AreKnown};
 
 use crate::noted_versions::NotedVersions;
-use crate::{Held, HeldSet};
+use crate::{HeldSet, SharedHeld};
 use item_knowledge::Knowledge;
 use photo_version::Version;
 use std::alloc::{AllocError, Global};
@@ -114,7 +114,11 @@ impl NotedKnowledge {
     }
 
     /// Copies of those of a set that aren't known. Its only error is want of memory, and none is wanted where all are known.
-    pub fn unknown_of(&mut self, alloc: Global, set: &HeldSet) -> Result<Vec<Held>, AllocError>
+    pub fn unknown_of(
+        &mut self,
+        alloc: Global,
+        set: &HeldSet,
+    ) -> Result<Vec<SharedHeld>, AllocError>
         ensures items { IfOk result (λ found. found.items
             ≡ filter (λ h. not (knows self.old.known h.picture h.version)) set.now) }
         ensures ordered { IfOk result (λ found. are_in_order found.items ≡ true) }
@@ -137,11 +141,11 @@ impl NotedKnowledge {
 
 // Puts copies of those of a list that aren't known behind others. Any hint will do.
 fn push_unknown(
-    found: &mut Vec<Held>,
+    found: &mut Vec<SharedHeld>,
     noted: &mut NotedVersions,
     knowledge: &Knowledge,
     hint: &mut usize,
-    list: &[Held],
+    list: &[SharedHeld],
 ) -> Result<(), AllocError>
     requires { AreKnown knowledge.now.known noted.old.rows.items }
     ensures found { OnOk result (found.new.items
@@ -149,16 +153,17 @@ fn push_unknown(
     ensures noted { AreKnown knowledge.now.known noted.new.rows.items }
 {
     for held in list {
-        if noted.has(held.picture, held.version) {
+        let (picture, version) = (held.picture(), held.version());
+        if noted.has(picture, version) {
             continue;
         }
-        let (known, next) = knowledge.knows_near(*hint, held.picture, held.version);
+        let (known, next) = knowledge.knows_near(*hint, picture, version);
         *hint = next;
         if known {
-            noted.note(held.picture, held.version);
+            noted.note(picture, version);
             continue;
         }
-        noted.make_place(held.version)?;
+        noted.make_place(version)?;
         found.push(held.try_clone()?)?;
     }
     Ok(())

@@ -1,4 +1,4 @@
-use crate::{Held, HeldList, VersionList};
+use crate::{SharedHeld, SharedList, VersionList};
 use block_list::Room;
 use photo_record::PicNo;
 
@@ -8,9 +8,9 @@ pub(crate) struct Prepared {
     pub drops: VersionList,
     /// The pictures of the drops, in their order, as hints where these are held. Any will do.
     pub pictures: Vec<PicNo>,
-    pub takes: HeldList,
+    pub takes: SharedList,
     /// How many handed versions may come beside those that are taken.
     pub room: usize,
-    pub in_store: Room<Held>,
-    pub in_out: Room<Held>,
+    pub in_store: Room<SharedHeld>,
+    pub in_out: Room<SharedHeld>,
 }

@@ -1,4 +1,4 @@
-use crate::{Held, HeldSet};
+use crate::{HeldSet, SharedHeld};
 use block_list::Roomy;
 use std::alloc::Global;
 use std::marker::Model;
@@ -6,7 +6,7 @@ use std::marker::Model;
 /// A set of held versions with room for more. Contracts see the list of them, as of a set, and for how many there is room.
 #[derive(Debug, Drop)]
 pub(crate) struct RoomySet {
-    items: Roomy<Held>,
+    items: Roomy<SharedHeld>,
     alloc: Global,
 }
 
@@ -30,7 +30,7 @@ impl RoomySet {
     ghost use Rattle.photo_device.specs.Ordered.{put};
 
     /// The set of a list in order, with its room.
-    pub(crate) fn new(items: Roomy<Held>, alloc: Global) -> RoomySet
+    pub(crate) fn new(items: Roomy<SharedHeld>, alloc: Global) -> RoomySet
         requires { are_in_order items.items ≡ true }
         ensures helds { result.helds ≡ items.items }
         ensures more { result.more ≡ items.more }
@@ -39,15 +39,14 @@ impl RoomySet {
     }
 
     /// Puts a version among the others, of which none is of that version. It takes no memory.
-    pub(crate) fn insert(&mut self, held: Held)
+    pub(crate) fn insert(&mut self, held: SharedHeld)
         requires new { find_version held.version self.old.helds ≡ None }
         requires room { 0 < self.old.more }
         ensures helds { self.new.helds ≡ put held_before held self.old.helds }
         ensures more { self.new.more + 1 ≡ self.old.more }
     {
-        let (picture, version) = (held.picture, held.version);
-        self.items
-            .insert_behind(|other: &Held| other.is_before(picture, version), held);
+        let (picture, version) = (held.picture(), held.version());
+        self.items.insert_behind(|other: &SharedHeld| other.is_before(picture, version), held);
     }
 
     /// The set. It takes no memory.

@@ -5,7 +5,7 @@ ghost use Rattle.photo_device.specs.Held.{find_version};
 ghost use Rattle.photo_device.specs.Taking.{with_side, AreNewTo};
 
 use crate::roomy_set::RoomySet;
-use crate::{Held, HeldSet};
+use crate::{HeldSet, SharedHeld};
 use block_list::Room;
 use photo_filter_rules::Filter;
 use std::alloc::AllocError;
@@ -16,7 +16,7 @@ pub(crate) fn rooms(
     store: &mut HeldSet,
     out: &mut HeldSet,
     more: usize,
-) -> Result<(Room<Held>, Room<Held>), AllocError>
+) -> Result<(Room<SharedHeld>, Room<SharedHeld>), AllocError>
     ensures store_kept { store.new ≡ store.old }
     ensures out_kept { out.new ≡ out.old }
     ensures store { IfOk result (λ rooms. rooms.0.most ≡ length store.old) }
@@ -30,7 +30,7 @@ pub(crate) fn rooms(
 }
 
 // Opens a set with room that was taken before, and leaves an empty one.
-fn opened(set: &mut HeldSet, room: Room<Held>) -> RoomySet
+fn opened(set: &mut HeldSet, room: Room<SharedHeld>) -> RoomySet
     requires { length set.old ≤ room.most }
     ensures helds { result.helds ≡ set.old }
     ensures more { result.more ≡ room.more }
@@ -43,12 +43,12 @@ fn opened(set: &mut HeldSet, room: Room<Held>) -> RoomySet
 /// taken. There is room for all of them in both, so it takes no memory.
 pub(crate) fn take_in(
     wanted: &Filter,
-    handed: Vec<Held>,
-    takes: Vec<Held>,
+    handed: Vec<SharedHeld>,
+    takes: Vec<SharedHeld>,
     store: &mut HeldSet,
-    in_store: Room<Held>,
+    in_store: Room<SharedHeld>,
     out: &mut HeldSet,
-    in_out: Room<Held>,
+    in_out: Room<SharedHeld>,
 )
     requires store_new { AreNewTo store.old (handed.items ++ takes.items) }
     requires out_new { AreNewTo out.old (handed.items ++ takes.items) }
@@ -68,7 +68,7 @@ pub(crate) fn take_in(
 }
 
 // Puts versions into the store, where the filter matches them, and into the out otherwise.
-fn put_all(wanted: &Filter, coming: Vec<Held>, store: &mut RoomySet, out: &mut RoomySet)
+fn put_all(wanted: &Filter, coming: Vec<SharedHeld>, store: &mut RoomySet, out: &mut RoomySet)
     requires store { AreNewTo store.old.helds coming.items }
     requires out { AreNewTo out.old.helds coming.items }
     requires store_room { length coming.items ≤ store.old.more }
@@ -84,7 +84,7 @@ fn put_all(wanted: &Filter, coming: Vec<Held>, store: &mut RoomySet, out: &mut R
 }
 
 // Puts a version into the store, where the filter matches it, and into the out otherwise.
-fn put_one(wanted: &Filter, held: Held, store: &mut RoomySet, out: &mut RoomySet)
+fn put_one(wanted: &Filter, held: SharedHeld, store: &mut RoomySet, out: &mut RoomySet)
     requires store { find_version held.version store.old.helds ≡ None }
     requires out { find_version held.version out.old.helds ≡ None }
     requires store_room { 0 < store.old.more }
@@ -94,7 +94,7 @@ fn put_one(wanted: &Filter, held: Held, store: &mut RoomySet, out: &mut RoomySet
     ensures store_left { store.old.more ≤ store.new.more + 1 }
     ensures out_left { out.old.more ≤ out.new.more + 1 }
 {
-    if wanted.matches(&held.content) {
+    if wanted.matches(held.content()) {
         store.insert(held);
     } else {
         out.insert(held);
@@ -121,14 +121,14 @@ pub(crate) fn take_others(
 }
 
 // After want of memory the set has taken some of them: what passes a test that none of them passes is as it was.
-fn put_others(wanted: &Filter, takes: &[Held], set: &mut HeldSet) -> Result<(), AllocError>
+fn put_others(wanted: &Filter, takes: &[SharedHeld], set: &mut HeldSet) -> Result<(), AllocError>
     requires { AreNewTo set.old takes.now }
     ensures ok { OnOk result (set.new ≡ with_side false wanted.now takes.now set.old) }
     ensures err { OnErr result
         ((q : spec.Held → Bool) → AllByRecursion (λ h. q h ≡ false) takes.now → filter q set.new ≡ filter q set.old) }
 {
     for held in takes {
-        if wanted.matches(&held.content) {
+        if wanted.matches(held.content()) {
             continue;
         }
         set.insert(held.try_clone()?)?;

@@ -6,7 +6,7 @@ mod near;
 mod sets;
 mod staging;
 
-use crate::{Device, Held, HeldList, HeldSet, Place};
+use crate::{Device, Held, HeldList, HeldSet, Place, SharedHeld};
 use photo_filter_rules::Filter;
 use photo_record::{Day, PicNo, Rating, Record, Words};
 use photo_version::{Author, Version};
@@ -88,13 +88,17 @@ fn lists(set: &HeldSet, wanted: &[(u32, u32)]) -> bool {
     true
 }
 
-// The same of a list.
-fn are(helds: &[Held], wanted: &[(u32, u32)]) -> bool {
+// The same of a list, of each both as it stands beside what is shared and in it.
+fn are(helds: &[SharedHeld], wanted: &[(u32, u32)]) -> bool {
     if helds.len() != wanted.len() {
         return false;
     }
     for i in 0..helds.len() {
-        if helds[i].picture.value() != wanted[i].0 || helds[i].version.n() != wanted[i].1 {
+        let one = &helds[i];
+        if one.picture().value() != wanted[i].0 || one.version().n() != wanted[i].1 {
+            return false;
+        }
+        if one.picture() != one.as_held().picture || one.version() != one.as_held().version {
             return false;
         }
     }

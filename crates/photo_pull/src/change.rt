@@ -13,7 +13,7 @@ ghost use Rattle.photo_pull.specs.Findings.{IsGain, gain_found, drops_found, Has
 use crate::filtered::push_versions;
 use crate::finding::Finding;
 use item_knowledge::Knowledge;
-use photo_device::{Device, Held, HeldList, VersionList};
+use photo_device::{Device, SharedHeld, SharedList, VersionList};
 use photo_record::PicNo;
 use photo_version::{Vector, Version};
 use std::alloc::{AllocError, Global};
@@ -33,9 +33,9 @@ fn gain_of(alloc: Global, told: &[(PicNo, Vector)]) -> Result<Knowledge, AllocEr
 }
 
 // Puts the pictures of those of a list behind others.
-fn push_pictures(pictures: &mut Vec<PicNo>, list: &[Held]) -> Result<(), AllocError> {
+fn push_pictures(pictures: &mut Vec<PicNo>, list: &[SharedHeld]) -> Result<(), AllocError> {
     for held in list {
-        pictures.push(held.picture)?;
+        pictures.push(held.picture())?;
     }
     Ok(())
 }
@@ -51,8 +51,8 @@ fn are_few(count: usize, device: &Device) -> bool {
 fn drops_of(
     alloc: Global,
     device: &Device,
-    stored: &[Held],
-    waiting: &[Held],
+    stored: &[SharedHeld],
+    waiting: &[SharedHeld],
 ) -> Result<(VersionList, Vec<PicNo>), AllocError>
     ensures { IfOk result (λ all. IsPermutation (versions stored.now ++ versions waiting.now) all.0) }
 {
@@ -73,7 +73,7 @@ fn drops_of(
 pub(crate) fn handed_of(
     alloc: Global,
     finding: &Finding,
-) -> Result<(Vec<Version>, Vec<Held>), AllocError>
+) -> Result<(Vec<Version>, Vec<SharedHeld>), AllocError>
     ensures asked { IfOk result (λ all. all.0.items ≡ versions finding.now.handed.items) }
     ensures empty { IfOk result (λ all. all.1.items ≡ []) }
     ensures room { IfOk result (λ all. vec_len all.1 + length all.0.items ≤ vec_capacity all.1) }
@@ -88,7 +88,7 @@ pub(crate) fn handed_of(
 fn stage_taught(
     drops: VersionList,
     pictures: Vec<PicNo>,
-    takes: HeldList,
+    takes: SharedList,
     target: &mut Device,
     source: &mut Device,
     room: usize,
@@ -117,7 +117,7 @@ fn stage_told(
     alloc: Global,
     drops: VersionList,
     pictures: Vec<PicNo>,
-    takes: HeldList,
+    takes: SharedList,
     told: &[(PicNo, Vector)],
     target: &mut Device,
     room: usize,
@@ -166,7 +166,7 @@ pub(crate) fn stage_found(
         told,
         ..
     } = finding;
-    let takes = HeldList::new(taken);
+    let takes = SharedList::new(taken);
     if learned {
         return stage_taught(drops, pictures, takes, target, source, room);
     }

@@ -8,25 +8,22 @@ ghost use Rattle.item_knowledge.specs.Fragments.{knows};
 use crate::gap::Gap;
 use crate::hints::Hints;
 use crate::part::Part;
-use photo_device::{Device, Held, HeldSet};
+use photo_device::{Device, HeldSet, SharedHeld};
 use photo_filter_rules::Filter;
 use photo_version::Version;
 use std::alloc::{AllocError, Global};
 
 // Whether a device knows a version and doesn't keep it.
-fn has_given_up(device: &Device, hints: &mut Hints, held: &Held) -> bool
+fn has_given_up(device: &Device, hints: &mut Hints, held: &SharedHeld) -> bool
     ensures { result ≡ (knows device.now.knowledge held.now.picture held.now.version && not (has_same device.now.store held.now)) }
 {
-    let (keeps, next) = device
-        .store()
-        .has_near(hints.kept, held.picture, held.version);
+    let (picture, version) = (held.picture(), held.version());
+    let (keeps, next) = device.store().has_near(hints.kept, picture, version);
     hints.kept = next;
     if keeps {
         return false;
     }
-    let (known, next) = device
-        .knowledge()
-        .knows_near(hints.known, held.picture, held.version);
+    let (known, next) = device.knowledge().knows_near(hints.known, picture, version);
     hints.known = next;
     known
 }
@@ -38,7 +35,7 @@ fn is_dropped(
     device: &Device,
     gap: &mut Gap,
     hints: &mut Hints,
-    held: &Held,
+    held: &SharedHeld,
 ) -> bool
     requires stored { are_in_order news.now.stored.items ≡ true }
     requires waiting { are_in_order news.now.waiting.items ≡ true }
@@ -56,13 +53,13 @@ fn is_dropped(
 
 // Puts copies of those of a list that go behind others.
 fn push_dropped(
-    found: &mut Vec<Held>,
+    found: &mut Vec<SharedHeld>,
     news: &Part,
     followed: bool,
     device: &Device,
     gap: &mut Gap,
     hints: &mut Hints,
-    list: &[Held],
+    list: &[SharedHeld],
 ) -> Result<(), AllocError>
     requires stored { are_in_order news.now.stored.items ≡ true }
     requires waiting { are_in_order news.now.waiting.items ≡ true }
@@ -88,7 +85,7 @@ pub(crate) fn dropped_of(
     followed: bool,
     device: &Device,
     set: &HeldSet,
-) -> Result<Vec<Held>, AllocError>
+) -> Result<Vec<SharedHeld>, AllocError>
     requires stored { are_in_order news.now.stored.items ≡ true }
     requires waiting { are_in_order news.now.waiting.items ≡ true }
     ensures items { IfOk result
@@ -115,33 +112,33 @@ pub(crate) fn dropped_of(
 }
 
 /// Those of a list that a filter matches, or that supersede something that is dropped.
-pub(crate) fn heard_of(wanted: &Filter, dropped: &Part, list: Vec<Held>) -> Vec<Held>
+pub(crate) fn heard_of(wanted: &Filter, dropped: &Part, list: Vec<SharedHeld>) -> Vec<SharedHeld>
     requires stored { are_in_order dropped.now.stored.items ≡ true }
     requires waiting { are_in_order dropped.now.waiting.items ≡ true }
     ensures { result.items ≡ filter
         (λ w. is_selected wanted.now w || (has_below dropped.now.stored.items w || has_below dropped.now.waiting.items w)) list.items }
 {
     let mut heard = list;
-    heard.retain(|held| wanted.matches(&held.content) || dropped.any_below(held));
+    heard.retain(|held| wanted.matches(held.content()) || dropped.any_below(held));
     heard
 }
 
 /// Those of a list that a filter matches.
-pub(crate) fn taken_of(wanted: &Filter, list: Vec<Held>) -> Vec<Held>
+pub(crate) fn taken_of(wanted: &Filter, list: Vec<SharedHeld>) -> Vec<SharedHeld>
     ensures items { result.items ≡ filter (is_selected wanted.now) list.items }
     ensures fewer { length result.items ≤ length list.items }
 {
     let mut taken = list;
-    taken.retain(|held| wanted.matches(&held.content));
+    taken.retain(|held| wanted.matches(held.content()));
     taken
 }
 
 /// Puts the versions of those of a list behind others.
-pub(crate) fn push_versions(found: &mut Vec<Version>, list: &[Held]) -> Result<(), AllocError>
+pub(crate) fn push_versions(found: &mut Vec<Version>, list: &[SharedHeld]) -> Result<(), AllocError>
     ensures { OnOk result (found.new.items ≡ found.old.items ++ versions list.now) }
 {
     for held in list {
-        found.push(held.version)?;
+        found.push(held.version())?;
     }
     Ok(())
 }

@@ -10,7 +10,7 @@ use crate::filtered::{dropped_of, heard_of, taken_of};
 use crate::part::Part;
 use crate::table::table_of;
 use item_knowledge::Knowledge;
-use photo_device::{Device, Held};
+use photo_device::{Device, SharedHeld};
 use photo_filter_rules::covers;
 use photo_record::PicNo;
 use photo_version::Vector;
@@ -24,9 +24,9 @@ pub(crate) struct Finding {
     /// What the target drops.
     pub dropped: Part,
     /// What it takes of the source's store.
-    pub taken: Vec<Held>,
+    pub taken: Vec<SharedHeld>,
     /// What it takes of the source's out.
-    pub handed: Vec<Held>,
+    pub handed: Vec<SharedHeld>,
     /// Of how many it is told without their records.
     pub notices: usize,
     /// What it is told of the pictures, where it doesn't learn all.
@@ -74,8 +74,8 @@ fn dropped_for(
 fn told_of(
     alloc: Global,
     learned: bool,
-    heard: &[Held],
-    handed: &[Held],
+    heard: &[SharedHeld],
+    handed: &[SharedHeld],
 ) -> Result<Vec<(PicNo, Vector)>, AllocError>
     requires heard_order { are_in_order heard.now ≡ true }
     requires handed_order { are_in_order handed.now ≡ true }

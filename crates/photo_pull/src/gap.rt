@@ -1,4 +1,4 @@
-use photo_device::Held;
+use photo_device::SharedHeld;
 use photo_record::PicNo;
 
 /// Pictures of which a device is told nothing new: from the first up to before the second.
@@ -29,12 +29,12 @@ impl Gap {
     }
 
     /// Whether the pictures of a list in order are all among them.
-    pub fn has_all(&self, list: &[Held]) -> bool
+    pub fn has_all(&self, list: &[SharedHeld]) -> bool
         requires { are_in_order list.now ≡ true }
         ensures { result ≡ list_all (λ h. nat_le self.now.from h.picture && nat_lt h.picture self.now.end) list.now }
     {
         match (list.first(), list.last()) {
-            (Some(first), Some(last)) => self.has(first.picture) && self.has(last.picture),
+            (Some(first), Some(last)) => self.has(first.picture()) && self.has(last.picture()),
             _ => true,
         }
     }

@@ -1,16 +1,16 @@
 use crate::gap::Gap;
 use crate::hints::Hints;
 use crate::superseding::{any_above_near, any_below, next_picture};
-use photo_device::Held;
+use photo_device::SharedHeld;
 use photo_record::PicNo;
 
 /// Some of the versions that a device holds, in the order of their pictures.
 #[derive(Debug, Drop)]
 pub(crate) struct Part {
     /// Of its store.
-    pub stored: Vec<Held>,
+    pub stored: Vec<SharedHeld>,
     /// Of its out.
-    pub waiting: Vec<Held>,
+    pub waiting: Vec<SharedHeld>,
 }
 
 impl Part {
@@ -27,7 +27,7 @@ impl Part {
     }
 
     /// Whether one of them supersedes the version.
-    pub fn any_above(&self, hints: &mut Hints, held: &Held) -> bool
+    pub fn any_above(&self, hints: &mut Hints, held: &SharedHeld) -> bool
         requires stored { are_in_order self.now.stored.items ≡ true }
         requires waiting { are_in_order self.now.waiting.items ≡ true }
         ensures { result ≡ (has_above self.now.stored.items held.now || has_above self.now.waiting.items held.now) }
@@ -58,28 +58,28 @@ impl Part {
 
     /// Whether one of them supersedes the version. Where pictures are asked in rising order, each with the gap that was
     /// left, those of which it has none cost little.
-    pub fn any_above_along(&self, gap: &mut Gap, hints: &mut Hints, held: &Held) -> bool
+    pub fn any_above_along(&self, gap: &mut Gap, hints: &mut Hints, held: &SharedHeld) -> bool
         requires stored { are_in_order self.now.stored.items ≡ true }
         requires waiting { are_in_order self.now.waiting.items ≡ true }
         requires gap { IsGap self.now.stored.items self.now.waiting.items gap.old }
         ensures above { result ≡ (has_above self.now.stored.items held.now || has_above self.now.waiting.items held.now) }
         ensures gap { IsGap self.now.stored.items self.now.waiting.items gap.new }
     {
-        if gap.has(held.picture) {
+        if gap.has(held.picture()) {
             return false;
         }
         if self.any_above(hints, held) {
             return true;
         }
         // Of a picture with news the gap is empty, and asked for once.
-        if gap.from != held.picture.value() {
-            *gap = self.gap_from(held.picture);
+        if gap.from != held.picture().value() {
+            *gap = self.gap_from(held.picture());
         }
         false
     }
 
     /// Whether the version supersedes one of them.
-    pub fn any_below(&self, newer: &Held) -> bool
+    pub fn any_below(&self, newer: &SharedHeld) -> bool
         requires stored { are_in_order self.now.stored.items ≡ true }
         requires waiting { are_in_order self.now.waiting.items ≡ true }
         ensures { result ≡ (has_below self.now.stored.items newer.now || has_below self.now.waiting.items newer.now) }

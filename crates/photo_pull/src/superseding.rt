@@ -6,44 +6,44 @@ ghost use Rattle.photo_device.specs.declared.held.Held as spec;
 ghost use Rattle.photo_device.specs.Held.{are_in_order};
 ghost use Rattle.photo_pull.specs.OnHeld.{is_above, has_above, has_below};
 
-use photo_device::Held;
+use photo_device::SharedHeld;
 use photo_record::PicNo;
 use photo_version::Vector;
 
 // Those of a picture.
-fn of_picture(list: &[Held], picture: PicNo) -> &[Held]
+fn of_picture(list: &[SharedHeld], picture: PicNo) -> &[SharedHeld]
     requires { are_in_order list.now ≡ true }
     ensures { result.now ≡ filter (λ h. h.picture == picture) list.now }
 {
-    let from = list.partition_point(|held| held.picture < picture);
-    let to = list.partition_point(|held| held.picture <= picture);
+    let from = list.partition_point(|held| held.picture() < picture);
+    let to = list.partition_point(|held| held.picture() <= picture);
     &list[from..to]
 }
 
 // Whether one of them is in a vector.
-fn any_within(list: &[Held], vector: &Vector) -> bool
+fn any_within(list: &[SharedHeld], vector: &Vector) -> bool
     ensures { result ≡ list_any (λ h. denotes vector.now h.version) list.now }
 {
-    list.iter().any(|held| vector.has(held.version))
+    list.iter().any(|held| vector.has(held.version()))
 }
 
 /// Whether the version supersedes one of them.
-pub(crate) fn any_below(list: &[Held], newer: &Held) -> bool
+pub(crate) fn any_below(list: &[SharedHeld], newer: &SharedHeld) -> bool
     requires { are_in_order list.now ≡ true }
     ensures { result ≡ has_below list.now newer.now }
 {
-    any_within(of_picture(list, newer.picture), &newer.made_with)
+    any_within(of_picture(list, newer.picture()), newer.made_with())
 }
 
 // Whether a version supersedes another.
-fn supersedes(newer: &Held, held: &Held) -> bool
+fn supersedes(newer: &SharedHeld, held: &SharedHeld) -> bool
     ensures { result ≡ is_above newer.now held.now }
 {
-    newer.picture == held.picture && newer.made_with.has(held.version)
+    newer.picture() == held.picture() && newer.made_with().has(held.version())
 }
 
 // Whether all before a place in a list are of smaller pictures.
-fn is_behind(list: &[Held], place: usize, picture: PicNo) -> bool
+fn is_behind(list: &[SharedHeld], place: usize, picture: PicNo) -> bool
     requires { are_in_order list.now ≡ true }
     ensures { result ≡ true → (h : spec.Held) → h.picture ≡ picture → has_above (drop place list.now) h ≡ has_above list.now h }
 {
@@ -53,38 +53,38 @@ fn is_behind(list: &[Held], place: usize, picture: PicNo) -> bool
     if place > list.len() {
         return false;
     }
-    list[place - 1].picture < picture
+    list[place - 1].picture() < picture
 }
 
 // The place of a list before which all are of smaller pictures, and none behind it is.
-fn first_of(list: &[Held], picture: PicNo) -> usize
+fn first_of(list: &[SharedHeld], picture: PicNo) -> usize
     requires { are_in_order list.now ≡ true }
     ensures { (h : spec.Held) → h.picture ≡ picture → has_above (drop result list.now) h ≡ has_above list.now h }
 {
-    list.partition_point(|held| held.picture < picture)
+    list.partition_point(|held| held.picture() < picture)
 }
 
 /// The picture of the first of them that isn't of a smaller one, or more than any picture: none of them is of a picture
 /// between.
-pub(crate) fn next_picture(list: &[Held], picture: PicNo) -> u32
+pub(crate) fn next_picture(list: &[SharedHeld], picture: PicNo) -> u32
     requires { are_in_order list.now ≡ true }
     ensures { (h : spec.Held) → picture ≤ h.picture → h.picture < result → has_above list.now h ≡ false }
 {
-    let place = list.partition_point(|held| held.picture < picture);
+    let place = list.partition_point(|held| held.picture() < picture);
     if place == list.len() {
         return u32::MAX;
     }
-    list[place].picture.value()
+    list[place].picture().value()
 }
 
 // Whether one of those from a place on supersedes the version, and the place up to which one had to look.
-fn any_above_from(list: &[Held], from: usize, held: &Held) -> (bool, usize)
+fn any_above_from(list: &[SharedHeld], from: usize, held: &SharedHeld) -> (bool, usize)
     requires { are_in_order list.now ≡ true }
     ensures { result.0 ≡ has_above (drop from list.now) held.now }
 {
     let mut place = from;
     while place < list.len() {
-        if held.picture < list[place].picture {
+        if held.picture() < list[place].picture() {
             return (false, place);
         }
         if supersedes(&list[place], held) {
@@ -97,13 +97,13 @@ fn any_above_from(list: &[Held], from: usize, held: &Held) -> (bool, usize)
 
 /// Whether one of them supersedes the version, and a hint for the next question. Any hint will do; where pictures are
 /// asked in rising order, each with the hint that the one before gave, the work for one is small.
-pub(crate) fn any_above_near(list: &[Held], hint: usize, held: &Held) -> (bool, usize)
+pub(crate) fn any_above_near(list: &[SharedHeld], hint: usize, held: &SharedHeld) -> (bool, usize)
     requires { are_in_order list.now ≡ true }
     ensures { result.0 ≡ has_above list.now held.now }
 {
-    if is_behind(list, hint, held.picture) {
+    if is_behind(list, hint, held.picture()) {
         return any_above_from(list, hint, held);
     }
-    let from = first_of(list, held.picture);
+    let from = first_of(list, held.picture());
     any_above_from(list, from, held)
 }

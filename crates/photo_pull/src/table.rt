@@ -9,20 +9,20 @@ ghost use Rattle.photo_device.specs.Held.{are_in_order};
 ghost use Rattle.photo_device.specs.Own.{HasEarlier};
 ghost use Rattle.photo_pull.specs.OnHeld.{tells};
 
-use photo_device::Held;
+use photo_device::SharedHeld;
 use photo_record::PicNo;
 use photo_version::Vector;
 use std::alloc::{AllocError, Global};
 
 // A version with all that it was made with.
-fn told_by(held: &Held) -> Result<Vector, AllocError>
+fn told_by(held: &SharedHeld) -> Result<Vector, AllocError>
     requires { HasEarlier held.now }
     ensures { IfOk result (λ vector. (v : versions.Version)
         → denotes vector v ≡ (denotes held.now.made_with v || versions.same_version held.now.version v)) }
 {
     // For its fact alone: a version's number is above 0.
-    let _number = held.version.n();
-    let vector = held.made_with.with(held.version)?;
+    let _number = held.version().n();
+    let vector = held.made_with().with(held.version())?;
     Ok(vector)
 }
 
@@ -53,7 +53,7 @@ fn add_row(
 }
 
 // Adds what a version tells to a table whose pictures are none greater.
-fn add_told(table: &mut Vec<(PicNo, Vector)>, held: &Held) -> Result<(), AllocError>
+fn add_told(table: &mut Vec<(PicNo, Vector)>, held: &SharedHeld) -> Result<(), AllocError>
     requires earlier { HasEarlier held.now }
     requires order { in_order table.old.items ≡ true }
     requires last { keys_pass (λ k. nat_le k held.now.picture) table.old.items ≡ true }
@@ -64,12 +64,12 @@ fn add_told(table: &mut Vec<(PicNo, Vector)>, held: &Held) -> Result<(), AllocEr
         || ((held.now.picture == p) && (denotes held.now.made_with v || versions.same_version held.now.version v)))) }
 {
     let vector = told_by(held)?;
-    add_row(table, held.picture, vector)?;
+    add_row(table, held.picture(), vector)?;
     Ok(())
 }
 
 // Whether the first of two lists gives the next one, that of the smaller picture, where one stands at a place in each.
-fn is_first(heard: &[Held], i: usize, handed: &[Held], j: usize) -> bool
+fn is_first(heard: &[SharedHeld], i: usize, handed: &[SharedHeld], j: usize) -> bool
     ensures first { result ≡ true → i < length heard.now }
     ensures first_least { (a b : spec.Held) → result ≡ true → j < length handed.now
         → (get_or heard.now i a).picture ≤ (get_or handed.now j b).picture }
@@ -83,14 +83,14 @@ fn is_first(heard: &[Held], i: usize, handed: &[Held], j: usize) -> bool
     if j >= handed.len() {
         return true;
     }
-    heard[i].picture <= handed[j].picture
+    heard[i].picture() <= handed[j].picture()
 }
 
 /// What both tell, all those of one picture in one row.
 pub(crate) fn table_of(
     alloc: Global,
-    heard: &[Held],
-    handed: &[Held],
+    heard: &[SharedHeld],
+    handed: &[SharedHeld],
 ) -> Result<Vec<(PicNo, Vector)>, AllocError>
     requires heard_order { are_in_order heard.now ≡ true }
     requires handed_order { are_in_order handed.now ≡ true }

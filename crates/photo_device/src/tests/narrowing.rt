@@ -1,5 +1,5 @@
 use super::{are, filter_of, is_matched, lists, made_all, on_device};
-use crate::{Device, Held, NarrowFault};
+use crate::{Device, NarrowFault, SharedHeld};
 use photo_version::Version;
 use std::alloc::Global;
 
@@ -40,7 +40,7 @@ fn what_no_longer_matches_goes_to_the_out(rt: HostRuntime) {
 }
 
 // Hands over the device's version of that number, where it holds it in the out.
-fn hands_over(device: &mut Device, n: u32, handed: &mut Vec<Held>) -> Option<()> {
+fn hands_over(device: &mut Device, n: u32, handed: &mut Vec<SharedHeld>) -> Option<()> {
     let version = Version::new(device.author(), n)?;
     handed.reserve(1).ok()?;
     device.hand_over(&[version], handed);

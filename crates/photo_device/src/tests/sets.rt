@@ -2,7 +2,7 @@ ghost use Rattle.std.specs.Prelude.{◌≤◌};
 
 use super::{filter_of, is_copied, lists, made_all, on_device, rated};
 use crate::conflicts::conflicts_of;
-use crate::{Conflict, Device, Held, HeldSet};
+use crate::{Conflict, Device, Held, HeldSet, SharedHeld};
 use photo_record::PicNo;
 use photo_version::{Author, Vector, Version};
 use std::alloc::Global;
@@ -15,23 +15,24 @@ pub fn version(author: u16, number: u32) -> Option<Version> {
 /// A held version: its picture, its author, its number and its rating.
 pub type Row = (u32, u16, u32, u8);
 
-fn held(alloc: Global, row: Row) -> Option<Held> {
+fn held(alloc: Global, row: Row) -> Option<SharedHeld> {
     let (picture, author, number, rating) = row;
     let picture = PicNo::new(picture)?;
     let version = version(author, number)?;
     let content = rated(alloc, rating)?;
-    Some(Held {
+    let held = Held {
         picture,
         version,
         made_with: Vector::new(alloc),
         content,
-    })
+    };
+    SharedHeld::new(alloc, held).ok()
 }
 
 /// Puts a held version into a set that hasn't its version.
 pub fn put(alloc: Global, set: &mut HeldSet, row: Row) -> bool {
     match held(alloc, row) {
-        Some(held) => set.find(held.version).is_none() && set.insert(held).is_ok(),
+        Some(held) => set.find(held.version()).is_none() && set.insert(held).is_ok(),
         None => false,
     }
 }

@@ -4,7 +4,7 @@ ghost use Rattle.item_knowledge.specs.Fragments.{knows};
 
 use super::sets::version;
 use super::{filter_of, lists, made_all, on_device, opened};
-use crate::{Change, Device, HeldList, VersionList};
+use crate::{Change, Device, SharedList, VersionList};
 use item_knowledge::Knowledge;
 use photo_record::PicNo;
 use photo_version::Version;
@@ -31,7 +31,7 @@ fn stages_drop(alloc: Global, device: &mut Device, version: Version, gain: Knowl
     };
     let change = Change {
         drops: VersionList::new(drops),
-        takes: HeldList::new(Vec::new(alloc)),
+        takes: SharedList::new(Vec::new(alloc)),
         gain,
     };
     device.stage(change, 0).is_ok()
@@ -149,7 +149,7 @@ fn stages_drops(alloc: Global, device: &mut Device, pictures: Vec<PicNo>, gain: 
         return false;
     };
     let drops = VersionList::new(drops);
-    let takes = HeldList::new(Vec::new(alloc));
+    let takes = SharedList::new(Vec::new(alloc));
     device.stage_lent(drops, pictures, takes, gain, 0).is_ok()
 }
 

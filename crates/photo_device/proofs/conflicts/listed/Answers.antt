@@ -1,3 +1,4 @@
+use Rattle.std.specs.Prelude.{[], ◌∷◌, ◌++◌}
 use Rattle.std.proofs.Common.{take, sym, ap, ◌∙◌}
 use Rattle.std.proofs.lemmas.List.{append-nil, take_all}
 use Rattle.block_list.specs.Blocks.{joined}
@@ -19,7 +20,10 @@ loop-held-init c = c.loop-block.invariant ∙ ap listing (sym (append-nil (joine
 
 pub loop-held-preserved : goal.loop-held-preserved
 loop-held-preserved c =
-    pushed (λ (h : Held). (h.picture, h.version)) (joined (take c.loop-block.block-index c.blocks-block-items.result.now)) c.deref-held-items.result.now c.loop-held.held-index c.held-item.result c.loop-held.items.items _ c.loop-held-test.true c.held-item.is c.loop-held.invariant c.in_ok-push.ensures.items
+    pushed (λ (h : Held). (h.picture, h.version)) (joined (take c.loop-block.block-index c.blocks-block-items.result.now)) c.deref-held-items.result.now c.loop-held.held-index c.held-item.result c.loop-held.items.items _ c.loop-held-test.true c.held-item.is c.loop-held.invariant
+    (c.in_ok-push.ensures.items
+    ∙ ap (λ picture. c.loop-held.items.items ++ (picture, c.version.result) ∷ []) c.picture.ensures
+    ∙ ap (λ version. c.loop-held.items.items ++ (c.held-item.result.picture, version) ∷ []) c.version.ensures)
 
 pub returns-clause-items : goal.returns-clause-items
 returns-clause-items c =

@@ -3,6 +3,8 @@ use Rattle.std.proofs.Common.{◌+◌, ◌||◌, List, rules, refl, sym, ap, ◌
 use Rattle.photo_version.specs.Version.{version, same_version}
 use Rattle.item_knowledge.specs.Fragments.{Fragment, knows}
 use Rattle.item_knowledge.specs.Staged.{Knowing}
+use Rattle.photo_device.specs.declared.held.Held.{Held}
+use Rattle.photo_device.specs.Own.{IsNext, HasMade}
 use Rattle.photo_device.specs.Device.{Kept, Shows, made, held_at}
 use Rattle.photo_device.proofs.Shown.{held, IsLearned, shows_made}
 use Rattle.photo_device.proofs.device.Device.make_next.Goals as goal
@@ -10,11 +12,11 @@ use Rattle.photo_device.proofs.device.Device.make_next.Goals as goal
 pub add-requires : goal.add-requires
 add-requires c =
     let version_is = rw c.unwrap-version.ensures at c.new.ensures in
-    record {
+    subst (λ (h : Held). IsNext h c.args.self.now) (sym c.in_ok-shared.ensures) (record {
       next = version_is.1 ∙ ap (λ (d : Kept). version d.author (d.counter + 1)) c.self.view_is;
       above = search rules;
       history = λ v. c.in_ok-of.ensures v ∙ ap (λ (k : Knowing). knows k.known c.args.picture v) c.as_knowledge.ensures ∙ ap (λ (d : Kept). knows d.knowledge c.args.picture v) c.self.view_is;
-    }
+    })
 
 pub returns-clause-shows : goal.returns-clause-shows
 returns-clause-shows c =
@@ -23,7 +25,7 @@ returns-clause-shows c =
     let v = c.unwrap-version.result in
     let new = held c.args.picture v c.in_ok-of.field-0 c.in_ok-try_clone.field-0 in
     let before = subst (λ (d : Kept). Shows d m) (sym c.self.view_is) shows in
-    let done = c.in_ok-add.ensures.ok in
+    let done = subst (λ (h : Held). HasMade c.of-place.result h c.args.self.now c.add.new.self) c.in_ok-shared.ensures c.in_ok-add.ensures.ok in
     let knowledge : List Fragment = c.add.new.self.knowledge in
     let rest = done.rest ∙ ap (λ (d : Kept). record (held_at c.of-place.result new d) { counter = d.counter + 1; knowledge = knowledge; staged = None }) (sym c.self.view_is) in
     let learned : IsLearned c.args.picture v c.in_ok-of.field-0 c.self.inside.knowledge.known knowledge = record {

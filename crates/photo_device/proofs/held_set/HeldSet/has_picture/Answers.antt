@@ -1,5 +1,5 @@
 use Rattle.std.proofs.Common.{ap, ◌∙◌, rules}
-use Rattle.std.specs.Prelude.{Some, None}
+use Rattle.std.specs.Prelude.{◌==◌, Some, None}
 use Rattle.photo_device.specs.Held.{has_picture}
 use Rattle.photo_device.proofs.Replacing.{told_by_search}
 use Rattle.photo_device.proofs.held_set.HeldSet.has_picture.Goals as goal
@@ -7,6 +7,7 @@ use Rattle.photo_device.proofs.held_set.HeldSet.has_picture.Goals as goal
 pub returns-in-Some : goal.returns-in-Some
 returns-in-Some c =
     c.eq.ensures
+    ∙ ap (λ picture. picture == c.args.picture) c.picture.ensures
     ∙ told_by_search c.args.picture c.self.inside.items (Some c.in-Some.held.now) (λ t h parts. c.in-Some.ensures t h parts) c.self.invariant (λ a r f h. search rules)
     ∙ ap (has_picture c.args.picture) c.self.view_is
 
