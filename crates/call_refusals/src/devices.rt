@@ -390,11 +390,13 @@ fn finds_conflicts(alloc: Global, device: &Device) -> Option<bool> {
 }
 
 // Makes a call with the first of a set.
-fn with_first(
+fn with_first<F: FnOnce(Global, &Held) -> Option<bool>>(
     alloc: Global,
     set: &HeldSet,
-    call: fn(Global, &Held) -> Option<bool>,
-) -> Option<bool> {
+    call: F,
+) -> Option<bool>
+    requires { F.IsAlwaysCallable call }
+{
     if set.is_empty() {
         return Some(false);
     }
