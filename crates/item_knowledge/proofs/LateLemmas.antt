@@ -7,7 +7,7 @@ use Rattle.std.proofs.Math.Nat.{max-zero, zero-max}
 use Rattle.item_knowledge.specs.Tables.{keys_pass, in_order}
 use Rattle.item_knowledge.specs.Entries.{Entry, is_vector, bound, joined}
 use Rattle.item_knowledge.specs.Fragments.{Fragment, entries_at, nothing}
-use Rattle.item_knowledge.specs.Late.{late_entries, late_of, shown, IsLate}
+use Rattle.item_knowledge.specs.Late.{late_entries, late_of, shown, IsWaiting, IsLate}
 use Rattle.item_knowledge.specs.Raising.{raised, all_raised, is_risen, are_risen}
 use Rattle.item_knowledge.specs.Rows.{AreRows, fragments_of, rows_of}
 use Rattle.item_knowledge.proofs.EntryLemmas.{entry_of, EntryParts}
@@ -160,8 +160,8 @@ shown_raised e rows k h l =
       there = l;
       size = rows_read rows h.0;
       pictures = ap (λ gs. (get_or gs k nothing).pictures) (fragments_rows (all_raised e fs)) ∙ pictures_raised e fs k;
-      entries = ap (λ gs. entries_at gs k) (fragments_rows (all_raised e fs)) ∙ (entries_raised e fs k l ∙ joined_late e (entries_at fs k) (risen_here e fs k h.1 l));
-      risen = risen_here e fs k h.1 l;
+      entries = ap (λ gs. entries_at gs k) (fragments_rows (all_raised e fs)) ∙ (entries_raised e fs k l ∙ joined_late e (entries_at fs k) (risen_here e fs k h.1.risen l));
+      risen = risen_here e fs k h.1.risen l;
     }
 
 pub count_shown : (late : Option Entry) (rows : List (List ℕ)) → length (fragments_of (shown late rows)) ≡ length (fragments_of rows)
@@ -249,25 +249,25 @@ pub record MayRise (e : Entry) (rows now : List (List ℕ)) : Type 0 where
   pub late : IsLate (Some e) rows
   pub shown : rows_of (all_raised e (fragments_of rows)) ≡ rows_of (all_raised e (fragments_of now))
 
-pub rise_first : (e : Entry) (rows now : List (List ℕ)) → rows ≡ now → AreRows now → are_risen e (fragments_of now) ≡ true → MayRise e rows now
-rise_first e rows now is are risen = subst (λ rs. MayRise e rs now) (sym is) (record { late = (are, risen); shown = refl })
+pub rise_first : (e : Entry) (rows now : List (List ℕ)) → rows ≡ now → AreRows now → IsWaiting e (fragments_of now) → MayRise e rows now
+rise_first e rows now is are waits = subst (λ rs. MayRise e rs now) (sym is) (record { late = (are, waits); shown = refl })
 
-pub rise_again : (late : Option Entry) (rows now : List (List ℕ)) (a n : ℕ) → IsLate late rows → shown late rows ≡ now → are_risen (a, n) (fragments_of now) ≡ true → is_some (late_of late a) ≡ true → MayRise (a, n) rows now
-rise_again None rows now a n h is risen some = absurd (false≢true some)
-rise_again (Some e) rows now a n h is risen some =
+pub rise_again : (late : Option Entry) (rows now : List (List ℕ)) (a n : ℕ) → IsLate late rows → shown late rows ≡ now → IsWaiting (a, n) (fragments_of now) → is_some (late_of late a) ≡ true → MayRise (a, n) rows now
+rise_again None rows now a n h is waits some = absurd (false≢true some)
+rise_again (Some e) rows now a n h is waits some =
     let same : e.0 ≡ a = of_some (eqb e.0 a) refl some in
-    subst (λ b. MayRise (b, n) rows now) same (by (subst (λ b. are_risen (b, n) (fragments_of now) ≡ true) (sym same) risen))
+    subst (λ b. MayRise (b, n) rows now) same (by (subst (λ b. IsWaiting (b, n) (fragments_of now)) (sym same) waits))
   where
     of_some : (b : Bool) → eqb e.0 a ≡ b → is_some (cond b (Some e.1) None) ≡ true → e.0 ≡ a
     of_some true t s = eqb-true e.0 a t
     of_some false t s = absurd (false≢true s)
 
-    by : are_risen (e.0, n) (fragments_of now) ≡ true → MayRise (e.0, n) rows now
-    by risen =
+    by : IsWaiting (e.0, n) (fragments_of now) → MayRise (e.0, n) rows now
+    by waits =
         let fs = fragments_of rows in
         let made : fragments_of now ≡ all_raised e fs = ap fragments_of (sym is) ∙ fragments_rows (all_raised e fs) in
-        let again = all_again e n fs h.1 (subst (λ gs. are_risen (e.0, n) gs ≡ true) made risen) in
+        let again = all_again e n fs h.1.risen (subst (λ gs. are_risen (e.0, n) gs ≡ true) made waits.risen) in
         record {
-          late = (h.0, again.0);
+          late = (h.0, record { normal = h.1.normal; entry = waits.entry; level = h.1.level; risen = again.0 });
           shown = ap rows_of (sym again.1 ∙ ap (all_raised (e.0, n)) (sym made));
         }

@@ -24,6 +24,7 @@ pub mod KnownLemmas
 pub mod PutLemmas
 pub mod LateLemmas
 pub mod NextLemmas
+pub mod WaitingLemmas
 pub mod NormalLemmas
 pub mod CarryLemmas
 pub mod AloneLemmas

@@ -10,6 +10,7 @@ use Rattle.item_knowledge.specs.Fragments.{Fragment, is_empty, first, lists, rea
 use Rattle.item_knowledge.specs.Gathering.{is_above}
 use Rattle.item_knowledge.specs.Kept.{IsKept, star_bound}
 use Rattle.item_knowledge.specs.Raising.{are_level, all_raised, are_risen, star_of_one}
+use Rattle.item_knowledge.specs.Late.{IsWaiting}
 use Rattle.item_knowledge.specs.Rows.{fragments_of, rows_of}
 use Rattle.item_knowledge.proofs.EntryLemmas.{denotes-bound}
 use Rattle.item_knowledge.proofs.FragmentLemmas.{groups_parts, normal_parts, leq_at}
@@ -67,7 +68,7 @@ kept_level rows xs fs w h same next each =
 
 -- Each fragment has the author's entry where the star has it
 
-risen_all : (e : Entry) (star : List Entry) (b : ℕ) (fs : List Fragment) → list_all (λ (f : Fragment). is_above star f) fs ≡ true → 0 < bound star e.0 → are_level fs e.0 b ≡ true → b ≤ e.1 → are_risen e fs ≡ true
+pub risen_all : (e : Entry) (star : List Entry) (b : ℕ) (fs : List Fragment) → list_all (λ (f : Fragment). is_above star f) fs ≡ true → 0 < bound star e.0 → are_level fs e.0 b ≡ true → b ≤ e.1 → are_risen e fs ≡ true
 risen_all e star b [] h z l m = refl
 risen_all e star b (f ∷ fs) h z l m =
     let p = and_parts (is_above star f) (list_all (λ (g : Fragment). is_above star g) fs) h in
@@ -99,6 +100,17 @@ own_from w rows xs fs a n h same word number author above fits some next level =
 
 pub own_risen : (w : Version) (rows : List (List ℕ)) (xs : List (ℕ × ℕ)) → IsOwn w rows xs → are_risen (author_word w.author, w.number) (fragments_of rows) ≡ true
 own_risen w rows xs h = risen_all (author_word w.author, w.number) (entries_at (fragments_of rows) 0) (w.number - 1) (fragments_of rows) (kept_side rows xs h.kept).above h.some h.level (omega arith)
+
+pub own_waiting : (w : Version) (rows : List (List ℕ)) (xs : List (ℕ × ℕ)) → IsOwn w rows xs → IsWaiting (author_word w.author, w.number) (fragments_of rows)
+own_waiting w rows xs h =
+    let next = h.next in
+    let before : w.number - 1 ≡ star_bound (fragments_of rows) w.author = omega arith in
+    record {
+      normal = h.kept.normal;
+      entry = h.entry;
+      level = subst (λ b. are_level (fragments_of rows) (author_word w.author) b ≡ true) before h.level;
+      risen = own_risen w rows xs h;
+    }
 
 -- what a knowledge is that learned it
 pub record IsOwned (w : Version) (rows : List (List ℕ)) (xs : List (ℕ × ℕ)) (out : List (List ℕ)) : Type 0 where

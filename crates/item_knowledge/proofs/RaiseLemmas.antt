@@ -26,7 +26,7 @@ not_same xs ys n = elim (cases_Bool (same_entries xs ys)) [
 ]
 
 -- vectors with the same bound of the author stay apart
-apart : (xs ys : List Entry) (e : Entry) → is_vector xs ≡ true → is_vector ys ≡ true → is_entry e ≡ true → bound xs e.0 ≡ bound ys e.0 → joined xs (e ∷ []) ≡ joined ys (e ∷ []) → xs ≡ ys
+pub apart : (xs ys : List Entry) (e : Entry) → is_vector xs ≡ true → is_vector ys ≡ true → is_entry e ≡ true → bound xs e.0 ≡ bound ys e.0 → joined xs (e ∷ []) ≡ joined ys (e ∷ []) → xs ≡ ys
 apart xs ys e hx hy he level h = one_by_bounds xs ys hx hy (λ c. elim (cases_eq e.0 c) [
   | inl same ↦ subst (λ n. bound xs n ≡ bound ys n) same level
   | inr other ↦
@@ -136,11 +136,11 @@ raised_normal e (s ∷ gs) h n =
     (and_from _ _ p.star (joined_vector s.entries (e ∷ []) p.vector (entry_vector e n.entry)))
     (groups_raised e s.entries gs (record { entry = n.entry; vector = p.vector; groups = p.groups; level = l.1 }))
 
-raised_known : (e : Entry) (fs : List Fragment) (p : ℕ) → is_normal fs ≡ true → known (all_raised e fs) p ≡ joined (known fs p) (e ∷ [])
+pub raised_known : (e : Entry) (fs : List Fragment) (p : ℕ) → is_normal fs ≡ true → known (all_raised e fs) p ≡ joined (known fs p) (e ∷ [])
 raised_known e [] p h = absurd (false≢true h)
 raised_known e (s ∷ gs) p h = known_raised e s gs p
 
-raised_index : (e : Entry) (fs : List Fragment) (xs : List (ℕ × ℕ)) → is_normal fs ≡ true → IsIndex xs fs → IsIndex xs (all_raised e fs)
+pub raised_index : (e : Entry) (fs : List Fragment) (xs : List (ℕ × ℕ)) → is_normal fs ≡ true → IsIndex xs fs → IsIndex xs (all_raised e fs)
 raised_index e fs xs h i = record {
   order = i.order;
   positive = i.positive;

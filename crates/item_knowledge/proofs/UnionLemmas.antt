@@ -36,7 +36,7 @@ above fs xs k h l =
     let a = above_at (star_of fs) fs k h.above l in
     record { star = (above_at (star_of fs) fs 0 h.above h.star).0; vector = a.0; above = a.1 }
 
-groups_above : (star : List Entry) (gs : List Fragment) → are_groups star gs ≡ true → list_all (λ (f : Fragment). is_above star f) gs ≡ true
+pub groups_above : (star : List Entry) (gs : List Fragment) → are_groups star gs ≡ true → list_all (λ (f : Fragment). is_above star f) gs ≡ true
 groups_above star [] h = refl
 groups_above star (g ∷ gs) h =
     let p = groups_parts star g gs h in

@@ -11,7 +11,7 @@ use photo_record::PicNo;
 use photo_version::{Vector, Version};
 use std::alloc::{AllocError, Global};
 use std::marker::Model;
-use std::mem::replace;
+use std::mem::{replace, swap};
 
 // What is staged.
 #[derive(Debug, Drop)]
@@ -35,7 +35,7 @@ pub struct Knowledge {
     alloc: Global,
     live: LiveRows,
     index: Vec<IndexEntry>,
-    spare: Rows,
+    spare: LiveRows,
     staged: Staged,
 }
 
@@ -81,7 +81,7 @@ impl Knowledge {
             alloc,
             live: LiveRows::new(star),
             index: Vec::new(alloc),
-            spare: Rows::new(alloc),
+            spare: LiveRows::new(Rows::new(alloc)),
             staged: Staged::Nothing,
         })
     }
@@ -233,7 +233,7 @@ impl Knowledge {
     {
         if let Staged::Spare(index) = replace(&mut self.staged, Staged::Nothing) {
             self.index = index;
-            self.live.swap(&mut self.spare);
+            swap(&mut self.live, &mut self.spare);
             self.spare.clear();
         }
     }
@@ -380,7 +380,7 @@ impl Knowledge {
             alloc: self.alloc,
             live: LiveRows::new(rows),
             index,
-            spare: Rows::new(self.alloc),
+            spare: LiveRows::new(Rows::new(self.alloc)),
             staged: Staged::Nothing,
         })
     }

@@ -1,21 +1,23 @@
-ghost use Rattle.std.specs.Prelude.{◌≡◌, None};
+ghost use Rattle.std.specs.Prelude.{◌≡◌, ℕ, ◌<◌, true, length, None};
+ghost use Rattle.item_knowledge.specs.Fragments.{entries_at};
 ghost use Rattle.item_knowledge.specs.Late as spec;
+ghost use Rattle.item_knowledge.specs.Rows.{AreRows, fragments_of};
+ghost use Rattle.item_knowledge.specs.Tables.{in_order};
 
 use crate::Fragment;
 use crate::index::IndexEntry;
-use crate::raise::raise;
+use crate::raise::{are_level, raise};
 use crate::rows::Rows;
 use crate::search::{bound_at, is_leq};
 use crate::union::{entries, union};
 use std::alloc::{AllocError, Global};
 use std::marker::Model;
-use std::mem::swap;
 
 /// An author's word, and up to which number its versions are known.
 pub(crate) type Entry = (u64, u64);
 
 /// The rows of what is known. An author whose bound rises in all of them may have it beside the rows at first: a device's
-/// own rises with each version that it makes, and the next union writes each row anew.
+/// own rises with each version that it makes. It stays there over unions whose other side has no more of it than the rows.
 #[derive(Debug, Drop)]
 pub(crate) struct LiveRows {
     rows: Rows,
@@ -38,12 +40,13 @@ impl Model for LiveRows {
 }
 
 impl LiveRows {
-    ghost use Rattle.std.specs.Prelude.{◌≡◌, ◌<◌, true, nat_le, length, get_or, IfOk, OnOk, IfSome};
+    ghost use Rattle.std.specs.Prelude.{◌≡◌, ◌<◌, true, nat_le, [], length, get_or, IfOk, OnOk, IfSome};
     ghost use Rattle.item_knowledge.specs.Tables.{in_order};
     ghost use Rattle.item_knowledge.specs.Entries.{bound, leq, is_vector};
     ghost use Rattle.item_knowledge.specs.Fragments.{entries_at, nothing, is_normal};
     ghost use Rattle.item_knowledge.specs.Gathering.{IsSide, IsIndex, IsUnion};
-    ghost use Rattle.item_knowledge.specs.Raising.{all_raised, are_risen};
+    ghost use Rattle.item_knowledge.specs.Late.{IsWaiting};
+    ghost use Rattle.item_knowledge.specs.Raising.{all_raised};
     ghost use Rattle.item_knowledge.specs.Rows.{AreRows, fragments_of, rows_of};
 
     /// Rows in which each bound stands.
@@ -134,7 +137,7 @@ impl LiveRows {
     /// as one author's is raised again and again.
     pub(crate) fn raise(&mut self, author: u64, n: u64)
         requires rows { AreRows self.old }
-        requires risen { are_risen (author, n) (fragments_of self.old) ≡ true }
+        requires waiting { IsWaiting (author, n) (fragments_of self.old) }
         ensures { self.new ≡ rows_of (all_raised (author, n) (fragments_of self.old)) }
     {
         if late_of(self.late, author).is_none() {
@@ -160,22 +163,23 @@ impl LiveRows {
         Some(&self.rows)
     }
 
-    /// Takes the rows of another list, in which each bound stands, for those that were here.
-    pub(crate) fn swap(&mut self, others: &mut Rows)
-        ensures { self.new ≡ others.old }
+    /// No rows any more. The largest block stays, for the rows to come; no word of those that stood is kept.
+    pub(crate) fn clear(&mut self)
+        ensures { self.new ≡ [] }
     {
+        self.rows.clear();
         self.late = None;
-        swap(&mut self.rows, others);
     }
 
-    /// Writes the normal form of what either side denotes, and gives its index. What is shown here stays.
+    /// Writes the normal form of what either side denotes, and gives its index. What is shown here stays. A bound that is still
+    /// to be raised waits beside what is written, where the other side has no more of its author than the star in the rows.
     pub(crate) fn union(
         &mut self,
         alloc: Global,
         index: &[IndexEntry],
         others: &Rows,
         others_index: &[IndexEntry],
-        out: &mut Rows,
+        out: &mut LiveRows,
     ) -> Result<Vec<IndexEntry>, AllocError>
         requires rows { AreRows self.old }
         requires others { AreRows others.now }
@@ -188,8 +192,18 @@ impl LiveRows {
         ensures union { IfOk result (λ written. IsUnion (fragments_of self.old) index.now (fragments_of others.now) others_index.now
             (fragments_of out.new) written.items) }
     {
-        settle(&mut self.rows, &mut self.late);
-        union(alloc, &self.rows, index, others, others_index, out)
+        settle_for(&mut self.rows, &mut self.late, others);
+        out.late = None;
+        let written = union(
+            alloc,
+            &self.rows,
+            index,
+            others,
+            others_index,
+            &mut out.rows,
+        )?;
+        out.late = self.late;
+        Ok(written)
     }
 
     /// A copy of the rows, in which each bound stands.
@@ -213,6 +227,25 @@ pub(crate) fn late_of(late: Option<Entry>, author: u64) -> Option<u64>
         }
     }
     None
+}
+
+// Raises in each row the bound that is still to be raised, unless it may wait beside the union with other rows as well. Takes
+// no memory.
+fn settle_for(rows: &mut Rows, late: &mut Option<Entry>, others: &Rows)
+    requires late { spec.IsLate late.old rows.old }
+    requires others { AreRows others.now }
+    requires order { (k : ℕ) → k < length (fragments_of others.now) → in_order (entries_at (fragments_of others.now) k) ≡ true }
+    ensures late { spec.IsLate late.new rows.new }
+    ensures shown { spec.shown late.new rows.new ≡ spec.shown late.old rows.old }
+    ensures untouching { spec.AreUntouching late.new rows.new (fragments_of others.now) }
+{
+    let Some((author, _)) = *late else {
+        return;
+    };
+    let bound = bound_at(entries(rows, 0), author);
+    if !are_level(others, author, bound) {
+        settle(rows, late);
+    }
 }
 
 // Raises in each row the bound that is still to be raised. Takes no memory.

@@ -130,6 +130,24 @@ fn a_bound_that_rose_stays_where_more_is_learned(rt: HostRuntime) -> Result<(), 
     Ok(())
 }
 
+// Of picture 9 the second of the versions is learned that were raised, of which the rows have the first alone.
+fn learn_own_of_nine(alloc: Global, knowledge: &mut Knowledge) -> Result<(), Fail> {
+    let second = Vector::new(alloc).with(version(0, 2))?;
+    knowledge.learn(picture(9)?, &second)?;
+    Ok(())
+}
+
+// No clause tells of it, since what is known is the same.
+#[test]
+fn a_bound_waits_until_others_have_more_of_it(rt: HostRuntime) -> Result<(), Fail> {
+    let mut knowledge = risen(rt.alloc())?;
+    learn_other(rt.alloc(), &mut knowledge)?;
+    assert!(rt; !knowledge.has_settled() && shows(&knowledge, 3, 1));
+    learn_own_of_nine(rt.alloc(), &mut knowledge)?;
+    assert!(rt; knowledge.has_settled() && shows(&knowledge, 3, 1) && has(&knowledge, 9, 3)?);
+    Ok(())
+}
+
 // Two authors' bounds rise in turn: the one that rose first stands in the rows then.
 #[test]
 fn two_authors_bounds_rise(rt: HostRuntime) -> Result<(), Fail> {
