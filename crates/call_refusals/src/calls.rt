@@ -1,12 +1,9 @@
 //! Calls by their names.
-use crate::verdict::Verdict;
-use crate::{
-    arenas, devices, filters, fleets, knowledges, ledgers, lists, plans, pulls, records, runs,
-    scripts, streams, vectors,
-};
+use crate::{devices, fleets, plans, pulls, runs, scripts, streams};
 use std::alloc::Global;
 use std::sync::Wait;
 use std::thread::Threads;
+use value_refusals::{Verdict, verdict_on};
 
 /// What came of the call that a line names. None where it names none, or where the values for it can't be made.
 pub fn of_line<R: Threads + Wait + Copy + Send + 'static>(
@@ -30,27 +27,7 @@ fn of_scripts(alloc: Global, library: &str, call: &str) -> Option<Verdict> {
         "photo_pull" if call == "pull" => pulls::verdict(alloc, pulls::Call::Pull),
         "photo_script" => scripts::verdict(alloc, call),
         "photo_batcher" => plans::verdict(alloc, call),
-        "work_ledger" => ledgers::verdict(alloc, call),
         "photo_device" => devices::verdict(alloc, call),
-        _ => of_values(alloc, library, call),
-    }
-}
-
-fn of_values(alloc: Global, library: &str, call: &str) -> Option<Verdict> {
-    match library {
-        "photo_record" => records::verdict(alloc, call),
-        "photo_filter_text" => filters::verdict_on_texts(alloc, call),
-        "photo_filter_rules" => filters::verdict_on_rules(alloc, call),
-        "photo_version" => vectors::verdict(alloc, call),
-        _ => of_lists(alloc, library, call),
-    }
-}
-
-fn of_lists(alloc: Global, library: &str, call: &str) -> Option<Verdict> {
-    match library {
-        "fragment_arena" => arenas::verdict(alloc, call),
-        "item_knowledge" => knowledges::verdict(alloc, call),
-        "block_list" => lists::verdict(alloc, call),
-        _ => None,
+        _ => verdict_on(alloc, library, call),
     }
 }

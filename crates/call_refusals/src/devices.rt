@@ -4,12 +4,8 @@ ghost use Rattle.photo_version.specs.Version as versions;
 ghost use Rattle.photo_version.specs.Vector.{denotes};
 ghost use Rattle.item_knowledge.specs.Fragments.{knows};
 
-use crate::filters::{filter_of, same_filter};
 use crate::fleets::divided;
-use crate::knowledges::told;
-use crate::records::rated;
 use crate::runs::runs_command;
-use crate::verdict::{Verdict, judged, mark};
 use item_knowledge::Knowledge;
 use photo_device::{
     Change, ChangeFault, Device, Held, HeldSet, NarrowFault, Place, SharedHeld, SharedList,
@@ -19,6 +15,7 @@ use photo_filter_rules::Filter;
 use photo_record::{PicNo, Record};
 use photo_version::{Author, Version};
 use std::alloc::{AllocError, Global};
+use value_refusals::{Verdict, filter_of, judged, mark, rated, same_filter, told};
 
 /// What came of a call of `photo_device`.
 pub fn verdict(alloc: Global, call: &str) -> Option<Verdict> {

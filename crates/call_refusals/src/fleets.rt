@@ -1,9 +1,6 @@
 ghost use Rattle.std.specs.Prelude.{◌≡◌, ◌+◌, ◌≤◌, length, IfSome};
 
 use crate::devices::same_devices;
-use crate::filters::filter_of;
-use crate::records::rated;
-use crate::verdict::{Verdict, judged, mark};
 use live_fleet::Fleet;
 use photo_device::Place;
 use photo_pull::PullCounts;
@@ -11,6 +8,7 @@ use photo_record::{PicNo, Record};
 use photo_script::{Command, Report};
 use photo_version::Version;
 use std::alloc::Global;
+use value_refusals::{Verdict, filter_of, judged, mark, rated};
 
 /// What came of a call of `live_fleet`.
 pub fn verdict(alloc: Global, call: &str) -> Option<Verdict> {

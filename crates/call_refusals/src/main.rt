@@ -3,29 +3,22 @@
 //! memory of each call in turn.
 #![tactic(auto)]
 
-mod arenas;
 mod calls;
 mod devices;
-mod filters;
 mod fleets;
-mod knowledges;
-mod ledgers;
-mod lists;
 mod plans;
 mod pulls;
-mod records;
 mod runs;
 mod scripts;
 mod streams;
-mod vectors;
-mod verdict;
 
 use std::io;
+use value_refusals::word_of;
 
 fn main(rt: HostRuntime) -> io::Result<()> {
     for line in rt.lines(rt.alloc()) {
         let line = line?;
-        let said = verdict::word_of(calls::of_line(rt, rt.alloc(), line.as_str()));
+        let said = word_of(calls::of_line(rt, rt.alloc(), line.as_str()));
         println!(rt; "{line}: {said}")?;
     }
     Ok(())

@@ -1,10 +1,10 @@
 ghost use Rattle.std.specs.Prelude.{◌≡◌, ◌≤◌, ◌<◌, length};
 
 use crate::scripts::{FOUR_DEVICES, is_four, script_of};
-use crate::verdict::{Verdict, judged, mark};
 use photo_batcher::{Plan, lawful, plan};
 use photo_script::Script;
 use std::alloc::Global;
+use value_refusals::{Verdict, judged, mark};
 
 /// An order that gives the run of the script of four devices.
 pub const LAWFUL: &[u32] = &[2, 1, 4, 3, 6, 5, 7];

@@ -3,12 +3,12 @@ ghost use Rattle.std.specs.List.{list_all};
 ghost use Rattle.fleet_steps.specs.Between.{AreReady, HaveRoom, MayPull};
 
 use crate::devices::same_devices;
-use crate::verdict::{Verdict, judged, mark};
 use fleet_steps::{run_on, run_plain, run_pull};
 use photo_device::Device;
 use photo_pull::{PullCounts, pull};
 use photo_script::{Command, Report, read_script};
 use std::alloc::Global;
+use value_refusals::{Verdict, judged, mark};
 
 /// What came of a pull.
 pub fn verdict(alloc: Global, call: Call) -> Option<Verdict> {

@@ -1,8 +1,6 @@
 use crate::devices::{device, has_made, same_devices};
 use crate::plans::LAWFUL;
-use crate::records::rated;
 use crate::scripts::{FOUR_DEVICES, is_four, script_of};
-use crate::verdict::{Verdict, judged, mark};
 use crate::{devices, pulls};
 use fleet_steps::{IssueLog, Outcome, RunError, opening_devices, replay, run_command, run_plain};
 use photo_device::{Device, Held, Place};
@@ -10,6 +8,7 @@ use photo_pull::PullCounts;
 use photo_record::PicNo;
 use photo_script::{Command, Report, Script, Totals};
 use std::alloc::Global;
+use value_refusals::{Verdict, judged, mark, rated};
 
 /// What came of a call of `fleet_steps`.
 pub fn verdict(alloc: Global, call: &str) -> Option<Verdict> {

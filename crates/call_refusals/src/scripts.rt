@@ -1,7 +1,7 @@
 use crate::pulls::COUNTS;
-use crate::verdict::{Verdict, judged, mark};
 use photo_script::{Report, Script, ScriptFault, push_report, read_script, report_text};
 use std::alloc::Global;
+use value_refusals::{Verdict, judged, mark};
 
 /// What came of a call of `photo_script`.
 pub fn verdict(alloc: Global, call: &str) -> Option<Verdict> {

@@ -2,7 +2,6 @@ use crate::plans::{four_planned, is_planned};
 use crate::pulls::COUNTS;
 use crate::runs::is_run;
 use crate::scripts::{FOUR_DEVICES, is_four, script_of};
-use crate::verdict::{Verdict, judged, mark};
 use fleet_runner::{
     OpenGate, RunError, Workers, plain_stream, read_source, run_fleet, run_stream, write_plan,
     write_reports,
@@ -12,6 +11,7 @@ use photo_script::{Report, Script, ScriptFault};
 use std::alloc::Global;
 use std::sync::{Arc, Wait};
 use std::thread::Threads;
+use value_refusals::{Verdict, judged, mark};
 
 /// What came of a call of `fleet_runner` that waits for nobody.
 pub fn verdict(alloc: Global, call: &str) -> Option<Verdict> {

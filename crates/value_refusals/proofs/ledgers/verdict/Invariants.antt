@@ -1,5 +1,5 @@
 use Rattle.work_ledger.specs.Stakes.{tally}
-use Rattle.call_refusals.proofs.ledgers.verdict.Given as goal
+use Rattle.value_refusals.proofs.ledgers.verdict.Given as goal
 
 abbrev pub ghosts-opens-B-Names : goal.ghosts-opens-B-Names
 ghosts-opens-B-Names a = record { names = a.blanks }

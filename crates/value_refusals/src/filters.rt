@@ -85,7 +85,7 @@ fn build(alloc: Global) -> Option<Verdict> {
     })
 }
 
-/// The filter of a text.
+/// The filter of a text. None where it has none, or where memory is wanted.
 pub fn filter_of(alloc: Global, text: &str) -> Option<Filter> {
     let tree = read(alloc, text).ok()?;
     Filter::build(alloc, tree).ok()

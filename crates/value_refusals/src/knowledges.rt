@@ -83,7 +83,7 @@ fn knows(knowledge: &Knowledge, picture: u32, n: u32) -> bool {
     }
 }
 
-/// What knows of a picture device 1's first `n` versions, and nothing else.
+/// What knows of a picture device 1's first `n` versions, and no more. None where a number is out of range, or memory is wanted.
 pub fn told(alloc: Global, picture: u32, n: u32) -> Option<Knowledge>
     ensures { IfSome result (λ knowledge. (p : ℕ) (v : versions.Version) → 0 < p
         → knows knowledge.known p v ≡ ((picture == p) && denotes ((author 1, n) ∷ []) v)) }

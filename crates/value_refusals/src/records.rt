@@ -67,7 +67,7 @@ fn copies_words(alloc: Global, words: &Words) -> Option<bool> {
     Some(has_three(&copy.ok()?))
 }
 
-/// A record of that rating, with three words.
+/// A record of that rating, with three words. None where the rating is out of range, or memory is wanted.
 pub fn rated(alloc: Global, rating: u8) -> Option<Record> {
     Some(Record::Picture {
         rating: Rating::new(rating)?,
