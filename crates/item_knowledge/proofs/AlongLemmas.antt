@@ -1,7 +1,7 @@
 -- Two lists in order, gone along at once.
 use Rattle.std.proofs.Common.{◌≡◌, ℕ, zero, suc, ◌+◌, ◌<◌, ◌≤◌, Bool, true, false, leb, ltb, ◌&&◌, List, [], ◌∷◌, length, get_or, drop, refl, sym, subst, ap, ◌∙◌, arith}
 use Rattle.std.proofs.lemmas.List.{drop_all}
-use Rattle.std.specs.List.{list_all}
+use Rattle.std.specs.List.{list_any, list_all}
 use Rattle.std.proofs.lemmas.Bool.{and_parts, and_from, lt-ltb, ltb-true, eq-eqb, ne_eqb, le-leb, lt-leb}
 use Rattle.item_knowledge.specs.Tables.{keys_pass, in_order, at}
 use Rattle.item_knowledge.specs.Entries.{Entry, is_vector, bound, leq}
@@ -171,6 +171,15 @@ all_none t xs i d b l h g = sym g ∙ (ap (list_all t) (drop_next xs i d l) ∙ 
 
 pub all_end : {X : Type 0} (t : X → Bool) (xs : List X) (i : ℕ) (b : Bool) → length xs ≤ i → list_all t (drop i xs) ≡ b → b ≡ true
 all_end t xs i b l g = sym g ∙ ap (list_all t) (drop_all i xs l)
+
+pub any_more : {X : Type 0} (t : X → Bool) (xs : List X) (i : ℕ) (d : X) (b : Bool) → i < length xs → t (get_or xs i d) ≡ false → list_any t (drop i xs) ≡ b → list_any t (drop (i + 1) xs) ≡ b
+any_more t xs i d b l h g = sym (ap (list_any t) (drop_next xs i d l) ∙ rw h refl) ∙ g
+
+pub any_found : {X : Type 0} (t : X → Bool) (xs : List X) (i : ℕ) (d : X) (b : Bool) → i < length xs → t (get_or xs i d) ≡ true → list_any t (drop i xs) ≡ b → b ≡ true
+any_found t xs i d b l h g = sym g ∙ (ap (list_any t) (drop_next xs i d l) ∙ rw h refl)
+
+pub any_end : {X : Type 0} (t : X → Bool) (xs : List X) (i : ℕ) (b : Bool) → length xs ≤ i → list_any t (drop i xs) ≡ b → b ≡ false
+any_end t xs i b l g = sym g ∙ ap (list_any t) (drop_all i xs l)
 
 -- the vectors of two sides, along both indexes
 

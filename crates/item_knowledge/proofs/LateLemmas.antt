@@ -5,12 +5,14 @@ use Rattle.std.proofs.lemmas.Bool.{and_parts, and_from, lt-ltb, false≢true, lt
 use Rattle.std.proofs.lemmas.Option.{none-some, cond_some}
 use Rattle.std.proofs.Math.Nat.{max-zero, zero-max}
 use Rattle.item_knowledge.specs.Tables.{keys_pass, in_order}
-use Rattle.item_knowledge.specs.Entries.{Entry, is_vector, bound, joined}
+use Rattle.item_knowledge.specs.Entries.{Entry, is_vector, bound, leq, joined}
 use Rattle.item_knowledge.specs.Fragments.{Fragment, entries_at, nothing}
 use Rattle.item_knowledge.specs.Late.{late_entries, late_of, shown, IsWaiting, IsLate}
 use Rattle.item_knowledge.specs.Raising.{raised, all_raised, is_risen, are_risen}
 use Rattle.item_knowledge.specs.Rows.{AreRows, fragments_of, rows_of}
 use Rattle.item_knowledge.proofs.EntryLemmas.{entry_of, EntryParts}
+use Rattle.item_knowledge.proofs.FragmentLemmas.{leq_at}
+use Rattle.item_knowledge.proofs.JoinLemmas.{leq_from}
 use Rattle.item_knowledge.proofs.PutLemmas.{joined_none, risen_at}
 use Rattle.item_knowledge.proofs.RaiseLemmas.{length_raised, entries_raised}
 use Rattle.item_knowledge.proofs.RowLemmas.{fragments_rows, rows_read}
@@ -120,6 +122,23 @@ raw_below None es a m h is = absurd (none-some m is)
 raw_below (Some e) es a m h is =
     let p = cond_some (eqb e.0 a) e.1 m is in
     subst (λ k. bound es a ≤ k) p.1 (subst (λ k. bound es k ≤ e.1) (eqb-true e.0 a p.0) h.most)
+
+late_above : (late : Option Entry) (es : List Entry) (a : ℕ) → IsRisenAt late es → bound es a ≤ bound (late_entries late es) a
+late_above late es a h = by (late_of late a) refl
+  where
+    by : (o : Option ℕ) → late_of late a ≡ o → bound es a ≤ bound (late_entries late es) a
+    by None is = let same = bound_stays late es a h is in omega arith
+    by (Some m) is =
+        let now = bound_late late es a m h is in
+        let low = raw_below late es a m h is in
+        omega arith
+
+-- what is within the rows is within what is shown
+pub leq_late : (late : Option Entry) (xs es : List Entry) → is_vector xs ≡ true → IsRisenAt late es → leq xs es ≡ true → leq xs (late_entries late es) ≡ true
+leq_late late xs es vector h less = leq_from xs (late_entries late es) vector (λ a.
+    let raw = leq_at xs es a less in
+    let above = late_above late es a h in
+    omega arith)
 
 -- whether a bound reaches a number that the star's doesn't
 pub bound_beyond : (late : Option Entry) (star es : List Entry) (a n : ℕ) → IsRisenAt late star → IsRisenAt late es → bound (late_entries late star) a < n → leb n (bound (late_entries late es) a) ≡ leb n (bound es a)

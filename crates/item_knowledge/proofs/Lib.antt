@@ -25,6 +25,7 @@ pub mod PutLemmas
 pub mod LateLemmas
 pub mod NextLemmas
 pub mod WaitingLemmas
+pub mod TopLemmas
 pub mod NormalLemmas
 pub mod CarryLemmas
 pub mod AloneLemmas

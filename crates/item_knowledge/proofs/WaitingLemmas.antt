@@ -27,7 +27,7 @@ waiting_next e fs h = record { entry = h.entry; level = h.level }
 
 -- What is level
 
-level_at : (fs : List Fragment) (k a b : ℕ) → are_level fs a b ≡ true → k < length fs → bound (entries_at fs k) a ≤ b
+pub level_at : (fs : List Fragment) (k a b : ℕ) → are_level fs a b ≡ true → k < length fs → bound (entries_at fs k) a ≤ b
 level_at [] k a b h l = absurd (omega arith)
 level_at (f ∷ fs) zero a b h l = leb-true (bound f.entries a) b (and_parts (leb (bound f.entries a) b) (are_level fs a b) h).0
 level_at (f ∷ fs) (suc k) a b h l = level_at fs k a b (and_parts (leb (bound f.entries a) b) (are_level fs a b) h).1 (omega arith)

@@ -3,7 +3,11 @@ use Rattle.std.specs.Prelude.{◌≡◌, ℕ, true, false, List, [], ◌∷◌, 
 use Rattle.photo_version.specs.Version.{Version}
 use Rattle.item_knowledge.specs.Entries.{Entry, joined}
 use Rattle.item_knowledge.specs.Fragments.{Fragment, knows, is_normal, known}
+use Rattle.item_knowledge.specs.Late.{shown}
+use Rattle.item_knowledge.specs.Raising.{are_level}
+use Rattle.item_knowledge.specs.Rows.{rows_of}
 use Rattle.item_knowledge.specs.Staged.{IsStagedUnion}
+use Rattle.item_knowledge.specs.Tops.{has_beyond}
 
 abbrev of : List ℕ → List Entry → Fragment
 of pictures entries = record { pictures = pictures; entries = entries }
@@ -74,3 +78,17 @@ pub record TheStaged : Type 0 where
   pub of_all : IsStagedUnion (Some (of [] ((0, 1) ∷ (1, 1) ∷ []) ∷ [])) of_every other → ⊥
   -- a second version of device 0 is staged
   pub too_late : IsStagedUnion (Some (of [] ((0, 2) ∷ []) ∷ of (8 ∷ []) ((0, 2) ∷ (1, 1) ∷ []) ∷ [])) of_every other → ⊥
+
+-- whether a row goes further than the top and the star
+pub record TheTops : Type 0 where
+  pub further : has_beyond ((0, 5) ∷ []) ((0, 4) ∷ []) ((0, 3) ∷ []) ≡ true
+  pub as_far : has_beyond ((0, 4) ∷ []) ((0, 4) ∷ []) [] ≡ false
+  pub as_the_star : has_beyond ((0, 4) ∷ []) [] ((0, 4) ∷ []) ≡ false
+  pub of_another : has_beyond ((0, 4) ∷ (1, 1) ∷ []) ((0, 9) ∷ []) [] ≡ true
+
+-- a bound of device 0 that waits beside rows
+pub record TheWaiting : Type 0 where
+  pub level : are_level both 0 1 ≡ true
+  pub not_level : are_level both 1 0 ≡ false
+  pub is_shown : shown (Some (0, 3)) (rows_of both) ≡ rows_of (of [] ((0, 3) ∷ []) ∷ of (8 ∷ []) ((0, 3) ∷ (1, 1) ∷ []) ∷ [])
+  pub none_waits : shown None (rows_of both) ≡ rows_of both

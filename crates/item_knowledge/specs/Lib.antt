@@ -5,6 +5,7 @@ pub mod Rows
 pub mod Gathering
 pub mod Raising
 pub mod Places
+pub mod Tops
 pub mod Kept
 pub mod Late
 pub mod Staged

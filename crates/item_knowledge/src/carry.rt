@@ -9,13 +9,14 @@ ghost use Rattle.item_knowledge.specs.Gathering.{IsSide, IsIndex, pair_vector, g
 ghost use Rattle.item_knowledge.specs.Places.{IsFound};
 ghost use Rattle.item_knowledge.specs.Rows.{pairs, IsRow, AreRows, fragments_of, rows_of, vectors_in};
 ghost use Rattle.item_knowledge.specs.Tables.{in_order};
+ghost use Rattle.item_knowledge.specs.Tops.{IsTop, AreNew};
 
 use crate::gather::same_row;
 use crate::index::{IndexEntry, to_u32};
 use crate::pairing::{Pairing, pictures_together};
 use crate::places::Places;
 use crate::rows::Rows;
-use crate::search::{is_leq, number_near};
+use crate::search::{has_beyond, is_leq, number_near};
 use crate::union::{begin, entries, pair};
 use std::alloc::{AllocError, Global};
 
@@ -71,11 +72,20 @@ fn adds_nothing(left: &Rows, right: &Rows, a: usize, b: usize) -> bool
 }
 
 // Whether the row of the left's fragment `a` stays as it is: it lies behind those that came, the right's `b` has nothing beyond
-// it, and no changed row equals it.
-fn stays(left: &Rows, right: &Rows, changed: &Places, last: usize, a: usize, b: usize) -> bool
+// it, and no changed row equals it, which need not be asked where all of them are new.
+fn stays(
+    left: &Rows,
+    right: &Rows,
+    changed: &Places,
+    all_new: bool,
+    last: usize,
+    a: usize,
+    b: usize,
+) -> bool
     requires left { AreRows left.now }
     requires right { AreRows right.now }
     requires changed { IsFound changed.now }
+    requires new { all_new ≡ true → AreNew left.now (vectors_in changed.now.rows) }
     requires a { a < length (fragments_of left.now) }
     requires b { b < length (fragments_of right.now) }
     requires order { in_order (entries_at (fragments_of left.now) a) ≡ true }
@@ -87,6 +97,9 @@ fn stays(left: &Rows, right: &Rows, changed: &Places, last: usize, a: usize, b: 
     }
     if !adds_nothing(left, right, a, b) {
         return false;
+    }
+    if all_new {
+        return true;
     }
     let row = entries(left, a);
     let bucket = changed.bucket(row);
@@ -160,6 +173,7 @@ fn carry(
     right_index: &[IndexEntry],
     star: &[u64],
     changed: &Places,
+    all_new: bool,
     room: &mut Vec<u64>,
     index: &mut Vec<IndexEntry>,
     out: &mut Rows,
@@ -174,6 +188,7 @@ fn carry(
     requires star { pairs star.now ≡ pair_vector (fragments_of left.now) (fragments_of right.now) (0, 0) }
     requires left_star { pairs star.now ≡ entries_at (fragments_of left.now) 0 }
     requires changed { IsFound changed.now }
+    requires new { all_new ≡ true → AreNew left.now (vectors_in changed.now.rows) }
     requires index { index.old.items ≡ [] }
     requires out { out.old ≡ [] ∷ star.now ∷ [] }
     ensures rows { IfOk result (λ whole. whole ≡ true → out.new
@@ -189,7 +204,7 @@ fn carry(
     let mut next = 0;
     let mut pairing = Pairing::new();
     while let Some((picture, (a, b))) = pairing.next(left_index, right_index) {
-        if stays(left, right, changed, last, a, b) {
+        if stays(left, right, changed, all_new, last, a, b) {
             from = run_to(left, from, last + 1, a, out)?;
             add_number(picture, index)?;
             last = a;
@@ -222,23 +237,28 @@ fn most_changes(left_count: usize, right_count: usize) -> usize {
 }
 
 // Finds the rows of the union that are not those of the left at the same picture, in the order of their pictures, each
-// once; whether they are so many at most.
+// once; whether all of them are rows that the left has nowhere, for what its bounds say, or none where they are too many.
 fn find_changes(
     left: &Rows,
     left_index: &[IndexEntry],
     right: &Rows,
     right_index: &[IndexEntry],
+    top: &[u64],
     most: usize,
     room: &mut Vec<u64>,
     changed: &mut Places,
-) -> Result<bool, AllocError>
+) -> Result<Option<bool>, AllocError>
     requires left_rows { AreRows left.now }
     requires right_rows { AreRows right.now }
     requires left { IsSide (fragments_of left.now) left_index.now }
     requires right { IsSide (fragments_of right.now) right_index.now }
+    requires top { IsTop top.now left.now }
     requires changed { IsFound changed.old }
-    ensures { OnOk result (IsFound changed.new) }
+    requires none { changed.old.rows ≡ [] }
+    ensures found { OnOk result (IsFound changed.new) }
+    ensures new { IfOk result (λ found. IfSome found (λ all_new. all_new ≡ true → AreNew left.now (vectors_in changed.new.rows))) }
 {
+    let mut all_new = true;
     let mut hint = 0;
     for i in 0..right_index.len() {
         let (picture, number) = right_index[i];
@@ -254,16 +274,18 @@ fn find_changes(
             continue;
         }
         if changed.len() >= most {
-            return Ok(false);
+            return Ok(None);
         }
+        all_new = all_new && has_beyond(row, top, entries(left, 0));
         changed.push(bucket, &[], row)?;
     }
-    Ok(true)
+    Ok(Some(all_new))
 }
 
 // No rows yet, and room for about so many, which have so many words together at most.
 fn no_changes(alloc: Global, count: usize, words: usize) -> Result<Places, AllocError>
-    ensures { IfOk result (λ changed. IsFound changed) }
+    ensures found { IfOk result (λ changed. IsFound changed) }
+    ensures none { IfOk result (λ changed. changed.rows ≡ []) }
 {
     let rows = Rows::with_room(
         alloc,
@@ -284,6 +306,7 @@ pub(crate) fn carried(
     right: &Rows,
     right_index: &[IndexEntry],
     star: &[u64],
+    top: &[u64],
     out: &mut Rows,
 ) -> Result<Option<Vec<IndexEntry>>, AllocError>
     requires left_rows { AreRows left.now }
@@ -292,6 +315,7 @@ pub(crate) fn carried(
     requires right { IsSide (fragments_of right.now) right_index.now }
     requires normal { is_normal (fragments_of left.now) ≡ true }
     requires listed { IsIndex left_index.now (fragments_of left.now) }
+    requires top { IsTop top.now left.now }
     requires star_row { IsRow star.now }
     requires star { pairs star.now ≡ pair_vector (fragments_of left.now) (fragments_of right.now) (0, 0) }
     ensures rows { IfOk result (λ found. IfSome found (λ _. out.new
@@ -310,17 +334,19 @@ pub(crate) fn carried(
     }
     let mut room = Vec::new(alloc);
     let mut changed = no_changes(alloc, most, right.words())?;
-    if !find_changes(
+    let Some(all_new) = find_changes(
         left,
         left_index,
         right,
         right_index,
+        top,
         most,
         &mut room,
         &mut changed,
-    )? {
+    )?
+    else {
         return Ok(None);
-    }
+    };
     let count = pictures_together(left_index, right_index);
     let mut index = Vec::with_capacity(alloc, count)?;
     begin(
@@ -336,6 +362,7 @@ pub(crate) fn carried(
         right_index,
         star,
         &changed,
+        all_new,
         &mut room,
         &mut index,
         out,

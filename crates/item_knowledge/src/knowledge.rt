@@ -3,9 +3,9 @@ use crate::index::IndexEntry;
 use crate::known::has_table;
 use crate::live::LiveRows;
 use crate::raise::is_level;
-use crate::rows::Rows;
 use crate::search::{number_at, number_near};
 use crate::table_rows::{star_alone, told, told_one, vector_of as vector_of_fragment};
+use crate::topped::ToppedRows;
 use crate::union::is_within;
 use photo_record::PicNo;
 use photo_version::{Vector, Version};
@@ -76,12 +76,12 @@ impl Knowledge {
         ensures value { IfOk result (λ k. k ≡ settled nothing_known) }
         ensures nothing { IfOk result (λ k. (p : ℕ) (v : versions.Version) → spec.knows k.known p v ≡ false) }
     {
-        let star = star_alone(alloc, &[], 2)?;
+        let star = star_alone(alloc, &[])?;
         Ok(Knowledge {
             alloc,
             live: LiveRows::new(star),
             index: Vec::new(alloc),
-            spare: LiveRows::new(Rows::new(alloc)),
+            spare: LiveRows::new(ToppedRows::none(alloc)),
             staged: Staged::Nothing,
         })
     }
@@ -161,7 +161,7 @@ impl Knowledge {
     }
 
     // Stages what is known and what a side denotes.
-    fn stage_union(&mut self, rows: &Rows, index: &[IndexEntry]) -> Result<(), AllocError>
+    fn stage_union(&mut self, rows: &ToppedRows, index: &[IndexEntry]) -> Result<(), AllocError>
         requires rows { AreRows rows.now }
         requires side { IsSide (fragments_of rows.now) index.now }
         ensures known { self.new.known ≡ self.old.known }
@@ -196,7 +196,7 @@ impl Knowledge {
             self.stage_union(rows, &other.index)?;
             return Ok(());
         }
-        let rows = other.live.to_rows()?;
+        let rows = other.live.to_rows(self.alloc)?;
         self.stage_union(&rows, &other.index)?;
         Ok(())
     }
@@ -247,7 +247,7 @@ impl Knowledge {
     }
 
     // Learns what a side denotes.
-    fn take_union(&mut self, rows: &Rows, index: &[IndexEntry]) -> Result<(), AllocError>
+    fn take_union(&mut self, rows: &ToppedRows, index: &[IndexEntry]) -> Result<(), AllocError>
         requires rows { AreRows rows.now }
         requires side { IsSide (fragments_of rows.now) index.now }
         ensures star { OnOk result ((a : Author) → star_bound self.new.known a
@@ -347,7 +347,7 @@ impl Knowledge {
             return Ok(());
         }
         self.unstage();
-        let rows = star_alone(self.alloc, &[author, n], 2)?;
+        let rows = star_alone(self.alloc, &[author, n])?;
         self.take_union(&rows, &[])?;
         Ok(())
     }
@@ -374,13 +374,13 @@ impl Knowledge {
     pub fn try_clone(&self) -> Result<Knowledge, AllocError>
         ensures { IfOk result (λ copy. copy ≡ settled self.now.known) }
     {
-        let rows = self.live.to_rows()?;
+        let rows = self.live.to_rows(self.alloc)?;
         let index = self.index.to_vec(self.alloc)?;
         Ok(Knowledge {
             alloc: self.alloc,
             live: LiveRows::new(rows),
             index,
-            spare: LiveRows::new(Rows::new(self.alloc)),
+            spare: LiveRows::new(ToppedRows::none(self.alloc)),
             staged: Staged::Nothing,
         })
     }

@@ -18,6 +18,7 @@ mod raise;
 mod rows;
 mod search;
 mod table_rows;
+mod topped;
 mod union;
 
 pub use fragment::Fragment;

@@ -6,10 +6,8 @@ ghost use Rattle.item_knowledge.specs.Tables.{in_order};
 
 use crate::Fragment;
 use crate::index::IndexEntry;
-use crate::raise::{are_level, raise};
-use crate::rows::Rows;
 use crate::search::{bound_at, is_leq};
-use crate::union::{entries, union};
+use crate::topped::{ToppedRows, topped_union};
 use std::alloc::{AllocError, Global};
 use std::marker::Model;
 
@@ -20,7 +18,7 @@ pub(crate) type Entry = (u64, u64);
 /// own rises with each version that it makes. It stays there over unions whose other side has no more of it than the rows.
 #[derive(Debug, Drop)]
 pub(crate) struct LiveRows {
-    rows: Rows,
+    rows: ToppedRows,
     // Whose bound is still to be raised in each row, and to what.
     late: Option<Entry>,
 }
@@ -50,7 +48,7 @@ impl LiveRows {
     ghost use Rattle.item_knowledge.specs.Rows.{AreRows, fragments_of, rows_of};
 
     /// Rows in which each bound stands.
-    pub(crate) fn new(rows: Rows) -> LiveRows
+    pub(crate) fn new(rows: ToppedRows) -> LiveRows
         ensures { result ≡ rows }
     {
         LiveRows { rows, late: None }
@@ -74,7 +72,7 @@ impl LiveRows {
         if let Some(n) = late_of(self.late, author) {
             return n;
         }
-        bound_at(entries(&self.rows, k), author)
+        bound_at(self.rows.entries(k), author)
     }
 
     /// Whether the fragment of a number has an author's bound of `n` at least, where the star's is smaller.
@@ -86,7 +84,7 @@ impl LiveRows {
         ensures { result ≡ nat_le n (bound (entries_at (fragments_of self.now) k) author) }
     {
         // A bound that is still to be raised is the star's too.
-        n <= bound_at(entries(&self.rows, k), author)
+        n <= bound_at(self.rows.entries(k), author)
     }
 
     /// The fragment of a number. It is lent, and copies nothing.
@@ -98,7 +96,7 @@ impl LiveRows {
     {
         // For its fact alone: the rows are fewer than 2 ^ 63.
         let _count = self.rows.rows();
-        Fragment::new(self.rows.row(2 * k), entries(&self.rows, k), self.late)
+        Fragment::new(self.rows.row(2 * k), self.rows.entries(k), self.late)
     }
 
     // Whether each bound of a fragment is at most that of the fragment of a number here.
@@ -127,8 +125,10 @@ impl LiveRows {
         requires order { in_order (entries_at (fragments_of others.now) l) ≡ true }
         ensures { result ≡ leq (entries_at (fragments_of self.now) k) (entries_at (fragments_of others.now) l) }
     {
-        if let (Some(rows), Some(other_rows)) = (self.settled(), others.settled()) {
-            return is_leq(entries(rows, k), entries(other_rows, l));
+        if let Some(rows) = self.settled() {
+            if is_leq(rows.entries(k), others.rows.entries(l)) {
+                return true;
+            }
         }
         others.has(l, &self.fragment(k))
     }
@@ -154,7 +154,7 @@ impl LiveRows {
     }
 
     /// The rows, where each bound stands in them.
-    pub(crate) fn settled(&self) -> Option<&Rows>
+    pub(crate) fn settled(&self) -> Option<&ToppedRows>
         ensures { IfSome result (λ rows. rows.now ≡ self.now) }
     {
         if self.late.is_some() {
@@ -177,7 +177,7 @@ impl LiveRows {
         &mut self,
         alloc: Global,
         index: &[IndexEntry],
-        others: &Rows,
+        others: &ToppedRows,
         others_index: &[IndexEntry],
         out: &mut LiveRows,
     ) -> Result<Vec<IndexEntry>, AllocError>
@@ -194,7 +194,7 @@ impl LiveRows {
     {
         settle_for(&mut self.rows, &mut self.late, others);
         out.late = None;
-        let written = union(
+        let written = topped_union(
             alloc,
             &self.rows,
             index,
@@ -207,10 +207,10 @@ impl LiveRows {
     }
 
     /// A copy of the rows, in which each bound stands.
-    pub(crate) fn to_rows(&self) -> Result<Rows, AllocError>
+    pub(crate) fn to_rows(&self, alloc: Global) -> Result<ToppedRows, AllocError>
         ensures { IfOk result (λ rows. rows ≡ self.now) }
     {
-        let mut rows = self.rows.try_clone()?;
+        let mut rows = self.rows.try_clone(alloc)?;
         let mut late = self.late;
         settle(&mut rows, &mut late);
         Ok(rows)
@@ -231,10 +231,11 @@ pub(crate) fn late_of(late: Option<Entry>, author: u64) -> Option<u64>
 
 // Raises in each row the bound that is still to be raised, unless it may wait beside the union with other rows as well. Takes
 // no memory.
-fn settle_for(rows: &mut Rows, late: &mut Option<Entry>, others: &Rows)
+fn settle_for(rows: &mut ToppedRows, late: &mut Option<Entry>, others: &ToppedRows)
     requires late { spec.IsLate late.old rows.old }
     requires others { AreRows others.now }
-    requires order { (k : ℕ) → k < length (fragments_of others.now) → in_order (entries_at (fragments_of others.now) k) ≡ true }
+    requires some { 0 < length (fragments_of others.now) }
+    requires star { in_order (entries_at (fragments_of others.now) 0) ≡ true }
     ensures late { spec.IsLate late.new rows.new }
     ensures shown { spec.shown late.new rows.new ≡ spec.shown late.old rows.old }
     ensures untouching { spec.AreUntouching late.new rows.new (fragments_of others.now) }
@@ -242,20 +243,20 @@ fn settle_for(rows: &mut Rows, late: &mut Option<Entry>, others: &Rows)
     let Some((author, _)) = *late else {
         return;
     };
-    let bound = bound_at(entries(rows, 0), author);
-    if !are_level(others, author, bound) {
+    let bound = bound_at(rows.entries(0), author);
+    if !others.are_within(author, bound) {
         settle(rows, late);
     }
 }
 
 // Raises in each row the bound that is still to be raised. Takes no memory.
-fn settle(rows: &mut Rows, late: &mut Option<Entry>)
+fn settle(rows: &mut ToppedRows, late: &mut Option<Entry>)
     requires { spec.IsLate late.old rows.old }
     ensures rows { rows.new ≡ spec.shown late.old rows.old }
     ensures late { late.new ≡ None }
 {
     if let Some((author, n)) = *late {
-        raise(rows, author, n);
+        rows.raise(author, n);
         *late = None;
     }
 }

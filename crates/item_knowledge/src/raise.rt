@@ -7,7 +7,7 @@ ghost use Rattle.item_knowledge.specs.Rows.{AreRows, fragments_of, rows_of};
 
 use crate::live::LiveRows;
 use crate::rows::Rows;
-use crate::search::{bound_at, place_near};
+use crate::search::place_near;
 use crate::union::entries;
 
 /// Whether no fragment has a version of the author above the bound. Takes no memory.
@@ -18,20 +18,6 @@ pub(crate) fn is_level(rows: &LiveRows, author: u64, bound: u64) -> bool
 {
     for k in 0..rows.len() {
         if rows.bound(k, author) > bound {
-            return false;
-        }
-    }
-    true
-}
-
-/// The same of rows in which each bound stands.
-pub(crate) fn are_level(rows: &Rows, author: u64, bound: u64) -> bool
-    requires rows { AreRows rows.now }
-    requires order { (k : ℕ) → k < length (fragments_of rows.now) → in_order (entries_at (fragments_of rows.now) k) ≡ true }
-    ensures { result ≡ spec.are_level (fragments_of rows.now) author bound }
-{
-    for k in 0..rows.rows() / 2 {
-        if bound_at(entries(rows, k), author) > bound {
             return false;
         }
     }

@@ -8,6 +8,7 @@ ghost use Rattle.item_knowledge.specs.TableRows as spec;
 use crate::Fragment;
 use crate::index::{IndexEntry, to_u32};
 use crate::rows::Rows;
+use crate::topped::ToppedRows;
 use photo_record::PicNo;
 use photo_version::Vector;
 use std::alloc::{AllocError, Global};
@@ -54,8 +55,8 @@ fn place_told(
     Ok(())
 }
 
-/// The rows of a star alone, with room for so many rows.
-pub(crate) fn star_alone(alloc: Global, star: &[u64], count: usize) -> Result<Rows, AllocError>
+// A star, and room for so many rows.
+fn star_first(alloc: Global, star: &[u64], count: usize) -> Result<Rows, AllocError>
     ensures { IfOk result (λ rows. rows ≡ [] ∷ star.now ∷ []) }
 {
     let mut rows = Rows::with_room(alloc, count, count.saturating_mul(2))?;
@@ -64,28 +65,40 @@ pub(crate) fn star_alone(alloc: Global, star: &[u64], count: usize) -> Result<Ro
     Ok(rows)
 }
 
+/// The rows of a star alone.
+pub(crate) fn star_alone(alloc: Global, star: &[u64]) -> Result<ToppedRows, AllocError>
+    ensures { IfOk result (λ rows. rows ≡ [] ∷ star.now ∷ []) }
+{
+    let rows = star_first(alloc, star, 2)?;
+    Ok(ToppedRows::of_star(alloc, rows))
+}
+
 /// The rows of what is told of one picture.
-pub(crate) fn told_one(alloc: Global, picture: u32, vector: &Vector) -> Result<Rows, AllocError>
+pub(crate) fn told_one(
+    alloc: Global,
+    picture: u32,
+    vector: &Vector,
+) -> Result<ToppedRows, AllocError>
     ensures rows { IfOk result (λ rows. rows ≡ [] ∷ [] ∷ (picture ∷ []) ∷ flat (spec.entries_of vector.now) ∷ []) }
     ensures vector { OnOk result (is_vector (spec.entries_of vector.now) ≡ true) }
 {
-    let mut rows = star_alone(alloc, &[], 4)?;
+    let mut rows = star_first(alloc, &[], 4)?;
     place_told(&mut rows, picture, vector, &mut Vec::new(alloc))?;
-    Ok(rows)
+    ToppedRows::of_rows(alloc, rows)
 }
 
 /// The rows of what is told of pictures, with their index.
 pub(crate) fn told(
     alloc: Global,
     table: &[(PicNo, Vector)],
-) -> Result<(Rows, Vec<IndexEntry>), AllocError>
+) -> Result<(ToppedRows, Vec<IndexEntry>), AllocError>
     ensures rows { IfOk result (λ all. all.0 ≡ rows_of (spec.told table.now)) }
     ensures index { IfOk result (λ all. all.1.items ≡ spec.numbered 1 table.now) }
     ensures positive { IfOk result (λ all. keys_pass (λ p. nat_lt 0 p) table.now ≡ true) }
     ensures vectors { IfOk result (λ all. list_all (λ t. is_vector (spec.entries_of t.1)) table.now ≡ true) }
 {
     let count = table.len().saturating_mul(2).saturating_add(2);
-    let mut rows = star_alone(alloc, &[], count)?;
+    let mut rows = star_first(alloc, &[], count)?;
     let mut index = Vec::with_capacity(alloc, table.len())?;
     let mut row = Vec::new(alloc);
     for i in 0..table.len() {
@@ -95,5 +108,6 @@ pub(crate) fn told(
         let number = to_u32(i + 1)?;
         index.push((picture, number))?;
     }
-    Ok((rows, index))
+    let topped = ToppedRows::of_rows(alloc, rows)?;
+    Ok((topped, index))
 }

@@ -1,5 +1,8 @@
+use Rattle.std.proofs.Common.{◌≡◌, true}
 use Rattle.item_knowledge.specs.Places.{IsFound}
+use Rattle.item_knowledge.specs.Rows.{vectors_in}
+use Rattle.item_knowledge.specs.Tops.{AreNew}
 use Rattle.item_knowledge.proofs.carry.find_changes.Given as goal
 
 abbrev pub invariant-loop-i : goal.invariant-loop-i
-invariant-loop-i l = record { found : IsFound l.changed }
+invariant-loop-i l = record { found : IsFound l.changed; new : l.all_new ≡ true → AreNew l.left (vectors_in l.changed.rows) }

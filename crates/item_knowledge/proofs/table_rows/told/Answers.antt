@@ -4,6 +4,7 @@ use Rattle.std.proofs.lemmas.Option.{slice_get-get_or}
 use Rattle.item_knowledge.specs.Rows.{flat}
 use Rattle.item_knowledge.specs.TableRows.{entries_of}
 use Rattle.item_knowledge.proofs.TableRowLemmas.{got_drop, none_told, one_told, all_told}
+use Rattle.item_knowledge.proofs.TopLemmas.{told_are_rows, told_are_vectors}
 use Rattle.item_knowledge.proofs.table_rows.told.Goals as goal
 
 pub loop-i-init : goal.loop-i-init
@@ -25,7 +26,7 @@ loop-i-preserved c =
     }
 
 pub returns-clause-rows : goal.returns-clause-rows
-returns-clause-rows c = (all_told c.args.table.now c.loop-i.rows c.loop-i.index.items c.loop-i.i (omega arith) c.loop-i.invariant.told).rows
+returns-clause-rows c = c.in_ok-topped.ensures ∙ (all_told c.args.table.now c.loop-i.rows c.loop-i.index.items c.loop-i.i (omega arith) c.loop-i.invariant.told).rows
 
 pub returns-clause-index : goal.returns-clause-index
 returns-clause-index c = (all_told c.args.table.now c.loop-i.rows c.loop-i.index.items c.loop-i.i (omega arith) c.loop-i.invariant.told).index
@@ -35,3 +36,11 @@ returns-clause-positive c = (all_told c.args.table.now c.loop-i.rows c.loop-i.in
 
 pub returns-clause-vectors : goal.returns-clause-vectors
 returns-clause-vectors c = (all_told c.args.table.now c.loop-i.rows c.loop-i.index.items c.loop-i.i (omega arith) c.loop-i.invariant.told).vectors
+
+pub of_rows-requires-clause-rows : goal.of_rows-requires-clause-rows
+of_rows-requires-clause-rows c = told_are_rows c.args.table.now c.loop-i.rows (all_told c.args.table.now c.loop-i.rows c.loop-i.index.items c.loop-i.i (omega arith) c.loop-i.invariant.told).rows
+
+pub of_rows-requires-clause-vectors : goal.of_rows-requires-clause-vectors
+of_rows-requires-clause-vectors c =
+    let all = all_told c.args.table.now c.loop-i.rows c.loop-i.index.items c.loop-i.i (omega arith) c.loop-i.invariant.told in
+    told_are_vectors c.args.table.now c.loop-i.rows all.rows all.vectors

@@ -1,0 +1,252 @@
+-- How far each author's bounds go in rows.
+use Rattle.std.proofs.Common.{◌≡◌, ℕ, zero, suc, ◌+◌, ◌*◌, ◌<◌, ◌≤◌, true, leb, ltb, ◌||◌, max, List, [], ◌∷◌, ◌++◌, length, get_or, map, refl, sym, subst, ap, ◌∙◌, inl, inr, arith}
+use Rattle.std.specs.List.{list_all}
+use Rattle.std.proofs.Math.Nat.{max-zero, zero-max}
+use Rattle.std.proofs.lemmas.Bool.{and_parts, and_from, ltb-true, leb-true, le-leb, cases_Bool, cases_lt, eq-eqb, ne_eqb, false≢true}
+use Rattle.std.proofs.lemmas.List.{get_or_past, get_or_push, get_or_append_left}
+use Rattle.photo_version.specs.Author.{author_of_word}
+use Rattle.photo_version.specs.Vector.{Bound}
+use Rattle.photo_version.specs.Version.{version}
+use Rattle.item_knowledge.specs.Tables.{at, keys_pass, in_order}
+use Rattle.item_knowledge.specs.Entries.{Entry, is_entry, denotes, is_vector, bound, leq, joined}
+use Rattle.item_knowledge.specs.Fragments.{Fragment, nothing, knows, entries_at}
+use Rattle.item_knowledge.specs.Gathering.{vector_of, IsSide, IsUnion}
+use Rattle.item_knowledge.specs.Raising.{are_level, all_raised, are_risen}
+use Rattle.item_knowledge.specs.Rows.{pairs, IsRow, fragments_of, rows_of, AreRows}
+use Rattle.item_knowledge.specs.TableRows.{entries_of, told_one, told}
+use Rattle.item_knowledge.specs.Tops.{is_beyond, has_beyond, IsTop, AreNew}
+use Rattle.item_knowledge.proofs.EntryLemmas.{denotes-bound}
+use Rattle.item_knowledge.proofs.FragmentLemmas.{leq_at}
+use Rattle.item_knowledge.proofs.JoinLemmas.{joined_bound, joined_vector}
+use Rattle.item_knowledge.proofs.NextLemmas.{level_known}
+use Rattle.item_knowledge.proofs.PutLemmas.{risen_at}
+use Rattle.item_knowledge.proofs.RaiseLemmas.{length_raised, entries_raised}
+use Rattle.item_knowledge.proofs.RowLemmas.{pairs_flat, entries_read, fragments_rows, rows_rows}
+use Rattle.item_knowledge.proofs.TableLemmas.{merge_at}
+use Rattle.item_knowledge.proofs.UnionLemmas.{side_vector}
+use Rattle.item_knowledge.proofs.WaitingLemmas.{level_at}
+
+-- A row that goes further is none of those
+
+-- an author below all has no bound
+none_below : (es : List Entry) (a : ℕ) → keys_pass (λ k. ltb a k) es ≡ true → bound es a ≡ 0
+none_below [] a h = refl
+none_below (e ∷ es) a h =
+    let p = and_parts (ltb a e.0) (keys_pass (λ k. ltb a k) es) h in
+    let less = ltb-true a e.0 p.0 in
+    rw (ne_eqb e.0 a (λ s. absurd (omega arith))) (none_below es a p.1)
+
+some_beyond : (es one other : List Entry) → in_order es ≡ true → has_beyond es one other ≡ true → (a : ℕ) × ((bound one a < bound es a) × (bound other a < bound es a))
+some_beyond [] one other order h = absurd (false≢true h)
+some_beyond (e ∷ es) one other order h =
+    let p = and_parts (keys_pass (λ k. ltb e.0 k) es) (in_order es) order in
+    elim (cases_Bool (is_beyond one other e)) [
+      | inl here ↦
+          let both = and_parts (ltb (bound one e.0) e.1) (ltb (bound other e.0) e.1) here in
+          let own : bound (e ∷ es) e.0 ≡ e.1 = rw (eq-eqb e.0 e.0 refl) refl in
+          (e.0, (subst (λ n. bound one e.0 < n) (sym own) (ltb-true (bound one e.0) e.1 both.0), subst (λ n. bound other e.0 < n) (sym own) (ltb-true (bound other e.0) e.1 both.1)))
+      | inr not_here ↦
+          let rest = some_beyond es one other p.1 (rw not_here at h) in
+          let a = rest.0 in
+          let differs : e.0 ≡ a → ⊥ = λ s.
+          let none = none_below es e.0 p.0 in
+          let some = rest.1.0 in
+          let zero_here : bound es a ≡ 0 = subst (λ k. bound es k ≡ 0) s none in
+          absurd (omega arith) in
+          let later : bound (e ∷ es) a ≡ bound es a = rw (ne_eqb e.0 a differs) refl in
+          (a, (subst (λ n. bound one a < n) (sym later) rest.1.0, subst (λ n. bound other a < n) (sym later) rest.1.1))
+    ]
+
+-- a row that goes further than the top and the star is that of no fragment
+pub beyond_differs : (top row : List ℕ) (rows : List (List ℕ)) (k : ℕ) → AreRows rows → IsTop top rows → in_order (entries_at (fragments_of rows) k) ≡ true → k < length (fragments_of rows) → has_beyond (pairs row) (pairs top) (entries_at (fragments_of rows) 0) ≡ true → row ≡ get_or rows (2 * k + 1) [] → ⊥
+beyond_differs top row rows k are h order l beyond is =
+    let fs = fragments_of rows in
+    let same : pairs row ≡ entries_at fs k = ap pairs (is ∙ entries_read rows k are l) ∙ pairs_flat (entries_at fs k) in
+    let some = some_beyond (entries_at fs k) (pairs top) (entries_at fs 0) order (subst (λ es. has_beyond es (pairs top) (entries_at fs 0) ≡ true) same beyond) in
+    let most = h.most k some.0 in
+    let one = some.1.0 in
+    let other = some.1.1 in
+    omega arith
+
+pub none_new : (rows changed : List (List ℕ)) → changed ≡ [] → AreNew rows changed
+none_new rows changed is a l k below same = let none : length changed ≡ 0 = ap (length {A = List ℕ}) is in absurd (omega arith)
+
+pub one_new : (rows changed new : List (List ℕ)) (row : List ℕ) → AreNew rows changed → ((k : ℕ) → k < length (fragments_of rows) → row ≡ get_or rows (2 * k + 1) [] → ⊥) → new ≡ changed ++ row ∷ [] → AreNew rows new
+one_new rows changed new row h other is a l k below same = elim (cases_lt k (length changed)) [
+  | inl earlier ↦ h a l k earlier (sym (get_or_append_left changed (row ∷ []) [] k earlier) ∙ (sym (ap (λ xs. get_or xs k []) is) ∙ same))
+  | inr last ↦
+      let long : length new ≡ length changed + 1 = ap (length {A = List ℕ}) is ∙ length_push changed row in
+      other a l (sym (get_or_push changed row [] k (omega arith)) ∙ (sym (ap (λ xs. get_or xs k []) is) ∙ same))
+]
+  where
+    length_push : (xs : List (List ℕ)) (x : List ℕ) → length (xs ++ x ∷ []) ≡ length xs + 1
+    length_push [] x = refl
+    length_push (y ∷ xs) x = let rest = length_push xs x in omega arith
+
+-- The top of rows
+
+pub vector_order : (es : List Entry) → is_vector es ≡ true → in_order es ≡ true
+vector_order es h = (and_parts (in_order es) (list_all (λ (e : Entry). is_entry e) es) h).0
+
+pub top_order : (top : List ℕ) (rows : List (List ℕ)) → IsTop top rows → in_order (pairs top) ≡ true
+top_order top rows h = vector_order (pairs top) h.vector
+
+none_past : (fs : List Fragment) (k a : ℕ) → length fs ≤ k → bound (entries_at fs k) a ≡ 0
+none_past fs k a l = ap (λ f. bound f.entries a) (get_or_past fs k nothing l)
+
+pub none_top : (top : List ℕ) → IsRow top → is_vector (pairs top) ≡ true → IsTop top []
+none_top top row vector = record { row = row; vector = vector; most = λ k a. let none = none_past [] k a (omega arith) in omega arith }
+
+pub star_top : (rows : List (List ℕ)) → length (fragments_of rows) ≤ 1 → IsTop [] rows
+star_top rows few = record { row = refl; vector = refl; most = by }
+  where
+    by : (k : ℕ) (a : ℕ) → bound (entries_at (fragments_of rows) k) a ≤ max (bound (pairs []) a) (bound (entries_at (fragments_of rows) 0) a)
+    by zero a = omega arith
+    by (suc k) a = let none = none_past (fragments_of rows) (suc k) a (omega arith) in omega arith
+
+-- the same of the first rows
+pub record IsTopTo (top : List ℕ) (rows : List (List ℕ)) (k : ℕ) : Type 0 where
+  pub row : IsRow top
+  pub vector : is_vector (pairs top) ≡ true
+  pub most : (j a : ℕ) → j < k → bound (entries_at (fragments_of rows) j) a ≤ bound (pairs top) a
+
+pub top_none : (top : List ℕ) (rows : List (List ℕ)) → top ≡ [] → IsTopTo top rows 0
+top_none top rows is = record {
+  row = subst IsRow (sym is) refl;
+  vector = subst (λ ws. is_vector (pairs ws) ≡ true) (sym is) refl;
+  most = λ j a l. absurd (omega arith);
+}
+
+pub top_within : (top : List ℕ) (rows : List (List ℕ)) (k : ℕ) → IsTopTo top rows k → leq (entries_at (fragments_of rows) k) (pairs top) ≡ true → IsTopTo top rows (k + 1)
+top_within top rows k h less = record {
+  row = h.row;
+  vector = h.vector;
+  most = λ j a l. elim (cases_lt j k) [
+    | inl earlier ↦ h.most j a earlier
+    | inr last ↦
+        let same : k ≡ j = omega arith in
+        subst (λ i. bound (entries_at (fragments_of rows) i) a ≤ bound (pairs top) a) same (leq_at (entries_at (fragments_of rows) k) (pairs top) a less)
+  ];
+}
+
+pub top_joined : (top new : List ℕ) (rows : List (List ℕ)) (k : ℕ) → IsTopTo top rows k → is_vector (entries_at (fragments_of rows) k) ≡ true → IsRow new → pairs new ≡ joined (pairs top) (entries_at (fragments_of rows) k) → IsTopTo new rows (k + 1)
+top_joined top new rows k h vector row is =
+    let es = entries_at (fragments_of rows) k in
+    record {
+      row = row;
+      vector = ap is_vector is ∙ joined_vector (pairs top) es h.vector vector;
+      most = λ j a l.
+          let both = ap (λ xs. bound xs a) is ∙ joined_bound (pairs top) es a h.vector vector in
+          elim (cases_lt j k) [
+            | inl earlier ↦ let before = h.most j a earlier in omega arith
+            | inr last ↦
+                let same : k ≡ j = omega arith in
+                subst (λ i. bound (entries_at (fragments_of rows) i) a ≤ bound (pairs new) a) same (omega arith)
+          ];
+    }
+
+pub top_whole : (top : List ℕ) (rows : List (List ℕ)) (k : ℕ) → IsTopTo top rows k → length (fragments_of rows) ≤ k → IsTop top rows
+top_whole top rows k h l = record {
+  row = h.row;
+  vector = h.vector;
+  most = λ j a. elim (cases_lt j k) [
+    | inl there ↦ let most = h.most j a there in omega arith
+    | inr past ↦ let none = none_past (fragments_of rows) j a (omega arith) in omega arith
+  ];
+}
+
+pub vector_at : (fs : List Fragment) (k : ℕ) → list_all (λ (f : Fragment). is_vector f.entries) fs ≡ true → k < length fs → is_vector (entries_at fs k) ≡ true
+vector_at [] k h l = absurd (omega arith)
+vector_at (f ∷ fs) zero h l = (and_parts (is_vector f.entries) (list_all (λ (g : Fragment). is_vector g.entries) fs) h).0
+vector_at (f ∷ fs) (suc k) h l = vector_at fs k (and_parts (is_vector f.entries) (list_all (λ (g : Fragment). is_vector g.entries) fs) h).1 (omega arith)
+
+-- The top of a union
+
+most_of : (es : List Entry) (a n : ℕ) → is_vector es ≡ true → denotes es (version (author_of_word a) n) ≡ true → n ≤ bound es a
+most_of es a n vector d =
+    let both = and_parts (leb 1 n) (leb n (bound es a)) (sym (denotes-bound es (version (author_of_word a) n) vector) ∙ d) in
+    leb-true n (bound es a) both.1
+
+pub union_top : (one other top : List ℕ) (left right out : List (List ℕ)) (xs ys zs : List (ℕ × ℕ)) → IsTop one left → IsTop other right → IsRow top → pairs top ≡ joined (pairs one) (pairs other) → IsSide (fragments_of left) xs → IsSide (fragments_of right) ys → IsUnion (fragments_of left) xs (fragments_of right) ys (fragments_of out) zs → IsTop top out
+union_top one other top left right out xs ys zs h g row is f side u = record {
+  row = row;
+  vector = ap is_vector is ∙ joined_vector (pairs one) (pairs other) h.vector g.vector;
+  most = λ k a. elim (cases_lt k (length us)) [
+    | inl there ↦ level_at us k a (most a) (level_known us (author_of_word a) (most a) u.normal (within a)) there
+    | inr past ↦ let none = none_past us k a (omega arith) in omega arith
+  ];
+}
+  where
+    us : List Fragment
+    us = fragments_of out
+
+    most : ℕ → ℕ
+    most a = max (bound (pairs top) a) (bound (entries_at us 0) a)
+
+    within : (a p n : ℕ) → 0 < p → knows us p (version (author_of_word a) n) ≡ true → n ≤ most a
+    within a p n z k =
+        let v = version (author_of_word a) n in
+        let both = ap (λ es. bound es a) is ∙ joined_bound (pairs one) (pairs other) a h.vector g.vector in
+        let star = u.star a in
+        let either : (denotes (vector_of (fragments_of left) xs p) v || denotes (vector_of (fragments_of right) ys p) v) ≡ true = sym (u.pairs p v z) ∙ k in
+        elim (cases_Bool (denotes (vector_of (fragments_of left) xs p) v)) [
+          | inl here ↦
+              let n_most = most_of (vector_of (fragments_of left) xs p) a n (side_vector (fragments_of left) xs p f) here in
+              let below = h.most (at 0 xs p) a in
+              omega arith
+          | inr not_here ↦
+              let n_most = most_of (vector_of (fragments_of right) ys p) a n (side_vector (fragments_of right) ys p side) (rw not_here at either) in
+              let below = g.most (at 0 ys p) a in
+              omega arith
+        ]
+
+-- What is within a bound
+
+pub top_level : (top : List ℕ) (rows : List (List ℕ)) (a b : ℕ) → IsTop top rows → bound (pairs top) a ≤ b → bound (entries_at (fragments_of rows) 0) a ≤ b → are_level (fragments_of rows) a b ≡ true
+top_level top rows a b h one star = all (fragments_of rows) (λ k. let most = h.most k a in omega arith)
+  where
+    all : (fs : List Fragment) → ((k : ℕ) → bound (entries_at fs k) a ≤ b) → are_level fs a b ≡ true
+    all [] each = refl
+    all (f ∷ fs) each = and_from _ _ (le-leb (bound f.entries a) b (each 0)) (all fs (λ k. each (suc k)))
+
+-- The top where an author's bound rises
+
+pub raised_top : (top : List ℕ) (rows new : List (List ℕ)) (e : Entry) → IsTop top rows → are_risen e (fragments_of rows) ≡ true → new ≡ rows_of (all_raised e (fragments_of rows)) → IsTop top new
+raised_top top rows new e h risen is = record {
+  row = h.row;
+  vector = h.vector;
+  most = λ k a. subst (λ gs. bound (entries_at gs k) a ≤ max (bound (pairs top) a) (bound (entries_at gs 0) a)) (sym (ap fragments_of is ∙ fragments_rows (all_raised e fs))) (one k a);
+}
+  where
+    fs : List Fragment
+    fs = fragments_of rows
+
+    risen_bound : (k a : ℕ) → k < length fs → bound (entries_at (all_raised e fs) k) a ≡ max (bound (entries_at fs k) a) (bound (e ∷ []) a)
+    risen_bound k a l = ap (λ es. bound es a) (entries_raised e fs k l) ∙ merge_at (λ n. n) (λ n m. max n m) (λ m. m) 0 0 (λ n. sym (max-zero n)) (λ m. sym (zero-max m)) (entries_at fs k) (e ∷ []) (risen_at e fs k risen l).order refl a
+
+    one : (k a : ℕ) → bound (entries_at (all_raised e fs) k) a ≤ max (bound (pairs top) a) (bound (entries_at (all_raised e fs) 0) a)
+    one k a = elim (cases_lt k (length fs)) [
+      | inl there ↦
+          let here = risen_bound k a there in
+          let first = risen_bound 0 a (omega arith) in
+          let most = h.most k a in
+          omega arith
+      | inr past ↦
+          let long = length_raised e fs in
+          let none = none_past (all_raised e fs) k a (omega arith) in
+          omega arith
+    ]
+
+-- What is told
+
+told_vectors : (table : List (ℕ × List Bound)) → list_all (λ (t : ℕ × List Bound). is_vector (entries_of t.1)) table ≡ true → list_all (λ (f : Fragment). is_vector f.entries) (map (λ t. told_one t) table) ≡ true
+told_vectors [] h = refl
+told_vectors (t ∷ table) h =
+    let p = and_parts (is_vector (entries_of t.1)) (list_all (λ (u : ℕ × List Bound). is_vector (entries_of u.1)) table) h in
+    and_from _ _ p.0 (told_vectors table p.1)
+
+pub told_are_vectors : (table : List (ℕ × List Bound)) (rows : List (List ℕ)) → rows ≡ rows_of (told table) → list_all (λ (t : ℕ × List Bound). is_vector (entries_of t.1)) table ≡ true → list_all (λ (f : Fragment). is_vector f.entries) (fragments_of rows) ≡ true
+told_are_vectors table rows is h = subst (λ fs. list_all (λ (f : Fragment). is_vector f.entries) fs ≡ true) (sym (ap fragments_of is ∙ fragments_rows (told table))) (told_vectors table h)
+
+pub told_are_rows : (table : List (ℕ × List Bound)) (rows : List (List ℕ)) → rows ≡ rows_of (told table) → AreRows rows
+told_are_rows table rows is = subst AreRows (sym is) (rows_rows (told table))
