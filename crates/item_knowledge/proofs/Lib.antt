@@ -26,6 +26,7 @@ pub mod LateLemmas
 pub mod NextLemmas
 pub mod WaitingLemmas
 pub mod TopLemmas
+pub mod SeenLemmas
 pub mod NormalLemmas
 pub mod CarryLemmas
 pub mod AloneLemmas

@@ -1,87 +1,30 @@
 -- How far each author's bounds go in rows.
-use Rattle.std.proofs.Common.{◌≡◌, ℕ, zero, suc, ◌+◌, ◌*◌, ◌<◌, ◌≤◌, true, leb, ltb, ◌||◌, max, List, [], ◌∷◌, ◌++◌, length, get_or, map, refl, sym, subst, ap, ◌∙◌, inl, inr, arith}
+use Rattle.std.proofs.Common.{◌≡◌, ℕ, zero, suc, ◌+◌, ◌<◌, ◌≤◌, true, leb, ◌||◌, max, List, [], ◌∷◌, length, map, refl, sym, subst, ap, ◌∙◌, inl, inr, arith}
 use Rattle.std.specs.List.{list_all}
 use Rattle.std.proofs.Math.Nat.{max-zero, zero-max}
-use Rattle.std.proofs.lemmas.Bool.{and_parts, and_from, ltb-true, leb-true, le-leb, cases_Bool, cases_lt, eq-eqb, ne_eqb, false≢true}
-use Rattle.std.proofs.lemmas.List.{get_or_past, get_or_push, get_or_append_left}
+use Rattle.std.proofs.lemmas.Bool.{and_parts, and_from, leb-true, le-leb, cases_Bool, cases_lt}
+use Rattle.std.proofs.lemmas.List.{get_or_past}
 use Rattle.photo_version.specs.Author.{author_of_word}
 use Rattle.photo_version.specs.Vector.{Bound}
 use Rattle.photo_version.specs.Version.{version}
-use Rattle.item_knowledge.specs.Tables.{at, keys_pass, in_order}
+use Rattle.item_knowledge.specs.Tables.{at, in_order}
 use Rattle.item_knowledge.specs.Entries.{Entry, is_entry, denotes, is_vector, bound, leq, joined}
 use Rattle.item_knowledge.specs.Fragments.{Fragment, nothing, knows, entries_at}
 use Rattle.item_knowledge.specs.Gathering.{vector_of, IsSide, IsUnion}
 use Rattle.item_knowledge.specs.Raising.{are_level, all_raised, are_risen}
 use Rattle.item_knowledge.specs.Rows.{pairs, IsRow, fragments_of, rows_of, AreRows}
 use Rattle.item_knowledge.specs.TableRows.{entries_of, told_one, told}
-use Rattle.item_knowledge.specs.Tops.{is_beyond, has_beyond, IsTop, AreNew}
+use Rattle.item_knowledge.specs.Tops.{IsTop}
 use Rattle.item_knowledge.proofs.EntryLemmas.{denotes-bound}
 use Rattle.item_knowledge.proofs.FragmentLemmas.{leq_at}
 use Rattle.item_knowledge.proofs.JoinLemmas.{joined_bound, joined_vector}
 use Rattle.item_knowledge.proofs.NextLemmas.{level_known}
 use Rattle.item_knowledge.proofs.PutLemmas.{risen_at}
 use Rattle.item_knowledge.proofs.RaiseLemmas.{length_raised, entries_raised}
-use Rattle.item_knowledge.proofs.RowLemmas.{pairs_flat, entries_read, fragments_rows, rows_rows}
+use Rattle.item_knowledge.proofs.RowLemmas.{fragments_rows, rows_rows}
 use Rattle.item_knowledge.proofs.TableLemmas.{merge_at}
 use Rattle.item_knowledge.proofs.UnionLemmas.{side_vector}
 use Rattle.item_knowledge.proofs.WaitingLemmas.{level_at}
-
--- A row that goes further is none of those
-
--- an author below all has no bound
-none_below : (es : List Entry) (a : ℕ) → keys_pass (λ k. ltb a k) es ≡ true → bound es a ≡ 0
-none_below [] a h = refl
-none_below (e ∷ es) a h =
-    let p = and_parts (ltb a e.0) (keys_pass (λ k. ltb a k) es) h in
-    let less = ltb-true a e.0 p.0 in
-    rw (ne_eqb e.0 a (λ s. absurd (omega arith))) (none_below es a p.1)
-
-some_beyond : (es one other : List Entry) → in_order es ≡ true → has_beyond es one other ≡ true → (a : ℕ) × ((bound one a < bound es a) × (bound other a < bound es a))
-some_beyond [] one other order h = absurd (false≢true h)
-some_beyond (e ∷ es) one other order h =
-    let p = and_parts (keys_pass (λ k. ltb e.0 k) es) (in_order es) order in
-    elim (cases_Bool (is_beyond one other e)) [
-      | inl here ↦
-          let both = and_parts (ltb (bound one e.0) e.1) (ltb (bound other e.0) e.1) here in
-          let own : bound (e ∷ es) e.0 ≡ e.1 = rw (eq-eqb e.0 e.0 refl) refl in
-          (e.0, (subst (λ n. bound one e.0 < n) (sym own) (ltb-true (bound one e.0) e.1 both.0), subst (λ n. bound other e.0 < n) (sym own) (ltb-true (bound other e.0) e.1 both.1)))
-      | inr not_here ↦
-          let rest = some_beyond es one other p.1 (rw not_here at h) in
-          let a = rest.0 in
-          let differs : e.0 ≡ a → ⊥ = λ s.
-          let none = none_below es e.0 p.0 in
-          let some = rest.1.0 in
-          let zero_here : bound es a ≡ 0 = subst (λ k. bound es k ≡ 0) s none in
-          absurd (omega arith) in
-          let later : bound (e ∷ es) a ≡ bound es a = rw (ne_eqb e.0 a differs) refl in
-          (a, (subst (λ n. bound one a < n) (sym later) rest.1.0, subst (λ n. bound other a < n) (sym later) rest.1.1))
-    ]
-
--- a row that goes further than the top and the star is that of no fragment
-pub beyond_differs : (top row : List ℕ) (rows : List (List ℕ)) (k : ℕ) → AreRows rows → IsTop top rows → in_order (entries_at (fragments_of rows) k) ≡ true → k < length (fragments_of rows) → has_beyond (pairs row) (pairs top) (entries_at (fragments_of rows) 0) ≡ true → row ≡ get_or rows (2 * k + 1) [] → ⊥
-beyond_differs top row rows k are h order l beyond is =
-    let fs = fragments_of rows in
-    let same : pairs row ≡ entries_at fs k = ap pairs (is ∙ entries_read rows k are l) ∙ pairs_flat (entries_at fs k) in
-    let some = some_beyond (entries_at fs k) (pairs top) (entries_at fs 0) order (subst (λ es. has_beyond es (pairs top) (entries_at fs 0) ≡ true) same beyond) in
-    let most = h.most k some.0 in
-    let one = some.1.0 in
-    let other = some.1.1 in
-    omega arith
-
-pub none_new : (rows changed : List (List ℕ)) → changed ≡ [] → AreNew rows changed
-none_new rows changed is a l k below same = let none : length changed ≡ 0 = ap (length {A = List ℕ}) is in absurd (omega arith)
-
-pub one_new : (rows changed new : List (List ℕ)) (row : List ℕ) → AreNew rows changed → ((k : ℕ) → k < length (fragments_of rows) → row ≡ get_or rows (2 * k + 1) [] → ⊥) → new ≡ changed ++ row ∷ [] → AreNew rows new
-one_new rows changed new row h other is a l k below same = elim (cases_lt k (length changed)) [
-  | inl earlier ↦ h a l k earlier (sym (get_or_append_left changed (row ∷ []) [] k earlier) ∙ (sym (ap (λ xs. get_or xs k []) is) ∙ same))
-  | inr last ↦
-      let long : length new ≡ length changed + 1 = ap (length {A = List ℕ}) is ∙ length_push changed row in
-      other a l (sym (get_or_push changed row [] k (omega arith)) ∙ (sym (ap (λ xs. get_or xs k []) is) ∙ same))
-]
-  where
-    length_push : (xs : List (List ℕ)) (x : List ℕ) → length (xs ++ x ∷ []) ≡ length xs + 1
-    length_push [] x = refl
-    length_push (y ∷ xs) x = let rest = length_push xs x in omega arith
 
 -- The top of rows
 
@@ -91,7 +34,7 @@ vector_order es h = (and_parts (in_order es) (list_all (λ (e : Entry). is_entry
 pub top_order : (top : List ℕ) (rows : List (List ℕ)) → IsTop top rows → in_order (pairs top) ≡ true
 top_order top rows h = vector_order (pairs top) h.vector
 
-none_past : (fs : List Fragment) (k a : ℕ) → length fs ≤ k → bound (entries_at fs k) a ≡ 0
+pub none_past : (fs : List Fragment) (k a : ℕ) → length fs ≤ k → bound (entries_at fs k) a ≡ 0
 none_past fs k a l = ap (λ f. bound f.entries a) (get_or_past fs k nothing l)
 
 pub none_top : (top : List ℕ) → IsRow top → is_vector (pairs top) ≡ true → IsTop top []

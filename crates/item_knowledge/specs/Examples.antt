@@ -7,7 +7,7 @@ use Rattle.item_knowledge.specs.Late.{shown}
 use Rattle.item_knowledge.specs.Raising.{are_level}
 use Rattle.item_knowledge.specs.Rows.{rows_of}
 use Rattle.item_knowledge.specs.Staged.{IsStagedUnion}
-use Rattle.item_knowledge.specs.Tops.{has_beyond}
+use Rattle.item_knowledge.specs.Seen.{has_unseen}
 
 abbrev of : List ℕ → List Entry → Fragment
 of pictures entries = record { pictures = pictures; entries = entries }
@@ -79,12 +79,14 @@ pub record TheStaged : Type 0 where
   -- a second version of device 0 is staged
   pub too_late : IsStagedUnion (Some (of [] ((0, 2) ∷ []) ∷ of (8 ∷ []) ((0, 2) ∷ (1, 1) ∷ []) ∷ [])) of_every other → ⊥
 
--- whether a row goes further than the top and the star
-pub record TheTops : Type 0 where
-  pub further : has_beyond ((0, 5) ∷ []) ((0, 4) ∷ []) ((0, 3) ∷ []) ≡ true
-  pub as_far : has_beyond ((0, 4) ∷ []) ((0, 4) ∷ []) [] ≡ false
-  pub as_the_star : has_beyond ((0, 4) ∷ []) [] ((0, 4) ∷ []) ≡ false
-  pub of_another : has_beyond ((0, 4) ∷ (1, 1) ∷ []) ((0, 9) ∷ []) [] ≡ true
+-- whether a row has a bound above the star's that has no mark: device 0 has one at number 2, and device 1 at number 1
+pub record TheMarks : Type 0 where
+  pub marked : has_unseen (0 ∷ 2 ∷ 1 ∷ []) [] ((0, 2) ∷ (1, 1) ∷ []) ≡ false
+  pub no_mark : has_unseen (0 ∷ 2 ∷ 1 ∷ []) [] ((0, 1) ∷ (1, 1) ∷ []) ≡ true
+  pub of_another : has_unseen (0 ∷ 2 ∷ 1 ∷ []) [] ((1, 2) ∷ []) ≡ true
+  pub above_all : has_unseen (0 ∷ 2 ∷ 1 ∷ []) [] ((0, 3) ∷ []) ≡ true
+  pub as_the_star : has_unseen (0 ∷ 2 ∷ 1 ∷ []) ((0, 3) ∷ []) ((0, 3) ∷ []) ≡ false
+  pub comes_round : has_unseen (0 ∷ 2 ∷ 1 ∷ []) [] ((64, 8194) ∷ []) ≡ false
 
 -- a bound of device 0 that waits beside rows
 pub record TheWaiting : Type 0 where

@@ -6,6 +6,7 @@ pub mod Gathering
 pub mod Raising
 pub mod Places
 pub mod Tops
+pub mod Seen
 pub mod Kept
 pub mod Late
 pub mod Staged

@@ -9,14 +9,15 @@ ghost use Rattle.item_knowledge.specs.Gathering.{IsSide, IsIndex, pair_vector, g
 ghost use Rattle.item_knowledge.specs.Places.{IsFound};
 ghost use Rattle.item_knowledge.specs.Rows.{pairs, IsRow, AreRows, fragments_of, rows_of, vectors_in};
 ghost use Rattle.item_knowledge.specs.Tables.{in_order};
-ghost use Rattle.item_knowledge.specs.Tops.{IsTop, AreNew};
+ghost use Rattle.item_knowledge.specs.Seen.{IsSeen, AreNew};
 
 use crate::gather::same_row;
 use crate::index::{IndexEntry, to_u32};
 use crate::pairing::{Pairing, pictures_together};
 use crate::places::Places;
 use crate::rows::Rows;
-use crate::search::{has_beyond, is_leq, number_near};
+use crate::search::{is_leq, number_near};
+use crate::seen::Seen;
 use crate::union::{begin, entries, pair};
 use std::alloc::{AllocError, Global};
 
@@ -237,13 +238,13 @@ fn most_changes(left_count: usize, right_count: usize) -> usize {
 }
 
 // Finds the rows of the union that are not those of the left at the same picture, in the order of their pictures, each
-// once; whether all of them are rows that the left has nowhere, for what its bounds say, or none where they are too many.
+// once; whether all of them are rows that the left has nowhere, by its marks, or none where they are too many.
 fn find_changes(
     left: &Rows,
     left_index: &[IndexEntry],
     right: &Rows,
     right_index: &[IndexEntry],
-    top: &[u64],
+    seen: &Seen,
     most: usize,
     room: &mut Vec<u64>,
     changed: &mut Places,
@@ -252,7 +253,7 @@ fn find_changes(
     requires right_rows { AreRows right.now }
     requires left { IsSide (fragments_of left.now) left_index.now }
     requires right { IsSide (fragments_of right.now) right_index.now }
-    requires top { IsTop top.now left.now }
+    requires seen { IsSeen seen.now.words.items left.now }
     requires changed { IsFound changed.old }
     requires none { changed.old.rows ≡ [] }
     ensures found { OnOk result (IsFound changed.new) }
@@ -276,7 +277,7 @@ fn find_changes(
         if changed.len() >= most {
             return Ok(None);
         }
-        all_new = all_new && has_beyond(row, top, entries(left, 0));
+        all_new = all_new && seen.lacks_one(row, entries(left, 0));
         changed.push(bucket, &[], row)?;
     }
     Ok(Some(all_new))
@@ -306,7 +307,7 @@ pub(crate) fn carried(
     right: &Rows,
     right_index: &[IndexEntry],
     star: &[u64],
-    top: &[u64],
+    seen: &Seen,
     out: &mut Rows,
 ) -> Result<Option<Vec<IndexEntry>>, AllocError>
     requires left_rows { AreRows left.now }
@@ -315,7 +316,7 @@ pub(crate) fn carried(
     requires right { IsSide (fragments_of right.now) right_index.now }
     requires normal { is_normal (fragments_of left.now) ≡ true }
     requires listed { IsIndex left_index.now (fragments_of left.now) }
-    requires top { IsTop top.now left.now }
+    requires seen { IsSeen seen.now.words.items left.now }
     requires star_row { IsRow star.now }
     requires star { pairs star.now ≡ pair_vector (fragments_of left.now) (fragments_of right.now) (0, 0) }
     ensures rows { IfOk result (λ found. IfSome found (λ _. out.new
@@ -339,7 +340,7 @@ pub(crate) fn carried(
         left_index,
         right,
         right_index,
-        top,
+        seen,
         most,
         &mut room,
         &mut changed,

@@ -1,6 +1,6 @@
 //! Laws of what fragments denote. Each function's contract is a law, and its body does nothing.
 ghost use Rattle.item_knowledge.specs.Laws.{VectorsAreOne, NormalFormsAreOne, StarIsOfEvery, EachHasOneNormalForm};
-ghost use Rattle.item_knowledge.specs.Examples.{TheLibrary, TheNormalForms, TheVectors, TheStaged, TheTops, TheWaiting};
+ghost use Rattle.item_knowledge.specs.Examples.{TheLibrary, TheNormalForms, TheVectors, TheStaged, TheMarks, TheWaiting};
 
 /// A vector is determined by the versions that it denotes.
 pub fn vectors_are_one()
@@ -28,6 +28,6 @@ pub fn examples()
     ensures normal_forms { TheNormalForms }
     ensures vectors { TheVectors }
     ensures staged { TheStaged }
-    ensures tops { TheTops }
+    ensures marks { TheMarks }
     ensures waiting { TheWaiting }
 {}

@@ -17,6 +17,7 @@ mod places;
 mod raise;
 mod rows;
 mod search;
+mod seen;
 mod table_rows;
 mod topped;
 mod union;

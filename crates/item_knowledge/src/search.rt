@@ -2,7 +2,6 @@ ghost use Rattle.std.specs.Prelude.{◌≡◌, ℕ, ◌<◌, ◌≤◌, true, le
 ghost use Rattle.item_knowledge.specs.Tables.{in_order, at};
 ghost use Rattle.item_knowledge.specs.Entries.{bound, leq, is_vector};
 ghost use Rattle.item_knowledge.specs.Rows.{pairs, IsRow};
-ghost use Rattle.item_knowledge.specs.Tops as spec;
 
 use crate::index::IndexEntry;
 
@@ -160,35 +159,6 @@ pub(crate) fn is_leq(row: &[u64], other: &[u64]) -> bool
         j += 2;
     }
     true
-}
-
-// Whether a bound of an author is above that of each of two rows.
-fn is_beyond(author: u64, n: u64, one: &[u64], other: &[u64]) -> bool
-    requires one { IsRow one.now }
-    requires other { IsRow other.now }
-    requires one_order { in_order (pairs one.now) ≡ true }
-    requires other_order { in_order (pairs other.now) ≡ true }
-    ensures { result ≡ spec.is_beyond (pairs one.now) (pairs other.now) (author, n) }
-{
-    bound_at(one, author) < n && bound_at(other, author) < n
-}
-
-/// Whether a row has more of some author than each of two others.
-pub(crate) fn has_beyond(row: &[u64], one: &[u64], other: &[u64]) -> bool
-    requires row { IsRow row.now }
-    requires one { IsRow one.now }
-    requires other { IsRow other.now }
-    requires one_order { in_order (pairs one.now) ≡ true }
-    requires other_order { in_order (pairs other.now) ≡ true }
-    ensures { result ≡ spec.has_beyond (pairs row.now) (pairs one.now) (pairs other.now) }
-{
-    for i in 0..row.len() / 2 {
-        let (author, n) = entry_at(row, i);
-        if is_beyond(author, n, one, other) {
-            return true;
-        }
-    }
-    false
 }
 
 /// The number of the fragment to which an index leads from a picture, 0 for the star, where it is looked for from a

@@ -11,24 +11,27 @@ use crate::join::join;
 use crate::raise::raise;
 use crate::rows::Rows;
 use crate::search::{bound_at, is_leq};
+use crate::seen::{Seen, seen_of, seen_together};
 use crate::union::{entries, union};
 use std::alloc::{AllocError, Global};
 use std::marker::Model;
 use std::mem::swap;
 
-/// Rows of fragments. Beside them stands how far each author's bounds go at most, so that a row with more is known to be none of
-/// these without a look at them.
+/// Rows of fragments, and beside them what is asked of all of them: how far an author's bounds go, and whether a bound stands in
+/// none of them.
 #[derive(Debug, Drop)]
 pub(crate) struct ToppedRows {
     rows: Rows,
     // Entries as in a row. No fragment has more of an author than these or the star.
     top: Vec<u64>,
+    // Marks of the bounds above the star's.
+    seen: Seen,
 }
 
 impl Model for ToppedRows {
     ghost use Rattle.std.specs.Prelude.{ℕ, List};
     ghost use Rattle.std.specs.Coded.{coded_ℕ, coded_list};
-    ghost use Rattle.item_knowledge.specs.Tops.{IsTop};
+    ghost use Rattle.item_knowledge.specs.Seen.{IsTopped};
 
     ghost Value = { List (List ℕ) };
 
@@ -36,7 +39,7 @@ impl Model for ToppedRows {
 
     ghost view = { λ r. r.rows };
 
-    ghost invariant = { λ r. IsTop r.top.items r.rows };
+    ghost invariant = { λ r. IsTopped r.top.items r.seen.words.items r.rows };
 }
 
 impl ToppedRows {
@@ -55,6 +58,7 @@ impl ToppedRows {
         ToppedRows {
             rows: Rows::new(alloc),
             top: Vec::new(alloc),
+            seen: Seen::new(alloc),
         }
     }
 
@@ -66,6 +70,7 @@ impl ToppedRows {
         ToppedRows {
             rows,
             top: Vec::new(alloc),
+            seen: Seen::new(alloc),
         }
     }
 
@@ -76,7 +81,8 @@ impl ToppedRows {
         ensures { IfOk result (λ topped. topped ≡ rows) }
     {
         let top = top_of(alloc, &rows)?;
-        Ok(ToppedRows { rows, top })
+        let seen = seen_of(alloc, &rows)?;
+        Ok(ToppedRows { rows, top, seen })
     }
 
     /// The number of rows.
@@ -130,6 +136,7 @@ impl ToppedRows {
     {
         self.rows.clear();
         self.top.clear();
+        self.seen.clear();
     }
 
     /// An equal list of rows.
@@ -138,7 +145,8 @@ impl ToppedRows {
     {
         let rows = self.rows.try_clone()?;
         let top = self.top.to_vec(alloc)?;
-        Ok(ToppedRows { rows, top })
+        let seen = self.seen.try_clone(alloc)?;
+        Ok(ToppedRows { rows, top, seen })
     }
 }
 
@@ -182,17 +190,19 @@ pub(crate) fn topped_union(
 {
     let mut top = Vec::new(alloc);
     join(&left.top, &right.top, &mut top)?;
+    let seen = seen_together(alloc, &left.seen, &right.seen)?;
     match union(
         alloc,
         &left.rows,
         left_index,
         &right.rows,
         right_index,
-        &left.top,
+        &left.seen,
         &mut out.rows,
     ) {
         Ok(index) => {
             out.top = top;
+            out.seen = seen;
             Ok(index)
         }
         Err(refused) => {

@@ -4,7 +4,7 @@ ghost use Rattle.item_knowledge.specs.Gathering.{IsSide, IsIndex, IsUnion, pair_
 ghost use Rattle.item_knowledge.specs.Kept.{is_side_within};
 ghost use Rattle.item_knowledge.specs.Places.{Placed};
 ghost use Rattle.item_knowledge.specs.Rows.{pairs, IsRow, AreRows, fragments_of, rows_of, grouped, vectors_in};
-ghost use Rattle.item_knowledge.specs.Tops.{IsTop};
+ghost use Rattle.item_knowledge.specs.Seen.{IsSeen};
 
 use crate::apart::apart;
 use crate::carry::carried;
@@ -17,6 +17,7 @@ use crate::pairing::{Pairing, pictures_together};
 use crate::places::Places;
 use crate::rows::Rows;
 use crate::search::number_from;
+use crate::seen::Seen;
 use std::alloc::{AllocError, Global};
 
 /// The entries of the fragment of a number, as a row of words.
@@ -158,14 +159,14 @@ fn groups(
     Ok((groups, places, index))
 }
 
-/// Writes the normal form of what either side denotes, and gives its index. The left's bounds go as far as `top` at most.
+/// Writes the normal form of what either side denotes, and gives its index. The left's bounds have marks.
 pub(crate) fn union(
     alloc: Global,
     left: &Rows,
     left_index: &[IndexEntry],
     right: &Rows,
     right_index: &[IndexEntry],
-    top: &[u64],
+    seen: &Seen,
     out: &mut Rows,
 ) -> Result<Vec<IndexEntry>, AllocError>
     requires left_rows { AreRows left.now }
@@ -174,14 +175,14 @@ pub(crate) fn union(
     requires right { IsSide (fragments_of right.now) right_index.now }
     requires normal { is_normal (fragments_of left.now) ≡ true }
     requires listed { IsIndex left_index.now (fragments_of left.now) }
-    requires top { IsTop top.now left.now }
+    requires seen { IsSeen seen.now.words.items left.now }
     ensures rows { OnOk result (AreRows out.new) }
     ensures union { IfOk result (λ index. IsUnion (fragments_of left.now) left_index.now (fragments_of right.now) right_index.now
         (fragments_of out.new) index.items) }
 {
     let mut room = Vec::new(alloc);
     let star = pair(left, left_index, right, right_index, 0, 0, &mut room)?;
-    if let Some(index) = carried(alloc, left, left_index, right, right_index, star, top, out)? {
+    if let Some(index) = carried(alloc, left, left_index, right, right_index, star, seen, out)? {
         return Ok(index);
     }
     if let Some(index) = apart(alloc, left, left_index, right, right_index, star, out)? {

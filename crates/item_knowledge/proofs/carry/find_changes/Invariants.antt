@@ -1,7 +1,7 @@
 use Rattle.std.proofs.Common.{◌≡◌, true}
 use Rattle.item_knowledge.specs.Places.{IsFound}
 use Rattle.item_knowledge.specs.Rows.{vectors_in}
-use Rattle.item_knowledge.specs.Tops.{AreNew}
+use Rattle.item_knowledge.specs.Seen.{AreNew}
 use Rattle.item_knowledge.proofs.carry.find_changes.Given as goal
 
 abbrev pub invariant-loop-i : goal.invariant-loop-i

@@ -29,6 +29,6 @@ returns c = record {
   };
   vectors = record { join = refl };
   staged = the_staged;
-  tops = record { further = refl; as_far = refl; as_the_star = refl; of_another = refl };
+  marks = record { marked = refl; no_mark = refl; of_another = refl; above_all = refl; as_the_star = refl; comes_round = refl };
   waiting = record { level = refl; not_level = refl; is_shown = refl; none_waits = refl };
 }

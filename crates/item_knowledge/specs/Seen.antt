@@ -1,0 +1,41 @@
+-- Machinery of the proofs: marks of the bounds that stand in rows, so that a row with a bound that has no mark is none of them.
+use Rattle.std.specs.Prelude.{◌≡◌, ℕ, ◌<◌, Bool, true, not, ◌&&◌, ◌==◌, ◌*◌, ◌+◌, ◌%◌, nat_lt, List, [], length, get_or}
+use Rattle.std.specs.Int.{bit_at}
+use Rattle.std.specs.List.{list_any}
+use Rattle.item_knowledge.specs.Entries.{Entry, bound}
+use Rattle.item_knowledge.specs.Fragments.{entries_at}
+use Rattle.item_knowledge.specs.Places.{is_new}
+use Rattle.item_knowledge.specs.Rows.{fragments_of}
+use Rattle.item_knowledge.specs.Tops.{IsTop}
+
+-- a bound has the word of its number, and there the bit of its author; they come round again
+abbrev pub is_marked : List ℕ → ℕ → ℕ → Bool
+is_marked words a n = bit_at (get_or words (n % 8192) 0) (a % 64) == 1
+
+-- what has a mark among the first words has one among the second
+abbrev pub HasMarks : List ℕ → List ℕ → Type 0
+HasMarks one other = (a n : ℕ) → is_marked one a n ≡ true → is_marked other a n ≡ true
+
+-- each entry has a mark
+abbrev pub AreMarked : List ℕ → List Entry → Type 0
+AreMarked words es = (i : ℕ) → i < length es → is_marked words (get_or es i (0, 0)).0 (get_or es i (0, 0)).1 ≡ true
+
+-- each bound above the star's has a mark
+abbrev pub IsSeen : List ℕ → List (List ℕ) → Type 0
+IsSeen words rows = (k a : ℕ) → bound (entries_at (fragments_of rows) 0) a < bound (entries_at (fragments_of rows) k) a → is_marked words a (bound (entries_at (fragments_of rows) k) a) ≡ true
+
+-- an entry is above the star's and has no mark
+abbrev pub is_unseen : List ℕ → List Entry → Entry → Bool
+is_unseen words star e = nat_lt (bound star e.0) e.1 && not (is_marked words e.0 e.1)
+
+abbrev pub has_unseen : List ℕ → List Entry → List Entry → Bool
+has_unseen words star es = list_any (λ e. is_unseen words star e) es
+
+-- no changed row is that of a fragment of the left
+abbrev pub AreNew : List (List ℕ) → List (List ℕ) → Type 0
+AreNew rows changed = (a : ℕ) → a < length (fragments_of rows) → is_new changed (get_or rows (2 * a + 1) [])
+
+-- what stands beside rows
+pub record IsTopped (top words : List ℕ) (rows : List (List ℕ)) : Type 0 where
+  pub top_row : IsTop top rows
+  pub seen : IsSeen words rows
