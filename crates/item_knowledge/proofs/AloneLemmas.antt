@@ -206,11 +206,15 @@ at_row d (t ∷ ts) (suc i) r h l e =
     let less = ltb-true t.0 r.0 (passes_at (λ k. ltb t.0 k) ts i r a.0 (omega (arith, l)) e) in
     rw (ne_eqb t.0 r.0 (λ s. absurd (omega (arith, less, s)))) (at_row d ts i r a.1 (omega (arith, l)) e)
 
-pub next_alone : (rows : List (List ℕ)) (xs ys : List (ℕ × ℕ)) (here then : Pairing) (i : ℕ) (r : ℕ × (ℕ × ℕ)) → in_order xs ≡ true → in_order ys ≡ true → AreAlone rows xs → IsAlong xs ys here i → left_of here xs ys ≡ r ∷ left_of then xs ys
-    → 0 < r.1.0 → get_or rows (2 * r.1.0) [] ≡ r.0 ∷ []
-next_alone rows xs ys here then i r h g all along step l =
+pub next_numbers : (xs ys : List (ℕ × ℕ)) (here then : Pairing) (i : ℕ) (r : ℕ × (ℕ × ℕ)) → in_order xs ≡ true → in_order ys ≡ true → IsAlong xs ys here i → left_of here xs ys ≡ r ∷ left_of then xs ys → (at 0 xs r.0, at 0 ys r.0) ≡ r.1
+next_numbers xs ys here then i r h g along step =
     let there = row_there (paired xs ys) i r (left_of then xs ys) (sym along.rest ∙ step) in
     let row : at (0, 0) (paired xs ys) r.0 ≡ r.1 = at_row (0, 0) (paired xs ys) i r (merge_order (λ a. (a, 0)) (λ a b. (a, b.1)) (λ b. (0, b)) xs ys g) there.0 there.1 in
     let both : at (0, 0) (paired xs ys) r.0 ≡ (at 0 xs r.0, at 0 ys r.0) = merge_at (λ a. (a, 0)) (λ a b. (a, b.1)) (λ b. (0, b)) 0 0 (λ a. refl) (λ b. refl) xs ys h g r.0 in
-    let number : at 0 xs r.0 ≡ r.1.0 = ap (λ (x : ℕ × ℕ). x.0) (sym both ∙ row) in
+    sym both ∙ row
+
+pub next_alone : (rows : List (List ℕ)) (xs ys : List (ℕ × ℕ)) (here then : Pairing) (i : ℕ) (r : ℕ × (ℕ × ℕ)) → in_order xs ≡ true → in_order ys ≡ true → AreAlone rows xs → IsAlong xs ys here i → left_of here xs ys ≡ r ∷ left_of then xs ys
+    → 0 < r.1.0 → get_or rows (2 * r.1.0) [] ≡ r.0 ∷ []
+next_alone rows xs ys here then i r h g all along step l =
+    let number : at 0 xs r.0 ≡ r.1.0 = ap (λ (x : ℕ × ℕ). x.0) (next_numbers xs ys here then i r h g along step) in
     subst (λ a. get_or rows (2 * a) [] ≡ r.0 ∷ []) number (all.alone r.0 (subst (λ a. 0 < a) (sym number) l))

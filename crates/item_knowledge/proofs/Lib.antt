@@ -30,6 +30,7 @@ pub mod SeenLemmas
 pub mod NormalLemmas
 pub mod CarryLemmas
 pub mod AloneLemmas
+pub mod UnchangedLemmas
 pub mod ApartLemmas
 pub mod SpanLemmas
 pub mod PairingLemmas

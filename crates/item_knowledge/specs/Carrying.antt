@@ -1,5 +1,5 @@
 -- Machinery of the proofs: a union in which fragments of the left are carried over, and other rows are among those changed.
-use Rattle.std.specs.Prelude.{◌≡◌, ℕ, true, ◌+◌, ◌*◌, ◌<◌, ◌⊎◌, List, [], ◌∷◌, length, get_or}
+use Rattle.std.specs.Prelude.{◌≡◌, ℕ, Bool, true, false, ◌+◌, ◌*◌, ◌<◌, ◌⊎◌, List, [], ◌∷◌, length, get_or}
 use Rattle.item_knowledge.specs.Tables.{at}
 use Rattle.item_knowledge.specs.Entries.{leq}
 use Rattle.item_knowledge.specs.Fragments.{Fragment, entries_at}
@@ -15,6 +15,18 @@ HasCome fs changed row last next last_then next_then =
 -- the right's fragment b is the star, or has nothing beyond the left's a
 abbrev pub AddsNothing : List Fragment → List Fragment → ℕ → ℕ → Type 0
 AddsNothing fs gs a b = (b ≡ 0) ⊎ (leq (entries_at gs b) (entries_at fs a) ≡ true)
+
+-- where `true` stands beside an entry of the right's index, the right adds nothing to the left at its picture
+abbrev pub AreUnchanged : List Fragment → List (ℕ × ℕ) → List Fragment → List (ℕ × ℕ) → List Bool → Type 0
+AreUnchanged fs xs gs ys marks = (j : ℕ) → j < length marks → get_or marks j false ≡ true → AddsNothing fs gs (at 0 xs (get_or ys j (0, 0)).0) (get_or ys j (0, 0)).1
+
+-- `true` stands beside a picture
+pub record IsMarkedUnchanged (marks : List Bool) (ys : List (ℕ × ℕ)) (picture : ℕ) : Type 0 where
+  pub place : ℕ
+  pub marked : place < length marks
+  pub there : place < length ys
+  pub is : (get_or ys place (0, 0)).0 ≡ picture
+  pub mark : get_or marks place false ≡ true
 
 -- each picture that an index lists beside another number than the star's is alone in the row of pictures of that fragment
 pub record AreAlone (rows : List (List ℕ)) (index : List (ℕ × ℕ)) : Type 0 where
