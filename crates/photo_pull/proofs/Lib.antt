@@ -4,6 +4,7 @@ pub mod Ranges
 mod GapLemmas
 pub mod Ready
 pub mod Told
+mod KeepingLemmas
 pub mod Shown
 pub mod Changes
 pub mod Asked

@@ -1,12 +1,13 @@
 //! Held versions that pass a test, in their order. A copy shares what the version carries.
-ghost use Rattle.std.specs.Prelude.{◌≡◌, ◌≤◌, ◌++◌, ◌&&◌, ◌||◌, not, true, length, filter, IfOk, OnOk};
+ghost use Rattle.std.specs.Prelude.{◌≡◌, ◌≤◌, ◌++◌, ◌&&◌, ◌||◌, not, true, length, filter, take, IfOk, OnOk};
 ghost use Rattle.photo_device.specs.Held.{are_in_order};
 ghost use Rattle.photo_pull.specs.OnHeld.{is_selected, has_above, has_below, has_same, versions};
-ghost use Rattle.photo_pull.specs.Gaps.{IsGap};
+ghost use Rattle.photo_pull.specs.Gaps.{IsGap, are_kept};
 ghost use Rattle.item_knowledge.specs.Fragments.{knows};
 
 use crate::gap::Gap;
 use crate::hints::Hints;
+use crate::keeping::{Along, kept_along};
 use crate::part::Part;
 use photo_device::{Device, HeldSet, SharedHeld};
 use photo_filter_rules::Filter;
@@ -51,6 +52,38 @@ fn is_dropped(
     followed && has_given_up(device, hints, held)
 }
 
+// How many of the first of a list are seen to stay: their pictures are in a gap, and the device keeps them.
+fn staying(device: &Device, along: &mut Along, list: &[SharedHeld], gap: &Gap) -> usize
+    ensures fewer { result ≤ length list.now }
+    ensures kept { are_kept gap.now device.now.store (take result list.now) ≡ true }
+{
+    kept_along(device.store(), along, list, gap)
+}
+
+// Puts copies of those of a list that something new supersedes behind others.
+fn push_superseded(
+    found: &mut Vec<SharedHeld>,
+    news: &Part,
+    gap: &mut Gap,
+    hints: &mut Hints,
+    list: &[SharedHeld],
+) -> Result<(), AllocError>
+    requires stored { are_in_order news.now.stored.items ≡ true }
+    requires waiting { are_in_order news.now.waiting.items ≡ true }
+    requires gap { IsGap news.now.stored.items news.now.waiting.items gap.old }
+    ensures gap { OnOk result (IsGap news.now.stored.items news.now.waiting.items gap.new) }
+    ensures found { OnOk result (found.new.items ≡ found.old.items ++ filter
+        (λ h. has_above news.now.stored.items h || has_above news.now.waiting.items h) list.now) }
+{
+    for held in list {
+        if !news.any_above_along(gap, hints, held) {
+            continue;
+        }
+        found.push(held.try_clone()?)?;
+    }
+    Ok(())
+}
+
 // Puts copies of those of a list that go behind others.
 fn push_dropped(
     found: &mut Vec<SharedHeld>,
@@ -59,6 +92,7 @@ fn push_dropped(
     device: &Device,
     gap: &mut Gap,
     hints: &mut Hints,
+    along: &mut Along,
     list: &[SharedHeld],
 ) -> Result<(), AllocError>
     requires stored { are_in_order news.now.stored.items ≡ true }
@@ -69,13 +103,22 @@ fn push_dropped(
         (λ h. (has_above news.now.stored.items h || has_above news.now.waiting.items h)
         || (followed && (knows device.now.knowledge h.picture h.version && not (has_same device.now.store h)))) list.now) }
 {
-    for held in list {
+    if !followed {
+        return push_superseded(found, news, gap, hints, list);
+    }
+    let mut place = 0;
+    loop {
+        place += staying(device, along, &list[place..], gap);
+        if place == list.len() {
+            return Ok(());
+        }
+        let held = &list[place];
+        place += 1;
         if !is_dropped(news, followed, device, gap, hints, held) {
             continue;
         }
         found.push(held.try_clone()?)?;
     }
-    Ok(())
 }
 
 /// Copies of those of a set that something new supersedes, or that a device has given up whose keeping is followed.
@@ -99,13 +142,14 @@ pub(crate) fn dropped_of(
     }
     let mut gap = Gap::none();
     let mut hints = Hints::new();
+    let mut along = Along::start();
     for block in set.blocks() {
         // Its pictures have no news, so it is not gone over.
         if !followed && gap.has_all(block) {
             continue;
         }
         push_dropped(
-            &mut found, news, followed, device, &mut gap, &mut hints, block,
+            &mut found, news, followed, device, &mut gap, &mut hints, &mut along, block,
         )?;
     }
     Ok(found)

@@ -7,6 +7,7 @@ mod filtered;
 mod finding;
 mod gap;
 mod hints;
+mod keeping;
 mod part;
 mod pulling;
 mod superseding;
