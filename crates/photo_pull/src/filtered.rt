@@ -76,6 +76,9 @@ fn push_superseded(
         (λ h. has_above news.now.stored.items h || has_above news.now.waiting.items h) list.now) }
 {
     for held in list {
+        if gap.has(held.picture()) {
+            continue;
+        }
         if !news.any_above_along(gap, hints, held) {
             continue;
         }
