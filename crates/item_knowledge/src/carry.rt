@@ -57,6 +57,7 @@ fn origin(
 }
 
 // Whether the right's fragment `b` has nothing beyond the left's `a`, where the right's star has nothing beyond the left's.
+#[inline(always)]
 fn adds_nothing(left: &Rows, right: &Rows, a: usize, b: usize) -> bool
     requires left_rows { AreRows left.now }
     requires right_rows { AreRows right.now }

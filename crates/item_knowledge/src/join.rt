@@ -7,6 +7,7 @@ use std::alloc::AllocError;
 
 /// Writes the row of the join of two vectors, in place of what was there: of each author the greater bound.
 #[tactic(auto, using(crate::proofs::RowLemmas::row_step))]
+#[inline(always)]
 pub(crate) fn join(xs: &[u64], ys: &[u64], out: &mut Vec<u64>) -> Result<(), AllocError>
     requires left_row { IsRow xs.now }
     requires right_row { IsRow ys.now }

@@ -100,6 +100,7 @@ impl Knowledge {
 
     /// Whether of the picture the version is known, and a hint for the next question. Takes no memory. Any hint will do;
     /// where pictures are asked in rising order, each with the hint that the one before gave, the work for one is small.
+    #[inline(always)]
     pub fn knows_near(&self, hint: usize, picture: PicNo, version: Version) -> (bool, usize)
         ensures { result.0 ≡ spec.knows self.now.known picture version }
     {

@@ -63,6 +63,7 @@ impl LiveRows {
     }
 
     /// The bound of an author in the fragment of a number, 0 where it has none.
+    #[inline(always)]
     pub(crate) fn bound(&self, k: usize, author: u64) -> u64
         requires rows { AreRows self.now }
         requires number { k < length (fragments_of self.now) }
@@ -116,6 +117,7 @@ impl LiveRows {
     }
 
     /// Whether each bound of the fragment of a number is at most that of another's of its number.
+    #[inline(always)]
     pub(crate) fn is_leq(&self, k: usize, others: &LiveRows, l: usize) -> bool
         requires rows { AreRows self.now }
         requires others { AreRows others.now }

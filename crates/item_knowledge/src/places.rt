@@ -120,6 +120,7 @@ impl Places {
     }
 
     /// The place of a vector, where it has one. It is looked for in its bucket.
+    #[inline(always)]
     pub(crate) fn find(&self, bucket: usize, row: &[u64]) -> Option<usize>
         requires found { spec.IsFound self.now }
         requires bucket { bucket ≡ spec.bucket (length self.now.heads.items) row.now }
@@ -139,6 +140,7 @@ impl Places {
     }
 
     /// One fragment more, at the end, whose vector is in its bucket; gives its place.
+    #[inline(always)]
     pub(crate) fn push(
         &mut self,
         bucket: usize,

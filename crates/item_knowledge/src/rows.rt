@@ -82,6 +82,7 @@ impl Rows {
     }
 
     /// The two rows of a fragment, at the end.
+    #[inline(always)]
     pub(crate) fn place_fragment(
         &mut self,
         pictures: &[u64],

@@ -62,6 +62,7 @@ fn number_there(index: &[IndexEntry], place: usize, picture: u32) -> Option<usiz
 
 /// The number of the fragment to which an index leads from a picture, 0 for the star, and a hint for a later picture. The
 /// work is small where the hint is that of an earlier picture close by; the number is right with any hint.
+#[inline(always)]
 pub(crate) fn number_near(index: &[IndexEntry], hint: usize, picture: u32) -> (usize, usize)
     requires { in_order index.now ≡ true }
     ensures { result.0 ≡ at 0 index.now picture }

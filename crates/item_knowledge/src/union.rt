@@ -34,6 +34,7 @@ pub(crate) fn entries(rows: &Rows, number: usize) -> &[u64]
 
 /// What two fragments of the two sides give together, as a row of words: the row of the one side that holds the other's,
 /// or else their join, which is written into `room`.
+#[inline(always)]
 pub(crate) fn pair<'a>(
     left: &'a Rows,
     left_index: &[IndexEntry],

@@ -78,6 +78,7 @@ pub(crate) fn next_picture(list: &[SharedHeld], picture: PicNo) -> u32
 }
 
 // Whether one of those from a place on supersedes the version, and the place up to which one had to look.
+#[inline(always)]
 fn any_above_from(list: &[SharedHeld], from: usize, held: &SharedHeld) -> (bool, usize)
     requires { are_in_order list.now ≡ true }
     ensures { result.0 ≡ has_above (drop from list.now) held.now }
@@ -97,6 +98,7 @@ fn any_above_from(list: &[SharedHeld], from: usize, held: &SharedHeld) -> (bool,
 
 /// Whether one of them supersedes the version, and a hint for the next question. Any hint will do; where pictures are
 /// asked in rising order, each with the hint that the one before gave, the work for one is small.
+#[inline(always)]
 pub(crate) fn any_above_near(list: &[SharedHeld], hint: usize, held: &SharedHeld) -> (bool, usize)
     requires { are_in_order list.now ≡ true }
     ensures { result.0 ≡ has_above list.now held.now }
