@@ -429,7 +429,10 @@ fn lists(alloc: Global, set: &HeldSet) -> Option<bool> {
     mark(alloc);
     let list = list.ok()?;
     Some(
-        list.len() == 2 && set.len() == 2 && list.get(0) == set.get(0) && list.get(1) == set.get(1),
+        list.len() == 2
+            && set.len() == 2
+            && list.get(0).as_held() == set.get(0)
+            && list.get(1).as_held() == set.get(1),
     )
 }
 

@@ -5,7 +5,7 @@ ghost use Rattle.photo_device.specs.Held.{find_version};
 use crate::range::range_of;
 use crate::roomy_set::RoomySet;
 use crate::sought::Sought;
-use crate::{Held, HeldList, SharedHeld};
+use crate::{Held, SharedHeld, SharedList};
 use block_list::{BlockList, Room, Spot};
 use photo_filter_rules::Filter;
 use photo_record::PicNo;
@@ -129,6 +129,7 @@ impl HeldSet {
     ///
     /// Where questions come in the order of pictures, and of the versions of each, every one with the hint that the one
     /// before gave, the work for one is small.
+    #[inline(always)]
     pub fn has_near(&self, near: Spot, picture: PicNo, version: Version) -> (bool, Spot)
         ensures { result.0 ≡ has_version_of picture version self.now }
     {
@@ -159,17 +160,17 @@ impl HeldSet {
         Some(held.as_held())
     }
 
-    /// The held versions as a list. Its only error is want of memory.
-    pub fn to_list(&self) -> Result<HeldList, AllocError>
+    /// The held versions as a list, which shares them. Its only error is want of memory.
+    pub fn to_list(&self) -> Result<SharedList, AllocError>
         ensures { IfOk result (λ list. list ≡ self.now) }
     {
         let mut items = Vec::with_capacity(self.alloc, self.items.len())?;
         for block in self.items.as_blocks() {
             for held in block {
-                items.push(held.as_held().try_clone()?)?;
+                items.push(held.try_clone()?)?;
             }
         }
-        Ok(HeldList::new(items))
+        Ok(SharedList::new(items))
     }
 
     /// The one of that version, if it has it. It looks through all of them, since they are in the order of their pictures.

@@ -34,9 +34,6 @@ use photo_version::Version;
 pub use place::Place;
 pub use shared_held::SharedHeld;
 
-/// Held versions, in an order.
-pub type HeldList = ItemList<Held>;
-
 /// Held versions that are shared, in an order.
 pub type SharedList = ItemList<SharedHeld>;
 

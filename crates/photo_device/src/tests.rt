@@ -6,7 +6,7 @@ mod near;
 mod sets;
 mod staging;
 
-use crate::{Device, Held, HeldList, HeldSet, Place, SharedHeld};
+use crate::{Device, Held, HeldSet, Place, SharedHeld, SharedList};
 use photo_filter_rules::Filter;
 use photo_record::{Day, PicNo, Rating, Record, Words};
 use photo_version::{Author, Version};
@@ -214,12 +214,12 @@ fn versions_are_listed_by_picture(rt: HostRuntime) {
 }
 
 // Whether a list has what a set has, in the same order.
-fn is_like(list: &HeldList, set: &HeldSet) -> bool {
+fn is_like(list: &SharedList, set: &HeldSet) -> bool {
     if list.len() != set.len() || list.is_empty() != set.is_empty() {
         return false;
     }
     for i in 0..set.len() {
-        if list.get(i) != set.get(i) {
+        if list.get(i).as_held() != set.get(i) {
             return false;
         }
     }
@@ -231,7 +231,7 @@ fn is_copied(set: &HeldSet, length: usize) -> bool {
     match set.to_list() {
         Ok(list) => {
             let is_copy = list.as_slice().len() == length && is_like(&list, set);
-            let again = HeldList::new(list.into_vec());
+            let again = SharedList::new(list.into_vec());
             is_copy && is_like(&again, set)
         }
         Err(_) => false,

@@ -6,7 +6,7 @@ use crate::known_report::push_knowledge;
 use crate::moved_report::{push_narrowed, push_not_narrower, push_pulled};
 use item_knowledge::Knowledge;
 use itoa::Buffer;
-use photo_device::{ConflictList, Held, HeldList, Place};
+use photo_device::{ConflictList, Place, SharedHeld, SharedList};
 use photo_pull::PullCounts;
 use photo_record::{Day, Record, Words};
 use photo_version::{Author, Version};
@@ -31,8 +31,8 @@ pub enum Report {
     /// What a device holds, in order. The device is given by its place in order of declaration, from 0.
     Listed {
         device: u16,
-        store: HeldList,
-        out: HeldList,
+        store: SharedList,
+        out: SharedList,
     },
     /// The pictures of which a device holds two or more versions, in order. The device is given by its place in order of
     /// declaration, from 0.
@@ -147,8 +147,8 @@ fn push_listed(
     script: &Script,
     number: u32,
     device: u16,
-    store: &HeldList,
-    out: &HeldList,
+    store: &SharedList,
+    out: &SharedList,
 ) -> Result<(), AllocError>
     requires device { device < length script.now.names }
     requires store { AreOfScript script.now (entries_of store.now) }
@@ -199,7 +199,7 @@ fn push_helds(
     text: &mut String,
     script: &Script,
     place: Place,
-    helds: &[Held],
+    helds: &[SharedHeld],
 ) -> Result<(), AllocError>
     requires { AreOfScript script.now (entries_of helds.now) }
     ensures { OnOk result (string_bytes text.new ≡ string_bytes text.old ++ entries_text script.now place (entries_of helds.now)) }
@@ -214,7 +214,7 @@ fn push_held(
     text: &mut String,
     script: &Script,
     place: Place,
-    held: &Held,
+    held: &SharedHeld,
 ) -> Result<(), AllocError>
     requires { IsOfScript script.now held.now.version }
     ensures { OnOk result (string_bytes text.new ≡ string_bytes text.old ++ entry_text script.now place (entry_of held.now)) }
@@ -222,11 +222,11 @@ fn push_held(
     text.push_str("  ")?;
     text.push_str(place_word(place))?;
     text.push_str(" ")?;
-    push_decimal(text, held.picture.value())?;
+    push_decimal(text, held.picture().value())?;
     text.push_str(" ")?;
-    push_version(text, script, held.version)?;
+    push_version(text, script, held.version())?;
     text.push_str(" ")?;
-    push_record(text, &held.content)?;
+    push_record(text, held.content())?;
     text.push_str("\n")?;
     Ok(())
 }

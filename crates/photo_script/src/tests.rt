@@ -7,8 +7,8 @@ mod moving;
 mod tallying;
 
 use super::*;
-use photo_device::{Held, HeldList, Place};
-use photo_record::Record;
+use photo_device::{Held, Place, SharedHeld, SharedList};
+use photo_record::{PicNo, Record};
 use photo_version::{Author, Vector, Version};
 use std::alloc::{AllocError, Global};
 
@@ -502,7 +502,7 @@ fn version(device: u16, n: u32) -> Option<Version>
 }
 
 // A version of the picture that a command makes.
-fn held(alloc: Global, script: &Script, number: u32, version: Version) -> Option<Held>
+fn held(alloc: Global, script: &Script, number: u32, version: Version) -> Option<SharedHeld>
     requires first { 0 < number }
     requires within { number ≤ length script.now.commands }
     ensures { IfSome result (λ held. held.version ≡ version) }
@@ -515,12 +515,20 @@ fn held(alloc: Global, script: &Script, number: u32, version: Version) -> Option
     else {
         return None;
     };
-    Some(Held {
-        picture: *picture,
+    shared(alloc, *picture, version, record.try_clone().ok()?)
+}
+
+// A held version without a history.
+fn shared(alloc: Global, picture: PicNo, version: Version, content: Record) -> Option<SharedHeld>
+    ensures { IfSome result (λ held. held.version ≡ version) }
+{
+    let held = Held {
+        picture,
         version,
         made_with: Vector::new(alloc),
-        content: record.try_clone().ok()?,
-    })
+        content,
+    };
+    SharedHeld::new(alloc, held).ok()
 }
 
 // Whether the report on the command of that number has that text.
@@ -587,8 +595,8 @@ fn is_store_listed(alloc: Global, script: &Script) -> bool {
     };
     let listed = Report::Listed {
         device: 0,
-        store: HeldList::new(items),
-        out: HeldList::new(Vec::new(alloc)),
+        store: SharedList::new(items),
+        out: SharedList::new(Vec::new(alloc)),
     };
     is_reported(
         alloc,
@@ -622,19 +630,16 @@ fn is_out_listed(alloc: Global, script: &Script) -> bool {
     let Some(old) = held(alloc, script, 1, version) else {
         return false;
     };
-    let removed = Held {
-        picture: old.picture,
-        version,
-        made_with: Vector::new(alloc),
-        content: Record::Removed,
+    let Some(removed) = shared(alloc, old.picture(), version, Record::Removed) else {
+        return false;
     };
     let Ok(items) = vec![in alloc; removed, old] else {
         return false;
     };
     let listed = Report::Listed {
         device: 1,
-        store: HeldList::new(Vec::new(alloc)),
-        out: HeldList::new(items),
+        store: SharedList::new(Vec::new(alloc)),
+        out: SharedList::new(items),
     };
     is_reported(
         alloc,
