@@ -3,7 +3,7 @@ use crate::plans::LAWFUL;
 use crate::scripts::{FOUR_DEVICES, is_four, script_of};
 use crate::{devices, pulls};
 use fleet_steps::{IssueLog, Outcome, RunError, opening_devices, replay, run_command, run_plain};
-use photo_device::{Device, Held, HeldSet, Place};
+use photo_device::{Device, Held, Place};
 use photo_pull::PullCounts;
 use photo_record::PicNo;
 use photo_script::{Command, Report, Script, Totals};
@@ -56,7 +56,7 @@ pub fn runs_command(alloc: Global, device: &mut Device) -> Option<bool> {
 
 fn log(alloc: Global) -> Option<Verdict> {
     let device = device(alloc, 2)?;
-    let issued = copies_of(alloc, device.store())?;
+    let issued = device.store().to_list().ok()?.into_vec();
     mark(alloc);
     let log = IssueLog::new(alloc, issued);
     mark(alloc);
@@ -64,14 +64,6 @@ fn log(alloc: Global) -> Option<Verdict> {
         Ok(log) => judged(Some(has_two(&log, &device)), true),
         Err(_) => Verdict::Refused,
     })
-}
-
-fn copies_of(alloc: Global, set: &HeldSet) -> Option<Vec<Held>> {
-    let mut copies = Vec::new(alloc);
-    for i in 0..set.len() {
-        copies.push(set.get(i).try_clone().ok()?).ok()?;
-    }
-    Some(copies)
 }
 
 fn has_two(log: &IssueLog, device: &Device) -> bool {

@@ -6,7 +6,7 @@ ghost use Rattle.fleet_audit.specs.Audited.{has, is_held, is_kept};
 use crate::current::current_of;
 use crate::stretch::stretch_len;
 use fleet_steps::IssueLog;
-use photo_device::{Device, Held};
+use photo_device::{Device, Held, SharedHeld};
 
 /// Whether each version of a log that no version of it supersedes is held by some device.
 pub fn is_kept(devices: &[Device], log: &IssueLog) -> bool
@@ -23,10 +23,10 @@ pub fn is_kept(devices: &[Device], log: &IssueLog) -> bool
     true
 }
 
-fn are_held(devices: &[Device], helds: &[Held]) -> bool
+fn are_held(devices: &[Device], helds: &[SharedHeld]) -> bool
     ensures { result ≡ list_all (is_held devices.now) helds.now }
 {
-    helds.iter().all(|held| is_held(devices, held))
+    helds.iter().all(|held| is_held(devices, held.as_held()))
 }
 
 // Whether some device holds the version: by searches for its picture first.

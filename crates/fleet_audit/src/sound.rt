@@ -36,10 +36,10 @@ fn stores_wanted(device: &Device, log: &IssueLog) -> bool
     true
 }
 
-fn are_placed(device: &Device, helds: &[Held]) -> bool
+fn are_placed(device: &Device, helds: &[SharedHeld]) -> bool
     ensures { result ≡ list_all (is_placed device.now) helds.now }
 {
-    helds.iter().all(|held| is_placed(device, held))
+    helds.iter().all(|held| is_placed(device, held.as_held()))
 }
 
 // Whether it doesn't know the version, doesn't select it, or stores it.

@@ -2,10 +2,10 @@ ghost use Rattle.std.specs.Prelude.{◌≡◌, ◌<◌, ◌≤◌, true, length}
 ghost use Rattle.std.specs.List.{AllAdjacentBelow};
 ghost use Rattle.fleet_audit.specs.Stretch.{Follows};
 
-use photo_device::Held;
+use photo_device::SharedHeld;
 
 /// How many versions at the front of a list are one author's of one picture, in rising order.
-pub fn stretch_len(helds: &[Held]) -> usize
+pub fn stretch_len(helds: &[SharedHeld]) -> usize
     ensures some { 0 < length helds.now → 0 < result }
     ensures within { result ≤ length helds.now }
     ensures stretch { AllAdjacentBelow Follows helds.now result }
@@ -18,10 +18,10 @@ pub fn stretch_len(helds: &[Held]) -> usize
     helds.len()
 }
 
-fn follows(held: &Held, next: &Held) -> bool
+fn follows(held: &SharedHeld, next: &SharedHeld) -> bool
     ensures { result ≡ true → Follows held.now next.now }
 {
-    held.picture == next.picture
-        && held.version.author() == next.version.author()
-        && held.version.n() <= next.version.n()
+    held.picture() == next.picture()
+        && held.version().author() == next.version().author()
+        && held.version().n() <= next.version().n()
 }

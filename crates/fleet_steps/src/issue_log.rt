@@ -1,18 +1,19 @@
 ghost use Rattle.std.specs.Prelude.{◌≡◌, ◌<◌, IfOk, OnOk};
 ghost use Rattle.fleet_steps.specs.Logged.{AreAbove, IsIndex};
 
-use photo_device::Held;
+use photo_device::{Held, SharedHeld};
 use photo_record::PicNo;
 use std::alloc::{AllocError, Global};
 use std::marker::Model;
 
-/// The versions that a run made, oldest first, each as the device held it that made it. Contracts see it as their list.
+/// The versions that a run made, oldest first, each as the device held it that made it, which it shares. Contracts see it as
+/// their list.
 ///
 /// It has them in the order of pictures as well, so that all of one picture are found by a search.
 #[derive(Debug, Drop)]
 pub struct IssueLog {
-    issued: Vec<Held>,
-    by_picture: Vec<Held>,
+    issued: Vec<SharedHeld>,
+    by_picture: Vec<SharedHeld>,
 }
 
 impl Model for IssueLog {
@@ -34,7 +35,7 @@ impl IssueLog {
     ghost use Rattle.fleet_steps.specs.Logged.{IsIndex};
 
     /// The log of those versions. Its only error is want of memory.
-    pub fn new(alloc: Global, issued: Vec<Held>) -> Result<IssueLog, AllocError>
+    pub fn new(alloc: Global, issued: Vec<SharedHeld>) -> Result<IssueLog, AllocError>
         ensures { IfOk result (λ log. log ≡ issued.items) }
     {
         let by_picture = by_picture(alloc, issued.as_slice())?;
@@ -60,39 +61,39 @@ impl IssueLog {
         requires { i < length self.now }
         ensures { slice_get self.now i ≡ Some result.now }
     {
-        &self.issued[i]
+        self.issued[i].as_held()
     }
 
     /// The versions in the order of pictures, and those of a picture in the order of versions.
-    pub fn by_picture(&self) -> &[Held]
+    pub fn by_picture(&self) -> &[SharedHeld]
         ensures { IsIndex self.now result.now }
     {
         self.by_picture.as_slice()
     }
 
     /// The versions of a picture, in their order. They are found by a search, which takes no memory.
-    pub fn of_picture(&self, picture: PicNo) -> &[Held]
+    pub fn of_picture(&self, picture: PicNo) -> &[SharedHeld]
         ensures { (test : spec.Held → Bool) → list_any test result.now ≡ list_any (λ h. (h.picture == picture) && test h) self.now }
     {
         let index = self.by_picture();
-        let from = index.partition_point(|held| held.picture < picture);
-        let to = index.partition_point(|held| held.picture <= picture);
+        let from = index.partition_point(|held| held.picture() < picture);
+        let to = index.partition_point(|held| held.picture() <= picture);
         &index[from..to]
     }
 }
 
 // The versions in the order of pictures, and those of a picture in the order of versions. Its only error is want of
 // memory.
-fn by_picture(alloc: Global, issued: &[Held]) -> Result<Vec<Held>, AllocError>
+fn by_picture(alloc: Global, issued: &[SharedHeld]) -> Result<Vec<SharedHeld>, AllocError>
     ensures { IfOk result (λ index. IsIndex issued.now index.items) }
 {
     let mut index = copies(alloc, issued)?;
-    index.sort_unstable_by_key(|held| (held.picture, held.version));
+    index.sort_unstable_by_key(|held| (held.picture(), held.version()));
     Ok(index)
 }
 
-// Copies of versions, which share what they carry. Its only error is want of memory.
-fn copies(alloc: Global, issued: &[Held]) -> Result<Vec<Held>, AllocError>
+// The same versions, which are shared. Its only error is want of memory.
+fn copies(alloc: Global, issued: &[SharedHeld]) -> Result<Vec<SharedHeld>, AllocError>
     ensures list { IfOk result (λ list. list.items ≡ issued.now) }
     ensures above { OnOk result (AreAbove issued.now) }
 {
@@ -103,11 +104,11 @@ fn copies(alloc: Global, issued: &[Held]) -> Result<Vec<Held>, AllocError>
     Ok(list)
 }
 
-fn copy_of(held: &Held) -> Result<Held, AllocError>
+fn copy_of(held: &SharedHeld) -> Result<SharedHeld, AllocError>
     ensures copy { IfOk result (λ copy. copy ≡ held.now) }
     ensures above { 0 < held.now.picture }
 {
     // For its fact alone: a picture's number is above 0.
-    let _number = held.picture.value();
+    let _number = held.picture().value();
     held.try_clone()
 }

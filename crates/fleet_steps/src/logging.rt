@@ -10,7 +10,7 @@ ghost use Rattle.fleet_steps.specs.Between.{AreReady, HaveRoom, devices_after, e
 ghost use Rattle.fleet_steps.specs.Issued.{picture_of, version_told};
 
 use crate::step::run_on;
-use photo_device::{Device, Held};
+use photo_device::{Device, SharedHeld};
 use photo_record::PicNo;
 use photo_script::{Command, Report, devices_of};
 use photo_version::Version;
@@ -22,7 +22,7 @@ pub fn run_and_log(
     alloc: Global,
     command: &Command,
     devices: &mut [Device],
-    log: &mut Vec<Held>,
+    log: &mut Vec<SharedHeld>,
 ) -> Result<Report, AllocError>
     requires within { IsWithin (length devices.old) command.now }
     requires ready { AreReady devices.old }
@@ -42,7 +42,7 @@ pub fn run_and_log(
 // Puts the version that a command has made, if it has made one, behind the log, as its device holds it. The report is the
 // one on the command, and the devices are those after it.
 fn log_issued(
-    log: &mut Vec<Held>,
+    log: &mut Vec<SharedHeld>,
     command: &Command,
     report: &Report,
     devices: &[Device],
@@ -62,7 +62,7 @@ fn log_issued(
 }
 
 // What a device holds of the version that a command has just made on it.
-fn issued<'a>(command: &Command, report: &Report, devices: &'a [Device]) -> Option<&'a Held>
+fn issued<'a>(command: &Command, report: &Report, devices: &'a [Device]) -> Option<&'a SharedHeld>
     requires { IsWithin (length devices.now) command.now }
     ensures { (models : List ModelDevice) → AllZip Shows devices.now (devices_after models command.now)
         → Tells (answer_of report.now) (effect_on models command.now).report
@@ -76,7 +76,7 @@ fn issued<'a>(command: &Command, report: &Report, devices: &'a [Device]) -> Opti
 
 /// What a device holds of the version that a command on it alone has just made, if the command has made one. The report is
 /// the one on the command.
-pub fn made_on<'a>(command: &Command, report: &Report, device: &'a Device) -> Option<&'a Held>
+pub fn made_on<'a>(command: &Command, report: &Report, device: &'a Device) -> Option<&'a SharedHeld>
     ensures { (m : ModelDevice) → Shows device.now (effect command.now m None).first
         → Tells (answer_of report.now) (effect command.now m None).report
         → entries_of (option_to_list (option_copied result)) ≡ (effect command.now m None).entries }

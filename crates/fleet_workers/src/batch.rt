@@ -20,7 +20,7 @@ use crate::parcel::Parcel;
 use crate::slots::Slots;
 use crate::work::Done;
 use fleet_steps::RunError;
-use photo_device::Held;
+use photo_device::SharedHeld;
 use photo_script::{Report, Script};
 use std::alloc::{AllocError, Global};
 use std::sync::{Arc, Wait};
@@ -111,7 +111,7 @@ fn put_back(script: &Script, slots: &mut Slots, done: Done) -> Result<(), AllocE
 }
 
 // Puts a version behind the log.
-fn log_entry(log: &mut Vec<Held>, held: Held) -> Result<(), AllocError>
+fn log_entry(log: &mut Vec<SharedHeld>, held: SharedHeld) -> Result<(), AllocError>
     ensures { OnOk result (log.new.items ≡ log.old.items ++ held ∷ []) }
 {
     log.push(held)?;

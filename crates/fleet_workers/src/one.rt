@@ -10,7 +10,7 @@ ghost use Rattle.fleet_workers.specs.Jobs.{IsFor, IsDone};
 use crate::parcel::Parcel;
 use crate::work::{Done, Job};
 use fleet_steps::{made_on, run_command, run_pull};
-use photo_device::{Device, Held};
+use photo_device::{Device, SharedHeld};
 use photo_script::{Command, Report};
 use std::alloc::{AllocError, Global};
 
@@ -56,7 +56,7 @@ fn entry_made(
     command: &Command,
     report: &Report,
     device: &Device,
-) -> Result<Option<Held>, AllocError>
+) -> Result<Option<SharedHeld>, AllocError>
     ensures { IfOk result (λ entry. (m : ModelDevice) → Shows device.now (effect command.now m None).first
         → Tells (answer_of report.now) (effect command.now m None).report
         → entries_of (option_to_list entry) ≡ (effect command.now m None).entries) }

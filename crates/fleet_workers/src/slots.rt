@@ -1,6 +1,6 @@
 // The devices between two batches, and while workers have some of them.
 use crate::parcel::Parcel;
-use photo_device::Held;
+use photo_device::SharedHeld;
 use photo_script::Report;
 
 // A slot for each device, in order of declaration; the report of each command that has run, at the place of its number, and
@@ -9,5 +9,5 @@ use photo_script::Report;
 pub(crate) struct Slots {
     pub devices: Vec<Option<Parcel>>,
     pub reports: Vec<Report>,
-    pub log: Vec<Held>,
+    pub log: Vec<SharedHeld>,
 }

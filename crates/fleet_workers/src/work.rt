@@ -1,6 +1,6 @@
 // What a worker gets, and what it gives back.
 use crate::parcel::Parcel;
-use photo_device::Held;
+use photo_device::SharedHeld;
 use photo_script::Report;
 use work_ledger::{Books, Share};
 
@@ -19,7 +19,7 @@ pub(crate) struct Done {
     pub first: Parcel,
     pub second: Option<Parcel>,
     pub report: Report,
-    pub entry: Option<Held>,
+    pub entry: Option<SharedHeld>,
 }
 
 // What a worker gives back: its share of the ledger, and what its commands gave, in order.

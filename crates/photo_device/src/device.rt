@@ -269,8 +269,8 @@ impl Device {
     }
 
     /// What it holds of that version of that picture, in the store or in the out. It is found by a search, which takes no
-    /// memory.
-    pub fn held_of(&self, picture: PicNo, version: Version) -> Option<&Held>
+    /// memory, and can be shared.
+    pub fn held_of(&self, picture: PicNo, version: Version) -> Option<&SharedHeld>
         ensures held { option_copied result ≡ find_version_of picture version (self.now.store ++ self.now.out) }
         ensures shows { (m : ModelDevice) → Shows self.now m
             → option_map entry_of (option_copied result) ≡ find_entry picture version (holds m) }

@@ -148,7 +148,7 @@ impl HeldSet {
     }
 
     /// That version of that picture, if it has it. It is found by a search, which takes no memory.
-    pub fn of(&self, picture: PicNo, version: Version) -> Option<&Held>
+    pub fn of(&self, picture: PicNo, version: Version) -> Option<&SharedHeld>
         ensures { option_copied result ≡ find_version_of picture version self.now }
     {
         let held = self
@@ -157,7 +157,7 @@ impl HeldSet {
         if !held.is_of(picture, version) {
             return None;
         }
-        Some(held.as_held())
+        Some(held)
     }
 
     /// The held versions as a list, which shares them. Its only error is want of memory.

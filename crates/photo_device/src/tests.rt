@@ -110,13 +110,19 @@ fn held(device: &Device, n: u32) -> Option<&Held> {
     device.held(Version::new(device.author(), n)?)
 }
 
+// Whether a device finds that version of its picture.
+fn finds(device: &Device, held: &Held) -> bool {
+    match device.held_of(held.picture, held.version) {
+        Some(found) => found.as_held() == held,
+        None => false,
+    }
+}
+
 // Whether a device holds its version of that number, of that picture and with that record.
 fn has(device: &Device, n: u32, number: u32, content: &Record) -> bool {
     match held(device, n) {
         Some(held) => {
-            held.picture.value() == number
-                && held.content == *content
-                && device.held_of(held.picture, held.version) == Some(held)
+            held.picture.value() == number && held.content == *content && finds(device, held)
         }
         None => false,
     }

@@ -1,6 +1,7 @@
 use Rattle.std.proofs.Common.{◌≡◌, true, false, max, get_or, arith, sym, ap, ◌∙◌}
 use Rattle.std.specs.Option.{option_copied}
 use Rattle.std.proofs.lemmas.List.{take_all}
+use Rattle.photo_version.specs.Vector.{denotes}
 use Rattle.fleet_audit.specs.Current.{counts, is_passed}
 use Rattle.fleet_audit.proofs.Stretches.{one_counted, one_uncounted}
 use Rattle.fleet_audit.proofs.current.outdated.Goals as goal
@@ -16,11 +17,11 @@ loop-newer-preserved c =
     elim c.if-is_counted.branch [
       | then-is_counted b ↦
           let counted : counts viewer w ≡ true = sym c.is_counted.ensures ∙ b.if-is_counted.true in
-          let is : c.if-is_counted.count ≡ max c.loop-newer.count b.made_with.result = b.count-is ∙ b.max-count.ensures in
-          let within = b.made_with.ensures.within in
+          let is : c.if-is_counted.count ≡ max c.loop-newer.count b.made_with-then-is_counted.result = b.count-is ∙ b.max-count.ensures in
+          let within = b.made_with-then-is_counted.ensures.within in
           rw is (record {
             within = omega arith;
-            passed = one_counted viewer made stretch i c.loop-newer.count w (omega arith) (sym c.newer-item.is) c.loop-newer.invariant.passed counted b.made_with.result b.made_with.ensures.known;
+            passed = one_counted viewer made stretch i c.loop-newer.count w (omega arith) (sym c.newer-item.is) c.loop-newer.invariant.passed counted b.made_with-then-is_counted.result (λ k d l. b.made_with-then-is_counted.ensures.known k d l ∙ ap (λ v. denotes v (get_or stretch k d).version) b.made_with.ensures);
           })
       | else-is_counted b ↦
           let uncounted : counts viewer w ≡ false = sym c.is_counted.ensures ∙ b.if-is_counted.false in

@@ -22,7 +22,6 @@ returns-then-not-is_of c =
 pub returns : goal.returns
 returns c =
     let held : Held = c.in_ok-held.held.now in
-    ap (λ (h : Held). Some h) c.as_held.ensures
-    ∙ ap (λ b. cond b (Some held) None) c.if-not-is_of.ensures
+    ap (λ b. cond b (Some held) None) c.if-not-is_of.ensures
     ∙ found_by_search c.args.picture c.args.version c.self.inside.items (Some held) (λ t h parts. c.in_ok-held.ensures t h parts) c.self.invariant (λ a r f h. search rules)
     ∙ ap (find_version_of c.args.picture c.args.version) c.self.view_is
