@@ -12,8 +12,9 @@ use std::marker::Model;
 /// It has them in the order of pictures as well, so that all of one picture are found by a search.
 #[derive(Debug, Drop)]
 pub struct IssueLog {
-    issued: Vec<SharedHeld>,
+    // Dropped before those below, so that versions are freed in the order in which they were made.
     by_picture: Vec<SharedHeld>,
+    issued: Vec<SharedHeld>,
 }
 
 impl Model for IssueLog {
@@ -39,7 +40,7 @@ impl IssueLog {
         ensures { IfOk result (λ log. log ≡ issued.items) }
     {
         let by_picture = by_picture(alloc, issued.as_slice())?;
-        Ok(IssueLog { issued, by_picture })
+        Ok(IssueLog { by_picture, issued })
     }
 
     /// How many versions were made.
