@@ -149,14 +149,14 @@ fn memory_does_not_grow(rt: HostRuntime) -> Result<(), Fail> {
     Ok(())
 }
 
-// Whether a block without rows gives way to a larger one, and one with rows stays beside it.
+// Whether a block without rows gives way to a larger one, and one with rows stays beside one that is four times as large.
 fn gives_way(arena: &mut FragmentArena) -> Option<bool> {
     arena.reserve(40, 1).ok()?;
     arena.reserve(1000, 1).ok()?;
     let alone = arena.memory() == (1, 1000);
     arena.place(&[7]).ok()?;
     arena.reserve(3000, 2).ok()?;
-    let beside = arena.memory() == (2, 3000);
+    let beside = arena.memory() == (2, 4000);
     arena.place(&[8, 9]).ok()?;
     Some(alone && beside && has_row(arena, 0, &[7]) && has_row(arena, 1, &[8, 9]))
 }
@@ -211,19 +211,19 @@ fn a_word_is_written_over(rt: HostRuntime) -> Result<(), Fail> {
     Ok(())
 }
 
-// Runs of the stairs, each with its first row, the row behind its last one, and its words. The first blocks have 32, 64,
-// 128 and 256 words, so that they begin with the rows 0, 8, 14 and 21.
+// Runs of the stairs, each with its first row, the row behind its last one, and its words. The first blocks have 32, 128,
+// 512 and 2,048 words, so that they begin with the rows 0, 8, 18 and 36.
 const RUNS: &[(usize, usize, usize)] = &[
     (0, 0, 0),
     (9, 9, 0),
     (300, 300, 0),
     (0, 8, 28),
-    (8, 14, 63),
+    (8, 18, 125),
     (9, 13, 42),
-    (14, 15, 14),
-    (13, 15, 27),
-    (8, 21, 182),
-    (7, 22, 210),
+    (18, 19, 18),
+    (17, 19, 35),
+    (8, 36, 602),
+    (7, 37, 645),
     (299, 300, 299),
     (0, 300, 44_850),
 ];
