@@ -70,6 +70,16 @@ lacks-first r fields filter no_name no_filter no_picture counts = record {
   counts = counts;
 }
 
+-- and whatever sets of words it keeps
+pub lacks_with_sets : (before now : Reader) (sets : ℕ) (fields : List (List ℕ)) (filter : List ℕ) → Lacks before fields filter now → Lacks before fields filter (record now { words = sets })
+lacks_with_sets before now sets fields filter lacks = record {
+  script = lacks.script;
+  no_name = lacks.no_name;
+  no_filter = lacks.no_filter;
+  makes = lacks.makes;
+  counts = lacks.counts;
+}
+
 -- with its command behind the others a line is taken
 pub last-taken : (before now new : Reader) (fields : List (List ℕ)) (filter : List ℕ) (x : Command) → Lacks before fields filter now
     → new.script ≡ contents now.script.names now.script.filters (now.script.commands ++ x ∷ []) → new.pictures ≡ now.pictures → Takes before fields filter (Some x) new

@@ -17,6 +17,7 @@ mod Numbers
 mod OneAnswer
 mod Places
 mod Returns
+mod SharingLemmas
 mod Spaces
 mod Taken
 mod Taking

@@ -7,6 +7,7 @@ pub mod Earlier
 pub mod Saying
 pub mod Reading
 pub mod Steps
+pub mod Sharing
 pub mod Reports
 pub mod Runs
 pub mod Tallies

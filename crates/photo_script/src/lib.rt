@@ -16,6 +16,7 @@ mod refusal;
 mod report;
 mod script;
 mod tally;
+mod word_sets;
 
 pub use command::{Command, devices_of};
 pub use fault::{LineFault, ScriptFault};

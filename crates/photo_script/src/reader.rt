@@ -17,8 +17,9 @@ use crate::field::{
 };
 use crate::limits::{MAX_COMMANDS, MAX_DEVICES, MAX_LINE_BYTES, MAX_TEXT_BYTES};
 use crate::refusal::Refusal;
+use crate::word_sets::WordSets;
 use crate::{Command, LineFault, Script, ScriptFault};
-use photo_record::{Day, PicNo, Rating, Record, WordFault, Words};
+use photo_record::{Day, PicNo, Rating, Record, WordFault};
 use photo_version::{Author, Version};
 use std::alloc::Global;
 use std::collections::BTreeSet;
@@ -55,6 +56,7 @@ fn read_lines(alloc: Global, text: &str) -> Result<Script, ScriptFault>
         alloc,
         script: Script::new(alloc),
         pictures: BTreeSet::new(alloc),
+        words: WordSets::new(alloc),
     };
     let mut fields = Vec::new(alloc);
     match reader.read_pieces(text, &mut fields) {
@@ -70,12 +72,13 @@ fn without_return(line: &str) -> &str
     line.strip_suffix('\r').unwrap_or(line)
 }
 
-// The script of the lines so far, and the pictures that they make.
+// The script of the lines so far, the pictures that they make, and the sets of words that they have.
 #[derive(Drop)]
 struct Reader {
     alloc: Global,
     script: Script,
     pictures: BTreeSet<u32>,
+    words: WordSets,
 }
 
 impl Reader {
@@ -234,7 +237,7 @@ impl Reader {
     {
         let device = self.first_device(name)?;
         let picture = self.new_picture(picture)?;
-        let record = record_of(self.alloc, rating, date, words)?;
+        let record = record_of(&mut self.words, rating, date, words)?;
         self.take(Command::New {
             device,
             picture,
@@ -270,7 +273,7 @@ impl Reader {
     {
         let device = self.first_device(name)?;
         let picture = any_picture(picture)?;
-        let record = record_of(self.alloc, rating, date, words)?;
+        let record = record_of(&mut self.words, rating, date, words)?;
         self.take(Command::Edit {
             device,
             picture,
@@ -461,15 +464,15 @@ fn any_picture(text: &str) -> Result<PicNo, LineFault>
     picture_of(text).ok_or(LineFault::BadNumber)
 }
 
-// The record of those fields.
+// The record of those fields, whose set of words is shared with that of earlier lines.
 #[tactic(auto, unfolding(crate::specs::Saying::record_said))]
-fn record_of(alloc: Global, rating: &str, date: &str, words: &str) -> Result<Record, Refusal>
+fn record_of(sets: &mut WordSets, rating: &str, date: &str, words: &str) -> Result<Record, Refusal>
     ensures said { Gives (λ r. r) result (record_said rating.now date.now words.now) }
     ensures in_range { IfOk result IsInRange }
 {
     let rating = Rating::read(rating).ok_or(LineFault::BadRating)?;
     let day = Day::read(date).ok_or(LineFault::BadDate)?;
-    let words = match Words::read(alloc, words) {
+    let words = match sets.read(words) {
         Ok(words) => words,
         Err(WordFault::NoMemory) => return Err(Refusal::Memory),
         Err(_) => return Err(Refusal::Fault(LineFault::BadKeyword)),

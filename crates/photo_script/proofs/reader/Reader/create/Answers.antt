@@ -24,7 +24,7 @@ returns-in_err-record c =
     let old = c.args.self.now in
     let device = c.in_ok-device.device in
     let known = first-known (seen old) c.args.name.now device c.in_ok-device.ensures.said in
-    reads-same old c.new_picture.new.self (codes "new" ∷ c.args.name.now ∷ c.args.picture.now ∷ c.args.rating.now ∷ c.args.date.now ∷ c.args.words.now ∷ []) [] (command_said (seen old) (creation_said (seen old) c.args.name.now c.args.picture.now (record_said c.args.rating.now c.args.date.now c.args.words.now))) c.from_residual-in_err-record.result _ c.from_residual-in_err-record.ensures.1
+    reads-same old (record c.new_picture.new.self { words = c.record_of.new.sets }) (codes "new" ∷ c.args.name.now ∷ c.args.picture.now ∷ c.args.rating.now ∷ c.args.date.now ∷ c.args.words.now ∷ []) [] (command_said (seen old) (creation_said (seen old) c.args.name.now c.args.picture.now (record_said c.args.rating.now c.args.date.now c.args.words.now))) c.from_residual-in_err-record.result _ c.from_residual-in_err-record.ensures.1
     (creation-record (seen old) c.args.name.now c.args.picture.now c.args.rating.now c.args.date.now c.args.words.now device c.in_ok-picture.picture _ c.in_ok-device.ensures.room known (sym c.in_ok-picture.ensures.said) c.in_err-record.ensures.said)
 
 pub returns : goal.returns
@@ -35,4 +35,5 @@ returns c =
     let fresh = sym c.in_ok-picture.ensures.said in
     let known = first-known (seen old) c.args.name.now device c.in_ok-device.ensures.said in
     let said = creation-said (seen old) c.args.name.now c.args.picture.now c.args.rating.now c.args.date.now c.args.words.now device number c.in_ok-record.record c.in_ok-device.ensures.room known fresh c.in_ok-record.ensures.said in
-    rw said (c.take.ensures old (codes "new" ∷ c.args.name.now ∷ c.args.picture.now ∷ c.args.rating.now ∷ c.args.date.now ∷ c.args.words.now ∷ []) [] (lacks_new old c.new_picture.new.self c.args.name.now c.args.picture.now c.args.rating.now c.args.date.now c.args.words.now number fresh c.in_ok-picture.ensures.script c.in_ok-picture.ensures.made))
+    rw said (c.take.ensures old (codes "new" ∷ c.args.name.now ∷ c.args.picture.now ∷ c.args.rating.now ∷ c.args.date.now ∷ c.args.words.now ∷ []) []
+    (lacks_new old (record c.new_picture.new.self { words = c.record_of.new.sets }) c.args.name.now c.args.picture.now c.args.rating.now c.args.date.now c.args.words.now number fresh c.in_ok-picture.ensures.script c.in_ok-picture.ensures.made))
