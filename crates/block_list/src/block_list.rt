@@ -1,3 +1,4 @@
+//! The list in blocks: what it is seen as, and its calls.
 use crate::blocks::{element_at, insert_at, insert_in, remove_between, set_at, set_in};
 use crate::kept::retain_in;
 use crate::near::{behind, spot_near};

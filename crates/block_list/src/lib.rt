@@ -19,6 +19,3 @@ pub use block_list::BlockList;
 pub use room::Room;
 pub use roomy::Roomy;
 pub use spot::Spot;
-
-#[cfg(test)]
-mod tests;

@@ -1,3 +1,4 @@
+//! Room that is taken before a list grows.
 use crate::Roomy;
 use crate::spare::{spare_blocks, spares_for, whole_block};
 use std::alloc::{AllocError, Global};

@@ -1,3 +1,4 @@
+//! A list that is open for elements that are to come.
 use crate::BlockList;
 use crate::placed::place_behind;
 use std::marker::Model;

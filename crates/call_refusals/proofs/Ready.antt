@@ -1,8 +1,9 @@
 -- What the run of a script leaves ready for one more command.
-use Rattle.std.proofs.Common.{◌≡◌, ◌≤◌, true, not, List, [], ◌∷◌, length, refl}
+use Rattle.std.proofs.Common.{◌≡◌, ◌≤◌, true, not, ◌&&◌, List, [], ◌∷◌, length, refl}
 use Rattle.std.specs.Prelude.{Option, Some, None, is_some, nat_lt}
 use Rattle.std.specs.List.{AllZip, list_all}
 use Rattle.std.proofs.lemmas.Bool.{and_parts, ltb-true, false≢true}
+use Rattle.photo_version.specs.Author.{epoch_of_author}
 use Rattle.photo_device.specs.Device.{Kept, Shows}
 use Rattle.photo_script.specs.Limits.{max_devices, max_commands}
 use Rattle.photo_script.specs.Contents.{Contents, NamesDevices, AreInRange}
@@ -25,6 +26,9 @@ pub settled_all : (devices : List Kept) → list_all (λ d. not (is_some d.stage
 settled_all [] h = tt
 settled_all (d ∷ ds) h = let r = and_parts _ _ h in (none_staged d.staged r.0, settled_all ds r.1)
 
-pub room_for_all : (devices : List Kept) → list_all (λ d. nat_lt d.counter 4_294_967_295) devices ≡ true → HaveRoom devices
+pub room_for_all : (devices : List Kept) → list_all (λ d. nat_lt d.counter 4_294_967_295 && nat_lt (epoch_of_author d.author) 4_294_967_295) devices ≡ true → HaveRoom devices
 room_for_all [] h = tt
-room_for_all (d ∷ ds) h = let r = and_parts _ _ h in (ltb-true _ _ r.0, room_for_all ds r.1)
+room_for_all (d ∷ ds) h =
+    let r = and_parts _ _ h in
+    let here = and_parts _ _ r.0 in
+    ((ltb-true _ _ here.0, ltb-true _ _ here.1), room_for_all ds r.1)

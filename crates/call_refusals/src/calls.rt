@@ -1,5 +1,5 @@
 //! Calls by their names.
-use crate::{devices, fleets, plans, pulls, runs, scripts, streams};
+use crate::{devices, fleets, gates, plans, pulls, runs, scripts, streams};
 use std::alloc::Global;
 use std::sync::Wait;
 use std::thread::Threads;
@@ -13,6 +13,7 @@ pub fn of_line<R: Threads + Wait + Copy + Send + 'static>(
 ) -> Option<Verdict> {
     let (library, call) = line.split_once("::")?;
     match library {
+        "fleet_workers" if call == "run_fleet command" => gates::verdict(rt, alloc),
         "fleet_workers" => streams::verdict_on_fleet(rt, alloc, call),
         "fleet_runner" if call == "run_stream" => streams::verdict_on_stream(rt, alloc),
         "fleet_runner" => streams::verdict(alloc, call),
@@ -25,6 +26,7 @@ pub fn of_line<R: Threads + Wait + Copy + Send + 'static>(
 fn of_scripts(alloc: Global, library: &str, call: &str) -> Option<Verdict> {
     match library {
         "photo_pull" if call == "pull" => pulls::verdict(alloc, pulls::Call::Pull),
+        "photo_pull" if call == "preview" => pulls::verdict(alloc, pulls::Call::Preview),
         "photo_script" => scripts::verdict(alloc, call),
         "photo_batcher" => plans::verdict(alloc, call),
         "photo_device" => devices::verdict(alloc, call),

@@ -1,5 +1,6 @@
+//! The calls of `photo_device`, and `fleet_steps::run_command`.
 ghost use Rattle.std.specs.Prelude.{◌≡◌, ◌<◌, ◌==◌, ◌&&◌, ℕ, [], ◌∷◌, IfSome};
-ghost use Rattle.photo_version.specs.Author.{author};
+ghost use Rattle.photo_version.specs.Author.{author, device_of_author};
 ghost use Rattle.photo_version.specs.Version as versions;
 ghost use Rattle.photo_version.specs.Vector.{denotes};
 ghost use Rattle.item_knowledge.specs.Fragments.{knows};
@@ -34,7 +35,9 @@ fn verdict_on_others(alloc: Global, call: &str) -> Option<Verdict> {
         "Device::stage" => on_device(alloc, 2, Call::Stage),
         "Device::stage_lent" => on_device(alloc, 2, Call::StageLent),
         "Device::unknown_of" => on_device(alloc, 2, Call::Ask),
+        "Device::unknown_by" => on_device(alloc, 2, Call::AskLent),
         "Device::narrow" => on_device(alloc, 2, Call::Narrow),
+        "Device::refilter" => on_device(alloc, 2, Call::Refilter),
         "Device::conflicts" => conflicts(alloc),
         "Held::try_clone" => on_device(alloc, 1, Call::CopyHeld),
         "SharedHeld::new" => on_device(alloc, 1, Call::Share),
@@ -52,7 +55,9 @@ enum Call {
     Stage,
     StageLent,
     Ask,
+    AskLent,
     Narrow,
+    Refilter,
     CopyHeld,
     Share,
     CopyShared,
@@ -78,6 +83,7 @@ fn on_twins(alloc: Global, device: &mut Device, twin: &Device, call: Call) -> Op
     match call {
         Call::Stage => stage(alloc, device, twin),
         Call::Narrow => narrow(alloc, device, twin),
+        Call::Refilter => refilter(alloc, device, twin),
         call => {
             let right = calls(alloc, device, call);
             Some(judged(right, same_device(device, twin)))
@@ -91,7 +97,8 @@ fn calls(alloc: Global, device: &mut Device, call: Call) -> Option<bool> {
         Call::Edit => edits(alloc, device),
         Call::Remove => removes(alloc, device),
         Call::StageLent => stages_lent(alloc, device),
-        Call::Ask => asks(alloc, device),
+        Call::Ask => asks(alloc, device, Call::Ask),
+        Call::AskLent => asks(alloc, device, Call::AskLent),
         Call::CopyHeld => with_first(alloc, device.store(), copies_held),
         Call::Share => with_first(alloc, device.store(), shares),
         Call::CopyShared => with_first(alloc, device.store(), copies_shared),
@@ -278,12 +285,15 @@ fn stage(alloc: Global, device: &mut Device, twin: &Device) -> Option<Verdict> {
     let kept = same_device(device, twin);
     Some(match done {
         Ok(()) => judged(Some(device.staged()), kept),
-        Err((change, _)) => judged(None, kept && !device.staged() && is_change(alloc, &change)),
+        Err((change, _)) => judged(
+            None,
+            kept && has_nothing_staged(device) && is_change(alloc, &change),
+        ),
     })
 }
 
 fn stages(alloc: Global, device: &mut Device, change: Change) -> Result<(), (Change, AllocError)>
-    requires zero { device.old.author.device ≡ 0 }
+    requires zero { device_of_author device.old.author ≡ 0 }
     requires drops { change.drops ≡ [] }
     requires takes { change.takes ≡ [] }
     requires gain { (p : ℕ) (v : versions.Version) → 0 < p
@@ -315,7 +325,7 @@ fn stages_lent(alloc: Global, device: &mut Device) -> Option<bool> {
 
 // None where memory was wanted, nothing is staged, and both lists came back.
 fn stages_gain(alloc: Global, device: &mut Device, gain: &Knowledge) -> Option<bool>
-    requires zero { device.old.author.device ≡ 0 }
+    requires zero { device_of_author device.old.author ≡ 0 }
     requires gain { (p : ℕ) (v : versions.Version) → 0 < p
         → knows gain.now.known p v ≡ ((7 == p) && denotes ((author 1, 3) ∷ []) v) }
 {
@@ -328,7 +338,7 @@ fn stages_gain(alloc: Global, device: &mut Device, gain: &Knowledge) -> Option<b
     match done {
         Ok(()) => Some(device.staged()),
         Err((drops, takes, _)) => {
-            if device.staged() || !drops.is_empty() || !takes.is_empty() {
+            if !has_nothing_staged(device) || !drops.is_empty() || !takes.is_empty() {
                 return Some(false);
             }
             None
@@ -349,6 +359,39 @@ fn narrow(alloc: Global, device: &mut Device, twin: &Device) -> Option<Verdict> 
         ),
         Err(_) => Verdict::Wrong,
     })
+}
+
+// Gives a device in its first epoch a filter that matches the first of its two versions.
+fn refilter(alloc: Global, device: &mut Device, twin: &Device) -> Option<Verdict> {
+    let filter = filter_of(alloc, "rating >= 5")?;
+    if device.author().epoch() != 0 {
+        return None;
+    }
+    mark(alloc);
+    let sizes = device.refilter(filter);
+    mark(alloc);
+    Some(match sizes {
+        Ok(sizes) => judged(Some(sizes == (1, 1) && has_begun_anew(alloc, device)), true),
+        Err((filter, _)) => judged(
+            None,
+            same_device(device, twin) && has_nothing_staged(device) && is_five(alloc, &filter),
+        ),
+    })
+}
+
+// Whether a device is in its second epoch, has made nothing in it, and knows each of its two versions of its picture alone.
+fn has_begun_anew(alloc: Global, device: &Device) -> bool {
+    device.author() == Author::at(0, 1)
+        && device.counter() == 0
+        && has_moved(device)
+        && device.knowledge().fragments() == 3
+        && has_nothing_staged(device)
+        && is_five(alloc, device.filter())
+}
+
+// Whether nothing is staged on a device, nor in what it knows.
+fn has_nothing_staged(device: &Device) -> bool {
+    !device.staged() && !device.knowledge().staged()
 }
 
 fn has_moved(device: &Device) -> bool {
@@ -437,15 +480,26 @@ fn lists(alloc: Global, set: &HeldSet) -> Option<bool> {
 }
 
 // Asks a device for what it doesn't know of another one's store.
-fn asks(alloc: Global, device: &mut Device) -> Option<bool> {
+fn asks(alloc: Global, device: &mut Device, call: Call) -> Option<bool> {
     let mut other = Device::new(alloc, Author::new(1), filter_of(alloc, "all")?).ok()?;
     make_all(alloc, &mut other, 2)?;
-    asks_of(alloc, device, other.store())
+    match call {
+        Call::Ask => asks_of(alloc, device, other.store()),
+        _ => asks_lent(alloc, device, other.store()),
+    }
 }
 
 fn asks_of(alloc: Global, device: &mut Device, set: &HeldSet) -> Option<bool> {
     mark(alloc);
     let found = device.unknown_of(alloc, set);
+    mark(alloc);
+    let found = found.ok()?;
+    Some(are_those_of(&found, set))
+}
+
+fn asks_lent(alloc: Global, device: &Device, set: &HeldSet) -> Option<bool> {
+    mark(alloc);
+    let found = device.unknown_by(alloc, set);
     mark(alloc);
     let found = found.ok()?;
     Some(are_those_of(&found, set))

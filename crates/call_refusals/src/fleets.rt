@@ -1,3 +1,4 @@
+//! The calls of `live_fleet`.
 ghost use Rattle.std.specs.Prelude.{◌≡◌, ◌+◌, ◌≤◌, length, IfSome};
 
 use crate::devices::same_devices;
@@ -26,6 +27,8 @@ fn verdict_on_others(alloc: Global, call: &str) -> Option<Verdict> {
     match call {
         "Fleet::remove" => on_fleet(alloc, Call::Remove),
         "Fleet::narrow" => on_fleet(alloc, Call::Narrow),
+        "Fleet::refilter" => on_fleet(alloc, Call::Refilter),
+        "Fleet::preview" => on_fleet(alloc, Call::Preview),
         "Fleet::make first" => first_made(alloc),
         "Fleet::pull first" => first_pulled(alloc),
         _ => None,
@@ -40,6 +43,8 @@ enum Call {
     Remove,
     Pull,
     Narrow,
+    Refilter,
+    Preview,
 }
 
 fn new(alloc: Global) -> Option<Verdict> {
@@ -125,6 +130,8 @@ fn calls(alloc: Global, fleet: &mut Fleet, call: Call) -> Option<bool>
         Call::Remove => removes(alloc, fleet),
         Call::Pull => pulls(alloc, fleet),
         Call::Narrow => narrows(alloc, fleet),
+        Call::Refilter => refilters(alloc, fleet),
+        Call::Preview => previews(alloc, fleet),
     }
 }
 
@@ -221,6 +228,26 @@ fn narrows(alloc: Global, fleet: &mut Fleet) -> Option<bool>
     let moved = fleet.narrow(0, &filter);
     mark(alloc);
     Some(moved.ok()? == Some(1) && fleet.commands() == 5 && fleet.log().len() == 3)
+}
+
+fn refilters(alloc: Global, fleet: &mut Fleet) -> Option<bool>
+    requires devices { length fleet.old.devices ≡ 2 }
+    requires commands { fleet.old.commands ≤ 4 }
+{
+    let filter = filter_of(alloc, "rating >= 5")?;
+    mark(alloc);
+    let sizes = fleet.refilter(0, &filter);
+    mark(alloc);
+    Some(sizes.ok()? == (0, 1) && fleet.commands() == 5 && fleet.log().len() == 3)
+}
+
+fn previews(alloc: Global, fleet: &Fleet) -> Option<bool>
+    requires { length fleet.now.devices ≡ 2 }
+{
+    mark(alloc);
+    let counts = fleet.preview(0, 1);
+    mark(alloc);
+    Some(counts.ok()? == TAKEN && fleet.commands() == 4)
 }
 
 // What came of a fleet's first version, for which the log has no room yet.

@@ -6,6 +6,7 @@
 mod calls;
 mod devices;
 mod fleets;
+mod gates;
 mod plans;
 mod pulls;
 mod runs;

@@ -1,3 +1,4 @@
+//! The calls of `photo_batcher`.
 ghost use Rattle.std.specs.Prelude.{◌≡◌, ◌≤◌, ◌<◌, length};
 
 use crate::scripts::{FOUR_DEVICES, is_four, script_of};

@@ -1,11 +1,13 @@
-ghost use Rattle.std.specs.Prelude.{◌≡◌, ◌<◌, ◌≤◌, nat_lt, true, not, None, is_some, length, IfSome};
+//! The calls that pull, in the midst of a script.
+ghost use Rattle.std.specs.Prelude.{◌≡◌, ◌<◌, ◌≤◌, ◌&&◌, nat_lt, true, not, None, is_some, length, IfSome};
 ghost use Rattle.std.specs.List.{list_all};
+ghost use Rattle.photo_version.specs.Author.{epoch_of_author};
 ghost use Rattle.fleet_steps.specs.Between.{AreReady, HaveRoom, MayPull};
 
 use crate::devices::same_devices;
-use fleet_steps::{run_on, run_plain, run_pull};
+use fleet_steps::{run_between, run_on, run_plain, run_pull};
 use photo_device::Device;
-use photo_pull::{PullCounts, pull};
+use photo_pull::{PullCounts, preview, pull};
 use photo_script::{Command, Report, read_script};
 use std::alloc::Global;
 use value_refusals::{Verdict, judged, mark};
@@ -39,8 +41,12 @@ fn on_twins(alloc: Global, devices: &mut [Device], twins: &[Device], call: Call)
 pub enum Call {
     /// `photo_pull::pull`
     Pull,
+    /// `photo_pull::preview`
+    Preview,
     /// `fleet_steps::run_pull`
     RunPull,
+    /// `fleet_steps::run_between`
+    RunBetween,
     /// `fleet_steps::run_on`
     RunOn,
 }
@@ -88,11 +94,11 @@ fn has_taken(srv: &Device) -> bool {
         && srv.knowledge().fragments() == 2
 }
 
-// Whether each device may make a version more.
+// Whether each device may make a version more, and begin its next epoch.
 fn have_room(devices: &[Device]) -> bool
-    ensures { result ≡ list_all (λ d. nat_lt d.counter 4_294_967_295) devices.now }
+    ensures { result ≡ list_all (λ d. nat_lt d.counter 4_294_967_295 && nat_lt (epoch_of_author d.author) 4_294_967_295) devices.now }
 {
-    devices.iter().all(|device| device.counter() < u32::MAX)
+    devices.iter().all(|device| device.counter() < u32::MAX && device.author().epoch() < u32::MAX)
 }
 
 // Whether nothing is staged on any device.
@@ -127,7 +133,7 @@ fn on_all(alloc: Global, devices: &mut [Device], twins: &[Device]) -> Verdict
 fn runs_on(alloc: Global, devices: &mut [Device]) -> Option<bool>
     requires three { length devices.old ≡ 3 }
     requires ready { AreReady devices.old }
-    requires room { list_all (λ d. nat_lt d.counter 4_294_967_295) devices.old ≡ true }
+    requires room { list_all (λ d. nat_lt d.counter 4_294_967_295 && nat_lt (epoch_of_author d.author) 4_294_967_295) devices.old ≡ true }
     requires settled { list_all (λ d. not (is_some d.staged)) devices.old ≡ true }
     ensures kept { result ≡ None → devices.new ≡ devices.old }
 {
@@ -154,6 +160,8 @@ fn on_two(alloc: Global, target: &mut Device, source: &mut Device, call: Call) -
 {
     match call {
         Call::Pull => pulls_from(alloc, target, source),
+        Call::Preview => previews(alloc, target, source),
+        Call::RunBetween => runs_between(alloc, target, source),
         _ => runs_pull(alloc, target, source),
     }
 }
@@ -167,6 +175,16 @@ fn pulls_from(alloc: Global, target: &mut Device, source: &mut Device) -> Option
     Some(counts.ok()? == COUNTS && has_taken(target))
 }
 
+// Whether a preview tells what the pull would count, and the target holds what it held.
+fn previews(alloc: Global, target: &Device, source: &Device) -> Option<bool>
+    requires { MayPull target.now source.now }
+{
+    mark(alloc);
+    let counts = preview(alloc, target, source);
+    mark(alloc);
+    Some(counts.ok()? == COUNTS && target.store().len() == 1 && !has_taken(target))
+}
+
 fn runs_pull(alloc: Global, target: &mut Device, source: &mut Device) -> Option<bool>
     requires { MayPull target.old source.old }
 {
@@ -174,4 +192,21 @@ fn runs_pull(alloc: Global, target: &mut Device, source: &mut Device) -> Option<
     let report = run_pull(alloc, target, source);
     mark(alloc);
     Some(is_told(&report.ok()?) && has_taken(target))
+}
+
+// Whether a preview's command tells what the pull would count.
+fn runs_between(alloc: Global, target: &mut Device, source: &mut Device) -> Option<bool>
+    requires { MayPull target.old source.old }
+{
+    let command = Command::Preview {
+        target: 1,
+        source: 0,
+    };
+    mark(alloc);
+    let report = run_between(alloc, &command, target, source);
+    mark(alloc);
+    match report.ok()? {
+        Report::Preview(counts) => Some(counts == COUNTS && !has_taken(target)),
+        _ => Some(false),
+    }
 }

@@ -1,3 +1,4 @@
+//! The calls of `fleet_steps` but those on one command.
 use crate::devices::{device, has_made, same_devices};
 use crate::plans::LAWFUL;
 use crate::scripts::{FOUR_DEVICES, is_four, script_of};
@@ -15,6 +16,7 @@ pub fn verdict(alloc: Global, call: &str) -> Option<Verdict> {
     match call {
         "run_command" => devices::verdict_on_command(alloc),
         "run_pull" => pulls::verdict(alloc, pulls::Call::RunPull),
+        "run_between" => pulls::verdict(alloc, pulls::Call::RunBetween),
         "run_on" => pulls::verdict(alloc, pulls::Call::RunOn),
         "IssueLog::new" => log(alloc),
         _ => verdict_on_scripts(alloc, call),
@@ -40,7 +42,7 @@ pub fn runs_command(alloc: Global, device: &mut Device) -> Option<bool> {
         picture,
         record,
     };
-    if device.counter() != 2 {
+    if device.counter() != 2 || device.author().epoch() != 0 {
         return Some(false);
     }
     mark(alloc);

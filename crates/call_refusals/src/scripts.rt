@@ -1,3 +1,4 @@
+//! The calls of `photo_script`, and the script that other calls run.
 use crate::pulls::COUNTS;
 use photo_script::{Report, Script, ScriptFault, push_report, read_script, report_text};
 use std::alloc::Global;

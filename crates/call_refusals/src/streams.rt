@@ -1,3 +1,4 @@
+//! The calls of `fleet_runner` and `fleet_workers`.
 use crate::plans::{four_planned, is_planned};
 use crate::pulls::COUNTS;
 use crate::runs::is_run;

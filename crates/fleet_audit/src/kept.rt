@@ -1,3 +1,4 @@
+//! Whether everything that is current is held by some device.
 ghost use Rattle.std.specs.Prelude.{◌≡◌, ◌++◌};
 ghost use Rattle.std.specs.List.{list_any, list_all};
 ghost use Rattle.photo_device.specs.Held.{has_version_of};

@@ -1,3 +1,4 @@
+//! Whether a device stores just what its filter selects of the newest that it knows.
 ghost use Rattle.std.specs.Prelude.{◌≡◌, ◌||◌, Some};
 ghost use Rattle.std.specs.List.{list_all};
 ghost use Rattle.fleet_audit.specs.Current.{is_outdated};

@@ -1,3 +1,4 @@
+//! Stretches of one author's versions of one picture.
 ghost use Rattle.std.specs.Prelude.{◌≡◌, ◌<◌, ◌≤◌, true, length};
 ghost use Rattle.std.specs.List.{AllAdjacentBelow};
 ghost use Rattle.fleet_audit.specs.Stretch.{Follows};

@@ -1,3 +1,4 @@
+//! The whole audit: all devices, and the log.
 ghost use Rattle.std.specs.Prelude.{◌≡◌, ◌&&◌, List};
 ghost use Rattle.std.specs.List.{AllZip, list_all};
 ghost use Rattle.photo_device.specs.Held.{entries_of};

@@ -13,7 +13,7 @@ use Rattle.photo_script.specs.Reading.{script_of}
 use Rattle.photo_script.specs.Reports.{Answer, ModelReport, KnowledgeOf, Exactly, KnowledgeIs, text_of}
 use Rattle.photo_script.specs.Runs.{run, reports_of}
 use Rattle.fleet_runner.specs.Outputs.{IsOutput, WritesOutput}
-use Rattle.fleet_runner.specs.Examples.{AreAsTold, stored_text, stored_run, printed, below_the_filter, printed_below, with_the_word, changes, printed_changes, two_versions, printed_two_versions, narrower, printed_narrower, never_made}
+use Rattle.fleet_runner.specs.Examples.{AreAsTold, stored_text, stored_run, printed, below_the_filter, printed_below, with_the_word, changes, printed_changes, two_versions, printed_two_versions, narrower, printed_narrower, refilters, printed_refilters, previews, printed_previews, never_made}
 use Rattle.fleet_runner.proofs.Outputs.{one_output}
 
 -- the versions of the first device up to a number, known of every picture
@@ -46,7 +46,7 @@ below_printed : IsOutput below_the_filter printed_below
 unfolding text_of digits date_of years_off months_off
 below_printed = record {
   answers = answers_to 1 below_the_filter;
-  right = (refl, (refl, (record { fragments = star 1; given = refl; normal = refl; denoted = λ p above v. up_to_one (eqb 0 v.author.device) v.number }, tt)));
+  right = (refl, (refl, (record { fragments = star 1; given = refl; normal = refl; denoted = λ p above v. up_to_one (eqb 0 v.author.word) v.number }, tt)));
   texts = refl;
 }
 
@@ -54,7 +54,7 @@ changes_printed : IsOutput changes printed_changes
 unfolding text_of digits date_of years_off months_off
 changes_printed = record {
   answers = answers_to 4 changes;
-  right = (refl, (refl, (refl, (refl, (refl, (refl, (record { fragments = star 4; given = refl; normal = refl; denoted = λ p above v. up_to_four (eqb 0 v.author.device) v.number }, (refl, (refl, tt)))))))));
+  right = (refl, (refl, (refl, (refl, (refl, (refl, (record { fragments = star 4; given = refl; normal = refl; denoted = λ p above v. up_to_four (eqb 0 v.author.word) v.number }, (refl, (refl, tt)))))))));
   texts = refl;
 }
 
@@ -83,13 +83,13 @@ two_beside_one e a b n =
 
 -- two versions of the first device, and of a picture one of the second beside them
 abbrev of_two : List Fragment
-of_two = record { pictures = []; entries = (0, 2) ∷ [] } ∷ record { pictures = 7 ∷ []; entries = (0, 2) ∷ (1, 1) ∷ [] } ∷ []
+of_two = record { pictures = []; entries = (0, 2) ∷ [] } ∷ record { pictures = 7 ∷ []; entries = (0, 2) ∷ (4294967296, 1) ∷ [] } ∷ []
 
 conflict_printed : IsOutput two_versions printed_two_versions
 unfolding text_of digits date_of years_off months_off
 conflict_printed = record {
   answers = map (answer_to of_two) (reports_of (run two_versions));
-  right = (refl, (refl, (refl, (refl, (refl, (refl, (record { fragments = of_two; given = refl; normal = refl; denoted = λ p above v. two_beside_one (eqb 7 p) (eqb 0 v.author.device) (eqb 1 v.author.device) v.number }, (refl, (refl, tt)))))))));
+  right = (refl, (refl, (refl, (refl, (refl, (refl, (record { fragments = of_two; given = refl; normal = refl; denoted = λ p above v. two_beside_one (eqb 7 p) (eqb 0 v.author.word) (eqb 4294967296 v.author.word) v.number }, (refl, (refl, tt)))))))));
   texts = refl;
 }
 
@@ -98,6 +98,22 @@ unfolding text_of digits date_of years_off months_off
 narrowed_printed = record {
   answers = answers_to 0 narrower;
   right = (refl, (refl, (refl, (refl, (refl, (refl, (refl, (refl, tt))))))));
+  texts = refl;
+}
+
+refiltered_printed : IsOutput refilters printed_refilters
+unfolding text_of digits date_of years_off months_off
+refiltered_printed = record {
+  answers = answers_to 0 refilters;
+  right = (refl, (refl, (refl, (refl, (refl, (refl, (refl, (refl, (refl, (refl, (refl, (refl, tt))))))))))));
+  texts = refl;
+}
+
+previewed_printed : IsOutput previews printed_previews
+unfolding text_of digits date_of years_off months_off
+previewed_printed = record {
+  answers = answers_to 0 previews;
+  right = (refl, (refl, (refl, (refl, (refl, (refl, tt))))));
   texts = refl;
 }
 
@@ -120,6 +136,10 @@ as_told one read = record {
   changed = changes_printed;
   conflict = conflict_printed;
   narrowed = narrowed_printed;
+  refiltered = refiltered_printed;
+  refiltered_totals = refl;
+  previewed = previewed_printed;
+  previewed_totals = refl;
   unknown = record { answers = answers_to 0 never_made; right = (refl, tt); texts = refl };
   empty = record { answers = []; right = tt; texts = refl };
   silent = record { answers = []; right = tt; texts = refl };

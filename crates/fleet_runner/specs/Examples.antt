@@ -4,7 +4,7 @@ use Rattle.std.specs.Io.KnownBytes.{Appends}
 use Rattle.photo_record.specs.declared.record.Record.TheVariants.{Picture}
 use Rattle.photo_filter_text.specs.declared.tree.Cmp.TheVariants.{AtLeast, AtMost}
 use Rattle.photo_filter_text.specs.Tree.{All, Rate, Keyword}
-use Rattle.photo_version.specs.Author.{author}
+use Rattle.photo_version.specs.Author.{author, author_at}
 use Rattle.photo_version.specs.Version.{version}
 use Rattle.photo_script.specs.declared.command.Command.TheVariants as command
 use Rattle.photo_script.specs.Contents.{Contents, contents}
@@ -77,6 +77,34 @@ printed_narrower = codes "1 made a:1 store\n" ++ (codes "2 made a:2 store\n" ++ 
     ++ (codes "  out 1 a:1 rating 2 day 2024-01-01 words -\n" ++ (codes "  out 2 a:2 rating 3 day 2024-01-01 words -\n"
     ++ (codes "6 refused C2 NotNarrower\n" ++ (codes "7 refused C1 NotHeld\n" ++ codes "8 made a:4 out\n")))))))))
 
+-- a frame gets any filter, by a fresh author: what it forgot the next pull brings, and what it makes supersedes what it held
+abbrev pub refilters : Contents
+refilters = contents (codes "s" ∷ codes "f" ∷ []) (All ∷ Rate AtLeast 4 ∷ [])
+    (command.New 0 7 (Picture 2 (pos 19723) []) ∷ command.New 0 8 (Picture 5 (pos 19723) []) ∷ command.Pull 1 0
+    ∷ command.Refilter 1 All ∷ command.Knows 1 7 (version (author 0) 1) ∷ command.Pull 1 0 ∷ command.Edit 1 7 (Picture 3 (pos 19723) [])
+    ∷ command.Knows 0 7 (version (author_at 1 1) 1) ∷ command.Pull 0 1 ∷ command.List 0 ∷ command.Refilter 1 (Rate AtLeast 4)
+    ∷ command.Edit 1 8 (Picture 5 (pos 19723) []) ∷ [])
+
+abbrev pub printed_refilters : List ℕ
+printed_refilters = codes "1 made s:1 store\n" ++ (codes "2 made s:2 store\n"
+    ++ (codes "3 pulled taken 1 handed 0 notices 0 dropped 0 learned yes\n" ++ (codes "4 refiltered store 1 out 0\n" ++ (codes "5 knows no\n"
+    ++ (codes "6 pulled taken 1 handed 0 notices 0 dropped 0 learned yes\n" ++ (codes "7 made f.1:1 store\n" ++ (codes "8 knows no\n"
+    ++ (codes "9 pulled taken 1 handed 0 notices 0 dropped 1 learned yes\n" ++ (codes "10 list s store 2 out 0\n"
+    ++ (codes "  store 7 f.1:1 rating 3 day 2024-01-01 words -\n" ++ (codes "  store 8 s:2 rating 5 day 2024-01-01 words -\n"
+    ++ (codes "11 refiltered store 1 out 1\n" ++ codes "12 made f.2:1 store\n"))))))))))))
+
+-- a preview tells what the pull after it counts, and moves nothing
+abbrev pub previews : Contents
+previews = contents (codes "cam" ∷ codes "frame" ∷ []) (All ∷ Rate AtLeast 4 ∷ [])
+    (command.New 0 1 (Picture 5 (pos 19723) []) ∷ command.New 0 2 (Picture 2 (pos 19723) []) ∷ command.Preview 1 0 ∷ command.Pull 1 0
+    ∷ command.Preview 1 0 ∷ command.List 1 ∷ [])
+
+abbrev pub printed_previews : List ℕ
+printed_previews = codes "1 made cam:1 store\n" ++ (codes "2 made cam:2 store\n"
+    ++ (codes "3 preview taken 1 handed 0 notices 0 dropped 0 learned yes\n" ++ (codes "4 pulled taken 1 handed 0 notices 0 dropped 0 learned yes\n"
+    ++ (codes "5 preview taken 0 handed 0 notices 0 dropped 0 learned yes\n" ++ (codes "6 list frame store 1 out 0\n"
+    ++ codes "  store 1 cam:1 rating 5 day 2024-01-01 words -\n")))))
+
 -- a version that is never made isn't known
 abbrev pub never_made : Contents
 never_made = contents (codes "cam" ∷ codes "b" ∷ []) (All ∷ All ∷ []) (command.Knows 1 7 (version (author 0) 100000) ∷ [])
@@ -103,6 +131,10 @@ pub record AreAsTold : Type 0 where
   pub changed : IsOutput changes printed_changes
   pub conflict : IsOutput two_versions printed_two_versions
   pub narrowed : IsOutput narrower printed_narrower
+  pub refiltered : IsOutput refilters printed_refilters
+  pub refiltered_totals : totals_of refilters (run refilters) ≡ totals 6 3 3 3
+  pub previewed : IsOutput previews printed_previews
+  pub previewed_totals : totals_of previews (run previews) ≡ totals 2 1 3 1
   pub unknown : IsOutput never_made (codes "1 knows no\n")
   pub empty : IsOutput (contents [] [] []) []
   pub silent : IsOutput (contents (codes "a" ∷ []) (All ∷ []) []) []

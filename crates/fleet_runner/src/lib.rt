@@ -10,7 +10,7 @@ mod stream;
 
 pub use fleet_audit::audit;
 pub use fleet_steps::{
-    IssueLog, Outcome, RunError, replay, run_command, run_on, run_plain, run_pull,
+    IssueLog, Outcome, RunError, replay, run_between, run_command, run_on, run_plain, run_pull,
 };
 pub use fleet_workers::{Gate, OpenGate, Workers, run_fleet};
 pub use live_fleet::Fleet;

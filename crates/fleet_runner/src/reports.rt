@@ -1,3 +1,4 @@
+//! The writing of reports.
 ghost use Rattle.std.specs.Prelude.{◌≡◌, ◌≤◌, length, map, OnOk, OnErr, IfErr, Err};
 ghost use Rattle.std.specs.List.{AllByRecursion};
 ghost use Rattle.photo_script.specs.Limits.{max_commands};

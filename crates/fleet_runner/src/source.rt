@@ -1,3 +1,4 @@
+//! The reading of a script from a source.
 ghost use Rattle.std.specs.Prelude.{◌≡◌, ◌≢◌, ◌⊎◌, ◌+◌, ◌<◌, length, Ok, Err, IfOk, IfErr, IfSome};
 ghost use Rattle.photo_script.specs.Limits.{max_text_bytes};
 ghost use Rattle.photo_script.specs.Reading.{script_of};

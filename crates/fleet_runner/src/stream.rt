@@ -1,3 +1,4 @@
+//! From a reader's bytes to the bytes of the reports, on one thread or by workers.
 ghost use Rattle.std.specs.Prelude.{◌≡◌, ◌≢◌, ◌+◌, OnOk, IfOk, IfErr, IfSome, Ok, Err};
 ghost use Rattle.photo_script.specs.Limits.{max_text_bytes};
 ghost use Rattle.photo_script.specs.Reading.{script_of};

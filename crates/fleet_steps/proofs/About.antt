@@ -1,5 +1,5 @@
 -- The answers of a run speak of devices of its script.
-use Rattle.std.proofs.Common.{◌≡◌, ◌⊎◌, ℕ, zero, suc, ◌+◌, ◌<◌, ◌≤◌, Bool, true, false, not, ◌&&◌, ◌||◌, eqb, ltb, cond, List, [], ◌∷◌, ◌++◌, length, get_or, set, map, inl, inr, refl, sym, ◌∙◌, subst, arith}
+use Rattle.std.proofs.Common.{◌≡◌, ◌⊎◌, ℕ, zero, suc, ◌+◌, ◌/◌, ◌<◌, ◌≤◌, Bool, true, false, not, ◌&&◌, ◌||◌, eqb, ltb, cond, List, [], ◌∷◌, ◌++◌, length, get_or, set, map, inl, inr, refl, sym, ◌∙◌, subst, arith}
 use Rattle.std.proofs.lemmas.Bool.{and_parts, or_cases, or_left, or_right, eqb-true}
 use Rattle.std.specs.Prelude.{filter, Option, Some, None, IfSome}
 use Rattle.photo_record.specs.declared.record.Record.{Record}
@@ -8,33 +8,24 @@ use Rattle.std.specs.List.{AllByRecursion, list_any}
 use Rattle.photo_filter_text.specs.Tree.{Tree}
 use Rattle.photo_filter_rules.specs.Matching.{matches}
 use Rattle.photo_filter_rules.specs.Covers.{covers}
-use Rattle.photo_version.specs.Author.{device_of_author, same_author}
+use Rattle.photo_version.specs.Author.{epoch_of_author, same_author}
 use Rattle.photo_version.specs.Version.{Version, same_version}
 use Rattle.item_knowledge.specs.Fragments.{knows}
-use Rattle.photo_device.specs.Ordered.{put}
 use Rattle.photo_device.specs.Entry.{Entry, entry_before, others, put_entry_if, put_entries, is_of_other, supersedes}
 use Rattle.photo_device.specs.Device.{ModelDevice, known, holds, knows_entry, selects, new_entry, next_version, made, is_held, narrowed, moved}
+use Rattle.photo_device.specs.Refiltered.{refiltered}
 use Rattle.photo_device.specs.Conflicts.{conflicts_of, versions_of, pictures_of}
-use Rattle.photo_pull.specs.Pull.{taken, handed, noticed, told, learns_all, leaves_store, leaves_out, tell, pulled, handed_over}
+use Rattle.photo_device.specs.Telling.{tell}
+use Rattle.photo_pull.specs.Pull.{taken, handed, noticed, told, learns_all, leaves_store, leaves_out, pulled, handed_over}
 use Rattle.photo_script.specs.declared.command.Command.{Command}
 use Rattle.photo_script.specs.declared.command.Command.TheVariants as command
 use Rattle.photo_script.specs.Contents.{Contents, devices_of}
 use Rattle.photo_script.specs.Reports.{Answer, NotHeld, NotNarrower, Narrowed, Exactly, Tells, TellsKnowledge, IsOfScript, AreOfScript, IsConflictOfScript, AreConflictsOfScript, IsAbout}
-use Rattle.photo_script.specs.Runs.{Effect, effect, making, telling, changing, narrowing, pulling, opening_from}
+use Rattle.photo_script.specs.Runs.{Effect, effect, making, telling, changing, narrowing, pulling, previewing, opening_from}
+use Rattle.fleet_steps.specs.Running.{IsOfRun, IsOfFleet}
 use Rattle.photo_device.proofs.AllLemmas.{all_append, all_filter, all_put}
 use Rattle.fleet_steps.proofs.KnownLemmas.{each_known}
-
--- the entry's version is of a device of the script, and so is each version that it was made with
-pub record IsOfRun (script : Contents) (e : Entry) : Type 0 where
-  pub itself : IsOfScript script e.version
-  pub history : (v : Version) → e.history v ≡ true → IsOfScript script v
-
--- the device is of the script, and so is all that it holds, and each version that it knows
-pub record IsOfFleet (script : Contents) (d : ModelDevice) : Type 0 where
-  pub author : device_of_author d.author < length script.names
-  pub store : AllByRecursion (IsOfRun script) d.store
-  pub out : AllByRecursion (IsOfRun script) d.out
-  pub knows : (picture : ℕ) (v : Version) → known d picture v ≡ true → IsOfScript script v
+use Rattle.fleet_steps.proofs.Epochs.{next_device}
 
 all_puts : (P : Entry → Type 0) (es entries : List Entry) → AllByRecursion P es → AllByRecursion P entries → AllByRecursion P (put_entries es entries)
 all_puts P [] entries new all = all
@@ -93,7 +84,7 @@ one_known : (script : Contents) (d : ModelDevice) (p : ℕ) (v : Version) → Is
 one_known script d p v of here =
     elim (one_of_three (d.every v) (same_version (next_version d) v) (d.of p v) here) [
       | inl before ↦ of.knows p v before
-      | inr new ↦ subst (λ n. n < length script.names) (eqb-true d.author.device v.author.device (and_parts (same_author d.author v.author) (eqb (d.counter + 1) v.number) new).0) of.author
+      | inr new ↦ subst (λ n. n / 4294967296 < length script.names) (eqb-true d.author.word v.author.word (and_parts (same_author d.author v.author) (eqb (d.counter + 1) v.number) new).0) of.author
     ]
 
 -- a device that makes a version stays of the script
@@ -120,7 +111,7 @@ told_known : (script : Contents) (es : List Entry) (p : ℕ) (v : Version) → A
 told_known script es p v all h = any_passes (IsOfRun script) (IsOfScript script v) (λ e. (eqb e.picture p) && (e.history v || same_version e.version v)) es
     (λ e of here. elim (or_cases (e.history v) (same_version e.version v) (and_parts (eqb e.picture p) (e.history v || same_version e.version v) here).1) [
       | inl in_history ↦ of.history v in_history
-      | inr itself ↦ subst (λ n. n < length script.names) (eqb-true e.version.author.device v.author.device (and_parts (same_author e.version.author v.author) (eqb e.version.number v.number) itself).0) of.itself
+      | inr itself ↦ subst (λ n. n / 4294967296 < length script.names) (eqb-true e.version.author.word v.author.word (and_parts (same_author e.version.author v.author) (eqb e.version.number v.number) itself).0) of.itself
     ]) all h
 
 module _ (script : Contents) (t s : ModelDevice) (of_t : IsOfFleet script t) (of_s : IsOfFleet script s) where
@@ -179,6 +170,17 @@ narrowed_known script d tree of = record {
   knows = of.knows;
 }
 
+-- a device that begins its next epoch with any filter stays of the script
+refiltered_known : (script : Contents) (d : ModelDevice) (tree : Tree) → epoch_of_author d.author < 4294967295 → IsOfFleet script d → IsOfFleet script (refiltered tree d)
+refiltered_known script d tree few of =
+    let all = all_append (IsOfRun script) d.store d.out of.store of.out in
+    record {
+      author = subst (λ n. n < length script.names) (sym (next_device d.author few)) of.author;
+      store = all_puts (IsOfRun script) (filter (λ e. matches tree e.content) (holds d)) [] (all_filter (IsOfRun script) (λ e. matches tree e.content) (holds d) all) tt;
+      out = all_puts (IsOfRun script) (filter (λ e. not (matches tree e.content)) (holds d)) [] (all_filter (IsOfRun script) (λ e. not (matches tree e.content)) (holds d) all) tt;
+      knows = λ p v h. told_known script (holds d) p v all h;
+    }
+
 -- the effect where the filter is narrowed
 abbrev pub narrowed_effect : ModelDevice → Option ModelDevice → Tree → Effect
 narrowed_effect d other tree = record { first = narrowed tree d; second = other; report = Exactly (Narrowed (moved tree d)); entries = [] }
@@ -220,6 +222,10 @@ pulling_about : (script : Contents) (d : ModelDevice) (other : Option ModelDevic
 pulling_about script d None answer tells = subst (IsAbout script) (sym tells) tt
 pulling_about script d (Some s) answer tells = subst (IsAbout script) (sym tells) tt
 
+previewing_about : (script : Contents) (d : ModelDevice) (other : Option ModelDevice) (answer : Answer) → Tells answer (previewing d other).report → IsAbout script answer
+previewing_about script d None answer tells = subst (IsAbout script) (sym tells) tt
+previewing_about script d (Some s) answer tells = subst (IsAbout script) (sym tells) tt
+
 -- the versions of a picture
 conflict_about : (script : Contents) (es : List Entry) (p : ℕ) → AllByRecursion (IsOfRun script) es → IsConflictOfScript script (versions_of es p)
 conflict_about script es p all = all_map (IsOfRun script) (IsOfScript script) (λ e. e.version) (filter (λ e. eqb e.picture p) es) (λ e of. of.itself) (all_filter (IsOfRun script) (λ e. eqb e.picture p) es all)
@@ -235,17 +241,20 @@ conflicts_about script d of =
 
 -- a command keeps this of its devices, and the right answer is about the script
 
-pub effect_known : (script : Contents) (c : Command) (d : ModelDevice) (other : Option ModelDevice) → IsOfFleet script d → IfSome other (IsOfFleet script) → IsOfFleet script (effect c d other).first
-effect_known script (command.New n picture content) d other of more = made_known script d picture content of
-effect_known script (command.Edit n picture content) d other of more = changing_known script d other picture content of
-effect_known script (command.Remove n picture) d other of more = changing_known script d other picture Removed of
-effect_known script (command.Pull target source) d None of more = of
-effect_known script (command.Pull target source) d (Some s) of more = pulled_known script d s of more
-effect_known script (command.Narrow n tree) d other of more = narrowing_known script d other tree of
-effect_known script (command.List n) d other of more = of
-effect_known script (command.Conflicts n) d other of more = of
-effect_known script (command.Knowledge n) d other of more = of
-effect_known script (command.Knows n picture v) d other of more = of
+pub effect_known : (script : Contents) (c : Command) (d : ModelDevice) (other : Option ModelDevice) → epoch_of_author d.author < 4294967295 → IsOfFleet script d → IfSome other (IsOfFleet script) → IsOfFleet script (effect c d other).first
+effect_known script (command.New n picture content) d other few of more = made_known script d picture content of
+effect_known script (command.Edit n picture content) d other few of more = changing_known script d other picture content of
+effect_known script (command.Remove n picture) d other few of more = changing_known script d other picture Removed of
+effect_known script (command.Pull target source) d None few of more = of
+effect_known script (command.Pull target source) d (Some s) few of more = pulled_known script d s of more
+effect_known script (command.Narrow n tree) d other few of more = narrowing_known script d other tree of
+effect_known script (command.Refilter n tree) d other few of more = refiltered_known script d tree few of
+effect_known script (command.Preview target source) d None few of more = of
+effect_known script (command.Preview target source) d (Some s) few of more = of
+effect_known script (command.List n) d other few of more = of
+effect_known script (command.Conflicts n) d other few of more = of
+effect_known script (command.Knowledge n) d other few of more = of
+effect_known script (command.Knows n picture v) d other few of more = of
 
 -- a command on one device leaves a second as it was
 pub changing_second : (d : ModelDevice) (other : Option ModelDevice) (picture : ℕ) (content : Record) → (changing d other picture content).second ≡ other
@@ -263,6 +272,9 @@ effect_known_second script (command.Remove n picture) d other of more = subst (�
 effect_known_second script (command.Pull target source) d None of more = tt
 effect_known_second script (command.Pull target source) d (Some s) of more = handed_over_known script d s of more
 effect_known_second script (command.Narrow n tree) d other of more = subst (λ o. IfSome o (IsOfFleet script)) (sym (narrowing_second d other tree)) more
+effect_known_second script (command.Refilter n tree) d other of more = more
+effect_known_second script (command.Preview target source) d None of more = tt
+effect_known_second script (command.Preview target source) d (Some s) of more = more
 effect_known_second script (command.List n) d other of more = more
 effect_known_second script (command.Conflicts n) d other of more = more
 effect_known_second script (command.Knowledge n) d other of more = more
@@ -275,6 +287,8 @@ effect_about script (command.Edit n picture content) d other h of answer tells =
 effect_about script (command.Remove n picture) d other h of answer tells = changing_about script d other picture Removed of answer tells
 effect_about script (command.Pull target source) d other h of answer tells = pulling_about script d other answer tells
 effect_about script (command.Narrow n tree) d other h of answer tells = narrowing_about script d other tree answer tells
+effect_about script (command.Refilter n tree) d other h of answer tells = subst (IsAbout script) (sym tells) tt
+effect_about script (command.Preview target source) d other h of answer tells = previewing_about script d other answer tells
 effect_about script (command.List n) d other h of answer tells = subst (IsAbout script) (sym tells) (h, entries_about script d.store of.store, entries_about script d.out of.out)
 effect_about script (command.Conflicts n) d other h of answer tells = subst (IsAbout script) (sym tells) (h, conflicts_about script d of)
 effect_about script (command.Knowledge n) d other h of answer tells = knowledge_about script d n h of answer tells

@@ -1,27 +1,27 @@
--- A pull between two devices of a run.
-use Rattle.std.proofs.Common.{◌≡◌, ◌≢◌, ℕ, ◌+◌, ◌-◌, ◌<◌, Bool, true, false, cond, eqb, List, [], ◌∷◌, ◌++◌, length, get_or, set, take, drop, refl, sym, ap, ◌∙◌, subst, arith}
-use Rattle.std.specs.Prelude.{Option, Some, None, Result, Ok, Err, OnOk, OnErr, IfOk}
+-- Commands on one and on two of the devices of a run.
+use Rattle.std.proofs.Common.{◌≡◌, ◌≢◌, ℕ, ◌+◌, ◌-◌, ◌<◌, ◌≤◌, Bool, true, false, cond, eqb, inl, inr, subst₂, List, [], ◌∷◌, ◌++◌, length, get_or, set, take, drop, refl, sym, ap, ◌∙◌, subst, arith}
+use Rattle.std.specs.Prelude.{Option, Some, None, Result, Ok, Err, OnOk, OnErr, IfOk, IfSome}
 use Rattle.std.specs.Option.{option_map}
 use Rattle.std.specs.List.{AllZip}
 use Rattle.std.proofs.lemmas.List.{append-nil, take_all, drop_all, get_or_append_left, get_or-append-add, set-append_left, set-append_right, length-set, map-append}
-use Rattle.std.proofs.lemmas.Bool.{and_parts, eqb-true, ne_eqb}
+use Rattle.std.proofs.lemmas.Bool.{ne_eqb, cases_eq}
 use Rattle.photo_filter_text.specs.Tree.{All}
-use Rattle.photo_version.specs.Author.{author, same_author}
+use Rattle.photo_version.specs.Author.{author, device_of_author, is_earlier_epoch}
 use Rattle.photo_version.specs.Version.{Version, version, same_version}
 use Rattle.photo_device.specs.declared.held.Held.{Held}
 use Rattle.photo_device.specs.Entry.{Entry}
 use Rattle.photo_device.specs.Held.{find_version, entry_of, entries_of}
 use Rattle.photo_device.specs.Device.{Kept, ModelDevice, Shows, holds, known, opening}
-use Rattle.photo_pull.specs.Pull.{pulled, handed_over, counts_of}
+use Rattle.photo_pull.specs.Pull.{handed_over}
 use Rattle.photo_script.specs.Runs.{effect, device_at, with_second}
 use Rattle.photo_pull.proofs.Ready.{same_is}
 use Rattle.fleet_steps.specs.Members.{In, here, there}
 use Rattle.photo_script.specs.declared.command.Command.{Command}
 use Rattle.photo_script.specs.declared.command.Command.TheVariants as command
 use Rattle.photo_script.specs.declared.report.Report.{Report}
-use Rattle.photo_script.specs.Contents.{devices_of}
-use Rattle.photo_script.specs.Reports.{Pulled, Tells, answer_of}
-use Rattle.fleet_steps.specs.Between.{MayPull, AreReady, after_pull, devices_after, effect_on}
+use Rattle.photo_script.specs.Contents.{devices_of, IsWithin}
+use Rattle.photo_script.specs.Reports.{Tells, answer_of}
+use Rattle.fleet_steps.specs.Between.{MayPull, AreReady, HaveRun, devices_after, effect_on}
 use Rattle.fleet_steps.specs.Wanting.{MayWantMemory}
 use Rattle.fleet_steps.proofs.Zipped.{zip_at, zip_set, zip_long}
 
@@ -57,21 +57,24 @@ may_pull devices t s d e are ht hs other =
     let s_shows : Shows source sm = zip_at Shows devices models s e (opening (author s) All) are.shown hs in
     let tin : t < length models = omega arith in
     let sin : s < length models = omega arith in
-    let by_t : target.author ≡ author t = t_shows.author ∙ are.ready.author t tin in
-    let by_s : source.author ≡ author s = s_shows.author ∙ are.ready.author s sin in
+    let by_t : device_of_author target.author ≡ t = ap device_of_author t_shows.author ∙ are.ready.author t tin in
+    let by_s : device_of_author source.author ≡ s = ap device_of_author s_shows.author ∙ are.ready.author s sin in
     record {
-      differ = (λ i. same_author (by_t i) (by_s i)) ∙ ne_eqb t s (λ e. other (sym e));
+      differ = (λ i. eqb (by_t i) (by_s i)) ∙ ne_eqb t s (λ e. other (sym e));
       one = λ v h g ft fs.
           let th = found v (target.store ++ target.out) h ft in
           let sh = found v (source.store ++ source.out) g fs in
           let th_in : In (entry_of h) (holds tm) = subst (In (entry_of h)) (held_by target tm t_shows) th.held in
           let sh_in : In (entry_of g) (holds sm) = subst (In (entry_of g)) (held_by source sm s_shows) sh.held in
           ap (λ (x : Entry). x.picture) (are.ready.one t s tin sin (entry_of h) (entry_of g) th_in sh_in (th.is ∙ sym sh.is));
-      own = λ p n above k.
-          let known_too : known sm p (version tm.author n) ≡ true = ap (λ a. known sm p (version a n)) (sym t_shows.author) ∙ sym (s_shows.known p above (version target.author n)) ∙ k in
-          let counted = are.ready.own t s p n tin sin known_too in
-          let same = t_shows.counter in
-          omega arith;
+      own = record {
+        own = λ p n above k.
+            let known_too : known sm p (version tm.author n) ≡ true = ap (λ a. known sm p (version a n)) (sym t_shows.author) ∙ sym (s_shows.known p above (version target.author n)) ∙ k in
+            let counted = are.ready.own t s p n tin sin known_too in
+            let same = t_shows.counter in
+            omega arith;
+        later = λ p v above later. s_shows.known p above v ∙ are.ready.later t s p v tin sin (subst (λ a. is_earlier_epoch a v.author ≡ true) t_shows.author later);
+      };
     }
 
 -- a list that is cut in two: an item of the front, and the first one of the back
@@ -107,37 +110,82 @@ may_pull_ahead devices front back t s d e are cut long h ht =
     subst (λ (x : Kept). MayPull x (get_or front s e)) (sym (back_at devices front back t d cut long))
     (subst (MayPull (get_or devices t d)) (sym (front_at devices front back s e cut (omega arith))) (may_pull devices t s d e are ht (omega arith) (omega arith)))
 
--- the devices after a pull
-pub pull_shows : {E : Type 0} (r : Result Report E) (devices new : List Kept) (t s : ℕ) (d e target source a b : Kept) → target ≡ get_or devices t d → source ≡ get_or devices s e → t < length devices → s < length devices → new ≡ set (set devices t a) s b
-    → OnOk r ((tm sm : ModelDevice) → Shows target tm → Shows source sm → Shows a (pulled tm sm))
-    → OnOk r ((tm sm : ModelDevice) → Shows target tm → Shows source sm → Shows b (handed_over tm sm))
-    → OnOk r ((models : List ModelDevice) → AllZip Shows devices models → AllZip Shows new (after_pull t s models))
-pull_shows (Err refused) devices new t s d e target source a b is_t is_s ht hs is_new first second = tt
-pull_shows (Ok report) devices new t s d e target source a b is_t is_s ht hs is_new first second = λ models shown.
+-- a command on two devices
+
+-- its devices, by their places
+pub record AreTwo (devices : List Kept) (t s : ℕ) : Type 0 where
+  pub target : t < length devices
+  pub source : s < length devices
+  pub apart : s ≢ t
+  pub ahead : s ≤ t → s < t
+
+pub two_within : (c : Command) (devices : List Kept) (t s : ℕ) → (devices_of c).0 ≡ t → (devices_of c).1 ≡ Some s → IsWithin (length devices) c → AreTwo devices t s
+two_within c devices t s first second within =
+    let target : t < length devices = subst (λ (k : ℕ). k < length devices) first within.0 in
+    let other : (s < length devices) × (s ≢ t) = subst₂ (λ (k : ℕ) (o : Option ℕ). IfSome o (λ n. (n < length devices) × (n ≢ k))) first second within.1 in
+    record {
+      target = target;
+      source = other.0;
+      apart = other.1;
+      ahead = λ least. elim (cases_eq s t) [ inl same ↦ absurd (other.1 same) | inr apart ↦ omega (arith, least, apart) ];
+    }
+
+-- it leaves a second one
+second_stays : (c : Command) (s : ℕ) (m other : ModelDevice) → (devices_of c).1 ≡ Some s → (x : ModelDevice) × ((effect c m (Some other)).second ≡ Some x)
+second_stays (command.New k p r) s m other two = cc
+second_stays (command.Edit k p r) s m other two = cc
+second_stays (command.Remove k p) s m other two = cc
+second_stays (command.Pull t k) s m other two = (handed_over m other, refl)
+second_stays (command.Narrow k tree) s m other two = cc
+second_stays (command.Refilter k tree) s m other two = cc
+second_stays (command.Preview t k) s m other two = (other, refl)
+second_stays (command.List k) s m other two = cc
+second_stays (command.Conflicts k) s m other two = cc
+second_stays (command.Knowledge k) s m other two = cc
+second_stays (command.Knows k p v) s m other two = cc
+
+-- what it has done, by the places of its devices
+two_after : (c : Command) (models : List ModelDevice) (t s : ℕ) (x : ModelDevice) → (devices_of c).0 ≡ t → (devices_of c).1 ≡ Some s → (effect c (device_at models t) (Some (device_at models s))).second ≡ Some x
+    → devices_after models c ≡ set (set models t (effect c (device_at models t) (Some (device_at models s))).first) s x
+two_after c models t s x first second is = (λ i.
+    let done = effect c (device_at models (first i)) (option_map (device_at models) (second i)) in
+    with_second (second i) done.second (set models (first i) done.first))
+    ∙ ap (λ (o : Option ModelDevice). with_second (Some s) o (set models t (effect c (device_at models t) (Some (device_at models s))).first)) is
+
+-- the devices after it
+pub two_show : {E : Type 0} (r : Result Report E) (devices new : List Kept) (c : Command) (t s : ℕ) (d e target source a b : Kept) → target ≡ get_or devices t d → source ≡ get_or devices s e → t < length devices → s < length devices → new ≡ set (set devices t a) s b
+    → (devices_of c).0 ≡ t → (devices_of c).1 ≡ Some s
+    → OnOk r ((tm sm : ModelDevice) → Shows target tm → Shows source sm → Shows a (effect c tm (Some sm)).first)
+    → OnOk r ((tm sm : ModelDevice) → Shows target tm → Shows source sm → IfSome (effect c tm (Some sm)).second (Shows b))
+    → OnOk r (HaveRun c devices new)
+two_show (Err refused) devices new c t s d e target source a b is_t is_s ht hs is_new first second shows_first shows_second = tt
+two_show (Ok report) devices new c t s d e target source a b is_t is_s ht hs is_new first second shows_first shows_second = λ models shown.
     let tm = device_at models t in
     let sm = device_at models s in
     let t_shows : Shows target tm = subst (λ (x : Kept). Shows x tm) (sym is_t) (zip_at Shows devices models t d (opening (author t) All) shown ht) in
     let s_shows : Shows source sm = subst (λ (x : Kept). Shows x sm) (sym is_s) (zip_at Shows devices models s e (opening (author s) All) shown hs) in
-    subst (λ (l : List Kept). AllZip Shows l (after_pull t s models)) (sym is_new)
-    (zip_set Shows (set devices t a) (set models t (pulled tm sm)) s b (handed_over tm sm) (zip_set Shows devices models t a (pulled tm sm) shown (first tm sm t_shows s_shows)) (second tm sm t_shows s_shows))
+    let done = effect c tm (Some sm) in
+    let x = second_stays c s tm sm second in
+    let b_shows : Shows b x.0 = subst (λ (o : Option ModelDevice). IfSome o (Shows b)) x.1 (shows_second tm sm t_shows s_shows) in
+    subst (λ (l : List Kept). AllZip Shows l (devices_after models c)) (sym is_new)
+    (subst (AllZip Shows (set (set devices t a) s b)) (sym (two_after c models t s x.0 first second x.1))
+    (zip_set Shows (set devices t a) (set models t done.first) s b x.0 (zip_set Shows devices models t a done.first shown (shows_first tm sm t_shows s_shows)) b_shows))
 
 -- and the report
-pub pull_tells : {E : Type 0} (r : Result Report E) (devices : List Kept) (t s : ℕ) (d e target source : Kept) → target ≡ get_or devices t d → source ≡ get_or devices s e → t < length devices → s < length devices
-    → IfOk r (λ report. (tm sm : ModelDevice) → Shows target tm → Shows source sm → answer_of report ≡ Pulled (counts_of tm sm))
-    → IfOk r (λ report. (models : List ModelDevice) → AllZip Shows devices models → answer_of report ≡ Pulled (counts_of (device_at models t) (device_at models s)))
-pull_tells (Err refused) devices t s d e target source is_t is_s ht hs tells = tt
-pull_tells (Ok report) devices t s d e target source is_t is_s ht hs tells = λ models shown.
+pub two_tell : {E : Type 0} (r : Result Report E) (devices : List Kept) (c : Command) (t s : ℕ) (d e target source : Kept) → target ≡ get_or devices t d → source ≡ get_or devices s e → t < length devices → s < length devices
+    → (devices_of c).0 ≡ t → (devices_of c).1 ≡ Some s
+    → IfOk r (λ report. (tm sm : ModelDevice) → Shows target tm → Shows source sm → Tells (answer_of report) (effect c tm (Some sm)).report)
+    → IfOk r (λ report. (models : List ModelDevice) → AllZip Shows devices models → Tells (answer_of report) (effect_on models c).report)
+two_tell (Err refused) devices c t s d e target source is_t is_s ht hs first second tells = tt
+two_tell (Ok report) devices c t s d e target source is_t is_s ht hs first second tells = λ models shown.
     let tm = device_at models t in
     let sm = device_at models s in
     let t_shows : Shows target tm = subst (λ (x : Kept). Shows x tm) (sym is_t) (zip_at Shows devices models t d (opening (author t) All) shown ht) in
     let s_shows : Shows source sm = subst (λ (x : Kept). Shows x sm) (sym is_s) (zip_at Shows devices models s e (opening (author s) All) shown hs) in
-    tells tm sm t_shows s_shows
+    let same : (effect c tm (Some sm)).report ≡ (effect_on models c).report = λ i. (effect c (device_at models (sym first i)) (option_map (device_at models) (sym second i))).report in
+    subst (Tells (answer_of report)) same (tells tm sm t_shows s_shows)
 
 -- a command on one device
-
-pub no_author : (place : Option ℕ) → option_map author place ≡ None → place ≡ None
-no_author (Some k) e = cc
-no_author None e = refl
 
 alone_after : (c : Command) (models : List ModelDevice) → (devices_of c).1 ≡ None → devices_after models c ≡ set models (devices_of c).0 (effect c (device_at models (devices_of c).0) None).first
 alone_after c models alone = λ i.
@@ -182,6 +230,8 @@ two_want (Err refused) devices (command.Edit k p r) s two = cc
 two_want (Err refused) devices (command.Remove k p) s two = cc
 two_want (Err refused) devices (command.Pull t k) s two = λ models shown. tt
 two_want (Err refused) devices (command.Narrow k tree) s two = cc
+two_want (Err refused) devices (command.Refilter k tree) s two = cc
+two_want (Err refused) devices (command.Preview t k) s two = λ models shown. tt
 two_want (Err refused) devices (command.List k) s two = cc
 two_want (Err refused) devices (command.Conflicts k) s two = cc
 two_want (Err refused) devices (command.Knowledge k) s two = cc

@@ -12,6 +12,7 @@ use Rattle.photo_filter_rules.specs.Matching.{IsInRange}
 use Rattle.photo_filter_rules.specs.Covers.{covers}
 use Rattle.photo_device.specs.Entry.{Entry}
 use Rattle.photo_device.specs.Device.{ModelDevice, holds, knows_entry, selects, narrowed, moved, is_held, made}
+use Rattle.photo_device.specs.Refiltered.{refiltered}
 use Rattle.photo_pull.specs.Pull.{taken, handed, pulled, handed_over}
 use Rattle.photo_script.specs.Limits.{max_commands}
 use Rattle.photo_script.specs.declared.command.Command.{Command}
@@ -29,7 +30,7 @@ use Rattle.fleet_steps.proofs.SoundFacts.{IsSoundFleet}
 use Rattle.fleet_steps.proofs.SoundRuns.{sound_kept, opening_sound}
 use Rattle.fleet_steps.proofs.TracedFleets.{bounded}
 use Rattle.fleet_steps.proofs.Times.{AreOnce}
-use Rattle.fleet_steps.proofs.Once.{made_once, narrowed_once, pulled_once, handed_once, no_more}
+use Rattle.fleet_steps.proofs.Once.{made_once, narrowed_once, refiltered_once, pulled_once, handed_once, no_more}
 
 -- sound, and no device holds a version twice
 record IsOnceFleet (log : List Entry) (devices : List ModelDevice) : Type 0 where
@@ -55,6 +56,10 @@ once_kept = record {
     sound = sound_kept.narrowing log ds k tree H.sound h covered;
     once = each_changed (λ _ x. AreOnce (holds x)) ds k (narrowed tree (device_at ds k)) h (narrowed_once tree (device_at ds k) (H.once k h)) (λ j i _. H.once j i);
   };
+  refiltering = λ log ds k tree H h few. record {
+    sound = sound_kept.refiltering log ds k tree H.sound h few;
+    once = each_changed (λ _ x. AreOnce (holds x)) ds k (refiltered tree (device_at ds k)) h (refiltered_once tree (device_at ds k) (H.once k h)) (λ j i _. H.once j i);
+  };
   pulling = λ log ds t s H h k apart. record {
     sound = sound_kept.pulling log ds t s H.sound h k apart;
     once = each_two_changed (λ _ x. AreOnce (holds x)) ds t s (pulled (device_at ds t) (device_at ds s)) (handed_over (device_at ds t) (device_at ds s)) h k
@@ -78,6 +83,9 @@ few_entries (command.Pull t s) d None = omega arith
 few_entries (command.Pull t s) d (Some x) = omega arith
 few_entries (command.Narrow k tree) d other =
     few_of (covers d.tree tree) (record { first = narrowed tree d; second = other; report = Exactly (Narrowed (moved tree d)); entries = [] }) (telling d other (Exactly NotNarrower)) (omega arith) (omega arith)
+few_entries (command.Refilter k tree) d other = omega arith
+few_entries (command.Preview t s) d None = omega arith
+few_entries (command.Preview t s) d (Some x) = omega arith
 few_entries (command.List k) d other = omega arith
 few_entries (command.Conflicts k) d other = omega arith
 few_entries (command.Knowledge k) d other = omega arith
@@ -125,6 +133,8 @@ moves_few most ds (command.Edit k p r) w few = small_of most (is_held (device_at
 moves_few most ds (command.Remove k p) w few = small_of most (is_held (device_at ds k) p) (making (device_at ds k) None p Removed) (telling (device_at ds k) None (Exactly NotHeld)) (omega arith) (omega arith)
 moves_few most ds (command.Pull t s) w few = pull_is_small most (device_at ds t) (device_at ds s) (few s w.1.0)
 moves_few most ds (command.Narrow k tree) w few = small_of most (covers (device_at ds k).tree tree) (narrowed_effect (device_at ds k) tree) (telling (device_at ds k) None (Exactly NotNarrower)) (omega arith) (omega arith)
+moves_few most ds (command.Refilter k tree) w few = omega arith
+moves_few most ds (command.Preview t s) w few = omega arith
 moves_few most ds (command.List k) w few = omega arith
 moves_few most ds (command.Conflicts k) w few = omega arith
 moves_few most ds (command.Knowledge k) w few = omega arith
@@ -135,26 +145,26 @@ told_small most a (Exactly right) told small = subst (λ (x : Answer). moved_by 
 told_small most a (KnowledgeIs device known) told small = subst (λ (x : Answer). moved_by x ≤ most) (sym told.given) (omega arith)
 
 module _ (script : Contents) (is : IsScript script) where
-  after : (numbers : List ℕ) → IsAfter IsOnceFleet (length script.names) (run_in_order script numbers).log (run_in_order script numbers).devices
+  after : (numbers : List ℕ) → length numbers ≤ 4_294_967_295 → IsAfter IsOnceFleet (length script.names) (length numbers) (run_in_order script numbers).log (run_in_order script numbers).devices
   after = after_all_of IsInRange IsOnceFleet once_kept script is is.in_range (opening_once script.filters)
 
-  few_held : (numbers : List ℕ) (k : ℕ) → k < length (run_in_order script numbers).devices → length (holds (device_at (run_in_order script numbers).devices k)) ≤ length numbers
-  few_held numbers k h =
+  few_held : (numbers : List ℕ) → length numbers ≤ 4_294_967_295 → (k : ℕ) → k < length (run_in_order script numbers).devices → length (holds (device_at (run_in_order script numbers).devices k)) ≤ length numbers
+  few_held numbers below k h =
       let fleet = run_in_order script numbers in
-      let facts : IsOnceFleet fleet.log fleet.devices = (after numbers).fact in
+      let facts : IsOnceFleet fleet.log fleet.devices = (after numbers below).fact in
       let made : length (holds (device_at fleet.devices k)) ≤ length fleet.log = no_more fleet.log (holds (device_at fleet.devices k)) (facts.sound.traced.each k h).logged (facts.once k h) in
       let log : length fleet.log ≤ 0 + length numbers = log_grows script numbers (opening_fleet script) in
       omega (arith, made, log)
 
   -- a command after others
-  next_moves_few : (numbers : List ℕ) (c : Command) → IsWithin (length script.names) c → moved_by_report (effect_on (run_in_order script numbers).devices c).report ≤ length numbers
-  next_moves_few numbers c within =
+  next_moves_few : (numbers : List ℕ) (c : Command) → length numbers ≤ 4_294_967_295 → IsWithin (length script.names) c → moved_by_report (effect_on (run_in_order script numbers).devices c).report ≤ length numbers
+  next_moves_few numbers c below within =
       let fleet = run_in_order script numbers in
-      let long : length fleet.devices ≡ length script.names = (after numbers).long in
-      moves_few (length numbers) fleet.devices c (subst (λ (m : ℕ). IsWithin m c) (sym long) within) (few_held numbers)
+      let long : length fleet.devices ≡ length script.names = (after numbers below).long in
+      moves_few (length numbers) fleet.devices c (subst (λ (m : ℕ). IsWithin m c) (sym long) within) (few_held numbers below)
 
 pub pulls_move_what_was_made : PullsMoveWhatWasMade
-pulls_move_what_was_made script numbers c answer is within told = told_small (length numbers) answer (effect_on (run_in_order script numbers).devices c).report told (next_moves_few script is numbers c within)
+pulls_move_what_was_made script numbers c answer is below within told = told_small (length numbers) answer (effect_on (run_in_order script numbers).devices c).report told (next_moves_few script is numbers c below within)
 
 -- the reports of a run
 
@@ -187,7 +197,7 @@ module _ (script : Contents) (is : IsScript script) where
             let below : n < length script.commands = slice_get_within script.commands n c here.2 in
             let commands : length script.commands ≤ max_commands = is.commands in
             let count : length (numbers_to n) ≡ n = length_numbers n in
-            let moved : moved_by_report (effect_on fleet.devices c).report ≤ length (numbers_to n) = next_moves_few script is (numbers_to n) c within in
+            let moved : moved_by_report (effect_on fleet.devices c).report ≤ length (numbers_to n) = next_moves_few script is (numbers_to n) c (omega (arith, below, commands, count)) within in
             let small : moved_by_report (effect_on fleet.devices c).report ≤ max_commands = omega (arith, below, commands, count, moved) in
             subst (λ (f : Fleet). AllByRecursion IsSmall f.reports) (sym (stepped script fleet n c here.2))
             (set_small fleet.reports (suc n - 1) (effect_on fleet.devices c).report (reports_small n) small)

@@ -1,5 +1,5 @@
 -- A pull that follows commands in any order moves no more versions than there can be commands.
-use Rattle.std.proofs.Common.{◌≡◌, ℕ, ◌+◌, ◌≤◌, List, length, refl, sym, subst, arith}
+use Rattle.std.proofs.Common.{◌≡◌, ℕ, ◌≤◌, List, length, refl, sym, subst, arith}
 use Rattle.photo_script.specs.Limits.{max_commands}
 use Rattle.photo_script.specs.declared.command.Command.{Command}
 use Rattle.photo_script.specs.Contents.{Contents, IsWithin, IsScript}
@@ -15,5 +15,5 @@ tells_it a r is = subst (Tells a) (sym is) refl
 
 pub moves_few_after : (script : Contents) (front : List ℕ) (c : Command) → IsScript script → length front ≤ max_commands → IsWithin (length script.names) c → MovesFew (effect_on (run_in_order script front).devices c).report
 moves_few_after script front c is few within = λ counts told.
-    let moved : moved_by (Pulled counts) ≤ length front = pulls_move_what_was_made script front c (Pulled counts) is within (tells_it (Pulled counts) _ told) in
+    let moved : moved_by (Pulled counts) ≤ length front = pulls_move_what_was_made script front c (Pulled counts) is (omega (arith, few)) within (tells_it (Pulled counts) _ told) in
     (omega (arith, moved, few), omega (arith, moved, few))

@@ -1,5 +1,5 @@
 -- A run in some order of the commands, one after another.
-use Rattle.std.proofs.Common.{◌≡◌, ℕ, zero, suc, ◌+◌, ◌-◌, ◌<◌, ◌≤◌, true, false, List, [], ◌∷◌, ◌++◌, ◌⊎◌, inl, inr, length, get_or, set, replicate, map, refl, sym, ap, ◌∙◌, subst, length-append, length-set, length-take-le, take, arith}
+use Rattle.std.proofs.Common.{◌≡◌, ℕ, zero, suc, ◌+◌, ◌-◌, ◌<◌, ◌≤◌, true, false, List, [], ◌∷◌, ◌++◌, ◌⊎◌, inl, inr, length, get_or, set, replicate, map, refl, sym, ap, ◌∙◌, subst, length-append, length-set, length-take-le, take, le_refl, arith}
 use Rattle.std.specs.Prelude.{Option, Some, None, is_some, IfSome, slice_get, fold, IsPermutation}
 use Rattle.std.specs.List.{AllZip, AllByRecursion, flat_map}
 use Rattle.std.specs.Option.{option_map, option_to_list}
@@ -8,55 +8,41 @@ use Rattle.std.proofs.lemmas.List.Sums.{fold-append}
 use Rattle.std.proofs.lemmas.Option.{slice_get_cases}
 use Rattle.std.proofs.lemmas.Bool.{cases_eq}
 use Rattle.photo_filter_text.specs.Tree.{All}
-use Rattle.photo_version.specs.Author.{author}
+use Rattle.photo_version.specs.Author.{author, epoch_of_author}
 use Rattle.photo_device.specs.declared.held.Held.{Held}
 use Rattle.photo_device.specs.Held.{entries_of}
 use Rattle.photo_device.specs.Device.{Kept, ModelDevice, Shows, opening}
+use Rattle.photo_script.specs.Limits.{max_commands}
 use Rattle.photo_script.specs.declared.command.Command.{Command}
 use Rattle.photo_script.specs.declared.report.Report.{Report}
 use Rattle.photo_script.specs.Contents.{Contents, IsScript, devices_of, IsWithin}
 use Rattle.photo_script.specs.Reports.{ModelReport, Tells, answer_of, IsAbout}
-use Rattle.photo_script.specs.Runs.{Fleet, opening_from, after_command, step, effect, opening_fleet, run_in_order, run, device_at, reports_of}
+use Rattle.photo_script.specs.Runs.{Fleet, opening_from, after_command, step, effect, opening_fleet, run_in_order, run, device_at}
 use Rattle.photo_script.specs.declared.report.Report.TheVariants.{NotHeld}
 use Rattle.photo_batcher.specs.Related.{IsNumber}
 use Rattle.photo_batcher.specs.Orders.{times, IsLawful, AreSameRuns}
 use Rattle.photo_batcher.proofs.Counting.{times_cons}
 use Rattle.photo_batcher.proofs.Checked.{lawful_long}
 use Rattle.photo_batcher.proofs.Turns.{not_counts}
-use Rattle.fleet_steps.specs.Between.{HaveRoom, AreReady, effect_on, devices_after}
+use Rattle.fleet_steps.specs.Between.{HaveRoom, AreReady, HaveRun, effect_on, devices_after}
+use Rattle.fleet_steps.specs.Running.{IsOfFleet, HasMadeAtMost, IsTold, RunsTo, HasRun}
 use Rattle.fleet_steps.proofs.Zipped.{zip_set, zip_long}
-use Rattle.fleet_steps.proofs.About.{IsOfFleet, all_set, all_at, all_are, opening_known, effect_known, effect_known_second, effect_about}
-use Rattle.fleet_steps.proofs.Shown.{opening_counts, opening_long}
+use Rattle.fleet_steps.proofs.About.{all_set, all_at, opening_known, effect_known, effect_known_second, effect_about}
+use Rattle.fleet_steps.proofs.Shown.{opening_long}
 use Rattle.fleet_steps.proofs.EachCommand.{stepped, not_stepped}
 use Rattle.fleet_steps.proofs.ReadyRuns.{ready_in_order}
-use Rattle.fleet_steps.proofs.Runs.{HasMadeAtMost, have_room, after_all, second_all, long_after, effect_counts, effect_counts_second, one_more}
-
--- the report is the right one, where the command has run
-abbrev pub IsTold : Report → Option ModelReport → Type 0
-IsTold report None = Unit {0}
-IsTold report (Some right) = Tells (answer_of report) right
-
--- the devices, the reports by their numbers and the log after the commands of those numbers, in that order
-pub record RunsTo (script : Contents) (front : List ℕ) (devices : List Kept) (slots : List Report) (log : List Held) : Type 0 where
-  pub long : length devices ≡ length script.names
-  pub shown : AllZip Shows devices (run_in_order script front).devices
-  pub told : AllZip IsTold slots (run_in_order script front).reports
-  pub known : AllByRecursion (IsOfFleet script) (run_in_order script front).devices
-  pub about : AllByRecursion (λ report. IsAbout script (answer_of report)) slots
-  pub counted : AllByRecursion (HasMadeAtMost (length front)) (run_in_order script front).devices
-  pub logged : entries_of log ≡ (run_in_order script front).log
+use Rattle.fleet_steps.proofs.Runs.{opening_at_most, have_room, after_all, second_all, long_after, makes_one_more}
 
 next_in : (script : Contents) (front : List ℕ) (n : ℕ) (c : Command) → slice_get script.commands n ≡ Some c → run_in_order script (front ++ suc n ∷ []) ≡ after_command (run_in_order script front) (suc n) c
 next_in script front n c here = fold-append (step script) (opening_fleet script) front (suc n ∷ []) ∙ stepped script (run_in_order script front) n c here
 
 more : (script : Contents) (front : List ℕ) (n : ℕ) (devices new : List Kept) (slots : List Report) (log more_log : List Held) (c : Command) (report : Report) → RunsTo script front devices slots log → slice_get script.commands n ≡ Some c → IsWithin (length script.names) c
-    → ((models : List ModelDevice) → AllZip Shows devices models → AllZip Shows new (devices_after models c))
+    → HaveRun c devices new
     → ((models : List ModelDevice) → AllZip Shows devices models → Tells (answer_of report) (effect_on models c).report)
     → ((models : List ModelDevice) → AllZip Shows devices models → entries_of more_log ≡ entries_of log ++ (effect_on models c).entries)
     → RunsTo script (front ++ suc n ∷ []) new (set slots n report) more_log
 more script front n devices new slots log more_log c report so_far here declared shows tells logs =
     let k = (devices_of c).0 in
-    let known : k < length script.names = declared.0 in
     let count = length front in
     let fleet = run_in_order script front in
     let models = fleet.devices in
@@ -65,11 +51,8 @@ more script front n devices new slots log more_log c report so_far here declared
     let next : run_in_order script (front ++ suc n ∷ []) ≡ after_command fleet (suc n) c = next_in script front n c here in
     let longer : length (front ++ suc n ∷ []) ≡ count + 1 = length-append front (suc n ∷ []) in
     let long : length devices ≡ length models = zip_long Shows devices models so_far.shown in
-    let size : length script.names ≤ length models = omega (arith, so_far.long) in
-    let of_first : IsOfFleet script (device_at models k) = all_at (IsOfFleet script) models k (opening (author k) All) so_far.known (omega arith) in
-    let of_second : IfSome second (IsOfFleet script) = second_all (IsOfFleet script) models (devices_of c).1 k (length script.names) size so_far.known declared.1 in
-    let most_first : HasMadeAtMost count (device_at models k) = all_at (HasMadeAtMost count) models k (opening (author k) All) so_far.counted (omega arith) in
-    let most_second : IfSome second (HasMadeAtMost count) = second_all (HasMadeAtMost count) models (devices_of c).1 k (length script.names) size so_far.counted declared.1 in
+    let size : length script.names ≡ length models = sym so_far.long ∙ long in
+    let within : IsWithin (length models) c = subst (λ (j : ℕ). IsWithin j c) size declared in
     let shown : AllZip Shows new (devices_after models c) = shows models so_far.shown in
     let told : Tells (answer_of report) done.report = tells models so_far.shown in
     let place : suc n - 1 ≡ n = omega arith in
@@ -78,17 +61,26 @@ more script front n devices new slots log more_log c report so_far here declared
       long = same_long ∙ sym long ∙ so_far.long;
       shown = subst (λ (f : Fleet). AllZip Shows new f.devices) (sym next) shown;
       told = subst (λ (f : Fleet). AllZip IsTold (set slots n report) f.reports) (sym next) (subst (λ (j : ℕ). AllZip IsTold (set slots n report) (set fleet.reports j (Some done.report))) (sym place) (zip_set IsTold slots fleet.reports n report (Some done.report) so_far.told told));
-      known = subst (λ (f : Fleet). AllByRecursion (IsOfFleet script) f.devices) (sym next) (after_all (IsOfFleet script) c models so_far.known (effect_known script c (device_at models k) second of_first of_second) (effect_known_second script c (device_at models k) second of_first of_second));
-      about = all_set (λ report. IsAbout script (answer_of report)) slots n report so_far.about (effect_about script c (device_at models k) second known of_first (answer_of report) told);
+      known = λ few.
+          let below : count < 4_294_967_295 = omega (arith, longer, few) in
+          let all = so_far.known (omega (arith, below)) in
+          let of_first : IsOfFleet script (device_at models k) = all_at (IsOfFleet script) models k (opening (author k) All) all within.0 in
+          let of_second : IfSome second (IsOfFleet script) = second_all (IsOfFleet script) models (devices_of c).1 k (length models) (le_refl _) all within.1 in
+          let most : HasMadeAtMost count (device_at models k) = all_at (HasMadeAtMost count) models k (opening (author k) All) so_far.counted within.0 in
+          let begun : epoch_of_author (device_at models k).author ≤ count = most.begun in
+          subst (λ (f : Fleet). AllByRecursion (IsOfFleet script) f.devices) (sym next)
+          (after_all (IsOfFleet script) c models all (effect_known script c (device_at models k) second (omega (arith, below, begun)) of_first of_second) (effect_known_second script c (device_at models k) second of_first of_second));
+      about = λ few.
+          let below : count ≤ 4_294_967_295 = omega (arith, longer, few) in
+          let of_first : IsOfFleet script (device_at models k) = all_at (IsOfFleet script) models k (opening (author k) All) (so_far.known below) within.0 in
+          all_set (λ report. IsAbout script (answer_of report)) slots n report (so_far.about below) (effect_about script c (device_at models k) second declared.0 of_first (answer_of report) told);
       counted = subst (λ (f : Fleet). AllByRecursion (HasMadeAtMost (length (front ++ suc n ∷ []))) f.devices) (sym next)
-          (subst (λ (j : ℕ). AllByRecursion (HasMadeAtMost j) (devices_after models c)) (sym longer)
-          (after_all (HasMadeAtMost (count + 1)) c models (all_are (HasMadeAtMost count) (HasMadeAtMost (count + 1)) models (λ m most. omega arith) so_far.counted)
-          (effect_counts c (device_at models k) second count most_first) (one_more count done.second (effect_counts_second c (device_at models k) second count most_second))));
+          (subst (λ (j : ℕ). AllByRecursion (HasMadeAtMost j) (devices_after models c)) (sym longer) (makes_one_more models c count within so_far.counted));
       logged = logs models so_far.shown ∙ ap (λ l. l ++ done.entries) so_far.logged ∙ sym (ap (λ (f : Fleet). f.log) next);
     }
 
 pub runs_more : (script : Contents) (front : List ℕ) (number : ℕ) (devices new : List Kept) (slots : List Report) (log more_log : List Held) (c : Command) (report : Report) → 0 < number → RunsTo script front devices slots log → slice_get script.commands (number - 1) ≡ Some c → IsWithin (length script.names) c
-    → ((models : List ModelDevice) → AllZip Shows devices models → AllZip Shows new (devices_after models c))
+    → HaveRun c devices new
     → ((models : List ModelDevice) → AllZip Shows devices models → Tells (answer_of report) (effect_on models c).report)
     → ((models : List ModelDevice) → AllZip Shows devices models → entries_of more_log ≡ entries_of log ++ (effect_on models c).entries)
     → RunsTo script (front ++ number ∷ []) new (set slots (number - 1) report) more_log
@@ -112,15 +104,15 @@ runs_none script devices slots log all long none none_logged = record {
   long = long;
   shown = all;
   told = subst (λ (l : List Report). AllZip IsTold l (replicate (length script.commands) None)) (sym none) (none_told (length script.commands) NotHeld);
-  known = opening_known script (let same = opening_long script.filters 0 devices all in omega (arith, long));
-  about = subst (AllByRecursion (λ report. IsAbout script (answer_of report))) (sym none) (none_about script (length script.commands) NotHeld tt);
-  counted = opening_counts script.filters 0;
+  known = λ _. opening_known script (let same = opening_long script.filters 0 devices all in omega (arith, long));
+  about = λ _. subst (AllByRecursion (λ report. IsAbout script (answer_of report))) (sym none) (none_about script (length script.commands) NotHeld tt);
+  counted = opening_at_most script.filters 0;
   logged = ap entries_of none_logged;
 }
 
 -- what the next command asks of the devices
-pub runs_ready : (script : Contents) (front : List ℕ) (devices : List Kept) (slots : List Report) (log : List Held) → IsScript script → RunsTo script front devices slots log → AreReady devices
-runs_ready script front devices slots log is to = record { models = (run_in_order script front).devices; shown = to.shown; ready = ready_in_order script front is }
+pub runs_ready : (script : Contents) (front : List ℕ) (devices : List Kept) (slots : List Report) (log : List Held) → IsScript script → length front < 4_294_967_295 → RunsTo script front devices slots log → AreReady devices
+runs_ready script front devices slots log is few to = record { models = (run_in_order script front).devices; shown = to.shown; ready = ready_in_order script front is (omega (arith, few)) }
 
 pub runs_room : (script : Contents) (front : List ℕ) (devices : List Kept) (slots : List Report) (log : List Held) → length front < 4_294_967_295 → RunsTo script front devices slots log → HaveRoom devices
 runs_room script front devices slots log few to = have_room devices (run_in_order script front).devices (length front) few to.shown to.counted
@@ -193,19 +185,15 @@ filled script order lawful =
     all_points (run_in_order script order).reports (λ k h. filled_from script order (opening_fleet script) k opened (omega arith) (inl (let one = lawful.once (suc k) (omega arith, omega arith) in omega arith)))
 
 -- a lawful order has given what the run gives
-pub record HasRun (script : Contents) (devices : List Kept) (reports : List Report) (log : List Held) : Type 0 where
-  pub devices_are : AllZip Shows devices (run script).devices
-  pub right : AllZip Tells (map answer_of reports) (reports_of (run script))
-  pub about : AllByRecursion (IsAbout script) (map answer_of reports)
-  pub logged : IsPermutation (run script).log (entries_of log)
-
-pub runs_all : (script : Contents) (order : List ℕ) (devices : List Kept) (reports : List Report) (log : List Held) → RunsTo script order devices reports log → IsLawful script order → AreSameRuns (run_in_order script order) (run script) → HasRun script devices reports log
-runs_all script order devices reports log to lawful same = record {
-  devices_are = subst (AllZip Shows devices) same.devices to.shown;
-  right = subst (λ (l : List (Option ModelReport)). AllZip Tells (map answer_of reports) (flat_map option_to_list l)) same.reports (told_reports reports (run_in_order script order).reports (filled script order lawful) to.told);
-  about = about_reports script reports to.about;
-  logged = subst (IsPermutation (run script).log) (sym to.logged) same.log;
-}
+pub runs_all : (script : Contents) (order : List ℕ) (devices : List Kept) (reports : List Report) (log : List Held) → length script.commands ≤ max_commands → RunsTo script order devices reports log → IsLawful script order → AreSameRuns (run_in_order script order) (run script) → HasRun script devices reports log
+runs_all script order devices reports log small to lawful same =
+    let long = lawful_long script order lawful in
+    record {
+      devices_are = subst (AllZip Shows devices) same.devices to.shown;
+      right = subst (λ (l : List (Option ModelReport)). AllZip Tells (map answer_of reports) (flat_map option_to_list l)) same.reports (told_reports reports (run_in_order script order).reports (filled script order lawful) to.told);
+      about = about_reports script reports (to.about (omega (arith, small, long)));
+      logged = subst (IsPermutation (run script).log) (sym to.logged) same.log;
+    }
 
 -- the number at a place of a lawful order
 pub order_number : (script : Contents) (order : List ℕ) (i : ℕ) → IsLawful script order → i < length order → IsNumber script (get_or order i 0)

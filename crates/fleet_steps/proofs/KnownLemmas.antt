@@ -1,5 +1,5 @@
 -- What the bounds of a normal form say of the versions that are known.
-use Rattle.std.proofs.Common.{◌≡◌, ℕ, ◌<◌, Bool, true, false, eqb, ltb, ◌&&◌, ◌||◌, List, [], ◌∷◌, refl, arith}
+use Rattle.std.proofs.Common.{◌≡◌, ℕ, ◌<◌, true, false, eqb, ltb, ◌&&◌, List, [], ◌∷◌, refl, arith}
 use Rattle.std.specs.List.{AllByRecursion, list_all}
 use Rattle.std.proofs.lemmas.Bool.{le-leb, eq-eqb, ltb-true, and_parts, or_left, or_right}
 use Rattle.photo_version.specs.Author.{author_of_word}

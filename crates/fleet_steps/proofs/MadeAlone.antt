@@ -1,17 +1,16 @@
 -- What a device holds of the version that a command on it alone has just made.
-use Rattle.std.proofs.Common.{◌≡◌, ℕ, Bool, true, false, cond, List, [], ◌++◌, refl, ap, subst}
-use Rattle.std.specs.Prelude.{Option, Some, None}
+use Rattle.std.proofs.Common.{◌≡◌, ℕ, Bool, true, false, cond, [], ◌++◌, refl, ap, subst}
+use Rattle.std.specs.Prelude.{Some, None}
 use Rattle.std.specs.Option.{option_to_list}
 use Rattle.photo_record.specs.declared.record.Record.{Record}
 use Rattle.photo_record.specs.declared.record.Record.TheVariants.{Removed}
 use Rattle.photo_version.specs.Version.{Version}
-use Rattle.photo_device.specs.declared.held.Held.{Held}
 use Rattle.photo_device.specs.Held.{entries_of, find_version_of}
-use Rattle.photo_device.specs.Device.{Kept, ModelDevice, Shows, is_held, made}
+use Rattle.photo_device.specs.Device.{Kept, ModelDevice, Shows, is_held}
 use Rattle.photo_script.specs.declared.command.Command.{Command}
 use Rattle.photo_script.specs.declared.command.Command.TheVariants as command
-use Rattle.photo_script.specs.Reports.{Answer, Exactly, NotHeld, Tells, answer_of}
-use Rattle.photo_script.specs.Runs.{effect, making, telling, changing, pulling}
+use Rattle.photo_script.specs.Reports.{Answer, Exactly, NotHeld, Tells}
+use Rattle.photo_script.specs.Runs.{effect, making, telling, changing}
 use Rattle.fleet_steps.specs.Issued.{picture_of, version_told}
 use Rattle.fleet_steps.proofs.Issued.{making_issued, change_not_told, narrowing_logs}
 use Rattle.fleet_steps.proofs.About.{changing_second, narrowing_second}
@@ -32,6 +31,8 @@ made_is d m (command.Edit k q r) a p v of is shown told = let same : q ≡ p = c
 made_is d m (command.Remove k q) a p v of is shown told = let same : q ≡ p = cc in subst (λ x. entries_of (option_to_list (find_version_of x v (d.store ++ d.out))) ≡ (changing m None q Removed).entries) same (either_made d m q Removed a v (is_held m q) shown told is)
 made_is d m (command.Pull t s) a p v of is shown told = cc
 made_is d m (command.Narrow k tree) a p v of is shown told = cc
+made_is d m (command.Refilter k tree) a p v of is shown told = cc
+made_is d m (command.Preview t s) a p v of is shown told = cc
 made_is d m (command.List k) a p v of is shown told = cc
 made_is d m (command.Conflicts k) a p v of is shown told = cc
 made_is d m (command.Knowledge k) a p v of is shown told = cc
@@ -43,6 +44,8 @@ none_made m (command.Edit k q r) of = cc
 none_made m (command.Remove k q) of = cc
 none_made m (command.Pull t s) of = refl
 none_made m (command.Narrow k tree) of = narrowing_logs m None tree
+none_made m (command.Refilter k tree) of = refl
+none_made m (command.Preview t s) of = refl
 none_made m (command.List k) of = refl
 none_made m (command.Conflicts k) of = refl
 none_made m (command.Knowledge k) of = refl
@@ -54,6 +57,8 @@ none_told m (command.Edit k q r) a told is = change_not_told m q r a told is
 none_told m (command.Remove k q) a told is = change_not_told m q Removed a told is
 none_told m (command.Pull t s) a told is = refl
 none_told m (command.Narrow k tree) a told is = narrowing_logs m None tree
+none_told m (command.Refilter k tree) a told is = refl
+none_told m (command.Preview t s) a told is = refl
 none_told m (command.List k) a told is = refl
 none_told m (command.Conflicts k) a told is = refl
 none_told m (command.Knowledge k) a told is = refl
@@ -66,6 +71,8 @@ alone_second m (command.Edit k q r) = changing_second m None q r
 alone_second m (command.Remove k q) = changing_second m None q Removed
 alone_second m (command.Pull t s) = refl
 alone_second m (command.Narrow k tree) = narrowing_second m None tree
+alone_second m (command.Refilter k tree) = refl
+alone_second m (command.Preview t s) = refl
 alone_second m (command.List k) = refl
 alone_second m (command.Conflicts k) = refl
 alone_second m (command.Knowledge k) = refl

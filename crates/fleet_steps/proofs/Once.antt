@@ -10,6 +10,7 @@ use Rattle.photo_filter_rules.specs.Matching.{matches}
 use Rattle.photo_version.specs.Version.{Version}
 use Rattle.photo_device.specs.Entry.{Entry, entry_before, put_entry, put_entry_if, put_entries, others, is_of_other}
 use Rattle.photo_device.specs.Device.{ModelDevice, holds, knows_entry, selects, new_entry, made, narrowed}
+use Rattle.photo_device.specs.Refiltered.{refiltered}
 use Rattle.photo_pull.specs.Pull.{taken, handed, leaves_store, leaves_out, pulled, handed_over}
 use Rattle.fleet_steps.specs.Members.{In, here, there}
 use Rattle.fleet_steps.specs.Sound.{times}
@@ -72,6 +73,17 @@ module _ (f : Entry → ℕ) where
       let old : sum_by f (holds d) ≡ sum_by f d.store + sum_by f d.out = sum_by-append f d.store d.out in
       omega arith
 
+  sum_refiltered : (tree : Tree) (d : ModelDevice) → sum_by f (holds (refiltered tree d)) ≡ sum_by f (holds d)
+  sum_refiltered tree d =
+      let fits : List Entry = filter (λ (e : Entry). matches tree e.content) (holds d) in
+      let misfits : List Entry = filter (λ (e : Entry). not (matches tree e.content)) (holds d) in
+      let all : sum_by f (holds (refiltered tree d)) ≡ sum_by f (put_entries fits []) + sum_by f (put_entries misfits []) = sum_by-append f (put_entries fits []) (put_entries misfits []) in
+      let left : sum_by f (put_entries fits []) ≡ sum_by f fits + sum_by f [] = sum_puts fits [] in
+      let right : sum_by f (put_entries misfits []) ≡ sum_by f misfits + sum_by f [] = sum_puts misfits [] in
+      let none : sum_by f [] ≡ 0 = refl in
+      let both : sum_by f fits + sum_by f misfits ≡ sum_by f (holds d) = sum_both (λ (e : Entry). matches tree e.content) (holds d) in
+      omega arith
+
   sum_pulled : (t s : ModelDevice) → sum_by f (holds (pulled t s)) ≤ sum_by f (taken t s ++ handed t s) + sum_by f (holds t)
   sum_pulled t s =
       let new : List Entry = taken t s ++ handed t s in
@@ -121,6 +133,9 @@ module _ (log : List Entry) (d : ModelDevice) (p : ℕ) (r : Record) (L : IsTrac
 
 pub narrowed_once : (tree : Tree) (d : ModelDevice) → AreOnce (holds d) → AreOnce (holds (narrowed tree d))
 narrowed_once tree d once v = subst (λ (n : ℕ). n ≤ 1) (sym (sum_narrowed (λ e. cond (is_of v e) 1 0) tree d)) (once v)
+
+pub refiltered_once : (tree : Tree) (d : ModelDevice) → AreOnce (holds d) → AreOnce (holds (refiltered tree d))
+refiltered_once tree d once v = subst (λ (n : ℕ). n ≤ 1) (sym (sum_refiltered (λ e. cond (is_of v e) 1 0) tree d)) (once v)
 
 module _ (log : List Entry) (t s : ModelDevice) (L : IsTracedLog log) (T : IsTracedDevice log t) (S : IsTracedDevice log s) (known : (e : Entry) → In e (holds t) → knows_entry t e ≡ true) where
   pub pulled_once : AreOnce (holds t) → AreOnce (holds s) → AreOnce (holds (pulled t s))

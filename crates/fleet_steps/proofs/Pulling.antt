@@ -4,7 +4,8 @@ use Rattle.std.proofs.lemmas.Bool.{and_parts, or_cases, or_left, or_right, and_f
 use Rattle.photo_version.specs.Version.{Version}
 use Rattle.photo_device.specs.Entry.{Entry, superseded_by}
 use Rattle.photo_device.specs.Device.{ModelDevice, known, knows_entry, holds, selects}
-use Rattle.photo_pull.specs.Pull.{taken, handed, noticed, told, learns_all, leaves_store, leaves_out, tell, pulled, handed_over}
+use Rattle.photo_device.specs.Telling.{tell}
+use Rattle.photo_pull.specs.Pull.{taken, handed, noticed, told, learns_all, leaves_store, leaves_out, pulled, handed_over}
 use Rattle.fleet_steps.specs.Members.{In}
 use Rattle.fleet_steps.proofs.Members.{in_left, in_right, in_either, in_passed, passes, in_puts, puts_are_in, stays_in_puts}
 

@@ -1,30 +1,25 @@
--- What a command leaves true of all devices, and how many versions they have made after it.
-use Rattle.std.proofs.Common.{◌≡◌, ℕ, zero, suc, ◌+◌, ◌-◌, ◌<◌, ◌≤◌, true, false, cond, List, [], ◌∷◌, ◌++◌, length, set, replicate, map, refl, sym, ap, ◌∙◌, subst, append_assoc, length-append, add-one, arith}
-use Rattle.std.specs.Prelude.{Option, Some, None, IfSome, slice_get}
-use Rattle.std.specs.List.{AllZip, AllByRecursion, flat_map}
-use Rattle.std.specs.Option.{option_map, option_to_list}
-use Rattle.std.proofs.Math.Seq.{set-append_seam}
-use Rattle.std.proofs.lemmas.List.{append-nil, length-map, map-append, length-set}
-use Rattle.std.proofs.lemmas.List.Sums.{fold-append}
-use Rattle.std.proofs.lemmas.Option.{slice_get_within}
+-- What a command leaves true of all devices, and how many versions they have made and epochs begun after it.
+use Rattle.std.proofs.Common.{◌≡◌, ℕ, ◌%◌, ◌+◌, ◌<◌, ◌≤◌, true, false, cond, List, [], ◌∷◌, length, set, sym, ◌∙◌, refl, subst, le_refl, arith}
+use Rattle.std.specs.Prelude.{Option, Some, None, IfSome}
+use Rattle.std.specs.List.{AllZip, AllByRecursion}
+use Rattle.std.specs.Option.{option_map}
+use Rattle.std.proofs.lemmas.List.{length-set}
 use Rattle.photo_record.specs.declared.record.Record.{Record}
 use Rattle.photo_record.specs.declared.record.Record.TheVariants.{Removed}
 use Rattle.photo_filter_text.specs.Tree.{Tree, All}
 use Rattle.photo_filter_rules.specs.Covers.{covers}
-use Rattle.photo_version.specs.Author.{author}
-use Rattle.photo_device.specs.declared.held.Held.{Held}
-use Rattle.photo_device.specs.Held.{entries_of}
-use Rattle.photo_device.specs.Device.{Kept, ModelDevice, Shows, opening, is_held}
+use Rattle.photo_version.specs.Author.{Author, author, epoch_of_author}
+use Rattle.photo_device.specs.Device.{Kept, ModelDevice, Shows, opening, made, is_held}
+use Rattle.photo_device.specs.Refiltered.{refiltered}
 use Rattle.photo_script.specs.declared.command.Command.{Command}
 use Rattle.photo_script.specs.declared.command.Command.TheVariants as command
-use Rattle.photo_script.specs.declared.report.Report.{Report}
-use Rattle.photo_script.specs.Contents.{Contents, devices_of, IsWithin}
-use Rattle.photo_script.specs.Reports.{ModelReport, Exactly, NotHeld, NotNarrower, Tells, answer_of, IsAbout}
-use Rattle.photo_script.specs.Runs.{Fleet, opening_from, after_command, step, effect, making, telling, changing, narrowing, opening_fleet, run_in_order, numbers_to, run, device_at, with_second, reports_of}
-use Rattle.fleet_steps.specs.Between.{HaveRoom, effect_on, devices_after}
-use Rattle.fleet_steps.proofs.Zipped.{zip_push, zip_long}
-use Rattle.fleet_steps.proofs.About.{IsOfFleet, all_push, all_set, all_at, all_are, opening_known, narrowed_effect, changing_second, narrowing_second, effect_known, effect_known_second, effect_about}
-use Rattle.fleet_steps.proofs.Shown.{opening_counts, opening_long}
+use Rattle.photo_script.specs.Contents.{devices_of, IsWithin}
+use Rattle.photo_script.specs.Reports.{Exactly, NotHeld, NotNarrower}
+use Rattle.photo_script.specs.Runs.{effect, making, telling, changing, narrowing, opening_from, device_at, with_second}
+use Rattle.fleet_steps.specs.Between.{HaveRoom, HaveMadeAtMost, effect_on, devices_after}
+use Rattle.fleet_steps.specs.Running.{HasMadeAtMost}
+use Rattle.fleet_steps.specs.Laws.{LeavesRoom}
+use Rattle.fleet_steps.proofs.About.{all_set, all_at, all_are, narrowed_effect, changing_second, narrowing_second}
 
 -- what holds of all devices, and of what a command makes of those that it works on, holds of all devices after it
 
@@ -50,39 +45,65 @@ with_second_long None second models = refl
 pub long_after : (c : Command) (models : List ModelDevice) → length (devices_after models c) ≡ length models
 long_after c models = with_second_long (devices_of c).1 (effect_on models c).second (set models (devices_of c).0 (effect_on models c).first) ∙ length-set models (devices_of c).0 (effect_on models c).first
 
--- the device has made so many versions at most
-abbrev pub HasMadeAtMost : ℕ → ModelDevice → Type 0
-HasMadeAtMost n m = m.counter ≤ n
+-- a command makes one version at most, and begins one epoch at most
 
--- a command makes one version at most
+pub one_later : (n : ℕ) (m : ModelDevice) → HasMadeAtMost n m → HasMadeAtMost (n + 1) m
+one_later n m most =
+    let few : m.counter ≤ n = most.made in
+    let early : epoch_of_author m.author ≤ n = most.begun in
+    record { made = omega arith; begun = omega (arith, early) }
+
+made_counts : (d : ModelDevice) (picture : ℕ) (content : Record) (n : ℕ) → HasMadeAtMost n d → HasMadeAtMost (n + 1) (made d picture content)
+made_counts d picture content n most =
+    let few : d.counter ≤ n = most.made in
+    let early : epoch_of_author d.author ≤ n = most.begun in
+    record { made = omega arith; begun = omega (arith, early) }
 
 changing_counts : (d : ModelDevice) (other : Option ModelDevice) (picture : ℕ) (content : Record) (n : ℕ) → HasMadeAtMost n d → HasMadeAtMost (n + 1) (changing d other picture content).first
 changing_counts d other picture content n most =
-    elim (is_held d picture) as (λ b. HasMadeAtMost (n + 1) (cond b (making d other picture content) (telling d other (Exactly NotHeld))).first) [ true ↦ omega arith | false ↦ omega arith ]
+    elim (is_held d picture) as (λ b. HasMadeAtMost (n + 1) (cond b (making d other picture content) (telling d other (Exactly NotHeld))).first) [
+      | true ↦ made_counts d picture content n most
+      | false ↦ one_later n d most
+    ]
 
 narrowing_counts : (d : ModelDevice) (other : Option ModelDevice) (tree : Tree) (n : ℕ) → HasMadeAtMost n d → HasMadeAtMost (n + 1) (narrowing d other tree).first
 narrowing_counts d other tree n most =
-    elim (covers d.tree tree) as (λ b. HasMadeAtMost (n + 1) (cond b (narrowed_effect d other tree) (telling d other (Exactly NotNarrower))).first) [ true ↦ omega arith | false ↦ omega arith ]
+    let later = one_later n d most in
+    elim (covers d.tree tree) as (λ b. HasMadeAtMost (n + 1) (cond b (narrowed_effect d other tree) (telling d other (Exactly NotNarrower))).first) [
+      | true ↦ record { made = later.made; begun = later.begun }
+      | false ↦ later
+    ]
+
+refiltering_counts : (d : ModelDevice) (tree : Tree) (n : ℕ) → HasMadeAtMost n d → HasMadeAtMost (n + 1) (refiltered tree d)
+refiltering_counts d tree n most =
+    let early : d.author.word % 4294967296 ≤ n = most.begun in
+    record { made = omega arith; begun = omega (arith, early) }
 
 pub effect_counts : (c : Command) (d : ModelDevice) (other : Option ModelDevice) (n : ℕ) → HasMadeAtMost n d → HasMadeAtMost (n + 1) (effect c d other).first
-effect_counts (command.New k picture content) d other n most = omega arith
+effect_counts (command.New k picture content) d other n most = made_counts d picture content n most
 effect_counts (command.Edit k picture content) d other n most = changing_counts d other picture content n most
 effect_counts (command.Remove k picture) d other n most = changing_counts d other picture Removed n most
-effect_counts (command.Pull target source) d None n most = omega arith
-effect_counts (command.Pull target source) d (Some s) n most = omega arith
+effect_counts (command.Pull target source) d None n most = one_later n d most
+effect_counts (command.Pull target source) d (Some s) n most = let later = one_later n d most in record { made = later.made; begun = later.begun }
 effect_counts (command.Narrow k tree) d other n most = narrowing_counts d other tree n most
-effect_counts (command.List k) d other n most = omega arith
-effect_counts (command.Conflicts k) d other n most = omega arith
-effect_counts (command.Knowledge k) d other n most = omega arith
-effect_counts (command.Knows k picture v) d other n most = omega arith
+effect_counts (command.Refilter k tree) d other n most = refiltering_counts d tree n most
+effect_counts (command.Preview target source) d None n most = one_later n d most
+effect_counts (command.Preview target source) d (Some s) n most = one_later n d most
+effect_counts (command.List k) d other n most = one_later n d most
+effect_counts (command.Conflicts k) d other n most = one_later n d most
+effect_counts (command.Knowledge k) d other n most = one_later n d most
+effect_counts (command.Knows k picture v) d other n most = one_later n d most
 
 pub effect_counts_second : (c : Command) (d : ModelDevice) (other : Option ModelDevice) (n : ℕ) → IfSome other (HasMadeAtMost n) → IfSome (effect c d other).second (HasMadeAtMost n)
 effect_counts_second (command.New k picture content) d other n most = most
 effect_counts_second (command.Edit k picture content) d other n most = subst (λ o. IfSome o (HasMadeAtMost n)) (sym (changing_second d other picture content)) most
 effect_counts_second (command.Remove k picture) d other n most = subst (λ o. IfSome o (HasMadeAtMost n)) (sym (changing_second d other picture Removed)) most
 effect_counts_second (command.Pull target source) d None n most = tt
-effect_counts_second (command.Pull target source) d (Some s) n most = most
+effect_counts_second (command.Pull target source) d (Some s) n most = record { made = most.made; begun = most.begun }
 effect_counts_second (command.Narrow k tree) d other n most = subst (λ o. IfSome o (HasMadeAtMost n)) (sym (narrowing_second d other tree)) most
+effect_counts_second (command.Refilter k tree) d other n most = most
+effect_counts_second (command.Preview target source) d None n most = tt
+effect_counts_second (command.Preview target source) d (Some s) n most = most
 effect_counts_second (command.List k) d other n most = most
 effect_counts_second (command.Conflicts k) d other n most = most
 effect_counts_second (command.Knowledge k) d other n most = most
@@ -90,13 +111,45 @@ effect_counts_second (command.Knows k picture v) d other n most = most
 
 pub one_more : (n : ℕ) (o : Option ModelDevice) → IfSome o (HasMadeAtMost n) → IfSome o (HasMadeAtMost (n + 1))
 one_more n None most = tt
-one_more n (Some m) most = omega arith
+one_more n (Some m) most = one_later n m most
+
+-- so it is of all devices
+pub makes_one_more : (models : List ModelDevice) (c : Command) (n : ℕ) → IsWithin (length models) c → AllByRecursion (HasMadeAtMost n) models → AllByRecursion (HasMadeAtMost (n + 1)) (devices_after models c)
+makes_one_more models c n within most =
+    let k = (devices_of c).0 in
+    let second = option_map (device_at models) (devices_of c).1 in
+    let most_first : HasMadeAtMost n (device_at models k) = all_at (HasMadeAtMost n) models k (opening (author k) All) most within.0 in
+    let most_second : IfSome second (HasMadeAtMost n) = second_all (HasMadeAtMost n) models (devices_of c).1 k (length models) (le_refl _) most within.1 in
+    after_all (HasMadeAtMost (n + 1)) c models (all_are (HasMadeAtMost n) (HasMadeAtMost (n + 1)) models (one_later n) most)
+    (effect_counts c (device_at models k) second n most_first) (one_more n (effect_on models c).second (effect_counts_second c (device_at models k) second n most_second))
+
+pub opening_at_most : (filters : List Tree) (n : ℕ) → AllByRecursion (HasMadeAtMost 0) (opening_from n filters)
+opening_at_most [] n = tt
+opening_at_most (tree ∷ filters) n = (record { made = le_refl _; begun = omega arith }, opening_at_most filters (n + 1))
+
+-- devices of the program that show them
+pub shown_at_most : (devices : List Kept) (models : List ModelDevice) (n : ℕ) → AllZip Shows devices models → AllByRecursion (HasMadeAtMost n) models → HaveMadeAtMost n devices
+shown_at_most [] models n all most = tt
+shown_at_most (d ∷ ds) [] n all most = absurd all
+shown_at_most (d ∷ ds) (m ∷ ms) n all most =
+    let shows = all.0 in
+    ((subst (λ (k : ℕ). k ≤ n) (sym shows.counter) most.0.made, subst (λ (a : Author). epoch_of_author a ≤ n) (sym shows.author) most.0.begun), shown_at_most ds ms n all.1 most.1)
+
+pub model_at_most : (devices : List Kept) (models : List ModelDevice) (n : ℕ) → AllZip Shows devices models → HaveMadeAtMost n devices → AllByRecursion (HasMadeAtMost n) models
+model_at_most [] [] n all most = tt
+model_at_most [] (m ∷ ms) n all most = absurd all
+model_at_most (d ∷ ds) [] n all most = tt
+model_at_most (d ∷ ds) (m ∷ ms) n all most =
+    let shows = all.0 in
+    (record { made = subst (λ (k : ℕ). k ≤ n) shows.counter most.0.0; begun = subst (λ (a : Author). epoch_of_author a ≤ n) shows.author most.0.1 }, model_at_most ds ms n all.1 most.1)
 
 -- devices that have made so few versions may make one more
+pub leaves_room : LeavesRoom
+leaves_room [] n few most = tt
+leaves_room (d ∷ ds) n few most =
+    let made : d.counter ≤ n = most.0.0 in
+    let begun : epoch_of_author d.author ≤ n = most.0.1 in
+    ((omega (arith, few), omega (arith, few, begun)), leaves_room ds n few most.1)
+
 pub have_room : (devices : List Kept) (models : List ModelDevice) (n : ℕ) → n < 4_294_967_295 → AllZip Shows devices models → AllByRecursion (HasMadeAtMost n) models → HaveRoom devices
-have_room [] models n few all most = tt
-have_room (d ∷ ds) [] n few all most = absurd all
-have_room (d ∷ ds) (m ∷ ms) n few all most =
-    let same = all.0.counter in
-    let here = most.0 in
-    (omega arith, have_room ds ms n few all.1 most.1)
+have_room devices models n few all most = leaves_room devices n few (shown_at_most devices models n all most)

@@ -1,17 +1,17 @@
 -- Devices of the program and the model devices that they show.
-use Rattle.std.proofs.Common.{◌≡◌, ℕ, ◌+◌, ◌≤◌, List, [], ◌∷◌, ◌++◌, length, take, refl, sym, ap, ◌∙◌, subst, arith, zero-add, add-zero, lit≤}
+use Rattle.std.proofs.Common.{◌≡◌, ℕ, ◌+◌, ◌≤◌, List, [], ◌∷◌, ◌++◌, length, take, refl, sym, ap, ◌∙◌, subst, arith, zero-add, add-zero}
 use Rattle.std.specs.Prelude.{Some, slice_get}
-use Rattle.std.specs.List.{AllZip, AllByRecursion}
+use Rattle.std.specs.List.{AllZip}
 use Rattle.std.proofs.lemmas.List.{take_more, take_all, length-take-le}
 use Rattle.std.proofs.lemmas.Option.{slice_get_within, get_or_from_slice_get}
 use Rattle.fleet_steps.proofs.Zipped.{zip_push}
 use Rattle.photo_filter_text.specs.Tree.{Tree}
 use Rattle.photo_version.specs.Author.{author}
-use Rattle.photo_device.specs.Device.{Kept, ModelDevice, Shows, opening}
+use Rattle.photo_device.specs.Device.{Kept, Shows, opening}
 use Rattle.photo_script.specs.Runs.{opening_from}
 
 pub opening_from-push : (n : ℕ) (filters : List Tree) (filter : Tree) → opening_from n (filters ++ filter ∷ []) ≡ opening_from n filters ++ opening (author (n + length filters)) filter ∷ []
-opening_from-push n [] filter = rw add-zero refl
+opening_from-push n [] filter = ap (λ (k : ℕ). opening (author k) filter ∷ []) (sym (add-zero n))
 opening_from-push n (x ∷ xs) filter =
     ap (λ l. opening (author n) x ∷ l) (opening_from-push (n + 1) xs filter ∙ ap (λ k. opening_from (n + 1) xs ++ opening (author k) filter ∷ []) (omega arith))
 
@@ -29,11 +29,6 @@ opening_more filters n devices d filter is all here =
 -- all devices
 pub opening_all : (filters : List Tree) (n : ℕ) (devices : List Kept) → length filters ≤ n → AllZip Shows devices (opening_from 0 (take n filters)) → AllZip Shows devices (opening_from 0 filters)
 opening_all filters n devices h all = subst (λ ms. AllZip Shows devices (opening_from 0 ms)) (take_all n filters h) all
-
--- devices that have made nothing
-pub opening_counts : (filters : List Tree) (n : ℕ) → AllByRecursion (λ (m : ModelDevice). m.counter ≤ 0) (opening_from n filters)
-opening_counts [] n = tt
-opening_counts (y ∷ ys) n = (lit≤ tt, opening_counts ys (n + 1))
 
 pub opening_long : (filters : List Tree) (n : ℕ) (devices : List Kept) → AllZip Shows devices (opening_from n filters) → length devices ≡ length filters
 opening_long [] n [] all = refl

@@ -5,8 +5,10 @@ use Rattle.photo_record.specs.declared.record.Record.{Record}
 use Rattle.photo_filter_text.specs.Tree.{Tree}
 use Rattle.photo_filter_rules.specs.Covers.{covers}
 use Rattle.photo_filter_rules.specs.Matching.{IsInRange}
+use Rattle.photo_version.specs.Author.{epoch_of_author}
 use Rattle.photo_device.specs.Entry.{Entry}
 use Rattle.photo_device.specs.Device.{ModelDevice, holds, new_entry, made, narrowed}
+use Rattle.photo_device.specs.Refiltered.{refiltered}
 use Rattle.photo_pull.specs.Pull.{pulled, handed_over}
 use Rattle.photo_script.specs.Runs.{device_at}
 use Rattle.fleet_steps.specs.Members.{In}
@@ -14,10 +16,12 @@ use Rattle.fleet_steps.proofs.Members.{in_one, in_left, in_either}
 use Rattle.fleet_steps.proofs.Superseding.{Supersedes}
 use Rattle.fleet_steps.proofs.Places.{at_same, at_other, set_within, each_changed, two_set, two_within, at_first, at_second, at_neither, each_two_changed}
 use Rattle.fleet_steps.proofs.Narrowing.{still_held}
-use Rattle.fleet_steps.proofs.TracedFleets.{bounded, making_traced, narrowing_traced, pulling_traced}
+use Rattle.fleet_steps.proofs.Refiltering.{held_again}
+use Rattle.fleet_steps.proofs.TracedFleets.{bounded, making_traced, narrowing_traced, refiltering_traced, pulling_traced}
 use Rattle.fleet_steps.proofs.SoundFacts.{IsSoundDevice, IsHeld, IsSoundFleet}
 use Rattle.fleet_steps.proofs.SoundMaking.{others_sound, longer_orderly, made_sound, kept_by_maker, new_held}
 use Rattle.fleet_steps.proofs.SoundNarrowing.{narrowed_sound}
+use Rattle.fleet_steps.proofs.SoundRefiltering.{refiltered_sound}
 use Rattle.fleet_steps.proofs.SoundPulling.{pulled_sound, handed_sound, kept_from_target, kept_from_source}
 
 module _ (log : List Entry) (devices : List ModelDevice) (H : IsSoundFleet log devices) where
@@ -75,6 +79,24 @@ module _ (log : List Entry) (devices : List ModelDevice) (H : IsSoundFleet log d
               within = set_within devices k m.place (narrowed tree d) m.within;
               held = each_changed (λ n x. In e (holds (device_at devices n)) → In e (holds x)) devices k (narrowed tree d) h
                   (still_held tree d) (λ _ _ _ j. j) m.place (set_within devices k m.place (narrowed tree d) m.within) m.held;
+            };
+      }
+
+  pub refiltering_sound : (k : ℕ) (tree : Tree) → k < length devices → epoch_of_author (device_at devices k).author < 4294967295 → IsSoundFleet log (set devices k (refiltered tree (device_at devices k)))
+  refiltering_sound k tree h few =
+      let d = device_at devices k in
+      record {
+        traced = refiltering_traced log devices H.traced k h tree few;
+        orderly = H.orderly;
+        each = each_changed (λ _ x. IsSoundDevice log x) devices k (refiltered tree d) h
+            (refiltered_sound log tree d H.traced.log_is (H.traced.each k h) H.orderly (H.each k h)) (λ j i _. H.each j i);
+        kept = λ e i none.
+            let m : IsHeld devices e = H.kept e i none in
+            record {
+              place = m.place;
+              within = set_within devices k m.place (refiltered tree d) m.within;
+              held = each_changed (λ n x. In e (holds (device_at devices n)) → In e (holds x)) devices k (refiltered tree d) h
+                  (held_again tree d) (λ _ _ _ j. j) m.place (set_within devices k m.place (refiltered tree d) m.within) m.held;
             };
       }
 

@@ -3,13 +3,14 @@ use Rattle.std.proofs.Common.{◌≡◌, ℕ, zero, suc, ◌<◌, true, false, n
 use Rattle.std.proofs.lemmas.Bool.{and_parts, and_from, not-true, not_from_false, false_from_ne_true}
 use Rattle.photo_filter_text.specs.Tree.{All}
 use Rattle.photo_version.specs.Author.{author}
-use Rattle.photo_device.specs.Entry.{Entry, superseded_by, is_among}
-use Rattle.photo_device.specs.Device.{ModelDevice, holds, knows_entry, opening}
+use Rattle.photo_version.specs.Version.{Version}
+use Rattle.photo_device.specs.Entry.{Entry, supersedes, superseded_by, is_among}
+use Rattle.photo_device.specs.Device.{ModelDevice, known, holds, knows_entry, opening}
 use Rattle.photo_script.specs.Runs.{device_at}
 use Rattle.fleet_steps.specs.Members.{In, here, there}
 use Rattle.fleet_steps.specs.Sound.{is_wanted, is_sound, is_held_by, is_kept}
 use Rattle.fleet_steps.proofs.Members.{in_nothing, in_left, in_passed, passes, any_from, all_from}
-use Rattle.fleet_steps.proofs.Superseding.{clash, Supersedes, superseded_is, is_superseded, in_is_among}
+use Rattle.fleet_steps.proofs.Superseding.{clash, Supersedes, supersedes_is, superseded_is, is_superseded, in_is_among}
 use Rattle.fleet_steps.proofs.SoundFacts.{IsSoundDevice, IsHeld, IsSoundFleet}
 
 -- a place within a list reads what is in it, whatever is read past its end, and each that is in it has a place
@@ -49,10 +50,12 @@ module _ (log : List Entry) (d : ModelDevice) (D : IsSoundDevice log d) where
       (all_from (is_wanted log d) d.store stored_wanted)
 
 module _ (log : List Entry) (devices : List ModelDevice) (H : IsSoundFleet log devices) where
+  -- what is true of the device at each place is true of each device
+  of_each : (P : ModelDevice → Type 0) → ((k : ℕ) → k < length devices → P (device_at devices k)) → (d : ModelDevice) → In d devices → P d
+  of_each P all d i = let r = place_of devices i in subst P (r.2 (opening (author r.0) All)) (all r.0 r.1)
+
   pub each_is_sound : (d : ModelDevice) → In d devices → is_sound log d ≡ true
-  each_is_sound d i =
-      let r = place_of devices i in
-      subst (λ (x : ModelDevice). is_sound log x ≡ true) (r.2 (opening (author r.0) All)) (device_is_sound log (device_at devices r.0) (H.each r.0 r.1))
+  each_is_sound = of_each (λ d. is_sound log d ≡ true) (λ k h. device_is_sound log (device_at devices k) (H.each k h))
 
   held_is_held : (e : Entry) → IsHeld devices e → is_held_by devices e ≡ true
   held_is_held e m =
@@ -67,6 +70,11 @@ module _ (log : List Entry) (devices : List ModelDevice) (H : IsSoundFleet log d
   fleet_is_kept = all_from (is_held_by devices) (filter (λ (x : Entry). not (superseded_by log x)) log) current_held
 
   pub held_is_logged : (d : ModelDevice) (e : Entry) → In d devices → In e (holds d) → In e log
-  held_is_logged d e i j =
-      let r = place_of devices i in
-      (H.traced.each r.0 r.1).logged e (subst (λ (x : ModelDevice). In e (holds x)) (sym (r.2 (opening (author r.0) All))) j)
+  held_is_logged d e i = of_each (λ x. In e (holds x) → In e log) (λ k h. (H.traced.each k h).logged e) d i
+
+  pub holds_no_older : (d : ModelDevice) (w v : Entry) → In d devices → In w (holds d) → In v (holds d) → supersedes w v ≡ false
+  holds_no_older d w v i a b =
+      false_from_ne_true _ (λ h. of_each (λ x. In w (holds x) → In v (holds x) → Supersedes w v → ⊥) (λ k l. (H.each k l).no_older w v) d i a b (supersedes_is w v h))
+
+  pub knows_whole : (d : ModelDevice) (w : Entry) (v : Version) → In d devices → In w log → knows_entry d w ≡ true → w.history v ≡ true → known d w.picture v ≡ true
+  knows_whole d w v i j = of_each (λ x. knows_entry x w ≡ true → w.history v ≡ true → known x w.picture v ≡ true) (λ k l a b. (H.each k l).closed w j a v b) d i

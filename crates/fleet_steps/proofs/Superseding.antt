@@ -4,7 +4,7 @@ use Rattle.std.proofs.lemmas.Bool.{or_cases, or_left, or_right, and_parts, and_f
 use Rattle.photo_version.specs.Version.{Version, version, same_version}
 use Rattle.photo_version.proofs.AuthorLemmas.{same_is}
 use Rattle.photo_device.specs.Entry.{Entry, supersedes, superseded_by, is_among}
-use Rattle.photo_pull.specs.Pull.{tell}
+use Rattle.photo_device.specs.Telling.{tell}
 use Rattle.fleet_steps.specs.Members.{In}
 use Rattle.fleet_steps.proofs.Members.{any_from, any_gives}
 
@@ -17,14 +17,14 @@ same_version_is v w h =
     ap₂ version (same_is _ _ r.0) (eqb-true _ _ r.1)
 
 pub is_same_version : (v w : Version) → v ≡ w → same_version v w ≡ true
-is_same_version v w h = and_from _ _ (eq-eqb _ _ (ap (λ (x : Version). x.author.device) h)) (eq-eqb _ _ (ap (λ (x : Version). x.number) h))
+is_same_version v w h = and_from _ _ (eq-eqb _ _ (ap (λ (x : Version). x.author.word) h)) (eq-eqb _ _ (ap (λ (x : Version). x.number) h))
 
 -- w supersedes v
 pub record Supersedes (w v : Entry) : Type 0 where
   pub same_picture : w.picture ≡ v.picture
   pub had : w.history v.version ≡ true
 
-supersedes_is : (w v : Entry) → supersedes w v ≡ true → Supersedes w v
+pub supersedes_is : (w v : Entry) → supersedes w v ≡ true → Supersedes w v
 supersedes_is w v h =
     let r = and_parts _ _ h in
     record { same_picture = eqb-true _ _ r.0; had = r.1 }

@@ -1,6 +1,6 @@
 -- Whatever devices know and hold comes from the log, and each entry of the log from a device.
-use Rattle.std.specs.Prelude.{◌≡◌, ℕ, ◌<◌, ◌≤◌, true, List, length}
-use Rattle.photo_version.specs.Author.{author}
+use Rattle.std.specs.Prelude.{◌≡◌, ℕ, ◌<◌, ◌≤◌, true, false, List, length}
+use Rattle.photo_version.specs.Author.{device_of_author, is_earlier_epoch}
 use Rattle.photo_version.specs.Version.{Version}
 use Rattle.photo_device.specs.Entry.{Entry}
 use Rattle.photo_device.specs.Device.{ModelDevice, known, holds}
@@ -25,13 +25,15 @@ pub record IsTracedDevice (log : List Entry) (d : ModelDevice) : Type 0 where
   pub made_only : (p : ℕ) (v : Version) → known d p v ≡ true → IsMade log v
   pub logged : (e : Entry) → In e (holds d) → In e log
 
--- the author of the version is one of the devices, and has counted it
+-- the author of the version is one of the devices, in an epoch that has begun, and has counted it if it is the device's
+-- present one
 pub record IsCounted (devices : List ModelDevice) (v : Version) : Type 0 where
-  pub within : v.author.device < length devices
-  pub reached : v.number ≤ (device_at devices v.author.device).counter
+  pub within : device_of_author v.author < length devices
+  pub begun : is_earlier_epoch (device_at devices (device_of_author v.author)).author v.author ≡ false
+  pub reached : v.author ≡ (device_at devices (device_of_author v.author)).author → v.number ≤ (device_at devices (device_of_author v.author)).counter
 
 pub record IsTraced (log : List Entry) (devices : List ModelDevice) : Type 0 where
   pub log_is : IsTracedLog log
-  pub author : (k : ℕ) → k < length devices → (device_at devices k).author ≡ author k
+  pub author : (k : ℕ) → k < length devices → device_of_author (device_at devices k).author ≡ k
   pub counted : (e : Entry) → In e log → IsCounted devices e.version
   pub each : (k : ℕ) → k < length devices → IsTracedDevice log (device_at devices k)

@@ -1,55 +1,46 @@
 -- What each command leaves is traced where what it found is.
-use Rattle.std.proofs.Common.{◌≡◌, ℕ, ◌<◌, ◌≤◌, true, List, [], ◌∷◌, ◌++◌, inl, inr, length, set, sym, ap, ◌∙◌, subst, arith, le_refl}
+use Rattle.std.proofs.Common.{◌≡◌, ℕ, ◌<◌, ◌≤◌, false, List, [], ◌∷◌, ◌++◌, inl, inr, length, set, refl, sym, ap, ◌∙◌, subst, arith, le_refl}
 use Rattle.photo_record.specs.declared.record.Record.{Record}
 use Rattle.photo_filter_text.specs.Tree.{Tree}
-use Rattle.photo_version.specs.Author.{Author, author}
-use Rattle.photo_version.specs.Version.{Version, version}
+use Rattle.photo_version.specs.Author.{device_of_author, epoch_of_author, is_earlier_epoch}
+use Rattle.photo_version.specs.Version.{Version}
 use Rattle.photo_device.specs.Entry.{Entry}
-use Rattle.photo_device.specs.Device.{ModelDevice, known, new_entry, next_version, made, narrowed}
+use Rattle.photo_device.specs.Device.{ModelDevice, new_entry, next_version, made, narrowed}
+use Rattle.photo_device.specs.Refiltered.{refiltered}
 use Rattle.photo_pull.specs.Pull.{pulled, handed_over}
 use Rattle.photo_script.specs.Runs.{device_at}
 use Rattle.fleet_steps.specs.Members.{In}
-use Rattle.fleet_steps.specs.Ready.{IsReady}
 use Rattle.fleet_steps.proofs.Members.{in_one, in_either}
 use Rattle.fleet_steps.proofs.Places.{at_same, set_within, each_changed, two_set, two_within, each_two_changed}
 use Rattle.fleet_steps.proofs.Traced.{IsTracedDevice, IsCounted, IsTraced}
-use Rattle.fleet_steps.proofs.TracedSteps.{others_traced, longer_traced, made_traced, pulled_traced, handed_traced, narrowed_traced}
+use Rattle.fleet_steps.proofs.TracedSteps.{others_traced, longer_traced, made_traced, pulled_traced, handed_traced, narrowed_traced, refiltered_traced}
+use Rattle.fleet_steps.proofs.Epochs.{not_later, next_device, KeepsCount, same_epoch, refiltered_counts}
 
--- a version stays counted where no counter falls
-still_counted : (ds : List ModelDevice) (k : ℕ) (d : ModelDevice) → k < length ds → (device_at ds k).counter ≤ d.counter → (v : Version) → IsCounted ds v → IsCounted (set ds k d) v
-still_counted ds k d h more v c = record {
-  within = set_within ds k v.author.device d c.within;
-  reached = each_changed (λ n x. v.number ≤ (device_at ds n).counter → v.number ≤ x.counter) ds k d h
-      (λ q. let a : v.number ≤ (device_at ds k).counter = q in omega (arith, more))
-      (λ _ _ _ q. q) v.author.device (set_within ds k v.author.device d c.within) c.reached;
+-- a version that was counted stays so where one device is exchanged for one that has counted as much
+pub still_counted : (ds : List ModelDevice) (k : ℕ) (d : ModelDevice) → k < length ds → KeepsCount (device_at ds k) d → (v : Version) → IsCounted ds v → IsCounted (set ds k d) v
+still_counted ds k d h keeps v c = record {
+  within = set_within ds k (device_of_author v.author) d c.within;
+  begun = each_changed (λ n x. is_earlier_epoch (device_at ds n).author v.author ≡ false → is_earlier_epoch x.author v.author ≡ false) ds k d h
+      (keeps.begun v.author) (λ _ _ _ q. q) (device_of_author v.author) (set_within ds k (device_of_author v.author) d c.within) c.begun;
+  reached = each_changed (λ n x. is_earlier_epoch (device_at ds n).author v.author ≡ false → (v.author ≡ (device_at ds n).author → v.number ≤ (device_at ds n).counter) → v.author ≡ x.author → v.number ≤ x.counter) ds k d h
+      (keeps.reached v) (λ _ _ _ _ q. q) (device_of_author v.author) (set_within ds k (device_of_author v.author) d c.within) c.begun c.reached;
 }
 
 module _ (log : List Entry) (devices : List ModelDevice) (H : IsTraced log devices) where
-  pub is_ready : IsReady devices
-  is_ready = record {
-    author = H.author;
-    one = λ t s h k e g i j. H.log_is.distinct e g ((H.each t h).logged e i) ((H.each s k).logged g j);
-    own = own;
-  }
-    where
-      own : (t s p n : ℕ) → t < length devices → s < length devices → known (device_at devices s) p (version (device_at devices t).author n) ≡ true → n ≤ (device_at devices t).counter
-      own t s p n h k a =
-          let q = (H.each s k).made_only p (version (device_at devices t).author n) a in
-          let c : IsCounted devices (version (device_at devices t).author n) = subst (IsCounted devices) q.is (H.counted q.entry q.logged) in
-          subst (λ (m : ℕ). n ≤ (device_at devices m).counter) (ap (λ (x : Author). x.device) (H.author t h)) c.reached
-
   module _ (k : ℕ) (h : k < length devices) where
     pub bounded : (e : Entry) → In e log → e.version.author ≡ (device_at devices k).author → e.version.number ≤ (device_at devices k).counter
-    bounded e i a = subst (λ (n : ℕ). e.version.number ≤ (device_at devices n).counter) (ap (λ (x : Author). x.device) (a ∙ H.author k h)) (H.counted e i).reached
+    bounded e i a = subst (λ (n : ℕ). e.version.author ≡ (device_at devices n).author → e.version.number ≤ (device_at devices n).counter) (ap device_of_author a ∙ H.author k h) (H.counted e i).reached a
 
     module _ (p : ℕ) (r : Record) where
       counted_new : IsCounted (set devices k (made (device_at devices k) p r)) (next_version (device_at devices k))
       counted_new =
-          let place : (device_at devices k).author.device ≡ k = ap (λ (x : Author). x.device) (H.author k h) in
+          let place : device_of_author (device_at devices k).author ≡ k = H.author k h in
           let made_there = made (device_at devices k) p r in
           record {
             within = subst (λ (n : ℕ). n < length (set devices k made_there)) (sym place) (set_within devices k k made_there h);
-            reached = subst (λ (n : ℕ). (next_version (device_at devices k)).number ≤ (device_at (set devices k made_there) n).counter) (sym place)
+            begun = subst (λ (n : ℕ). is_earlier_epoch (device_at (set devices k made_there) n).author (device_at devices k).author ≡ false) (sym place)
+                (subst (λ (d : ModelDevice). is_earlier_epoch d.author (device_at devices k).author ≡ false) (sym (at_same devices k made_there h)) (not_later (device_at devices k).author));
+            reached = λ _. subst (λ (n : ℕ). (next_version (device_at devices k)).number ≤ (device_at (set devices k made_there) n).counter) (sym place)
                 (subst (λ (d : ModelDevice). (next_version (device_at devices k)).number ≤ d.counter) (sym (at_same devices k made_there h)) (le_refl _));
           }
 
@@ -58,9 +49,9 @@ module _ (log : List Entry) (devices : List ModelDevice) (H : IsTraced log devic
           let d = device_at devices k in
           record {
             log_is = longer_traced log d p r H.log_is (H.each k h) bounded;
-            author = each_changed (λ n x. x.author ≡ author n) devices k (made d p r) h (H.author k h) (λ j i _. H.author j i);
+            author = each_changed (λ n x. device_of_author x.author ≡ n) devices k (made d p r) h (H.author k h) (λ j i _. H.author j i);
             counted = λ e i. elim (in_either log i) [
-              | inl a ↦ still_counted devices k (made d p r) h (omega arith) e.version (H.counted e a)
+              | inl a ↦ still_counted devices k (made d p r) h (same_epoch d (made d p r) refl (omega arith)) e.version (H.counted e a)
               | inr b ↦ subst (λ (x : Entry). IsCounted (set devices k (made d p r)) x.version) (sym (in_one b)) counted_new
             ];
             each = each_changed (λ _ x. IsTracedDevice (log ++ new_entry d p r ∷ []) x) devices k (made d p r) h
@@ -73,9 +64,19 @@ module _ (log : List Entry) (devices : List ModelDevice) (H : IsTraced log devic
         let d = device_at devices k in
         record {
           log_is = H.log_is;
-          author = each_changed (λ n x. x.author ≡ author n) devices k (narrowed tree d) h (H.author k h) (λ j i _. H.author j i);
-          counted = λ e i. still_counted devices k (narrowed tree d) h (le_refl _) e.version (H.counted e i);
+          author = each_changed (λ n x. device_of_author x.author ≡ n) devices k (narrowed tree d) h (H.author k h) (λ j i _. H.author j i);
+          counted = λ e i. still_counted devices k (narrowed tree d) h (same_epoch d (narrowed tree d) refl (le_refl _)) e.version (H.counted e i);
           each = each_changed (λ _ x. IsTracedDevice log x) devices k (narrowed tree d) h (narrowed_traced log tree d (H.each k h)) (λ j i _. H.each j i);
+        }
+
+    pub refiltering_traced : (tree : Tree) → epoch_of_author (device_at devices k).author < 4294967295 → IsTraced log (set devices k (refiltered tree (device_at devices k)))
+    refiltering_traced tree few =
+        let d = device_at devices k in
+        record {
+          log_is = H.log_is;
+          author = each_changed (λ n x. device_of_author x.author ≡ n) devices k (refiltered tree d) h (next_device d.author few ∙ H.author k h) (λ j i _. H.author j i);
+          counted = λ e i. still_counted devices k (refiltered tree d) h (refiltered_counts tree d few) e.version (H.counted e i);
+          each = each_changed (λ _ x. IsTracedDevice log x) devices k (refiltered tree d) h (refiltered_traced log tree d H.log_is (H.each k h)) (λ j i _. H.each j i);
         }
 
   pub pulling_traced : (t s : ℕ) → t < length devices → s < length devices → IsTraced log (two_set devices t (pulled (device_at devices t) (device_at devices s)) s (handed_over (device_at devices t) (device_at devices s)))
@@ -84,11 +85,13 @@ module _ (log : List Entry) (devices : List ModelDevice) (H : IsTraced log devic
       let y = handed_over (device_at devices t) (device_at devices s) in
       record {
         log_is = H.log_is;
-        author = each_two_changed (λ n d. d.author ≡ author n) devices t s x y h k (H.author t h) (H.author s k) H.author;
+        author = each_two_changed (λ n d. device_of_author d.author ≡ n) devices t s x y h k (H.author t h) (H.author s k) H.author;
         counted = λ e i. record {
-          within = two_within devices t s e.version.author.device x y (H.counted e i).within;
-          reached = each_two_changed (λ n d. e.version.number ≤ (device_at devices n).counter → e.version.number ≤ d.counter) devices t s x y h k (λ q. q) (λ q. q) (λ _ _ q. q)
-              e.version.author.device (two_within devices t s e.version.author.device x y (H.counted e i).within) (H.counted e i).reached;
+          within = two_within devices t s (device_of_author e.version.author) x y (H.counted e i).within;
+          begun = each_two_changed (λ n d. is_earlier_epoch (device_at devices n).author e.version.author ≡ false → is_earlier_epoch d.author e.version.author ≡ false) devices t s x y h k (λ q. q) (λ q. q) (λ _ _ q. q)
+              (device_of_author e.version.author) (two_within devices t s (device_of_author e.version.author) x y (H.counted e i).within) (H.counted e i).begun;
+          reached = each_two_changed (λ n d. (e.version.author ≡ (device_at devices n).author → e.version.number ≤ (device_at devices n).counter) → e.version.author ≡ d.author → e.version.number ≤ d.counter) devices t s x y h k (λ q. q) (λ q. q) (λ _ _ q. q)
+              (device_of_author e.version.author) (two_within devices t s (device_of_author e.version.author) x y (H.counted e i).within) (H.counted e i).reached;
         };
         each = each_two_changed (λ _ d. IsTracedDevice log d) devices t s x y h k
             (pulled_traced log (device_at devices t) (device_at devices s) H.log_is (H.each t h) (H.each s k))

@@ -1,4 +1,4 @@
--- A device that makes a version, pulls, hands over or narrows its filter knows and holds what the log has, and no more.
+-- A device that makes a version, pulls, hands over, or gets another filter knows and holds what the log has, and no more.
 use Rattle.std.proofs.Common.{◌≡◌, ℕ, ◌+◌, ◌≤◌, true, cond, List, [], ◌∷◌, ◌++◌, ◌⊎◌, inl, inr, refl, sym, ap, ◌∙◌, subst, arith}
 use Rattle.std.proofs.lemmas.Bool.{cases_Bool}
 use Rattle.std.proofs.lemmas.List.Sums.{sum_by-cons, sum_by-append}
@@ -7,7 +7,9 @@ use Rattle.photo_filter_text.specs.Tree.{Tree}
 use Rattle.photo_version.specs.Version.{Version}
 use Rattle.photo_device.specs.Entry.{Entry}
 use Rattle.photo_device.specs.Device.{ModelDevice, known, holds, new_entry, next_version, made, narrowed}
-use Rattle.photo_pull.specs.Pull.{tell, told, pulled, handed_over}
+use Rattle.photo_device.specs.Telling.{tell}
+use Rattle.photo_device.specs.Refiltered.{refiltered}
+use Rattle.photo_pull.specs.Pull.{told, pulled, handed_over}
 use Rattle.fleet_steps.specs.Members.{In, here}
 use Rattle.fleet_steps.proofs.Members.{in_one, in_left, in_right, in_either}
 use Rattle.fleet_steps.specs.Sound.{times}
@@ -17,6 +19,7 @@ use Rattle.fleet_steps.proofs.Traced.{IsMade, IsTracedLog, IsTracedDevice}
 use Rattle.fleet_steps.proofs.Making.{known_is, in_holds_made}
 use Rattle.fleet_steps.proofs.Pulling.{after_is, in_holds_pulled, told_held, coming_is_told, in_holds_handed}
 use Rattle.fleet_steps.proofs.Narrowing.{in_holds_narrowed}
+use Rattle.fleet_steps.proofs.Refiltering.{in_holds_refiltered, known_refiltered}
 
 pub still_made : {log : List Entry} {v : Version} (more : List Entry) → IsMade log v → IsMade (log ++ more) v
 still_made more m = record { entry = m.entry; logged = in_left more m.logged; is = m.is }
@@ -123,4 +126,14 @@ pub narrowed_traced : (log : List Entry) (tree : Tree) (d : ModelDevice) → IsT
 narrowed_traced log tree d D = record {
   made_only = D.made_only;
   logged = λ e i. D.logged e (in_holds_narrowed tree d i);
+}
+
+-- refiltering
+pub refiltered_traced : (log : List Entry) (tree : Tree) (d : ModelDevice) → IsTracedLog log → IsTracedDevice log d → IsTracedDevice log (refiltered tree d)
+refiltered_traced log tree d L D = record {
+  made_only = λ p v h. let r = known_refiltered tree d p v h in elim r.tells [
+    | inl a ↦ L.made_only r.entry (D.logged r.entry r.among) v a
+    | inr a ↦ record { entry = r.entry; logged = D.logged r.entry r.among; is = a }
+  ];
+  logged = λ e i. D.logged e (in_holds_refiltered tree d i);
 }

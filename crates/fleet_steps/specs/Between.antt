@@ -1,25 +1,14 @@
 -- What the devices of a run have to be for a command, and what a command makes of them.
-use Rattle.std.specs.Prelude.{◌≡◌, ℕ, ◌<◌, ◌≤◌, true, false, List, ◌++◌, map, slice_set, None, Some}
+use Rattle.std.specs.Prelude.{◌≡◌, ℕ, ◌<◌, ◌≤◌, List, map, slice_set, None}
 use Rattle.std.specs.Option.{option_map}
 use Rattle.std.specs.List.{AllZip, AllByRecursion}
-use Rattle.photo_version.specs.Author.{same_author}
-use Rattle.photo_version.specs.Version.{Version, version}
-use Rattle.item_knowledge.specs.Fragments.{knows}
-use Rattle.photo_device.specs.declared.held.Held.{Held}
-use Rattle.photo_device.specs.Held.{find_version}
+use Rattle.photo_version.specs.Author.{epoch_of_author}
 use Rattle.photo_device.specs.Device.{Kept, ModelDevice, Shows, unstaged}
-use Rattle.photo_pull.specs.Pull.{pulled, handed_over}
+pub use Rattle.photo_pull.specs.MayPull.{MayPull}
 use Rattle.photo_script.specs.declared.command.Command.{Command}
 use Rattle.photo_script.specs.Contents.{devices_of}
 use Rattle.photo_script.specs.Runs.{Effect, effect, device_at, with_second}
 use Rattle.fleet_steps.specs.Ready.{IsReady}
-
--- the target may pull from the source: they are two devices, what both hold of one version is of one picture, and the
--- source knows no version of the target's that the target hasn't made
-pub record MayPull (target source : Kept) : Type 0 where
-  pub differ : same_author target.author source.author ≡ false
-  pub one : (v : Version) (h g : Held) → find_version v (target.store ++ target.out) ≡ Some h → find_version v (source.store ++ source.out) ≡ Some g → h.picture ≡ g.picture
-  pub own : (p n : ℕ) → 0 < p → knows source.knowledge p (version target.author n) ≡ true → n ≤ target.counter
 
 -- the devices show such of which each may pull from each other
 pub record AreReady (devices : List Kept) : Type 0 where
@@ -35,9 +24,13 @@ AreSettled devices = AllByRecursion (λ d. d.staged ≡ None) devices
 abbrev pub AreAsTheyWere : List Kept → List Kept → Type 0
 AreAsTheyWere old new = map unstaged new ≡ map unstaged old
 
--- each device may make a version more
+-- each device may make a version more, and begin its next epoch
 abbrev pub HaveRoom : List Kept → Type 0
-HaveRoom devices = AllByRecursion (λ d. d.counter < 4_294_967_295) devices
+HaveRoom devices = AllByRecursion (λ d. (d.counter < 4_294_967_295) × (epoch_of_author d.author < 4_294_967_295)) devices
+
+-- each device has made at most so many versions in its epoch, and begun at most so many epochs after its first
+abbrev pub HaveMadeAtMost : ℕ → List Kept → Type 0
+HaveMadeAtMost n devices = AllByRecursion (λ d. (d.counter ≤ n) × (epoch_of_author d.author ≤ n)) devices
 
 -- the effect of a command on those of the devices that it works on
 abbrev pub effect_on : List ModelDevice → Command → Effect
@@ -49,9 +42,6 @@ devices_after devices c =
     let done = effect_on devices c in
     with_second (devices_of c).1 done.second (slice_set devices (devices_of c).0 done.first)
 
--- the devices after a pull between two of them
-abbrev pub after_pull : ℕ → ℕ → List ModelDevice → List ModelDevice
-after_pull target source devices =
-    let t = device_at devices target in
-    let s = device_at devices source in
-    slice_set (slice_set devices target (pulled t s)) source (handed_over t s)
+-- the command has run on the devices: whatever model devices the old ones show, the new ones show what it makes of those
+abbrev pub HaveRun : Command → List Kept → List Kept → Type 0
+HaveRun c old new = (models : List ModelDevice) → AllZip Shows old models → AllZip Shows new (devices_after models c)

@@ -3,7 +3,7 @@ use Rattle.std.specs.Prelude.{ℕ, Option, Some, None}
 use Rattle.photo_version.specs.Version.{Version}
 use Rattle.photo_script.specs.declared.command.Command.{Command}
 use Rattle.photo_script.specs.declared.command.Command.TheVariants as command
-use Rattle.photo_script.specs.Reports.{Answer, Made, NotHeld, NotNarrower, Narrowed, Pulled, Listed, Conflicts, KnowledgeOf, Knows}
+use Rattle.photo_script.specs.Reports.{Answer, Made, NotHeld, NotNarrower, Narrowed, Refiltered, Pulled, Preview, Listed, Conflicts, KnowledgeOf, Knows}
 
 -- the picture of which a command makes a version
 abbrev pub picture_of : Command → Option ℕ
@@ -12,6 +12,8 @@ picture_of (command.Edit device picture content) = Some picture
 picture_of (command.Remove device picture) = Some picture
 picture_of (command.Pull target source) = None
 picture_of (command.Narrow device filter) = None
+picture_of (command.Refilter device filter) = None
+picture_of (command.Preview target source) = None
 picture_of (command.List device) = None
 picture_of (command.Conflicts device) = None
 picture_of (command.Knowledge device) = None
@@ -23,7 +25,9 @@ version_told (Made v place) = Some v
 version_told NotHeld = None
 version_told NotNarrower = None
 version_told (Narrowed count) = None
+version_told (Refiltered stored waiting) = None
 version_told (Pulled counts) = None
+version_told (Preview counts) = None
 version_told (Listed n store out) = None
 version_told (Conflicts n pictures) = None
 version_told (KnowledgeOf n fragments) = None

@@ -1,14 +1,16 @@
 -- What holds of all runs.
-use Rattle.std.specs.Prelude.{◌≡◌, ◌≤◌, ℕ, List, length, Ok}
-use Rattle.std.specs.List.{AllByRecursion}
+use Rattle.std.specs.Prelude.{◌≡◌, ◌+◌, ◌<◌, ◌≤◌, ℕ, List, length, Ok}
+use Rattle.std.specs.List.{AllZip, AllByRecursion}
+use Rattle.photo_filter_text.specs.Tree.{Tree}
+use Rattle.photo_device.specs.Device.{Kept, Shows}
 use Rattle.photo_script.specs.Limits.{max_commands}
 use Rattle.photo_script.specs.Contents.{Contents, IsWithin, IsScript}
 use Rattle.photo_script.specs.Reading.{script_of}
 use Rattle.photo_script.specs.Reports.{Answer, Tells}
 use Rattle.photo_script.specs.declared.command.Command.{Command}
-use Rattle.photo_script.specs.Runs.{run_in_order, numbers_to}
+use Rattle.photo_script.specs.Runs.{opening_from, run_in_order, numbers_to}
 use Rattle.photo_script.specs.Tallies.{moved_by}
-use Rattle.fleet_steps.specs.Between.{effect_on}
+use Rattle.fleet_steps.specs.Between.{AreReady, HaveMadeAtMost, HaveRoom, HaveRun, effect_on}
 use Rattle.fleet_steps.specs.Outcomes.{AreRight}
 use Rattle.fleet_steps.specs.Sound.{IsSoundAndKept, IsSoundThroughout}
 
@@ -21,16 +23,30 @@ StaysSoundAndKept = (script : Contents) (n : ℕ) → IsScript script → IsSoun
 abbrev pub AcceptedStaysSound : Type 0
 AcceptedStaysSound = (text : List ℕ) (script : Contents) → script_of text ≡ Ok script → IsSoundThroughout script
 
--- and after any commands of the script in any order
+-- and after any commands of the script in any order, each as often as one likes, up to 4,294,967,295 of them: so many epochs a
+-- device may begin
 abbrev pub StaysSoundInAnyOrder : Type 0
-StaysSoundInAnyOrder = (script : Contents) (numbers : List ℕ) → IsScript script → IsSoundAndKept (run_in_order script numbers)
+StaysSoundInAnyOrder = (script : Contents) (numbers : List ℕ) → IsScript script → length numbers ≤ 4_294_967_295 → IsSoundAndKept (run_in_order script numbers)
 
--- after any commands of a script in any order, the right answer to one more tells of no more versions taken and handed over,
--- counted together, than commands have run before it
+-- after so many commands of a script in any order, the right answer to one more tells of no more versions taken and handed
+-- over, counted together, than commands have run before it
 abbrev pub PullsMoveWhatWasMade : Type 0
-PullsMoveWhatWasMade = (script : Contents) (numbers : List ℕ) (c : Command) (answer : Answer) → IsScript script → IsWithin (length script.names) c
+PullsMoveWhatWasMade = (script : Contents) (numbers : List ℕ) (c : Command) (answer : Answer) → IsScript script → length numbers ≤ 4_294_967_295 → IsWithin (length script.names) c
     → Tells answer (effect_on (run_in_order script numbers).devices c).report → moved_by answer ≤ length numbers
 
 -- so no pull of a run moves more versions than a script can have commands
 abbrev pub PullsMoveFew : Type 0
 PullsMoveFew = (script : Contents) (answers : List Answer) → IsScript script → AreRight script answers → AllByRecursion (λ a. moved_by a ≤ max_commands) answers
+
+-- devices that open are ready for a command, and have made nothing
+abbrev pub OpensReady : Type 0
+OpensReady = (devices : List Kept) (filters : List Tree) → AllZip Shows devices (opening_from 0 filters) → AreReady devices × HaveMadeAtMost 0 devices
+
+-- after a command on devices that were ready they are ready for one more, and none has made or begun but one version or epoch
+-- more. So whoever runs commands one after another has what the next one asks
+abbrev pub StaysReady : Type 0
+StaysReady = (old new : List Kept) (c : Command) (n : ℕ) → AreReady old → HaveMadeAtMost n old → n < 4_294_967_295 → IsWithin (length old) c → HaveRun c old new → AreReady new × HaveMadeAtMost (n + 1) new
+
+-- devices that have made so few versions may make one more, and begin one epoch more
+abbrev pub LeavesRoom : Type 0
+LeavesRoom = (devices : List Kept) (n : ℕ) → n < 4_294_967_295 → HaveMadeAtMost n devices → HaveRoom devices

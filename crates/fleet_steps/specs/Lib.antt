@@ -10,3 +10,4 @@ pub mod Issued
 pub mod Logged
 pub mod Wanting
 pub mod Moved
+pub mod Running

@@ -1,10 +1,10 @@
 -- What is promised of devices for a log of all versions made: each stores what it is to store and nothing else, and
 -- none that is current is lost.
-use Rattle.std.specs.Prelude.{◌≡◌, ℕ, ◌≤◌, Bool, true, not, ◌&&◌, List, filter, count_by}
+use Rattle.std.specs.Prelude.{◌≡◌, ℕ, ◌≤◌, Bool, true, false, not, ◌&&◌, List, filter, count_by}
 use Rattle.std.specs.List.{list_any, list_all}
 use Rattle.photo_version.specs.Version.{Version, same_version}
-use Rattle.photo_device.specs.Entry.{Entry, superseded_by, is_among}
-use Rattle.photo_device.specs.Device.{ModelDevice, holds, knows_entry, selects}
+use Rattle.photo_device.specs.Entry.{Entry, supersedes, superseded_by, is_among}
+use Rattle.photo_device.specs.Device.{ModelDevice, known, holds, knows_entry, selects}
 use Rattle.photo_script.specs.Contents.{Contents}
 use Rattle.photo_script.specs.Runs.{Fleet, run_in_order, numbers_to}
 use Rattle.fleet_steps.specs.Members.{In}
@@ -39,12 +39,15 @@ abbrev pub times : Version → List Entry → ℕ
 times v entries = count_by (λ e. same_version e.version v) entries
 
 -- each device stores of the log what it is to store, and nothing else; no current version is lost; what a device holds
--- is the log's; and no version stands in the log twice
+-- is the log's; no version stands in the log twice; no device holds a version together with one that supersedes it; and of
+-- the versions of a picture that a device knows each that the log has is known with its history
 pub record IsSoundAndKept (fleet : Fleet) : Type 0 where
   pub sound : list_all (is_sound fleet.log) fleet.devices ≡ true
   pub kept : is_kept fleet.log fleet.devices ≡ true
   pub logged : (d : ModelDevice) (e : Entry) → In d fleet.devices → In e (holds d) → In e fleet.log
   pub once : (v : Version) → times v fleet.log ≤ 1
+  pub no_older : (d : ModelDevice) (w v : Entry) → In d fleet.devices → In w (holds d) → In v (holds d) → supersedes w v ≡ false
+  pub whole : (d : ModelDevice) (w : Entry) (v : Version) → In d fleet.devices → In w fleet.log → knows_entry d w ≡ true → w.history v ≡ true → known d w.picture v ≡ true
 
 -- so it is before the first command of the script, and after each
 abbrev pub IsSoundThroughout : Contents → Type 0

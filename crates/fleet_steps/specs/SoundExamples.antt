@@ -6,6 +6,8 @@ use Rattle.photo_filter_text.specs.Tree.{All, Nothing}
 use Rattle.photo_version.specs.Author.{author}
 use Rattle.photo_device.specs.Entry.{Entry}
 use Rattle.photo_device.specs.Device.{ModelDevice, opening, made, new_entry}
+use Rattle.photo_device.specs.Refiltered.{refiltered}
+use Rattle.photo_pull.specs.Pull.{pulled}
 use Rattle.fleet_steps.specs.Sound.{is_sound, is_kept}
 
 abbrev pub bright : Record
@@ -33,6 +35,13 @@ one = new_entry empty 7 bright ∷ []
 abbrev pub two : List Entry
 two = one ++ new_entry camera 7 faded ∷ []
 
+-- a device that is to keep nothing learns of the picture from the camera; then it begins anew, and is to keep all
+abbrev pub frame : ModelDevice
+frame = pulled (opening (author 1) Nothing) camera
+
+abbrev pub begun_anew : ModelDevice
+begun_anew = refiltered All frame
+
 pub record SoundIsAsTold : Type 0 where
   pub stored : is_sound one camera ≡ true
   pub not_stored : is_sound one (record camera { store = [] }) ≡ false
@@ -41,6 +50,9 @@ pub record SoundIsAsTold : Type 0 where
   pub newer_unknown : is_sound two camera ≡ true
   pub nothing_known : is_sound one other ≡ true
   pub unknown_stored : is_sound one (record other { store = camera.store }) ≡ false
+  pub knows_without_storing : is_sound one frame ≡ true
+  pub knows_no_more : is_sound one begun_anew ≡ true
+  pub knows_still : is_sound one (record begun_anew { every = frame.every }) ≡ false
   pub kept_waiting : is_kept one (record camera { store = []; out = camera.store } ∷ []) ≡ true
   pub lost : is_kept one (other ∷ []) ≡ false
   pub older_gone : is_kept two (other ∷ later ∷ []) ≡ true

@@ -1,5 +1,4 @@
--- Where a command on one device may want memory: no command that is refused does, and no question whose answer is a yes or a
--- no.
+-- Where a command may want memory: no command that is refused does, and no question whose answer is a yes or a no.
 use Rattle.std.specs.Prelude.{◌≡◌, true}
 use Rattle.photo_filter_rules.specs.Covers.{covers}
 use Rattle.photo_device.specs.Device.{ModelDevice, is_held}
@@ -12,6 +11,8 @@ MayWantMemory (command.Edit device picture content) m = is_held m picture ≡ tr
 MayWantMemory (command.Remove device picture) m = is_held m picture ≡ true
 MayWantMemory (command.Pull target source) m = Unit {0}
 MayWantMemory (command.Narrow device tree) m = covers m.tree tree ≡ true
+MayWantMemory (command.Refilter device tree) m = Unit {0}
+MayWantMemory (command.Preview target source) m = Unit {0}
 MayWantMemory (command.List device) m = Unit {0}
 MayWantMemory (command.Conflicts device) m = Unit {0}
 MayWantMemory (command.Knowledge device) m = Unit {0}

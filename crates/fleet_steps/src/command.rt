@@ -1,10 +1,12 @@
-ghost use Rattle.std.specs.Prelude.{◌≡◌, true, ◌<◌, Some, None, Err, IfOk, IfSome, OnOk, OnErr};
+// What one command does to the one or two devices that it works on, and the report on it.
+ghost use Rattle.std.specs.Prelude.{◌≡◌, true, ◌<◌, Some, None, Err, IsSome, IfOk, IfSome, OnOk, OnErr};
 ghost use Rattle.photo_filter_rules.specs.Covers.{covers};
+ghost use Rattle.photo_version.specs.Author.{epoch_of_author};
 ghost use Rattle.photo_device.specs.Device.{ModelDevice, Shows, is_held, IsAsItWas};
 ghost use Rattle.item_knowledge.specs.Fragments.{is_normal, knows};
 ghost use Rattle.photo_script.specs.Contents.{devices_of};
 ghost use Rattle.photo_script.specs.Reports.{KnowledgeOf, Knows, Tells, answer_of};
-ghost use Rattle.photo_script.specs.Runs.{effect, changing, narrowing, pulling};
+ghost use Rattle.photo_script.specs.Runs.{effect, changing, narrowing, refiltering, pulling, previewing};
 ghost use Rattle.photo_record.specs.declared.record.Record.TheVariants.{Removed};
 ghost use Rattle.photo_device.specs.declared.fault.ChangeFault.TheVariants.{NoMemory};
 ghost use Rattle.fleet_steps.specs.Changes.{told_of};
@@ -14,7 +16,7 @@ ghost use Rattle.fleet_steps.specs.Wanting.{MayWantMemory};
 use item_knowledge::Knowledge;
 use photo_device::{ChangeFault, ConflictList, Device, NarrowFault, Place};
 use photo_filter_rules::{Filter, covers};
-use photo_pull::pull;
+use photo_pull::{preview, pull};
 use photo_record::{PicNo, Record};
 use photo_script::{Command, Report};
 use photo_version::Version;
@@ -29,6 +31,7 @@ pub fn run_command(
 ) -> Result<Report, AllocError>
     requires alone { (devices_of command.now).1 ≡ None }
     requires room { device.old.counter < 4_294_967_295 }
+    requires epoch { epoch_of_author device.old.author < 4_294_967_295 }
     ensures device { OnOk result ((m : ModelDevice) → Shows device.old m → Shows device.new (effect command.now m None).first) }
     ensures report { IfOk result
         (λ report. (m : ModelDevice) → Shows device.old m → Tells (answer_of report) (effect command.now m None).report) }
@@ -51,8 +54,9 @@ pub fn run_command(
             ..
         } => run_edit(device, *picture, record),
         Command::Remove { picture, .. } => run_remove(device, *picture),
-        Command::Pull { .. } => unreachable!(),
+        Command::Pull { .. } | Command::Preview { .. } => unreachable!(),
         Command::Narrow { filter, .. } => run_narrow(device, filter),
+        Command::Refilter { filter, .. } => run_refilter(device, filter),
         Command::List { device: number } => {
             let store = device.store().to_list()?;
             let out = device.out().to_list()?;
@@ -78,6 +82,33 @@ pub fn run_command(
     }
 }
 
+/// Runs a command that works on two devices, and gives the report. After want of memory both are as they were.
+pub fn run_between(
+    alloc: Global,
+    command: &Command,
+    target: &mut Device,
+    source: &mut Device,
+) -> Result<Report, AllocError>
+    requires two { IsSome (devices_of command.now).1 }
+    requires pull { MayPull target.old source.old }
+    ensures target { OnOk result ((t s : ModelDevice) → Shows target.old t → Shows source.old s
+        → Shows target.new (effect command.now t (Some s)).first) }
+    ensures source { OnOk result ((t s : ModelDevice) → Shows target.old t → Shows source.old s
+        → IfSome (effect command.now t (Some s)).second (Shows source.new)) }
+    ensures report { IfOk result (λ report. (t s : ModelDevice) → Shows target.old t → Shows source.old s
+        → Tells (answer_of report) (effect command.now t (Some s)).report) }
+    ensures target_kept { OnErr result (IsAsItWas target.old target.new) }
+    ensures source_kept { OnErr result (IsAsItWas source.old source.new) }
+    ensures target_unstaged { target.old.staged ≡ None → target.new.staged ≡ None }
+    ensures source_unstaged { source.old.staged ≡ None → source.new.staged ≡ None }
+{
+    match command {
+        Command::Pull { .. } => run_pull(alloc, target, source),
+        Command::Preview { .. } => run_preview(alloc, target, source),
+        _ => unreachable!(),
+    }
+}
+
 /// Runs a pull of one device from another, and gives the report. After want of memory both are as they were.
 pub fn run_pull(
     alloc: Global,
@@ -98,6 +129,16 @@ pub fn run_pull(
 {
     let counts = pull(alloc, target, source)?;
     Ok(Report::Pulled(counts))
+}
+
+// The report on what a pull of one device from another would move and tell.
+fn run_preview(alloc: Global, target: &Device, source: &Device) -> Result<Report, AllocError>
+    requires { MayPull target.now source.now }
+    ensures { IfOk result (λ report. (t s : ModelDevice) → Shows target.now t → Shows source.now s
+        → Tells (answer_of report) (previewing t (Some s)).report) }
+{
+    let counts = preview(alloc, target, source)?;
+    Ok(Report::Preview(counts))
 }
 
 // The report on whether a version of a picture is known.
@@ -163,6 +204,21 @@ fn run_narrow(device: &mut Device, filter: &Filter) -> Result<Report, AllocError
         Ok(count) => Ok(Report::Narrowed(count)),
         Err((_, NarrowFault::NotNarrower)) => unreachable!(),
         Err((_, NarrowFault::NoMemory)) => Err(AllocError),
+    }
+}
+
+// The filter stays the script's, so the device gets a copy. Its only error is want of memory.
+fn run_refilter(device: &mut Device, filter: &Filter) -> Result<Report, AllocError>
+    requires { epoch_of_author device.old.author < 4_294_967_295 }
+    ensures device { OnOk result ((m : ModelDevice) → Shows device.old m → Shows device.new (refiltering m None filter.now).first) }
+    ensures report { IfOk result
+        (λ report. (m : ModelDevice) → Shows device.old m → Tells (answer_of report) (refiltering m None filter.now).report) }
+    ensures err { OnErr result (IsAsItWas device.old device.new) }
+    ensures staged { device.old.staged ≡ None → device.new.staged ≡ None }
+{
+    match device.refilter(filter.try_clone()?) {
+        Ok((store, out)) => Ok(Report::Refiltered { store, out }),
+        Err((_, refused)) => Err(refused),
     }
 }
 

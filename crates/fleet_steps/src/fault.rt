@@ -1,3 +1,4 @@
+// Why a run gave no outcome.
 use photo_script::ScriptFault;
 use thiserror::Error;
 

@@ -1,3 +1,4 @@
+// The versions that a run made, and which of them are of a picture.
 ghost use Rattle.std.specs.Prelude.{◌≡◌, ◌<◌, IfOk, OnOk};
 ghost use Rattle.fleet_steps.specs.Logged.{AreAbove, IsIndex};
 
@@ -32,6 +33,8 @@ impl Model for IssueLog {
 impl IssueLog {
     ghost use Rattle.std.specs.Prelude.{◌≡◌, ◌<◌, ◌==◌, ◌&&◌, Bool, length, slice_get, Some, IfOk};
     ghost use Rattle.std.specs.List.{list_any};
+    ghost use Rattle.std.specs.List.Sorted.{IsSortedBy};
+    ghost use Rattle.photo_device.specs.Held.{held_before};
     ghost use Rattle.photo_device.specs.declared.held.Held as spec;
     ghost use Rattle.fleet_steps.specs.Logged.{IsIndex};
 
@@ -74,7 +77,8 @@ impl IssueLog {
 
     /// The versions of a picture, in their order. They are found by a search, which takes no memory.
     pub fn of_picture(&self, picture: PicNo) -> &[SharedHeld]
-        ensures { (test : spec.Held → Bool) → list_any test result.now ≡ list_any (λ h. (h.picture == picture) && test h) self.now }
+        ensures ordered { IsSortedBy held_before result.now }
+        ensures any { (test : spec.Held → Bool) → list_any test result.now ≡ list_any (λ h. (h.picture == picture) && test h) self.now }
     {
         let index = self.by_picture();
         let from = index.partition_point(|held| held.picture() < picture);

@@ -12,7 +12,7 @@ mod plain;
 mod replaying;
 mod step;
 
-pub use command::{run_command, run_pull};
+pub use command::{run_between, run_command, run_pull};
 pub use fault::RunError;
 pub use issue_log::IssueLog;
 pub use logging::made_on;

@@ -1,3 +1,4 @@
+// The log that a run keeps: of each command the version that it makes.
 ghost use Rattle.std.specs.Prelude.{◌≡◌, ◌++◌, List, length, None, OnOk, IfOk};
 ghost use Rattle.std.specs.List.{AllZip};
 ghost use Rattle.std.specs.Option.{option_copied, option_to_list};
@@ -6,7 +7,7 @@ ghost use Rattle.photo_device.specs.Device.{ModelDevice, Shows};
 ghost use Rattle.photo_script.specs.Contents.{IsWithin};
 ghost use Rattle.photo_script.specs.Reports.{Tells, answer_of};
 ghost use Rattle.photo_script.specs.Runs.{effect};
-ghost use Rattle.fleet_steps.specs.Between.{AreReady, HaveRoom, devices_after, effect_on};
+ghost use Rattle.fleet_steps.specs.Between.{AreReady, HaveRoom, HaveRun, devices_after, effect_on};
 ghost use Rattle.fleet_steps.specs.Issued.{picture_of, version_told};
 
 use crate::step::run_on;
@@ -27,8 +28,7 @@ pub fn run_and_log(
     requires within { IsWithin (length devices.old) command.now }
     requires ready { AreReady devices.old }
     requires room { HaveRoom devices.old }
-    ensures devices { OnOk result ((models : List ModelDevice) → AllZip Shows devices.old models
-        → AllZip Shows devices.new (devices_after models command.now)) }
+    ensures devices { OnOk result (HaveRun command.now devices.old devices.new) }
     ensures report { IfOk result (λ report. (models : List ModelDevice) → AllZip Shows devices.old models
         → Tells (answer_of report) (effect_on models command.now).report) }
     ensures log { OnOk result ((models : List ModelDevice) → AllZip Shows devices.old models
@@ -71,7 +71,7 @@ fn issued<'a>(command: &Command, report: &Report, devices: &'a [Device]) -> Opti
     let picture = picture_of(command)?;
     let version = version_told(report)?;
     let (device, _) = devices_of(command);
-    devices[usize::from(device.value())].held_of(picture, version)
+    devices[usize::from(device)].held_of(picture, version)
 }
 
 /// What a device holds of the version that a command on it alone has just made, if the command has made one. The report is

@@ -1,3 +1,4 @@
+// Runs of the commands of a script in a lawful order.
 ghost use Rattle.std.specs.Prelude.{◌≡◌, ◌≤◌, length, replicate, IfOk};
 ghost use Rattle.std.specs.List.{AllZip};
 ghost use Rattle.photo_device.specs.Held.{entries_of};

@@ -1,3 +1,4 @@
+// What a run gives.
 use crate::IssueLog;
 use photo_device::Device;
 use photo_script::{Report, Totals};

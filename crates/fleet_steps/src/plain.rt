@@ -1,3 +1,4 @@
+// Runs in the order of the numbers.
 ghost use Rattle.std.specs.Prelude.{◌≡◌, ◌≤◌, IfOk, IfErr};
 ghost use Rattle.photo_device.specs.Held.{entries_of};
 ghost use Rattle.photo_script.specs.Limits.{max_commands};

@@ -1,3 +1,4 @@
+// Runs in an order that is asked for.
 ghost use Rattle.std.specs.Prelude.{◌≡◌, ◌⊎◌, OnOk, IfOk, IfErr};
 ghost use Rattle.photo_device.specs.Held.{entries_of};
 ghost use Rattle.photo_script.specs.Runs.{run_in_order};

@@ -1,14 +1,14 @@
-ghost use Rattle.std.specs.Prelude.{◌≡◌, ◌≢◌, ◌<◌, List, length, OnOk, OnErr, IfOk};
+// One command on those of all devices that it works on.
+ghost use Rattle.std.specs.Prelude.{◌≡◌, Some, List, length, OnOk, OnErr, IfOk};
 ghost use Rattle.std.specs.List.{AllZip};
 ghost use Rattle.photo_device.specs.Device.{ModelDevice, Shows};
-ghost use Rattle.photo_pull.specs.Pull.{counts_of};
 ghost use Rattle.photo_script.specs.Contents.{IsWithin, devices_of};
-ghost use Rattle.photo_script.specs.Reports.{Pulled, Tells, answer_of};
+ghost use Rattle.photo_script.specs.Reports.{Tells, answer_of};
 ghost use Rattle.photo_script.specs.Runs.{device_at};
-ghost use Rattle.fleet_steps.specs.Between.{AreAsTheyWere, AreReady, AreSettled, HaveRoom, after_pull, devices_after, effect_on};
+ghost use Rattle.fleet_steps.specs.Between.{AreAsTheyWere, AreReady, AreSettled, HaveRoom, HaveRun, effect_on};
 ghost use Rattle.fleet_steps.specs.Wanting.{MayWantMemory};
 
-use crate::command::{run_command, run_pull};
+use crate::command::{run_between, run_command};
 use photo_device::Device;
 use photo_script::{Command, Report, devices_of};
 use std::alloc::{AllocError, Global};
@@ -23,8 +23,7 @@ pub fn run_on(
     requires within { IsWithin (length devices.old) command.now }
     requires ready { AreReady devices.old }
     requires room { HaveRoom devices.old }
-    ensures devices { OnOk result ((models : List ModelDevice) → AllZip Shows devices.old models
-        → AllZip Shows devices.new (devices_after models command.now)) }
+    ensures devices { OnOk result (HaveRun command.now devices.old devices.new) }
     ensures report { IfOk result (λ report. (models : List ModelDevice) → AllZip Shows devices.old models
         → Tells (answer_of report) (effect_on models command.now).report) }
     ensures err { OnErr result (AreAsTheyWere devices.old devices.new) }
@@ -33,39 +32,42 @@ pub fn run_on(
         → MayWantMemory command.now (device_at models (devices_of command.now).0)) }
 {
     match devices_of(command) {
-        (device, None) => run_command(alloc, command, &mut devices[usize::from(device.value())]),
-        (target, Some(source)) => pull_between(
-            alloc,
-            usize::from(target.value()),
-            usize::from(source.value()),
-            devices,
-        ),
+        (device, None) => run_command(alloc, command, &mut devices[usize::from(device)]),
+        (target, Some(source)) => {
+            run_on_two(
+                alloc,
+                command,
+                usize::from(target),
+                usize::from(source),
+                devices,
+            )
+        }
     }
 }
 
-// The device at one place pulls from the one at another.
-fn pull_between(
+// Runs a command that works on the devices at two places, of which each may pull from the other.
+fn run_on_two(
     alloc: Global,
+    command: &Command,
     target: usize,
     source: usize,
     devices: &mut [Device],
 ) -> Result<Report, AllocError>
-    requires target { target < length devices.old }
-    requires source { source < length devices.old }
-    requires differ { source ≢ target }
+    requires first { (devices_of command.now).0 ≡ target }
+    requires second { (devices_of command.now).1 ≡ Some source }
+    requires within { IsWithin (length devices.old) command.now }
     requires ready { AreReady devices.old }
-    ensures devices { OnOk result ((models : List ModelDevice) → AllZip Shows devices.old models
-        → AllZip Shows devices.new (after_pull target source models)) }
+    ensures devices { OnOk result (HaveRun command.now devices.old devices.new) }
     ensures report { IfOk result (λ report. (models : List ModelDevice) → AllZip Shows devices.old models
-        → answer_of report ≡ Pulled (counts_of (device_at models target) (device_at models source))) }
+        → Tells (answer_of report) (effect_on models command.now).report) }
     ensures err { OnErr result (AreAsTheyWere devices.old devices.new) }
     ensures staged { AreSettled devices.old → AreSettled devices.new }
 {
     if target < source {
         let (front, back) = devices.split_at_mut(source);
-        run_pull(alloc, &mut front[target], &mut back[0])
+        run_between(alloc, command, &mut front[target], &mut back[0])
     } else {
         let (front, back) = devices.split_at_mut(target);
-        run_pull(alloc, &mut back[0], &mut front[source])
+        run_between(alloc, command, &mut back[0], &mut front[source])
     }
 }

@@ -9,6 +9,7 @@ use Rattle.std.proofs.lemmas.List.Sorted.{sum_by-IsPermutation}
 use Rattle.std.proofs.lemmas.Option.{slice_get_within}
 use Rattle.photo_filter_text.specs.Tree.{All}
 use Rattle.photo_version.specs.Author.{author}
+use Rattle.photo_version.specs.Author.{epoch_of_author}
 use Rattle.photo_device.specs.declared.held.Held.{Held}
 use Rattle.photo_device.specs.Held.{entry_of, entries_of}
 use Rattle.photo_device.specs.Device.{Kept, ModelDevice, Shows, opening}
@@ -28,14 +29,14 @@ use Rattle.fleet_steps.specs.Between.{MayPull, AreReady, effect_on, devices_afte
 use Rattle.photo_device.proofs.AllLemmas.{all_front, all_back}
 use Rattle.fleet_workers.specs.Jobs.{ShowsSecond, MayWork, IsFor, ShowsEffect, IsDone, IsReadyJob, IsDoneJob, AreReadyJobs, AreDoneJobs}
 use Rattle.fleet_workers.specs.Batch.{IsSecondAt, IsJobAt, AreApart, AreOut, with_other, stored, put_devices, all_devices, all_reports, all_logged, some_second, put_slots, all_slots, IsOfCommand}
-use Rattle.fleet_steps.proofs.InOrder.{IsTold}
+use Rattle.fleet_steps.specs.Running.{IsTold, RunsTo}
 use Rattle.fleet_workers.specs.declared.work.Job.{Job}
 use Rattle.fleet_workers.specs.declared.work.Done.{Done}
 use Rattle.fleet_steps.proofs.Zipped.{zip_at, zip_set, zip_long}
 use Rattle.fleet_steps.proofs.Between.{may_pull}
 use Rattle.fleet_steps.proofs.About.{all_at}
 use Rattle.fleet_workers.proofs.Owned.{number_of}
-use Rattle.fleet_steps.proofs.InOrder.{RunsTo, runs_more, runs_ready, runs_room}
+use Rattle.fleet_steps.proofs.InOrder.{runs_more, runs_ready, runs_room}
 use Rattle.fleet_steps.proofs.InAnyOrder.{moves_few_after}
 use Rattle.photo_script.specs.Limits.{max_commands}
 
@@ -196,12 +197,14 @@ ready_job script front devices reports log job is to few at =
     let c = at.command in
     let k = (devices_of c).0 in
     let models = (run_in_order script front).devices in
-    let room = runs_room script front devices reports log (omega (arith, few)) to in (
+    let room = runs_room script front devices reports log (omega (arith, few)) to in
+    let here = all_at (λ d. (d.counter < 4_294_967_295) × (epoch_of_author d.author < 4_294_967_295)) devices k job.first room at.within.0 in (
       c,
       at.is,
       record {
-        room = subst (λ (d : Kept). d.counter < 4_294_967_295) (at.first job.first) (all_at (λ d. d.counter < 4_294_967_295) devices k job.first room at.within.0);
-        second = may_work (devices_of c).1 k devices job.first job.second (runs_ready script front devices reports log is to) at.within.0 at.first at.within.1 at.second;
+        room = subst (λ (d : Kept). d.counter < 4_294_967_295) (at.first job.first) here.0;
+        epoch = subst (λ (d : Kept). epoch_of_author d.author < 4_294_967_295) (at.first job.first) here.1;
+        second = may_work (devices_of c).1 k devices job.first job.second (runs_ready script front devices reports log is (omega (arith, few)) to) at.within.0 at.first at.within.1 at.second;
         model = device_at models k;
         other = option_map (device_at models) (devices_of c).1;
         shown = first_shown script devices models job at to.shown;

@@ -96,6 +96,9 @@ counts_as (command.Remove k p) d other a few told = either kind.Change a (is_hel
 counts_as (command.Pull t s) d None a few told = as_pull a _ told (subst (λ x. MovesFew (Exactly x)) (sym told) few)
 counts_as (command.Pull t s) d (Some x) a few told = as_pull a _ told (subst (λ x. MovesFew (Exactly x)) (sym told) few)
 counts_as (command.Narrow k tree) d other a few told = either kind.Change a (covers d.tree tree) (record { first = narrowed tree d; second = other; report = Exactly (Narrowed (moved tree d)); entries = [] }) (telling d other (Exactly NotNarrower)) (changes_as a _ refl refl) (changes_as a _ refl refl) told
+counts_as (command.Refilter k tree) d other a few told = changes_as a _ refl refl told
+counts_as (command.Preview t s) d None a few told = asks_as a _ refl refl told
+counts_as (command.Preview t s) d (Some x) a few told = asks_as a _ refl refl told
 counts_as (command.List k) d other a few told = asks_as a _ refl refl told
 counts_as (command.Conflicts k) d other a few told = asks_as a _ refl refl told
 counts_as (command.Knowledge k) d other a few told = as_question a (ap kind_told told.given) (ap moved_by told.given)

@@ -19,7 +19,8 @@ use Rattle.work_ledger.specs.Ledgers.{all_parts}
 use Rattle.work_ledger.specs.Stakes.{Stake, stake, less, totals, nothing_done, IsCountable}
 use Rattle.fleet_steps.specs.Outcomes.{IsOutcome}
 use Rattle.fleet_steps.specs.declared.outcome.Outcome.{Outcome}
-use Rattle.fleet_steps.proofs.InOrder.{HasRun as HasReplayed, runs_none, long_slots}
+use Rattle.fleet_steps.specs.Running.{HasRun as HasReplayed}
+use Rattle.fleet_steps.proofs.InOrder.{runs_none, long_slots}
 use Rattle.fleet_steps.proofs.SoundRuns.{stays_sound_and_kept}
 use Rattle.fleet_workers.specs.declared.slots.Slots.{Slots}
 use Rattle.fleet_workers.specs.Counting.{tally_at, worked}
@@ -84,7 +85,7 @@ same_items (x ∷ xs) (y ∷ ys) e =
 -- after all commands in a lawful order
 pub ended : (script : Contents) (order : List ℕ) (slots : Slots) (share : Stake) (o : Outcome) → IsScript script → IsLawful script order → HasRun script order slots share → slots.devices.items ≡ map Some o.devices.items → o.reports ≡ slots.reports → o.log ≡ slots.log.items → o.totals ≡ share.done → IsOutcome script o
 ended script order slots share o is lawful r devices reports log totals =
-    let h = has_replayed script order slots share lawful r in
+    let h = has_replayed script order slots share is.commands lawful r in
     let same : o.devices.items ≡ r.devices = same_items o.devices.items r.devices (sym devices ∙ r.here) in
     let items : o.reports.items ≡ slots.reports.items = ap (λ v. v.items) reports in
     let long = ap length items ∙ long_slots script order r.devices slots.reports.items slots.log.items r.to in
@@ -95,7 +96,7 @@ ended script order slots share o is lawful r devices reports log totals =
       each = long;
       about = subst (λ (l : List Report). AllByRecursion (IsAbout script) (map answer_of l)) (sym items) h.about;
       few = omega (arith, long, few);
-      totals = totals ∙ totals_are script order slots share lawful r;
+      totals = totals ∙ totals_are script order slots share is.commands lawful r;
       log = subst (λ (l : List Held). IsPermutation (run script).log (entries_of l)) (sym log) h.logged;
       sound = λ n. stays_sound_and_kept script n is;
     }

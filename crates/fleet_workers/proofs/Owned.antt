@@ -1,86 +1,13 @@
--- One command by one owner, and jobs one after another.
-use Rattle.std.proofs.Common.{◌≡◌, ℕ, zero, suc, ◌<◌, ◌≤◌, ◌-◌, length, List, [], ◌∷◌, ◌++◌, refl, sym, ap, ◌∙◌, subst, arith, append-nil}
-use Rattle.std.specs.Prelude.{Option, Some, None, IfSome, is_some, slice_get, Vec}
-use Rattle.std.specs.Option.{option_to_list}
+-- Jobs one after another.
+use Rattle.std.proofs.Common.{◌≡◌, ℕ, zero, suc, ◌<◌, ◌≤◌, ◌-◌, length, List, [], ◌∷◌, ◌++◌, sym, ap, ◌∙◌, subst, arith, append-nil}
+use Rattle.std.specs.Prelude.{Some, IfSome, slice_get, Vec}
 use Rattle.std.proofs.lemmas.Option.{slice_get_within}
 use Rattle.std.proofs.lemmas.List.Concat.{flat_map-append}
-use Rattle.photo_device.specs.declared.held.Held.{Held}
-use Rattle.photo_device.specs.Held.{entries_of}
-use Rattle.photo_device.specs.Device.{Kept, ModelDevice, Shows}
 use Rattle.photo_script.specs.declared.command.Command.{Command}
-use Rattle.photo_script.specs.declared.command.Command.TheVariants as command
-use Rattle.photo_script.specs.declared.report.Report.{Report}
-use Rattle.photo_script.specs.Contents.{Contents, command_of, devices_of}
-use Rattle.photo_script.specs.Reports.{Tells, answer_of}
-use Rattle.photo_script.specs.Runs.{effect, pulling}
-use Rattle.fleet_steps.specs.Between.{MayPull}
-use Rattle.fleet_workers.specs.Jobs.{ShowsSecond, MayWork, IsFor, ShowsEffect, IsDone, IsReadyJob, IsDoneJob, AreReadyJobs, AreDoneJobs, jobs_of}
+use Rattle.photo_script.specs.Contents.{Contents, command_of}
+use Rattle.fleet_workers.specs.Jobs.{IsFor, IsDone, IsReadyJob, IsDoneJob, AreReadyJobs, AreDoneJobs, jobs_of}
 use Rattle.fleet_workers.specs.declared.work.Job.{Job}
 use Rattle.fleet_workers.specs.declared.work.Done.{Done}
-
--- what a job without a second device asks of its command, and one with one
-
-pub alone : (c : Command) (job : Job) → IsFor c job → job.second ≡ None → (devices_of c).1 ≡ None
-alone c job is none = by_cases (devices_of c).1 (subst (MayWork (devices_of c).1 job.first) none is.second)
-  where
-    by_cases : (o : Option ℕ) → MayWork o job.first None → o ≡ None
-    by_cases None w = refl
-    by_cases (Some k) w = absurd w
-
-pub may : (c : Command) (job : Job) (source : Kept) → IsFor c job → job.second ≡ Some source → MayPull job.first source
-may c job source is some = by_cases (devices_of c).1 (subst (MayWork (devices_of c).1 job.first) some is.second)
-  where
-    by_cases : (o : Option ℕ) → MayWork o job.first (Some source) → MayPull job.first source
-    by_cases None w = absurd w
-    by_cases (Some k) w = w
-
--- a command with a second device is a pull
-pub pulls : (c : Command) (job : Job) (source : Kept) → IsFor c job → job.second ≡ Some source → (m : ModelDevice) (o : Option ModelDevice) → effect c m o ≡ pulling m o
-pulls (command.New k q r) job source is some m o = absurd (subst (MayWork None job.first) some is.second)
-pulls (command.Edit k q r) job source is some m o = absurd (subst (MayWork None job.first) some is.second)
-pulls (command.Remove k q) job source is some m o = absurd (subst (MayWork None job.first) some is.second)
-pulls (command.Pull t s) job source is some m o = refl
-pulls (command.Narrow k tree) job source is some m o = absurd (subst (MayWork None job.first) some is.second)
-pulls (command.List k) job source is some m o = absurd (subst (MayWork None job.first) some is.second)
-pulls (command.Conflicts k) job source is some m o = absurd (subst (MayWork None job.first) some is.second)
-pulls (command.Knowledge k) job source is some m o = absurd (subst (MayWork None job.first) some is.second)
-pulls (command.Knows k q w) job source is some m o = absurd (subst (MayWork None job.first) some is.second)
-
-pub done_alone : (c : Command) (job : Job) (first : Kept) (report : Report) (entry : Option Held) (done : Done) → job.second ≡ None → done ≡ record { number = job.number; first = first; second = None; report = report; entry = entry }
-    → ((m : ModelDevice) → Shows job.first m → Shows first (effect c m None).first)
-    → ((m : ModelDevice) → Shows job.first m → Tells (answer_of report) (effect c m None).report)
-    → ((m : ModelDevice) → Shows first (effect c m None).first → Tells (answer_of report) (effect c m None).report → entries_of (option_to_list entry) ≡ (effect c m None).entries)
-    → ((m : ModelDevice) → (effect c m None).second ≡ None) → IsDone c job done
-done_alone c job first report entry done none is shows tells logs no_second = subst (IsDone c job) (sym is) (record {
-  number = refl;
-  both = sym (ap is_some none);
-  shows = λ m other here there. by_cases m other here (subst (λ o. ShowsSecond o other) none there);
-})
-  where
-    by_cases : (m : ModelDevice) (other : Option ModelDevice) → Shows job.first m → ShowsSecond None other → ShowsEffect (record { number = job.number; first = first; second = None; report = report; entry = entry }) (effect c m other)
-    by_cases m None here there = record {
-      first = shows m here;
-      second = subst (ShowsSecond None) (sym (no_second m)) tt;
-      report = tells m here;
-      entries = logs m (shows m here) (tells m here);
-    }
-    by_cases m (Some o) here there = absurd there
-
-pub done_pull : (c : Command) (job : Job) (source first second : Kept) (report : Report) (done : Done) → IsFor c job → job.second ≡ Some source → done ≡ record { number = job.number; first = first; second = Some second; report = report; entry = None }
-    → ((t s : ModelDevice) → Shows job.first t → Shows source s → Shows first (pulling t (Some s)).first)
-    → ((t s : ModelDevice) → Shows job.first t → Shows source s → IfSome (pulling t (Some s)).second (Shows second))
-    → ((t s : ModelDevice) → Shows job.first t → Shows source s → Tells (answer_of report) (pulling t (Some s)).report) → IsDone c job done
-done_pull c job source first second report done is_for some is shows others tells = subst (IsDone c job) (sym is) (record {
-  number = refl;
-  both = sym (ap is_some some);
-  shows = λ m other here there. subst (ShowsEffect (record { number = job.number; first = first; second = Some second; report = report; entry = None })) (sym (pulls c job source is_for some m other)) (by_cases m other here (subst (λ o. ShowsSecond o other) some there));
-})
-  where
-    by_cases : (m : ModelDevice) (other : Option ModelDevice) → Shows job.first m → ShowsSecond (Some source) other → ShowsEffect (record { number = job.number; first = first; second = Some second; report = report; entry = None }) (pulling m other)
-    by_cases m None here there = absurd there
-    by_cases m (Some o) here there = record { first = shows m o here there; second = others m o here there; report = tells m o here there; entries = refl }
-
--- jobs one after another
 
 pub ready_command : (script : Contents) (job : Job) (c : Command) → IsReadyJob script job → command_of script job.number ≡ Some c → IsFor c job
 ready_command script job c ready is =

@@ -22,7 +22,8 @@ use Rattle.photo_batcher.proofs.Checked.{lawful_long}
 use Rattle.photo_batcher.proofs.Reordered.{lawful_orders_are_the_run}
 use Rattle.work_ledger.specs.Ledgers.{all_parts}
 use Rattle.work_ledger.specs.Stakes.{Stake, stake, plus, less, Within, IsCountable}
-use Rattle.fleet_steps.proofs.InOrder.{HasRun as HasReplayed, runs_all}
+use Rattle.fleet_steps.specs.Running.{HasRun as HasReplayed}
+use Rattle.fleet_steps.proofs.InOrder.{runs_all}
 use Rattle.photo_device.proofs.AllLemmas.{all_front, all_back}
 use Rattle.fleet_workers.specs.declared.slots.Slots.{Slots}
 use Rattle.fleet_workers.specs.Batch.{AreApart}
@@ -131,12 +132,12 @@ batch_left script p i front members slots share plan t is r =
 pub plan_lawful : (script : Contents) (p : Planned) (order : List ℕ) → IsPlan script p → InTurn p.members order → IsLawful script order
 plan_lawful = plans_in_turn_are_lawful
 
-pub has_replayed : (script : Contents) (order : List ℕ) (slots : Slots) (share : Stake) → IsLawful script order → (r : HasRun script order slots share) → HasReplayed script r.devices slots.reports.items slots.log.items
-has_replayed script order slots share lawful r = runs_all script order r.devices slots.reports.items slots.log.items r.to lawful (lawful_orders_are_the_run script order lawful)
+pub has_replayed : (script : Contents) (order : List ℕ) (slots : Slots) (share : Stake) → length script.commands ≤ max_commands → IsLawful script order → (r : HasRun script order slots share) → HasReplayed script r.devices slots.reports.items slots.log.items
+has_replayed script order slots share few lawful r = runs_all script order r.devices slots.reports.items slots.log.items few r.to lawful (lawful_orders_are_the_run script order lawful)
 
-pub totals_are : (script : Contents) (order : List ℕ) (slots : Slots) (share : Stake) → IsLawful script order → HasRun script order slots share → share.done ≡ totals_of script (run script)
-totals_are script order slots share lawful r =
-    let h = has_replayed script order slots share lawful r in
+pub totals_are : (script : Contents) (order : List ℕ) (slots : Slots) (share : Stake) → length script.commands ≤ max_commands → IsLawful script order → HasRun script order slots share → share.done ≡ totals_of script (run script)
+totals_are script order slots share few lawful r =
+    let h = has_replayed script order slots share few lawful r in
     let moved = lawful_moved script order r.done slots.reports.items (reports_of (run script)) lawful r.numbers r.reports h.right in
     let tally = lawful_tally script order lawful in
     ap (λ (x : Stake). x.done) r.counted ∙ (λ i. worked (tally i) (moved i))

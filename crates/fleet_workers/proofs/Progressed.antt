@@ -15,7 +15,8 @@ use Rattle.photo_script.specs.Contents.{Contents, IsScript, command_of}
 use Rattle.photo_script.specs.Tallies.{tally_of}
 use Rattle.work_ledger.specs.Ledgers.{all_parts}
 use Rattle.work_ledger.specs.Stakes.{Stake, stake, plus, less, both}
-use Rattle.fleet_steps.proofs.InOrder.{RunsTo, long_slots}
+use Rattle.fleet_steps.specs.Running.{RunsTo}
+use Rattle.fleet_steps.proofs.InOrder.{long_slots}
 use Rattle.fleet_workers.specs.declared.work.Job.{Job}
 use Rattle.fleet_workers.specs.declared.work.Done.{Done}
 use Rattle.fleet_workers.specs.declared.slots.Slots.{Slots}

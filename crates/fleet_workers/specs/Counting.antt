@@ -5,7 +5,7 @@ use Rattle.photo_script.specs.declared.tally.Tally.{Tally}
 use Rattle.photo_script.specs.declared.tally.Totals.{Totals}
 use Rattle.photo_script.specs.declared.command.Command.{Command}
 use Rattle.photo_script.specs.Contents.{Contents, command_of}
-use Rattle.photo_script.specs.Reports.{Answer, Made, NotHeld, NotNarrower, Narrowed, Pulled, Listed, Conflicts, KnowledgeOf, Knows, answer_of}
+use Rattle.photo_script.specs.Reports.{Answer, Made, NotHeld, NotNarrower, Narrowed, Refiltered, Pulled, Preview, Listed, Conflicts, KnowledgeOf, Knows, answer_of}
 use Rattle.photo_script.specs.Tallies.{kind_of, moved_by}
 use Rattle.photo_script.specs.Tallies as kind
 use Rattle.work_ledger.specs.declared.kind.Kind.{Kind}
@@ -37,7 +37,9 @@ kind_told (Made v place) = Change
 kind_told NotHeld = Change
 kind_told NotNarrower = Change
 kind_told (Narrowed count) = Change
+kind_told (Refiltered stored waiting) = Change
 kind_told (Pulled counts) = Pull counts.taken counts.handed
+kind_told (Preview counts) = Report
 kind_told (Listed n store out) = Report
 kind_told (Conflicts n pictures) = Report
 kind_told (KnowledgeOf n fragments) = Report

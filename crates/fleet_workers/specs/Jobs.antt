@@ -2,6 +2,7 @@
 use Rattle.std.specs.Prelude.{◌≡◌, ℕ, ◌<◌, List, Option, Some, None, IfSome, is_some, map, Vec}
 use Rattle.std.specs.List.{AllZip, AllByRecursion, flat_map}
 use Rattle.std.specs.Option.{option_to_list}
+use Rattle.photo_version.specs.Author.{epoch_of_author}
 use Rattle.photo_device.specs.Held.{entries_of}
 use Rattle.photo_device.specs.Device.{Kept, ModelDevice, Shows}
 use Rattle.photo_script.specs.declared.command.Command.{Command}
@@ -32,6 +33,7 @@ MayWork (Some place) first (Some second) = MayPull first second
 -- the job has what the command needs, and a pull moves no more than the ledger counts
 pub record IsFor (c : Command) (job : Job) : Type 0 where
   pub room : job.first.counter < 4_294_967_295
+  pub epoch : epoch_of_author job.first.author < 4_294_967_295
   pub second : MayWork (devices_of c).1 job.first job.second
   pub model : ModelDevice
   pub other : Option ModelDevice

@@ -2,4 +2,4 @@
 use Rattle.std.specs.Prelude.{ℕ}
 
 abbrev pub max_workers : ℕ
-max_workers = 64
+max_workers = 256

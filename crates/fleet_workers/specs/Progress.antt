@@ -6,7 +6,7 @@ use Rattle.photo_script.specs.Tallies.{tally_of}
 use Rattle.photo_script.specs.declared.report.Report.TheVariants.{NotHeld}
 use Rattle.work_ledger.specs.Ledgers.{all_parts}
 use Rattle.work_ledger.specs.Stakes.{Stake, stake, less}
-use Rattle.fleet_steps.proofs.InOrder.{RunsTo}
+use Rattle.fleet_steps.specs.Running.{RunsTo}
 use Rattle.fleet_workers.specs.Batch.{all_reports}
 use Rattle.fleet_workers.specs.Counting.{tally_at, worked, moved_in}
 use Rattle.fleet_workers.specs.declared.slots.Slots.{Slots}

@@ -91,11 +91,8 @@ pub(crate) fn places_of(command: &Command) -> (usize, Option<usize>)
     ensures second { result.1 ≡ (devices_of command.now).1 }
 {
     match devices_of(command) {
-        (first, None) => (usize::from(first.value()), None),
-        (first, Some(second)) => (
-            usize::from(first.value()),
-            Some(usize::from(second.value())),
-        ),
+        (first, None) => (usize::from(first), None),
+        (first, Some(second)) => (usize::from(first), Some(usize::from(second))),
     }
 }
 

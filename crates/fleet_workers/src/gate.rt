@@ -1,3 +1,4 @@
+// What workers call before and after each command.
 use photo_script::Totals;
 
 /// What a worker calls before and after each of its commands, in its own thread.

@@ -1,3 +1,4 @@
+// The number of workers.
 ghost use Rattle.std.specs.Prelude.{◌≡◌, ◌<◌, ◌≤◌};
 ghost use Rattle.std.specs.Option.{SomeIff};
 ghost use Rattle.fleet_workers.specs.Limits.{max_workers};
@@ -5,12 +6,12 @@ ghost use Rattle.fleet_workers.specs.Limits.{max_workers};
 use std::marker::Model;
 
 // The most workers.
-const MAX_WORKERS: u8 = 64;
+const MAX_WORKERS: u16 = 256;
 
-/// How many workers run a script: 1 to 64.
+/// How many workers run a script: 1 to 256.
 #[derive(Clone, Copy, Debug, PartialEq, Eq)]
 pub struct Workers {
-    count: u8,
+    count: u16,
 }
 
 impl Model for Workers {
@@ -27,8 +28,8 @@ impl Model for Workers {
 }
 
 impl Workers {
-    /// That many workers, `None` where it isn't a number from 1 to 64.
-    pub fn new(count: u8) -> Option<Workers>
+    /// That many workers, `None` where it isn't a number from 1 to 256.
+    pub fn new(count: u16) -> Option<Workers>
         ensures { SomeIff result ((0 < count) × (count ≤ max_workers)) count }
     {
         if count == 0 || count > MAX_WORKERS {

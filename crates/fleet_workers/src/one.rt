@@ -9,7 +9,7 @@ ghost use Rattle.fleet_workers.specs.Jobs.{IsFor, IsDone};
 
 use crate::parcel::Parcel;
 use crate::work::{Done, Job};
-use fleet_steps::{made_on, run_command, run_pull};
+use fleet_steps::{made_on, run_between, run_command};
 use photo_device::{Device, SharedHeld};
 use photo_script::{Command, Report};
 use std::alloc::{AllocError, Global};
@@ -39,7 +39,7 @@ pub(crate) fn run_one(alloc: Global, command: &Command, job: Job) -> Result<Done
         }
         Some(source) => {
             let Parcel { device: mut source } = source;
-            let report = run_pull(alloc, &mut *first, &mut *source)?;
+            let report = run_between(alloc, command, &mut *first, &mut *source)?;
             Ok(Done {
                 number,
                 first: Parcel { device: first },

@@ -34,9 +34,11 @@ fn one_of(command: &Command) -> Tally
         Command::New { .. }
         | Command::Edit { .. }
         | Command::Remove { .. }
-        | Command::Narrow { .. } => (1, 0, 0),
+        | Command::Narrow { .. }
+        | Command::Refilter { .. } => (1, 0, 0),
         Command::Pull { .. } => (0, 1, 0),
-        Command::List { .. }
+        Command::Preview { .. }
+        | Command::List { .. }
         | Command::Conflicts { .. }
         | Command::Knowledge { .. }
         | Command::Knows { .. } => (0, 0, 1),

@@ -44,14 +44,17 @@ fn kind_of(report: &Report) -> Kind
     ensures { result ≡ kind_told (answer_of report.now) }
 {
     match report {
-        Report::Made { .. } | Report::NotHeld | Report::NotNarrower | Report::Narrowed(_) => {
-            Kind::Change
-        }
+        Report::Made { .. }
+        | Report::NotHeld
+        | Report::NotNarrower
+        | Report::Narrowed(_)
+        | Report::Refiltered { .. } => Kind::Change,
         Report::Pulled(counts) => Kind::Pull {
             taken: counts.taken,
             handed: counts.handed,
         },
-        Report::Listed { .. }
+        Report::Preview(_)
+        | Report::Listed { .. }
         | Report::Conflicts { .. }
         | Report::KnowledgeOf { .. }
         | Report::Knows(_) => Kind::Report,

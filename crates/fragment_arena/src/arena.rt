@@ -1,3 +1,4 @@
+// The arena: what it is seen as, and its calls.
 use crate::blocks;
 use crate::row::Row;
 use crate::row_block::RowBlock;
@@ -219,9 +220,9 @@ impl FragmentArena {
         })
     }
 
-    /// How many blocks it has, and how many words the last one has with those that are not written yet.
-    #[cfg(test)]
-    pub(crate) fn memory(&self) -> (usize, usize) {
+    /// How many blocks it has, and how many words the last one has with those that are not written yet. What its rows take
+    /// is no part of what it is seen as.
+    pub fn memory(&self) -> (usize, usize) {
         match self.blocks.last() {
             Some(last) => (self.blocks.len(), last.capacity()),
             None => (0, 0),

@@ -1,3 +1,4 @@
+// Rows side by side in one block.
 use crate::ends::push_moved;
 use crate::raw_words::RawWords;
 use std::alloc::{AllocError, Global};

@@ -107,7 +107,7 @@ one_vector xs ys hx hy h = one_by_bounds xs ys hx hy (same_bounds xs ys hx hy h)
 
 pub record EntryParts (e : Entry) : Type 0 where
   pub word : is_author_word e.0 ≡ true
-  pub word_below : e.0 < 65536
+  pub word_below : e.0 < 281474976710656
   pub positive : 0 < e.1
   pub below : e.1 ≤ most_number
 
@@ -115,7 +115,7 @@ pub entry_parts : (e : Entry) → is_entry e ≡ true → EntryParts e
 entry_parts e h =
     let a = and_parts (is_author_word e.0) (ltb 0 e.1 && leb e.1 most_number) h in
     let b = and_parts (ltb 0 e.1) (leb e.1 most_number) a.1 in
-    record { word = a.0; word_below = ltb-true e.0 65536 a.0; positive = ltb-true 0 e.1 b.0; below = leb-true e.1 most_number b.1 }
+    record { word = a.0; word_below = ltb-true e.0 281474976710656 a.0; positive = ltb-true 0 e.1 b.0; below = leb-true e.1 most_number b.1 }
 
 pub entry_of : (es : List Entry) (i : ℕ) → is_vector es ≡ true → i < length es → EntryParts (get_or es i (0, 0))
 entry_of [] i h l = absurd (omega arith)

@@ -1,5 +1,5 @@
 -- Marks of the bounds that stand in rows.
-use Rattle.std.proofs.Common.{◌≡◌, ℕ, zero, suc, ◌+◌, ◌*◌, ◌%◌, ◌^◌, ◌<◌, ◌≤◌, true, false, not, ltb, eqb, max, List, [], ◌∷◌, ◌++◌, length, get_or, set, replicate, refl, sym, subst, ap, ◌∙◌, inl, inr, arith, Some}
+use Rattle.std.proofs.Common.{◌≡◌, ℕ, zero, suc, ◌+◌, ◌*◌, ◌/◌, ◌%◌, ◌^◌, ◌<◌, ◌≤◌, true, false, not, ltb, eqb, max, List, [], ◌∷◌, ◌++◌, length, get_or, set, replicate, refl, sym, subst, ap, ◌∙◌, inl, inr, arith, Some}
 use Rattle.std.specs.Int.{bit_at}
 use Rattle.std.specs.Int.Bits.{bit_or}
 use Rattle.std.proofs.Math.Nat.{max-zero, zero-max}
@@ -13,7 +13,7 @@ use Rattle.item_knowledge.specs.Fragments.{Fragment, first, find, or_star, known
 use Rattle.item_knowledge.specs.Gathering.{vector_of, IsSide, IsUnion}
 use Rattle.item_knowledge.specs.Raising.{all_raised, are_risen}
 use Rattle.item_knowledge.specs.Rows.{pairs, fragments_of, rows_of, AreRows}
-use Rattle.item_knowledge.specs.Seen.{is_marked, HasMarks, AreMarked, IsSeen, is_unseen, has_unseen, AreNew}
+use Rattle.item_knowledge.specs.Seen.{bit_of, is_marked, HasMarks, AreMarked, IsSeen, is_unseen, has_unseen, AreNew}
 use Rattle.item_knowledge.proofs.EntryLemmas.{one_vector}
 use Rattle.item_knowledge.proofs.FragmentLemmas.{groups_parts, normal_parts, find_here, find_later, later}
 use Rattle.item_knowledge.proofs.JoinLemmas.{joined_bound, joined_vector, joined_denotes}
@@ -30,7 +30,7 @@ use Rattle.item_knowledge.proofs.UnionLemmas.{side_vector, normal_side, knows_ve
 -- where a word is with another, its bits are too
 with_more : (words new : List ℕ) (a n : ℕ) (m : ℕ) → get_or new (n % 8192) 0 ≡ bit_or (get_or words (n % 8192) 0) m → is_marked words a n ≡ true → is_marked new a n ≡ true
 with_more words new a n m is h =
-    let i = a % 64 in
+    let i = bit_of a in
     let w = get_or words (n % 8192) 0 in
     let one : bit_at w i ≡ 1 = eqb-true (bit_at w i) 1 h in
     let both : bit_at (bit_or w m) i ≡ max (bit_at w i) (bit_at m i) = bit_at_or w m i in
@@ -42,11 +42,11 @@ pub filled : (words new : List ℕ) (k : ℕ) → new ≡ words ++ replicate k 0
 filled words new k is a n h = elim (cases_lt (n % 8192) (length words)) [
   | inl there ↦
       let same : get_or new (n % 8192) 0 ≡ get_or words (n % 8192) 0 = ap (λ xs. get_or xs (n % 8192) 0) is ∙ get_or_append_left words (replicate k 0) 0 (n % 8192) there in
-      ap (λ x. eqb (bit_at x (a % 64)) 1) same ∙ h
+      ap (λ x. eqb (bit_at x (bit_of a)) 1) same ∙ h
   | inr past ↦
       let none : get_or words (n % 8192) 0 ≡ 0 = get_or_past words (n % 8192) 0 past in
-      let bits : bit_at (get_or words (n % 8192) 0) (a % 64) ≡ 0 = ap (λ x. bit_at x (a % 64)) none ∙ bit_at-zero (a % 64) in
-      let one = eqb-true (bit_at (get_or words (n % 8192) 0) (a % 64)) 1 h in
+      let bits : bit_at (get_or words (n % 8192) 0) (bit_of a) ≡ 0 = ap (λ x. bit_at x (bit_of a)) none ∙ bit_at-zero (bit_of a) in
+      let one = eqb-true (bit_at (get_or words (n % 8192) 0) (bit_of a)) 1 h in
       absurd (omega arith)
 ]
 
@@ -57,12 +57,12 @@ set_keeps words new place m l is a n h = elim (cases_eq (n % 8192) place) [
       with_more words new a n m (subst (λ p. get_or new p 0 ≡ bit_or (get_or words p 0) m) (sym same) now) h
   | inr other ↦
       let same : get_or new (n % 8192) 0 ≡ get_or words (n % 8192) 0 = ap (λ xs. get_or xs (n % 8192) 0) is ∙ get_or-set_other words place (n % 8192) (bit_or (get_or words place 0) m) 0 other in
-      ap (λ x. eqb (bit_at x (a % 64)) 1) same ∙ h
+      ap (λ x. eqb (bit_at x (bit_of a)) 1) same ∙ h
 ]
 
-pub set_marks : (words new : List ℕ) (a n m : ℕ) → n % 8192 < length words → bit_at m (a % 64) ≡ 1 → new ≡ set words (n % 8192) (bit_or (get_or words (n % 8192) 0) m) → is_marked new a n ≡ true
+pub set_marks : (words new : List ℕ) (a n m : ℕ) → n % 8192 < length words → bit_at m (bit_of a) ≡ 1 → new ≡ set words (n % 8192) (bit_or (get_or words (n % 8192) 0) m) → is_marked new a n ≡ true
 set_marks words new a n m l one is =
-    let i = a % 64 in
+    let i = bit_of a in
     let w = get_or words (n % 8192) 0 in
     let now : get_or new (n % 8192) 0 ≡ bit_or w m = ap (λ xs. get_or xs (n % 8192) 0) is ∙ get_or-set_same words (n % 8192) (bit_or w m) 0 l in
     let both : bit_at (bit_or w m) i ≡ max (bit_at w i) (bit_at m i) = bit_at_or w m i in
@@ -74,8 +74,8 @@ pub keeps_all : (words new : List ℕ) → new ≡ words → HasMarks words new
 keeps_all words new is a n h = subst (λ xs. is_marked xs a n ≡ true) (sym is) h
 
 -- the bit of an author
-pub bit_set : (a : ℕ) → bit_at (1 * 2 ^ (a % 64) % 2 ^ 64) (a % 64) ≡ 1
-bit_set a = ap (λ w. bit_at w (a % 64)) (one_shl (a % 64) 64 (omega arith)) ∙ bit_at-pow_same (a % 64)
+pub bit_set : (a : ℕ) → bit_at (1 * 2 ^ (bit_of a) % 2 ^ 64) (bit_of a) ≡ 1
+bit_set a = ap (λ w. bit_at w (bit_of a)) (one_shl (bit_of a) 64 (omega arith)) ∙ bit_at-pow_same (bit_of a)
 
 -- The marks of both
 
@@ -99,9 +99,9 @@ one_added one other words new i h l is =
       kept = λ a n m. keeps a n (h.kept a n m);
       come = λ a n below m. elim (cases_eq (n % 8192) i) [
         | inl same ↦
-            let one_bit = eqb-true (bit_at (get_or other (n % 8192) 0) (a % 64)) 1 m in
+            let one_bit = eqb-true (bit_at (get_or other (n % 8192) 0) (bit_of a)) 1 m in
             set_marks words new a n (get_or other i 0) (subst (λ p. p < length words) (sym same) l)
-            (subst (λ p. bit_at (get_or other p 0) (a % 64) ≡ 1) same one_bit)
+            (subst (λ p. bit_at (get_or other p 0) (bit_of a) ≡ 1) same one_bit)
             (subst (λ p. new ≡ set words p (bit_or (get_or words p 0) (get_or other i 0))) (sym same) is)
         | inr before ↦ keeps a n (h.come a n (omega arith) m)
       ];
@@ -112,8 +112,8 @@ all_added one other words i h l a n m = elim (cases_lt (n % 8192) i) [
   | inl there ↦ h.come a n there m
   | inr past ↦
       let none : get_or other (n % 8192) 0 ≡ 0 = get_or_past other (n % 8192) 0 (omega arith) in
-      let bits : bit_at (get_or other (n % 8192) 0) (a % 64) ≡ 0 = ap (λ x. bit_at x (a % 64)) none ∙ bit_at-zero (a % 64) in
-      let one_bit = eqb-true (bit_at (get_or other (n % 8192) 0) (a % 64)) 1 m in
+      let bits : bit_at (get_or other (n % 8192) 0) (bit_of a) ≡ 0 = ap (λ x. bit_at x (bit_of a)) none ∙ bit_at-zero (bit_of a) in
+      let one_bit = eqb-true (bit_at (get_or other (n % 8192) 0) (bit_of a)) 1 m in
       absurd (omega arith)
 ]
 

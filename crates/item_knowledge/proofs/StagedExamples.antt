@@ -5,7 +5,7 @@ use Rattle.photo_version.specs.Author.{author}
 use Rattle.photo_version.specs.Version.{version}
 use Rattle.item_knowledge.specs.Entries.{denotes_one}
 use Rattle.item_knowledge.specs.Fragments.{lists}
-use Rattle.item_knowledge.specs.Examples.{TheStaged}
+use Rattle.item_knowledge.specs.Examples.{entry, TheStaged}
 
 -- the star's bound of an author, who is device 0 or isn't
 
@@ -42,19 +42,19 @@ pub the_staged : TheStaged
 the_staged = record {
   union = record {
     there = refl;
-    star = λ a. greater_first (eqb 0 a.device);
-    pairs = λ p v above. pairs (denotes_one (0, 1) v) (denotes_one (1, 1) v) (lists (8 ∷ []) p);
+    star = λ a. greater_first (eqb 0 a.word);
+    pairs = λ p v above. pairs (denotes_one (entry 0 1) v) (denotes_one (entry 1 1) v) (lists (8 ∷ []) p);
   };
   other_way = record {
     there = refl;
-    star = λ a. greater_second (eqb 0 a.device);
-    pairs = λ p v above. pairs_back (denotes_one (0, 1) v) (denotes_one (1, 1) v) (lists (8 ∷ []) p);
+    star = λ a. greater_second (eqb 0 a.word);
+    pairs = λ p v above. pairs_back (denotes_one (entry 0 1) v) (denotes_one (entry 1 1) v) (lists (8 ∷ []) p);
   };
   normal = refl;
   same = record {
     there = refl;
-    star = λ a. greater_first (eqb 0 a.device);
-    pairs = λ p v above. pairs_same (denotes_one (0, 1) v);
+    star = λ a. greater_first (eqb 0 a.word);
+    pairs = λ p v above. pairs_same (denotes_one (entry 0 1) v);
   };
   nothing = λ u. false≢true u.there;
   first_alone = λ u. false≢true (u.pairs 8 (version (author 1) 1) (omega arith));

@@ -1,6 +1,7 @@
 -- The definitions at some fragments.
 use Rattle.std.specs.Prelude.{◌≡◌, ℕ, true, false, List, [], ◌∷◌, Some, None}
-use Rattle.photo_version.specs.Version.{Version}
+use Rattle.photo_version.specs.Author.{author, author_at, author_word}
+use Rattle.photo_version.specs.Version.{Version, version}
 use Rattle.item_knowledge.specs.Entries.{Entry, joined}
 use Rattle.item_knowledge.specs.Fragments.{Fragment, knows, is_normal, known}
 use Rattle.item_knowledge.specs.Late.{shown}
@@ -14,23 +15,31 @@ of pictures entries = record { pictures = pictures; entries = entries }
 
 -- the number-th version of the device of that number
 abbrev version_of : ℕ → ℕ → Version
-version_of device number = record { author = record { device = device }; number = number }
+version_of device number = version (author device) number
+
+-- a bound of the device of that number
+abbrev pub entry : ℕ → ℕ → Entry
+entry device number = (author_word (author device), number)
+
+-- a bound of that device in a later epoch
+abbrev pub later : ℕ → ℕ → ℕ → Entry
+later device epoch number = (author_word (author_at device epoch), number)
 
 abbrev none : List Fragment
 none = of [] [] ∷ []
 
 -- of pictures 7 and 9 the first version of device 0
 abbrev of_two : List Fragment
-of_two = of [] [] ∷ of (7 ∷ 9 ∷ []) ((0, 1) ∷ []) ∷ []
+of_two = of [] [] ∷ of (7 ∷ 9 ∷ []) (entry 0 1 ∷ []) ∷ []
 
 -- of every picture the first version of device 0
 abbrev of_every : List Fragment
-of_every = of [] ((0, 1) ∷ []) ∷ []
+of_every = of [] (entry 0 1 ∷ []) ∷ []
 
 pub record TheLibrary : Type 0 where
   pub nothing_yet : is_normal none ≡ true
   pub two : is_normal of_two ≡ true
-  pub of_nine : known of_two 9 ≡ (0, 1) ∷ []
+  pub of_nine : known of_two 9 ≡ entry 0 1 ∷ []
   pub of_eight : known of_two 8 ≡ []
   pub knows_seven : knows of_two 7 (version_of 0 1) ≡ true
   pub not_eight : knows of_two 8 (version_of 0 1) ≡ false
@@ -41,26 +50,35 @@ pub record TheLibrary : Type 0 where
 -- what the normal form rules out, and what it allows
 pub record TheNormalForms : Type 0 where
   pub no_star : is_normal [] ≡ false
-  pub left_apart : is_normal (of [] [] ∷ of (7 ∷ []) ((0, 1) ∷ []) ∷ of (9 ∷ []) ((0, 1) ∷ []) ∷ []) ≡ false
-  pub like_the_star : is_normal (of [] ((0, 1) ∷ []) ∷ of (7 ∷ 9 ∷ []) ((0, 1) ∷ []) ∷ []) ≡ false
-  pub below_the_star : is_normal (of [] ((0, 1) ∷ (1, 1) ∷ []) ∷ of (7 ∷ []) ((0, 2) ∷ []) ∷ []) ≡ false
-  pub by_vector : is_normal (of [] [] ∷ of (9 ∷ []) ((0, 1) ∷ []) ∷ of (7 ∷ []) ((0, 2) ∷ []) ∷ []) ≡ false
-  pub by_first_picture : is_normal (of [] [] ∷ of (7 ∷ 10 ∷ []) ((0, 2) ∷ []) ∷ of (9 ∷ []) ((0, 1) ∷ []) ∷ []) ≡ true
-  pub twice : is_normal (of [] [] ∷ of (7 ∷ 9 ∷ []) ((0, 2) ∷ []) ∷ of (9 ∷ []) ((0, 1) ∷ []) ∷ []) ≡ false
-  pub no_picture : is_normal (of [] [] ∷ of [] ((0, 2) ∷ []) ∷ []) ≡ false
-  pub no_bound : is_normal (of [] ((0, 0) ∷ []) ∷ []) ≡ false
-  pub unsorted : is_normal (of [] ((1, 1) ∷ (0, 1) ∷ []) ∷ []) ≡ false
+  pub left_apart : is_normal (of [] [] ∷ of (7 ∷ []) (entry 0 1 ∷ []) ∷ of (9 ∷ []) (entry 0 1 ∷ []) ∷ []) ≡ false
+  pub like_the_star : is_normal (of [] (entry 0 1 ∷ []) ∷ of (7 ∷ 9 ∷ []) (entry 0 1 ∷ []) ∷ []) ≡ false
+  pub below_the_star : is_normal (of [] (entry 0 1 ∷ entry 1 1 ∷ []) ∷ of (7 ∷ []) (entry 0 2 ∷ []) ∷ []) ≡ false
+  pub by_vector : is_normal (of [] [] ∷ of (9 ∷ []) (entry 0 1 ∷ []) ∷ of (7 ∷ []) (entry 0 2 ∷ []) ∷ []) ≡ false
+  pub by_first_picture : is_normal (of [] [] ∷ of (7 ∷ 10 ∷ []) (entry 0 2 ∷ []) ∷ of (9 ∷ []) (entry 0 1 ∷ []) ∷ []) ≡ true
+  pub twice : is_normal (of [] [] ∷ of (7 ∷ 9 ∷ []) (entry 0 2 ∷ []) ∷ of (9 ∷ []) (entry 0 1 ∷ []) ∷ []) ≡ false
+  pub no_picture : is_normal (of [] [] ∷ of [] (entry 0 2 ∷ []) ∷ []) ≡ false
+  pub no_bound : is_normal (of [] (entry 0 0 ∷ []) ∷ []) ≡ false
+  pub unsorted : is_normal (of [] (entry 1 1 ∷ entry 0 1 ∷ []) ∷ []) ≡ false
 
 pub record TheVectors : Type 0 where
-  pub join : joined ((0, 2) ∷ []) ((0, 1) ∷ (1, 3) ∷ []) ≡ (0, 2) ∷ (1, 3) ∷ []
+  pub join : joined (entry 0 2 ∷ []) (entry 0 1 ∷ entry 1 3 ∷ []) ≡ entry 0 2 ∷ entry 1 3 ∷ []
+
+-- a device's next epoch stands behind its first one, and denotes versions of its own
+pub record TheEpochs : Type 0 where
+  pub behind : is_normal (of [] (entry 0 2 ∷ later 0 1 1 ∷ entry 1 1 ∷ []) ∷ []) ≡ true
+  pub turned_round : is_normal (of [] (later 0 1 1 ∷ entry 0 2 ∷ []) ∷ []) ≡ false
+  pub its_first : knows (of [] (entry 0 2 ∷ later 0 1 1 ∷ []) ∷ []) 7 (version (author_at 0 1) 1) ≡ true
+  pub not_its_second : knows (of [] (entry 0 2 ∷ later 0 1 1 ∷ []) ∷ []) 7 (version (author_at 0 1) 2) ≡ false
+  -- its marks are those of the device so many places behind
+  pub shared : has_unseen (0 ∷ 2 ∷ 1 ∷ []) [] (later 0 1 1 ∷ []) ≡ false
 
 -- of picture 8 the first version of device 1
 abbrev other : List Fragment
-other = of [] [] ∷ of (8 ∷ []) ((1, 1) ∷ []) ∷ []
+other = of [] [] ∷ of (8 ∷ []) (entry 1 1 ∷ []) ∷ []
 
 -- of every picture the first version of device 0, and of picture 8 that of device 1 besides
 abbrev both : List Fragment
-both = of [] ((0, 1) ∷ []) ∷ of (8 ∷ []) ((0, 1) ∷ (1, 1) ∷ []) ∷ []
+both = of [] (entry 0 1 ∷ []) ∷ of (8 ∷ []) (entry 0 1 ∷ entry 1 1 ∷ []) ∷ []
 
 -- what is staged where it is to be the union of `of_every` and `other`, and, before a ⊥, what isn't
 pub record TheStaged : Type 0 where
@@ -75,22 +93,22 @@ pub record TheStaged : Type 0 where
   pub first_alone : IsStagedUnion (Some of_every) of_every other → ⊥
   pub second_alone : IsStagedUnion (Some other) of_every other → ⊥
   -- what is known of picture 8 is staged of every picture
-  pub of_all : IsStagedUnion (Some (of [] ((0, 1) ∷ (1, 1) ∷ []) ∷ [])) of_every other → ⊥
+  pub of_all : IsStagedUnion (Some (of [] (entry 0 1 ∷ entry 1 1 ∷ []) ∷ [])) of_every other → ⊥
   -- a second version of device 0 is staged
-  pub too_late : IsStagedUnion (Some (of [] ((0, 2) ∷ []) ∷ of (8 ∷ []) ((0, 2) ∷ (1, 1) ∷ []) ∷ [])) of_every other → ⊥
+  pub too_late : IsStagedUnion (Some (of [] (entry 0 2 ∷ []) ∷ of (8 ∷ []) (entry 0 2 ∷ entry 1 1 ∷ []) ∷ [])) of_every other → ⊥
 
 -- whether a row has a bound above the star's that has no mark: device 0 has one at number 2, and device 1 at number 1
 pub record TheMarks : Type 0 where
-  pub marked : has_unseen (0 ∷ 2 ∷ 1 ∷ []) [] ((0, 2) ∷ (1, 1) ∷ []) ≡ false
-  pub no_mark : has_unseen (0 ∷ 2 ∷ 1 ∷ []) [] ((0, 1) ∷ (1, 1) ∷ []) ≡ true
-  pub of_another : has_unseen (0 ∷ 2 ∷ 1 ∷ []) [] ((1, 2) ∷ []) ≡ true
-  pub above_all : has_unseen (0 ∷ 2 ∷ 1 ∷ []) [] ((0, 3) ∷ []) ≡ true
-  pub as_the_star : has_unseen (0 ∷ 2 ∷ 1 ∷ []) ((0, 3) ∷ []) ((0, 3) ∷ []) ≡ false
-  pub comes_round : has_unseen (0 ∷ 2 ∷ 1 ∷ []) [] ((64, 8194) ∷ []) ≡ false
+  pub marked : has_unseen (0 ∷ 2 ∷ 1 ∷ []) [] (entry 0 2 ∷ entry 1 1 ∷ []) ≡ false
+  pub no_mark : has_unseen (0 ∷ 2 ∷ 1 ∷ []) [] (entry 0 1 ∷ entry 1 1 ∷ []) ≡ true
+  pub of_another : has_unseen (0 ∷ 2 ∷ 1 ∷ []) [] (entry 1 2 ∷ []) ≡ true
+  pub above_all : has_unseen (0 ∷ 2 ∷ 1 ∷ []) [] (entry 0 3 ∷ []) ≡ true
+  pub as_the_star : has_unseen (0 ∷ 2 ∷ 1 ∷ []) (entry 0 3 ∷ []) (entry 0 3 ∷ []) ≡ false
+  pub comes_round : has_unseen (0 ∷ 2 ∷ 1 ∷ []) [] (entry 64 8194 ∷ []) ≡ false
 
 -- a bound of device 0 that waits beside rows
 pub record TheWaiting : Type 0 where
-  pub level : are_level both 0 1 ≡ true
-  pub not_level : are_level both 1 0 ≡ false
-  pub is_shown : shown (Some (0, 3)) (rows_of both) ≡ rows_of (of [] ((0, 3) ∷ []) ∷ of (8 ∷ []) ((0, 3) ∷ (1, 1) ∷ []) ∷ [])
+  pub level : are_level both (author_word (author 0)) 1 ≡ true
+  pub not_level : are_level both (author_word (author 1)) 0 ≡ false
+  pub is_shown : shown (Some (entry 0 3)) (rows_of both) ≡ rows_of (of [] (entry 0 3 ∷ []) ∷ of (8 ∷ []) (entry 0 3 ∷ entry 1 1 ∷ []) ∷ [])
   pub none_waits : shown None (rows_of both) ≡ rows_of both

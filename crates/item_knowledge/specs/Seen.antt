@@ -1,5 +1,5 @@
 -- Machinery of the proofs: marks of the bounds that stand in rows, so that a row with a bound that has no mark is none of them.
-use Rattle.std.specs.Prelude.{◌≡◌, ℕ, ◌<◌, Bool, true, not, ◌&&◌, ◌==◌, ◌*◌, ◌+◌, ◌%◌, nat_lt, List, [], length, get_or}
+use Rattle.std.specs.Prelude.{◌≡◌, ℕ, ◌<◌, Bool, true, not, ◌&&◌, ◌==◌, ◌*◌, ◌+◌, ◌/◌, ◌%◌, nat_lt, List, [], length, get_or}
 use Rattle.std.specs.Int.{bit_at}
 use Rattle.std.specs.List.{list_any}
 use Rattle.item_knowledge.specs.Entries.{Entry, bound}
@@ -8,9 +8,13 @@ use Rattle.item_knowledge.specs.Places.{is_new}
 use Rattle.item_knowledge.specs.Rows.{fragments_of}
 use Rattle.item_knowledge.specs.Tops.{IsTop}
 
+-- the bit of an author by its word: devices one after another, each with its later epochs behind it. They come round again
+abbrev pub bit_of : ℕ → ℕ
+bit_of a = (a / 4294967296 + a % 4294967296) % 64
+
 -- a bound has the word of its number, and there the bit of its author; they come round again
 abbrev pub is_marked : List ℕ → ℕ → ℕ → Bool
-is_marked words a n = bit_at (get_or words (n % 8192) 0) (a % 64) == 1
+is_marked words a n = bit_at (get_or words (n % 8192) 0) (bit_of a) == 1
 
 -- what has a mark among the first words has one among the second
 abbrev pub HasMarks : List ℕ → List ℕ → Type 0

@@ -1,3 +1,4 @@
+// A fragment, lent.
 use crate::live::{Entry, late_of};
 use crate::search::entry_at;
 use photo_version::Author;

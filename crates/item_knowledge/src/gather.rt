@@ -1,3 +1,4 @@
+// Pictures that come to the group of their vector.
 ghost use Rattle.std.specs.Prelude.{◌≡◌, ◌<◌, true, length, OnOk, IfOk, Some};
 ghost use Rattle.item_knowledge.specs.Entries.{same_entries};
 ghost use Rattle.item_knowledge.specs.Gathering as spec;

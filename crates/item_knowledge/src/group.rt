@@ -1,3 +1,4 @@
+// The pictures of a group.
 use crate::rows::Rows;
 use std::alloc::{AllocError, Global};
 use std::marker::Model;

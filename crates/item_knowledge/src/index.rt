@@ -1,3 +1,4 @@
+// From a picture to its fragment.
 ghost use Rattle.std.specs.Prelude.{◌≡◌, ◌≤◌, ◌^◌, IfOk, OnErr};
 
 use std::alloc::AllocError;

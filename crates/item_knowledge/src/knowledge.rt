@@ -1,3 +1,4 @@
+// A knowledge: what it is seen as, and its calls.
 use crate::Fragment;
 use crate::index::IndexEntry;
 use crate::known::has_table;
@@ -210,9 +211,8 @@ impl Knowledge {
         self.live.settle();
     }
 
-    /// Whether no bound waits beside the rows.
-    #[cfg(test)]
-    pub(crate) fn has_settled(&self) -> bool {
+    /// Whether no bound waits beside the rows, as after [`Knowledge::settle_bounds`]. What is known is the same either way.
+    pub fn has_settled(&self) -> bool {
         self.live.settled().is_some()
     }
 

@@ -1,3 +1,4 @@
+// Whether a table of pictures is known already.
 ghost use Rattle.std.specs.Prelude.{◌≡◌, ℕ, [], true};
 ghost use Rattle.photo_version.specs.Version as versions;
 ghost use Rattle.photo_version.specs.Vector as vectors;

@@ -24,12 +24,3 @@ mod union;
 
 pub use fragment::Fragment;
 pub use knowledge::Knowledge;
-
-#[cfg(test)]
-mod own_tests;
-#[cfg(test)]
-mod size_tests;
-#[cfg(test)]
-mod staged_tests;
-#[cfg(test)]
-mod tests;

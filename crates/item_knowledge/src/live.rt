@@ -1,3 +1,4 @@
+// The rows of what is known, with a bound that may stand beside them.
 ghost use Rattle.std.specs.Prelude.{◌≡◌, ℕ, ◌<◌, true, length, None};
 ghost use Rattle.item_knowledge.specs.Fragments.{entries_at};
 ghost use Rattle.item_knowledge.specs.Late as spec;

@@ -1,3 +1,4 @@
+// Two indexes, gone along together.
 ghost use Rattle.item_knowledge.specs.Pairing as spec;
 
 use crate::index::IndexEntry;

@@ -1,3 +1,4 @@
+// Groups, found by their vectors.
 ghost use Rattle.std.specs.Prelude.{◌≡◌, ℕ, ◌<◌, ◌≤◌, ◌∷◌, ◌++◌, List, [], length, get_or, true, Some, None, IfOk, OnOk};
 ghost use Rattle.item_knowledge.specs.Places as spec;
 ghost use Rattle.item_knowledge.specs.Rows.{vectors_in};

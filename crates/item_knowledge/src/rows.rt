@@ -1,3 +1,4 @@
+// Rows of fragments in an arena.
 use fragment_arena::{FragmentArena, Row};
 use std::alloc::{AllocError, Global};
 use std::marker::Model;

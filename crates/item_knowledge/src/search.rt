@@ -1,3 +1,4 @@
+// Searches for a picture in an index, and for an author in a row.
 ghost use Rattle.std.specs.Prelude.{◌≡◌, ℕ, ◌<◌, ◌≤◌, true, length, get_or, drop, IfSome};
 ghost use Rattle.item_knowledge.specs.Tables.{in_order, at};
 ghost use Rattle.item_knowledge.specs.Entries.{bound, leq, is_vector};

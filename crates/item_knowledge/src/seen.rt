@@ -1,4 +1,5 @@
-ghost use Rattle.std.specs.Prelude.{◌≡◌, ◌≤◌, true, length, IfOk, OnOk};
+// Marks of the bounds that stand in rows.
+ghost use Rattle.std.specs.Prelude.{◌≡◌, ◌<◌, ◌≤◌, true, length, IfOk, OnOk};
 ghost use Rattle.std.specs.List.{list_all};
 ghost use Rattle.item_knowledge.specs.Entries.{is_vector};
 ghost use Rattle.item_knowledge.specs.Rows.{pairs, IsRow, AreRows, fragments_of};
@@ -13,6 +14,9 @@ use std::alloc::{AllocError, Global};
 // So many numbers have words of their own; those behind them come round again.
 const PERIOD: u64 = 8192;
 
+// What the number of a device is multiplied by in its author's word.
+const EPOCHS: u64 = 4_294_967_296;
+
 /// Marks of the bounds that stand in rows: a bound without a mark stands in none of them. One with a mark may stand in none as
 /// well, since marks stay, and are shared.
 ///
@@ -20,6 +24,15 @@ const PERIOD: u64 = 8192;
 #[derive(Debug, Drop)]
 pub(crate) struct Seen {
     pub(crate) words: Vec<u64>,
+}
+
+// The bit of an author, by its word.
+#[inline(always)]
+fn bit_of(author: u64) -> u32
+    ensures value { result ≡ spec.bit_of author }
+    ensures bound { result < 64 }
+{
+    ((author / EPOCHS + author % EPOCHS) % 64) as u32
 }
 
 impl Seen {
@@ -44,7 +57,7 @@ impl Seen {
         if place >= self.words.len() {
             return false;
         }
-        (self.words[place] >> (author % 64) as u32) % 2 == 1
+        (self.words[place] >> bit_of(author)) % 2 == 1
     }
 
     // Makes a word at a place, without marks, where there is none.
@@ -67,7 +80,7 @@ impl Seen {
     {
         let place = (n % PERIOD) as usize;
         self.make_word(place)?;
-        self.words[place] = self.words[place] | (1u64 << (author % 64) as u32);
+        self.words[place] = self.words[place] | (1u64 << bit_of(author));
         Ok(())
     }
 

@@ -1,3 +1,4 @@
+// The rows of a star, of one picture, and of a table of pictures.
 ghost use Rattle.std.specs.Prelude.{◌≡◌, [], ◌∷◌, ◌++◌, true, nat_lt, IfOk, OnOk};
 ghost use Rattle.std.specs.List.{list_all};
 ghost use Rattle.item_knowledge.specs.Tables.{keys_pass};

@@ -1,3 +1,4 @@
+// Rows with how far their authors' bounds go, and the union of two such.
 ghost use Rattle.std.specs.Prelude.{◌≡◌, true, IfOk, OnOk};
 ghost use Rattle.std.specs.List.{list_all};
 ghost use Rattle.item_knowledge.specs.Entries.{is_vector};

@@ -1,3 +1,4 @@
+// The union of two knowledges, as rows and an index.
 ghost use Rattle.std.specs.Prelude.{◌≡◌, ◌<◌, [], ◌∷◌, true, length, IfOk, OnOk};
 ghost use Rattle.item_knowledge.specs.Fragments.{entries_at, is_normal};
 ghost use Rattle.item_knowledge.specs.Gathering.{IsSide, IsIndex, IsUnion, pair_vector, groups_of, index_of, star_first};

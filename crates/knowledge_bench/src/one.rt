@@ -1,3 +1,4 @@
+//! One knowledge, and what is done with it.
 ghost use Rattle.std.specs.Prelude.{◌≡◌, true};
 ghost use Rattle.photo_version.specs.Author.{author};
 ghost use Rattle.item_knowledge.specs.Kept.{star_bound};

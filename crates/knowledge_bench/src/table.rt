@@ -1,3 +1,4 @@
+//! Tables of pictures, and a knowledge of one.
 ghost use Rattle.std.specs.Prelude.{◌≡◌, ◌<◌, true, nat_lt, ℕ, IfOk};
 ghost use Rattle.photo_version.specs.Author.{Author, author};
 ghost use Rattle.photo_version.specs.Version as versions;

@@ -1,3 +1,4 @@
+//! The kinds of work, by their lines.
 use crate::one::{Growing, LATER, Workpiece};
 use crate::table::{of_table, version};
 use item_knowledge::Knowledge;

@@ -18,17 +18,15 @@ use Rattle.photo_script.specs.declared.command.Command.{Command}
 use Rattle.photo_script.specs.Contents.{Contents, contents, devices_of, IsWithin}
 use Rattle.photo_script.specs.Runs.{Fleet, device_at, opening_from, opening_fleet, after_command, step, run_in_order, numbers_to}
 use Rattle.fleet_steps.specs.Between.{AreReady, AreSettled, HaveRoom, effect_on, devices_after}
-use Rattle.fleet_steps.specs.Sound.{is_sound}
-use Rattle.fleet_steps.proofs.Members.{all_from}
 use Rattle.fleet_steps.proofs.Zipped.{zip_long}
-use Rattle.fleet_steps.proofs.About.{all_at, all_are, all_push}
-use Rattle.fleet_steps.proofs.Shown.{opening_counts}
-use Rattle.fleet_steps.proofs.Runs.{HasMadeAtMost, have_room, after_all, second_all, long_after, effect_counts, effect_counts_second, one_more}
+use Rattle.fleet_steps.proofs.About.{all_push}
+use Rattle.fleet_steps.specs.Running.{HasMadeAtMost}
+use Rattle.fleet_steps.proofs.Runs.{have_room, opening_at_most}
 use Rattle.fleet_steps.proofs.EachCommand.{IsKept, FitsAll, IsAfter, length_opening, stepped, by_command}
-use Rattle.fleet_steps.proofs.TracedFleets.{is_ready}
+use Rattle.fleet_steps.specs.Ready.{IsReady}
+use Rattle.fleet_steps.proofs.ReadyRuns.{all_fit, opening_ready, ready_kept}
 use Rattle.fleet_steps.proofs.SoundFacts.{IsSoundFleet}
-use Rattle.fleet_steps.proofs.SoundTests.{each_is_sound, fleet_is_kept, held_is_logged}
-use Rattle.fleet_steps.proofs.SoundRuns.{opening_sound, sound_kept}
+use Rattle.fleet_steps.proofs.SoundRuns.{opening_sound, sound_kept, sound_and_kept}
 use Rattle.live_fleet.specs.Fleets.{KeptFleet, ShowsFleet, AreAlike, RunsGrowByCommands, after_commands, CameAbout, HasSoundHistory}
 
 -- two that are alike are so after one command more, whatever number it has
@@ -80,82 +78,74 @@ one_later filters commands k c =
       log = all.log ∙ ap (λ (f : Fleet). f.log) last ∙ sym same.log;
     }
 
--- what making, narrowing and pulling keep
+-- what each step keeps, while there are epochs to begin
 module _ (Fits : Record → Type 0) (P : List Entry → List ModelDevice → Type 0) (K : IsKept Fits P) where
-  kept_along : (fleet : Fleet) (commands : List Command) → P fleet.log fleet.devices → AllByRecursion (IsWithin (length fleet.devices)) commands → AllByRecursion (FitsAll Fits) commands
-      → IsAfter P (length fleet.devices) (fold ran fleet commands).log (fold ran fleet commands).devices
-  kept_along fleet [] old within fits = record { fact = old; long = refl }
-  kept_along fleet (c ∷ commands) old within fits =
-      let done = by_command Fits P K fleet 0 c old within.0 fits.0 in
-      let rest = kept_along (ran fleet c) commands done.fact (subst (λ (n : ℕ). AllByRecursion (IsWithin n) commands) (sym done.long) within.1) fits.1 in
-      record { fact = rest.fact; long = rest.long ∙ done.long }
+  kept_along : (fleet : Fleet) (n : ℕ) (commands : List Command) → P fleet.log fleet.devices → n + length commands ≤ 4_294_967_295 → AllByRecursion (HasMadeAtMost n) fleet.devices
+      → AllByRecursion (IsWithin (length fleet.devices)) commands → AllByRecursion (FitsAll Fits) commands
+      → IsAfter P (length fleet.devices) (n + length commands) (fold ran fleet commands).log (fold ran fleet commands).devices
+  kept_along fleet n [] old few most within fits = record {
+    fact = old;
+    long = refl;
+    few = subst (λ (j : ℕ). AllByRecursion (HasMadeAtMost j) fleet.devices) (omega arith) most;
+  }
+  kept_along fleet n (c ∷ commands) old few most within fits =
+      let done = by_command Fits P K fleet 0 c n old within.0 fits.0 (omega arith) most in
+      let rest = kept_along (ran fleet c) (n + 1) commands done.fact (omega arith) done.few (subst (λ (m : ℕ). AllByRecursion (IsWithin m) commands) (sym done.long) within.1) fits.1 in
+      record {
+        fact = rest.fact;
+        long = rest.long ∙ done.long;
+        few = subst (λ (j : ℕ). AllByRecursion (HasMadeAtMost j) (fold ran (ran fleet c) commands).devices) (omega arith) rest.few;
+      }
 
 within_opened : (filters : List Tree) (commands : List Command) → AllByRecursion (IsWithin (length filters)) commands → AllByRecursion (IsWithin (length (opening_from 0 filters))) commands
 within_opened filters commands within = subst (λ (n : ℕ). AllByRecursion (IsWithin n) commands) (sym (length_opening 0 filters)) within
 
-pub sound_after : (filters : List Tree) (commands : List Command) → AllByRecursion (IsWithin (length filters)) commands → AllByRecursion (FitsAll IsInRange) commands
-    → IsAfter IsSoundFleet (length filters) (after_commands filters commands).log (after_commands filters commands).devices
-sound_after filters commands within fits =
-    let all = kept_along IsInRange IsSoundFleet sound_kept (opened filters) commands (opening_sound filters) (within_opened filters commands within) fits in
+-- after commands every device is sound, and none has made more versions or begun more epochs than commands have run
+pub sound_after : (filters : List Tree) (commands : List Command) → length commands ≤ 4_294_967_295 → AllByRecursion (IsWithin (length filters)) commands → AllByRecursion (FitsAll IsInRange) commands
+    → IsAfter IsSoundFleet (length filters) (length commands) (after_commands filters commands).log (after_commands filters commands).devices
+sound_after filters commands few within fits =
+    let all = kept_along IsInRange IsSoundFleet sound_kept (opened filters) 0 commands (opening_sound filters) (omega arith) (opening_at_most filters 0) (within_opened filters commands within) fits in
     let same = is_folded filters commands in
     record {
       fact = subst₂ IsSoundFleet (sym same.log) (sym same.devices) all.fact;
       long = ap length same.devices ∙ all.long ∙ length_opening 0 filters;
+      few = subst (AllByRecursion (HasMadeAtMost (length commands))) (sym same.devices) (subst (λ (j : ℕ). AllByRecursion (HasMadeAtMost j) (fold ran (opened filters) commands).devices) (omega arith) all.few);
     }
 
--- no device has made more versions than commands have run
-counted_along : (fleet : Fleet) (n : ℕ) (commands : List Command) → AllByRecursion (HasMadeAtMost n) fleet.devices → AllByRecursion (IsWithin (length fleet.devices)) commands
-    → AllByRecursion (HasMadeAtMost (n + length commands)) (fold ran fleet commands).devices
-counted_along fleet n [] most within = subst (λ (j : ℕ). AllByRecursion (HasMadeAtMost j) fleet.devices) (omega arith) most
-counted_along fleet n (c ∷ commands) most within =
-    let models = fleet.devices in
-    let k = (devices_of c).0 in
-    let second = option_map (device_at models) (devices_of c).1 in
-    let here = within.0.0 in
-    let most_first : HasMadeAtMost n (device_at models k) = all_at (HasMadeAtMost n) models k (opening (author k) All) most here in
-    let most_second : IfSome second (HasMadeAtMost n) = second_all (HasMadeAtMost n) models (devices_of c).1 k (length models) (le_refl _) most within.0.1 in
-    let after : AllByRecursion (HasMadeAtMost (n + 1)) (devices_after models c) =
-    after_all (HasMadeAtMost (n + 1)) c models (all_are (HasMadeAtMost n) (HasMadeAtMost (n + 1)) models (λ m few. omega arith) most)
-    (effect_counts c (device_at models k) second n most_first) (one_more n (effect_on models c).second (effect_counts_second c (device_at models k) second n most_second)) in
-    let rest = counted_along (ran fleet c) (n + 1) commands after (subst (λ (j : ℕ). AllByRecursion (IsWithin j) commands) (sym (long_after c models)) within.1) in
-    subst (λ (j : ℕ). AllByRecursion (HasMadeAtMost j) (fold ran (ran fleet c) commands).devices) (omega arith) rest
+-- so they are ready for one command more
+ready_after : (filters : List Tree) (commands : List Command) → length commands ≤ 4_294_967_295 → AllByRecursion (IsWithin (length filters)) commands → IsReady (after_commands filters commands).devices
+ready_after filters commands few within =
+    let all = kept_along (λ r. Unit {0}) (λ log ds. IsReady ds) ready_kept (opened filters) 0 commands (opening_ready filters) (omega arith) (opening_at_most filters 0) (within_opened filters commands within) (all_fit commands) in
+    subst IsReady (sym (is_folded filters commands).devices) all.fact
 
-pub counted_after : (filters : List Tree) (commands : List Command) → AllByRecursion (IsWithin (length filters)) commands → AllByRecursion (HasMadeAtMost (length commands)) (after_commands filters commands).devices
-counted_after filters commands within =
-    let all = counted_along (opened filters) 0 commands (opening_counts filters 0) (within_opened filters commands within) in
-    let few : AllByRecursion (HasMadeAtMost (length commands)) (fold ran (opened filters) commands).devices = subst (λ (j : ℕ). AllByRecursion (HasMadeAtMost j) (fold ran (opened filters) commands).devices) (omega arith) all in
-    subst (AllByRecursion (HasMadeAtMost (length commands))) (sym (is_folded filters commands).devices) few
+-- the same of the commands by which a fleet came about
+pub came_after : (f : KeptFleet) (came : CameAbout f) → IsAfter IsSoundFleet (length came.filters) (length came.commands) (after_commands came.filters came.commands).log (after_commands came.filters came.commands).devices
+came_after f came =
+    let count = came.count in
+    let few = came.few in
+    sound_after came.filters came.commands (omega arith) came.within came.in_range
 
 -- what the next command asks of the devices
 
 pub came_ready : (f : KeptFleet) → CameAbout f → AreReady f.devices
 came_ready f came =
     let fleet = after_commands came.filters came.commands in
+    let count = came.count in
+    let few = came.few in
     record {
       models = fleet.devices;
       shown = came.shown.devices;
-      ready = is_ready fleet.log fleet.devices (sound_after came.filters came.commands came.within came.in_range).fact.traced;
+      ready = ready_after came.filters came.commands (omega (arith, count, few)) came.within;
     }
 
 pub came_room : (f : KeptFleet) → CameAbout f → f.commands < 4_294_967_295 → HaveRoom f.devices
 came_room f came few =
     let count = came.count in
-    have_room f.devices (after_commands came.filters came.commands).devices (length came.commands) (omega arith) came.shown.devices (counted_after came.filters came.commands came.within)
+    have_room f.devices (after_commands came.filters came.commands).devices (length came.commands) (omega arith) came.shown.devices (came_after f came).few
 
 -- each fleet is sound
 pub came_sound : (f : KeptFleet) → CameAbout f → HasSoundHistory f
-came_sound f came =
-    let fleet = after_commands came.filters came.commands in
-    let facts : IsSoundFleet fleet.log fleet.devices = (sound_after came.filters came.commands came.within came.in_range).fact in
-    record {
-      came = came;
-      sound = record {
-        sound = all_from (is_sound fleet.log) fleet.devices (each_is_sound fleet.log fleet.devices facts);
-        kept = fleet_is_kept fleet.log fleet.devices facts;
-        logged = held_is_logged fleet.log fleet.devices facts;
-        once = facts.traced.log_is.once;
-      };
-    }
+came_sound f came = record { came = came; sound = sound_and_kept (after_commands came.filters came.commands) (came_after f came).fact }
 
 -- before the first command
 pub came_first : (f : KeptFleet) (filters : List Tree) → AllZip Shows f.devices (opening_from 0 filters) → AreSettled f.devices → f.log ≡ [] → f.commands ≡ 0 → CameAbout f
@@ -166,17 +156,18 @@ came_first f filters shown settled logged none = record {
   in_range = tt;
   shown = record { devices = shown; log = ap (λ helds. entries_of helds) logged };
   count = none;
+  few = omega arith;
   settled = settled;
 }
 
 -- after one command more
-pub came_more : (f new : KeptFleet) (k : ℕ) (c : Command) → CameAbout f → IsWithin (length f.devices) c → FitsAll IsInRange c
+pub came_more : (f new : KeptFleet) (k : ℕ) (c : Command) → CameAbout f → IsWithin (length f.devices) c → FitsAll IsInRange c → f.commands < 4_294_967_295
     → ((m : Fleet) → ShowsFleet f m → ShowsFleet new (after_command m k c)) → new.commands ≡ f.commands + 1 → AreSettled new.devices → CameAbout new
-came_more f new k c came within fits shows count settled =
+came_more f new k c came within fits room shows count settled =
     let fleet = after_commands came.filters came.commands in
     let next = shows fleet came.shown in
     let same = one_later came.filters came.commands k c in
-    let long : length f.devices ≡ length came.filters = zip_long Shows f.devices fleet.devices came.shown.devices ∙ (sound_after came.filters came.commands came.within came.in_range).long in
+    let long : length f.devices ≡ length came.filters = zip_long Shows f.devices fleet.devices came.shown.devices ∙ (came_after f came).long in
     let counted = came.count in
     record {
       filters = came.filters;
@@ -188,6 +179,7 @@ came_more f new k c came within fits shows count settled =
         log = next.log ∙ sym same.log;
       };
       count = omega (arith, length-append came.commands (c ∷ []));
+      few = omega arith;
       settled = settled;
     }
 

@@ -45,12 +45,13 @@ came = record {
   in_range = (record { rating = omega arith; day = (omega arith, omega arith) }, tt);
   shown = record {
     devices = (
-      record { author = refl; tree = refl; counter = refl; store = refl; out = refl; known = λ p above v. up_to_one (eqb 0 v.author.device) v.number },
+      record { author = refl; tree = refl; counter = refl; store = refl; out = refl; known = λ p above v. up_to_one (eqb 0 v.author.word) v.number },
       (record { author = refl; tree = refl; counter = refl; store = refl; out = refl; known = λ p above v. refl }, tt),
     );
     log = refl;
   };
   count = refl;
+  few = omega arith;
   settled = (refl, (refl, tt));
 }
 

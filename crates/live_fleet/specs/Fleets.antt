@@ -1,5 +1,5 @@
 -- Fleets that commands are given to, one after another.
-use Rattle.std.specs.Prelude.{◌≡◌, ℕ, ◌+◌, List, [], ◌∷◌, ◌++◌, length, IfSome}
+use Rattle.std.specs.Prelude.{◌≡◌, ℕ, ◌+◌, ◌≤◌, List, [], ◌∷◌, ◌++◌, length, IfSome}
 use Rattle.std.specs.List.{AllZip, AllByRecursion}
 use Rattle.photo_filter_text.specs.Tree.{Tree}
 use Rattle.photo_filter_rules.specs.Matching.{IsInRange}
@@ -44,7 +44,7 @@ abbrev pub RunsGrowByCommands : Type 0
 RunsGrowByCommands = (filters : List Tree) (commands : List Command) (number : ℕ) (c : Command) → AreAlike (after_commands filters (commands ++ c ∷ [])) (after_command (after_commands filters commands) number c)
 
 -- a fleet to which commands have led, one after another: each works on devices that there are, and says a rating and a day
--- that there are if it says any. Nothing is staged on any device
+-- that there are if it says any, and there are no more of them than a device has further epochs. Nothing is staged on any device
 pub record CameAbout (f : KeptFleet) : Type 0 where
   pub filters : List Tree
   pub commands : List Command
@@ -52,6 +52,7 @@ pub record CameAbout (f : KeptFleet) : Type 0 where
   pub in_range : AllByRecursion (λ c. IfSome (record_of c) IsInRange) commands
   pub shown : ShowsFleet f (after_commands filters commands)
   pub count : f.commands ≡ length commands
+  pub few : f.commands ≤ 4_294_967_295
   pub settled : AreSettled f.devices
 
 -- such a fleet, in which each device is sound, nothing that is current is lost, what is held is logged, and nothing is

@@ -1,7 +1,7 @@
 // Reports as the values that a fleet's methods give.
 ghost use Rattle.std.specs.Prelude.{◌≡◌};
 ghost use Rattle.photo_script.specs.Reports.{answer_of};
-ghost use Rattle.live_fleet.specs.Answers.{made_in, narrowed_in, pulled_in};
+ghost use Rattle.live_fleet.specs.Answers.{made_in, narrowed_in, pulled_in, refiltered_in};
 
 use photo_device::Place;
 use photo_pull::PullCounts;
@@ -24,6 +24,16 @@ pub(crate) fn narrowed_in(report: Report) -> Option<u64>
 {
     match report {
         Report::Narrowed(count) => Some(count),
+        _ => None,
+    }
+}
+
+/// How many versions are in the store and in the out after a refiltering that a report tells of.
+pub(crate) fn refiltered_in(report: Report) -> Option<(u64, u64)>
+    ensures { result ≡ refiltered_in (answer_of report) }
+{
+    match report {
+        Report::Refiltered { store, out } => Some((store, out)),
         _ => None,
     }
 }

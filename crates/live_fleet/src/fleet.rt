@@ -1,4 +1,6 @@
-use crate::answer::{made_in, narrowed_in, pulled_in};
+// The fleet: what it is seen as, and its calls.
+use crate::answer::{made_in, narrowed_in, pulled_in, refiltered_in};
+use crate::asking::preview_between;
 use crate::opening::opening_devices;
 use crate::ranges::command_in_range;
 use crate::step::run_and_keep;
@@ -39,8 +41,9 @@ impl Model for Fleet {
 impl Fleet {
     ghost use Rattle.std.specs.Prelude.{◌≡◌, ◌≢◌, ◌+◌, ◌<◌, ◌≤◌, ◌↔◌, [], length, IsTrue, IfOk, OnOk, OnErr};
     ghost use Rattle.photo_script.specs.Contents.{IsWithin};
-    ghost use Rattle.photo_script.specs.Reports.{Made, Pulled, answer_of};
-    ghost use Rattle.photo_script.specs.declared.command.Command.TheVariants.{New, Edit, Remove, Pull, Narrow};
+    ghost use Rattle.photo_script.specs.Reports.{Made, Pulled, Preview, Refiltered, answer_of};
+    ghost use Rattle.photo_script.specs.declared.command.Command.TheVariants.{New, Edit, Remove, Pull, Narrow, Refilter};
+    ghost use Rattle.photo_script.specs.declared.command.Command.TheVariants as asked;
     ghost use Rattle.live_fleet.specs.Answers.{change_answer, narrow_answer};
     ghost use Rattle.live_fleet.specs.Fleets.{CameAbout, HasRun, IsAnswerTo, ShowsFleet, after_commands};
 
@@ -200,16 +203,51 @@ impl Fleet {
         Ok(narrowed_in(report))
     }
 
+    /// A device gets any other filter and begins its next epoch: what it holds is sorted anew into its store and its out, and
+    /// of what it knew it keeps what it holds with its histories. Gives how many versions are in the store and in the out then.
+    /// Its only error is want of memory, after which the fleet is as it was.
+    pub fn refilter(&mut self, device: u16, filter: &Filter) -> Result<(u64, u64), AllocError>
+        requires within { device < length self.old.devices }
+        requires room { self.old.commands < 4_294_967_295 }
+        ensures ran { OnOk result (HasRun (Refilter device filter.now) self.old self.new) }
+        ensures answer { IfOk result (λ sizes. IsAnswerTo (Refilter device filter.now) self.old (Refiltered sizes.0 sizes.1)) }
+        ensures err { OnErr result (self.new ≡ self.old) }
+        ensures long { length self.new.devices ≡ length self.old.devices }
+        ensures count { self.new.commands ≤ self.old.commands + 1 }
+    {
+        let filter = filter.try_clone()?;
+        let report = self.give(Command::Refilter { device, filter })?;
+        Ok(refiltered_in(report).unwrap())
+    }
+
+    /// What a pull of the target from the source, which is another device, would move. Nothing changes, and it doesn't count
+    /// as a command that has run. Its only error is want of memory.
+    pub fn preview(&self, target: u16, source: u16) -> Result<PullCounts, AllocError>
+        requires target { target < length self.now.devices }
+        requires source { source < length self.now.devices }
+        requires differ { source ≢ target }
+        ensures { IfOk result (λ counts. IsAnswerTo (asked.Preview target source) self.now (Preview counts)) }
+    {
+        let devices = self.devices.as_slice();
+        let counts = preview_between(
+            self.alloc,
+            devices,
+            usize::from(target),
+            usize::from(source),
+        )?;
+        Ok(counts)
+    }
+
     /// Whether the devices of a command are there, two different ones if it has two.
     pub fn takes(&self, command: &Command) -> bool
         ensures { IsTrue result ↔ IsWithin (length self.now.devices) command.now }
     {
         let (first, second) = devices_of(command);
         let count = self.devices.len();
-        let within = usize::from(first.value()) < count;
+        let within = usize::from(first) < count;
         match second {
             None => within,
-            Some(second) => within && usize::from(second.value()) < count && second != first,
+            Some(second) => within && usize::from(second) < count && second != first,
         }
     }
 

@@ -2,6 +2,7 @@
 #![tactic(auto)]
 
 mod answer;
+mod asking;
 mod entry;
 mod fleet;
 pub mod laws;
@@ -10,6 +11,3 @@ mod ranges;
 mod step;
 
 pub use fleet::Fleet;
-
-#[cfg(test)]
-mod tests;

@@ -1,3 +1,4 @@
+// The devices of a new fleet.
 ghost use Rattle.std.specs.Prelude.{◌≤◌, length, IfOk};
 ghost use Rattle.std.specs.List.{AllZip};
 ghost use Rattle.photo_device.specs.Device.{Shows};

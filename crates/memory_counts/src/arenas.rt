@@ -1,6 +1,7 @@
+//! The calls of an arena.
 ghost use Rattle.std.specs.Prelude.{◌≡◌, ◌≤◌, length};
 
-use fragment_arena::{FragmentArena, Row};
+use fragment_arena::{FragmentArena, RawWords, Row};
 use std::alloc::Global;
 
 // An arena of two rows.
@@ -15,12 +16,15 @@ fn two_rows(alloc: Global) -> Option<FragmentArena> {
 pub fn answer(alloc: Global, times: u32) -> Option<bool> {
     let arena = two_rows(alloc)?;
     let mut other = FragmentArena::new(alloc);
-    Some(is_worked(&arena, &mut other) && answer_of(&arena, &mut other, times))
+    Some(is_worked(&arena, &mut other) && answer_of(alloc, &arena, &mut other, times))
 }
 
-fn answer_of(arena: &FragmentArena, other: &mut FragmentArena, times: u32) -> bool {
+fn answer_of(alloc: Global, arena: &FragmentArena, other: &mut FragmentArena, times: u32) -> bool {
     for _ in 0..times {
-        if !is_worked(arena, other) {
+        if FragmentArena::new(alloc).rows() != 0 {
+            return false;
+        }
+        if !is_worked(arena, other) || !is_paired(other) {
             return false;
         }
     }
@@ -46,4 +50,42 @@ fn has_rows(arena: &mut FragmentArena) -> bool
     }
     arena.put(Row::at(1), 2, 7);
     arena.row(Row::at(1)) == [1, 2, 7].as_slice() && arena.row(Row::at(2)).len() == 1
+}
+
+// Reserves what it has had room for, and places two rows there at once.
+fn is_paired(other: &mut FragmentArena) -> bool {
+    other.clear();
+    if other.reserve(6, 3).is_err() {
+        return false;
+    }
+    let reserved = other.has_reserved(6) && other.has_reserved_pair(5);
+    let second = other.place_reserved_pair(5, &[6, 7]);
+    let (blocks, _words) = other.memory();
+    reserved && second.place() == 1 && other.rows() == 2 && blocks > 0
+}
+
+/// The calls of a block of raw words but `make`.
+pub fn answer_raw(alloc: Global, times: u32) -> Option<bool> {
+    let mut words = RawWords::make(alloc, 3).ok()?;
+    Some(answer_of_raw(&mut words, times))
+}
+
+fn answer_of_raw(words: &mut RawWords, times: u32) -> bool {
+    for _ in 0..times {
+        if !are_written(words) {
+            return false;
+        }
+    }
+    true
+}
+
+// Writes three words, and another one in place of the second.
+fn are_written(words: &mut RawWords) -> bool {
+    words.clear();
+    if words.room() != 3 {
+        return false;
+    }
+    words.write(&[1, 2, 3]);
+    words.set(1, 7);
+    words.len() == 3 && words.capacity() == 3 && words.slice(1, 2) == [7, 3].as_slice()
 }

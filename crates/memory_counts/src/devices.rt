@@ -1,3 +1,4 @@
+//! The calls of a device and of held versions.
 use crate::filters::{filter_of, rated};
 use photo_device::{Device, HeldSet, Spot};
 use photo_record::{PicNo, Record};
@@ -15,8 +16,8 @@ fn make_all(device: &mut Device, content: &Record) -> Option<()> {
     Some(())
 }
 
-// A device that made and holds 300 versions.
-fn device(alloc: Global) -> Option<Device> {
+/// A device that made and holds 300 versions.
+pub fn device(alloc: Global) -> Option<Device> {
     let filter = filter_of(alloc, "rating >= 3")?;
     let content = rated(alloc, 4)?;
     let mut device = Device::new(alloc, Author::new(0), filter).ok()?;
@@ -98,6 +99,7 @@ fn has_hundredth(set: &HeldSet) -> bool {
     found
         && set.has(picture, version)
         && set.of(picture, version).is_some()
+        && set.find(version).is_some()
         && set.blocks().len() == 3
         && set.len() == 300
         && set.get(99).picture == picture

@@ -1,4 +1,6 @@
+//! The calls of a filter.
 use photo_filter_rules::{Filter, covers};
+use photo_filter_text::FilterTree;
 use photo_record::{Day, Rating, Record, Words};
 use std::alloc::Global;
 
@@ -17,7 +19,7 @@ pub fn rated(alloc: Global, rating: u8) -> Option<Record> {
     })
 }
 
-/// `matches`, `covers` and `alternatives`.
+/// `covers`, `matches` and the readers of a filter.
 pub fn answer(alloc: Global, times: u32) -> Option<bool> {
     let wide = filter_of(alloc, "rating >= 3 or keyword sea or day >= 2024-06-01")?;
     let narrow = filter_of(alloc, "rating >= 4 and not keyword ball")?;
@@ -37,7 +39,15 @@ fn answer_of(wide: &Filter, narrow: &Filter, record: &Record, times: u32) -> boo
 fn select(wide: &Filter, narrow: &Filter, record: &Record) -> bool {
     covers(wide, narrow)
         && !covers(narrow, wide)
+        && is_both(narrow.tree())
         && wide.matches(record)
         && !narrow.matches(record)
         && wide.alternatives() == 3
+}
+
+fn is_both(tree: &FilterTree) -> bool {
+    match tree {
+        FilterTree::Both(..) => true,
+        _ => false,
+    }
 }

@@ -1,3 +1,10 @@
+//! The calls of a knowledge.
+ghost use Rattle.std.specs.Prelude.{◌≡◌, ℕ, ◌<◌, IfSome, if◌then◌else◌};
+ghost use Rattle.photo_version.specs.Author as authors;
+ghost use Rattle.photo_version.specs.Version as versions;
+ghost use Rattle.item_knowledge.specs.Fragments.{knows};
+ghost use Rattle.item_knowledge.specs.Kept.{star_bound};
+
 use crate::vectors::vector_of;
 use item_knowledge::Knowledge;
 use photo_record::PicNo;
@@ -78,7 +85,7 @@ fn has_fragments(knowledge: &Knowledge) -> bool {
         && eleventh.entry(0) == (Author::new(0), 11)
 }
 
-/// `stage` of what is known already, `staged`, `commit` and `unstage`.
+/// `stage` of what is known already, `staged`, `commit`, `unstage` and `settle_bounds`.
 pub fn answer_staging(alloc: Global, times: u32) -> Option<bool> {
     let mut knowledge = twenty(alloc, 0)?;
     let same = twenty(alloc, 0)?;
@@ -99,7 +106,8 @@ fn stages_and_commits(knowledge: &mut Knowledge, same: &Knowledge) -> bool {
         return false;
     }
     knowledge.commit();
-    !knowledge.staged() && knowledge.same(same)
+    knowledge.settle_bounds();
+    knowledge.has_settled() && !knowledge.staged() && knowledge.same(same)
 }
 
 fn stages_and_drops(knowledge: &mut Knowledge, same: &Knowledge) -> bool {
@@ -127,6 +135,49 @@ fn answer_of_commit(knowledge: &mut Knowledge, other: &Knowledge, times: u32) ->
     }
     knowledge.commit();
     !knowledge.staged() && knowledge.has_all(other)
+}
+
+/// What knows device 0's first version of every picture, and nothing else.
+pub fn first_known(alloc: Global) -> Option<Knowledge>
+    ensures star { IfSome result
+        (λ k. (a : authors.Author) → star_bound k.known a ≡ (if authors.same_author (authors.author 0) a then 1 else 0)) }
+    ensures known { IfSome result (λ k. (p : ℕ) (v : versions.Version) → 0 < p
+        → knows k.known p v ≡ versions.same_version (versions.version (authors.author 0) 1) v) }
+{
+    let Some(version) = Version::new(Author::new(0), 1) else {
+        return None;
+    };
+    let Ok(mut knowledge) = Knowledge::new(alloc) else {
+        return None;
+    };
+    match knowledge.learn_own(version) {
+        Ok(()) => Some(knowledge),
+        Err(_) => None,
+    }
+}
+
+/// `raise_own`, once where any calls are asked for.
+pub fn answer_raising(alloc: Global, times: u32) -> Option<bool> {
+    match first_known(alloc) {
+        Some(knowledge) => answer_of_raising(knowledge, times),
+        None => None,
+    }
+}
+
+fn answer_of_raising(knowledge: Knowledge, times: u32) -> Option<bool>
+    requires star { (a : authors.Author) → star_bound knowledge.known a ≡ (if authors.same_author (authors.author 0) a then 1 else 0) }
+    requires known { (p : ℕ) (v : versions.Version) → 0 < p
+        → knows knowledge.known p v ≡ versions.same_version (versions.version (authors.author 0) 1) v }
+{
+    let (Some(picture), Some(version)) = (PicNo::new(7), Version::new(Author::new(0), 2)) else {
+        return None;
+    };
+    if times == 0 {
+        return Some(true);
+    }
+    let mut knowledge = knowledge;
+    knowledge.raise_own(version);
+    Some(knowledge.knows(picture, version))
 }
 
 /// `try_clone`, which takes memory.

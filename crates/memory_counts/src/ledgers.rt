@@ -1,3 +1,4 @@
+//! The calls of a ledger.
 ghost use Rattle.std.specs.Prelude.{◌≡◌};
 ghost use Rattle.work_ledger.specs.Stakes.{tally};
 
@@ -24,7 +25,7 @@ const PULL: Kind = Kind::Pull {
     handed: 2,
 };
 
-/// `Share::split`, `join` and its readers, `Ledger::count`, `glance` and `close`.
+/// `Share::split`, `join` and its readers, `Ledger::count` and `glance`; and `close`, once where any calls are asked for.
 pub fn answer<R: Wait>(rt: &R, alloc: Global, times: u32) -> Option<bool> {
     answer_of::<Brand, R>(rt, alloc, Blanks::new(), times)
 }
@@ -39,6 +40,9 @@ fn answer_of<B: Books, R: Wait>(rt: &R, alloc: Global, blanks: Blanks, times: u3
         if !counts(rt, &*ledger, &mut share) {
             return Some(false);
         }
+    }
+    if times == 0 {
+        return Some(true);
     }
     let counted = share.done();
     if share.parts() != 1_000 {

@@ -1,3 +1,4 @@
+//! The calls of a list of blocks.
 ghost use Rattle.std.specs.Prelude.{◌≤◌, length};
 
 use block_list::{BlockList, Room, Spot};
@@ -16,12 +17,15 @@ fn list_of(alloc: Global, n: u32) -> Option<BlockList<u32>> {
 /// `set` and the readers of a list of blocks.
 pub fn answer(alloc: Global, times: u32) -> Option<bool> {
     let mut list = list_of(alloc, 1_500)?;
-    Some(answer_of(&mut list, times))
+    Some(answer_of(alloc, &mut list, times))
 }
 
-fn answer_of(list: &mut BlockList<u32>, times: u32) -> bool {
+fn answer_of(alloc: Global, list: &mut BlockList<u32>, times: u32) -> bool {
     for _ in 0..times {
-        if !sets(list) || !finds(list) || list.as_blocks().is_empty() {
+        if !BlockList::<u32>::new(alloc).is_empty() || list.as_blocks().is_empty() {
+            return false;
+        }
+        if !sets(list) || !finds(list) || !finds_next(list) {
             return false;
         }
     }
@@ -44,30 +48,47 @@ fn finds(list: &BlockList<u32>) -> bool {
         && list.partition_point(|x| *x < 1_000) == 1_000
 }
 
-/// `remove_range` and `retain`: a round takes the first number away.
+fn finds_next(list: &BlockList<u32>) -> bool {
+    let (_found, spot) = list.find_failing_near(Spot::start(), |x| *x < 1_000);
+    match list.behind(spot) {
+        Some((next, _spot)) => *next == 1_001,
+        None => false,
+    }
+}
+
+/// `remove_range`, `retain` and `take_near`: a round takes the first number away, and one from the middle.
 pub fn answer_removing(alloc: Global, times: u32) -> Option<bool> {
     let mut list = list_of(alloc, 2_500)?;
     Some(answer_of_removals(&mut list, times))
 }
 
 fn answer_of_removals(list: &mut BlockList<u32>, times: u32) -> bool {
-    for _ in 0..times {
+    for n in 0..times {
         if list.is_empty() {
             return false;
         }
         list.remove_range(0, 1);
         list.retain(|x| *x != 1_000);
+        let middle = n.saturating_add(1_200);
+        let (taken, _spot) = list.take_near(Spot::start(), |x| *x == middle);
+        if taken != Some(middle) {
+            return false;
+        }
     }
     true
 }
 
-/// `open`, `insert_behind` and `close`: a round puts a number into room that was taken for a thousand.
+/// `insert_behind`, a round of which puts a number into room that was taken for a thousand; and `open` and `close`, once where
+/// any calls are asked for.
 pub fn answer_growing(alloc: Global, times: u32) -> Option<bool> {
     if times > 1_000 {
         return None;
     }
     let mut list = list_of(alloc, 1_500)?;
     let room = list.room(1_000).ok()?;
+    if times == 0 {
+        return Some(true);
+    }
     Some(answer_of_growth(list, room, times))
 }
 

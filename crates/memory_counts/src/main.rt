@@ -4,14 +4,18 @@
 
 mod arenas;
 mod devices;
+mod epochs;
 mod filters;
+mod fleets;
 mod groups;
+mod held;
 mod knowledges;
 mod ledgers;
 mod lists;
 mod records;
 mod runs;
 mod scripts;
+mod staging;
 mod vectors;
 
 use std::io;

@@ -1,7 +1,8 @@
+//! The calls of ratings, days, picture numbers and words.
 use photo_record::{Day, PicNo, Rating, Word, Words};
 use std::alloc::Global;
 
-/// `Rating::new`, `Day::read`, `PicNo::new`, and the readers of these.
+/// `Rating::new`, `Rating::read`, `Day::read`, `PicNo::new`, and the readers of these.
 pub fn answer_fields(times: u32) -> bool {
     for _ in 0..times {
         if !are_fields_right() {
@@ -19,14 +20,17 @@ fn are_fields_right() -> bool {
     ) else {
         return false;
     };
-    rating.value() == 4 && picture.value() == 7 && is_leap_day(day)
+    Rating::read("4") == Some(rating)
+        && rating.value() == 4
+        && picture.value() == 7
+        && is_leap_day(day)
 }
 
 fn is_leap_day(day: Day) -> bool {
     day.number() == 19_782 && day.year() == 2024 && day.month() == 2 && day.day() == 29
 }
 
-/// The readers of a set of words.
+/// The readers of a set of words, and its copy, which shares them.
 pub fn answer_words(alloc: Global, times: u32) -> Option<bool> {
     let words = Words::read(alloc, "sea,ball,sun,tree,sand").ok()?;
     let word = Word::read(alloc, "sun").ok()?;
@@ -48,4 +52,5 @@ fn has_words(words: &Words, word: &Word) -> bool {
         && words.has(word)
         && words.get(0).text() == "ball"
         && words.get(4).text() == "tree"
+        && words.try_clone().is_ok_and(|copy| copy == *words)
 }

@@ -1,3 +1,4 @@
+//! The calls of a plan, the audit, and the number of workers.
 use crate::scripts::small;
 use fleet_runner::{Outcome, Workers, audit, run_plain};
 use photo_batcher::{Plan, plan};
@@ -46,7 +47,7 @@ fn answer_of_audits(outcome: &Outcome, times: u32) -> bool {
 /// `Workers::new`.
 pub fn answer_workers(times: u32) -> bool {
     for _ in 0..times {
-        if Workers::new(0).is_some() || Workers::new(64).is_none() || Workers::new(65).is_some() {
+        if Workers::new(0).is_some() || Workers::new(256).is_none() || Workers::new(257).is_some() {
             return false;
         }
     }

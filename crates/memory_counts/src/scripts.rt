@@ -1,6 +1,6 @@
-use photo_script::{Script, devices_of, read_script};
-use photo_version::Author;
-use std::alloc::Global;
+//! The calls of a script.
+use photo_script::{Report, Script, devices_of, read_script, totals_of};
+use std::alloc::{AllocError, Global};
 
 // A script of two devices and four commands.
 const TEXT: &str =
@@ -11,7 +11,7 @@ pub fn small(alloc: Global) -> Option<Script> {
     read_script(alloc, TEXT.as_bytes()).ok()
 }
 
-/// `devices_of` and the readers of a script.
+/// `devices_of`, `totals_of` and the readers of a script.
 pub fn answer(alloc: Global, times: u32) -> Option<bool> {
     let script = small(alloc)?;
     Some(answer_of(&script, times))
@@ -19,7 +19,7 @@ pub fn answer(alloc: Global, times: u32) -> Option<bool> {
 
 fn answer_of(script: &Script, times: u32) -> bool {
     for _ in 0..times {
-        if !has_devices(script) || !has_commands(script) {
+        if !has_devices(script) || !has_commands(script) || !has_totals(script) {
             return false;
         }
     }
@@ -35,9 +35,37 @@ fn has_commands(script: &Script) -> bool {
         return false;
     }
     let tally = script.tally();
-    devices_of(script.command(2)) == (Author::new(1), None)
-        && devices_of(script.command(3)) == (Author::new(1), Some(Author::new(0)))
+    devices_of(script.command(2)) == (1, None)
+        && devices_of(script.command(3)) == (1, Some(0))
         && tally.changes == 1
         && tally.pulls == 1
         && tally.reports == 2
+}
+
+/// The reading of so many lines with equal words, which share them.
+pub fn answer_same_words(alloc: Global, times: u32) -> Option<bool> {
+    let mut text = String::new(alloc);
+    push_edits(&mut text, times).ok()?;
+    Some(reads(alloc, &text, times))
+}
+
+fn push_edits(text: &mut String, times: u32) -> Result<(), AllocError> {
+    text.push_str("device cam all\n")?;
+    for _ in 0..times {
+        text.push_str("edit cam 1 4 2024-01-01 sea,ball,sun\n")?;
+    }
+    Ok(())
+}
+
+fn reads(alloc: Global, text: &str, times: u32) -> bool {
+    match read_script(alloc, text.as_bytes()) {
+        Ok(script) => script.commands() == times as usize,
+        Err(_) => false,
+    }
+}
+
+// By the report of a question alone, which moved nothing.
+fn has_totals(script: &Script) -> bool {
+    let totals = totals_of(script, &[Report::Knows(false)]);
+    totals.changes == 1 && totals.pulls == 1 && totals.reports == 2 && totals.moved == 0
 }

@@ -1,7 +1,8 @@
+//! The calls of authors, versions and vectors.
 use photo_version::{Author, Vector, Version};
 use std::alloc::Global;
 
-/// `Author::new`, `Version::new`, and the readers of these.
+/// `Author::new`, `Author::of_word`, `Version::new`, and the readers of these.
 pub fn answer_versions(times: u32) -> bool {
     for _ in 0..times {
         if !is_version_right() {
@@ -13,9 +14,13 @@ pub fn answer_versions(times: u32) -> bool {
 
 fn is_version_right() -> bool {
     match Version::new(Author::new(7), 3) {
-        Some(version) => version.author().value() == 7 && version.n() == 3,
+        Some(version) => version.n() == 3 && is_seventh(version.author()),
         None => false,
     }
+}
+
+fn is_seventh(author: Author) -> bool {
+    author.value() == 7 && Author::of_word(author.word()) == author
 }
 
 /// The vector of the authors 0 to 19, each with `n` versions.
@@ -27,7 +32,8 @@ pub fn vector_of(alloc: Global, n: u32) -> Option<Vector> {
     Some(vector)
 }
 
-/// `Vector::new`, `has`, `leq` and the readers of a vector.
+/// `Vector::new`, `has`, `leq`, the readers of a vector, and what shares its entries: a copy, and a union or a vector with
+/// one version more where nothing is added.
 pub fn answer(alloc: Global, times: u32) -> Option<bool> {
     let one = vector_of(alloc, 3)?;
     let other = vector_of(alloc, 4)?;
@@ -36,7 +42,7 @@ pub fn answer(alloc: Global, times: u32) -> Option<bool> {
 
 fn answer_of(alloc: Global, one: &Vector, other: &Vector, times: u32) -> bool {
     for _ in 0..times {
-        if !Vector::new(alloc).is_empty() || !has_versions(one, other) {
+        if !Vector::new(alloc).is_empty() || !has_versions(one, other) || !shares(one, other) {
             return false;
         }
     }
@@ -53,6 +59,16 @@ fn has_versions(one: &Vector, other: &Vector) -> bool {
         && other.has(version)
         && one.len() == 20
         && one.entry(7) == (Author::new(7), 3)
+}
+
+fn shares(one: &Vector, other: &Vector) -> bool {
+    let Some(version) = Version::new(Author::new(19), 3) else {
+        return false;
+    };
+    one.try_clone().is_ok_and(|copy| copy == *one)
+        && one.with(version).is_ok_and(|same| same == *one)
+        && one.join(other).is_ok_and(|both| both == *other)
+        && other.join(one).is_ok_and(|both| both == *other)
 }
 
 /// `Vector::with`, which takes memory.

@@ -11,7 +11,7 @@ use Rattle.photo_filter_text.specs.Steps.{symbol_of, at_factor, after_term, afte
 use Rattle.photo_filter_rules.specs.Filters.{filter_of}
 use Rattle.photo_script.specs.Contents.{Contents, contents, command_of, devices_of}
 use Rattle.photo_script.specs.declared.command.Command.{Command}
-use Rattle.photo_script.specs.Saying.{said, fields_said, command_line_said, question_line_said, device_line_said, filter_said, declaration_said, new_line_said, creation_said, command_said, device_said, new_picture_said, record_said, list_line_said, pulling_said, pull_line_said}
+use Rattle.photo_script.specs.Saying.{said, fields_said, command_line_said, question_line_said, device_line_said, filter_said, declaration_said, new_line_said, creation_said, command_said, device_said, new_picture_said, record_said, list_line_said, two_said, two_devices_said, pull_line_said}
 use Rattle.photo_script.specs.Reading.{script_of}
 use Rattle.photo_batcher.specs.Orders.{IsLawful}
 use Rattle.photo_batcher.specs.Greedy.{first_free, before_it}
@@ -49,7 +49,7 @@ four_plan =
     draft_all four_devices 7 (7 ∷ 5 ∷ 5 ∷ 7 ∷ []) (0 ∷ 0 ∷ 1 ∷ 1 ∷ 2 ∷ 2 ∷ 3 ∷ []) (0 ∷ 0 ∷ 1 ∷ 2 ∷ 4 ∷ 3 ∷ 6 ∷ []) ((1 ∷ 2 ∷ []) ∷ (3 ∷ 4 ∷ []) ∷ (5 ∷ 6 ∷ []) ∷ (7 ∷ []) ∷ []) refl d7
 
 pub four_batches : FourBatches
-unfolding chars is_utf8 encode days_from_civil day_count days_of_years days_of_months unicode_normalization day_of_text words_of_text word_of_text said fields_said command_line_said question_line_said device_line_said filter_said symbol_of at_factor after_term after_factor filter_of declaration_said new_line_said creation_said command_said device_said new_picture_said record_said list_line_said pulling_said pull_line_said script_of
+unfolding chars is_utf8 encode days_from_civil day_count days_of_years days_of_months unicode_normalization day_of_text words_of_text word_of_text said fields_said command_line_said question_line_said device_line_said filter_said symbol_of at_factor after_term after_factor filter_of declaration_said new_line_said creation_said command_said device_said new_picture_said record_said list_line_said two_said two_devices_said pull_line_said script_of
 four_batches = record {
   script = refl;
   plan = four_plan;

@@ -1,3 +1,4 @@
+// Plans: batches, what each command goes after, chains.
 ghost use Rattle.std.specs.Prelude.{◌≡◌, ◌<◌, ◌≤◌, ◌-◌, ◌++◌, ℕ, length, IfSome, IfOk, Some, slice_get, slice_index};
 ghost use Rattle.photo_script.specs.Contents.{Contents};
 ghost use Rattle.photo_script.specs.Limits.{max_commands};

@@ -10,6 +10,3 @@ mod planning;
 pub use batches::Plan;
 pub use order::lawful;
 pub use planning::plan;
-
-#[cfg(test)]
-mod tests;

@@ -1,3 +1,4 @@
+// Lawful orders.
 ghost use Rattle.std.specs.Prelude.{◌≡◌, ◌<◌, ◌↔◌, true, length, IfSome, IfOk};
 ghost use Rattle.photo_batcher.specs.Orders.{IsLawful};
 ghost use Rattle.photo_batcher.specs.Steps.{IsAbove};

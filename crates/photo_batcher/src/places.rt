@@ -11,11 +11,8 @@ pub(crate) fn places_of(script: &Script, number: u32) -> (usize, Option<usize>)
     ensures { ArePlaces script.now number result.0 result.1 }
 {
     match devices_of(script.command(number)) {
-        (first, None) => (usize::from(first.value()), None),
-        (first, Some(second)) => (
-            usize::from(first.value()),
-            Some(usize::from(second.value())),
-        ),
+        (first, None) => (usize::from(first), None),
+        (first, Some(second)) => (usize::from(first), Some(usize::from(second))),
     }
 }
 

@@ -10,7 +10,7 @@ use Rattle.item_knowledge.specs.Fragments.{Fragment, knows, reaches, is_normal, 
 use Rattle.item_knowledge.specs.Kept.{star_bound}
 use Rattle.item_knowledge.proofs.EntryLemmas.{denotes-bound}
 use Rattle.item_knowledge.proofs.FragmentLemmas.{star_of_every}
-use Rattle.photo_device.specs.Own.{KnowsItsOwn}
+use Rattle.photo_device.specs.Own.{KnowsItsOwn, KnowsNoMore}
 
 -- the number of a version that is known is above 0
 
@@ -49,12 +49,13 @@ pub record IsLearnedOf (gain old new : List Fragment) : Type 0 where
   pub star : (a : Author) → star_bound new a ≡ max (star_bound old a) (star_bound gain a)
   pub learned : (p : ℕ) (w : Version) → 0 < p → knows new p w ≡ (knows old p w || knows gain p w)
 
-pub own_still : (a : Author) (k : ℕ) (gain old new : List Fragment) → is_normal gain ≡ true → ((p n : ℕ) → 0 < p → knows gain p (version a n) ≡ true → n ≤ k) → IsLearnedOf gain old new → KnowsItsOwn a k old → KnowsItsOwn a k new
+pub own_still : (a : Author) (k : ℕ) (gain old new : List Fragment) → is_normal gain ≡ true → KnowsNoMore a k gain → IsLearnedOf gain old new → KnowsItsOwn a k old → KnowsItsOwn a k new
 own_still a k gain old new normal none learned own = record {
   star =
-      let below = star_at_most gain a k normal none in
+      let below = star_at_most gain a k normal none.own in
       learned.star a ∙ ap (λ n. max n (star_bound gain a)) own.star ∙ greater k (star_bound gain a) below;
   own = λ p n above. learned.learned p (version a n) above ∙ ap (λ b. b || knows gain p (version a n)) (own.own p n above) ∙ by p n above (cases_Bool (knows gain p (version a n)));
+  later = λ p v above later. learned.learned p v above ∙ (λ i. own.later p v above later i || none.later p v above later i);
 }
   where
     greater : (m n : ℕ) → n ≤ m → max m n ≡ m
@@ -62,6 +63,6 @@ own_still a k gain old new normal none learned own = record {
 
     by : (p n : ℕ) → 0 < p → (knows gain p (version a n) ≡ true) ⊎ (knows gain p (version a n) ≡ false) → ((leb 1 n && leb n k) || knows gain p (version a n)) ≡ (leb 1 n && leb n k)
     by p n above (inl here) =
-        let both : (leb 1 n && leb n k) ≡ true = and_from (leb 1 n) (leb n k) (known_above gain p (version a n) here) (le-leb n k (none p n above here)) in
+        let both : (leb 1 n && leb n k) ≡ true = and_from (leb 1 n) (leb n k) (known_above gain p (version a n) here) (le-leb n k (none.own p n above here)) in
         ap (λ b. b || knows gain p (version a n)) both ∙ sym both
     by p n above (inr apart) = ap (λ b. (leb 1 n && leb n k) || b) apart ∙ or-false (leb 1 n && leb n k)

@@ -25,4 +25,8 @@ pub mod Runs
 pub mod Merging
 pub mod Handed
 pub mod GivenUp
+pub mod NextEpoch
+pub mod TellingLemmas
+pub mod TableLemmas
+pub mod AnewLemmas
 pub mod WorkedExamples

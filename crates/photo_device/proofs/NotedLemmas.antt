@@ -1,8 +1,8 @@
 -- What is noted, after one more was noted or places were made.
-use Rattle.std.proofs.Common.{◌≡◌, ℕ, zero, suc, ◌<◌, true, List, [], ◌∷◌, ◌++◌, length, get_or, set, replicate, Vec, refl, sym, ap, ◌∙◌, ◌⊎◌, inl, inr, subst, arith}
+use Rattle.std.proofs.Common.{◌≡◌, ℕ, zero, suc, ◌+◌, ◌*◌, ◌<◌, true, List, [], ◌∷◌, ◌++◌, length, get_or, set, replicate, Vec, refl, sym, ap, ◌∙◌, ◌⊎◌, inl, inr, subst, arith}
 use Rattle.std.specs.declared.alloc.Global.{Global}
 use Rattle.std.proofs.lemmas.List.{get_or_default}
-use Rattle.photo_version.specs.Author.{author, device_of_author}
+use Rattle.photo_version.specs.Author.{Author, author, device_of_author, epoch_of_author, author_of_word}
 use Rattle.photo_version.specs.Version.{Version, version}
 use Rattle.item_knowledge.specs.Fragments.{Fragment, knows}
 use Rattle.photo_device.specs.Noted.{noted, AreKnown}
@@ -81,17 +81,23 @@ known_behind known rows new empty old a n some =
     let same = noted_behind rows new a n empty in
     subst (λ q. knows known q (version (author a) n) ≡ true) (sym same) (old a n (subst (λ q. 0 < q) same some))
 
+-- the author of a device in its first epoch
+pub first_epoch : (b c : Author) (a : ℕ) → b ≡ c → a ≡ device_of_author b → epoch_of_author b ≡ 0 → author a ≡ c
+first_epoch b c a same of_device none =
+    let word : a * 4294967296 + 0 ≡ b.word = omega arith in
+    ap author_of_word word ∙ same
+
 -- what a look, a note and more places come to
 
-pub known_here : (known : List Fragment) (rows : List (Vec ℕ Global)) (a n at picture : ℕ) (row : Vec ℕ Global) (v : Version) → a < length rows → row ≡ get_or rows a row → n < length row.items → at ≡ get_or row.items n at → at ≡ picture → 0 < picture → a ≡ device_of_author v.author → n ≡ v.number → AreKnown known rows → knows known picture v ≡ true
+pub known_here : (known : List Fragment) (rows : List (Vec ℕ Global)) (a n at picture : ℕ) (row : Vec ℕ Global) (v : Version) → a < length rows → row ≡ get_or rows a row → n < length row.items → at ≡ get_or row.items n at → at ≡ picture → 0 < picture → author a ≡ v.author → n ≡ v.number → AreKnown known rows → knows known picture v ≡ true
 known_here known rows a n at picture row v within of_rows inside of_row is above of_author of_number all =
     let there : get_or row.items n 0 ≡ picture = get_or_default row.items n 0 at inside ∙ sym of_row ∙ is in
     let known_there = is_row known rows a row within of_rows all n (subst (λ q. 0 < q) (sym there) above) in
-    sym (λ i. knows known (there i) (version (author (of_author i)) (of_number i))) ∙ known_there
+    sym (λ i. knows known (there i) (version (of_author i) (of_number i))) ∙ known_there
 
-pub noted_more : (known : List Fragment) (rows : List (Vec ℕ Global)) (a n q picture : ℕ) (row new : Vec ℕ Global) (v : Version) → a < length rows → row ≡ get_or rows a row → new.items ≡ set row.items n q → q ≡ picture → a ≡ device_of_author v.author → n ≡ v.number → knows known picture v ≡ true → AreKnown known rows → AreKnown known (set rows a new)
+pub noted_more : (known : List Fragment) (rows : List (Vec ℕ Global)) (a n q picture : ℕ) (row new : Vec ℕ Global) (v : Version) → a < length rows → row ≡ get_or rows a row → new.items ≡ set row.items n q → q ≡ picture → author a ≡ v.author → n ≡ v.number → knows known picture v ≡ true → AreKnown known rows → AreKnown known (set rows a new)
 noted_more known rows a n q picture row new v within of_rows is of_picture of_author of_number there all =
-    let known_there : knows known q (version (author a) n) ≡ true = (λ i. knows known (of_picture i) (version (author (of_author i)) (of_number i))) ∙ there in
+    let known_there : knows known q (version (author a) n) ≡ true = (λ i. knows known (of_picture i) (version (of_author i) (of_number i))) ∙ there in
     known_set known rows a new all (subst (IsRow known a) (sym is) (row_set known a n q row.items (is_row known rows a row within of_rows all) known_there))
 
 pub known_still : (known : List Fragment) (rows : List (Vec ℕ Global)) (a k : ℕ) (row new : Vec ℕ Global) → a < length rows → row ≡ get_or rows a row → new.items ≡ row.items ++ replicate k 0 → AreKnown known rows → AreKnown known (set rows a new)

@@ -2,10 +2,10 @@
 use Rattle.std.proofs.Common.{◌≡◌, ℕ, ◌+◌, ◌<◌, Bool, true, false, cond, eqb, ltb, leb, ◌&&◌, ◌||◌, List, [], ◌∷◌, refl, sym, ap, ◌∙◌, inl, inr, arith, subst, ◌≤◌}
 use Rattle.std.specs.Prelude.{filter, None}
 use Rattle.std.specs.List.{AllByRecursion}
-use Rattle.std.proofs.lemmas.Bool.{leb-true, and_parts, lt-ltb, le-ltb, le-leb, lt-leb, eq-eqb, ne_eqb, cases_eq, cases_lt, cases_Bool}
+use Rattle.std.proofs.lemmas.Bool.{leb-true, and_parts, ltb-true, lt-ltb, le-ltb, le-leb, lt-leb, eq-eqb, ne_eqb, cases_eq, cases_lt, cases_Bool, false≢true}
 use Rattle.std.proofs.Math.Bool.{or-true, or-false}
 use Rattle.photo_record.specs.declared.record.Record.{Record}
-use Rattle.photo_version.specs.Author.{Author, same_author}
+use Rattle.photo_version.specs.Author.{Author, same_author, is_earlier_epoch, device_of_author}
 use Rattle.photo_version.specs.Version.{Version, version, same_version}
 use Rattle.photo_version.specs.Vector.{Bound, denotes}
 use Rattle.item_knowledge.specs.Fragments.{Fragment, knows}
@@ -17,7 +17,7 @@ use Rattle.photo_device.specs.Ordered.{put}
 use Rattle.photo_device.specs.Entry.{is_of_other}
 use Rattle.photo_device.specs.Held.{entry_of, held_before, held_of_others, replaced, count_of}
 use Rattle.photo_device.specs.Device.{Kept, held_at, unstaged}
-use Rattle.photo_device.specs.Own.{HasEarlier, KnowsItsOwn, IsKnownBy, IsNext, HasMade, IsDevice}
+use Rattle.photo_device.specs.Own.{HasEarlier, KnowsItsOwn, KnowsNoMore, IsKnownBy, IsNext, HasMade, IsDevice}
 use Rattle.photo_device.specs.Learning.{IsOwnLearned}
 use Rattle.photo_device.proofs.AllLemmas.{all_filter, all_put}
 use Rattle.photo_device.proofs.Counts.{one_of, count_of-cons, count_of-append, count_of-put, count_of-filter, same_version_is, same_version_self}
@@ -44,7 +44,24 @@ up_to n k =
     ]
 
 same_self : (a : Author) → same_author a a ≡ true
-same_self a = eq-eqb a.device a.device refl
+same_self a = eq-eqb a.word a.word refl
+
+-- an author isn't of a later epoch than itself
+pub not_itself : (v w : Version) → is_earlier_epoch v.author w.author ≡ true → same_version v w ≡ false
+not_itself v w later =
+    let parts = and_parts (eqb (device_of_author v.author) (device_of_author w.author)) (ltb v.author.word w.author.word) later in
+    let less = ltb-true v.author.word w.author.word parts.1 in
+    rw (ne_eqb v.author.word w.author.word (λ e. omega arith)) refl
+
+-- who knows no more than another, knows no more of an author's versions either
+pub no_more_of : (a : Author) (k : ℕ) (gain fs : List Fragment) → ((p : ℕ) (v : Version) → 0 < p → knows gain p v ≡ true → knows fs p v ≡ true) → KnowsNoMore a k fs → KnowsNoMore a k gain
+no_more_of a k gain fs within no_more = record {
+  own = λ p n above here. no_more.own p n above (within p (version a n) above here);
+  later = λ p v above later. elim (cases_Bool (knows gain p v)) [
+    | inl here ↦ absurd (false≢true (sym (no_more.later p v above later) ∙ within p v above here))
+    | inr none ↦ none
+  ];
+}
 
 -- the next version is known of every picture
 pub own_learned : (a : Author) (k : ℕ) (v : Version) (old new : List Fragment) → v ≡ version a (k + 1)
@@ -58,6 +75,10 @@ own_learned a k v old new v_is star learned own = record {
       ∙ (λ i. own.own p n above i || same_version (v_is i) (version a n))
       ∙ ap (λ b. (leb 1 n && leb n k) || (b && eqb (k + 1) n)) (same_self a)
       ∙ one_more n k;
+  later = λ p w above later.
+      learned p w above
+      ∙ (λ i. own.later p w above later i || same_version v w)
+      ∙ not_itself v w (subst (λ b. is_earlier_epoch b w.author ≡ true) (sym (ap (λ (x : Version). x.author) v_is)) later);
 }
 
 -- what was known of a picture, as the history of the next version

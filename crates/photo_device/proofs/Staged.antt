@@ -1,5 +1,5 @@
 -- What is true of a device on which a change is staged, and after its commit.
-use Rattle.std.proofs.Common.{◌≡◌, ℕ, ◌+◌, ◌≤◌, ◌<◌, Bool, true, false, not, cond, ◌||◌, List, [], ◌∷◌, ◌++◌, length, refl, sym, ap, ◌∙◌, arith, subst, inl, inr}
+use Rattle.std.proofs.Common.{◌≡◌, ◌+◌, ◌≤◌, Bool, true, false, not, cond, ◌||◌, List, [], ◌∷◌, ◌++◌, length, refl, sym, ap, ◌∙◌, arith, subst, inl, inr}
 use Rattle.std.specs.Prelude.{filter, Option, Some, None, is_some, IfSome}
 use Rattle.std.specs.List.{AllByRecursion}
 use Rattle.std.proofs.Math.Bool.{or-true}
@@ -7,7 +7,7 @@ use Rattle.std.proofs.lemmas.Bool.{cases_Bool, false≢true}
 use Rattle.std.proofs.lemmas.List.Elements.{filter-append}
 use Rattle.photo_filter_text.specs.Tree.{Tree}
 use Rattle.photo_filter_rules.specs.Matching.{matches}
-use Rattle.photo_version.specs.Version.{Version, version}
+use Rattle.photo_version.specs.Version.{Version}
 use Rattle.item_knowledge.specs.Fragments.{Fragment, knows, is_normal}
 use Rattle.item_knowledge.specs.Staged.{Knowing, settled, IsStagedUnion}
 use Rattle.photo_device.specs.declared.held.Held.{Held}
@@ -16,9 +16,9 @@ use Rattle.photo_device.specs.Ordered.{put}
 use Rattle.photo_device.specs.Entry.{Entry, put_entries, without}
 use Rattle.photo_device.specs.Held.{entries_of, held_before, count_of, find_version, is_listed, helds_without, put_helds, RoomyHelds}
 use Rattle.photo_device.specs.Device.{Kept, Staging, ModelDevice, Shows, changed, unstaged, IsAsItWas}
-use Rattle.photo_device.specs.Own.{HasEarlier, IsKnownBy, IsDevice}
+use Rattle.photo_device.specs.Own.{HasEarlier, IsKnownBy, IsDevice, KnowsNoMore}
 use Rattle.photo_device.specs.Taking.{is_on_side, AreNewTo, with_side}
-use Rattle.photo_device.specs.Staging.{HasStaged, MayHand, MayStage, staging_of, IsAhead, IsPrepared, AreParts}
+use Rattle.photo_device.specs.Staging.{HasStaged, MayHand, MayStage, staging_of, IsAhead, IsPrepared, FitsWhatIsPrepared, AreParts}
 use Rattle.photo_device.proofs.AllLemmas.{all_append}
 use Rattle.photo_device.proofs.Counts.{count_of-append, count_of-filter}
 use Rattle.photo_device.proofs.OwnLemmas.{known_later}
@@ -89,7 +89,7 @@ has_staged None p gain old new union staged rest = absurd (false≢true union.th
 has_staged (Some fs) p gain old new union staged rest = record { rest = rest; knowledge = fs; staged = staged; learned = union.pairs }
 
 pub is_ahead : (o : Option (List Fragment)) (takes : List Held) (gain : List Fragment) (d : Kept) → IsStagedUnion o d.knowledge gain → is_normal gain ≡ true → AllByRecursion (IsKnownBy gain) takes
-    → ((p n : ℕ) → 0 < p → knows gain p (version d.author n) ≡ true → n ≤ d.counter) → IsDevice d → IfSome o (λ fs. IsAhead fs takes d)
+    → KnowsNoMore d.author d.counter gain → IsDevice d → IfSome o (λ fs. IsAhead fs takes d)
 is_ahead None takes gain d union normal known own is = tt
 is_ahead (Some fs) takes gain d union normal known own is = record {
   own = own_still d.author d.counter gain d.knowledge fs normal own (record { star = union.star; learned = union.pairs }) is.knows;
@@ -290,7 +290,7 @@ stages new p gain d known union normal may store_most store_more out_most out_mo
 
 -- where nothing is staged nothing is prepared, whatever else of the device is new
 pub none_fits : (prepared : Option Prepared) (o : Option (List Fragment)) (d e : Kept) → AreParts prepared o d → staging_of prepared o ≡ None → IsDevice e → AreParts prepared o e
-none_fits None o d e parts none is = record { device = is; fits = tt }
+none_fits None o d e parts none is = record { device = is; fits = parts.fits }
 none_fits (Some p) None d e parts none is = absurd (false≢true parts.fits.there)
 none_fits (Some p) (Some fs) d e parts none is = absurd (false≢true (sym (ap is_some none)))
 
@@ -303,7 +303,7 @@ pub record IsCommitting (p : Prepared) (o : Option (List Fragment)) (handed : Li
 pub committing : (prepared : Option Prepared) (o : Option (List Fragment)) (p : Prepared) (handed : List Held) (d now : Kept) → prepared ≡ Some p → record d { staged = staging_of prepared o } ≡ now
     → AreParts prepared o d → IfSome now.staged (λ s. MayHand handed s now) → IsCommitting p o handed d
 committing prepared o p handed d now is same parts may = record {
-  prepared = subst (λ (q : Option Prepared). IfSome q (λ x. IsPrepared x o d)) is parts.fits;
+  prepared = subst (λ (q : Option Prepared). FitsWhatIsPrepared q o d) is parts.fits;
   may = may_hand prepared o p handed d is (subst (λ (e : Kept). IfSome e.staged (λ s. MayHand handed s e)) (sym same) may);
 }
 
@@ -343,8 +343,13 @@ out_fits p o handed d are =
 is_known : (o : Option (List Fragment)) (new : Knowing) → IfSome o (λ s. new ≡ settled s) → IfSome o (λ fs. new.known ≡ fs)
 is_known o new is = IfSome_then o is (λ s same. ap (λ (k : Knowing). k.known) same)
 
+-- after the commit nothing is staged in what is known
+none_left : (o : Option (List Fragment)) (new : Knowing) → IfSome o (λ s. new ≡ settled s) → is_some o ≡ true → new.staged ≡ None
+none_left None new is there = absurd (false≢true there)
+none_left (Some s) new is there = ap (λ (k : Knowing). k.staged) is
+
 pub commits : (o : Option (List Fragment)) (new : Knowing) (p : Prepared) (handed : List Held) (d : Kept) → IfSome o (λ s. new ≡ settled s) → IsCommitting p o handed d → IsDevice d → AreParts None new.staged (committed p handed new.known d)
-commits o new p handed d is are device = record { device = commits_device o new.known p handed d (is_known o new is) are.prepared are.may device; fits = tt }
+commits o new p handed d is are device = record { device = commits_device o new.known p handed d (is_known o new is) are.prepared are.may device; fits = none_left o new is are.prepared.there }
 
 pub shows_after : (prepared : Option Prepared) (o : Option (List Fragment)) (new : Knowing) (p : Prepared) (handed : List Held) (d now after : Kept) → prepared ≡ Some p → record d { staged = staging_of prepared o } ≡ now → d.staged ≡ None
     → IfSome o (λ s. new ≡ settled s) → IsCommitting p o handed d → after ≡ committed p handed new.known d

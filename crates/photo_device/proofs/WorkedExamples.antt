@@ -1,15 +1,16 @@
 -- The worked examples: what a number or a version stands for computes, and what holds of all is shown.
-use Rattle.std.proofs.Common.{◌≡◌, ℕ, ◌≤◌, Bool, true, false, cond, ltb, leb, ◌&&◌, ◌||◌, List, [], ◌∷◌, length, refl, sym, ap, ◌∙◌, inl, inr, arith, subst}
+use Rattle.std.proofs.Common.{◌≡◌, ℕ, ◌≤◌, Bool, true, false, cond, eqb, ltb, leb, ◌/◌, ◌&&◌, ◌||◌, List, [], ◌∷◌, length, refl, sym, ap, ◌∙◌, inl, inr, arith, subst}
 use Rattle.std.specs.Prelude.{Option, Some, None, is_some}
-use Rattle.std.proofs.lemmas.Bool.{and_parts, leb-true, lt-leb, le-leb, le-ltb, cases_lt, cases_Bool, false≢true}
-use Rattle.photo_version.specs.Version.{Version, same_version}
+use Rattle.std.proofs.lemmas.Bool.{and_parts, leb-true, ltb-true, eqb-true, ne_eqb, lt-leb, le-leb, le-ltb, cases_lt, cases_Bool, false≢true}
+use Rattle.photo_version.specs.Author.{author, author_at, is_earlier_epoch, device_of_author}
+use Rattle.photo_version.specs.Version.{Version, version, same_version}
 use Rattle.item_knowledge.specs.Entries.{denotes_one}
 use Rattle.item_knowledge.specs.Fragments.{Fragment, knows, lists}
 use Rattle.photo_device.specs.declared.held.Held.{Held}
 use Rattle.photo_device.specs.Held.{count_of}
 use Rattle.photo_device.specs.Device.{Kept, Staging}
 use Rattle.photo_device.specs.Own.{HasEarlier, IsKnownBy}
-use Rattle.photo_device.specs.Examples.{nth, first, edited, other, gain, learned, MayStageAsTold, HasStagedAsTold, MayHandAsTold}
+use Rattle.photo_device.specs.Examples.{bound, nth, first, edited, other, gain, learned, MayStageAsTold, HasStagedAsTold, MayHandAsTold}
 use Rattle.photo_device.proofs.Counts.{one_of, count_of-cons, same_version_is}
 
 no : false ≡ true → ⊥
@@ -38,7 +39,7 @@ edited_known : IsKnownBy gain edited
 edited_known = record {
   above = omega arith;
   itself = refl;
-  history = λ v e. first_of_two (denotes_one (0, 1) v) (denotes_one (1, 1) v) e;
+  history = λ v e. first_of_two (denotes_one (bound 0 1) v) (denotes_one (bound 1 1) v) e;
 }
 
 other_known : IsKnownBy learned other
@@ -51,6 +52,33 @@ own_part true true false e = e
 own_part true false false e = e
 own_part false true a e = absurd (no e)
 own_part false false a e = absurd (no e)
+
+-- no version of a later epoch of the camera is learned
+
+record IsOther (v : Version) : Type 0 where
+  first : eqb 0 v.author.word ≡ false
+  second : eqb 4294967296 v.author.word ≡ false
+  third : eqb 8589934592 v.author.word ≡ false
+
+other_word : (v : Version) → is_earlier_epoch (author 0) v.author ≡ true → IsOther v
+other_word v later =
+    let parts = and_parts (eqb 0 (device_of_author v.author)) (ltb 0 v.author.word) later in
+    let device : 0 ≡ v.author.word / 4294967296 = eqb-true 0 (device_of_author v.author) parts.0 in
+    let less = ltb-true 0 v.author.word parts.1 in
+    record {
+      first = ne_eqb 0 v.author.word (λ e. omega arith);
+      second = ne_eqb 4294967296 v.author.word (λ e. omega arith);
+      third = ne_eqb 8589934592 v.author.word (λ e. omega arith);
+    }
+
+none_later : (l m : Bool) (v : Version) → IsOther v → ((l && (denotes_one (bound 0 1) v || (denotes_one (bound 1 1) v || false))) || ((m && (denotes_one (bound 2 1) v || false)) || false)) ≡ false
+none_later l m v other = rw (other.first, other.second, other.third) (nothing l m)
+  where
+    nothing : (a b : Bool) → ((a && (false || (false || false))) || ((b && (false || false)) || false)) ≡ false
+    nothing true true = refl
+    nothing true false = refl
+    nothing false true = refl
+    nothing false false = refl
 
 abbrev number : Bool → ℕ
 number b = cond b 1 0
@@ -87,11 +115,14 @@ may_stage_as_told = record {
     distinct = λ v. alone v edited;
     earlier = (edited_earlier, tt);
     known = (edited_known, tt);
-    own = λ p n above e.
-        let there : (leb 1 n && leb n 1) ≡ true = own_part (lists (7 ∷ []) p) (lists (9 ∷ []) p) (leb 1 n && leb n 1) e in
-        leb-true n 1 (and_parts (leb 1 n) (leb n 1) there).1;
+    own = record {
+      own = λ p n above e.
+          let there : (leb 1 n && leb n 1) ≡ true = own_part (lists (7 ∷ []) p) (lists (9 ∷ []) p) (leb 1 n && leb n 1) e in
+          leb-true n 1 (and_parts (leb 1 n) (leb n 1) there).1;
+      later = λ p v above later. none_later (lists (7 ∷ []) p) (lists (9 ∷ []) p) v (other_word v later);
+    };
   };
-  none = record { held = tt; new = tt; distinct = λ v. omega arith; earlier = tt; known = tt; own = λ p n above e. absurd (no e) };
+  none = record { held = tt; new = tt; distinct = λ v. omega arith; earlier = tt; known = tt; own = record { own = λ p n above e. absurd (no e); later = λ p v above later. refl } };
   not_held = λ m. no m.held.0;
   found = refl;
   held = λ m. no (sym (ap is_some m.new.0));
@@ -101,7 +132,8 @@ may_stage_as_told = record {
   not_learned = λ m. no m.known.0.itself;
   no_history = λ m. no (m.known.0.history (nth 0 1) refl);
   of_another = λ m. no m.known.0.itself;
-  not_made = λ m. let bad : 2 ≤ 1 = m.own 9 2 (omega arith) refl in omega arith;
+  not_made = λ m. let bad : 2 ≤ 1 = m.own.own 9 2 (omega arith) refl in omega arith;
+  too_late = λ m. no (sym (m.own.later 9 (version (author_at 0 1) 1) (omega arith) refl));
 }
 
 -- what will be known is what is known and what is gained, of a picture that is 7 (l), 9 (m) or neither
@@ -125,7 +157,7 @@ has_staged_as_told = record {
     rest = refl;
     knowledge = learned;
     staged = refl;
-    learned = λ p v above. joined (denotes_one (0, 1) v) (denotes_one (1, 1) v) (denotes_one (2, 1) v) (lists (7 ∷ []) p) (lists (9 ∷ []) p);
+    learned = λ p v above. joined (denotes_one (bound 0 1) v) (denotes_one (bound 1 1) v) (denotes_one (bound 2 1) v) (lists (7 ∷ []) p) (lists (9 ∷ []) p);
   };
   not_yet = refl;
   will = refl;

@@ -4,7 +4,7 @@ use Rattle.std.specs.Prelude.{ℕ, List, Option, refl}
 use Rattle.std.specs.Coded.{Coded, code_by, coded×, coded_ℕ, coded_list, coded_option}
 use Rattle.photo_filter_text.specs.Tree.{Tree}
 use Rattle.photo_filter_rules.specs.Coding.{tree_code}
-use Rattle.photo_version.specs.Author.{Author, author}
+use Rattle.photo_version.specs.Author.{Author, author_of_word}
 use Rattle.photo_version.specs.Version.{Version, version}
 use Rattle.photo_device.specs.declared.held.Held.{Held}
 use Rattle.photo_device.specs.contracts.held.Held as held
@@ -20,7 +20,7 @@ abbrev pub helds_code : Coded (List Held)
 helds_code = coded_list held_code
 
 abbrev pub author_code : Coded Author
-author_code = code_by ℕ coded_ℕ (λ a. a.device) author (λ _. refl)
+author_code = code_by ℕ coded_ℕ (λ a. a.word) author_of_word (λ _. refl)
 
 abbrev pub version_code : Coded Version
 version_code = code_by (Author × ℕ) (coded× author_code coded_ℕ) (λ v. (v.author, v.number)) (λ p. version p.0 p.1) (λ _. refl)

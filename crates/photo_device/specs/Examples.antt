@@ -3,7 +3,7 @@ use Rattle.std.specs.Prelude.{◌≡◌, ℕ, true, false, pos, List, [], ◌∷
 use Rattle.photo_record.specs.declared.record.Record.{Record}
 use Rattle.photo_record.specs.declared.record.Record.TheVariants.{Picture}
 use Rattle.photo_filter_text.specs.Tree.{All}
-use Rattle.photo_version.specs.Author.{author}
+use Rattle.photo_version.specs.Author.{author, author_at, author_word}
 use Rattle.photo_version.specs.Version.{Version, version}
 use Rattle.photo_version.specs.Vector.{Bound}
 use Rattle.item_knowledge.specs.Fragments.{Fragment, knows}
@@ -18,6 +18,10 @@ bright = Picture 5 (pos 19_844) []
 -- a version of the device at a place
 abbrev pub nth : ℕ → ℕ → Version
 nth place number = version (author place) number
+
+-- the bound of the device at a place
+abbrev pub bound : ℕ → ℕ → ℕ × ℕ
+bound place number = (author_word (author place), number)
 
 abbrev pub of : List ℕ → List (ℕ × ℕ) → Fragment
 of pictures entries = record { pictures = pictures; entries = entries }
@@ -44,17 +48,17 @@ camera = record {
   counter = 1;
   store = first ∷ [];
   out = [];
-  knowledge = of [] ((0, 1) ∷ []) ∷ [];
+  knowledge = of [] (bound 0 1 ∷ []) ∷ [];
   staged = None;
 }
 
 -- what it is to learn: of picture 7 the edit with what that was made with, and of picture 9 the version there is
 abbrev pub gain : List Fragment
-gain = of [] [] ∷ of (7 ∷ []) ((0, 1) ∷ (1, 1) ∷ []) ∷ of (9 ∷ []) ((2, 1) ∷ []) ∷ []
+gain = of [] [] ∷ of (7 ∷ []) (bound 0 1 ∷ bound 1 1 ∷ []) ∷ of (9 ∷ []) (bound 2 1 ∷ []) ∷ []
 
 -- what it will know then
 abbrev pub learned : List Fragment
-learned = of [] ((0, 1) ∷ []) ∷ of (7 ∷ []) ((0, 1) ∷ (1, 1) ∷ []) ∷ of (9 ∷ []) ((0, 1) ∷ (2, 1) ∷ []) ∷ []
+learned = of [] (bound 0 1 ∷ []) ∷ of (7 ∷ []) (bound 0 1 ∷ bound 1 1 ∷ []) ∷ of (9 ∷ []) (bound 0 1 ∷ bound 2 1 ∷ []) ∷ []
 
 -- the change by which the edit takes the place of the first version, with room for one that is handed over
 abbrev pub change : Staging
@@ -77,13 +81,15 @@ pub record MayStageAsTold : Type 0 where
   pub count : count_of (nth 1 1) (edited ∷ edited ∷ []) ≡ 2
   pub twice : MayStage (nth 0 1 ∷ []) (edited ∷ edited ∷ []) gain camera → ⊥
   -- one is taken that is its author's second, and was made without the first
-  pub gap : MayStage [] (held_of 7 (nth 1 2) [] ∷ []) (of [] ((1, 2) ∷ []) ∷ []) camera → ⊥
+  pub gap : MayStage [] (held_of 7 (nth 1 2) [] ∷ []) (of [] (bound 1 2 ∷ []) ∷ []) camera → ⊥
   -- one is taken and not learned, or without what it was made with, or of another picture alone
   pub not_learned : MayStage (nth 0 1 ∷ []) (edited ∷ []) [] camera → ⊥
-  pub no_history : MayStage (nth 0 1 ∷ []) (edited ∷ []) (of [] [] ∷ of (7 ∷ []) ((1, 1) ∷ []) ∷ []) camera → ⊥
-  pub of_another : MayStage (nth 0 1 ∷ []) (edited ∷ []) (of [] [] ∷ of (9 ∷ []) ((0, 1) ∷ (1, 1) ∷ []) ∷ []) camera → ⊥
+  pub no_history : MayStage (nth 0 1 ∷ []) (edited ∷ []) (of [] [] ∷ of (7 ∷ []) (bound 1 1 ∷ []) ∷ []) camera → ⊥
+  pub of_another : MayStage (nth 0 1 ∷ []) (edited ∷ []) (of [] [] ∷ of (9 ∷ []) (bound 0 1 ∷ bound 1 1 ∷ []) ∷ []) camera → ⊥
   -- the camera learns of a second version of its own, and has made one
-  pub not_made : MayStage [] [] (of [] [] ∷ of (9 ∷ []) ((0, 2) ∷ []) ∷ []) camera → ⊥
+  pub not_made : MayStage [] [] (of [] [] ∷ of (9 ∷ []) (bound 0 2 ∷ []) ∷ []) camera → ⊥
+  -- it learns of a version of a later epoch of its own
+  pub too_late : MayStage [] [] (of [] [] ∷ of (9 ∷ []) ((author_word (author_at 0 1), 1) ∷ []) ∷ []) camera → ⊥
 
 -- what staging the change leaves, and, before a ⊥, what it doesn't
 pub record HasStagedAsTold : Type 0 where
@@ -102,7 +108,7 @@ pub record HasStagedAsTold : Type 0 where
   -- the edit will not be known
   pub forgotten : HasStaged (nth 0 1 ∷ []) (edited ∷ []) gain 1 camera (record camera { staged = Some (record change { knowledge = camera.knowledge }) }) → ⊥
   -- it will be known of every picture
-  pub of_every : HasStaged (nth 0 1 ∷ []) (edited ∷ []) gain 1 camera (record camera { staged = Some (record change { knowledge = of [] ((0, 1) ∷ (1, 1) ∷ (2, 1) ∷ []) ∷ [] }) }) → ⊥
+  pub of_every : HasStaged (nth 0 1 ∷ []) (edited ∷ []) gain 1 camera (record camera { staged = Some (record change { knowledge = of [] (bound 0 1 ∷ bound 1 1 ∷ bound 2 1 ∷ []) ∷ [] }) }) → ⊥
 
 -- which versions may be handed to the camera with that change, and, before a ⊥, which may not
 pub record MayHandAsTold : Type 0 where

@@ -5,6 +5,8 @@ pub mod Rising
 pub mod Marks
 pub mod Noted
 pub mod Device
+pub mod Telling
+pub mod Refiltered
 pub mod Conflicts
 pub mod Learning
 pub mod Listing

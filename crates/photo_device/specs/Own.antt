@@ -1,8 +1,8 @@
 -- What a device knows of its own versions, and a held version of those that its author made before it: just what there
 -- is. So a bound for each author stands for a plain set of versions. And what is held is known, and held once.
-use Rattle.std.specs.Prelude.{◌≡◌, ℕ, ◌+◌, ◌<◌, ◌≤◌, true, ◌&&◌, ◌||◌, nat_le, nat_lt, List, ◌++◌, None}
+use Rattle.std.specs.Prelude.{◌≡◌, ℕ, ◌+◌, ◌<◌, ◌≤◌, true, false, ◌&&◌, ◌||◌, nat_le, nat_lt, List, ◌++◌, None}
 use Rattle.std.specs.List.{AllByRecursion}
-use Rattle.photo_version.specs.Author.{Author}
+use Rattle.photo_version.specs.Author.{Author, is_earlier_epoch}
 use Rattle.photo_version.specs.Version.{Version, version, same_version}
 use Rattle.photo_version.specs.Vector.{denotes}
 use Rattle.item_knowledge.specs.Fragments.{Fragment, knows}
@@ -16,10 +16,21 @@ use Rattle.photo_device.specs.Device.{Kept, held_at}
 pub record HasEarlier (held : Held) : Type 0 where
   pub own : (n : ℕ) → denotes held.made_with (version held.version.author n) ≡ (nat_le 1 n && nat_lt n held.version.number)
 
--- of the author, just the versions from 1 to the counter are known, and they are known of every picture
+-- of the later epochs of an author's device no version is known
+abbrev pub KnowsNoLater : Author → List Fragment → Type 0
+KnowsNoLater author knowledge = (picture : ℕ) (v : Version) → 0 < picture → is_earlier_epoch author v.author ≡ true → knows knowledge picture v ≡ false
+
+-- of the author, no version above the counter is known, and none of a later epoch of its device
+pub record KnowsNoMore (author : Author) (counter : ℕ) (knowledge : List Fragment) : Type 0 where
+  pub own : (picture n : ℕ) → 0 < picture → knows knowledge picture (version author n) ≡ true → n ≤ counter
+  pub later : KnowsNoLater author knowledge
+
+-- of the author, just the versions from 1 to the counter are known, and they are known of every picture; and of later
+-- epochs of its device none
 pub record KnowsItsOwn (author : Author) (counter : ℕ) (knowledge : List Fragment) : Type 0 where
   pub star : star_bound knowledge author ≡ counter
   pub own : (picture n : ℕ) → 0 < picture → knows knowledge picture (version author n) ≡ (nat_le 1 n && nat_le n counter)
+  pub later : KnowsNoLater author knowledge
 
 -- of its picture, a held version is known, with all that it was made with
 pub record IsKnownBy (knowledge : List Fragment) (held : Held) : Type 0 where

@@ -1,13 +1,13 @@
 -- A change that is staged on a device, and committed later together with versions that are handed over.
 use Rattle.std.specs.Prelude.{◌≡◌, ℕ, ◌+◌, ◌≤◌, ◌<◌, true, ◌||◌, List, ◌++◌, length, Option, None, Some, is_some, IfSome}
 use Rattle.std.specs.List.{AllByRecursion}
-use Rattle.photo_version.specs.Version.{Version, version}
+use Rattle.photo_version.specs.Version.{Version}
 use Rattle.item_knowledge.specs.Fragments.{Fragment, knows}
 use Rattle.photo_device.specs.declared.held.Held.{Held}
 use Rattle.photo_device.specs.declared.prepared.Prepared.{Prepared}
 use Rattle.photo_device.specs.Held.{find_version, count_of}
 use Rattle.photo_device.specs.Device.{Kept, Staging, IsAsItWas}
-use Rattle.photo_device.specs.Own.{HasEarlier, IsDevice, IsKnownBy, KnowsItsOwn}
+use Rattle.photo_device.specs.Own.{HasEarlier, IsDevice, IsKnownBy, KnowsItsOwn, KnowsNoMore}
 
 -- a change is staged on a device that is otherwise as it was: what will be known is what is known and what is gained
 pub record HasStaged (drops : List Version) (takes : List Held) (gain : List Fragment) (room : ℕ) (old new : Kept) : Type 0 where
@@ -33,9 +33,9 @@ pub record MayStage (drops : List Version) (takes : List Held) (gain : List Frag
   pub new : AllByRecursion (λ h. find_version h.version (d.store ++ d.out) ≡ None) takes
   pub distinct : (v : Version) → count_of v takes ≤ 1
   pub earlier : AllByRecursion HasEarlier takes
-  -- each is learned with its history, and of the device's own versions none that it hasn't made
+  -- each is learned with its history, and of the device's own versions none that it hasn't made, nor any of a later epoch of its
   pub known : AllByRecursion (IsKnownBy gain) takes
-  pub own : (p n : ℕ) → 0 < p → knows gain p (version d.author n) ≡ true → n ≤ d.counter
+  pub own : KnowsNoMore d.author d.counter gain
 
 -- Machinery of the proofs: what a device keeps for a change that is staged
 
@@ -64,7 +64,12 @@ pub record IsPrepared (p : Prepared) (knowledge : Option (List Fragment)) (d : K
   pub out : length d.out ≤ p.in_out.most
   pub out_room : length p.takes + p.room ≤ p.in_out.more
 
+-- what is prepared fits the device, and where nothing is prepared, its knowledge has nothing staged either
+abbrev pub FitsWhatIsPrepared : Option Prepared → Option (List Fragment) → Kept → Type 0
+FitsWhatIsPrepared None knowledge d = knowledge ≡ None
+FitsWhatIsPrepared (Some p) knowledge d = IsPrepared p knowledge d
+
 -- the parts of a device fit together: what it keeps with nothing staged is a device
 pub record AreParts (prepared : Option Prepared) (knowledge : Option (List Fragment)) (d : Kept) : Type 0 where
   pub device : IsDevice d
-  pub fits : IfSome prepared (λ p. IsPrepared p knowledge d)
+  pub fits : FitsWhatIsPrepared prepared knowledge d

@@ -1,3 +1,4 @@
+// A change that may be staged on a device.
 use crate::{SharedList, VersionList};
 use item_knowledge::Knowledge;
 

@@ -1,3 +1,4 @@
+// A picture of which a device holds more than one version.
 use crate::VersionList;
 use photo_record::PicNo;
 

@@ -1,8 +1,10 @@
-ghost use Rattle.std.specs.Prelude.{◌≡◌, ◌+◌, IfOk, OnOk, OnErr};
+// A device: what it is seen as, and its calls.
+ghost use Rattle.std.specs.Prelude.{◌≡◌, ◌+◌, None, IfOk, OnOk, OnErr};
 ghost use Rattle.item_knowledge.specs.Kept.{star_bound};
 ghost use Rattle.photo_device.specs.Device.{store_with, out_with};
 ghost use Rattle.photo_device.specs.Learning.{IsOwnLearned};
 
+use crate::anew::{Anew, held_anew};
 use crate::drops::give_up;
 use crate::noted_knowledge::NotedKnowledge;
 use crate::prepared::Prepared;
@@ -71,12 +73,14 @@ impl Device {
     ghost use Rattle.photo_device.specs.Entry.{find_entry};
     ghost use Rattle.photo_device.specs.Held.{are_in_order, find_version, find_version_of, has_picture, count_of, times_in};
     ghost use Rattle.photo_device.specs.Held.{entry_of, entries_of, helds_at};
-    ghost use Rattle.photo_device.specs.Own.{HasEarlier, HasMade, IsDevice, IsKnownBy, IsNext, KnowsItsOwn};
+    ghost use Rattle.photo_device.specs.Own.{HasEarlier, HasMade, IsDevice, IsKnownBy, IsNext, KnowsItsOwn, KnowsNoMore};
     ghost use Rattle.photo_device.specs.Staging.{HasStaged, MayHand, MayStage};
+    ghost use Rattle.photo_version.specs.Author.{epoch_of_author};
     ghost use Rattle.photo_version.specs.Version as versions;
     ghost use Rattle.item_knowledge.specs.Fragments.{knows};
     ghost use Rattle.photo_device.specs.Device.{ModelDevice, Shows, holds, is_held, opening, unstaged, IsAsItWas};
     ghost use Rattle.photo_device.specs.Device.{made, next_version, new_place, changed, without_waiting, narrowed, moved};
+    ghost use Rattle.photo_device.specs.Refiltered.{refiltered};
     ghost use Rattle.photo_device.specs.Conflicts.{conflicts_of};
     ghost use Rattle.photo_record.specs.declared.record.Record.TheVariants.{Removed};
     ghost use Rattle.photo_device.specs.declared.fault.ChangeFault.TheVariants.{NotHeld};
@@ -258,6 +262,17 @@ impl Device {
         self.knowledge.unknown_of(alloc, set)
     }
 
+    /// The same, where the device may not be changed: it reads what it has noted, and notes nothing.
+    ///
+    /// Its only error is want of memory, and none is wanted where it knows all.
+    pub fn unknown_by(&self, alloc: Global, set: &HeldSet) -> Result<Vec<SharedHeld>, AllocError>
+        ensures items { IfOk result (λ found. found.items
+            ≡ filter (λ h. not (knows self.now.knowledge h.picture h.version)) set.now) }
+        ensures ordered { IfOk result (λ found. are_in_order found.items ≡ true) }
+    {
+        self.knowledge.unknown_by(alloc, set)
+    }
+
     /// What it holds of a version, in the store or in the out.
     pub fn held(&self, version: Version) -> Option<&Held>
         ensures { option_copied result ≡ find_version version (self.now.store ++ self.now.out) }
@@ -334,7 +349,7 @@ impl Device {
         requires distinct { (v : versions.Version) → count_of v change.takes ≤ 1 }
         requires earlier { AllByRecursion HasEarlier change.takes }
         requires known { AllByRecursion (IsKnownBy change.gain.known) change.takes }
-        requires own { (p n : ℕ) → 0 < p → knows change.gain.known p (versions.version self.old.author n) ≡ true → n ≤ self.old.counter }
+        requires own { KnowsNoMore self.old.author self.old.counter change.gain.known }
         ensures staged { OnOk result (HasStaged change.drops change.takes change.gain.known room self.old self.new) }
         ensures err { OnErr result (IsAsItWas self.old self.new) }
         ensures unstaged { OnErr result (self.new.staged ≡ None) }
@@ -490,6 +505,42 @@ impl Device {
         Ok((before - self.store.len()) as u64)
     }
 
+    /// Is to keep from now on what any filter matches, and begins its next epoch as an author. What it holds is sorted anew
+    /// into the store and the out, and it has made nothing then, and knows what this tells and no more. Gives how many
+    /// versions are in the store then, and in the out.
+    ///
+    /// Its only error is want of memory, which leaves the device as it was and gives the filter back. Nothing is staged
+    /// then in any case.
+    pub fn refilter(&mut self, filter: Filter) -> Result<(u64, u64), (Filter, AllocError)>
+        requires { epoch_of_author self.old.author < 4_294_967_295 }
+        ensures shows { OnOk result ((m : ModelDevice) → Shows self.old m → Shows self.new (refiltered filter m)) }
+        ensures store { IfOk result (λ sizes. sizes.0 ≡ length self.new.store) }
+        ensures out { IfOk result (λ sizes. sizes.1 ≡ length self.new.out) }
+        ensures returned { IfErr result (λ e. e.0 ≡ filter) }
+        ensures err { OnErr result (IsAsItWas self.old self.new) }
+        ensures staged { self.new.staged ≡ None }
+    {
+        self.unstage();
+        let Some(author) = self.author.next() else {
+            unreachable!()
+        };
+        let anew = match held_anew(&filter, &self.store, &self.out) {
+            Ok(anew) => anew,
+            Err(refused) => return Err((filter, refused)),
+        };
+        let Anew { store, out, told } = anew;
+        let sizes = (store.len() as u64, out.len() as u64);
+        self.author = author;
+        self.filter = filter;
+        self.counter = 0;
+        // What was noted of the old knowledge need not be known any more.
+        self.knowledge = NotedKnowledge::new(store.alloc(), told);
+        self.store = store;
+        self.out = out;
+        self.prepared = None;
+        Ok(sizes)
+    }
+
     /// The same device with another knowledge, which has what every device has to know, and nothing staged.
     pub(crate) fn with(self, knowledge: Knowledge) -> Device
         requires own { KnowsItsOwn self.author self.counter knowledge.known }
@@ -497,6 +548,8 @@ impl Device {
         requires out { AllByRecursion (IsKnownBy knowledge.known) self.out }
         ensures { result ≡ record self { knowledge = knowledge.known; staged = None } }
     {
+        let mut knowledge = knowledge;
+        knowledge.unstage();
         let mut device = self;
         device.prepared = None;
         device.knowledge = NotedKnowledge::new(device.store.alloc(), knowledge);
@@ -523,7 +576,8 @@ impl Device {
 // What is known, and of every picture its author's next version as well. Its only error is want of memory.
 fn with_own(known: &Knowledge, version: Version) -> Result<Knowledge, AllocError>
     requires { version.number ≡ star_bound known.now.known version.author + 1 }
-    ensures { IfOk result (λ knowledge. IsOwnLearned version known.now.known knowledge.known) }
+    ensures learned { IfOk result (λ knowledge. IsOwnLearned version known.now.known knowledge.known) }
+    ensures staged { IfOk result (λ knowledge. knowledge.staged ≡ None) }
 {
     let mut knowledge = known.try_clone()?;
     knowledge.learn_own(version)?;

@@ -1,3 +1,4 @@
+// Versions that a device gives up.
 ghost use Rattle.std.specs.Prelude.{◌≡◌, ◌+◌, ◌≤◌, true, false, [], ◌∷◌, length, drop};
 ghost use Rattle.photo_version.specs.Version as spec;
 ghost use Rattle.photo_device.specs.Held.{count_of, helds_without};

@@ -1,3 +1,4 @@
+// Why a device refuses a change or a filter.
 ghost use Rattle.std.specs.Prelude.{◌≡◌};
 ghost use Rattle.photo_device.specs.declared.fault.ChangeFault.TheVariants.{NoMemory};
 

@@ -1,3 +1,4 @@
+// A held version, with what it was made with and its record.
 ghost use Rattle.std.specs.Prelude.{◌≡◌, IfOk};
 
 use photo_record::{PicNo, Record};

@@ -1,3 +1,4 @@
+// Sets of held versions, in the order of their pictures.
 ghost use Rattle.std.specs.Prelude.{◌≡◌};
 ghost use Rattle.std.specs.Option.{option_copied};
 ghost use Rattle.photo_device.specs.Held.{find_version};

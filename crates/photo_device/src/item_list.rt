@@ -1,3 +1,4 @@
+// Lists that contracts see as the list of their items.
 use std::marker::Model;
 
 /// A list of what a device tells, as a report or a log has it. Contracts see it as the list of its items.

@@ -1,6 +1,7 @@
 //! A device of the household: the versions that it made and holds.
 #![tactic(auto)]
 
+mod anew;
 mod change;
 mod conflict;
 mod conflicts;
@@ -20,6 +21,7 @@ mod range;
 mod roomy_set;
 mod shared_held;
 mod sought;
+mod table;
 mod takes;
 
 pub use block_list::Spot;
@@ -33,6 +35,7 @@ pub use item_list::ItemList;
 use photo_version::Version;
 pub use place::Place;
 pub use shared_held::SharedHeld;
+pub use table::{gain_of, table_of};
 
 /// Held versions that are shared, in an order.
 pub type SharedList = ItemList<SharedHeld>;
@@ -42,6 +45,3 @@ pub type VersionList = ItemList<Version>;
 
 /// Conflicts, in an order.
 pub type ConflictList = ItemList<Conflict>;
-
-#[cfg(test)]
-mod tests;

@@ -1,3 +1,4 @@
+// Marks of versions, by which most searches end at once.
 ghost use Rattle.std.specs.Prelude.{◌≡◌, ℕ, ◌<◌, true, false, get_or};
 ghost use Rattle.photo_device.specs.Marks.{mark_of, AreMarked};
 

@@ -1,3 +1,4 @@
+// What a device knows, with notes of what it was found to know.
 ghost use Rattle.std.specs.Prelude.{◌≡◌, ◌++◌, true, not, filter, OnOk};
 ghost use Rattle.item_knowledge.specs.Fragments.{knows};
 ghost use Rattle.photo_device.specs.Noted.{AreKnown};
@@ -137,9 +138,63 @@ impl NotedKnowledge {
         }
         Ok(found)
     }
+
+    /// The same, by the notes that there are: none is made.
+    pub fn unknown_by(&self, alloc: Global, set: &HeldSet) -> Result<Vec<SharedHeld>, AllocError>
+        ensures items { IfOk result (λ found. found.items
+            ≡ filter (λ h. not (knows self.now.known h.picture h.version)) set.now) }
+        ensures ordered { IfOk result (λ found. are_in_order found.items ≡ true) }
+    {
+        let mut found = Vec::new(alloc);
+        let mut hint = 0;
+        for block in set.blocks() {
+            push_unnoted(&mut found, &self.noted, &self.knowledge, &mut hint, block)?;
+        }
+        Ok(found)
+    }
 }
 
-// Puts copies of those of a list that aren't known behind others. Any hint will do.
+// Whether a version is noted or known. Any hint will do.
+fn is_known(
+    noted: &NotedVersions,
+    knowledge: &Knowledge,
+    hint: &mut usize,
+    held: &SharedHeld,
+) -> bool
+    requires { AreKnown knowledge.now.known noted.now.rows.items }
+    ensures { result ≡ knows knowledge.now.known held.now.picture held.now.version }
+{
+    let (picture, version) = (held.picture(), held.version());
+    if noted.has(picture, version) {
+        return true;
+    }
+    let (known, next) = knowledge.knows_near(*hint, picture, version);
+    *hint = next;
+    known
+}
+
+// Puts copies of those of a list that aren't known behind others, and notes nothing. Any hint will do.
+fn push_unnoted(
+    found: &mut Vec<SharedHeld>,
+    noted: &NotedVersions,
+    knowledge: &Knowledge,
+    hint: &mut usize,
+    list: &[SharedHeld],
+) -> Result<(), AllocError>
+    requires { AreKnown knowledge.now.known noted.now.rows.items }
+    ensures { OnOk result (found.new.items
+        ≡ found.old.items ++ filter (λ h. not (knows knowledge.now.known h.picture h.version)) list.now) }
+{
+    for held in list {
+        if is_known(noted, knowledge, hint, held) {
+            continue;
+        }
+        found.push(held.try_clone()?)?;
+    }
+    Ok(())
+}
+
+// Puts copies of those of a list that aren't known behind others, and notes those that are. Any hint will do.
 fn push_unknown(
     found: &mut Vec<SharedHeld>,
     noted: &mut NotedVersions,

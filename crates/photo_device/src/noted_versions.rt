@@ -1,3 +1,4 @@
+// Notes of versions that are known, by device and number.
 ghost use Rattle.std.specs.Prelude.{◌≡◌, ◌++◌, ◌-◌, ◌<◌, true, length, replicate, List, OnOk};
 ghost use Rattle.item_knowledge.specs.Fragments.{Fragment, knows};
 ghost use Rattle.photo_device.specs.Noted.{AreKnown};
@@ -12,7 +13,8 @@ const NOTHING: u32 = 0;
 /// Versions of which it was found that they are known, with their pictures. It is there for speed alone: to look here takes
 /// a few steps, where a knowledge has to be searched.
 ///
-/// Each author has a row, and each of its versions a place there, by its number: the picture, or 0 where nothing is noted.
+/// Each device has a row, and each of its versions of the first epoch a place there, by its number: the picture, or 0 where
+/// nothing is noted. Versions of later epochs are never noted.
 #[derive(Debug, Drop)]
 pub(crate) struct NotedVersions {
     rows: Vec<Vec<u32>>,
@@ -37,11 +39,15 @@ impl NotedVersions {
         ensures { result ≡ true → (known : List Fragment) → AreKnown known self.now.rows.items
             → knows known picture version ≡ true }
     {
-        let author = usize::from(version.author().value());
-        if author >= self.rows.len() {
+        let author = version.author();
+        if author.epoch() > 0 {
             return false;
         }
-        let row = &self.rows[author];
+        let device = usize::from(author.value());
+        if device >= self.rows.len() {
+            return false;
+        }
+        let row = &self.rows[device];
         let number = version.n() as usize;
         number < row.len() && row[number] == picture.value()
     }
@@ -51,27 +57,36 @@ impl NotedVersions {
         ensures { (known : List Fragment) → knows known picture version ≡ true → AreKnown known self.old.rows.items
             → AreKnown known self.new.rows.items }
     {
-        let author = usize::from(version.author().value());
-        if author >= self.rows.len() {
+        let author = version.author();
+        if author.epoch() > 0 {
             return;
         }
-        let row = &mut self.rows[author];
+        let device = usize::from(author.value());
+        if device >= self.rows.len() {
+            return;
+        }
+        let row = &mut self.rows[device];
         let number = version.n() as usize;
         if number < row.len() {
             row[number] = picture.value();
         }
     }
 
-    /// Places for the versions of its author up to this one, and some beyond. Its only error is want of memory.
+    /// Places for the versions of its author up to this one, and some beyond, if it is of the first epoch. Its only error is
+    /// want of memory.
     pub fn make_place(&mut self, version: Version) -> Result<(), AllocError>
         ensures { (known : List Fragment) → AreKnown known self.old.rows.items → AreKnown known self.new.rows.items }
     {
-        let author = usize::from(version.author().value());
-        for _ in self.rows.len()..author + 1 {
+        let author = version.author();
+        if author.epoch() > 0 {
+            return Ok(());
+        }
+        let device = usize::from(author.value());
+        for _ in self.rows.len()..device + 1 {
             self.rows.push(Vec::new(self.alloc))?;
         }
-        if author < self.rows.len() {
-            fill(&mut self.rows[author], version.n())?;
+        if device < self.rows.len() {
+            fill(&mut self.rows[device], version.n())?;
         }
         Ok(())
     }

@@ -1,3 +1,4 @@
+// Where a device holds a version.
 ghost use Rattle.std.specs.Prelude.{◌≡◌};
 
 use photo_filter_rules::Filter;

@@ -1,3 +1,4 @@
+// What a device keeps for a change that is staged.
 use crate::{SharedHeld, SharedList, VersionList};
 use block_list::Room;
 use photo_record::PicNo;

@@ -1,3 +1,4 @@
+// Where the versions of a picture stand in a set.
 ghost use Rattle.std.specs.Prelude.{◌≡◌, true};
 ghost use Rattle.photo_device.specs.Held.{are_in_order, IsRangeOf};
 

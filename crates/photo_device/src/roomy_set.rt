@@ -1,3 +1,4 @@
+// A set of held versions with room for more.
 use crate::{HeldSet, SharedHeld};
 use block_list::Roomy;
 use std::alloc::Global;

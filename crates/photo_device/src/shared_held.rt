@@ -1,3 +1,4 @@
+// Held versions that are shared.
 ghost use Rattle.std.specs.Prelude.{◌≡◌, IfOk};
 
 use crate::Held;

@@ -1,3 +1,4 @@
+// Versions that are looked for along a set.
 ghost use Rattle.std.specs.Prelude.{◌≡◌, true};
 ghost use Rattle.photo_device.specs.Held.{is_listed};
 ghost use Rattle.photo_device.specs.Marks.{AreMarked};

@@ -1,3 +1,4 @@
+// Versions that come into the store and the out of a device.
 ghost use Rattle.std.specs.Prelude.{◌≡◌, ◌+◌, ◌<◌, ◌≤◌, ◌++◌, Bool, true, false, [], ◌∷◌, length, filter, None, IfOk, OnOk, OnErr};
 ghost use Rattle.std.specs.List.{AllByRecursion};
 ghost use Rattle.photo_device.specs.declared.held.Held as spec;

@@ -1,3 +1,4 @@
+//! One alternative of a filter.
 ghost use Rattle.std.specs.Prelude.{◌≡◌, IfOk};
 ghost use Rattle.photo_filter_rules.specs.Matching.{content};
 ghost use Rattle.photo_filter_rules.specs.Alternatives.{anything, with_ratings, with_days, with_keyword, fits, is_possible, both_of};

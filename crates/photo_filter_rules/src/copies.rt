@@ -1,3 +1,4 @@
+//! Copies of lists.
 ghost use Rattle.std.specs.Prelude.{◌≡◌, IfOk};
 
 use photo_record::Word;

@@ -1,3 +1,4 @@
+//! Why no filter is built of a tree.
 ghost use Rattle.std.specs.Prelude.{◌≡◌};
 ghost use Rattle.photo_filter_rules.specs.declared.fault.BuildFault.TheVariants.{NoMemory};
 

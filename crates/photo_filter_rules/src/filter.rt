@@ -1,3 +1,4 @@
+//! The filter: its building, matching and covering.
 ghost use Rattle.std.specs.Prelude.{◌≡◌, ◌↔◌, length, IfOk, IfErr, OnOk, true, false};
 ghost use Rattle.photo_filter_text.specs.Tree.{tree_of};
 ghost use Rattle.photo_filter_rules.specs.declared.polarity.Polarity.TheVariants.{Plain};

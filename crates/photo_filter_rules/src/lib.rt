@@ -9,8 +9,6 @@ pub mod laws;
 mod list;
 mod polarity;
 mod span;
-#[cfg(test)]
-mod tests;
 mod words;
 
 pub use fault::BuildFault;

@@ -1,3 +1,4 @@
+//! The alternatives of a tree.
 ghost use Rattle.std.specs.Prelude.{◌≡◌, ◌++◌, ◌<ℤ◌, ◌∷◌, [], pos, false, true, map, IfOk, IfErr, OnOk};
 ghost use Rattle.photo_filter_text.specs.Tree.{tree_of};
 ghost use Rattle.std.specs.List.{list_any, list_all};

@@ -1,3 +1,4 @@
+//! Plainly or under `not`.
 ghost use Rattle.std.specs.Prelude.{◌≡◌};
 
 /// Whether a part of a tree stands plainly or under `not`.

@@ -1,3 +1,4 @@
+//! Ranges of numbers.
 ghost use Rattle.std.specs.Prelude.{◌≡◌, int_le, not};
 
 /// The numbers from the first to the last, both counted in: none where the last is below the first.

@@ -1,3 +1,4 @@
+//! Words that an alternative asks for or forbids.
 ghost use Rattle.std.specs.Prelude.{◌≡◌, IfOk};
 ghost use Rattle.std.specs.List.{list_all, list_any};
 ghost use Rattle.photo_record.specs.Word.{has_word};

@@ -1,3 +1,4 @@
+//! Why a text is no filter.
 use thiserror::Error;
 
 /// Why a text is no filter: the first of these that holds, in the order of `read`.

@@ -14,6 +14,3 @@ pub use fault::FilterFault;
 pub use printing::print;
 pub use reading::read;
 pub use tree::{Cmp, FilterTree};
-
-#[cfg(test)]
-mod tests;

@@ -1,3 +1,4 @@
+//! The text of a tree.
 ghost use Rattle.std.specs.Prelude.{◌≡◌, ◌<◌, ◌≤◌, [], ◌∷◌, ◌++◌, string_bytes, IfOk, OnOk};
 ghost use Rattle.photo_record.specs.Limits.{max_rating, IsDay};
 ghost use Rattle.photo_filter_text.specs.Tree.{Tree, Rate, On, Keyword, tree_of};

@@ -1,3 +1,4 @@
+//! The reader's states, token by token.
 ghost use Rattle.std.specs.Prelude.{◌≡◌, ◌≢◌, ◌+◌, ◌<◌, ◌^◌, ◌||◌, ◌∷◌};
 ghost use Rattle.std.specs.Prelude.{nat_lt, true, false, is_some, IfOk, IfErr, IsErr, Some, None, Ok, Err, option_map};
 ghost use Rattle.photo_filter_text.specs.Grammar.{is_bracket};

@@ -1,3 +1,4 @@
+//! The reading of a filter, with its faults in their order.
 ghost use Rattle.std.specs.Prelude.{◌≡◌, IfOk, IfErr, MatchResult, Ok};
 ghost use Rattle.photo_filter_text.specs.Tree.{Tree, tree_of};
 ghost use Rattle.photo_filter_text.specs.Tokens.{tokens_of};

@@ -1,3 +1,4 @@
+//! The tokens that stand for themselves.
 ghost use Rattle.std.specs.Prelude.{◌≡◌};
 ghost use Rattle.photo_filter_text.specs.Grammar.{cmp_of};
 ghost use Rattle.photo_filter_text.specs.Steps.{symbol_of};

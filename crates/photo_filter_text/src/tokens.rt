@@ -1,3 +1,4 @@
+//! The tokens of a text.
 ghost use Rattle.std.specs.Prelude.{◌≡◌, ◌+◌, ◌<◌, ◌≤◌, true, [], ◌∷◌, length, MatchOption, IfSome, min, max};
 ghost use Rattle.std.specs.List.{position_or_len, position};
 ghost use Rattle.photo_filter_text.specs.Tokens.{tokens_of};

@@ -1,3 +1,4 @@
+//! The tree of a filter.
 ghost use Rattle.std.specs.Prelude.{◌≡◌, ℕ, ◌≤◌, IsTrue, ◌↔◌, IfOk};
 ghost use Rattle.photo_filter_text.specs.Tree.{tree_of, height, Not, Both, Either};
 

@@ -1,22 +1,25 @@
 -- What a change of the target asks of what it gives up, takes and learns.
-use Rattle.std.proofs.Common.{◌≡◌, ℕ, ◌<◌, ◌≤◌, Bool, true, false, cond, ◌&&◌, ◌||◌, eqb, List, [], ◌∷◌, ◌++◌, length, Option, Some, None, refl, sym, ap, ◌∙◌, subst, inl, inr, ◌⊎◌, length-append, arith}
+use Rattle.std.proofs.Common.{◌≡◌, ℕ, ◌<◌, ◌≤◌, Bool, true, false, cond, ◌&&◌, ◌||◌, eqb, List, [], ◌∷◌, ◌++◌, length, Option, Some, None, refl, sym, ap, ◌∙◌, inl, inr, ◌⊎◌, length-append, arith}
 use Rattle.std.specs.Prelude.{filter}
 use Rattle.std.specs.Option.{is_some}
 use Rattle.std.specs.List.{AllByRecursion}
-use Rattle.std.proofs.lemmas.Bool.{cases_Bool, and_parts, and_from, eq-eqb, eqb-true, not-true}
+use Rattle.std.proofs.lemmas.Bool.{cases_Bool, and_parts, and_from, eq-eqb, not-true}
 use Rattle.std.proofs.lemmas.List.Elements.{filter-append}
-use Rattle.photo_version.specs.Version.{Version, version, same_version}
+use Rattle.photo_version.specs.Version.{Version, same_version}
 use Rattle.photo_version.specs.Vector.{denotes}
 use Rattle.item_knowledge.specs.Fragments.{Fragment, knows}
 use Rattle.photo_device.specs.declared.held.Held.{Held}
 use Rattle.photo_device.specs.Held.{find_version, count_of}
 use Rattle.photo_device.specs.Device.{Kept}
-use Rattle.photo_device.specs.Own.{HasEarlier, IsKnownBy}
+use Rattle.photo_device.specs.Own.{HasEarlier, IsKnownBy, KnowsNoMore}
+use Rattle.photo_device.specs.Telling.{tells}
 use Rattle.photo_device.proofs.AllLemmas.{all_append}
-use Rattle.photo_pull.specs.OnHeld.{is_new, tells, new_waiting, learns, is_dropped, is_over, dropped_stored, dropped_waiting, is_selected, is_heard, new_stored, heard, taken_stored, versions, gains}
+use Rattle.photo_device.proofs.OwnLemmas.{no_more_of}
+use Rattle.photo_device.proofs.TellingLemmas.{one, told_known}
+use Rattle.photo_pull.specs.OnHeld.{is_new, new_waiting, learns, is_dropped, is_over, dropped_stored, dropped_waiting, is_selected, is_heard, new_stored, heard, taken_stored, versions, gains}
 use Rattle.photo_pull.proofs.Members.{In, in_left, in_right, in_any, all_at, all_map, all_passing, all_of, found_some, found_in, only_one, find_one}
 use Rattle.photo_pull.proofs.Ready.{AreReady, known_target, known_source, found_source, same_itself, same_is}
-use Rattle.photo_pull.proofs.Told.{or_intro, or_other, one}
+use Rattle.photo_pull.proofs.Told.{or_intro, or_other}
 use Rattle.photo_pull.proofs.Changes.{drops, takes}
 
 -- a filter keeps no more of any kind
@@ -110,23 +113,6 @@ module _ (t s : Kept) (ready : AreReady t s) where
       let once = ready.source.once w.version in
       find_one q w s.out (only_one q w s.out there (same_itself w.version) (omega arith)))
 
-  -- what is told of, the source knows
-  told_within : (hs : List Held) → AllByRecursion (IsKnownBy s.knowledge) hs → (p : ℕ) (v : Version) → tells hs p v ≡ true → knows s.knowledge p v ≡ true
-  told_within [] all p v h = cc
-  told_within (w ∷ hs) all p v h = elim (cases_Bool (one p v w)) [
-    | inl here ↦
-        let parts = and_parts (eqb w.picture p) (denotes w.made_with v || same_version w.version v) here in
-        let same : w.picture ≡ p = eqb-true w.picture p parts.0 in
-        subst (λ q. knows s.knowledge q v ≡ true) same (of_it (cases_Bool (denotes w.made_with v)) parts.1)
-    | inr apart ↦ told_within hs all.1 p v (sym (ap (λ b. b || tells hs p v) apart) ∙ h)
-  ]
-    where
-      of_it : (denotes w.made_with v ≡ true) ⊎ (denotes w.made_with v ≡ false) → (denotes w.made_with v || same_version w.version v) ≡ true → knows s.knowledge w.picture v ≡ true
-      of_it (inl history) e = all.0.history v history
-      of_it (inr none) e =
-          let same : w.version ≡ v = same_is w.version v (sym (ap (λ b. b || same_version w.version v) none) ∙ e) in
-          subst (λ x. knows s.knowledge w.picture x ≡ true) same all.0.itself
-
   known_here : (hs : List Held) → ((w : Held) → In w hs → In w (s.store ++ s.out)) → AllByRecursion (IsKnownBy s.knowledge) hs
   known_here hs inside = all_of (IsKnownBy s.knowledge) hs (λ w here. known_source t s ready w (inside w here))
 
@@ -134,12 +120,12 @@ module _ (t s : Kept) (ready : AreReady t s) where
   told_is_known p v h = by (cases_Bool (tells (heard t s) p v)) h
     where
       by : (tells (heard t s) p v ≡ true) ⊎ (tells (heard t s) p v ≡ false) → (tells (heard t s) p v || tells (new_waiting t s) p v) ≡ true → knows s.knowledge p v ≡ true
-      by (inl told) e = told_within (heard t s) (known_here (heard t s) (λ w here. in_left w s.store s.out (from_heard w here).0)) p v told
-      by (inr none) e = told_within (new_waiting t s) (known_here (new_waiting t s) (λ w here. in_right w s.store s.out (from_waiting w here).0)) p v (sym (ap (λ b. b || tells (new_waiting t s) p v) none) ∙ e)
+      by (inl told) e = told_known s.knowledge (heard t s) p v (known_here (heard t s) (λ w here. in_left w s.store s.out (from_heard w here).0)) told
+      by (inr none) e = told_known s.knowledge (new_waiting t s) p v (known_here (new_waiting t s) (λ w here. in_right w s.store s.out (from_waiting w here).0)) (sym (ap (λ b. b || tells (new_waiting t s) p v) none) ∙ e)
 
   module _ (gain : List Fragment) (gain_is : (p : ℕ) (v : Version) → 0 < p → knows gain p v ≡ gains t s p v) where
-    told_known : (hs : List Held) (w : Held) → In w hs → 0 < w.picture → ((p : ℕ) (v : Version) → tells hs p v ≡ true → gains t s p v ≡ true) → IsKnownBy gain w
-    told_known hs w here above told =
+    each_told : (hs : List Held) (w : Held) → In w hs → 0 < w.picture → ((p : ℕ) (v : Version) → tells hs p v ≡ true → gains t s p v ≡ true) → IsKnownBy gain w
+    each_told hs w here above told =
         let tells_of : (v : Version) → (denotes w.made_with v || same_version w.version v) ≡ true → knows gain w.picture v ≡ true =
         λ v h. gain_is w.picture v above ∙ told w.picture v (in_any (one w.picture v) w hs here (and_from (eqb w.picture w.picture) _ (eq-eqb w.picture w.picture refl) h)) in
         record {
@@ -150,15 +136,16 @@ module _ (t s : Kept) (ready : AreReady t s) where
 
     pub takes_known : AllByRecursion (IsKnownBy gain) (takes t s)
     takes_known = all_takes (IsKnownBy gain)
-        (λ w here. told_known (heard t s) w here ((known_source t s ready w (in_left w s.store s.out (from_heard w here).0)).above) (λ p v h. or_other (learns t s && knows s.knowledge p v) _ (or_intro (tells (heard t s) p v) _ h)))
-        (λ w here. told_known (new_waiting t s) w here ((known_source t s ready w (in_right w s.store s.out (from_waiting w here).0)).above) (λ p v h. or_other (learns t s && knows s.knowledge p v) _ (or_other (tells (heard t s) p v) _ h)))
+        (λ w here. each_told (heard t s) w here ((known_source t s ready w (in_left w s.store s.out (from_heard w here).0)).above) (λ p v h. or_other (learns t s && knows s.knowledge p v) _ (or_intro (tells (heard t s) p v) _ h)))
+        (λ w here. each_told (new_waiting t s) w here ((known_source t s ready w (in_right w s.store s.out (from_waiting w here).0)).above) (λ p v h. or_other (learns t s && knows s.knowledge p v) _ (or_other (tells (heard t s) p v) _ h)))
 
-    pub gain_own : ((p n : ℕ) → 0 < p → knows s.knowledge p (version t.author n) ≡ true → n ≤ t.counter) → (p n : ℕ) → 0 < p → knows gain p (version t.author n) ≡ true → n ≤ t.counter
-    gain_own own p n above h =
-        let v = version t.author n in
-        own p n above (by (cases_Bool (learns t s && knows s.knowledge p v)) (sym (gain_is p v above) ∙ h))
+    -- what is gained, the source knows
+    gain_within : (p : ℕ) (v : Version) → 0 < p → knows gain p v ≡ true → knows s.knowledge p v ≡ true
+    gain_within p v above h = by (cases_Bool (learns t s && knows s.knowledge p v)) (sym (gain_is p v above) ∙ h)
       where
-        by : ((learns t s && knows s.knowledge p (version t.author n)) ≡ true) ⊎ ((learns t s && knows s.knowledge p (version t.author n)) ≡ false)
-            → gains t s p (version t.author n) ≡ true → knows s.knowledge p (version t.author n) ≡ true
-        by (inl learned) e = (and_parts (learns t s) (knows s.knowledge p (version t.author n)) learned).1
-        by (inr not_so) e = told_is_known p (version t.author n) (sym (ap (λ b. b || (tells (heard t s) p (version t.author n) || tells (new_waiting t s) p (version t.author n))) not_so) ∙ e)
+        by : ((learns t s && knows s.knowledge p v) ≡ true) ⊎ ((learns t s && knows s.knowledge p v) ≡ false) → gains t s p v ≡ true → knows s.knowledge p v ≡ true
+        by (inl learned) e = (and_parts (learns t s) (knows s.knowledge p v) learned).1
+        by (inr not_so) e = told_is_known p v (sym (ap (λ b. b || (tells (heard t s) p v || tells (new_waiting t s) p v)) not_so) ∙ e)
+
+    pub gain_own : KnowsNoMore t.author t.counter s.knowledge → KnowsNoMore t.author t.counter gain
+    gain_own own = no_more_of t.author t.counter gain s.knowledge gain_within own

@@ -10,8 +10,9 @@ use Rattle.photo_device.specs.Entry.{Entry, put_entries, without}
 use Rattle.photo_device.specs.Held.{entry_of, entries_of}
 use Rattle.photo_device.specs.Device.{Kept, ModelDevice, Shows, selects, changed, without_waiting}
 use Rattle.photo_pull.specs.declared.counts.PullCounts.{PullCounts}
-use Rattle.photo_pull.specs.Pull.{taken, handed, told, tell, learns_all, pulled, handed_over, counts_of}
-use Rattle.photo_pull.specs.OnHeld.{tells, new_waiting, learns, dropped_stored, dropped_waiting, heard, taken_stored, versions, gains}
+use Rattle.photo_pull.specs.Pull.{taken, handed, told, learns_all, pulled, handed_over, counts_of}
+use Rattle.photo_device.specs.Telling.{tell, tells}
+use Rattle.photo_pull.specs.OnHeld.{new_waiting, learns, dropped_stored, dropped_waiting, heard, taken_stored, versions, gains}
 use Rattle.photo_pull.proofs.Members.{map_both}
 use Rattle.photo_pull.proofs.Ready.{AreReady}
 use Rattle.photo_pull.proofs.Told.{notices, notices_count}

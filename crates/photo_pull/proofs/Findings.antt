@@ -1,15 +1,17 @@
 -- What the code finds, in place of what the definitions say.
 use Rattle.std.proofs.Common.{◌≡◌, ℕ, ◌+◌, ◌<◌, Bool, true, false, cond, ◌&&◌, ◌||◌, List, [], ◌∷◌, ◌++◌, length, refl, sym, ap, ◌∙◌, subst, arith}
 use Rattle.photo_version.specs.Version.{Version, Versions}
-use Rattle.photo_version.specs.Vector.{denotes}
+use Rattle.photo_version.specs.Vector.{Bound, denotes}
 use Rattle.item_knowledge.specs.Fragments.{knows}
 use Rattle.item_knowledge.specs.Tables.{at}
 use Rattle.photo_device.specs.declared.held.Held.{Held}
 use Rattle.photo_device.specs.Held.{entries_of}
 use Rattle.photo_device.specs.Device.{Kept, ModelDevice, Shows, changed}
+use Rattle.photo_device.specs.Telling.{tells}
+use Rattle.photo_pull.specs.declared.hearing.Hearing.{Hearing}
 use Rattle.photo_pull.specs.declared.finding.Finding.{Finding}
-use Rattle.photo_pull.specs.OnHeld.{tells, new_waiting, heard, versions, gains}
-use Rattle.photo_pull.specs.Findings.{IsFound}
+use Rattle.photo_pull.specs.OnHeld.{new_waiting, heard, versions, gains}
+use Rattle.photo_pull.specs.Findings.{IsHearing, IsFound, IsTold}
 use Rattle.photo_pull.proofs.Ready.{AreReady}
 use Rattle.photo_pull.specs.declared.counts.PullCounts.{PullCounts}
 use Rattle.photo_pull.specs.Pull.{counts_of}
@@ -27,10 +29,19 @@ either true d false true table known = known refl
 either true d false false table known = refl
 either false d k told table known = table refl
 
+-- what was heard tells what was to be told
+pub told_found : (t s : Kept) (h : Hearing) (f : Finding) (table : List (ℕ × List Bound)) → IsHearing t s h → IsFound t s f → IsTold h.learned h.heard.items h.handed.items table
+    → IsTold f.learned (heard t s) (new_waiting t s) table
+told_found t s h f table hearing found told = record {
+  order = told.order;
+  told = λ l p v. told.told (hearing.learned ∙ sym found.learned ∙ l) p v ∙ (λ i. tells (hearing.heard i) p v || tells (hearing.handed i) p v);
+}
+
 module _ (t s : Kept) (f : Finding) (found : IsFound t s f) where
-  pub gain_is : AreReady t s → (p : ℕ) (v : Version) → cond f.learned (knows s.knowledge p v) (denotes (at [] f.told.items p) v) ≡ gains t s p v
-  gain_is ready p v =
-      either f.learned (denotes (at [] f.told.items p) v) (knows s.knowledge p v) (tells (heard t s) p v || tells (new_waiting t s) p v) (λ l. found.told.told l p v) (told_is_known t s ready p v)
+  pub gain_is : (table : List (ℕ × List Bound)) → IsTold f.learned (heard t s) (new_waiting t s) table → AreReady t s
+      → (p : ℕ) (v : Version) → cond f.learned (knows s.knowledge p v) (denotes (at [] table p) v) ≡ gains t s p v
+  gain_is table told ready p v =
+      either f.learned (denotes (at [] table p) v) (knows s.knowledge p v) (tells (heard t s) p v || tells (new_waiting t s) p v) (λ l. told.told l p v) (told_is_known t s ready p v)
       ∙ (λ i. (found.learned i && knows s.knowledge p v) || (tells (heard t s) p v || tells (new_waiting t s) p v))
 
   pub drops_are : versions f.dropped.stored.items ++ versions f.dropped.waiting.items ≡ drops t s

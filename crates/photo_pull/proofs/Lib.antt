@@ -8,7 +8,6 @@ mod KeepingLemmas
 pub mod Shown
 pub mod Changes
 pub mod Asked
-pub mod TableLemmas
 pub mod Findings
 pub mod Moved
 mod Committed

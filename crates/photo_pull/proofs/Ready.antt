@@ -18,12 +18,12 @@ pub record AreReady (t s : Kept) : Type 0 where
 pub same_is : (v w : Version) → same_version v w ≡ true → v ≡ w
 same_is v w h =
     let parts = and_parts (same_author v.author w.author) (eqb v.number w.number) h in
-    let device = eqb-true v.author.device w.author.device parts.0 in
+    let device = eqb-true v.author.word w.author.word parts.0 in
     let number = eqb-true v.number w.number parts.1 in
-    λ i. record { author = record { device = device i }; number = number i }
+    λ i. record { author = record { word = device i }; number = number i }
 
 pub same_itself : (v : Version) → same_version v v ≡ true
-same_itself v = and_from _ _ (eq-eqb v.author.device v.author.device refl) (eq-eqb v.number v.number refl)
+same_itself v = and_from _ _ (eq-eqb v.author.word v.author.word refl) (eq-eqb v.number v.number refl)
 
 pub is_version : Version → Held → Bool
 is_version v h = same_version h.version v

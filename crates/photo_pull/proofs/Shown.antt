@@ -13,11 +13,13 @@ use Rattle.photo_device.specs.declared.held.Held.{Held}
 use Rattle.photo_device.specs.Entry.{Entry, supersedes, superseded_by, is_among, without}
 use Rattle.photo_device.specs.Held.{entry_of, entries_of}
 use Rattle.photo_device.specs.Device.{Kept, ModelDevice, Shows, holds, knows_entry, selects}
-use Rattle.photo_pull.specs.Pull.{taken, handed, noticed, told, tell, learns_all, is_stale, leaves_store, leaves_out}
-use Rattle.photo_pull.specs.OnHeld.{is_new, is_above, has_above, tells, new_waiting, learns, is_over, is_stale_held, is_dropped, dropped_stored, dropped_waiting, is_selected, heard, taken_stored, versions}
+use Rattle.photo_device.specs.Telling.{tell, tells}
+use Rattle.photo_device.proofs.TellingLemmas.{one}
+use Rattle.photo_pull.specs.Pull.{taken, handed, noticed, told, learns_all, is_stale, leaves_store, leaves_out}
+use Rattle.photo_pull.specs.OnHeld.{is_new, is_above, has_above, new_waiting, learns, is_over, is_stale_held, is_dropped, dropped_stored, dropped_waiting, is_selected, heard, taken_stored, versions}
 use Rattle.photo_pull.proofs.Members.{In, in_left, in_right, any_same, filter_alike, any_filter, any_map, filter_mapped, map_both, once_left, once_right}
 use Rattle.photo_pull.proofs.Ready.{AreReady, known_target, known_source, same_picture, same_itself}
-use Rattle.photo_pull.proofs.Told.{is_notice, notices, taken_stored_is, over_is, tells_is, one, and_absorbed}
+use Rattle.photo_pull.proofs.Told.{is_notice, notices, taken_stored_is, over_is, tells_is, and_absorbed}
 
 not_not : (b : Bool) → not (not b) ≡ b
 not_not true = refl

@@ -4,20 +4,20 @@ use Rattle.std.specs.Prelude.{IfSome}
 use Rattle.std.specs.Option.{is_some}
 use Rattle.std.specs.List.{AllByRecursion}
 use Rattle.std.specs.List.Sorted.{IsPermutation}
-use Rattle.photo_version.specs.Version.{Version, version}
-use Rattle.photo_version.specs.Vector.{denotes}
+use Rattle.photo_version.specs.Version.{Version}
+use Rattle.photo_version.specs.Vector.{Bound, denotes}
 use Rattle.item_knowledge.specs.Fragments.{Fragment, knows}
 use Rattle.item_knowledge.specs.Tables.{at}
 use Rattle.photo_device.specs.declared.held.Held.{Held}
 use Rattle.photo_device.specs.Held.{entries_of, find_version, count_of}
 use Rattle.photo_device.specs.Device.{Kept, ModelDevice, Shows, changed}
-use Rattle.photo_device.specs.Own.{HasEarlier, IsKnownBy}
+use Rattle.photo_device.specs.Own.{HasEarlier, IsKnownBy, KnowsNoMore}
 use Rattle.photo_device.specs.Staging.{MayHand, MayStage}
 use Rattle.photo_device.proofs.AllLemmas.{all_front}
 use Rattle.photo_pull.specs.declared.finding.Finding.{Finding}
-use Rattle.photo_pull.specs.OnHeld.{gains, new_waiting}
+use Rattle.photo_pull.specs.OnHeld.{gains, heard, new_waiting}
 use Rattle.photo_pull.specs.Pull.{pulled}
-use Rattle.photo_pull.specs.Findings.{IsFound, IsGain, gain_found, drops_found, HasStagedFound}
+use Rattle.photo_pull.specs.Findings.{IsFound, IsTold, IsGain, gain_found, drops_found, HasStagedFound}
 use Rattle.photo_pull.proofs.Ready.{AreReady}
 use Rattle.photo_pull.proofs.Changes.{shows_pulled}
 use Rattle.photo_pull.proofs.Asked.{drops_held, takes_new, takes_earlier, takes_known, gain_own}
@@ -27,17 +27,17 @@ use Rattle.photo_pull.proofs.Moved.{all_moved, changed_moved}
 
 -- what is learned, where it is all that the source knows, and else
 
-pub gain_taught : (s : Kept) (f : Finding) → f.learned ≡ true → IsGain s.knowledge (gain_found s f)
-gain_taught s f learned = record { pairs = λ p v above. sym (ap (λ b. cond b (knows s.knowledge p v) (denotes (at [] f.told.items p) v)) learned) }
+pub gain_taught : (s : Kept) (f : Finding) (table : List (ℕ × List Bound)) → f.learned ≡ true → IsGain s.knowledge (gain_found s f table)
+gain_taught s f table learned = record { pairs = λ p v above. sym (ap (λ b. cond b (knows s.knowledge p v) (denotes (at [] table p) v)) learned) }
 
-pub gain_told : (s : Kept) (f : Finding) → f.learned ≡ false → (gain : List Fragment) → IsGain gain (λ p. denotes (at [] f.told.items p)) → IsGain gain (gain_found s f)
-gain_told s f learned gain is = record { pairs = λ p v above. is.pairs p v above ∙ sym (ap (λ b. cond b (knows s.knowledge p v) (denotes (at [] f.told.items p) v)) learned) }
+pub gain_told : (s : Kept) (f : Finding) (table : List (ℕ × List Bound)) → f.learned ≡ false → (gain : List Fragment) → IsGain gain (λ p. denotes (at [] table p)) → IsGain gain (gain_found s f table)
+gain_told s f table learned gain is = record { pairs = λ p v above. is.pairs p v above ∙ sym (ap (λ b. cond b (knows s.knowledge p v) (denotes (at [] table p) v)) learned) }
 
-module _ (t s : Kept) (ready : AreReady t s) (f : Finding) (found : IsFound t s f) where
-  gained : (gain : List Fragment) → IsGain gain (gain_found s f) → (p : ℕ) (v : Version) → 0 < p → knows gain p v ≡ gains t s p v
-  gained gain is p v above = is.pairs p v above ∙ gain_is t s f found ready p v
+module _ (t s : Kept) (ready : AreReady t s) (f : Finding) (found : IsFound t s f) (table : List (ℕ × List Bound)) (told : IsTold f.learned (heard t s) (new_waiting t s) table) where
+  gained : (gain : List Fragment) → IsGain gain (gain_found s f table) → (p : ℕ) (v : Version) → 0 < p → knows gain p v ≡ gains t s p v
+  gained gain is p v above = is.pairs p v above ∙ gain_is t s f found table told ready p v
 
-  pub may_stage : ((p n : ℕ) → 0 < p → knows s.knowledge p (version t.author n) ≡ true → n ≤ t.counter) → (ds : List Version) (gain : List Fragment) → IsPermutation (drops_found f) ds → IsGain gain (gain_found s f) → MayStage ds f.taken.items gain t
+  pub may_stage : KnowsNoMore t.author t.counter s.knowledge → (ds : List Version) (gain : List Fragment) → IsPermutation (drops_found f) ds → IsGain gain (gain_found s f table) → MayStage ds f.taken.items gain t
   may_stage own ds gain permuted is = record {
     held = all_moved (λ v. is_some (find_version v (t.store ++ t.out))) (drops_found f) ds permuted (subst (AllByRecursion (λ v. is_some (find_version v (t.store ++ t.out)) ≡ true)) (sym (drops_are t s f found)) (drops_held t s ready));
     new = subst (AllByRecursion (λ (h : Held). find_version h.version (t.store ++ t.out) ≡ None)) (sym found.taken) (all_front _ _ _ (takes_new t s ready));
@@ -47,7 +47,7 @@ module _ (t s : Kept) (ready : AreReady t s) (f : Finding) (found : IsFound t s 
     own = gain_own t s ready gain (gained gain is) own;
   }
 
-  module _ (room : ℕ) (new : Kept) (has : HasStagedFound f room s t new) (handed : List Held) (handed_is : handed ≡ new_waiting t s) where
+  module _ (room : ℕ) (new : Kept) (has : HasStagedFound f table room s t new) (handed : List Held) (handed_is : handed ≡ new_waiting t s) where
     pub may_hand_found : length handed ≤ room → IfSome new.staged (λ st. MayHand handed st new)
     may_hand_found few =
         may_hand t s ready has.change.gain room has.drops f.taken.items handed new found.taken handed_is has.change.staged few (takes_known t s ready has.change.gain (gained has.change.gain has.change.is_gain))

@@ -1,13 +1,14 @@
 -- What a target is told of, and what that supersedes.
-use Rattle.std.proofs.Common.{◌≡◌, ℕ, ◌+◌, Bool, true, false, not, cond, ◌&&◌, ◌||◌, eqb, List, [], ◌∷◌, ◌++◌, length, refl, sym, ap, ◌∙◌, inl, inr, arith}
+use Rattle.std.proofs.Common.{◌≡◌, ℕ, ◌+◌, Bool, true, false, not, cond, ◌&&◌, ◌||◌, List, [], ◌∷◌, ◌++◌, length, refl, sym, ap, ◌∙◌, inl, inr, arith}
 use Rattle.std.specs.Prelude.{filter}
 use Rattle.std.proofs.lemmas.Bool.{cases_Bool}
 use Rattle.std.proofs.lemmas.List.Folds.{list_any-append}
-use Rattle.photo_version.specs.Version.{Version, same_version}
-use Rattle.photo_version.specs.Vector.{denotes}
+use Rattle.photo_version.specs.Version.{Version}
 use Rattle.photo_device.specs.declared.held.Held.{Held}
 use Rattle.photo_device.specs.Device.{Kept}
-use Rattle.photo_pull.specs.OnHeld.{is_new, is_above, has_above, has_below, tells, new_stored, new_waiting, is_over, is_dropped, dropped_stored, dropped_waiting, is_selected, is_heard, heard, taken_stored}
+use Rattle.photo_device.specs.Telling.{tells}
+use Rattle.photo_device.proofs.TellingLemmas.{one}
+use Rattle.photo_pull.specs.OnHeld.{is_new, is_above, has_above, has_below, new_stored, new_waiting, is_over, is_dropped, dropped_stored, dropped_waiting, is_selected, is_heard, heard, taken_stored}
 use Rattle.photo_pull.proofs.Members.{In, in_filter, in_any, any_same, filter_alike, any_filter, filter_filter, any_or}
 use Rattle.photo_pull.proofs.Ready.{AreReady}
 
@@ -62,10 +63,6 @@ both_or false k m a = refl
 both_or true true m true = refl
 both_or true true m false = refl
 both_or true false m a = refl
-
--- it tells of that version of that picture
-abbrev pub one : ℕ → Version → Held → Bool
-one p v w = (eqb w.picture p) && (denotes w.made_with v || same_version w.version v)
 
 -- a filter's parts by a second test
 parts_length : {X : Type 0} (p q : X → Bool) (xs : List X) → length (filter (λ x. p x && (q x)) xs) + length (filter (λ x. p x && not (q x)) xs) ≡ length (filter p xs)

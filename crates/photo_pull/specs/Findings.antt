@@ -11,14 +11,11 @@ use Rattle.photo_device.specs.Held.{are_in_order}
 use Rattle.photo_device.specs.Device.{Kept}
 use Rattle.photo_device.specs.Own.{HasEarlier}
 use Rattle.photo_device.specs.Staging.{HasStaged}
-use Rattle.photo_pull.specs.OnHeld.{tells, new_stored, new_waiting, dropped_stored, dropped_waiting, heard, taken_stored, learns, versions}
+use Rattle.photo_device.specs.Telling.{tells}
+use Rattle.photo_pull.specs.OnHeld.{new_stored, new_waiting, dropped_stored, dropped_waiting, heard, taken_stored, learns, versions}
 use Rattle.photo_pull.specs.declared.part.Part.{Part}
+use Rattle.photo_pull.specs.declared.hearing.Hearing.{Hearing}
 use Rattle.photo_pull.specs.declared.finding.Finding.{Finding}
-
--- a table has what two lists tell, where it is wanted
-pub record IsTold (learned : Bool) (hs ws : List Held) (table : List (ℕ × List Bound)) : Type 0 where
-  pub order : in_order table ≡ true
-  pub told : learned ≡ false → (p : ℕ) (v : Version) → denotes (at [] table p) v ≡ (tells hs p v || tells ws p v)
 
 -- news are what the target doesn't know of what the source holds
 pub record AreNews (t s : Kept) (news : Part) : Type 0 where
@@ -29,6 +26,24 @@ pub record AreNews (t s : Kept) (news : Part) : Type 0 where
   pub stored_earlier : AllByRecursion HasEarlier news.stored.items
   pub waiting_earlier : AllByRecursion HasEarlier news.waiting.items
 
+-- a target hears of what is to be heard
+pub record IsHearing (t s : Kept) (h : Hearing) : Type 0 where
+  pub learned : h.learned ≡ learns t s
+  pub dropped_stored : h.dropped.stored.items ≡ dropped_stored t s
+  pub dropped_waiting : h.dropped.waiting.items ≡ dropped_waiting t s
+  pub heard : h.heard.items ≡ heard t s
+  pub handed : h.handed.items ≡ new_waiting t s
+  pub heard_order : are_in_order h.heard.items ≡ true
+  pub handed_order : are_in_order h.handed.items ≡ true
+  pub heard_earlier : AllByRecursion HasEarlier h.heard.items
+  pub handed_earlier : AllByRecursion HasEarlier h.handed.items
+
+-- a table has what two lists tell, where it is wanted
+pub record IsTold (learned : Bool) (hs ws : List Held) (table : List (ℕ × List Bound)) : Type 0 where
+  pub order : in_order table ≡ true
+  pub told : learned ≡ false → (p : ℕ) (v : Version) → denotes (at [] table p) v ≡ (tells hs p v || tells ws p v)
+
+-- what is found is what is to be moved and told
 pub record IsFound (t s : Kept) (f : Finding) : Type 0 where
   pub learned : f.learned ≡ learns t s
   pub dropped_stored : f.dropped.stored.items ≡ dropped_stored t s
@@ -36,15 +51,14 @@ pub record IsFound (t s : Kept) (f : Finding) : Type 0 where
   pub taken : f.taken.items ≡ taken_stored t s
   pub handed : f.handed.items ≡ new_waiting t s
   pub notices : f.notices + length f.taken.items ≡ length (heard t s)
-  pub told : IsTold f.learned (heard t s) (new_waiting t s) f.told.items
 
 -- a knowledge has of each picture what is said
 pub record IsGain (gain : List Fragment) (said : ℕ → Versions) : Type 0 where
   pub pairs : (p : ℕ) (v : Version) → 0 < p → knows gain p v ≡ said p v
 
--- what the target learns after what was found
-abbrev pub gain_found : Kept → Finding → ℕ → Versions
-gain_found s f p = λ v. if f.learned then knows s.knowledge p v else denotes (at [] f.told.items p) v
+-- what the target learns after what was found, and what a table tells
+abbrev pub gain_found : Kept → Finding → List (ℕ × List Bound) → ℕ → Versions
+gain_found s f table p = λ v. if f.learned then knows s.knowledge p v else denotes (at [] table p) v
 
 -- what it drops
 abbrev pub drops_found : Finding → List Version
@@ -57,7 +71,7 @@ pub record HasStagedGain (drops : List Version) (takes : List Held) (said : ℕ 
   pub staged : HasStaged drops takes gain room old new
 
 -- the change that was found is staged on a device
-pub record HasStagedFound (f : Finding) (room : ℕ) (s old new : Kept) : Type 0 where
+pub record HasStagedFound (f : Finding) (table : List (ℕ × List Bound)) (room : ℕ) (s old new : Kept) : Type 0 where
   pub drops : List Version
   pub permuted : IsPermutation (drops_found f) drops
-  pub change : HasStagedGain drops f.taken.items (gain_found s f) room old new
+  pub change : HasStagedGain drops f.taken.items (gain_found s f table) room old new

@@ -1,4 +1,5 @@
 pub mod Pull
+pub mod MayPull
 pub mod OnHeld
 pub mod Findings
 pub mod Gaps

@@ -9,6 +9,7 @@ use Rattle.photo_filter_rules.specs.Matching.{matches}
 use Rattle.photo_filter_rules.specs.Covers.{covers}
 use Rattle.photo_device.specs.declared.held.Held.{Held}
 use Rattle.photo_device.specs.Device.{Kept}
+use Rattle.photo_device.specs.Telling.{tells}
 
 -- not known
 abbrev pub is_new : List Fragment → Held → Bool
@@ -29,10 +30,6 @@ has_below hs w = list_any (λ h. is_above w h) hs
 -- that version of that picture is among them
 abbrev pub has_same : List Held → Held → Bool
 has_same hs h = list_any (λ g. (g.picture == h.picture) && same_version g.version h.version) hs
-
--- which versions of a picture they tell of
-abbrev pub tells : List Held → ℕ → Versions
-tells hs picture = λ v. list_any (λ h. (h.picture == picture) && (denotes h.made_with v || same_version h.version v)) hs
 
 -- what the target doesn't know of the source's store, and of its out
 abbrev pub new_stored : Kept → Kept → List Held

@@ -1,10 +1,10 @@
 -- A pull: what a target takes, is told of and learns from a source. All is judged on the two devices before it.
-use Rattle.std.specs.Prelude.{ℕ, ◌+◌, Bool, not, ◌&&◌, ◌||◌, ◌==◌, List, ◌++◌, length, filter}
+use Rattle.std.specs.Prelude.{◌+◌, Bool, not, ◌&&◌, ◌||◌, List, ◌++◌, length, filter}
 use Rattle.std.specs.List.{list_any}
-use Rattle.photo_version.specs.Version.{Versions, same_version}
 use Rattle.photo_filter_rules.specs.Covers.{covers}
 use Rattle.photo_device.specs.Entry.{Entry, put_entries, supersedes, superseded_by, is_among}
 use Rattle.photo_device.specs.Device.{ModelDevice, holds, knows_entry, selects}
+use Rattle.photo_device.specs.Telling.{tell}
 use Rattle.photo_pull.specs.declared.counts.PullCounts.{PullCounts}
 
 -- what the target takes from the source's store: what it doesn't know and is to keep
@@ -37,10 +37,6 @@ leaves_store t s e = superseded_by (told t s) e || is_stale t s e
 
 abbrev pub leaves_out : ModelDevice → ModelDevice → Entry → Bool
 leaves_out t s e = superseded_by (told t s) e
-
--- which versions of a picture entries tell of: each tells of what it was made with, and of itself
-abbrev pub tell : List Entry → ℕ → Versions
-tell entries picture = λ v. list_any (λ e. (e.picture == picture) && (e.history v || same_version e.version v)) entries
 
 -- the target after the pull
 abbrev pub pulled : ModelDevice → ModelDevice → ModelDevice

@@ -12,8 +12,7 @@ ghost use Rattle.photo_pull.specs.Findings.{IsGain, gain_found, drops_found, Has
 
 use crate::filtered::push_versions;
 use crate::finding::Finding;
-use item_knowledge::Knowledge;
-use photo_device::{Device, SharedHeld, SharedList, VersionList};
+use photo_device::{Device, SharedHeld, SharedList, VersionList, gain_of};
 use photo_record::PicNo;
 use photo_version::{Vector, Version};
 use std::alloc::{AllocError, Global};
@@ -21,16 +20,6 @@ use std::alloc::{AllocError, Global};
 // A version that goes is looked for by its picture where at least so many are held for each that goes: then the searches
 // cost less than it does to go along all that is held.
 const HELD_BY_DROP: usize = 64;
-
-// What a table says.
-fn gain_of(alloc: Global, told: &[(PicNo, Vector)]) -> Result<Knowledge, AllocError>
-    requires { in_order told.now ≡ true }
-    ensures { IfOk result (λ gain. IsGain gain.known (λ p. denotes (at [] told.now p))) }
-{
-    let mut gain = Knowledge::new(alloc)?;
-    gain.learn_table(told)?;
-    Ok(gain)
-}
 
 // Puts the pictures of those of a list behind others.
 fn push_pictures(pictures: &mut Vec<PicNo>, list: &[SharedHeld]) -> Result<(), AllocError> {
@@ -136,20 +125,21 @@ fn stage_told(
     Ok(())
 }
 
-/// Stages on the target what was found, with room for so many versions that are handed over. Its only error is want of
+/// Stages on the target what was found and is told, with room for so many versions that are handed over. Its only error is want of
 /// memory, which leaves nothing staged.
 pub(crate) fn stage_found(
     alloc: Global,
     finding: Finding,
+    told: &[(PicNo, Vector)],
     target: &mut Device,
     source: &mut Device,
     room: usize,
 ) -> Result<(), AllocError>
-    requires order { in_order finding.told.items ≡ true }
+    requires order { in_order told.now ≡ true }
     requires unstaged { target.old.staged ≡ None }
     requires may { (drops : List spec.Version) (gain : List Fragment) → IsPermutation (drops_found finding) drops
-        → IsGain gain (gain_found source.old finding) → MayStage drops finding.taken.items gain target.old }
-    ensures staged { OnOk result (HasStagedFound finding room source.old target.old target.new) }
+        → IsGain gain (gain_found source.old finding told.now) → MayStage drops finding.taken.items gain target.old }
+    ensures staged { OnOk result (HasStagedFound finding told.now room source.old target.old target.new) }
     ensures err { OnErr result (IsAsItWas target.old target.new) }
     ensures unstaged { OnErr result (target.new.staged ≡ None) }
     ensures source { source.new ≡ source.old }
@@ -160,15 +150,10 @@ pub(crate) fn stage_found(
         &finding.dropped.stored,
         &finding.dropped.waiting,
     )?;
-    let Finding {
-        learned,
-        taken,
-        told,
-        ..
-    } = finding;
+    let Finding { learned, taken, .. } = finding;
     let takes = SharedList::new(taken);
     if learned {
         return stage_taught(drops, pictures, takes, target, source, room);
     }
-    stage_told(alloc, drops, pictures, takes, &told, target, room)
+    stage_told(alloc, drops, pictures, takes, told, target, room)
 }

@@ -1,3 +1,4 @@
+// Pictures of which nothing is new.
 use photo_device::SharedHeld;
 use photo_record::PicNo;
 

@@ -1,3 +1,4 @@
+// Where to look first for what is asked next.
 use photo_device::Spot;
 
 /// Where to look first for what is asked next. Any hints will do; where pictures are asked in rising order, each with the

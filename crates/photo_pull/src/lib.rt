@@ -6,12 +6,15 @@ mod counts;
 mod filtered;
 mod finding;
 mod gap;
+mod hearing;
 mod hints;
 mod keeping;
+mod news;
 mod part;
+mod previewing;
 mod pulling;
 mod superseding;
-mod table;
 
 pub use counts::PullCounts;
+pub use previewing::preview;
 pub use pulling::pull;

@@ -1,3 +1,4 @@
+// Some of the versions that a device holds.
 use crate::gap::Gap;
 use crate::hints::Hints;
 use crate::superseding::{any_above_near, any_below, next_picture};

@@ -1,16 +1,14 @@
-ghost use Rattle.std.specs.Prelude.{◌≡◌, ℕ, ◌<◌, ◌≤◌, ◌++◌, true, false, None, Some, IfOk, OnOk, OnErr};
-ghost use Rattle.photo_version.specs.Author.{same_author};
-ghost use Rattle.photo_version.specs.Version.{Version, version};
-ghost use Rattle.item_knowledge.specs.Fragments.{knows};
-ghost use Rattle.photo_device.specs.declared.held.Held.{Held};
-ghost use Rattle.photo_device.specs.Held.{find_version};
+// A pull, and its steps.
+ghost use Rattle.std.specs.Prelude.{◌≡◌, None, IfOk, OnOk, OnErr};
 ghost use Rattle.photo_device.specs.Device.{ModelDevice, Shows, IsAsItWas};
+ghost use Rattle.photo_pull.specs.MayPull.{MayPull};
 ghost use Rattle.photo_pull.specs.Pull.{pulled, handed_over, counts_of};
 ghost use Rattle.photo_pull.specs.Findings.{AreNews};
 
 use crate::PullCounts;
 use crate::change::{handed_of, stage_found};
-use crate::finding::{found_between, news_of};
+use crate::hearing::heard_between;
+use crate::news::news_of;
 use crate::part::Part;
 use photo_device::Device;
 use std::alloc::{AllocError, Global};
@@ -27,10 +25,7 @@ pub fn pull(
     target: &mut Device,
     source: &mut Device,
 ) -> Result<PullCounts, AllocError>
-    requires differ { same_author target.old.author source.old.author ≡ false }
-    requires one { (v : Version) (h g : Held) → find_version v (target.old.store ++ target.old.out) ≡ Some h
-        → find_version v (source.old.store ++ source.old.out) ≡ Some g → h.picture ≡ g.picture }
-    requires own { (p n : ℕ) → 0 < p → knows source.old.knowledge p (version target.old.author n) ≡ true → n ≤ target.old.counter }
+    requires { MayPull target.old source.old }
     ensures target { OnOk result ((t s : ModelDevice) → Shows target.old t → Shows source.old s → Shows target.new (pulled t s)) }
     ensures source { OnOk result ((t s : ModelDevice) → Shows target.old t → Shows source.old s → Shows source.new (handed_over t s)) }
     ensures counts { IfOk result (λ counts. (t s : ModelDevice) → Shows target.old t → Shows source.old s → counts ≡ counts_of t s) }
@@ -50,9 +45,7 @@ fn pull_between(
     target: &mut Device,
     source: &mut Device,
 ) -> Result<PullCounts, AllocError>
-    requires one { (v : Version) (h g : Held) → find_version v (target.old.store ++ target.old.out) ≡ Some h
-        → find_version v (source.old.store ++ source.old.out) ≡ Some g → h.picture ≡ g.picture }
-    requires own { (p n : ℕ) → 0 < p → knows source.old.knowledge p (version target.old.author n) ≡ true → n ≤ target.old.counter }
+    requires may { MayPull target.old source.old }
     requires target_unstaged { target.old.staged ≡ None }
     requires source_unstaged { source.old.staged ≡ None }
     ensures target { OnOk result ((t s : ModelDevice) → Shows target.old t → Shows source.old s → Shows target.new (pulled t s)) }
@@ -75,9 +68,7 @@ fn pull_news(
     source: &mut Device,
 ) -> Result<PullCounts, AllocError>
     requires news { AreNews target.old source.old news }
-    requires one { (v : Version) (h g : Held) → find_version v (target.old.store ++ target.old.out) ≡ Some h
-        → find_version v (source.old.store ++ source.old.out) ≡ Some g → h.picture ≡ g.picture }
-    requires own { (p n : ℕ) → 0 < p → knows source.old.knowledge p (version target.old.author n) ≡ true → n ≤ target.old.counter }
+    requires may { MayPull target.old source.old }
     requires target_unstaged { target.old.staged ≡ None }
     requires source_unstaged { source.old.staged ≡ None }
     ensures target { OnOk result ((t s : ModelDevice) → Shows target.old t → Shows source.old s → Shows target.new (pulled t s)) }
@@ -88,13 +79,15 @@ fn pull_news(
     ensures target_still { target.new.staged ≡ None }
     ensures source_still { source.new.staged ≡ None }
 {
-    let finding = found_between(alloc, news, target, source)?;
+    let hearing = heard_between(alloc, news, target, source)?;
+    let told = hearing.told(alloc)?;
+    let finding = hearing.finding(target.filter());
     let counts = finding.counts();
     if finding.is_nothing(target.knowledge(), source.knowledge()) {
         return Ok(counts);
     }
     let (asked, mut handed) = handed_of(alloc, &finding)?;
-    stage_found(alloc, finding, target, source, asked.len())?;
+    stage_found(alloc, finding, &told, target, source, asked.len())?;
     source.hand_over(&asked, &mut handed);
     target.commit(handed);
     Ok(counts)

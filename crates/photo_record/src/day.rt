@@ -1,3 +1,4 @@
+//! Days of the calendar.
 ghost use Rattle.std.specs.Prelude.{◌≡◌, ℤ, Some, None, length, ◌≤◌, if◌then◌else◌};
 ghost use Rattle.photo_record.specs.Limits.{IsDay, max_year};
 ghost use Rattle.std.specs.Int.{IsInRange};

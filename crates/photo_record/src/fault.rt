@@ -1,3 +1,4 @@
+//! Why a text is no word, or no set of words.
 use thiserror::Error;
 
 /// Why a text is no word, or no set of words.

@@ -18,6 +18,3 @@ pub use rating::Rating;
 pub use record::Record;
 pub use word::Word;
 pub use words::Words;
-
-#[cfg(test)]
-mod tests;

@@ -1,3 +1,4 @@
+//! Ratings.
 ghost use Rattle.std.specs.Prelude.{◌≡◌, ℕ, ◌≤◌, ◌<◌};
 ghost use Rattle.std.specs.Option.{SomeIff};
 ghost use Rattle.photo_record.specs.Limits.{max_rating};

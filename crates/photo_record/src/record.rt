@@ -1,3 +1,4 @@
+//! Records.
 ghost use Rattle.std.specs.Prelude.{◌≡◌, IfOk};
 
 use crate::{Day, Rating, Words};

@@ -1,3 +1,4 @@
+//! The pieces of a set of words, as they are read.
 ghost use Rattle.std.specs.Prelude.{◌≡◌, ℕ, false, ◌<◌, List, [], length, IfOk, IfErr, OnOk, Ok, Err, ◌≢◌};
 ghost use Rattle.photo_record.specs.Limits.{max_words};
 ghost use Rattle.photo_record.specs.Word.{IsWordSet};

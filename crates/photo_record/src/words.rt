@@ -1,3 +1,4 @@
+//! Sets of words.
 ghost use Rattle.std.specs.Prelude.{◌≡◌, ℕ, true, ◌<◌, ◌≤◌, List, [], length, slice_get, Some, IfOk, IfErr, Ok, Err, IsTrue, ◌↔◌, ◌≢◌};
 ghost use Rattle.std.specs.Cmp as laws;
 ghost use Rattle.std.specs.Cmp.Lexicographic.{lists_per, lists_equiv, nat_list_eq_equiv};
@@ -116,38 +117,4 @@ impl PartialEq for Words {
 
 impl Eq for Words {
     ghost laws = { lists_equiv nat_list_eq_equiv };
-}
-
-#[cfg(test)]
-mod tests {
-    use super::{Global, Words};
-    use std::sync::Arc;
-
-    #[test]
-    fn copies_share_their_words(rt: HostRuntime) {
-        assert!(rt; owners(rt.alloc(), "b,a") == Some(2));
-        assert!(rt; owners(rt.alloc(), "-") == Some(0));
-    }
-
-    // How many sets share the words once a copy was made of the set.
-    fn owners(alloc: Global, text: &str) -> Option<usize> {
-        match Words::read(alloc, text) {
-            Ok(words) => owners_with_copy(&words),
-            Err(_) => None,
-        }
-    }
-
-    fn owners_with_copy(words: &Words) -> Option<usize> {
-        match words.try_clone() {
-            Ok(copy) => Some(owners_now(&copy)),
-            Err(_) => None,
-        }
-    }
-
-    fn owners_now(words: &Words) -> usize {
-        words
-            .shared
-            .as_ref()
-            .map_or(0, |shared| Arc::strong_count(shared))
-    }
 }

@@ -12,13 +12,14 @@ use Rattle.photo_record.specs.Reading.{rating_of_text, day_of_text, words_of_tex
 use Rattle.photo_record.specs.declared.record.Record.{Record}
 use Rattle.photo_record.specs.declared.record.Record.TheVariants as content
 use Rattle.photo_record.proofs.DateLemmas.{day_number-in}
+use Rattle.photo_filter_text.specs.Tree.{Tree}
 use Rattle.photo_filter_rules.specs.Filters.{filter_of}
 use Rattle.photo_filter_rules.specs.Matching.{IsInRange}
 use Rattle.photo_script.specs.Limits.{max_text_bytes, max_line_bytes, max_devices, max_commands}
 use Rattle.photo_script.specs.Lines.{lines_of, fields_of, third_field_on}
 use Rattle.photo_script.specs.Fields.{is_word, is_name, place_of}
 use Rattle.photo_script.specs.Earlier.{Earlier, earlier, is_comment, declared_by, filter_declared_by, is_command, names_of, filters_of, commands_of}
-use Rattle.photo_script.specs.Saying.{◌>>=◌, or_fault, word_set, device_said, new_picture_said, record_said, filter_said, declaration_said, device_line_said, command_said, creation_said, new_line_said, picture_said, edition_said, edit_line_said, removal_said, remove_line_said, pulling_said, pull_line_said, narrowing_said, narrow_line_said, list_line_said, conflicts_line_said, version_said, knowledge_line_said, question_said, knows_line_said, question_line_said, command_line_said, fields_said, said}
+use Rattle.photo_script.specs.Saying.{◌>>=◌, or_fault, word_set, device_said, new_picture_said, record_said, filter_said, declaration_said, device_line_said, command_said, creation_said, new_line_said, picture_said, edition_said, edit_line_said, removal_said, remove_line_said, two_said, two_devices_said, pull_line_said, preview_line_said, filtering_said, device_and_filter_said, narrow_line_said, refilter_line_said, list_line_said, conflicts_line_said, version_said, knowledge_line_said, question_said, knows_line_said, question_line_said, command_line_said, fields_said, said}
 use Rattle.photo_script.specs.Reading.{sayings, with_front, commands_said, script_of_commands, script_of_lines, script_of}
 use Rattle.photo_script.specs.Contents.{Contents, contents, devices_of, IsWithin, record_of, IsScript}
 use Rattle.photo_script.specs.Laws.{AcceptedAreScripts}
@@ -28,6 +29,7 @@ use Rattle.photo_script.specs.declared.fault.LineFault.{LineFault}
 use Rattle.photo_script.specs.declared.fault.LineFault.TheVariants as fault
 use Rattle.photo_script.specs.declared.fault.ScriptFault.{ScriptFault}
 use Rattle.photo_script.specs.declared.fault.ScriptFault.TheVariants.{TooLarge, NotUtf8}
+use Rattle.photo_script.proofs.Commands.{no_name}
 use Rattle.photo_script.proofs.Taken.{names_of-push, filters_of-push, commands_of-push}
 
 -- what is said, step by step
@@ -131,23 +133,45 @@ removal_good before name picture c h =
     let same : command.Remove device.0 number.0 ≡ c = cc in
     subst (IsGood (length before.names)) same (record { within = (declared before name device.0 device.1, tt); in_range = tt })
 
-pulling_good : (before : Earlier) (target source : List ℕ) (c : Command) → pulling_said before target source ≡ Ok c → IsGood (length before.names) c
-unfolding pulling_said
-pulling_good before target source c h =
-    let first = bound (device_said before target) _ c h in
-    let second = bound (device_said before source) _ c first.2 in
-    let p = passed (eqb first.0 second.0) fault.SameDevice (Ok (command.Pull first.0 second.0)) c second.2 in
-    let apart : first.0 ≡ second.0 → ⊥ = eqb-false first.0 second.0 p.0 in
-    let same : command.Pull first.0 second.0 ≡ c = cc in
-    subst (IsGood (length before.names)) same (record { within = (declared before target first.0 first.1, (declared before source second.0 second.1, λ e. apart (sym e))); in_range = tt })
+-- two devices of a command
+record AreTwo (before : Earlier) (two : ℕ × ℕ) : Type 0 where
+  pub room : before.commands < max_commands
+  pub target : two.0 < length before.names
+  pub source : two.1 < length before.names
+  pub apart : two.1 ≢ two.0
 
-narrowing_good : (before : Earlier) (name filter : List ℕ) (c : Command) → narrowing_said before name filter ≡ Ok c → IsGood (length before.names) c
-unfolding narrowing_said
-narrowing_good before name filter c h =
-    let device = bound (device_said before name) _ c h in
-    let tree = bound (filter_said filter) _ c device.2 in
-    let same : command.Narrow device.0 tree.0 ≡ c = cc in
-    subst (IsGood (length before.names)) same (record { within = (declared before name device.0 device.1, tt); in_range = tt })
+are_two : (before : Earlier) (arguments : List (List ℕ)) (two : ℕ × ℕ) → two_devices_said before arguments ≡ Ok two → AreTwo before two
+unfolding two_devices_said two_said
+are_two before (target ∷ source ∷ []) two h =
+    let p = passed (leb max_commands before.commands) fault.TooMany _ two h in
+    let first = bound (device_said before target) _ two p.1 in
+    let second = bound (device_said before source) _ two first.2 in
+    let q = passed (eqb first.0 second.0) fault.SameDevice (Ok (first.0, second.0)) two second.2 in
+    let apart : first.0 ≡ second.0 → ⊥ = eqb-false first.0 second.0 q.0 in
+    let same : (first.0, second.0) ≡ two = cc in
+    subst (AreTwo before) same (record {
+      room = leb-false max_commands before.commands p.0;
+      target = declared before target first.0 first.1;
+      source = declared before source second.0 second.1;
+      apart = λ e. apart (sym e);
+    })
+are_two before arguments two h = cc
+
+-- the device of a command that has a filter
+record IsNamed (before : Earlier) (device : ℕ) : Type 0 where
+  pub room : before.commands < max_commands
+  pub within : device < length before.names
+
+is_named : (before : Earlier) (arguments : List (List ℕ)) (filter : List ℕ) (new : ℕ × Tree) → device_and_filter_said before arguments filter ≡ Ok new → IsNamed before new.0
+unfolding device_and_filter_said filtering_said
+is_named before [] filter new h = cc
+is_named before (name ∷ []) filter new h = cc
+is_named before (name ∷ first ∷ more) filter new h =
+    let p = passed (leb max_commands before.commands) fault.TooMany _ new h in
+    let device = bound (device_said before name) _ new p.1 in
+    let tree = bound (filter_said filter) _ new device.2 in
+    let same : (device.0, tree.0) ≡ new = cc in
+    subst (λ (n : ℕ × Tree). IsNamed before n.0) same (record { room = leb-false max_commands before.commands p.0; within = declared before name device.0 device.1 })
 
 question_good : (before : Earlier) (name picture text : List ℕ) (c : Command) → question_said before name picture text ≡ Ok c → IsGood (length before.names) c
 unfolding question_said
@@ -175,16 +199,37 @@ unfolding remove_line_said
 remove_good before (name ∷ picture ∷ []) x h = one_more before _ x h (removal_good before name picture)
 remove_good before arguments x h = cc
 
+of_two : (before : Earlier) (arguments : List (List ℕ)) (f : ℕ → ℕ → Command) (x : Option Command) → ((two : ℕ × ℕ) → AreTwo before two → IsGood (length before.names) (f two.0 two.1))
+    → (two_devices_said before arguments >>= λ two. Ok (Some (f two.0 two.1))) ≡ Ok x → IsCommandOf before x
+of_two before arguments f x good h =
+    let two = bound (two_devices_said before arguments) (λ two. Ok (Some (f two.0 two.1))) x h in
+    let are = are_two before arguments two.0 two.1 in
+    let same : Some (f two.0.0 two.0.1) ≡ x = cc in
+    record { command = f two.0.0 two.0.1; is = sym same; room = are.room; good = good two.0 are }
+
 pull_good : (before : Earlier) (arguments : List (List ℕ)) (x : Option Command) → pull_line_said before arguments ≡ Ok x → IsCommandOf before x
 unfolding pull_line_said
-pull_good before (target ∷ source ∷ []) x h = one_more before _ x h (pulling_good before target source)
-pull_good before arguments x h = cc
+pull_good before arguments x h = of_two before arguments command.Pull x (λ two are. record { within = (are.target, (are.source, are.apart)); in_range = tt }) h
+
+preview_good : (before : Earlier) (arguments : List (List ℕ)) (x : Option Command) → preview_line_said before arguments ≡ Ok x → IsCommandOf before x
+unfolding preview_line_said
+preview_good before arguments x h = of_two before arguments command.Preview x (λ two are. record { within = (are.target, (are.source, are.apart)); in_range = tt }) h
+
+of_filter : (before : Earlier) (arguments : List (List ℕ)) (filter : List ℕ) (f : ℕ → Tree → Command) (x : Option Command) → ((new : ℕ × Tree) → IsNamed before new.0 → IsGood (length before.names) (f new.0 new.1))
+    → (device_and_filter_said before arguments filter >>= λ new. Ok (Some (f new.0 new.1))) ≡ Ok x → IsCommandOf before x
+of_filter before arguments filter f x good h =
+    let new = bound (device_and_filter_said before arguments filter) (λ new. Ok (Some (f new.0 new.1))) x h in
+    let named = is_named before arguments filter new.0 new.1 in
+    let same : Some (f new.0.0 new.0.1) ≡ x = cc in
+    record { command = f new.0.0 new.0.1; is = sym same; room = named.room; good = good new.0 named }
 
 narrow_good : (before : Earlier) (arguments : List (List ℕ)) (filter : List ℕ) (x : Option Command) → narrow_line_said before arguments filter ≡ Ok x → IsCommandOf before x
 unfolding narrow_line_said
-narrow_good before [] filter x h = cc
-narrow_good before (name ∷ []) filter x h = cc
-narrow_good before (name ∷ first ∷ more) filter x h = one_more before _ x h (narrowing_good before name filter)
+narrow_good before arguments filter x h = of_filter before arguments filter command.Narrow x (λ new named. record { within = (named.within, tt); in_range = tt }) h
+
+refilter_good : (before : Earlier) (arguments : List (List ℕ)) (filter : List ℕ) (x : Option Command) → refilter_line_said before arguments filter ≡ Ok x → IsCommandOf before x
+unfolding refilter_line_said
+refilter_good before arguments filter x h = of_filter before arguments filter command.Refilter x (λ new named. record { within = (named.within, tt); in_range = tt }) h
 
 knows_good : (before : Earlier) (arguments : List (List ℕ)) (x : Option Command) → knows_line_said before arguments ≡ Ok x → IsCommandOf before x
 unfolding knows_line_said
@@ -220,10 +265,11 @@ either false r s x h one other = other h
 any_question_good : (before : Earlier) (word : List ℕ) (arguments : List (List ℕ)) (x : Option Command) → question_line_said before word arguments ≡ Ok x → IsCommandOf before x
 unfolding question_line_said
 any_question_good before word arguments x h =
-    either (is_word word (codes "list")) _ _ x h (list_good before arguments x) (λ h2.
+    either (is_word word (codes "preview")) _ _ x h (preview_good before arguments x) (λ h1.
+    either (is_word word (codes "list")) _ _ x h1 (list_good before arguments x) (λ h2.
     either (is_word word (codes "conflicts")) _ _ x h2 (conflicts_good before arguments x) (λ h3.
     either (is_word word (codes "knowledge")) _ _ x h3 (knowledge_good before arguments x) (λ h4.
-    either (is_word word (codes "knows")) _ _ x h4 (knows_good before arguments x) (λ h5. cc))))
+    either (is_word word (codes "knows")) _ _ x h4 (knows_good before arguments x) (λ h5. cc)))))
 
 command_good : (before : Earlier) (word : List ℕ) (arguments : List (List ℕ)) (filter : List ℕ) (x : Option Command) → command_line_said before word arguments filter ≡ Ok x → IsCommandOf before x
 unfolding command_line_said
@@ -232,7 +278,8 @@ command_good before word arguments filter x h =
     either (is_word word (codes "edit")) _ _ x h2 (edit_good before arguments x) (λ h3.
     either (is_word word (codes "remove")) _ _ x h3 (remove_good before arguments x) (λ h4.
     either (is_word word (codes "pull")) _ _ x h4 (pull_good before arguments x) (λ h5.
-    either (is_word word (codes "narrow")) _ _ x h5 (narrow_good before arguments filter x) (any_question_good before word arguments x)))))
+    either (is_word word (codes "narrow")) _ _ x h5 (narrow_good before arguments filter x) (λ h6.
+    either (is_word word (codes "refilter")) _ _ x h6 (refilter_good before arguments filter x) (any_question_good before word arguments x))))))
 
 -- a line of these fields and this text from the third on, which says that
 pub record IsTaken (before : Earlier) (fields : List (List ℕ)) (filter : List ℕ) (x : Option Command) : Type 0 where
@@ -241,11 +288,6 @@ pub record IsTaken (before : Earlier) (fields : List (List ℕ)) (filter : List 
   pub counted : length (option_to_list x) ≡ cond (is_command fields) 1 0
   pub commands : before.commands ≤ max_commands → before.commands + length (option_to_list x) ≤ max_commands
   pub good : AllByRecursion (IsGood (length before.names)) (option_to_list x)
-
--- it declares nothing
-no_name : (word : List ℕ) (arguments : List (List ℕ)) → is_word word (codes "device") ≡ false → declared_by (word ∷ arguments) ≡ []
-no_name word [] other = refl
-no_name word (name ∷ more) other = rw other refl
 
 silent : (before : Earlier) (word : List ℕ) (arguments : List (List ℕ)) (filter : List ℕ) → is_comment word ≡ true → is_word word (codes "device") ≡ false → IsTaken before (word ∷ arguments) filter None
 silent before word arguments filter comment other =

@@ -1,5 +1,5 @@
 -- What comes of a line that says a command: its first device, its refusal, and the command behind the others.
-use Rattle.std.proofs.Common.{◌≡◌, ◌∷◌, ◌++◌, ℕ, List, [], Bool, true, false, cond, ◌||◌, leb, eqb, Option, Some, Result, Ok, Err, refl, sym, ap, subst, ◌∙◌}
+use Rattle.std.proofs.Common.{◌≡◌, ◌∷◌, ◌++◌, ℕ, List, [], Bool, true, false, cond, ◌||◌, leb, eqb, Option, Some, Result, Ok, Err, codes, refl, sym, ap, subst, ◌∙◌}
 use Rattle.std.proofs.Math.Bool.{or-false}
 use Rattle.std.specs.BTreeSet.{contains}
 use Rattle.std.specs.Result.{IsErrAnd}
@@ -9,9 +9,10 @@ use Rattle.std.proofs.lemmas.List.{append-nil}
 use Rattle.std.proofs.lemmas.Result.{err_from_is_err_and}
 use Rattle.photo_script.specs.Limits.{max_commands}
 use Rattle.photo_script.specs.Contents.{contents}
-use Rattle.photo_script.specs.Earlier.{Earlier, declared_by, filter_declared_by, made_by, is_command}
-use Rattle.photo_script.specs.Saying.{command_said, device_said, ◌>>=◌}
-use Rattle.photo_script.specs.Steps.{Lacks, Reads, Refuses, Takes, first_said}
+use Rattle.photo_script.specs.Fields.{is_word}
+use Rattle.photo_script.specs.Earlier.{Earlier, is_comment, declared_by, filter_declared_by, made_by, is_command}
+use Rattle.photo_script.specs.Saying.{with_room, command_said, device_said, ◌>>=◌}
+use Rattle.photo_script.specs.Steps.{Gives, Lacks, Reads, Refuses, Takes, first_said}
 use Rattle.photo_script.specs.declared.command.Command.{Command}
 use Rattle.photo_script.specs.declared.fault.LineFault.{LineFault}
 use Rattle.photo_script.specs.declared.fault.LineFault.TheVariants.{TooMany}
@@ -29,6 +30,16 @@ pub first-refused : (before : Earlier) (name : List ℕ) (f : LineFault) (next :
 unfolding first_said command_said
 first-refused before name f next e = first-cases (leb max_commands before.commands) (device_said before name) f next e
 
+refuses-cases : {A : Type 0} (full : Bool) (d : Result ℕ LineFault) (f : LineFault) (next : ℕ → Result A LineFault) → Err f ≡ cond full (Err TooMany) d → cond full (Err TooMany) (d >>= next) ≡ Err f
+refuses-cases true d f next e = cc
+refuses-cases false (Ok x) f next e = cc
+refuses-cases false (Err g) f next e = cc
+
+-- and so is what a command needs
+pub first-refuses : {A : Type 0} (before : Earlier) (name : List ℕ) (f : LineFault) (next : ℕ → Result A LineFault) → Err f ≡ first_said before name → with_room before (device_said before name >>= next) ≡ Err f
+unfolding first_said
+first-refuses before name f next e = refuses-cases (leb max_commands before.commands) (device_said before name) f next e
+
 known-cases : (full : Bool) (d : Result ℕ LineFault) (device : ℕ) → Ok device ≡ cond full (Err TooMany) d → Ok device ≡ d
 known-cases true d device e = cc
 known-cases false d device e = e
@@ -40,23 +51,56 @@ first-known before name device e = known-cases (leb max_commands before.commands
 reads-refused : (old new : Reader) (fields : List (List ℕ)) (filter : List ℕ) (said : Result (Option Command) LineFault) (r : Result (Unit {0}) Refusal) (e : Refusal) → r ≡ Err e → Refuses e said → Reads old fields filter said r new
 reads-refused old new fields filter said r e is refused = subst (λ x. Reads old fields filter said x new) (sym is) refused
 
--- what a `?` on a fault hands on
+-- what a `?` hands on: the same fault
+pub hands-fault : {A : Type 0} (r : Result A LineFault) (f : LineFault) → IsErrAnd r (λ e. e ≡ f) → r ≡ Err f
+hands-fault r f h = let p = err_from_is_err_and r h in p.1 ∙ ap (λ (e : LineFault). Err e) p.2
+
+gives-refused : {A B : Type 0} (view : A → B) (r : Result A Refusal) (said : Result B LineFault) (e : Refusal) → r ≡ Err e → Refuses e said → Gives view r said
+gives-refused view r said e is refused = subst (λ x. Gives view x said) (sym is) refused
+
+-- a fault as a refusal
+pub gives-fault : {A B : Type 0} (view : A → B) (r : Result A Refusal) (said : Result B LineFault) (f : LineFault) → IsErrAnd r (λ e. e ≡ Fault f) → said ≡ Err f → Gives view r said
+gives-fault view r said f h is =
+    let p = err_from_is_err_and r h in
+    gives-refused view r said p.0 p.1 (subst (λ e. Refuses e said) (sym p.2) is)
+
+-- the same refusal
+pub gives-same : {A B : Type 0} (view : A → B) (r : Result A Refusal) (said : Result B LineFault) (e : Refusal) → IsErrAnd r (λ x. x ≡ e) → Refuses e said → Gives view r said
+gives-same view r said e h refused =
+    let p = err_from_is_err_and r h in
+    gives-refused view r said p.0 p.1 (subst (λ x. Refuses x said) (sym p.2) refused)
+
+-- and for a line: a fault
 pub reads-fault : (old new : Reader) (fields : List (List ℕ)) (filter : List ℕ) (said : Result (Option Command) LineFault) (r : Result (Unit {0}) Refusal) (f : LineFault) → IsErrAnd r (λ e. e ≡ Fault f) → said ≡ Err f → Reads old fields filter said r new
 reads-fault old new fields filter said r f h is =
     let p = err_from_is_err_and r h in
     reads-refused old new fields filter said r p.0 p.1 (subst (λ e. Refuses e said) (sym p.2) is)
 
--- a `?` on a refusal hands on the same
+-- the same refusal
 pub reads-same : (old new : Reader) (fields : List (List ℕ)) (filter : List ℕ) (said : Result (Option Command) LineFault) (r : Result (Unit {0}) Refusal) (e : Refusal) → IsErrAnd r (λ x. x ≡ e) → Refuses e said → Reads old fields filter said r new
 reads-same old new fields filter said r e h refused =
     let p = err_from_is_err_and r h in
     reads-refused old new fields filter said r p.0 p.1 (subst (λ x. Refuses x said) (sym p.2) refused)
 
--- and on want of memory
+-- and want of memory
 pub reads-memory : (old new : Reader) (fields : List (List ℕ)) (filter : List ℕ) (said : Result (Option Command) LineFault) (r : Result (Unit {0}) Refusal) → IsErrAnd r (λ e. e ≡ Memory) → Reads old fields filter said r new
 reads-memory old new fields filter said r h =
     let p = err_from_is_err_and r h in
     reads-refused old new fields filter said r p.0 p.1 (subst (λ e. Refuses e said) (sym p.2) tt)
+
+-- where what a command needs is refused, so is its line
+pub needs-refused : {A : Type 0} (r : Result A LineFault) (f : LineFault) (next : A → Result (Option Command) LineFault) → Err f ≡ r → (r >>= next) ≡ Err f
+needs-refused (Ok x) f next e = cc
+needs-refused (Err g) f next e = cc
+
+-- and where it is said, so is the line
+pub needs-said : {A : Type 0} (r : Result A LineFault) (x : A) (next : A → Result (Option Command) LineFault) → r ≡ Ok x → (r >>= next) ≡ next x
+needs-said r x next e = ap (λ s. s >>= next) e
+
+-- or memory was refused
+pub needs-refuse : {A : Type 0} (r : Result A LineFault) (e : Refusal) (next : A → Result (Option Command) LineFault) → Refuses e r → Refuses e (r >>= next)
+needs-refuse r Memory next refused = tt
+needs-refuse r (Fault f) next refused = needs-refused r f next (sym refused)
 
 -- a line that declares no device and makes no picture lacks but its command from the first
 pub lacks-first : (r : Reader) (fields : List (List ℕ)) (filter : List ℕ) → declared_by fields ≡ [] → filter_declared_by fields filter ≡ [] → made_by fields ≡ [] → is_command fields ≡ true → Lacks r fields filter r
@@ -69,6 +113,22 @@ lacks-first r fields filter no_name no_filter no_picture counts = record {
       sym (or-false had) ∙ ap (λ made. had || list_any (λ (q : ℕ). eqb q p) made) (sym no_picture);
   counts = counts;
 }
+
+-- only `device` declares a device
+pub no_name : (word : List ℕ) (arguments : List (List ℕ)) → is_word word (codes "device") ≡ false → declared_by (word ∷ arguments) ≡ []
+no_name word [] other = refl
+no_name word (name ∷ more) other = rw other refl
+
+-- and only `new` makes a picture
+no_picture : (word : List ℕ) (arguments : List (List ℕ)) → is_word word (codes "new") ≡ false → made_by (word ∷ arguments) ≡ []
+no_picture word [] other = refl
+no_picture word (device ∷ []) other = refl
+no_picture word (device ∷ picture ∷ more) other = rw other refl
+
+-- so the line of another command lacks but its command from the first, whatever its other fields
+pub lacks-other : (r : Reader) (word : List ℕ) (arguments : List (List ℕ)) (filter : List ℕ) → is_word word (codes "device") ≡ false → is_word word (codes "new") ≡ false → is_comment word ≡ false → Lacks r (word ∷ arguments) filter r
+lacks-other r word arguments filter no_device no_new no_comment =
+    lacks-first r (word ∷ arguments) filter (no_name word arguments no_device) (rw no_device refl) (no_picture word arguments no_new) (rw (no_comment, no_device) refl)
 
 -- and whatever sets of words it keeps
 pub lacks_with_sets : (before now : Reader) (sets : ℕ) (fields : List (List ℕ)) (filter : List ℕ) → Lacks before fields filter now → Lacks before fields filter (record now { words = sets })

@@ -5,7 +5,6 @@ mod Changing
 mod Commands
 mod Counted
 mod Cuts
-mod Everywhere
 mod FilterTexts
 mod Gathered
 mod HasField

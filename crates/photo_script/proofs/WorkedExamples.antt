@@ -9,10 +9,10 @@ use Rattle.photo_filter_text.specs.Steps.{symbol_of, at_factor, after_term, afte
 use Rattle.photo_filter_rules.specs.Filters.{filter_of}
 use Rattle.photo_record.specs.Calendar.{date_of, years_off, months_off}
 use Rattle.photo_record.specs.Reading.{day_of_text, words_of_text, word_of_text}
-use Rattle.photo_script.specs.Saying.{said, fields_said, command_line_said, question_line_said, device_line_said, filter_said, declaration_said, new_line_said, creation_said, command_said, device_said, new_picture_said, record_said, list_line_said, picture_said, edition_said, edit_line_said, removal_said, remove_line_said, pulling_said, pull_line_said, narrowing_said, narrow_line_said, conflicts_line_said, knowledge_line_said, knows_line_said, question_said, version_said}
+use Rattle.photo_script.specs.Saying.{said, fields_said, command_line_said, question_line_said, device_line_said, filter_said, declaration_said, new_line_said, creation_said, command_said, device_said, new_picture_said, record_said, list_line_said, picture_said, edition_said, edit_line_said, removal_said, remove_line_said, two_said, two_devices_said, pull_line_said, preview_line_said, filtering_said, device_and_filter_said, narrow_line_said, refilter_line_said, conflicts_line_said, knowledge_line_said, knows_line_said, question_said, author_said, version_said}
 use Rattle.photo_script.specs.Reading.{script_of}
 use Rattle.photo_script.specs.Reports.{text_of}
-use Rattle.photo_script.specs.Examples.{FirstRun, SingleFaults, TwoFaults, LinesAndFields, Filters, Changes, Questions, KnownTexts, Moves, MovedTexts, Counts}
+use Rattle.photo_script.specs.Examples.{FirstRun, SingleFaults, TwoFaults, LinesAndFields, Filters, Changes, Questions, KnownTexts, LaterEpochs, LaterEpochTexts, Moves, OtherMoves, ManyDevices, MovedTexts, Counts}
 
 pub first_run : FirstRun
 unfolding chars is_utf8 digits encode days_from_civil day_count days_of_years days_of_months unicode_normalization date_of years_off months_off day_of_text words_of_text word_of_text said fields_said command_line_said question_line_said device_line_said filter_said symbol_of at_factor after_term after_factor filter_of declaration_said new_line_said creation_said command_said device_said new_picture_said record_said list_line_said script_of text_of
@@ -54,7 +54,7 @@ unfolding chars is_utf8 digits encode days_from_civil day_count days_of_years da
 changes = record { edit = refl; few = refl; many = refl; device = refl; number = refl; rating = refl; refused = refl }
 
 pub questions : Questions
-unfolding chars is_utf8 encode said fields_said command_line_said question_line_said device_line_said filter_said symbol_of at_factor after_term after_factor filter_of declaration_said command_said device_said picture_said knowledge_line_said knows_line_said question_said version_said script_of
+unfolding chars is_utf8 encode said fields_said command_line_said question_line_said device_line_said filter_said symbol_of at_factor after_term after_factor filter_of declaration_said command_said device_said picture_said knowledge_line_said knows_line_said question_said author_said version_said script_of
 questions = record {
   asked = refl;
   number = refl;
@@ -73,12 +73,31 @@ questions = record {
   both = refl;
 }
 
+pub later_epochs : LaterEpochs
+unfolding chars is_utf8 encode said fields_said command_line_said question_line_said device_line_said filter_said symbol_of at_factor after_term after_factor filter_of declaration_said command_said device_said picture_said knowledge_line_said knows_line_said question_said author_said version_said script_of
+later_epochs = record {
+  asked = refl;
+  first_given = refl;
+  leading_zero = refl;
+  no_epoch = refl;
+  no_colon = refl;
+  too_late = refl;
+  two_dots = refl;
+  no_number = refl;
+  name_first = refl;
+  no_name = refl;
+}
+
+pub later_epoch_texts : LaterEpochTexts
+unfolding chars digits encode text_of
+later_epoch_texts = record { made = refl; known = refl }
+
 pub known_texts : KnownTexts
 unfolding chars digits encode text_of
 known_texts = record { nothing = refl; star = refl; groups = refl; known = refl; unknown = refl }
 
 pub moves : Moves
-unfolding chars is_utf8 encode said fields_said command_line_said question_line_said device_line_said filter_said symbol_of at_factor after_term after_factor filter_of declaration_said command_said device_said pulling_said pull_line_said narrowing_said narrow_line_said conflicts_line_said script_of
+unfolding chars is_utf8 encode said fields_said command_line_said question_line_said device_line_said filter_said symbol_of at_factor after_term after_factor filter_of declaration_said command_said device_said two_said two_devices_said pull_line_said filtering_said device_and_filter_said narrow_line_said conflicts_line_said script_of
 moves = record {
   moved = refl;
   itself = refl;
@@ -95,9 +114,39 @@ moves = record {
   late = refl;
 }
 
+pub other_moves : OtherMoves
+unfolding chars is_utf8 encode said fields_said command_line_said question_line_said device_line_said filter_said symbol_of at_factor after_term after_factor filter_of declaration_said command_said device_said two_said two_devices_said preview_line_said filtering_said device_and_filter_said refilter_line_said list_line_said script_of
+other_moves = record {
+  previewed = refl;
+  itself = refl;
+  source = refl;
+  neither = refl;
+  few = refl;
+  many = refl;
+  refiltered = refl;
+  filter = refl;
+  device_first = refl;
+  no_filter = refl;
+  late = refl;
+}
+
+pub many_devices : ManyDevices
+unfolding chars is_utf8 encode said fields_said device_line_said filter_said symbol_of at_factor after_term after_factor filter_of declaration_said
+many_devices = record { more = refl; last = refl; repeated = refl; too_many = refl; too_many_names = refl; fields = refl }
+
 pub moved_texts : MovedTexts
 unfolding chars digits encode text_of
-moved_texts = record { pulled = refl; counted = refl; narrowed = refl; refused = refl; one = refl; two = refl; none = refl }
+moved_texts = record {
+  pulled = refl;
+  counted = refl;
+  previewed = refl;
+  refiltered = refl;
+  narrowed = refl;
+  refused = refl;
+  one = refl;
+  two = refl;
+  none = refl;
+}
 
 pub counts : Counts
-counts = record { empty = refl; silent = refl; first = refl; pulled = refl; refused = refl }
+counts = record { empty = refl; silent = refl; first = refl; pulled = refl; refused = refl; told = refl }

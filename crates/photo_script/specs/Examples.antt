@@ -1,5 +1,5 @@
 -- Scripts and reports, worked.
-use Rattle.std.specs.Prelude.{◌≡◌, ℕ, true, false, pos, List, [], ◌∷◌, Ok, Err, codes}
+use Rattle.std.specs.Prelude.{◌≡◌, ℕ, true, false, pos, List, [], ◌∷◌, replicate, None, Ok, Err, codes}
 use Rattle.photo_record.specs.declared.record.Record.{Record}
 use Rattle.photo_record.specs.declared.record.Record.TheVariants as content
 use Rattle.photo_filter_text.specs.declared.tree.Cmp.TheVariants.{AtLeast, AtMost}
@@ -7,16 +7,18 @@ use Rattle.photo_filter_text.specs.Tree.{All, Rate, Not, Keyword, Both}
 use Rattle.item_knowledge.specs.Entries as knowledge
 use Rattle.photo_device.specs.Entry.{Entry}
 use Rattle.photo_device.specs.declared.conflict.Conflict.{Conflict}
-use Rattle.photo_version.specs.Author.{author}
+use Rattle.photo_version.specs.Author.{author, author_at, author_word}
 use Rattle.photo_version.specs.Version.{Version, version}
 use Rattle.photo_device.specs.declared.place.Place.TheVariants as place
 use Rattle.photo_script.specs.Contents.{Contents, contents}
+use Rattle.photo_script.specs.Earlier.{Earlier}
+use Rattle.photo_script.specs.Saying.{said}
 use Rattle.photo_script.specs.Reading.{script_of}
 use Rattle.photo_script.specs.Runs.{run}
 use Rattle.photo_script.specs.Tallies.{totals_of}
 use Rattle.photo_script.specs.declared.tally.Totals.{Totals}
 use Rattle.item_knowledge.specs.Fragments.{Fragment}
-use Rattle.photo_script.specs.Reports.{Made, NotHeld, NotNarrower, Narrowed, Pulled, Listed, Conflicts, KnowledgeOf, Knows, text_of}
+use Rattle.photo_script.specs.Reports.{Made, NotHeld, NotNarrower, Narrowed, Refiltered, Pulled, Preview, Listed, Conflicts, KnowledgeOf, Knows, text_of}
 use Rattle.photo_script.specs.declared.command.Command.{Command}
 use Rattle.photo_script.specs.declared.command.Command.TheVariants as command
 use Rattle.photo_script.specs.declared.fault.LineFault.TheVariants as fault
@@ -117,14 +119,36 @@ pub record Questions : Type 0 where
 abbrev pub fragment : List ℕ → List knowledge.Entry → Fragment
 fragment pictures entries = record { pictures = pictures; entries = entries }
 
+-- the last version that is known of a device in an epoch
+abbrev pub bound : ℕ → ℕ → ℕ → knowledge.Entry
+bound device epoch number = (author_word (author_at device epoch), number)
+
 -- what devices know, a line a fragment: nothing; four versions of every picture; more of two pictures and of a third
 pub record KnownTexts : Type 0 where
   pub nothing : text_of (pair []) 1 (KnowledgeOf 0 (fragment [] [] ∷ [])) ≡ codes "1 knowledge a 1\n  * -\n"
-  pub star : text_of (pair []) 7 (KnowledgeOf 0 (fragment [] ((0, 4) ∷ []) ∷ [])) ≡ codes "7 knowledge a 1\n  * a:4\n"
-  pub groups : text_of (pair []) 5 (KnowledgeOf 1 (fragment [] ((0, 1) ∷ []) ∷ fragment (7 ∷ 9 ∷ []) ((0, 2) ∷ (1, 1) ∷ []) ∷ fragment (8 ∷ []) ((0, 3) ∷ []) ∷ []))
+  pub star : text_of (pair []) 7 (KnowledgeOf 0 (fragment [] (bound 0 0 4 ∷ []) ∷ [])) ≡ codes "7 knowledge a 1\n  * a:4\n"
+  pub groups : text_of (pair []) 5 (KnowledgeOf 1 (fragment [] (bound 0 0 1 ∷ []) ∷ fragment (7 ∷ 9 ∷ []) (bound 0 0 2 ∷ bound 1 0 1 ∷ []) ∷ fragment (8 ∷ []) (bound 0 0 3 ∷ []) ∷ []))
       ≡ codes "5 knowledge b 3\n  * a:1\n  7,9 a:2 b:1\n  8 a:3\n"
   pub known : text_of (pair []) 8 (Knows true) ≡ codes "8 knows yes\n"
   pub unknown : text_of (pair []) 8 (Knows false) ≡ codes "8 knows no\n"
+
+-- versions of later epochs: read, refused, and their texts
+pub record LaterEpochs : Type 0 where
+  pub asked : script_of (codes "device a all\nknows a 7 a.1:1\nknows a 7 a.100000:100000")
+      ≡ Ok (contents (codes "a" ∷ []) (All ∷ []) (command.Knows 0 7 (version (author_at 0 1) 1) ∷ command.Knows 0 7 (version (author_at 0 100_000) 100_000) ∷ []))
+  pub first_given : script_of (codes "device a all\nknows a 7 a.0:1") ≡ Err (Line 2 fault.BadNumber)
+  pub leading_zero : script_of (codes "device a all\nknows a 7 a.01:1") ≡ Err (Line 2 fault.BadNumber)
+  pub no_epoch : script_of (codes "device a all\nknows a 7 a.:1") ≡ Err (Line 2 fault.BadNumber)
+  pub no_colon : script_of (codes "device a all\nknows a 7 a.1") ≡ Err (Line 2 fault.BadNumber)
+  pub too_late : script_of (codes "device a all\nknows a 7 a.100001:1") ≡ Err (Line 2 fault.BadNumber)
+  pub two_dots : script_of (codes "device a all\nknows a 7 a.1.2:3") ≡ Err (Line 2 fault.BadNumber)
+  pub no_number : script_of (codes "device a all\nknows a 7 a.1:0") ≡ Err (Line 2 fault.BadNumber)
+  pub name_first : script_of (codes "device a all\nknows a 7 b.0:0") ≡ Err (Line 2 fault.UnknownDevice)
+  pub no_name : script_of (codes "device a all\nknows a 7 .1:1") ≡ Err (Line 2 fault.UnknownDevice)
+
+pub record LaterEpochTexts : Type 0 where
+  pub made : text_of camera 1 (Made (version (author_at 0 1) 3) place.Store) ≡ codes "1 made cam.1:3 store\n"
+  pub known : text_of (pair []) 9 (KnowledgeOf 0 (fragment [] (bound 0 0 2 ∷ bound 0 12 1 ∷ bound 1 0 1 ∷ []) ∷ [])) ≡ codes "9 knowledge a 1\n  * a:2 a.12:1 b:1\n"
 
 -- a device pulls from another, and gets another filter, which is the text of its line from the third field on
 pub record Moves : Type 0 where
@@ -143,15 +167,49 @@ pub record Moves : Type 0 where
   pub none : script_of (codes "device a all\nconflicts") ≡ Err (Line 2 fault.WrongFields)
   pub late : script_of (codes "device a all\nconflicts a\ndevice b all") ≡ Err (Line 3 fault.LateDevice)
 
+-- a preview is asked as a pull is told, and any other filter is given as a narrower one is
+pub record OtherMoves : Type 0 where
+  pub previewed : script_of (codes "device a all\ndevice b all\npreview a b\nlist a\npreview b a")
+      ≡ Ok (pair (command.Preview 0 1 ∷ command.List 0 ∷ command.Preview 1 0 ∷ []))
+  pub itself : script_of (codes "device a all\npreview a a") ≡ Err (Line 2 fault.SameDevice)
+  pub source : script_of (codes "device a all\npreview a b") ≡ Err (Line 2 fault.UnknownDevice)
+  pub neither : script_of (codes "device a all\npreview b b") ≡ Err (Line 2 fault.UnknownDevice)
+  pub few : script_of (codes "device a all\npreview a") ≡ Err (Line 2 fault.WrongFields)
+  pub many : script_of (codes "device a all\npreview a a a") ≡ Err (Line 2 fault.WrongFields)
+  pub refiltered : script_of (codes "device a all\ndevice b all\n refilter  b  not rating >= 4 \nlist b")
+      ≡ Ok (pair (command.Refilter 1 (Not (Rate AtLeast 4)) ∷ command.List 1 ∷ []))
+  pub filter : script_of (codes "device a all\nrefilter a rating >= 6") ≡ Err (Line 2 fault.BadFilter)
+  pub device_first : script_of (codes "device a all\nrefilter b rating >= 6") ≡ Err (Line 2 fault.UnknownDevice)
+  pub no_filter : script_of (codes "device a all\nrefilter a") ≡ Err (Line 2 fault.WrongFields)
+  pub late : script_of (codes "device a all\nrefilter a none\ndevice b all") ≡ Err (Line 3 fault.LateDevice)
+
+-- what lines tell that declare so many devices, all of one name
+abbrev pub declared : ℕ → Earlier
+declared count = record { names = replicate count (codes "d"); makes = λ p. false; commands = 0 }
+
+-- a 65th line that declares a device is as good as a 256th, and a 257th is one too many, whatever its name and filter, but
+-- not whatever its fields
+pub record ManyDevices : Type 0 where
+  pub more : said (declared 64) (codes "device e all") ≡ Ok None
+  pub last : said (declared 255) (codes "device e all") ≡ Ok None
+  pub repeated : said (declared 255) (codes "device d all") ≡ Err fault.RepeatedDevice
+  pub too_many : said (declared 256) (codes "device e all") ≡ Err fault.TooMany
+  pub too_many_names : said (declared 256) (codes "device D rating >= 6") ≡ Err fault.TooMany
+  pub fields : said (declared 256) (codes "device e") ≡ Err fault.WrongFields
+
 abbrev pub conflict : ℕ → List Version → Conflict
 conflict picture versions = record { picture = picture; versions = versions }
 
--- what a pull moved, how many versions a narrower filter moved, a filter that isn't narrower, and conflicts
+-- what a pull moved and one would, where versions are after another filter, how many a narrower one moved, a filter that
+-- isn't narrower, and conflicts
 pub record MovedTexts : Type 0 where
   pub pulled : text_of (pair []) 5 (Pulled (record { taken = 1; handed = 0; notices = 0; dropped = 0; learned = true }))
       ≡ codes "5 pulled taken 1 handed 0 notices 0 dropped 0 learned yes\n"
   pub counted : text_of (pair []) 12 (Pulled (record { taken = 1; handed = 20; notices = 300; dropped = 4000; learned = false }))
       ≡ codes "12 pulled taken 1 handed 20 notices 300 dropped 4000 learned no\n"
+  pub previewed : text_of (pair []) 12 (Preview (record { taken = 1; handed = 20; notices = 300; dropped = 4000; learned = true }))
+      ≡ codes "12 preview taken 1 handed 20 notices 300 dropped 4000 learned yes\n"
+  pub refiltered : text_of (pair []) 4 (Refiltered 10 2) ≡ codes "4 refiltered store 10 out 2\n"
   pub narrowed : text_of (pair []) 3 (Narrowed 2) ≡ codes "3 narrowed 2\n"
   pub refused : text_of (pair []) 4 NotNarrower ≡ codes "4 refused C2 NotNarrower\n"
   pub one : text_of (pair []) 6 (Conflicts 0 (conflict 7 (version (author 0) 2 ∷ version (author 1) 1 ∷ []) ∷ [])) ≡ codes "6 conflicts a 1\n  7 a:2 b:1\n"
@@ -174,6 +232,12 @@ each_refused = contents (codes "a" ∷ codes "b" ∷ []) (Rate AtLeast 4 ∷ All
     ∷ command.Edit 0 9 (content.Picture 5 (pos 19_723) []) ∷ command.Remove 1 9 ∷ command.Narrow 0 All ∷ command.List 0
     ∷ command.Knows 1 7 (version (author 0) 9) ∷ [])
 
+-- a pull is told before and after it, and then its target gets a filter that isn't narrower, and takes once more
+abbrev pub told_and_refiltered : Contents
+told_and_refiltered = contents (codes "a" ∷ codes "b" ∷ []) (All ∷ Rate AtLeast 4 ∷ [])
+    (command.New 0 1 (content.Picture 5 (pos 19_723) []) ∷ command.New 0 2 (content.Picture 2 (pos 19_723) []) ∷ command.Preview 1 0
+    ∷ command.Pull 1 0 ∷ command.Preview 1 0 ∷ command.Refilter 1 All ∷ command.Pull 1 0 ∷ command.List 1 ∷ [])
+
 abbrev pub totals : ℕ → ℕ → ℕ → ℕ → Totals
 totals changes pulls reports moved = record { changes = changes; pulls = pulls; reports = reports; moved = moved }
 
@@ -184,3 +248,4 @@ pub record Counts : Type 0 where
   pub first : totals_of camera (run camera) ≡ totals 1 0 1 0
   pub pulled : totals_of two_versions (run two_versions) ≡ totals 4 3 2 3
   pub refused : totals_of each_refused (run each_refused) ≡ totals 5 1 2 2
+  pub told : totals_of told_and_refiltered (run told_and_refiltered) ≡ totals 3 2 3 2

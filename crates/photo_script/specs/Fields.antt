@@ -5,7 +5,7 @@ use Rattle.std.specs.Char.{is_ascii_lowercase, is_ascii_digit}
 use Rattle.std.specs.Str.{bytes_eq, all_ascii_digits}
 use Rattle.std.specs.Str.Parse.{digits_value}
 use Rattle.photo_record.specs.Limits.{max_picture}
-use Rattle.photo_script.specs.Limits.{max_version, max_name_characters}
+use Rattle.photo_script.specs.Limits.{max_epoch, max_version, max_name_characters}
 
 abbrev pub is_word : List ℕ → List ℕ → Bool
 is_word field word = bytes_eq field word
@@ -26,9 +26,18 @@ place_of names name = position (bytes_eq name) names
 abbrev pub is_colon : ℕ → Bool
 is_colon c = c == 58
 
--- what stands before the first colon of a text and what stands behind it, where it has one
+abbrev pub is_dot : ℕ → Bool
+is_dot c = c == 46
+
+-- what stands before the first such character of a text and what stands behind it, where it has one
+abbrev pub cut_at : (ℕ → Bool) → List ℕ → Option (List ℕ × List ℕ)
+cut_at mark text = if list_any mark text then Some (before_first mark text, after_first mark text) else None
+
 abbrev pub cut_at_colon : List ℕ → Option (List ℕ × List ℕ)
-cut_at_colon text = if list_any is_colon text then Some (before_first is_colon text, after_first is_colon text) else None
+cut_at_colon text = cut_at is_colon text
+
+abbrev pub cut_at_dot : List ℕ → Option (List ℕ × List ℕ)
+cut_at_dot text = cut_at is_dot text
 
 -- decimal digits without a leading zero
 abbrev pub is_decimal : List ℕ → Bool
@@ -47,6 +56,13 @@ picture_of text = if is_decimal text && is_picture (number_of text) then Some (n
 
 abbrev pub is_version_number : ℕ → Bool
 is_version_number n = nat_le 1 n && nat_le n max_version
+
+abbrev pub is_epoch : ℕ → Bool
+is_epoch n = nat_le 1 n && nat_le n max_epoch
+
+-- an epoch behind a dot: one after the first
+abbrev pub epoch_of : List ℕ → Option ℕ
+epoch_of text = if is_decimal text && is_epoch (number_of text) then Some (number_of text) else None
 
 -- the number of a version
 abbrev pub version_number_of : List ℕ → Option ℕ

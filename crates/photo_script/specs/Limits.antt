@@ -11,7 +11,7 @@ max_line_bytes = 1024
 
 -- devices of a script
 abbrev pub max_devices : ℕ
-max_devices = 64
+max_devices = 256
 
 -- commands of a script
 abbrev pub max_commands : ℕ
@@ -20,6 +20,10 @@ max_commands = 100_000
 -- the number of a version in a script
 abbrev pub max_version : ℕ
 max_version = 100_000
+
+-- the epoch of an author in a script
+abbrev pub max_epoch : ℕ
+max_epoch = 100_000
 
 -- characters of a device's name
 abbrev pub max_name_characters : ℕ

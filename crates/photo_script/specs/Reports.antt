@@ -1,5 +1,5 @@
 -- Reports, and their texts.
-use Rattle.std.specs.Prelude.{◌≡◌, ℕ, ◌+◌, ◌-◌, ◌<◌, Bool, true, if◌then◌else◌, ℤ, List, [], ◌∷◌, ◌++◌, length, map, codes, replicate, slice_index_or}
+use Rattle.std.specs.Prelude.{◌≡◌, ℕ, ◌+◌, ◌-◌, ◌<◌, Bool, true, ◌==◌, if◌then◌else◌, ℤ, List, [], ◌∷◌, ◌++◌, length, map, codes, replicate, slice_index_or}
 use Rattle.std.specs.Fmt.{decimal}
 use Rattle.std.specs.List.{AllByRecursion, flat_map, join_with_byte}
 use Rattle.photo_record.specs.Calendar.{date_of}
@@ -7,7 +7,7 @@ use Rattle.photo_record.specs.declared.record.Record.{Record}
 use Rattle.photo_record.specs.declared.record.Record.TheVariants as content
 use Rattle.photo_device.specs.Entry.{Entry}
 use Rattle.photo_device.specs.Held.{entries_of}
-use Rattle.photo_version.specs.Author.{device_of_author, author_of_word}
+use Rattle.photo_version.specs.Author.{Author, device_of_author, epoch_of_author, author_of_word}
 use Rattle.photo_version.specs.Version.{Version, Versions, version}
 use Rattle.item_knowledge.specs.Entries as knowledge
 use Rattle.item_knowledge.specs.Fragments.{Fragment, knows, is_normal}
@@ -25,7 +25,11 @@ pub data Answer : Type 0 where
   NotHeld : Answer
   NotNarrower : Answer
   Narrowed : ℕ → Answer
+  -- how many versions are in the store and in the out then
+  Refiltered : ℕ → ℕ → Answer
   Pulled : PullCounts → Answer
+  -- what a pull would move and tell
+  Preview : PullCounts → Answer
   Listed : ℕ → List Entry → List Entry → Answer
   Conflicts : ℕ → List Conflict → Answer
   KnowledgeOf : ℕ → List Fragment → Answer
@@ -37,7 +41,9 @@ answer_of (report.Made v p) = Made v p
 answer_of report.NotHeld = NotHeld
 answer_of report.NotNarrower = NotNarrower
 answer_of (report.Narrowed count) = Narrowed count
+answer_of (report.Refiltered stored waiting) = Refiltered stored waiting
 answer_of (report.Pulled counts) = Pulled counts
+answer_of (report.Preview counts) = Preview counts
 answer_of (report.Listed n store out) = Listed n (entries_of store) (entries_of out)
 answer_of (report.Conflicts n pictures) = Conflicts n pictures
 answer_of (report.KnowledgeOf n knowledge) = KnowledgeOf n knowledge.value.known
@@ -84,7 +90,9 @@ IsAbout script (Made v p) = IsOfScript script v
 IsAbout script NotHeld = Unit {0}
 IsAbout script NotNarrower = Unit {0}
 IsAbout script (Narrowed count) = Unit {0}
+IsAbout script (Refiltered stored waiting) = Unit {0}
 IsAbout script (Pulled counts) = Unit {0}
+IsAbout script (Preview counts) = Unit {0}
 IsAbout script (Listed n store out) = (n < length script.names) × AreOfScript script store × AreOfScript script out
 IsAbout script (Conflicts n pictures) = (n < length script.names) × AreConflictsOfScript script pictures
 IsAbout script (KnowledgeOf n fragments) = (n < length script.names) × AllByRecursion (IsFragmentOfScript script) fragments
@@ -94,9 +102,17 @@ IsAbout script (Knows known) = Unit {0}
 abbrev pub name_of : Contents → ℕ → List ℕ
 name_of script device = slice_index_or script.names device []
 
--- the name of the author, a colon and the number
+-- a later epoch than the first, with a dot in front
+abbrev pub epoch_text : ℕ → List ℕ
+epoch_text epoch = if epoch == 0 then [] else codes "." ++ decimal epoch
+
+-- the name of the device, and the epoch where it isn't the first
+abbrev pub author_text : Contents → Author → List ℕ
+author_text script a = name_of script (device_of_author a) ++ epoch_text (epoch_of_author a)
+
+-- the author, a colon and the number
 abbrev pub version_text : Contents → Version → List ℕ
-version_text script v = name_of script (device_of_author v.author) ++ codes ":" ++ decimal v.number
+version_text script v = author_text script v.author ++ codes ":" ++ decimal v.number
 
 abbrev pub place_text : Place → List ℕ
 place_text place.Store = codes "store"
@@ -189,12 +205,25 @@ not_narrower_text number = decimal number ++ codes " refused C2 NotNarrower\n"
 abbrev pub narrowed_text : ℕ → ℕ → List ℕ
 narrowed_text number count = decimal number ++ codes " narrowed " ++ decimal count ++ codes "\n"
 
--- what a pull moved and told
-abbrev pub pulled_text : ℕ → PullCounts → List ℕ
-pulled_text number counts =
-    decimal number ++ codes " pulled taken " ++ decimal counts.taken ++ codes " handed " ++ decimal counts.handed
+-- how many versions are in the store and in the out then
+abbrev pub refiltered_text : ℕ → ℕ → ℕ → List ℕ
+refiltered_text number stored waiting =
+    decimal number ++ codes " refiltered store " ++ decimal stored ++ codes " out " ++ decimal waiting ++ codes "\n"
+
+-- what a pull moves and tells, after a word with a space on either side
+abbrev pub counts_text : ℕ → List ℕ → PullCounts → List ℕ
+counts_text number word counts =
+    decimal number ++ word ++ codes "taken " ++ decimal counts.taken ++ codes " handed " ++ decimal counts.handed
     ++ codes " notices " ++ decimal counts.notices ++ codes " dropped " ++ decimal counts.dropped
     ++ codes " learned " ++ yes_or_no counts.learned ++ codes "\n"
+
+-- what a pull moved and told
+abbrev pub pulled_text : ℕ → PullCounts → List ℕ
+pulled_text number counts = counts_text number (codes " pulled ") counts
+
+-- what a pull would move and tell
+abbrev pub preview_text : ℕ → PullCounts → List ℕ
+preview_text number counts = counts_text number (codes " preview ") counts
 
 -- versions, each with a space in front
 abbrev pub versions_text : Contents → List Version → List ℕ
@@ -215,7 +244,9 @@ text_of script number (Made v where_) = made_text script number v where_
 text_of script number NotHeld = not_held_text number
 text_of script number NotNarrower = not_narrower_text number
 text_of script number (Narrowed count) = narrowed_text number count
+text_of script number (Refiltered stored waiting) = refiltered_text number stored waiting
 text_of script number (Pulled counts) = pulled_text number counts
+text_of script number (Preview counts) = preview_text number counts
 text_of script number (Listed n store out) = listed_text script number n store out
 text_of script number (Conflicts n pictures) = conflicts_text script number n pictures
 text_of script number (KnowledgeOf n fragments) = knowledge_text script number n fragments

@@ -9,11 +9,12 @@ use Rattle.photo_filter_rules.specs.Covers.{covers}
 use Rattle.photo_version.specs.Author.{author}
 use Rattle.photo_device.specs.Entry.{Entry}
 use Rattle.photo_device.specs.Device.{ModelDevice, known, opening, made, new_entry, next_version, new_place, is_held, narrowed, moved}
+use Rattle.photo_device.specs.Refiltered.{refiltered}
 use Rattle.photo_device.specs.Conflicts.{conflicts_of}
 use Rattle.photo_pull.specs.Pull.{pulled, handed_over, counts_of}
 use Rattle.photo_pull.specs.declared.counts.PullCounts.{PullCounts}
 use Rattle.photo_script.specs.Contents.{Contents, command_of, devices_of}
-use Rattle.photo_script.specs.Reports.{Made, NotHeld, NotNarrower, Narrowed, Pulled, Listed, Conflicts, Knows, ModelReport, Exactly, KnowledgeIs}
+use Rattle.photo_script.specs.Reports.{Made, NotHeld, NotNarrower, Narrowed, Refiltered, Pulled, Preview, Listed, Conflicts, Knows, ModelReport, Exactly, KnowledgeIs}
 use Rattle.photo_script.specs.declared.command.Command.{Command}
 use Rattle.photo_script.specs.declared.command.Command.TheVariants as command
 
@@ -65,12 +66,28 @@ narrowing d other tree =
       entries = [];
     } else telling d other (Exactly NotNarrower)
 
+-- the first device gets any other tree, and begins its next epoch
+abbrev pub refiltering : ModelDevice → Option ModelDevice → Tree → Effect
+refiltering d other tree = record {
+  first = refiltered tree d;
+  second = other;
+  report = Exactly (Refiltered (length (refiltered tree d).store) (length (refiltered tree d).out));
+  entries = [];
+}
+
+-- what the first device would take and learn from the second. A preview always has a second
+abbrev pub previewing : ModelDevice → Option ModelDevice → Effect
+previewing d None = telling d None (Exactly (Preview nothing_moved))
+previewing d (Some s) = telling d (Some s) (Exactly (Preview (counts_of d s)))
+
 abbrev pub effect : Command → ModelDevice → Option ModelDevice → Effect
 effect (command.New n picture content) d other = making d other picture content
 effect (command.Edit n picture content) d other = changing d other picture content
 effect (command.Remove n picture) d other = changing d other picture Removed
 effect (command.Pull target source) d other = pulling d other
 effect (command.Narrow n tree) d other = narrowing d other tree
+effect (command.Refilter n tree) d other = refiltering d other tree
+effect (command.Preview target source) d other = previewing d other
 effect (command.List n) d other = telling d other (Exactly (Listed n d.store d.out))
 effect (command.Conflicts n) d other = telling d other (Exactly (Conflicts n (conflicts_of d)))
 effect (command.Knowledge n) d other = telling d other (KnowledgeIs n (known d))

@@ -7,10 +7,10 @@ use Rattle.photo_record.specs.declared.fault.WordFault.{WordFault}
 use Rattle.photo_script.specs.Limits.{max_line_bytes, max_devices, max_commands}
 use Rattle.photo_filter_text.specs.Tree.{Tree}
 use Rattle.photo_filter_rules.specs.Filters.{filter_of}
-use Rattle.photo_version.specs.Author.{author}
+use Rattle.photo_version.specs.Author.{Author, author, author_at}
 use Rattle.photo_version.specs.Version.{Version, version}
 use Rattle.photo_script.specs.Lines.{fields_of, third_field_on}
-use Rattle.photo_script.specs.Fields.{is_word, is_name, place_of, picture_of, cut_at_colon, version_number_of}
+use Rattle.photo_script.specs.Fields.{is_word, is_name, place_of, picture_of, cut_at_colon, cut_at_dot, epoch_of, version_number_of}
 use Rattle.photo_script.specs.Earlier.{Earlier, is_comment}
 use Rattle.photo_script.specs.declared.command.Command.{Command}
 use Rattle.photo_script.specs.declared.command.Command.TheVariants as command
@@ -70,9 +70,13 @@ device_line_said before arguments filter = if nat_lt 0 before.commands then Err 
     by_cases (name ∷ []) = Err fault.WrongFields
     by_cases (name ∷ first ∷ more) = declaration_said before name filter
 
+-- what is said where there is room for one command more
+abbrev pub with_room : {A : Type 0} → Earlier → Result A LineFault → Result A LineFault
+with_room before said = if nat_le max_commands before.commands then Err fault.TooMany else said
+
 -- one command more
 unfoldable pub command_said : Earlier → Result Command LineFault → Result (Option Command) LineFault
-command_said before said = if nat_le max_commands before.commands then Err fault.TooMany else (said >>= λ x. Ok (Some x))
+command_said before said = with_room before (said >>= λ x. Ok (Some x))
 
 unfoldable pub creation_said : Earlier → List ℕ → List ℕ → Result Record LineFault → Result Command LineFault
 creation_said before name picture rest = do
@@ -114,28 +118,44 @@ remove_line_said before (name ∷ picture ∷ []) = command_said before (removal
 remove_line_said before arguments = Err fault.WrongFields
 
 -- two devices, which are not one
-unfoldable pub pulling_said : Earlier → List ℕ → List ℕ → Result Command LineFault
-pulling_said before target source = do
+unfoldable pub two_said : Earlier → List ℕ → List ℕ → Result (ℕ × ℕ) LineFault
+two_said before target source = do
   first ← device_said before target
   second ← device_said before source
-  if first == second then Err fault.SameDevice else Ok (command.Pull first second)
+  if first == second then Err fault.SameDevice else Ok (first, second)
+
+-- TARGET and SOURCE, of one command more
+unfoldable pub two_devices_said : Earlier → List (List ℕ) → Result (ℕ × ℕ) LineFault
+two_devices_said before (target ∷ source ∷ []) = with_room before (two_said before target source)
+two_devices_said before arguments = Err fault.WrongFields
 
 -- `pull TARGET SOURCE`
 unfoldable pub pull_line_said : Earlier → List (List ℕ) → Result (Option Command) LineFault
-pull_line_said before (target ∷ source ∷ []) = command_said before (pulling_said before target source)
-pull_line_said before arguments = Err fault.WrongFields
+pull_line_said before arguments = two_devices_said before arguments >>= λ two. Ok (Some (command.Pull two.0 two.1))
 
-unfoldable pub narrowing_said : Earlier → List ℕ → List ℕ → Result Command LineFault
-narrowing_said before name filter = do
+-- `preview TARGET SOURCE`
+unfoldable pub preview_line_said : Earlier → List (List ℕ) → Result (Option Command) LineFault
+preview_line_said before arguments = two_devices_said before arguments >>= λ two. Ok (Some (command.Preview two.0 two.1))
+
+unfoldable pub filtering_said : Earlier → List ℕ → List ℕ → Result (ℕ × Tree) LineFault
+filtering_said before name filter = do
   device ← device_said before name
   tree ← filter_said filter
-  Ok (command.Narrow device tree)
+  Ok (device, tree)
 
--- `narrow DEV FILTER`: what stands behind the first field, and the text of FILTER
+-- DEV and FILTER, of one command more: what stands behind the first field, and the text of FILTER
+unfoldable pub device_and_filter_said : Earlier → List (List ℕ) → List ℕ → Result (ℕ × Tree) LineFault
+device_and_filter_said before [] filter = Err fault.WrongFields
+device_and_filter_said before (name ∷ []) filter = Err fault.WrongFields
+device_and_filter_said before (name ∷ first ∷ more) filter = with_room before (filtering_said before name filter)
+
+-- `narrow DEV FILTER`
 unfoldable pub narrow_line_said : Earlier → List (List ℕ) → List ℕ → Result (Option Command) LineFault
-narrow_line_said before [] filter = Err fault.WrongFields
-narrow_line_said before (name ∷ []) filter = Err fault.WrongFields
-narrow_line_said before (name ∷ first ∷ more) filter = command_said before (narrowing_said before name filter)
+narrow_line_said before arguments filter = device_and_filter_said before arguments filter >>= λ new. Ok (Some (command.Narrow new.0 new.1))
+
+-- `refilter DEV FILTER`
+unfoldable pub refilter_line_said : Earlier → List (List ℕ) → List ℕ → Result (Option Command) LineFault
+refilter_line_said before arguments filter = device_and_filter_said before arguments filter >>= λ new. Ok (Some (command.Refilter new.0 new.1))
 
 -- `list DEV`
 unfoldable pub list_line_said : Earlier → List (List ℕ) → Result (Option Command) LineFault
@@ -147,13 +167,24 @@ unfoldable pub conflicts_line_said : Earlier → List (List ℕ) → Result (Opt
 conflicts_line_said before (name ∷ []) = command_said before (device_said before name >>= λ device. Ok (command.Conflicts device))
 conflicts_line_said before arguments = Err fault.WrongFields
 
--- `NAME:N`, cut at its first colon: a version of a declared device, also one that is never made
+-- `NAME`, or `NAME.E`, cut at its first dot: a declared device in its first epoch, 0, or a later one
+unfoldable pub author_said : Earlier → List ℕ → Result Author LineFault
+author_said before text = by_cases (cut_at_dot text)
+  where
+    by_cases : Option (List ℕ × List ℕ) → Result Author LineFault
+    by_cases None = device_said before text >>= λ device. Ok (author device)
+    by_cases (Some (name, epoch)) = do
+      device ← device_said before name
+      number ← or_fault (epoch_of epoch) fault.BadNumber
+      Ok (author_at device number)
+
+-- `AUTHOR:N`, cut at its first colon: a version of a declared device, also one that is never made
 unfoldable pub version_said : Earlier → List ℕ → Result Version LineFault
 version_said before text = do
   parts ← or_fault (cut_at_colon text) fault.BadNumber
-  device ← device_said before parts.0
+  maker ← author_said before parts.0
   number ← or_fault (version_number_of parts.1) fault.BadNumber
-  Ok (version (author device) number)
+  Ok (version maker number)
 
 -- `knowledge DEV`
 unfoldable pub knowledge_line_said : Earlier → List (List ℕ) → Result (Option Command) LineFault
@@ -175,11 +206,12 @@ knows_line_said before arguments = Err fault.WrongFields
 -- a line that asks for a report, by its first field and the others
 unfoldable pub question_line_said : Earlier → List ℕ → List (List ℕ) → Result (Option Command) LineFault
 question_line_said before word arguments =
-    if is_word word (codes "list") then list_line_said before arguments
+    if is_word word (codes "preview") then preview_line_said before arguments
+    else (if is_word word (codes "list") then list_line_said before arguments
     else (if is_word word (codes "conflicts") then conflicts_line_said before arguments
     else (if is_word word (codes "knowledge") then knowledge_line_said before arguments
     else (if is_word word (codes "knows") then knows_line_said before arguments
-    else Err fault.UnknownCommand)))
+    else Err fault.UnknownCommand))))
 
 -- a command by the first field of its line, the others and the text from the third on
 unfoldable pub command_line_said : Earlier → List ℕ → List (List ℕ) → List ℕ → Result (Option Command) LineFault
@@ -189,7 +221,8 @@ command_line_said before word arguments filter =
     else (if is_word word (codes "remove") then remove_line_said before arguments
     else (if is_word word (codes "pull") then pull_line_said before arguments
     else (if is_word word (codes "narrow") then narrow_line_said before arguments filter
-    else question_line_said before word arguments))))
+    else (if is_word word (codes "refilter") then refilter_line_said before arguments filter
+    else question_line_said before word arguments)))))
 
 -- a line of these fields, and its text from the third on: empty lines and comments say nothing
 unfoldable pub fields_said : Earlier → List (List ℕ) → List ℕ → Result (Option Command) LineFault

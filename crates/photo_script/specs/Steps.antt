@@ -1,18 +1,16 @@
 -- Machinery of the proofs, which only contracts of private functions cite: how what a reader does is tied to what lines
 -- say, where memory may be refused instead.
-use Rattle.std.specs.Prelude.{◌≡◌, ℕ, true, false, ◌||◌, ◌==◌, nat_le, if◌then◌else◌, List, [], ◌++◌, length, map, Option, Some, option_to_list, Result, Ok, Err}
+use Rattle.std.specs.Prelude.{◌≡◌, ℕ, true, false, ◌||◌, ◌==◌, if◌then◌else◌, List, [], ◌++◌, length, map, Option, Some, option_to_list, Result, Ok, Err}
 use Rattle.std.specs.Borrow.{Bor}
 use Rattle.std.specs.BTreeSet.{contains}
 use Rattle.std.specs.List.{list_any}
 use Rattle.std.specs.Ordering.{nat_cmp}
-use Rattle.photo_script.specs.Limits.{max_commands}
 use Rattle.photo_script.specs.Contents.{contents}
 use Rattle.photo_script.specs.Earlier.{Earlier, declared_by, filter_declared_by, made_by, is_command}
 use Rattle.photo_script.specs.declared.command.Command.{Command}
 use Rattle.photo_script.specs.declared.reader.Reader.{Reader}
-use Rattle.photo_script.specs.Saying.{device_said}
+use Rattle.photo_script.specs.Saying.{with_room, device_said}
 use Rattle.photo_script.specs.declared.fault.LineFault.{LineFault}
-use Rattle.photo_script.specs.declared.fault.LineFault.TheVariants.{TooMany}
 use Rattle.photo_script.specs.declared.fault.ScriptFault.{ScriptFault}
 use Rattle.photo_script.specs.declared.fault.ScriptFault.TheVariants as script
 use Rattle.photo_script.specs.declared.refusal.Refusal.{Refusal}
@@ -56,7 +54,7 @@ pub record IsFirst (r : Reader) : Type 0 where
 
 -- the place of a declared device, where there is room for one command more
 unfoldable pub first_said : Earlier → List ℕ → Result ℕ LineFault
-first_said before name = if nat_le max_commands before.commands then Err TooMany else device_said before name
+first_said before name = with_room before (device_said before name)
 
 -- a reader has taken a line of these fields and this text from the third on, but not yet the command that it says
 pub record Lacks (before : Reader) (fields : List (List ℕ)) (filter : List ℕ) (now : Reader) : Type 0 where

@@ -3,7 +3,7 @@ use Rattle.std.specs.Prelude.{ℕ, ◌+◌, ◌*◌, Bool, true, false, List, co
 use Rattle.std.specs.List.{sum_by}
 use Rattle.photo_script.specs.Limits.{max_commands}
 use Rattle.photo_script.specs.Contents.{Contents}
-use Rattle.photo_script.specs.Reports.{Answer, Made, NotHeld, NotNarrower, Narrowed, Pulled, Listed, Conflicts, KnowledgeOf, Knows, ModelReport, Exactly, KnowledgeIs}
+use Rattle.photo_script.specs.Reports.{Answer, Made, NotHeld, NotNarrower, Narrowed, Refiltered, Pulled, Preview, Listed, Conflicts, KnowledgeOf, Knows, ModelReport, Exactly, KnowledgeIs}
 use Rattle.photo_script.specs.Runs.{Fleet, reports_of}
 use Rattle.photo_script.specs.declared.command.Command.{Command}
 use Rattle.photo_script.specs.declared.command.Command.TheVariants as command
@@ -22,6 +22,8 @@ kind_of (command.Edit device picture record_) = Change
 kind_of (command.Remove device picture) = Change
 kind_of (command.Pull target source) = Pull
 kind_of (command.Narrow device filter) = Change
+kind_of (command.Refilter device filter) = Change
+kind_of (command.Preview target source) = Question
 kind_of (command.List device) = Question
 kind_of (command.Conflicts device) = Question
 kind_of (command.Knowledge device) = Question
@@ -59,7 +61,9 @@ moved_by (Made v place) = 0
 moved_by NotHeld = 0
 moved_by NotNarrower = 0
 moved_by (Narrowed count) = 0
+moved_by (Refiltered stored waiting) = 0
 moved_by (Pulled counts) = counts.taken + counts.handed
+moved_by (Preview counts) = 0
 moved_by (Listed n store out) = 0
 moved_by (Conflicts n pictures) = 0
 moved_by (KnowledgeOf n fragments) = 0

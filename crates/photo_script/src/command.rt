@@ -1,11 +1,10 @@
+// Commands, and the devices that each works on.
 ghost use Rattle.std.specs.Prelude.{◌≡◌};
-ghost use Rattle.std.specs.Option.{option_map};
-ghost use Rattle.photo_version.specs.Author.{author};
 ghost use Rattle.photo_script.specs.Contents.{devices_of};
 
 use photo_filter_rules::Filter;
 use photo_record::{PicNo, Record};
-use photo_version::{Author, Version};
+use photo_version::Version;
 
 /// A command of a script. Devices are given by their places in order of declaration, from 0.
 #[derive(Debug, Drop)]
@@ -37,6 +36,16 @@ pub enum Command {
         device: u16,
         filter: Filter,
     },
+    /// `refilter`: the device gets any other filter, and begins its next epoch.
+    Refilter {
+        device: u16,
+        filter: Filter,
+    },
+    /// `preview`: a report on what a pull of the target from the source, which is another device, would move and tell.
+    Preview {
+        target: u16,
+        source: u16,
+    },
     /// `list`: a report on all that the device holds.
     List {
         device: u16,
@@ -57,20 +66,23 @@ pub enum Command {
     },
 }
 
-/// The devices that a command works on, as authors: one, and perhaps a second.
-pub fn devices_of(command: &Command) -> (Author, Option<Author>)
-    ensures first { result.0 ≡ author (devices_of command.now).0 }
-    ensures second { result.1 ≡ option_map author (devices_of command.now).1 }
+/// The devices that a command works on, by their places: one, and perhaps a second.
+pub fn devices_of(command: &Command) -> (u16, Option<u16>)
+    ensures first { result.0 ≡ (devices_of command.now).0 }
+    ensures second { result.1 ≡ (devices_of command.now).1 }
 {
     match command {
         Command::New { device, .. }
         | Command::Edit { device, .. }
         | Command::Remove { device, .. }
         | Command::Narrow { device, .. }
+        | Command::Refilter { device, .. }
         | Command::List { device }
         | Command::Conflicts { device }
         | Command::Knowledge { device }
-        | Command::Knows { device, .. } => (Author::new(*device), None),
-        Command::Pull { target, source } => (Author::new(*target), Some(Author::new(*source))),
+        | Command::Knows { device, .. } => (*device, None),
+        Command::Pull { target, source } | Command::Preview { target, source } => {
+            (*target, Some(*source))
+        }
     }
 }

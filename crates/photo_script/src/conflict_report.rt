@@ -1,3 +1,4 @@
+// The texts of reports on conflicts.
 ghost use Rattle.std.specs.Prelude.{◌≡◌, ◌<◌, ◌++◌, length, string_bytes, OnOk};
 ghost use Rattle.std.specs.List.{AllByRecursion, flat_map};
 ghost use Rattle.photo_script.specs.Reports.{IsOfScript, AreConflictsOfScript, IsConflictOfScript};

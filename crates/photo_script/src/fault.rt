@@ -1,3 +1,4 @@
+// The faults of scripts and of their lines.
 use thiserror::Error;
 
 /// Why a text is no script.
@@ -45,7 +46,7 @@ pub enum LineFault {
     #[error("F10 LateDevice")]
     LateDevice,
     /// A picture's number is not decimal from 1 to 999999999 without a leading zero; or a version has no colon, or behind
-    /// it no such number up to 100000.
+    /// it, or behind the dot of its author, no such number up to 100000.
     #[error("F11 BadNumber")]
     BadNumber,
     /// A rating is none of 0 to 5.
@@ -63,10 +64,10 @@ pub enum LineFault {
     /// An earlier line makes a picture of this number.
     #[error("F16 RepeatedPicture")]
     RepeatedPicture,
-    /// There are over 64 devices or over 100,000 commands.
+    /// There are over 256 devices or over 100,000 commands.
     #[error("F17 TooMany")]
     TooMany,
-    /// A device is to pull from itself.
+    /// A device is to pull from itself, or to preview that.
     #[error("F19 SameDevice")]
     SameDevice,
 }

@@ -1,11 +1,12 @@
+// The fields of a line, and what single ones denote.
 ghost use Rattle.std.specs.Prelude.{◌≡◌, ◌≢◌, ◌<◌, ◌^◌, [], true, None, Some, IfSome, SomeIff, MatchOption, map, OnOk, OnErr};
 ghost use Rattle.photo_script.specs.Lines.{fields_of, without_spaces, behind_field, third_field_on};
-ghost use Rattle.photo_script.specs.Fields.{is_name, cut_at_colon, is_decimal, number_of, picture_of, version_number_of};
+ghost use Rattle.photo_script.specs.Fields.{is_name, cut_at_colon, cut_at_dot, epoch_of, is_decimal, number_of, picture_of, version_number_of};
 ghost use Rattle.photo_script.specs.Saying.{filter_said};
 ghost use Rattle.photo_script.specs.Steps.{Gives};
 
 use crate::LineFault;
-use crate::limits::{MAX_NAME_CHARACTERS, MAX_VERSION};
+use crate::limits::{MAX_EPOCH, MAX_NAME_CHARACTERS, MAX_VERSION};
 use crate::refusal::Refusal;
 use photo_filter_rules::{BuildFault, Filter};
 use photo_filter_text::FilterFault;
@@ -68,6 +69,13 @@ pub fn is_name(text: &str) -> bool
         .all(|b| b.is_ascii_lowercase() || b.is_ascii_digit())
 }
 
+/// What stands before the first dot of a text and behind it.
+pub fn cut_at_dot(text: &str) -> Option<(&str, &str)>
+    ensures { MatchOption result (cut_at_dot text.now ≡ None) (λ parts. cut_at_dot text.now ≡ Some (parts.0.now, parts.1.now)) }
+{
+    text.split_once('.')
+}
+
 /// What stands before the first colon of a text and behind it.
 pub fn cut_at_colon(text: &str) -> Option<(&str, &str)>
     ensures { MatchOption result (cut_at_colon text.now ≡ None) (λ parts. cut_at_colon text.now ≡ Some (parts.0.now, parts.1.now)) }
@@ -91,6 +99,17 @@ pub fn picture_of(text: &str) -> Option<PicNo>
     ensures { result ≡ picture_of text.now }
 {
     PicNo::new(number_of(text)?)
+}
+
+/// The epoch behind a dot, in the same way.
+pub fn epoch_of(text: &str) -> Option<u32>
+    ensures { result ≡ epoch_of text.now }
+{
+    let number = number_of(text)?;
+    if number == 0 || number > MAX_EPOCH {
+        return None;
+    }
+    Some(number)
 }
 
 /// The number of a version that a text denotes, in the same way.

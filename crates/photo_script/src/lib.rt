@@ -25,6 +25,3 @@ pub use reader::read_script;
 pub use report::{Report, push_report, report_text};
 pub use script::Script;
 pub use tally::{Tally, Totals, totals_of};
-
-#[cfg(test)]
-mod tests;

@@ -1,6 +1,7 @@
+// The texts of reports on pulls and previews, and on filters that devices get.
 ghost use Rattle.std.specs.Prelude.{◌≡◌, ◌++◌, string_bytes, OnOk};
 ghost use Rattle.std.specs.Fmt.{decimal};
-ghost use Rattle.photo_script.specs.Reports.{not_narrower_text, narrowed_text, pulled_text};
+ghost use Rattle.photo_script.specs.Reports.{not_narrower_text, narrowed_text, refiltered_text, counts_text, pulled_text, preview_text};
 
 use crate::report::{push_decimal, yes_or_no};
 use itoa::Buffer;
@@ -23,12 +24,45 @@ pub fn push_narrowed(text: &mut String, number: u32, moved: u64) -> Result<(), A
     Ok(())
 }
 
+/// Puts how many versions are in the store and in the out of a device that has got another filter behind a text.
+pub fn push_refiltered(
+    text: &mut String,
+    number: u32,
+    store: u64,
+    out: u64,
+) -> Result<(), AllocError>
+    ensures { OnOk result (string_bytes text.new ≡ string_bytes text.old ++ refiltered_text number store out) }
+{
+    writeln!(text, "{number} refiltered store {store} out {out}")?;
+    Ok(())
+}
+
 /// Puts what a pull moved and told behind a text.
 pub fn push_pulled(text: &mut String, number: u32, counts: &PullCounts) -> Result<(), AllocError>
     ensures { OnOk result (string_bytes text.new ≡ string_bytes text.old ++ pulled_text number counts.now) }
 {
+    push_counts(text, number, " pulled ", counts)
+}
+
+/// Puts what a pull would move and tell behind a text.
+pub fn push_preview(text: &mut String, number: u32, counts: &PullCounts) -> Result<(), AllocError>
+    ensures { OnOk result (string_bytes text.new ≡ string_bytes text.old ++ preview_text number counts.now) }
+{
+    push_counts(text, number, " preview ", counts)
+}
+
+// What a pull moves and tells, after a word that has a space on either side.
+fn push_counts(
+    text: &mut String,
+    number: u32,
+    word: &str,
+    counts: &PullCounts,
+) -> Result<(), AllocError>
+    ensures { OnOk result (string_bytes text.new ≡ string_bytes text.old ++ counts_text number word.now counts.now) }
+{
     push_decimal(text, number)?;
-    push_count(text, " pulled taken ", counts.taken)?;
+    text.push_str(word)?;
+    push_count(text, "taken ", counts.taken)?;
     push_count(text, " handed ", counts.handed)?;
     push_count(text, " notices ", counts.notices)?;
     push_count(text, " dropped ", counts.dropped)?;

@@ -1,3 +1,4 @@
+// The names of the declared devices.
 ghost use Rattle.std.specs.Prelude.{◌≡◌, ◌<◌, [], ◌∷◌, ◌++◌};
 ghost use Rattle.std.specs.Prelude.{ℕ, List, length, map, slice_get, string_bytes, Some, None, IfSome, OnOk, OnErr};
 ghost use Rattle.photo_script.specs.Fields.{place_of};

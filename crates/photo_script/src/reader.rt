@@ -1,24 +1,28 @@
+// Reading a script, line by line.
 ghost use Rattle.std.specs.Prelude.{◌≡◌, ◌≢◌, ℕ, List, [], ◌∷◌, ◌<◌, ◌≤◌, length, codes, Ok, Err, IfOk, IfErr, IfSome, OnOk, true};
 ghost use Rattle.photo_script.specs.Lines.{fields_of, lines_of, third_field_on};
 ghost use Rattle.photo_script.specs.Limits.{max_text_bytes, max_line_bytes};
 ghost use Rattle.std.specs.Str.Lines.{strip_carriage_return};
 ghost use Rattle.photo_filter_rules.specs.Matching.{IsInRange};
 ghost use Rattle.photo_script.specs.Steps.{Gives};
-ghost use Rattle.photo_script.specs.Saying.{device_said, new_picture_said, record_said, picture_said, version_said};
+ghost use Rattle.photo_script.specs.Saying.{device_said, new_picture_said, record_said, picture_said, author_said, version_said};
 ghost use Rattle.photo_script.specs.Saying.{device_line_said, new_line_said, edit_line_said, remove_line_said, pull_line_said};
-ghost use Rattle.photo_script.specs.Saying.{narrow_line_said, list_line_said, conflicts_line_said, knowledge_line_said, knows_line_said};
-ghost use Rattle.photo_script.specs.Saying.{declaration_said, creation_said, edition_said, narrowing_said};
+ghost use Rattle.photo_script.specs.Saying.{narrow_line_said, refilter_line_said, preview_line_said, list_line_said, conflicts_line_said};
+ghost use Rattle.photo_script.specs.Saying.{knowledge_line_said, knows_line_said, two_devices_said, device_and_filter_said};
+ghost use Rattle.photo_script.specs.Saying.{declaration_said, creation_said, edition_said};
 ghost use Rattle.photo_script.specs.Saying.{question_line_said, command_line_said, command_said, fields_said, said};
 ghost use Rattle.photo_script.specs.Reading.{script_of, script_of_lines, MayWantMemory};
 ghost use Rattle.photo_script.specs.declared.fault.ScriptFault.TheVariants.{NoMemory, Read};
 
 use crate::field::{
-    cut_at_colon, filter_of, is_name, picture_of, put_fields, third_field_on, version_number_of,
+    cut_at_colon, cut_at_dot, epoch_of, filter_of, is_name, picture_of, put_fields, third_field_on,
+    version_number_of,
 };
 use crate::limits::{MAX_COMMANDS, MAX_DEVICES, MAX_LINE_BYTES, MAX_TEXT_BYTES};
 use crate::refusal::Refusal;
 use crate::word_sets::WordSets;
 use crate::{Command, LineFault, Script, ScriptFault};
+use photo_filter_rules::Filter;
 use photo_record::{Day, PicNo, Rating, Record, WordFault};
 use photo_version::{Author, Version};
 use std::alloc::Global;
@@ -154,6 +158,7 @@ impl Reader {
             "remove" => self.read_remove(arguments),
             "pull" => self.read_pull(arguments),
             "narrow" => self.read_narrow(arguments, third_field_on(line)),
+            "refilter" => self.read_refilter(arguments, third_field_on(line)),
             _ => self.read_question(word, arguments),
         }
     }
@@ -164,6 +169,7 @@ impl Reader {
             (question_line_said (seen self.old) word.now (texts arguments.now)) result self.new }
     {
         match word {
+            "preview" => self.read_preview(arguments),
             "list" => self.read_list(arguments),
             "conflicts" => self.read_conflicts(arguments),
             "knowledge" => self.read_knowledge(arguments),
@@ -296,20 +302,23 @@ impl Reader {
     }
 
     // `pull TARGET SOURCE`
-    #[tactic(auto, unfolding(crate::specs::Saying::pull_line_said, crate::specs::Saying::command_said, crate::specs::Saying::pulling_said))]
+    #[tactic(auto, unfolding(crate::specs::Saying::pull_line_said))]
     fn read_pull(&mut self, arguments: &[&str]) -> Result<(), Refusal>
         ensures { Reads self.old (codes "pull" ∷ texts arguments.now) []
             (pull_line_said (seen self.old) (texts arguments.now)) result self.new }
     {
-        let [target, source] = arguments else {
-            return Err(Refusal::Fault(LineFault::WrongFields));
-        };
-        let target = self.first_device(target)?;
-        let source = self.device(source)?;
-        if target == source {
-            return Err(Refusal::Fault(LineFault::SameDevice));
-        }
+        let (target, source) = self.two_devices(arguments)?;
         self.take(Command::Pull { target, source })
+    }
+
+    // `preview TARGET SOURCE`
+    #[tactic(auto, unfolding(crate::specs::Saying::preview_line_said))]
+    fn read_preview(&mut self, arguments: &[&str]) -> Result<(), Refusal>
+        ensures { Reads self.old (codes "preview" ∷ texts arguments.now) []
+            (preview_line_said (seen self.old) (texts arguments.now)) result self.new }
+    {
+        let (target, source) = self.two_devices(arguments)?;
+        self.take(Command::Preview { target, source })
     }
 
     // `narrow DEV FILTER`
@@ -318,23 +327,18 @@ impl Reader {
         ensures { Reads self.old (codes "narrow" ∷ texts arguments.now) filter.now
             (narrow_line_said (seen self.old) (texts arguments.now) filter.now) result self.new }
     {
-        let Some((name, others)) = arguments.split_first() else {
-            return Err(Refusal::Fault(LineFault::WrongFields));
-        };
-        if others.is_empty() {
-            return Err(Refusal::Fault(LineFault::WrongFields));
-        }
-        self.narrow(name, filter)
+        let (device, filter) = self.device_and_filter(arguments, filter)?;
+        self.take(Command::Narrow { device, filter })
     }
 
-    #[tactic(auto, unfolding(crate::specs::Saying::command_said, crate::specs::Saying::narrowing_said))]
-    fn narrow(&mut self, name: &str, filter: &str) -> Result<(), Refusal>
-        ensures { (more : List (List ℕ)) → Reads self.old (codes "narrow" ∷ name.now ∷ more) filter.now
-            (command_said (seen self.old) (narrowing_said (seen self.old) name.now filter.now)) result self.new }
+    // `refilter DEV FILTER`
+    #[tactic(auto, unfolding(crate::specs::Saying::refilter_line_said))]
+    fn read_refilter(&mut self, arguments: &[&str], filter: &str) -> Result<(), Refusal>
+        ensures { Reads self.old (codes "refilter" ∷ texts arguments.now) filter.now
+            (refilter_line_said (seen self.old) (texts arguments.now) filter.now) result self.new }
     {
-        let device = self.first_device(name)?;
-        let filter = filter_of(self.alloc, filter)?;
-        self.take(Command::Narrow { device, filter })
+        let (device, filter) = self.device_and_filter(arguments, filter)?;
+        self.take(Command::Refilter { device, filter })
     }
 
     // `list DEV`
@@ -395,17 +399,69 @@ impl Reader {
         })
     }
 
-    // `NAME:N`, a version of a declared device.
+    // `NAME` or `NAME.E`, a declared device in its first epoch or a later one.
+    #[tactic(auto, unfolding(crate::specs::Saying::author_said))]
+    fn author(&self, text: &str) -> Result<Author, LineFault>
+        ensures { result ≡ author_said (seen self.now) text.now }
+    {
+        let Some((name, epoch)) = cut_at_dot(text) else {
+            let device = self.device(text)?;
+            return Ok(Author::new(device));
+        };
+        let device = self.device(name)?;
+        let epoch = epoch_of(epoch).ok_or(LineFault::BadNumber)?;
+        Ok(Author::at(device, epoch))
+    }
+
+    // `AUTHOR:N`, a version of a declared device.
     #[tactic(auto, unfolding(crate::specs::Saying::version_said))]
     fn version(&self, text: &str) -> Result<Version, LineFault>
         ensures { result ≡ version_said (seen self.now) text.now }
     {
-        let Some((name, number)) = cut_at_colon(text) else {
+        let Some((author, number)) = cut_at_colon(text) else {
             return Err(LineFault::BadNumber);
         };
-        let device = self.device(name)?;
+        let author = self.author(author)?;
         let number = version_number_of(number).ok_or(LineFault::BadNumber)?;
-        Version::new(Author::new(device), number).ok_or(LineFault::BadNumber)
+        Version::new(author, number).ok_or(LineFault::BadNumber)
+    }
+
+    // The target and the source of a command, which are not one device, where there is room for one command more.
+    #[tactic(auto, unfolding(crate::specs::Saying::two_devices_said, crate::specs::Saying::two_said))]
+    fn two_devices(&self, arguments: &[&str]) -> Result<(u16, u16), LineFault>
+        ensures said { result ≡ two_devices_said (seen self.now) (texts arguments.now) }
+        ensures target { IfOk result (λ two. two.0 < length self.now.script.names) }
+        ensures source { IfOk result (λ two. two.1 < length self.now.script.names) }
+        ensures apart { IfOk result (λ two. two.1 ≢ two.0) }
+        ensures room { OnOk result (length self.now.script.commands < max_commands) }
+    {
+        let [target, source] = arguments else {
+            return Err(LineFault::WrongFields);
+        };
+        let target = self.first_device(target)?;
+        let source = self.device(source)?;
+        if target == source {
+            return Err(LineFault::SameDevice);
+        }
+        Ok((target, source))
+    }
+
+    // The device that a command names and the filter that it is to get, where there is room for one command more.
+    #[tactic(auto, unfolding(crate::specs::Saying::device_and_filter_said, crate::specs::Saying::filtering_said))]
+    fn device_and_filter(&self, arguments: &[&str], filter: &str) -> Result<(u16, Filter), Refusal>
+        ensures said { Gives (λ new. new) result (device_and_filter_said (seen self.now) (texts arguments.now) filter.now) }
+        ensures device { IfOk result (λ new. new.0 < length self.now.script.names) }
+        ensures room { OnOk result (length self.now.script.commands < max_commands) }
+    {
+        let Some((name, others)) = arguments.split_first() else {
+            return Err(Refusal::Fault(LineFault::WrongFields));
+        };
+        if others.is_empty() {
+            return Err(Refusal::Fault(LineFault::WrongFields));
+        }
+        let device = self.first_device(name)?;
+        let filter = filter_of(self.alloc, filter)?;
+        Ok((device, filter))
     }
 
     // The device that a command names first, where there is room for one command more.

@@ -1,3 +1,4 @@
+// Why reading stops in a line.
 ghost use Rattle.std.specs.Prelude.{◌≡◌};
 ghost use Rattle.photo_script.specs.Steps.{fault_at};
 

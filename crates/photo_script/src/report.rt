@@ -1,9 +1,12 @@
+// Reports, and their texts.
 ghost use Rattle.std.specs.Prelude.{◌≡◌, ◌<◌, ◌++◌, length, string_bytes, IfOk, OnOk};
 
 use crate::Script;
 use crate::conflict_report::push_conflicts;
 use crate::known_report::push_knowledge;
-use crate::moved_report::{push_narrowed, push_not_narrower, push_pulled};
+use crate::moved_report::{
+    push_narrowed, push_not_narrower, push_preview, push_pulled, push_refiltered,
+};
 use item_knowledge::Knowledge;
 use itoa::Buffer;
 use photo_device::{ConflictList, Place, SharedHeld, SharedList};
@@ -26,8 +29,15 @@ pub enum Report {
     NotNarrower,
     /// A device got another filter, and so many versions went from its store to its out.
     Narrowed(u64),
+    /// A device got any other filter and began its next epoch, and so many versions are in its store and in its out then.
+    Refiltered {
+        store: u64,
+        out: u64,
+    },
     /// A device took and learned from another.
     Pulled(PullCounts),
+    /// What a pull of a device from another would move and tell.
+    Preview(PullCounts),
     /// What a device holds, in order. The device is given by its place in order of declaration, from 0.
     Listed {
         device: u16,
@@ -56,7 +66,7 @@ ghost use Rattle.photo_version.specs.Author.{device_of_author};
 ghost use Rattle.photo_version.specs.Version.{version};
 ghost use Rattle.photo_script.specs.Reports.{IsAbout, IsOfScript, AreOfScript, answer_of, text_of};
 ghost use Rattle.photo_script.specs.Reports.{made_text, not_held_text, heading_text, counted_heading_text, listed_text};
-ghost use Rattle.photo_script.specs.Reports.{version_text, place_text, padded_decimal, day_text, words_text, record_text};
+ghost use Rattle.photo_script.specs.Reports.{author_text, epoch_text, version_text, place_text, padded_decimal, day_text, words_text, record_text};
 ghost use Rattle.photo_script.specs.Reports.{entry_text, entries_text, yes_or_no, knows_text};
 
 /// The text of a report on the command of that number: a line, and for a list a line more for each held version, and
@@ -93,7 +103,9 @@ pub fn push_report(
         Report::NotHeld => push_not_held(text, number)?,
         Report::NotNarrower => push_not_narrower(text, number)?,
         Report::Narrowed(moved) => push_narrowed(text, number, *moved)?,
+        Report::Refiltered { store, out } => push_refiltered(text, number, *store, *out)?,
         Report::Pulled(counts) => push_pulled(text, number, counts)?,
+        Report::Preview(counts) => push_preview(text, number, counts)?,
         Report::Listed { device, store, out } => {
             push_listed(text, script, number, *device, store, out)?
         }
@@ -252,9 +264,29 @@ pub(crate) fn push_version_of(
     requires { device_of_author author < length script.now.names }
     ensures { OnOk result (string_bytes text.new ≡ string_bytes text.old ++ version_text script.now (version author number)) }
 {
-    text.push_str(script.name(author.value()))?;
+    push_author(text, script, author)?;
     text.push_str(":")?;
     push_decimal(text, number)?;
+    Ok(())
+}
+
+fn push_author(text: &mut String, script: &Script, author: Author) -> Result<(), AllocError>
+    requires { device_of_author author < length script.now.names }
+    ensures { OnOk result (string_bytes text.new ≡ string_bytes text.old ++ author_text script.now author) }
+{
+    text.push_str(script.name(author.value()))?;
+    push_epoch(text, author.epoch())
+}
+
+// Nothing for the first epoch.
+fn push_epoch(text: &mut String, epoch: u32) -> Result<(), AllocError>
+    ensures { OnOk result (string_bytes text.new ≡ string_bytes text.old ++ epoch_text epoch) }
+{
+    if epoch == 0 {
+        return Ok(());
+    }
+    text.push_str(".")?;
+    push_decimal(text, epoch)?;
     Ok(())
 }
 

@@ -1,3 +1,4 @@
+// Scripts, as they are read.
 ghost use Rattle.std.specs.Prelude.{◌≡◌, ◌<◌, ◌≤◌, ◌-◌, ◌++◌, ◌∷◌, [], length, slice_get, Some, None, IfSome, OnOk, OnErr};
 ghost use Rattle.photo_script.specs.Limits.{max_devices, max_commands};
 ghost use Rattle.photo_script.specs.Fields.{place_of};
@@ -46,7 +47,7 @@ impl Script {
         }
     }
 
-    /// How many devices there are, at most 64.
+    /// How many devices there are, at most 256.
     pub fn devices(&self) -> usize
         ensures count { result ≡ length self.now.names }
         ensures at_most { result ≤ max_devices }

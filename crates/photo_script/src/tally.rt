@@ -1,3 +1,4 @@
+// Commands by their kinds, and what the pulls of a run moved.
 ghost use Rattle.std.specs.Prelude.{◌≡◌, ◌≤◌, ◌*◌, length, map};
 ghost use Rattle.std.specs.List.{AllByRecursion, AllZip, sum_by};
 ghost use Rattle.photo_script.specs.Limits.{max_commands};
@@ -7,22 +8,22 @@ use crate::{Command, Report, Script};
 /// How many commands of each kind a script has. A command counts also where a run refuses it.
 #[derive(Clone, Copy, Debug, PartialEq, Eq)]
 pub struct Tally {
-    /// How many commands are `new`, `edit`, `remove` or `narrow`.
+    /// How many commands are `new`, `edit`, `remove`, `narrow` or `refilter`.
     pub changes: u64,
     /// How many are `pull`.
     pub pulls: u64,
-    /// How many are `list`, `conflicts`, `knowledge` or `knows`.
+    /// How many are `preview`, `list`, `conflicts`, `knowledge` or `knows`.
     pub reports: u64,
 }
 
 /// What the run of a script did: how many commands of each kind, as in [`Tally`], and what its pulls moved.
 #[derive(Clone, Copy, Debug, PartialEq, Eq)]
 pub struct Totals {
-    /// How many commands are `new`, `edit`, `remove` or `narrow`.
+    /// How many commands are `new`, `edit`, `remove`, `narrow` or `refilter`.
     pub changes: u64,
     /// How many are `pull`.
     pub pulls: u64,
-    /// How many are `list`, `conflicts`, `knowledge` or `knows`.
+    /// How many are `preview`, `list`, `conflicts`, `knowledge` or `knows`.
     pub reports: u64,
     /// How many versions the targets of all pulls took and their sources handed over, together.
     pub moved: u64,
@@ -79,9 +80,11 @@ pub(crate) fn tally_of(commands: &[Command]) -> Tally
             Command::New { .. }
             | Command::Edit { .. }
             | Command::Remove { .. }
-            | Command::Narrow { .. } => tally.changes += 1,
+            | Command::Narrow { .. }
+            | Command::Refilter { .. } => tally.changes += 1,
             Command::Pull { .. } => tally.pulls += 1,
-            Command::List { .. }
+            Command::Preview { .. }
+            | Command::List { .. }
             | Command::Conflicts { .. }
             | Command::Knowledge { .. }
             | Command::Knows { .. } => tally.reports += 1,

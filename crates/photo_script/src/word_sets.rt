@@ -1,3 +1,4 @@
+// Sets of words that lines with equal texts share.
 ghost use Rattle.std.specs.Prelude.{◌≡◌, ◌≢◌, ℕ, ◌<◌, ◌≤◌, length, IfOk, IfErr, Ok, Err};
 ghost use Rattle.photo_script.specs.Sharing.{AreKept, max_texts};
 
@@ -68,68 +69,5 @@ impl WordSets {
         let text = String::from_str(self.alloc, text)?;
         self.sets.insert(text, words)?;
         Ok(())
-    }
-}
-
-#[cfg(test)]
-mod tests {
-    use super::{Global, WordFault, WordSets};
-
-    // Whether a text is read as a set of so many words, or refused for the one that it repeats.
-    fn is_read(sets: &mut WordSets, text: &str, count: usize) -> bool {
-        match sets.read(text) {
-            Ok(words) => words.len() == count && text != "a,a",
-            Err(fault) => matches!(fault, WordFault::Repeated) && text == "a,a",
-        }
-    }
-
-    // Texts, how many words each denotes, and how many sets are kept once it was read. Two orders of words are two texts.
-    const TEXTS: &[(&str, usize, usize)] = &[
-        ("b,a", 2, 1),
-        ("b,a", 2, 1),
-        ("a,b", 2, 2),
-        ("a,a", 0, 2),
-        ("-", 0, 3),
-        ("-", 0, 3),
-        ("a", 1, 4),
-    ];
-
-    fn are_kept(alloc: Global) -> bool {
-        let mut sets = WordSets::new(alloc);
-        for (text, count, kept) in TEXTS {
-            if !is_read(&mut sets, text, *count) || sets.sets.len() != *kept {
-                return false;
-            }
-        }
-        true
-    }
-
-    #[test]
-    fn a_text_is_kept_once(rt: HostRuntime) {
-        assert!(rt; are_kept(rt.alloc()));
-    }
-
-    // Reads so many texts of one word each, all different.
-    fn are_read(alloc: Global, sets: &mut WordSets, count: u32) -> bool {
-        for number in 0..count {
-            let Ok(text) = format!(in alloc; "w{number}") else {
-                return false;
-            };
-            if !is_read(sets, text.as_str(), 1) {
-                return false;
-            }
-        }
-        true
-    }
-
-    fn kept_of(alloc: Global, count: u32) -> Option<usize> {
-        let mut sets = WordSets::new(alloc);
-        are_read(alloc, &mut sets, count).then_some(sets.sets.len())
-    }
-
-    #[test]
-    fn texts_beyond_the_most_are_read_all_the_same(rt: HostRuntime) {
-        assert!(rt; kept_of(rt.alloc(), 4_096) == Some(4_096));
-        assert!(rt; kept_of(rt.alloc(), 4_100) == Some(4_096));
     }
 }

@@ -1,12 +1,28 @@
 -- The definitions at some vectors.
 use Rattle.std.specs.Prelude.{◌≡◌, ℕ, true, false, List, [], ◌∷◌}
-use Rattle.photo_version.specs.Author.{author}
+use Rattle.photo_version.specs.Author.{author, author_at, next_author, is_earlier_epoch}
 use Rattle.photo_version.specs.Version.{version}
 use Rattle.photo_version.specs.Vector.{Bound, denotes, is_vector, raised, joined, is_within}
 
 -- the bound n of the author of device a
 abbrev pub bound : ℕ → ℕ → Bound
 bound a n = (author a, n)
+
+-- the bound n of the author of device a in epoch e
+abbrev pub later_bound : ℕ → ℕ → ℕ → Bound
+later_bound a e n = (author_at a e, n)
+
+-- a device's next epoch is another author, which stands behind its first one and before all later devices
+pub record TheEpochs : Type 0 where
+  pub with_its_next : raised (later_bound 0 1 1) (bound 0 2 ∷ []) ≡ bound 0 2 ∷ later_bound 0 1 1 ∷ []
+  pub of_next : denotes (bound 0 2 ∷ later_bound 0 1 1 ∷ []) (version (author_at 0 1) 1) ≡ true
+  pub not_of_next : denotes (bound 0 2 ∷ later_bound 0 1 1 ∷ []) (version (author_at 0 1) 2) ≡ false
+  pub in_order : is_vector (bound 0 2 ∷ later_bound 0 1 1 ∷ bound 1 1 ∷ []) ≡ true
+  pub other_device : is_vector (bound 1 1 ∷ later_bound 0 1 1 ∷ []) ≡ false
+  pub next : next_author (author 0) ≡ author_at 0 1
+  pub earlier : is_earlier_epoch (author 0) (author_at 0 2) ≡ true
+  pub not_later : is_earlier_epoch (author_at 0 2) (author 0) ≡ false
+  pub not_another : is_earlier_epoch (author 0) (author 1) ≡ false
 
 abbrev pub two_of_the_first : List Bound
 two_of_the_first = bound 0 2 ∷ []

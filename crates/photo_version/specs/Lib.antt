@@ -3,3 +3,4 @@ pub mod Version
 pub mod Vector
 pub mod Shared
 pub mod Examples
+pub mod Words

@@ -1,30 +1,60 @@
+// Authors: devices in their epochs.
+ghost use Rattle.std.specs.Prelude.{Some, refl};
+ghost use Rattle.std.specs.Ordering.{nat_cmp, on, as_partial_cmp};
+ghost use Rattle.std.specs.Cmp.{on_equiv, partial_equiv_from_equiv, partial_order_from_own_ties};
+ghost use Rattle.std.specs.Cmp.Rules.{comparing, hashing};
+ghost use Rattle.std.specs.Cmp as laws;
+ghost use Rattle.std.specs.Hash as fed;
+ghost use Rattle.std.proofs.Common.{rules};
+ghost use Rattle.photo_version.specs.Author.{Author, same_author, author_word};
+
+use std::cmp::Ordering;
+use std::hash::{Hash, Hasher};
 use std::marker::Model;
 
-/// Who made a version: a device, by its number in the order of declaration, from 0. Authors are ordered by it.
-#[derive(Clone, Copy, Debug, PartialEq, Eq, PartialOrd, Ord, Hash)]
+// How many epochs a device has.
+const EPOCHS: u64 = 4_294_967_296;
+
+/// Who made a version: a device, by its number in the order of declaration, from 0, in one of its epochs, from 0. Authors
+/// are ordered by device, then epoch.
+#[derive(Clone, Copy, Debug)]
 pub struct Author {
     device: u16,
+    epoch: u32,
 }
 
 impl Model for Author {
+    ghost use Rattle.std.specs.Prelude.{◌<◌};
     ghost use Rattle.photo_version.specs.Author as spec;
+    ghost use Rattle.photo_version.specs.Words.{device_back, epoch_back};
 
     ghost Value = { spec.Author };
 
-    ghost view = { λ a. spec.author a.device };
+    ghost view = { λ a. spec.author_at a.device a.epoch };
 
-    ghost inverse = { λ a. record { device = a.device } };
+    ghost invariant = { λ a. a.epoch < 4294967296 };
+
+    ghost inverse = { λ a. record { device = spec.device_of_author a; epoch = spec.epoch_of_author a } };
+
+    ghost inverse_ok = { λ a h i. record { device = device_back a.device a.epoch h i; epoch = epoch_back a.device a.epoch h i } };
 }
 
 impl Author {
-    ghost use Rattle.std.specs.Prelude.{◌≡◌, true};
-    ghost use Rattle.photo_version.specs.Author.{author, device_of_author, author_word, is_author_word, author_of_word};
+    ghost use Rattle.std.specs.Prelude.{◌≡◌, ◌<◌, true, SomeIff};
+    ghost use Rattle.photo_version.specs.Author.{author, author_at, device_of_author, epoch_of_author, next_author, author_word, is_author_word, author_of_word};
 
-    /// The author that stands for the device of that number.
+    /// The author that stands for the device of that number in its first epoch.
     pub fn new(device: u16) -> Author
         ensures { result ≡ author device }
     {
-        Author { device }
+        Author { device, epoch: 0 }
+    }
+
+    /// The author that stands for the device of that number in that epoch.
+    pub fn at(device: u16, epoch: u32) -> Author
+        ensures { result ≡ author_at device epoch }
+    {
+        Author { device, epoch }
     }
 
     /// The number of the device.
@@ -34,12 +64,30 @@ impl Author {
         self.device
     }
 
+    /// The epoch of the device, from 0.
+    pub fn epoch(&self) -> u32
+        ensures { result ≡ epoch_of_author self.now }
+    {
+        self.epoch
+    }
+
+    /// The same device in its next epoch, `None` in its last one, 4,294,967,295.
+    pub fn next(&self) -> Option<Author>
+        ensures { SomeIff result (epoch_of_author self.now < 4294967295) (next_author self.now) }
+    {
+        let epoch = self.epoch.checked_add(1)?;
+        Some(Author {
+            device: self.device,
+            epoch,
+        })
+    }
+
     /// The author as one word: words are in the order of authors, and tell them apart.
     pub fn word(&self) -> u64
         ensures value { result ≡ author_word self.now }
         ensures of_author { is_author_word result ≡ true }
     {
-        u64::from(self.device)
+        u64::from(self.device) * EPOCHS + u64::from(self.epoch)
     }
 
     /// The author of that word.
@@ -48,7 +96,57 @@ impl Author {
         ensures { result ≡ author_of_word word }
     {
         Author {
-            device: word as u16,
+            device: (word / EPOCHS) as u16,
+            epoch: (word % EPOCHS) as u32,
         }
+    }
+}
+
+impl PartialEq for Author {
+    ghost eq = { same_author };
+
+    ghost laws = { partial_equiv_from_equiv (on_equiv (λ (a : Author). author_word a) laws.nat_eq_equiv) };
+
+    fn eq(&self, other: &Author) -> bool {
+        self.word() == other.word()
+    }
+}
+
+impl Eq for Author {
+    ghost laws = { on_equiv (λ (a : Author). author_word a) laws.nat_eq_equiv };
+}
+
+impl Ord for Author {
+    ghost cmp = { on author_word nat_cmp };
+
+    ghost total = { Prim.search (comparing, rules) };
+
+    ghost matches_partial_cmp = { Prim.search (comparing, rules) };
+
+    ghost matches_eq = { Prim.search (comparing, rules) };
+
+    fn cmp(&self, other: &Author) -> Ordering {
+        self.word().cmp(&other.word())
+    }
+}
+
+impl PartialOrd for Author {
+    ghost partial_cmp = { as_partial_cmp (on author_word nat_cmp) };
+
+    ghost laws = { partial_order_from_own_ties (Prim.search (comparing, rules))
+        (Prim.search (comparing, rules)) };
+
+    fn partial_cmp(&self, other: &Author) -> Option<Ordering> {
+        Some(self.cmp(other))
+    }
+}
+
+impl Hash for Author {
+    ghost hash_input = { λ a. fed.u64 (author_word a) };
+
+    ghost respects_eq = { Prim.search (hashing, rules) };
+
+    fn hash<H: Hasher>(&self, state: &mut H) {
+        self.word().hash(state);
     }
 }

@@ -1,16 +1,27 @@
 //! Laws of authors, versions and vectors. Each function's contract is a law, and its body does nothing.
-ghost use Rattle.std.specs.Prelude.{◌≡◌, true, ◌==◌, ◌↔◌, nat_lt, List};
+ghost use Rattle.std.specs.Prelude.{◌≡◌, ℕ, true, ◌+◌, ◌<◌, ◌==◌, ◌&&◌, ◌||◌, ◌↔◌, nat_lt, List};
 ghost use Rattle.std.specs.Ordering.{is_lt};
-ghost use Rattle.photo_version.specs.Author.{Author, same_author, author_before, author_word, author_of_word};
+ghost use Rattle.photo_version.specs.Author.{Author, author_at, device_of_author, epoch_of_author, same_author, same_device, author_before, next_author, author_word, author_of_word};
 ghost use Rattle.photo_version.specs.Version.{Version, same_version, version_before};
 ghost use Rattle.photo_version.specs.Vector.{Bound, denotes, is_vector};
-ghost use Rattle.photo_version.specs.Examples.{TheVectors};
+ghost use Rattle.photo_version.specs.Examples.{TheEpochs, TheVectors};
 
 /// `==` and the order of authors are those of the definitions.
 pub fn authors_compare()
     ensures equality { (a b : Author) → ⟦<crate::Author as PartialEq>⟧.eq a b ≡ same_author a b }
     ensures order { (a b : Author) → is_lt (⟦<crate::Author as Ord>⟧.cmp a b) ≡ author_before a b }
     ensures same { (a b : Author) → (same_author a b ≡ true) ↔ (a ≡ b) }
+{}
+
+/// An author is a device in an epoch, by which authors are ordered: by device, then epoch.
+pub fn authors_are_devices_in_epochs()
+    ensures device { (device epoch : ℕ) → epoch < 4294967296 → device_of_author (author_at device epoch) ≡ device }
+    ensures epoch { (device epoch : ℕ) → epoch < 4294967296 → epoch_of_author (author_at device epoch) ≡ epoch }
+    ensures back { (a : Author) → author_at (device_of_author a) (epoch_of_author a) ≡ a }
+    ensures order { (a b : Author) → author_before a b
+        ≡ (nat_lt (device_of_author a) (device_of_author b) || (same_device a b && nat_lt (epoch_of_author a) (epoch_of_author b))) }
+    ensures next { (a : Author) → epoch_of_author a < 4294967295
+        → next_author a ≡ author_at (device_of_author a) (epoch_of_author a + 1) }
 {}
 
 /// `==` and the order of versions are those of the definitions: by author, then number.
@@ -36,5 +47,6 @@ pub fn vectors_are_one()
 
 /// The definitions at some vectors.
 pub fn examples()
-    ensures { TheVectors }
+    ensures vectors { TheVectors }
+    ensures epochs { TheEpochs }
 {}

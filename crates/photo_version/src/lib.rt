@@ -10,6 +10,3 @@ mod version;
 pub use author::Author;
 pub use vector::Vector;
 pub use version::Version;
-
-#[cfg(test)]
-mod tests;

@@ -1,3 +1,4 @@
+// Vectors: what they are seen as, and their calls.
 ghost use Rattle.std.specs.Cmp as laws;
 ghost use Rattle.std.specs.Cmp.Lexicographic.{lists_per, lists_equiv};
 ghost use Rattle.photo_version.specs.Author.{author_word};
@@ -172,28 +173,4 @@ impl Eq for Vector {
     ghost laws = { lists_equiv (laws.and_equiv
         (laws.on_equiv (λ (b : Bound). author_word b.0) laws.nat_eq_equiv)
         (laws.on_equiv (λ (b : Bound). b.1) laws.nat_eq_equiv)) };
-}
-
-#[cfg(test)]
-mod tests {
-    use super::{Arc, Global, Vector};
-    use crate::{Author, Version};
-
-    #[test]
-    fn copies_share_their_entries(rt: HostRuntime) {
-        assert!(rt; owners(rt.alloc(), 2) == Some(4));
-    }
-
-    // How many vectors share the entries of one, once it was copied, joined with the empty one and with itself.
-    fn owners(alloc: Global, n: u32) -> Option<usize> {
-        let empty = Vector::new(alloc);
-        let vector = empty.with(Version::new(Author::new(0), n)?).ok()?;
-        let copy = vector.try_clone().ok()?;
-        let same = copy.join(&empty).ok()?;
-        let again = empty.join(&same).ok()?;
-        again
-            .entries
-            .as_ref()
-            .map(|entries| Arc::strong_count(entries))
-    }
 }

@@ -1,3 +1,4 @@
+// Versions.
 use crate::Author;
 use std::marker::Model;
 

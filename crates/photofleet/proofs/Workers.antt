@@ -28,21 +28,21 @@ no_workers_read word other =
     other ((number.0, omega (arith, number.3)), omega (arith, number.2), number.3)) in
     cond-false _ _ _ fails
 
--- what `get_one` of a byte makes of the word that was given, or of none
-module _ {E : Type 0} (Gives : Text → Result ℕ E → Type 0) (parses : (word : Text) (r : Result ℕ E) → Gives word r → ParsesUnsigned 8 10 word r) where
-  pub no_byte_given : (given : Option Text) → ((word : Text) → given ≡ Some word → ReadsOne Gives word None) → None ≡ option_and_then workers_of given
-  no_byte_given None reads = refl
-  no_byte_given (Some word) reads =
-      let no_byte = reads word refl in
-      let other = parses word (Err no_byte.0) no_byte.1 in
+-- what `get_one` of a number of 16 bits makes of the word that was given, or of none
+module _ {E : Type 0} (Gives : Text → Result ℕ E → Type 0) (parses : (word : Text) (r : Result ℕ E) → Gives word r → ParsesUnsigned 16 10 word r) where
+  pub nothing_given : (given : Option Text) → ((word : Text) → given ≡ Some word → ReadsOne Gives word None) → None ≡ option_and_then workers_of given
+  nothing_given None reads = refl
+  nothing_given (Some word) reads =
+      let nothing = reads word refl in
+      let other = parses word (Err nothing.0) nothing.1 in
       sym (no_workers_read word (λ are. other (are.0.0, omega (arith, are.2))))
 
-  pub byte_given : (given : Option Text) (n : ℕ) (workers : Option ℕ) → (given ≡ None → Some n ≡ None) → ((word : Text) → given ≡ Some word → ReadsOne Gives word (Some n))
+  pub number_given : (given : Option Text) (n : ℕ) (workers : Option ℕ) → (given ≡ None → Some n ≡ None) → ((word : Text) → given ≡ Some word → ReadsOne Gives word (Some n))
       → SomeIff workers ((0 < n) × (n ≤ max_workers)) n → workers ≡ option_and_then workers_of given
-  byte_given None n workers none reads are = cc (none refl)
-  byte_given (Some word) n (Some m) none reads are =
-      let byte = parses word (Ok n) (reads word refl) in
-      sym (workers_read word m ((byte.0.0, omega (arith, byte.0.1)), omega (arith, are.0.0, byte.1), omega (arith, are.0.1, byte.1)) (are.1 ∙ byte.1))
-  byte_given (Some word) n None none reads are =
-      let byte = parses word (Ok n) (reads word refl) in
-      sym (no_workers_read word (λ these. are (omega (arith, these.1, byte.1), omega (arith, these.2, byte.1))))
+  number_given None n workers none reads are = cc (none refl)
+  number_given (Some word) n (Some m) none reads are =
+      let number = parses word (Ok n) (reads word refl) in
+      sym (workers_read word m ((number.0.0, omega (arith, number.0.1)), omega (arith, are.0.0, number.1), omega (arith, are.0.1, number.1)) (are.1 ∙ number.1))
+  number_given (Some word) n None none reads are =
+      let number = parses word (Ok n) (reads word refl) in
+      sym (no_workers_read word (λ these. are (omega (arith, these.1, number.1), omega (arith, these.2, number.1))))

@@ -23,15 +23,15 @@ pub record WordsAreAsTold : Type 0 where
 abbrev pub run_words : List ℕ → List (List ℕ)
 run_words number = words_of (codes "run" ∷ codes "--workers" ∷ number ∷ codes "script" ∷ [])
 
--- command lines that ask for a run by workers: their number is to be said, and is one from 1 to 64
+-- command lines that ask for a run by workers: their number is to be said, and is one from 1 to 256
 pub record WorkersAreAsked : Type 0 where
   pub asked : Asks (run_words (codes "4")) (codes "script") (run 4)
   pub least : Asks (run_words (codes "1")) (codes "script") (run 1)
-  pub most : Asks (run_words (codes "64")) (codes "script") (run 64)
+  pub most : Asks (run_words (codes "256")) (codes "script") (run 256)
   pub signed : Asks (run_words (codes "+07")) (codes "script") (run 7)
   pub joined : Asks (words_of (codes "run" ∷ codes "script" ∷ codes "--workers=2" ∷ [])) (codes "script") (run 2)
   pub zero_workers : errors_of (run_words (codes "0")) ≡ ValueValidation ∷ []
-  pub too_many : errors_of (run_words (codes "65")) ≡ ValueValidation ∷ []
+  pub too_many : errors_of (run_words (codes "257")) ≡ ValueValidation ∷ []
   pub huge : errors_of (run_words (codes "18446744073709551617")) ≡ ValueValidation ∷ []
   pub negative : errors_of (run_words (codes "-1")) ≡ UnknownArgument ∷ []
   pub negative_joined : errors_of (words_of (codes "run" ∷ codes "--workers=-1" ∷ codes "script" ∷ [])) ≡ ValueValidation ∷ []

@@ -30,6 +30,8 @@ pub const PLAIN: &str = "Lines of a script, those of devices first:
   remove DEV PIC                  a version that removes a picture that the device holds
   pull TARGET SOURCE              the first device takes and learns from the second
   narrow DEV FILTER               the device is to keep less from now on
+  refilter DEV FILTER             the device gets any other filter, and forgets what it doesn't hold
+  preview TARGET SOURCE           what a pull of the first device from the second would move
   list DEV                        what the device holds
   conflicts DEV                   the pictures of which it holds several versions
   knowledge DEV                   the versions that it knows
@@ -42,7 +44,7 @@ PIC       a number from 1 to 999999999, another one for each 'new'
 RATING    a digit from 0 to 5
 DATE      YYYY-MM-DD
 WORDS     words with commas between them and no spaces, or - for none
-VERSION   NAME:N, the Nth version that the device made
+VERSION   NAME:N, the Nth version that the device made, or NAME.E:N, the Nth since its Eth refilter
 FILTER    tests joined by 'and', 'or' and 'not', with round brackets. A test is all, none,
           rating OP 4, day OP 2026-12-31 or keyword beach, where OP is >=, <= or =
 

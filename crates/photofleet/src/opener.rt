@@ -1,3 +1,4 @@
+//! The files that the command line names.
 ghost use Rattle.std.specs.Prelude.{◌≡◌, ℕ, List, Option, Some, None, IfOk, IfSome};
 
 use photo_script::ScriptFault;

@@ -1,3 +1,4 @@
+//! What the program does, from the words to the exit status.
 ghost use Rattle.std.specs.Prelude.{◌≡◌, ◌⊎◌, ℕ, List, true, map, Err, OnOk, IfSome};
 ghost use Rattle.photo_script.specs.declared.fault.ScriptFault as script;
 ghost use Rattle.fleet_steps.specs.declared.fault.RunError.TheVariants.{Script, Write};

@@ -1,3 +1,4 @@
+//! The exit statuses.
 ghost use Rattle.std.specs.Prelude.{◌≡◌};
 ghost use Rattle.photofleet.specs.Status.{status_of};
 

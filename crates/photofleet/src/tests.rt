@@ -1,2 +1,3 @@
+//! The program over files and writers in memory.
 mod memory;
 mod program;

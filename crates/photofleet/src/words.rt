@@ -98,7 +98,7 @@ fn job_in(alloc: Global, name: &str, given: &ArgMatches<'_>) -> Result<Option<Jo
 fn workers_in(given: &ArgMatches<'_>) -> Option<Workers>
     ensures { result ≡ workers_in (rows_of (found_of given.now)) }
 {
-    Workers::new(given.get_one::<u8>("workers")?)
+    Workers::new(given.get_one::<u16>("workers")?)
 }
 
 // The numbers of an order, perhaps none.
@@ -189,9 +189,9 @@ fn workers_argument<'a>(alloc: Global) -> Arg<'a>
     Arg::new(alloc, "workers")
         .long("workers")
         .value_name("N")
-        .help("How many workers run, 1 to 64, each in a thread of its own")
+        .help("How many workers run, 1 to 256, each in a thread of its own")
         .required(true)
-        .value_parser(value_parser!(u8).range(1..=64))
+        .value_parser(value_parser!(u16).range(1..=256))
         .action(ArgAction::Set)
 }
 

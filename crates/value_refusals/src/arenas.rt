@@ -1,3 +1,4 @@
+//! The calls of `fragment_arena`.
 ghost use Rattle.std.specs.Prelude.{◌≡◌, ◌∷◌, [], IfSome, length};
 
 use crate::verdict::{Verdict, judged, mark};

@@ -1,3 +1,4 @@
+//! Calls by the names of their libraries.
 use crate::verdict::Verdict;
 use crate::{arenas, filters, knowledges, ledgers, lists, records, vectors};
 use std::alloc::Global;

@@ -1,3 +1,4 @@
+//! The calls of `photo_filter_text` and `photo_filter_rules`.
 use crate::verdict::{Verdict, judged, mark};
 use photo_filter_rules::{BuildFault, Filter};
 use photo_filter_text::{FilterFault, FilterTree, print, read};

@@ -1,3 +1,4 @@
+//! The calls of `item_knowledge`.
 ghost use Rattle.std.specs.Prelude.{◌≡◌, ◌+◌, ◌<◌, ◌==◌, ◌&&◌, ℕ, [], ◌∷◌, true, IfSome};
 ghost use Rattle.photo_version.specs.Author.{author};
 ghost use Rattle.photo_version.specs.Version as versions;

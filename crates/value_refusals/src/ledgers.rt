@@ -1,3 +1,4 @@
+//! The calls of `work_ledger`.
 ghost use Rattle.std.specs.Prelude.{◌≡◌};
 ghost use Rattle.work_ledger.specs.Stakes.{tally};
 

@@ -1,3 +1,4 @@
+//! The calls of `block_list`.
 use crate::verdict::{Verdict, judged, mark};
 use block_list::BlockList;
 use std::alloc::Global;

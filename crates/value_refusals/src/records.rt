@@ -1,3 +1,4 @@
+//! The calls of `photo_record`.
 use crate::verdict::{Verdict, judged, mark};
 use photo_record::{Day, Rating, Record, Word, WordFault, Words};
 use std::alloc::Global;

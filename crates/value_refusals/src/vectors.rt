@@ -1,3 +1,4 @@
+//! The calls of `photo_version`.
 ghost use Rattle.std.specs.Prelude.{◌≡◌, [], ◌∷◌, true, IfSome};
 ghost use Rattle.photo_version.specs.Author.{author};
 ghost use Rattle.photo_version.specs.Vector.{is_vector};

@@ -1,3 +1,4 @@
+//! The verdicts on calls, and their words.
 use std::alloc::Global;
 
 /// What came of a call.

@@ -1,3 +1,4 @@
+// The blanks of a ledger, and what it is opened with.
 ghost use Rattle.std.specs.Prelude.{◌≡◌, ◌<◌};
 ghost use Rattle.work_ledger.specs.Ledgers.{LedgerNames, all_parts};
 ghost use Rattle.work_ledger.specs.Stakes.{IsCountable, nothing_done, stake};

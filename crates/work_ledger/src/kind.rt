@@ -1,3 +1,5 @@
+// The kinds of commands, as a ledger counts them.
+
 /// What a command was that has been run, and what it moved.
 #[derive(Clone, Copy, Debug, PartialEq, Eq)]
 pub enum Kind {

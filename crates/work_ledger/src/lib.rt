@@ -52,6 +52,3 @@ pub use kind::Kind;
 pub use ledger::{Ledger, open};
 pub use names::{Books, Names};
 pub use share::Share;
-
-#[cfg(test)]
-mod tests;

@@ -1,11 +1,12 @@
+//! Audits: of drawn scripts after each command, of the examples, and of devices that are not as they ought to be.
 ghost use Rattle.std.specs.Prelude.{◌≡◌, ℕ, ◌<◌, IfSome, if◌then◌else◌};
 ghost use Rattle.photo_version.specs.Author as authors;
 ghost use Rattle.photo_version.specs.Version as versions;
 ghost use Rattle.item_knowledge.specs.Fragments.{knows};
 ghost use Rattle.item_knowledge.specs.Kept.{star_bound};
 
-use super::drawn::{COMMANDS, drawn};
-use super::pulling::{NARROWED, PULLS};
+use super::drawn::{ALL_KINDS, COMMANDS, SOME_KINDS, drawn};
+use super::pulling::{NARROWED, PULLS, REFILTERED};
 use crate::{IssueLog, Outcome, audit, run_plain};
 use item_knowledge::Knowledge;
 use photo_device::Device;
@@ -43,17 +44,21 @@ fn is_right(_alloc: Global, outcome: &mut Outcome) -> bool {
     audit(outcome.devices.as_slice(), &outcome.log)
 }
 
-fn drawn_is_right(alloc: Global, seed: u16, commands: u32) -> bool {
-    match drawn(alloc, seed, commands) {
+fn drawn_is_right(alloc: Global, seed: u16, kinds: u32, commands: u32) -> bool
+    requires { 0 < kinds }
+{
+    match drawn(alloc, seed, kinds, commands) {
         Ok(text) => on_run(alloc, text.as_str(), is_right),
         Err(_) => false,
     }
 }
 
 // Whether all is right before the first command of a seed's script, and after each.
-fn stays_right(alloc: Global, seed: u16) -> bool {
+fn stays_right(alloc: Global, seed: u16, kinds: u32) -> bool
+    requires { 0 < kinds }
+{
     for commands in 0..COMMANDS + 1 {
-        if !drawn_is_right(alloc, seed, commands) {
+        if !drawn_is_right(alloc, seed, kinds, commands) {
             return false;
         }
     }
@@ -63,7 +68,8 @@ fn stays_right(alloc: Global, seed: u16) -> bool {
 #[test]
 fn drawn_scripts_stay_right(rt: HostRuntime) {
     for seed in 1..21 {
-        assert!(rt; stays_right(rt.alloc(), seed), "seed {seed}");
+        assert!(rt; stays_right(rt.alloc(), seed, SOME_KINDS), "seed {seed}");
+        assert!(rt; stays_right(rt.alloc(), seed, ALL_KINDS), "seed {seed}");
     }
 }
 
@@ -84,6 +90,7 @@ fn examples_end_right(rt: HostRuntime) {
     assert!(rt; are_right(rt.alloc(), &[("", ""), (HOUSEHOLD, "")]));
     assert!(rt; are_right(rt.alloc(), PULLS));
     assert!(rt; are_right(rt.alloc(), NARROWED));
+    assert!(rt; are_right(rt.alloc(), REFILTERED));
 }
 
 const REMOVAL: &str =

@@ -1,3 +1,4 @@
+//! Scripts that make, edit and remove versions.
 use super::memory::runs;
 
 pub const VERSIONS: &[(&str, &str)] = &[

@@ -1,3 +1,4 @@
+//! Scripts whose devices have filters: where versions go, which filters are refused, and the limits of filters.
 use super::memory::runs;
 use std::alloc::Global;
 use std::test::Fail;

@@ -1,3 +1,4 @@
+//! Scripts that ask what devices know.
 use super::memory::runs;
 use std::alloc::Global;
 use std::sync::Wait;

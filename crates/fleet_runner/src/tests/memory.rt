@@ -121,11 +121,11 @@ pub enum Way {
     /// Nobody else, one after another.
     Plain,
     /// So many workers.
-    By(u8),
+    By(u16),
 }
 
 /// The ways that have to give the same.
-pub const WAYS: &[Way] = &[Way::Plain, Way::By(1), Way::By(2), Way::By(7), Way::By(64)];
+pub const WAYS: &[Way] = &[Way::Plain, Way::By(1), Way::By(2), Way::By(7), Way::By(256)];
 
 /// The stream of that way.
 pub fn stream<R: Read, W: Write, T: Threads + Wait + Copy + Send + 'static>(
@@ -144,7 +144,7 @@ pub fn stream<R: Read, W: Write, T: Threads + Wait + Copy + Send + 'static>(
 fn stream_by<R: Read, W: Write, T: Threads + Wait + Copy + Send + 'static>(
     rt: T,
     alloc: Global,
-    count: u8,
+    count: u16,
     reader: &mut R,
     writer: &mut W,
 ) -> Result<(), RunError> {

@@ -1,3 +1,4 @@
+//! Replays in orders that are lawful and in others, and the texts of plans.
 use super::memory::{Full, Sink};
 use super::totals::is_outcome;
 use crate::{RunError, replay, write_plan, write_reports};
@@ -157,4 +158,16 @@ fn a_plan_for_a_writer_that_fills(rt: HostRuntime) {
             assert!(rt; is_cut(rt.alloc(), room, full), "{room}");
         }
     }
+}
+
+fn is_unflushed(alloc: Global) -> bool {
+    let mut sink = Sink::new(alloc);
+    sink.flush_fails = true;
+    planned(alloc, FOUR_DEVICES, &mut sink) == Err(RunError::Write)
+        && sink.taken.as_slice() == PLAN.as_bytes()
+}
+
+#[test]
+fn a_plan_whose_flush_fails(rt: HostRuntime) {
+    assert!(rt; is_unflushed(rt.alloc()));
 }

@@ -1,3 +1,4 @@
+//! Scripts that pull, preview pulls, and give devices other filters.
 use super::memory::runs;
 
 pub const PULLS: &[(&str, &str)] = &[
@@ -70,10 +71,45 @@ fn narrower_filters(rt: HostRuntime) {
     }
 }
 
+pub const REFILTERED: &[(&str, &str)] = &[
+    // any filter by a fresh author: what was forgotten comes back by the next pull
+    (
+        "device s all\ndevice f rating >= 4\nnew s 7 2 2024-01-01 -\nnew s 8 5 2024-01-01 -\npull f s\nrefilter f all\nknowledge f\nknows f 7 s:1\npull f s\nedit f 7 3 2024-01-01 -\nknowledge f\nknows s 7 f.1:1\npull s f\nlist s\nrefilter f rating >= 4\nknowledge f\nedit f 8 5 2024-01-01 -\n",
+        "1 made s:1 store\n2 made s:2 store\n3 pulled taken 1 handed 0 notices 0 dropped 0 learned yes\n4 refiltered store 1 out 0\n5 knowledge f 2\n  * -\n  8 s:2\n6 knows no\n7 pulled taken 1 handed 0 notices 0 dropped 0 learned yes\n8 made f.1:1 store\n9 knowledge f 1\n  * s:2 f.1:1\n10 knows no\n11 pulled taken 1 handed 0 notices 0 dropped 1 learned yes\n12 list s store 2 out 0\n  store 7 f.1:1 rating 3 day 2024-01-01 words -\n  store 8 s:2 rating 5 day 2024-01-01 words -\n13 refiltered store 1 out 1\n14 knowledge f 3\n  * -\n  7 s:2 f.1:1\n  8 s:2\n15 made f.2:1 store\n",
+    ),
+    // what is held is kept with its history, in the out where the new filter doesn't select it
+    (
+        "device a all\ndevice b rating >= 4\nnew a 1 5 2024-01-01 -\nedit a 1 2 2024-01-01 -\nremove a 1\nrefilter a none\nlist a\nknowledge a\nknows a 1 a:1\nknows a 2 a:1\nrefilter a all\nedit a 1 3 2024-01-01 -\npull b a\n",
+        "1 made a:1 store\n2 made a:2 store\n3 made a:3 out\n4 refiltered store 0 out 1\n5 list a store 0 out 1\n  out 1 a:3 removed\n6 knowledge a 2\n  * -\n  1 a:3\n7 knows yes\n8 knows no\n9 refiltered store 0 out 1\n10 made a.2:1 store\n11 pulled taken 0 handed 0 notices 0 dropped 0 learned yes\n",
+    ),
+    // a device that holds nothing forgets all
+    (
+        "device a all\nrefilter a rating = 5\nknowledge a\nnew a 7 5 2024-01-01 -\nknowledge a\n",
+        "1 refiltered store 0 out 0\n2 knowledge a 1\n  * -\n3 made a.1:1 store\n4 knowledge a 1\n  * a.1:1\n",
+    ),
+    // what a pull would count, before it and after it
+    (
+        "device cam all\ndevice frame rating >= 4\nnew cam 1 5 2024-01-01 -\nnew cam 2 2 2024-01-01 -\npreview frame cam\npull frame cam\npreview frame cam\nlist frame\n",
+        "1 made cam:1 store\n2 made cam:2 store\n3 preview taken 1 handed 0 notices 0 dropped 0 learned yes\n4 pulled taken 1 handed 0 notices 0 dropped 0 learned yes\n5 preview taken 0 handed 0 notices 0 dropped 0 learned yes\n6 list frame store 1 out 0\n  store 1 cam:1 rating 5 day 2024-01-01 words -\n",
+    ),
+];
+
+#[test]
+fn other_filters_and_previews(rt: HostRuntime) {
+    for (script, reports) in REFILTERED {
+        assert!(rt; runs(rt, rt.alloc(), script, reports, ""), "{script}");
+    }
+}
+
 const REFUSED_PULLS: &[(&str, &str)] = &[
     ("device a all\npull a a\n", "line 2: F19 SameDevice"),
     ("device a all\npull a b\n", "line 2: F8 UnknownDevice"),
     ("device a all\npull a\n", "line 2: F6 WrongFields"),
+    ("device a all\npreview a a\n", "line 2: F19 SameDevice"),
+    (
+        "device a all\nrefilter a rating >= 6\n",
+        "line 2: F15 BadFilter",
+    ),
 ];
 
 #[test]

@@ -1,3 +1,4 @@
+//! Readers that give single bytes, fail or never end, and writers that take single bytes, fill up or fail.
 use super::memory::{
     Endless, Full, OUTPUT, SCRIPT, Sink, Source, WAYS, Way, runs_bytes, stream, streams,
 };

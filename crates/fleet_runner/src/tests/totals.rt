@@ -1,3 +1,4 @@
+//! Totals and logs of runs.
 use crate::{IssueLog, Outcome, run_plain};
 use photo_script::{Script, Totals, read_script};
 use std::alloc::Global;
@@ -64,6 +65,18 @@ const OUTCOMES: &[(&str, [u64; 4], &[(u32, u16, u32)])] = &[
         "device a all\ndevice b all\nnew b 8 1 2024-01-01 -\nedit a 8 2 2024-01-01 -\nnew a 7 5 2024-01-01 -\npull a b\nedit a 8 2 2024-01-01 -\nnarrow a rating >= 2\n",
         [5, 1, 0, 1],
         &[(8, 1, 1), (7, 0, 1), (8, 0, 2)],
+    ),
+    // a refilter counts as a change, and makes no version
+    (
+        "device s all\ndevice f rating >= 4\nnew s 7 2 2024-01-01 -\nnew s 8 5 2024-01-01 -\npull f s\nrefilter f all\nknowledge f\nknows f 7 s:1\npull f s\nedit f 7 3 2024-01-01 -\nknowledge f\nknows s 7 f.1:1\npull s f\nlist s\nrefilter f rating >= 4\nknowledge f\nedit f 8 5 2024-01-01 -\n",
+        [6, 3, 6, 3],
+        &[(7, 0, 1), (8, 0, 2), (7, 1, 1), (8, 1, 1)],
+    ),
+    // a preview counts as a report, and moves nothing
+    (
+        "device cam all\ndevice frame rating >= 4\nnew cam 1 5 2024-01-01 -\nnew cam 2 2 2024-01-01 -\npreview frame cam\npull frame cam\npreview frame cam\nlist frame\n",
+        [2, 1, 3, 1],
+        &[(1, 0, 1), (2, 0, 2)],
     ),
 ];
 

@@ -1,15 +1,15 @@
 //! Runs by workers against the run command by command: the same reports, totals and devices, and the same log but for its
 //! order.
-ghost use Rattle.std.specs.Prelude.{◌≡◌, IfOk, IfSome};
+ghost use Rattle.std.specs.Prelude.{◌≡◌, ◌<◌, IfOk, IfSome};
 ghost use Rattle.std.specs.Arc.{arc_value};
 ghost use Rattle.fleet_steps.specs.Outcomes.{IsOutcome};
 
 use super::audits::HOUSEHOLD;
 use super::changes::VERSIONS;
-use super::drawn::{COMMANDS, drawn};
+use super::drawn::{ALL_KINDS, COMMANDS, SOME_KINDS, drawn};
 use super::memory::Sink;
 use super::orders::FOUR_DEVICES;
-use super::pulling::{NARROWED, PULLS};
+use super::pulling::{NARROWED, PULLS, REFILTERED};
 use super::same::all_same;
 use super::totals::totals;
 use crate::{
@@ -34,7 +34,7 @@ fn run_by<G: Gate + 'static, R: Threads + Wait + Copy + Send + 'static>(
     rt: R,
     alloc: Global,
     script: &Arc<Script>,
-    count: u8,
+    count: u16,
     gate: &Arc<G>,
 ) -> Option<Outcome>
     ensures { IfSome result (IsOutcome (arc_value script.now)) }
@@ -71,7 +71,7 @@ pub fn prints_by<G: Gate + 'static, R: Threads + Wait + Copy + Send + 'static>(
     rt: R,
     alloc: Global,
     text: &str,
-    count: u8,
+    count: u16,
     gate: &Arc<G>,
     output: &str,
     wanted: [u64; 4],
@@ -135,7 +135,7 @@ fn is_same_by<R: Threads + Wait + Copy + Send + 'static>(
     alloc: Global,
     script: &Arc<Script>,
     plain: &Outcome,
-    count: u8,
+    count: u16,
     gate: &Arc<OpenGate>,
 ) -> bool
     requires { IsOutcome (arc_value script.now) plain.now }
@@ -146,7 +146,7 @@ fn is_same_by<R: Threads + Wait + Copy + Send + 'static>(
     }
 }
 
-// Whether 1, 2, 7 and 64 workers give that outcome.
+// Whether 1, 2, 7, 64 and 256 workers give that outcome.
 fn is_same_by_any<R: Threads + Wait + Copy + Send + 'static>(
     rt: R,
     alloc: Global,
@@ -158,7 +158,7 @@ fn is_same_by_any<R: Threads + Wait + Copy + Send + 'static>(
     let Ok(gate) = Arc::new(alloc, OpenGate) else {
         return false;
     };
-    for count in [1, 2, 7, 64] {
+    for count in [1, 2, 7, 64, 256] {
         if !is_same_by(rt, alloc, script, plain, count, &gate) {
             return false;
         }
@@ -234,7 +234,7 @@ fn examples_by_workers(rt: HostRuntime) {
     for text in ["", "device a all", FOUR_DEVICES, HOUSEHOLD] {
         assert!(rt; is_right(rt, rt.alloc(), text), "{text}");
     }
-    for table in [PULLS, NARROWED, VERSIONS] {
+    for table in [PULLS, NARROWED, REFILTERED, VERSIONS] {
         for (text, _) in table {
             assert!(rt; is_right(rt, rt.alloc(), text), "{text}");
         }
@@ -245,8 +245,11 @@ fn drawn_is_right<R: Threads + Wait + Copy + Send + 'static>(
     rt: R,
     alloc: Global,
     seed: u16,
-) -> bool {
-    match drawn(alloc, seed, COMMANDS) {
+    kinds: u32,
+) -> bool
+    requires { 0 < kinds }
+{
+    match drawn(alloc, seed, kinds, COMMANDS) {
         Ok(text) => is_right(rt, alloc, text.as_str()),
         Err(_) => false,
     }
@@ -255,6 +258,13 @@ fn drawn_is_right<R: Threads + Wait + Copy + Send + 'static>(
 #[test]
 fn drawn_scripts_by_workers(rt: HostRuntime) {
     for seed in 1..21 {
-        assert!(rt; drawn_is_right(rt, rt.alloc(), seed), "seed {seed}");
+        assert!(rt;
+            drawn_is_right(rt, rt.alloc(), seed, SOME_KINDS),
+            "seed {seed}"
+        );
+        assert!(rt;
+            drawn_is_right(rt, rt.alloc(), seed, ALL_KINDS),
+            "seed {seed}"
+        );
     }
 }

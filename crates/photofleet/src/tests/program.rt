@@ -1,3 +1,4 @@
+//! Command lines: their statuses, and what is printed and told.
 use super::memory::{Full, OUTPUT, SCRIPT, Shelf, Sink, does, runs, serves};
 use crate::arguments::Arguments;
 use crate::refusals::without_words;
@@ -68,7 +69,7 @@ const WORK: &[(&[&str], &str, u8, &str, &str)] = &[
         "",
     ),
     (
-        &["run", "script", "--workers=64"],
+        &["run", "script", "--workers=256"],
         APART,
         0,
         APART_REPORTS,
@@ -150,11 +151,11 @@ fn workers_plans_and_orders(rt: HostRuntime) {
 fn more_devices_than_a_script_may_have(rt: HostRuntime) -> Result<(), Fail> {
     let alloc = rt.alloc();
     let mut script = String::new(alloc);
-    for n in 0..64 {
+    for n in 0..256 {
         writeln!(script, "device d{n} all")?;
     }
     assert!(rt; runs(rt, alloc, script.as_str(), 0, "", ""));
-    script.push_str("device d64 all\n")?;
+    script.push_str("device d256 all\n")?;
     assert!(rt;
         runs(
             rt,
@@ -162,7 +163,7 @@ fn more_devices_than_a_script_may_have(rt: HostRuntime) -> Result<(), Fail> {
             script.as_str(),
             3,
             "",
-            "script fault: line 65: F17 TooMany\n"
+            "script fault: line 257: F17 TooMany\n"
         )
     );
     Ok(())
@@ -200,7 +201,7 @@ const REFUSED: &[&[&str]] = &[
     &["photofleet", "run", "--workers", "2"],
     &["photofleet", "run", "script"],
     &["photofleet", "run", "--workers", "0", "script"],
-    &["photofleet", "run", "--workers", "65", "script"],
+    &["photofleet", "run", "--workers", "257", "script"],
     &["photofleet", "run", "--workers", "", "script"],
     &["photofleet", "run", "--workers", "two", "elsewhere"],
     &["photofleet", "batches"],

@@ -1,4 +1,4 @@
-use Rattle.std.proofs.Common.{◌≡◌, ◌∙◌, ap, sym}
+use Rattle.std.proofs.Common.{◌∙◌, ap, sym}
 use Rattle.std.specs.Option.{option_to_list}
 use Rattle.photo_device.specs.Held.{entries_of}
 use Rattle.photo_script.specs.Reports.{answer_of}

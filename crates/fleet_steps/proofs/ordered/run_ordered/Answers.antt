@@ -11,9 +11,10 @@ use Rattle.photo_script.specs.Runs.{run, reports_of}
 use Rattle.photo_script.specs.Tallies.{moved_by, max_moved}
 use Rattle.photo_batcher.specs.Related.{IsNumber}
 use Rattle.photo_batcher.proofs.Checked.{taken_more, taken_all}
-use Rattle.fleet_steps.specs.Between.{AreReady, HaveRoom, devices_after, effect_on}
+use Rattle.fleet_steps.specs.Between.{AreReady, HaveRoom, HaveRun, effect_on}
 use Rattle.fleet_steps.proofs.Between.{written_back}
-use Rattle.fleet_steps.proofs.InOrder.{RunsTo, HasRun, runs_none, runs_more, runs_ready, runs_room, runs_all, order_number, few_in, long_slots}
+use Rattle.fleet_steps.specs.Running.{RunsTo, HasRun}
+use Rattle.fleet_steps.proofs.InOrder.{runs_none, runs_more, runs_ready, runs_room, runs_all, order_number, few_in, long_slots}
 use Rattle.fleet_steps.proofs.FewMoved.{pulls_move_few, small_enough}
 use Rattle.fleet_steps.proofs.SoundRuns.{stays_sound_and_kept}
 use Rattle.fleet_steps.proofs.ordered.run_ordered.Goals as goal
@@ -27,10 +28,11 @@ loop-number-init c =
 pub run_and_log-requires-clause-ready : goal.run_and_log-requires-clause-ready
 run_and_log-requires-clause-ready c =
     let script = c.args.script.now in
+    let order = c.args.order.now in
     let l = c.loop-number in
     let opened = c.in_ok-devices.ensures in
     let is : IsScript script = record { devices = opened.few; filtered = opened.filtered; commands = omega (arith, c.commands.ensures.at_most, c.commands.ensures.count); known = c.commands.ensures.known; in_range = c.commands.ensures.in_range } in
-    subst AreReady (sym c.as_mut_slice.ensures.value) (runs_ready script (take l.number-index c.args.order.now) l.devices.items l.reports.items l.issued.items is l.invariant)
+    subst AreReady (sym c.as_mut_slice.ensures.value) (runs_ready script (take l.number-index order) l.devices.items l.reports.items l.issued.items is (few_in script order l.number-index is c.requires c.loop-number-test.true) l.invariant)
 
 pub run_and_log-requires-clause-room : goal.run_and_log-requires-clause-room
 run_and_log-requires-clause-room c =
@@ -65,7 +67,7 @@ loop-number-preserved c =
     let number : IsNumber script (get_or order i 0) = order_number script order i c.requires c.loop-number-test.true in
     let same : length new ≡ length items = c.run_and_log.auto.devices ∙ ap length given.value in
     let whole : take l.devices.len (new ++ drop (length new) items) ≡ new = written_back new items l.devices.len same (sym given.len ∙ ap length given.value) in
-    let shows = subst (λ (d : List Kept). (models : List ModelDevice) → AllZip Shows d models → AllZip Shows new (devices_after models command)) given.value c.in_ok-report.ensures.devices in
+    let shows = subst (λ (d : List Kept). HaveRun command d new) given.value c.in_ok-report.ensures.devices in
     let tells = subst (λ (d : List Kept). (models : List ModelDevice) → AllZip Shows d models → Tells (answer_of c.in_ok-report.report) (effect_on models command).report) given.value c.in_ok-report.ensures.report in
     let logs = subst (λ (d : List Kept). (models : List ModelDevice) → AllZip Shows d models → entries_of c.run_and_log.new.log.items ≡ entries_of l.issued.items ++ (effect_on models command).entries) given.value c.in_ok-report.ensures.log in
     rw (whole, taken_more order i c.loop-number-test.true)
@@ -87,7 +89,7 @@ totals_of-totals-requires-clause-each c =
     let opened = c.in_ok-devices.ensures in
     let is : IsScript script = record { devices = opened.few; filtered = opened.filtered; commands = omega (arith, c.commands.ensures.at_most, c.commands.ensures.count); known = c.commands.ensures.known; in_range = c.commands.ensures.in_range } in
     let to : RunsTo script order l.devices.items l.reports.items l.issued.items = subst (λ (front : List ℕ). RunsTo script front l.devices.items l.reports.items l.issued.items) (taken_all order l.number-index c.loop-number-test.false) l.invariant in
-    let r : HasRun script l.devices.items l.reports.items l.issued.items = runs_all script order l.devices.items l.reports.items l.issued.items to c.requires (c.lawful_orders_are_the_run.ensures script order c.requires) in
+    let r : HasRun script l.devices.items l.reports.items l.issued.items = runs_all script order l.devices.items l.reports.items l.issued.items is.commands to c.requires (c.lawful_orders_are_the_run.ensures script order c.requires) in
     subst (λ (x : List Report). AllByRecursion (λ a. moved_by a ≤ max_moved) (map answer_of x)) (sym c.as_slice.ensures.value) (small_enough _ (pulls_move_few script (map answer_of l.reports.items) is r.right))
 
 pub returns-clause-log : goal.returns-clause-log
@@ -104,7 +106,7 @@ returns-clause-ok c =
     let opened = c.in_ok-devices.ensures in
     let is : IsScript script = record { devices = opened.few; filtered = opened.filtered; commands = omega (arith, c.commands.ensures.at_most, c.commands.ensures.count); known = c.commands.ensures.known; in_range = c.commands.ensures.in_range } in
     let to : RunsTo script order l.devices.items l.reports.items l.issued.items = subst (λ (front : List ℕ). RunsTo script front l.devices.items l.reports.items l.issued.items) (taken_all order l.number-index c.loop-number-test.false) l.invariant in
-    let r : HasRun script l.devices.items l.reports.items l.issued.items = runs_all script order l.devices.items l.reports.items l.issued.items to c.requires (c.lawful_orders_are_the_run.ensures script order c.requires) in
+    let r : HasRun script l.devices.items l.reports.items l.issued.items = runs_all script order l.devices.items l.reports.items l.issued.items is.commands to c.requires (c.lawful_orders_are_the_run.ensures script order c.requires) in
     let each : length l.reports.items ≡ length script.commands = long_slots script order l.devices.items l.reports.items l.issued.items to in
     record {
       devices = r.devices_are;

@@ -1,5 +1,5 @@
 use Rattle.std.proofs.Common.{take}
-use Rattle.fleet_steps.proofs.InOrder.{RunsTo}
+use Rattle.fleet_steps.specs.Running.{RunsTo}
 use Rattle.fleet_steps.proofs.ordered.run_ordered.Given as goal
 
 abbrev pub invariant-loop-number : goal.invariant-loop-number

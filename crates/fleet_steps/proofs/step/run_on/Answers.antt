@@ -1,7 +1,6 @@
-use Rattle.std.proofs.Common.{◌≡◌, get_or, refl, sym, ap, ◌∙◌, arith}
-use Rattle.photo_version.specs.Author.{device_of_author}
+use Rattle.std.proofs.Common.{◌≡◌, get_or, refl, sym, ◌∙◌, arith}
 use Rattle.photo_script.specs.Contents.{devices_of}
-use Rattle.fleet_steps.proofs.Between.{no_author, one_shows, one_tells, one_wants}
+use Rattle.fleet_steps.proofs.Between.{one_shows, one_tells, one_wants}
 use Rattle.fleet_steps.proofs.Settled.{one_as_it_was, one_settled}
 use Rattle.fleet_steps.proofs.step.run_on.Goals as goal
 
@@ -10,8 +9,8 @@ returns-in_default-None-clause-devices c =
     let devices = c.args.devices.now in
     let command = c.args.command.now in
     let d = c.index-devices-from.result in
-    let place : c.from.result ≡ (devices_of command).0 = c.from.ensures ∙ c.value.ensures ∙ ap device_of_author c.devices_of.ensures.first in
-    let alone = no_author (devices_of command).1 (sym c.devices_of.ensures.second ∙ c.in_default-None.is-1) in
+    let place : c.from.result ≡ (devices_of command).0 = c.from.ensures ∙ c.devices_of.ensures.first in
+    let alone = sym c.devices_of.ensures.second ∙ c.in_default-None.is-1 in
     one_shows c.run_command.result devices command c.from.result d (get_or devices c.from.result d) c.run_command.new.device alone place refl (omega arith) c.run_command.ensures.device
 
 pub returns-in_default-None-clause-report : goal.returns-in_default-None-clause-report
@@ -19,8 +18,8 @@ returns-in_default-None-clause-report c =
     let devices = c.args.devices.now in
     let command = c.args.command.now in
     let d = c.index-devices-from.result in
-    let place : c.from.result ≡ (devices_of command).0 = c.from.ensures ∙ c.value.ensures ∙ ap device_of_author c.devices_of.ensures.first in
-    let alone = no_author (devices_of command).1 (sym c.devices_of.ensures.second ∙ c.in_default-None.is-1) in
+    let place : c.from.result ≡ (devices_of command).0 = c.from.ensures ∙ c.devices_of.ensures.first in
+    let alone = sym c.devices_of.ensures.second ∙ c.in_default-None.is-1 in
     one_tells c.run_command.result devices command c.from.result d (get_or devices c.from.result d) alone place refl (omega arith) c.run_command.ensures.report
 
 pub returns-in_default-None-clause-memory : goal.returns-in_default-None-clause-memory
@@ -28,7 +27,7 @@ returns-in_default-None-clause-memory c =
     let devices = c.args.devices.now in
     let command = c.args.command.now in
     let d = c.index-devices-from.result in
-    let place : c.from.result ≡ (devices_of command).0 = c.from.ensures ∙ c.value.ensures ∙ ap device_of_author c.devices_of.ensures.first in
+    let place : c.from.result ≡ (devices_of command).0 = c.from.ensures ∙ c.devices_of.ensures.first in
     one_wants c.run_command.result devices command c.from.result d (get_or devices c.from.result d) place refl (omega arith) c.run_command.ensures.memory
 
 pub returns-in_default-None-clause-err : goal.returns-in_default-None-clause-err
@@ -41,5 +40,5 @@ returns-in_default-None-clause-staged c =
     let devices = c.args.devices.now in
     let command = c.args.command.now in
     let d = c.index-devices-from.result in
-    let place : c.from.result ≡ (devices_of command).0 = c.from.ensures ∙ c.value.ensures ∙ ap device_of_author c.devices_of.ensures.first in
+    let place : c.from.result ≡ (devices_of command).0 = c.from.ensures ∙ c.devices_of.ensures.first in
     one_settled devices c.from.result d (get_or devices c.from.result d) c.run_command.new.device refl (omega arith) c.run_command.ensures.staged

@@ -3,8 +3,15 @@ use Rattle.std.specs.Prelude.{Option, Some, IfSome, IsSome, slice_index_or}
 use Rattle.photo_device.specs.Device.{Kept}
 use Rattle.fleet_workers.specs.Batch.{IsTaken}
 use Rattle.fleet_workers.proofs.Owned.{number_of}
-use Rattle.fleet_workers.proofs.Dealt.{second_here, job_taken, slots_taken}
+use Rattle.fleet_workers.proofs.Dealt.{first_here, second_here, job_taken, slots_taken}
 use Rattle.fleet_workers.proofs.deal.take_job.Goals as goal
+
+pub take_device-first-requires-clause-here : goal.take_device-first-requires-clause-here
+take_device-first-requires-clause-here c =
+    let script = c.args.script.now in
+    let n = c.args.number in
+    let is = number_of script n c.command.result.now c.requires.number.0 c.command.ensures.command in
+    first_here script n c.command.result.now c.places_of-place.result.0 c.args.slots.now.items is c.command.ensures.known c.requires.long c.places_of-place.ensures.first c.requires.here
 
 pub take_second-second-requires-clause-here : goal.take_second-second-requires-clause-here
 take_second-second-requires-clause-here c =

@@ -9,8 +9,8 @@ use Rattle.photo_device.proofs.device.with_own.Goals as goal
 pub learn_own-requires : goal.learn_own-requires
 learn_own-requires c = c.requires ∙ ap (λ (k : Knowing). star_bound k.known c.args.version.author + 1) (sym c.in_ok-knowledge.ensures)
 
-pub returns : goal.returns
-returns c =
+pub returns-clause-learned : goal.returns-clause-learned
+returns-clause-learned c =
     let v = c.args.version in
     let copied = c.in_ok-knowledge.ensures in
     record {

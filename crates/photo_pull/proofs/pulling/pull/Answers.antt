@@ -1,21 +1,15 @@
-use Rattle.std.proofs.Common.{◌≡◌, ◌≤◌, ◌++◌, Some, sym, ◌∙◌, subst}
+use Rattle.std.proofs.Common.{sym, subst}
 use Rattle.std.specs.Prelude.{None}
 use Rattle.std.proofs.lemmas.Result.{on_ok_weaker, IfOk-weaker}
-use Rattle.photo_version.specs.Version.{version}
-use Rattle.item_knowledge.specs.Fragments.{knows}
-use Rattle.photo_device.specs.Held.{find_version}
-use Rattle.photo_device.specs.Device.{Kept, Shows}
+use Rattle.photo_device.specs.Device.{Kept, Shows, unstaged}
 use Rattle.photo_device.proofs.Staged.{shows_staged}
+use Rattle.photo_pull.specs.MayPull.{MayPull}
 use Rattle.photo_pull.proofs.pulling.pull.Goals as goal
 
-pub pull_between-requires-clause-one : goal.pull_between-requires-clause-one
-pull_between-requires-clause-one c = λ v h g here there.
-    c.requires.one v h g (subst (λ (d : Kept). find_version v (d.store ++ d.out) ≡ Some h) c.unstage.ensures here) (subst (λ (d : Kept). find_version v (d.store ++ d.out) ≡ Some g) c.unstage-2.ensures there)
-
-pub pull_between-requires-clause-own : goal.pull_between-requires-clause-own
-pull_between-requires-clause-own c = λ p n above known.
-    let before = (λ i. knows (sym c.unstage-2.ensures i).knowledge p (version (sym c.unstage.ensures i).author n)) ∙ known in
-    subst (λ (d : Kept). n ≤ d.counter) (sym c.unstage.ensures) (c.requires.own p n above before)
+pub pull_between-requires-clause-may : goal.pull_between-requires-clause-may
+pull_between-requires-clause-may c =
+    let one : MayPull (unstaged c.args.target.now) (unstaged c.args.source.now) = record { differ = c.requires.differ; one = c.requires.one; own = c.requires.own } in
+    subst (λ (d : Kept). MayPull d c.unstage-2.new.self) (sym c.unstage.ensures) (subst (MayPull (unstaged c.args.target.now)) (sym c.unstage-2.ensures) one)
 
 pub returns-clause-target : goal.returns-clause-target
 returns-clause-target c =

@@ -1,4 +1,4 @@
-use Rattle.photo_script.proofs.WorkedExamples.{first_run, single_faults, two_faults, lines_and_fields, filters, changes, questions, known_texts, moves, moved_texts, counts}
+use Rattle.photo_script.proofs.WorkedExamples.{first_run, single_faults, two_faults, lines_and_fields, filters, changes, questions, known_texts, later_epochs, later_epoch_texts, moves, other_moves, many_devices, moved_texts, counts}
 use Rattle.photo_script.proofs.laws.examples.Goals as goal
 
 pub returns-clause-first_run : goal.returns-clause-first_run
@@ -25,8 +25,20 @@ returns-clause-questions c = questions
 pub returns-clause-known_texts : goal.returns-clause-known_texts
 returns-clause-known_texts c = known_texts
 
+pub returns-clause-later_epochs : goal.returns-clause-later_epochs
+returns-clause-later_epochs c = later_epochs
+
+pub returns-clause-later_epoch_texts : goal.returns-clause-later_epoch_texts
+returns-clause-later_epoch_texts c = later_epoch_texts
+
 pub returns-clause-moves : goal.returns-clause-moves
 returns-clause-moves c = moves
+
+pub returns-clause-other_moves : goal.returns-clause-other_moves
+returns-clause-other_moves c = other_moves
+
+pub returns-clause-many_devices : goal.returns-clause-many_devices
+returns-clause-many_devices c = many_devices
 
 pub returns-clause-moved_texts : goal.returns-clause-moved_texts
 returns-clause-moved_texts c = moved_texts

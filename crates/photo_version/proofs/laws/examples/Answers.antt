@@ -1,8 +1,11 @@
 use Rattle.std.proofs.Common.{refl}
 use Rattle.photo_version.proofs.laws.examples.Goals as goal
 
-pub returns : goal.returns
-returns c = record {
+pub returns-clause-epochs : goal.returns-clause-epochs
+returns-clause-epochs c = record { with_its_next = refl; of_next = refl; not_of_next = refl; in_order = refl; other_device = refl; next = refl; earlier = refl; not_later = refl; not_another = refl }
+
+pub returns-clause-vectors : goal.returns-clause-vectors
+returns-clause-vectors c = record {
   union = refl;
   other_way = refl;
   with_an_earlier = refl;

@@ -38,7 +38,9 @@ invariant_of-self-2 c =
     let same : length new ≡ length items = c.run_and_keep.auto.devices ∙ ap length given.value in
     let whole : take c.self.inside.devices.len (new ++ drop (length new) items) ≡ new = written_back new items c.self.inside.devices.len same (sym given.len ∙ ap length given.value) in
     let within : IsWithin (length items) command = subst (λ (x : KeptFleet). IsWithin (length x.devices) command) (sym c.self.view_is) c.requires.within in
-    came_more f _ (c.self.inside.commands + 1) command c.self.invariant within c.command_in_range.ensures
+    let count = ap (λ (x : KeptFleet). x.commands) c.self.view_is in
+    let room = c.requires.room in
+    came_more f _ (c.self.inside.commands + 1) command c.self.invariant within c.command_in_range.ensures (omega arith)
     (run_shows f _ new _ c.run_and_keep.new.log.items (c.self.inside.commands + 1) (c.self.inside.commands + 1) command given.value whole c.in_ok-report.ensures.devices c.in_ok-report.ensures.log)
     refl (subst AreSettled (sym whole) (c.run_and_keep.ensures.settled (subst AreSettled (sym given.value) c.self.invariant.settled)))
 

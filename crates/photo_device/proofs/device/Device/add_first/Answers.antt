@@ -21,8 +21,8 @@ invariant_of-self-2 c =
     let counter = c.n-self-inside.ensures.value ∙ ap (λ (x : Version). x.number) (c.version-version.ensures ∙ next.next) in
     let learned =
     subst (λ (k : Knowing). IsOwnLearned c.args.held.version k.known c.new.result.known) c.as_knowledge.ensures
-    (subst (λ (k : Knowing). IsOwnLearned c.args.held.version c.as_knowledge.result.now.known k.known) (sym c.new.ensures) (rw c.version-version.ensures at c.in_ok-knowledge.ensures)) in
-    rw (counter, c.in_ok-hold.ensures.store, c.in_ok-hold.ensures.out) (record { device = makes_device c.args.place c.args.held _ c.new.result.known (next_unstaged c.args.held _ next) learned c.self.invariant.device; fits = tt })
+    (subst (λ (k : Knowing). IsOwnLearned c.args.held.version c.as_knowledge.result.now.known k.known) (sym c.new.ensures) (rw c.version-version.ensures at c.in_ok-knowledge.ensures.learned)) in
+    rw (counter, c.in_ok-hold.ensures.store, c.in_ok-hold.ensures.out) (record { device = makes_device c.args.place c.args.held _ c.new.result.known (next_unstaged c.args.held _ next) learned c.self.invariant.device; fits = ap (λ (k : Knowing). k.staged) c.new.ensures ∙ c.in_ok-knowledge.ensures.staged })
 
 pub returns-clause-ok : goal.returns-clause-ok
 returns-clause-ok c =
@@ -30,7 +30,7 @@ returns-clause-ok c =
     let counter = c.n-self-inside.ensures.value ∙ ap (λ (x : Version). x.number) (c.version-version.ensures ∙ next.next) in
     let learned =
     subst (λ (k : Knowing). IsOwnLearned c.args.held.version k.known c.new.result.known) c.as_knowledge.ensures
-    (subst (λ (k : Knowing). IsOwnLearned c.args.held.version c.as_knowledge.result.now.known k.known) (sym c.new.ensures) (rw c.version-version.ensures at c.in_ok-knowledge.ensures)) in
+    (subst (λ (k : Knowing). IsOwnLearned c.args.held.version c.as_knowledge.result.now.known k.known) (sym c.new.ensures) (rw c.version-version.ensures at c.in_ok-knowledge.ensures.learned)) in
     has_made c.args.place c.args.held _ _ _ c.self.view_is
     (λ i. record {
       author = c.self.inside.author;

@@ -32,7 +32,7 @@ invariant_of-self-2 c =
     let counter = c.n-self-inside.ensures.value ∙ ap (λ (x : Version). x.number) (c.version-version.ensures ∙ next.next) in
     let raised : IsOwnLearned c.version-version.result c.self.inside.knowledge.known c.raise_own.new.self.known = record { star = c.raise_own.ensures.star; learned = c.raise_own.ensures.learned } in
     let learned = subst (λ (v : Version). IsOwnLearned v c.self.inside.knowledge.known c.raise_own.new.self.known) c.version-version.ensures raised in
-    rw (counter, c.in_ok-hold.ensures.store, c.in_ok-hold.ensures.out) (record { device = makes_device c.args.place c.args.held _ c.raise_own.new.self.known (next_unstaged c.args.held _ next) learned c.self.invariant.device; fits = tt })
+    rw (counter, c.in_ok-hold.ensures.store, c.in_ok-hold.ensures.out) (record { device = makes_device c.args.place c.args.held _ c.raise_own.new.self.known (next_unstaged c.args.held _ next) learned c.self.invariant.device; fits = c.raise_own.ensures.staged })
 
 pub returns-clause-ok : goal.returns-clause-ok
 returns-clause-ok c =

@@ -9,10 +9,10 @@ loop-preserved c known all =
 
 pub returns-in_err-fill : goal.returns-in_err-fill
 returns-in_err-fill c known all =
-    let within : c.from-author.result < length c.loop.self.rows.items = search rules in
-    known_still known c.loop.self.rows.items c.from-author.result _ c.index_mut.result.now c.fill.new.row within c.index_mut.ensures.value c.fill.ensures.items (c.loop.invariant known all)
+    let within : c.from-device.result < length c.loop.self.rows.items = search rules in
+    known_still known c.loop.self.rows.items c.from-device.result _ c.index_mut.result.now c.fill.new.row within c.index_mut.ensures.value c.fill.ensures.items (c.loop.invariant known all)
 
 pub returns-in_ok-fill : goal.returns-in_ok-fill
 returns-in_ok-fill c known all =
-    let within : c.from-author.result < length c.loop.self.rows.items = search rules in
-    known_still known c.loop.self.rows.items c.from-author.result _ c.index_mut.result.now c.fill.new.row within c.index_mut.ensures.value c.fill.ensures.items (c.loop.invariant known all)
+    let within : c.from-device.result < length c.loop.self.rows.items = search rules in
+    known_still known c.loop.self.rows.items c.from-device.result _ c.index_mut.result.now c.fill.new.row within c.index_mut.ensures.value c.fill.ensures.items (c.loop.invariant known all)

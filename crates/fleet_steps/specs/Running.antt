@@ -1,0 +1,53 @@
+-- Machinery of the proofs: how far a run of some commands of a script has come, and what it has given in the end.
+use Rattle.std.specs.Prelude.{◌≡◌, ℕ, ◌<◌, ◌≤◌, true, List, length, map, Option, Some, None, IsPermutation}
+use Rattle.std.specs.List.{AllZip, AllByRecursion}
+use Rattle.photo_version.specs.Author.{device_of_author, epoch_of_author}
+use Rattle.photo_version.specs.Version.{Version}
+use Rattle.photo_device.specs.declared.held.Held.{Held}
+use Rattle.photo_device.specs.Entry.{Entry}
+use Rattle.photo_device.specs.Held.{entries_of}
+use Rattle.photo_device.specs.Device.{Kept, ModelDevice, Shows, known}
+use Rattle.photo_script.specs.declared.report.Report.{Report}
+use Rattle.photo_script.specs.Contents.{Contents}
+use Rattle.photo_script.specs.Reports.{ModelReport, Tells, answer_of, IsOfScript, IsAbout}
+use Rattle.photo_script.specs.Runs.{run_in_order, run, reports_of}
+
+-- the entry's version is of a device of the script, and so is each version that it was made with
+pub record IsOfRun (script : Contents) (e : Entry) : Type 0 where
+  pub itself : IsOfScript script e.version
+  pub history : (v : Version) → e.history v ≡ true → IsOfScript script v
+
+-- the device is of the script, and so is all that it holds, and each version that it knows
+pub record IsOfFleet (script : Contents) (d : ModelDevice) : Type 0 where
+  pub author : device_of_author d.author < length script.names
+  pub store : AllByRecursion (IsOfRun script) d.store
+  pub out : AllByRecursion (IsOfRun script) d.out
+  pub knows : (picture : ℕ) (v : Version) → known d picture v ≡ true → IsOfScript script v
+
+-- the device has made at most so many versions in its epoch, and begun at most so many epochs after its first
+pub record HasMadeAtMost (n : ℕ) (m : ModelDevice) : Type 0 where
+  pub made : m.counter ≤ n
+  pub begun : epoch_of_author m.author ≤ n
+
+-- the report is the right one, where the command has run
+abbrev pub IsTold : Report → Option ModelReport → Type 0
+IsTold report None = Unit {0}
+IsTold report (Some right) = Tells (answer_of report) right
+
+-- the devices, the reports by their numbers and the log after the commands of those numbers, in that order. That they speak of
+-- devices of the script is so as long as there are epochs to begin
+pub record RunsTo (script : Contents) (front : List ℕ) (devices : List Kept) (slots : List Report) (log : List Held) : Type 0 where
+  pub long : length devices ≡ length script.names
+  pub shown : AllZip Shows devices (run_in_order script front).devices
+  pub told : AllZip IsTold slots (run_in_order script front).reports
+  pub known : length front ≤ 4_294_967_295 → AllByRecursion (IsOfFleet script) (run_in_order script front).devices
+  pub about : length front ≤ 4_294_967_295 → AllByRecursion (λ report. IsAbout script (answer_of report)) slots
+  pub counted : AllByRecursion (HasMadeAtMost (length front)) (run_in_order script front).devices
+  pub logged : entries_of log ≡ (run_in_order script front).log
+
+-- a lawful order has given what the run gives
+pub record HasRun (script : Contents) (devices : List Kept) (reports : List Report) (log : List Held) : Type 0 where
+  pub devices_are : AllZip Shows devices (run script).devices
+  pub right : AllZip Tells (map answer_of reports) (reports_of (run script))
+  pub about : AllByRecursion (IsAbout script) (map answer_of reports)
+  pub logged : IsPermutation (run script).log (entries_of log)

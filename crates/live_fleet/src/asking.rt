@@ -1,0 +1,29 @@
+// What a fleet is asked between two of its devices.
+ghost use Rattle.std.specs.Prelude.{◌≡◌, ◌≢◌, ◌<◌, List, length, IfOk};
+ghost use Rattle.std.specs.List.{AllZip};
+ghost use Rattle.photo_device.specs.Device.{ModelDevice, Shows};
+ghost use Rattle.photo_pull.specs.Pull.{counts_of};
+ghost use Rattle.photo_script.specs.Runs.{device_at};
+ghost use Rattle.fleet_steps.specs.Between.{AreReady};
+
+use photo_device::Device;
+use photo_pull::{PullCounts, preview};
+use std::alloc::{AllocError, Global};
+
+/// What a pull of the device at one place from the one at another would move. Its only error is want of memory.
+pub(crate) fn preview_between(
+    alloc: Global,
+    devices: &[Device],
+    target: usize,
+    source: usize,
+) -> Result<PullCounts, AllocError>
+    requires target { target < length devices.now }
+    requires source { source < length devices.now }
+    requires differ { source ≢ target }
+    requires ready { AreReady devices.now }
+    ensures { IfOk result (λ counts. (models : List ModelDevice) → AllZip Shows devices.now models
+        → counts ≡ counts_of (device_at models target) (device_at models source)) }
+{
+    let counts = preview(alloc, &devices[target], &devices[source])?;
+    Ok(counts)
+}

@@ -1,0 +1,68 @@
+//! The readers of a fleet that is driven by hand, and those of a run's log.
+use crate::filters::filter_of;
+use crate::scripts::small;
+use fleet_runner::{Fleet, IssueLog, Outcome, run_plain};
+use fleet_steps::made_on;
+use photo_record::PicNo;
+use photo_script::{Command, Script};
+use std::alloc::Global;
+
+/// `takes` and the readers of a fleet of one device.
+pub fn answer(alloc: Global, times: u32) -> Option<bool> {
+    let filters = [filter_of(alloc, "rating >= 3")?];
+    let fleet = Fleet::new(alloc, &filters).ok()?;
+    Some(answer_of(&fleet, times))
+}
+
+fn answer_of(fleet: &Fleet, times: u32) -> bool {
+    for _ in 0..times {
+        if !is_fresh(fleet) {
+            return false;
+        }
+    }
+    true
+}
+
+fn is_fresh(fleet: &Fleet) -> bool {
+    fleet.devices().len() == 1
+        && fleet.log().is_empty()
+        && fleet.commands() == 0
+        && !fleet.is_full()
+        && fleet.takes(&Command::List { device: 0 })
+        && !fleet.takes(&Command::List { device: 1 })
+}
+
+/// `made_on` and the readers of a log.
+pub fn answer_log(alloc: Global, times: u32) -> Option<bool> {
+    let script = small(alloc)?;
+    let outcome = run_plain(alloc, &script).ok()?;
+    Some(answer_of_log(&script, &outcome, times))
+}
+
+fn answer_of_log(script: &Script, outcome: &Outcome, times: u32) -> bool {
+    for _ in 0..times {
+        if !has_one(&outcome.log) || !has_made(script, outcome) {
+            return false;
+        }
+    }
+    true
+}
+
+fn has_one(log: &IssueLog) -> bool {
+    let Some(picture) = PicNo::new(1) else {
+        return false;
+    };
+    log.len() == 1
+        && !log.is_empty()
+        && log.get(0).picture == picture
+        && log.by_picture().len() == 1
+        && log.of_picture(picture).len() == 1
+}
+
+// The first command has made a version on the first device.
+fn has_made(script: &Script, outcome: &Outcome) -> bool {
+    let (Some(report), Some(device)) = (outcome.reports.first(), outcome.devices.first()) else {
+        return false;
+    };
+    script.commands() == 4 && made_on(script.command(1), report, device).is_some()
+}

@@ -1,0 +1,40 @@
+//! The readers of a held version that is shared, and the calls of a list of such.
+use crate::devices::device;
+use photo_device::{ItemList, SharedHeld, SharedList};
+use photo_record::Record;
+use photo_version::Version;
+use std::alloc::Global;
+
+/// The readers of the first version that a device holds, and of a list of all of them; `ItemList::new` and `into_vec`.
+pub fn answer(alloc: Global, times: u32) -> Option<bool> {
+    let device = device(alloc)?;
+    let list = device.store().to_list().ok()?;
+    Some(answer_of(alloc, &list, times))
+}
+
+fn answer_of(alloc: Global, list: &SharedList, times: u32) -> bool {
+    for _ in 0..times {
+        if !has_all(list) || !is_rewrapped(alloc) {
+            return false;
+        }
+    }
+    true
+}
+
+fn has_all(list: &SharedList) -> bool {
+    list.len() == 300 && !list.is_empty() && list.as_slice().len() == 300 && is_first(list.get(0))
+}
+
+fn is_first(held: &SharedHeld) -> bool {
+    held.picture().value() == 1
+        && held.version().n() == 1
+        && held.made_with().is_empty()
+        && held.as_held().picture == held.picture()
+        && *held.content() != Record::Removed
+}
+
+fn is_rewrapped(alloc: Global) -> bool {
+    ItemList::<Version>::new(Vec::new(alloc))
+        .into_vec()
+        .is_empty()
+}

@@ -1,0 +1,121 @@
+-- What is true of a device that gets any new filter.
+use Rattle.std.proofs.Common.{◌≡◌, ℕ, ◌<◌, Bool, true, false, not, ◌||◌, List, [], ◌++◌, refl, sym, ap, ◌∙◌, subst, arith}
+use Rattle.std.specs.Prelude.{filter, None}
+use Rattle.std.specs.List.{AllByRecursion}
+use Rattle.std.proofs.lemmas.List.{map-append}
+use Rattle.std.proofs.lemmas.List.Folds.{list_any-append}
+use Rattle.std.proofs.lemmas.Bool.{false≢true}
+use Rattle.photo_filter_text.specs.Tree.{Tree}
+use Rattle.photo_filter_rules.specs.Matching.{matches}
+use Rattle.photo_version.specs.Author.{Author, epoch_of_author, next_author}
+use Rattle.photo_version.specs.Version.{Version}
+use Rattle.item_knowledge.specs.Fragments.{Fragment, knows}
+use Rattle.item_knowledge.specs.Kept.{nothing_known, star_bound}
+use Rattle.photo_device.specs.declared.held.Held.{Held}
+use Rattle.photo_device.specs.Entry.{Entry, put_entries}
+use Rattle.photo_device.specs.Held.{entry_of, entries_of, count_of, put_helds}
+use Rattle.photo_device.specs.Device.{Kept, ModelDevice, Shows, holds}
+use Rattle.photo_device.specs.Own.{HasEarlier, IsKnownBy, IsDevice}
+use Rattle.photo_device.specs.Taking.{AreNewTo, with_side}
+use Rattle.photo_device.specs.Telling.{tell, tells}
+use Rattle.photo_device.specs.Refiltered.{refiltered}
+use Rattle.photo_device.proofs.AllLemmas.{all_append}
+use Rattle.photo_device.proofs.Counts.{count_of-append}
+use Rattle.photo_device.proofs.OwnLemmas.{all_of, none_up_to}
+use Rattle.photo_device.proofs.Changed.{joins_device, entries-filter, entries-put_helds}
+use Rattle.photo_device.proofs.NextEpoch.{begins_next_epoch}
+use Rattle.photo_device.proofs.TellingLemmas.{one, tell_entries, told_known, known_told}
+
+-- a device that holds, knows and has made nothing
+abbrev empty : Author → Tree → Kept
+empty author tree = record { author = author; tree = tree; counter = 0; store = []; out = []; knowledge = nothing_known; staged = None }
+
+empty_device : (author : Author) (tree : Tree) → IsDevice (empty author tree)
+empty_device author tree = record {
+  knows = record { star = refl; own = λ p n above. none_up_to n; later = λ p v above later. refl };
+  store = tt;
+  out = tt;
+  store_known = tt;
+  out_known = tt;
+  once = λ v. omega arith;
+}
+
+-- what is in two sets, each version once, is new to an empty set
+pub new_to_none : (stored waiting none : List Held) → none ≡ [] → AreNewTo waiting stored → AreNewTo none (waiting ++ stored)
+new_to_none stored waiting none is new = subst (λ (l : List Held). AreNewTo l (waiting ++ stored)) (sym is) (record {
+  once = λ v.
+      let once = new.once v in
+      let both = count_of-append v stored waiting in
+      let turned = count_of-append v waiting stored in
+      let all = count_of-append v (waiting ++ stored) [] in
+      let nothing : count_of v [] ≡ 0 = refl in
+      omega arith;
+})
+
+-- a device in its next epoch, with any filter, what it held sorted anew, and what is known then
+abbrev pub anew : Tree → List Fragment → Kept → Kept
+anew tree fs d = record {
+  author = next_author d.author;
+  tree = tree;
+  counter = 0;
+  store = with_side true tree (d.store ++ d.out) [];
+  out = with_side false tree (d.store ++ d.out) [];
+  knowledge = fs;
+  staged = None;
+}
+
+-- what is known then is what the held versions tell, of single pictures alone
+pub record KnowsWhatIsTold (fs : List Fragment) (d : Kept) : Type 0 where
+  pub pairs : (p : ℕ) (v : Version) → 0 < p → knows fs p v ≡ (tells d.store p v || tells d.out p v)
+  pub star : (a : Author) → star_bound fs a ≡ 0
+
+module _ (tree : Tree) (fs : List Fragment) (d : Kept) (told : KnowsWhatIsTold fs d) (is : IsDevice d) where
+  all_pairs : (p : ℕ) (v : Version) → 0 < p → knows fs p v ≡ tells (d.store ++ d.out) p v
+  all_pairs p v above = told.pairs p v above ∙ sym (list_any-append (one p v) d.store d.out)
+
+  known_before : AllByRecursion (IsKnownBy d.knowledge) (d.store ++ d.out)
+  known_before = all_append (IsKnownBy d.knowledge) d.store d.out is.store_known is.out_known
+
+  -- what is known then was known
+  within : (p : ℕ) (v : Version) → 0 < p → knows fs p v ≡ true → knows d.knowledge p v ≡ true
+  within p v above here = told_known d.knowledge (d.store ++ d.out) p v known_before (sym (all_pairs p v above) ∙ here)
+
+  known_after : AllByRecursion (IsKnownBy fs) (d.store ++ d.out)
+  known_after =
+      known_told fs (d.store ++ d.out)
+      (all_of (IsKnownBy d.knowledge) (λ (h : Held). 0 < h.picture) (λ h known. known.above) (d.store ++ d.out) known_before)
+      (λ p v above tells_it. all_pairs p v above ∙ tells_it)
+
+  new_to_nothing : AreNewTo ([] ++ []) (d.store ++ d.out)
+  new_to_nothing = record {
+    once = λ v.
+        let once = is.once v in
+        let all = count_of-append v (d.store ++ d.out) [] in
+        let none : count_of v [] ≡ 0 = refl in
+        omega arith;
+  }
+
+  -- it is what an empty device of the next epoch is that takes what was held and learns what this tells
+  pub anew_device : epoch_of_author d.author < 4294967295 → IsDevice (anew tree fs d)
+  anew_device h =
+      joins_device (d.store ++ d.out) fs (empty (next_author d.author) tree) new_to_nothing (all_append HasEarlier d.store d.out is.store is.out)
+      (begins_next_epoch d.author d.knowledge fs h is.knows.later (told.star (next_author d.author)) within)
+      (λ p w above known. absurd (false≢true known)) known_after (empty_device (next_author d.author) tree)
+
+  held_shown : (m : ModelDevice) → Shows d m → entries_of (d.store ++ d.out) ≡ holds m
+  held_shown m shows = map-append entry_of d.store d.out ∙ (λ i. shows.store i ++ shows.out i)
+
+  side_shown : (m : ModelDevice) (q : Entry → Bool) → Shows d m → entries_of (put_helds (filter (λ (h : Held). q (entry_of h)) (d.store ++ d.out)) []) ≡ put_entries (filter q (holds m)) []
+  side_shown m q shows =
+      entries-put_helds (filter (λ (h : Held). q (entry_of h)) (d.store ++ d.out)) []
+      ∙ ap (λ es. put_entries es []) (entries-filter q (d.store ++ d.out) ∙ ap (filter q) (held_shown m shows))
+
+  pub anew_shows : (m : ModelDevice) → Shows d m → Shows (anew tree fs d) (refiltered tree m)
+  anew_shows m shows = record {
+    author = ap next_author shows.author;
+    tree = refl;
+    counter = refl;
+    store = side_shown m (λ e. matches tree e.content) shows;
+    out = side_shown m (λ e. not (matches tree e.content)) shows;
+    known = λ p above v. all_pairs p v above ∙ tell_entries (d.store ++ d.out) p v ∙ ap (λ es. tell es p v) (held_shown m shows);
+  }

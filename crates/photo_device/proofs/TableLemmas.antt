@@ -1,0 +1,226 @@
+-- Tables of what is told of pictures.
+use Rattle.std.proofs.Common.{◌≡◌, ℕ, zero, suc, ◌+◌, ◌<◌, ◌≤◌, Bool, true, false, cond, eqb, ltb, leb, ◌&&◌, ◌||◌, List, [], ◌∷◌, ◌++◌, length, get_or, take, refl, sym, ap, ◌∙◌, subst, inl, inr, arith}
+use Rattle.std.proofs.Math.Bool.{or-false}
+use Rattle.std.proofs.lemmas.Bool.{and_parts, and_from, eqb-true, eqb-false, eq-eqb, ne_eqb, lt-ltb, le-ltb, le-leb, leb-true, ltb-true, cases_Bool, cases_eq, cases_lt, lt-leb}
+use Rattle.std.proofs.lemmas.List.Folds.{list_any_more}
+use Rattle.photo_version.specs.Author.{same_author}
+use Rattle.photo_version.specs.Version.{Version, version, same_version}
+use Rattle.photo_version.specs.Vector.{Bound, denotes}
+use Rattle.item_knowledge.specs.Tables.{in_order, keys_pass, at}
+use Rattle.photo_device.specs.declared.held.Held.{Held}
+use Rattle.photo_device.specs.Held.{are_in_order}
+use Rattle.photo_device.specs.Own.{HasEarlier}
+use Rattle.photo_device.specs.Telling.{tells}
+use Rattle.photo_device.proofs.Order.{rises}
+use Rattle.photo_device.proofs.TellingLemmas.{one}
+
+abbrev pub Table : Type 0
+Table = List (ℕ × List Bound)
+
+-- a table tells what so many of two lists tell, and its pictures are none greater than those that follow
+pub record IsTableOf (table : Table) (hs : List Held) (i : ℕ) (ws : List Held) (j : ℕ) : Type 0 where
+  pub order : in_order table ≡ true
+  pub first : (d : Held) → i < length hs → keys_pass (λ k. leb k (get_or hs i d).picture) table ≡ true
+  pub second : (d : Held) → j < length ws → keys_pass (λ k. leb k (get_or ws j d).picture) table ≡ true
+  pub told : (p : ℕ) (v : Version) → denotes (at [] table p) v ≡ (tells (take i hs) p v || tells (take j ws) p v)
+
+pass_weaker : (f g : ℕ → Bool) (table : Table) → ((k : ℕ) → f k ≡ true → g k ≡ true) → keys_pass f table ≡ true → keys_pass g table ≡ true
+pass_weaker f g [] h all = refl
+pass_weaker f g (r ∷ table) h all = let parts = and_parts (f r.0) (keys_pass f table) all in and_from (g r.0) (keys_pass g table) (h r.0 parts.0) (pass_weaker f g table h parts.1)
+
+or_turned : (a b : Bool) → (a || b) ≡ (b || a)
+or_turned true true = refl
+or_turned true false = refl
+or_turned false true = refl
+or_turned false false = refl
+
+-- the two lists are alike
+pub turned : (table : Table) (hs : List Held) (i : ℕ) (ws : List Held) (j : ℕ) → IsTableOf table hs i ws j → IsTableOf table ws j hs i
+turned table hs i ws j so_far = record {
+  order = so_far.order;
+  first = so_far.second;
+  second = so_far.first;
+  told = λ p v. so_far.told p v ∙ or_turned (tells (take i hs) p v) (tells (take j ws) p v);
+}
+
+-- one more of the first list, of the smaller picture
+pub table_more : (table new : Table) (hs : List Held) (i : ℕ) (ws : List Held) (j : ℕ) (w : Held) → i < length hs → w ≡ get_or hs i w → are_in_order hs ≡ true
+    → ((a b : Held) → j < length ws → (get_or hs i a).picture ≤ (get_or ws j b).picture)
+    → in_order new ≡ true → keys_pass (λ k. leb k w.picture) new ≡ true
+    → ((p : ℕ) (v : Version) → denotes (at [] new p) v ≡ (denotes (at [] table p) v || one p v w))
+    → IsTableOf table hs i ws j → IsTableOf new hs (i + 1) ws j
+table_more table new hs i ws j w l is ordered least order last more so_far = record {
+  order = order;
+  first = λ d further.
+      let here : (get_or hs i d).picture ≡ w.picture = ap (λ (x : Held). x.picture) (get_or_default hs i d w l ∙ sym is) in
+      let rise = rises hs ordered i (i + 1) d (omega arith) further in
+      at_most (get_or hs (i + 1) d).picture (omega arith);
+  second = λ d behind.
+      let here : (get_or hs i w).picture ≡ w.picture = ap (λ (x : Held). x.picture) (sym is) in
+      let less = least w d behind in
+      at_most (get_or ws j d).picture (omega arith);
+  told = λ p v.
+      more p v
+      ∙ (λ k. so_far.told p v k || one p v w)
+      ∙ swapped (tells (take i hs) p v) (tells (take j ws) p v) (one p v w)
+      ∙ (λ k. (tells (take i hs) p v || one p v (is k)) || tells (take j ws) p v)
+      ∙ (λ k. sym (list_any_more (one p v) hs i w l) k || tells (take j ws) p v);
+}
+  where
+    at_most : (q : ℕ) → w.picture ≤ q → keys_pass (λ k. leb k q) new ≡ true
+    at_most q above = pass_weaker (λ k. leb k w.picture) (λ k. leb k q) new (λ k h. let below = leb-true k w.picture h in le-leb k q (omega arith)) last
+
+    get_or_default : (xs : List Held) (n : ℕ) (d e : Held) → n < length xs → get_or xs n d ≡ get_or xs n e
+    get_or_default [] n d e h = absurd (omega arith)
+    get_or_default (x ∷ xs) zero d e h = refl
+    get_or_default (x ∷ xs) (suc n) d e h = get_or_default xs n d e (omega arith)
+
+    swapped : (a b c : Bool) → ((a || b) || c) ≡ ((a || c) || b)
+    swapped true b c = refl
+    swapped false b c = or_turned b c
+
+pub first_last : (table : Table) (hs : List Held) (i : ℕ) (ws : List Held) (j : ℕ) (w : Held) → i < length hs → w ≡ get_or hs i w → IsTableOf table hs i ws j → keys_pass (λ k. leb k w.picture) table ≡ true
+first_last table hs i ws j w l is so_far = subst (λ (x : Held). keys_pass (λ k. leb k x.picture) table ≡ true) (sym is) (so_far.first w l)
+
+-- a version with its history, by one bound more
+
+pub with_itself : (h : Held) → HasEarlier h → 0 < h.version.number → (v : Version) → (denotes ((h.version.author, h.version.number) ∷ []) v || denotes h.made_with v) ≡ (denotes h.made_with v || same_version h.version v)
+with_itself h earlier above v = elim (cases_Bool (same_author h.version.author v.author)) [
+  | inl same ↦
+      let device = eqb-true h.version.author.word v.author.word same in
+      let author : h.version.author ≡ v.author = λ i. record { word = device i } in
+      let history : denotes h.made_with v ≡ (leb 1 v.number && ltb v.number h.version.number) = sym (ap (λ a. denotes h.made_with (version a v.number)) author) ∙ earlier.own v.number in
+      (λ i. (((same i && (leb 1 v.number && leb v.number h.version.number)) || false) || history i))
+      ∙ numbers v.number h.version.number above
+      ∙ sym (λ i. history i || (same i && eqb h.version.number v.number))
+  | inr apart ↦
+      (λ i. ((apart i && (leb 1 v.number && leb v.number h.version.number)) || false) || denotes h.made_with v)
+      ∙ sym (or-false (denotes h.made_with v))
+      ∙ sym (λ i. denotes h.made_with v || (apart i && eqb h.version.number v.number))
+]
+  where
+    first : (k n : ℕ) → k < 1 → 0 < n → (((leb 1 k && leb k n) || false) || (leb 1 k && ltb k n)) ≡ ((leb 1 k && ltb k n) || eqb n k)
+    first k n none above = rw (lt-leb 1 k none, ne_eqb n k (λ e. absurd (omega arith))) refl
+
+    numbers : (k n : ℕ) → 0 < n → (((leb 1 k && leb k n) || false) || (leb 1 k && ltb k n)) ≡ ((leb 1 k && ltb k n) || eqb n k)
+    numbers k n some = elim (cases_lt k 1) [
+      | inl none ↦ first k n none some
+      | inr some_k ↦ elim (cases_lt n k) [
+        | inl beyond ↦ rw (le-leb 1 k some_k, lt-leb k n beyond, le-ltb k n (omega arith), ne_eqb n k (λ e. absurd (omega arith))) refl
+        | inr within ↦ elim (cases_eq n k) [
+          | inl e ↦ rw (le-leb 1 k some_k, le-leb k n within, le-ltb k n (omega arith), eq-eqb n k e) refl
+          | inr ne ↦ rw (le-leb 1 k some_k, le-leb k n within, lt-ltb k n (omega arith)) refl
+        ]
+      ]
+    ]
+
+-- rows at the end of a table
+
+none_at : (table : Table) (p q : ℕ) → keys_pass (λ k. ltb k q) table ≡ true → q ≤ p → at [] table p ≡ []
+none_at [] p q all h = refl
+none_at (r ∷ table) p q all h =
+    let parts = and_parts (ltb r.0 q) (keys_pass (λ k. ltb k q) table) all in
+    let less = ltb-true r.0 q parts.0 in
+    rw (ne_eqb r.0 p (λ e. absurd (omega arith))) (none_at table p q parts.1 h)
+
+at_end : (front : Table) (q : ℕ) (x : List Bound) (p : ℕ) → keys_pass (λ k. ltb k q) front ≡ true → at [] (front ++ (q, x) ∷ []) p ≡ cond (eqb q p) x (at [] front p)
+at_end [] q x p all = refl
+at_end (r ∷ front) q x p all =
+    let parts = and_parts (ltb r.0 q) (keys_pass (λ k. ltb k q) front) all in
+    let less = ltb-true r.0 q parts.0 in
+    elim (cases_eq r.0 p) [
+      | inl e ↦ rw (eq-eqb r.0 p e, ne_eqb q p (λ d. absurd (omega arith))) refl
+      | inr ne ↦ rw (ne_eqb r.0 p ne) (at_end front q x p parts.1)
+    ]
+
+pass_end : (f : ℕ → Bool) (front : Table) (q : ℕ) (x : List Bound) → keys_pass f front ≡ true → f q ≡ true → keys_pass f (front ++ (q, x) ∷ []) ≡ true
+pass_end f [] q x all h = and_from (f q) true h refl
+pass_end f (r ∷ front) q x all h = let parts = and_parts (f r.0) (keys_pass f front) all in and_from (f r.0) (keys_pass f (front ++ (q, x) ∷ [])) parts.0 (pass_end f front q x parts.1 h)
+
+order_end : (front : Table) (q : ℕ) (x : List Bound) → in_order front ≡ true → keys_pass (λ k. ltb k q) front ≡ true → in_order (front ++ (q, x) ∷ []) ≡ true
+order_end [] q x order all = refl
+order_end (r ∷ front) q x order all =
+    let parts = and_parts (ltb r.0 q) (keys_pass (λ k. ltb k q) front) all in
+    let orders = and_parts (keys_pass (λ k. ltb r.0 k) front) (in_order front) order in
+    and_from (keys_pass (λ k. ltb r.0 k) (front ++ (q, x) ∷ [])) (in_order (front ++ (q, x) ∷ [])) (pass_end (λ k. ltb r.0 k) front q x orders.0 parts.0) (order_end front q x orders.1 parts.1)
+
+-- of a table that ends in a row
+
+front_order : (front : Table) (q : ℕ) (x : List Bound) → in_order (front ++ (q, x) ∷ []) ≡ true → (in_order front ≡ true) × (keys_pass (λ k. ltb k q) front ≡ true)
+front_order [] q x order = (refl, refl)
+front_order (r ∷ front) q x order =
+    let orders = and_parts (keys_pass (λ k. ltb r.0 k) (front ++ (q, x) ∷ [])) (in_order (front ++ (q, x) ∷ [])) order in
+    let rest = front_order front q x orders.1 in
+    let both = front_pass (λ k. ltb r.0 k) front q x orders.0 in
+    (and_from _ _ both.0 rest.0, and_from _ _ both.1 rest.1)
+  where
+    front_pass : (f : ℕ → Bool) (front : Table) (q : ℕ) (x : List Bound) → keys_pass f (front ++ (q, x) ∷ []) ≡ true → (keys_pass f front ≡ true) × (f q ≡ true)
+    front_pass f [] q x all = (refl, (and_parts (f q) true all).0)
+    front_pass f (r ∷ front) q x all =
+        let parts = and_parts (f r.0) (keys_pass f (front ++ (q, x) ∷ [])) all in
+        let rest = front_pass f front q x parts.1 in
+        (and_from (f r.0) (keys_pass f front) parts.0 rest.0, rest.1)
+
+-- a row more, of a picture above all
+pub record IsAdded (table new : Table) (picture : ℕ) (vector : List Bound) : Type 0 where
+  pub order : in_order new ≡ true
+  pub last : keys_pass (λ k. leb k picture) new ≡ true
+  pub told : (p : ℕ) (v : Version) → denotes (at [] new p) v ≡ (denotes (at [] table p) v || ((eqb picture p) && denotes vector v))
+
+below_le : (q : ℕ) (table : Table) → keys_pass (λ k. ltb k q) table ≡ true → keys_pass (λ k. leb k q) table ≡ true
+below_le q table all = pass_weaker (λ k. ltb k q) (λ k. leb k q) table (λ k h. let less = ltb-true k q h in le-leb k q (omega arith)) all
+
+pub added_row : (table : Table) (picture : ℕ) (vector : List Bound) → in_order table ≡ true → keys_pass (λ k. ltb k picture) table ≡ true → IsAdded table (table ++ (picture, vector) ∷ []) picture vector
+added_row table picture vector order all = record {
+  order = order_end table picture vector order all;
+  last = pass_end (λ k. leb k picture) table picture vector (below_le picture table all) (le-leb picture picture (omega arith));
+  told = λ p v. ap (λ l. denotes l v) (at_end table picture vector p all) ∙ elim (cases_eq picture p) [
+    | inl e ↦ rw (eq-eqb picture p e, none_at table p picture all (omega arith)) refl
+    | inr ne ↦ rw (ne_eqb picture p ne) (sym (or-false (denotes (at [] table p) v)))
+  ];
+}
+
+-- the last row is of that picture
+pub joined_row : (front : Table) (picture : ℕ) (known vector both : List Bound) → in_order (front ++ (picture, known) ∷ []) ≡ true → ((v : Version) → denotes both v ≡ (denotes known v || denotes vector v)) → IsAdded (front ++ (picture, known) ∷ []) (front ++ (picture, both) ∷ []) picture vector
+joined_row front picture known vector both order is =
+    let parts = front_order front picture known order in
+    record {
+      order = order_end front picture both parts.0 parts.1;
+      last = pass_end (λ k. leb k picture) front picture both (below_le picture front parts.1) (le-leb picture picture (omega arith));
+      told = λ p v. ap (λ l. denotes l v) (at_end front picture both p parts.1) ∙ elim (cases_eq picture p) [
+        | inl e ↦ rw (at_end front picture known p parts.1, eq-eqb picture p e) (is v)
+        | inr ne ↦ rw (at_end front picture known p parts.1, ne_eqb picture p ne) (sym (or-false (denotes (at [] front p) v)))
+      ];
+    }
+
+-- a table whose last row is of another picture has only lesser ones
+pub below_all : (front : Table) (q : ℕ) (x : List Bound) (picture : ℕ) → in_order (front ++ (q, x) ∷ []) ≡ true → keys_pass (λ k. leb k picture) (front ++ (q, x) ∷ []) ≡ true → (q ≡ picture → ⊥) → keys_pass (λ k. ltb k picture) (front ++ (q, x) ∷ []) ≡ true
+below_all front q x picture order all ne =
+    let parts = front_order front q x order in
+    let last = leb-true q picture (last_pass front all) in
+    pass_end (λ k. ltb k picture) front q x
+    (pass_weaker (λ k. ltb k q) (λ k. ltb k picture) front (λ k h. let less = ltb-true k q h in lt-ltb k picture (omega arith)) parts.1)
+    (lt-ltb q picture (omega arith))
+  where
+    last_pass : (xs : Table) → keys_pass (λ k. leb k picture) (xs ++ (q, x) ∷ []) ≡ true → leb q picture ≡ true
+    last_pass [] h = (and_parts (leb q picture) true h).0
+    last_pass (r ∷ xs) h = last_pass xs (and_parts (leb r.0 picture) (keys_pass (λ k. leb k picture) (xs ++ (q, x) ∷ [])) h).1
+
+-- as a row goes out and comes back
+
+pub added_joined : (old front new : Table) (row : ℕ × List Bound) (picture : ℕ) (vector both : List Bound) → old ≡ front ++ row ∷ [] → eqb row.0 picture ≡ true → new ≡ front ++ (picture, both) ∷ []
+    → in_order old ≡ true → ((v : Version) → denotes both v ≡ (denotes row.1 v || denotes vector v)) → IsAdded old new picture vector
+added_joined old front new row picture vector both of_old here of_new order is =
+    let same : row.0 ≡ picture = eqb-true row.0 picture here in
+    let whole : old ≡ front ++ (picture, row.1) ∷ [] = of_old ∙ ap (λ q. front ++ (q, row.1) ∷ []) same in
+    subst (λ l. IsAdded l new picture vector) (sym whole)
+    (subst (λ l. IsAdded (front ++ (picture, row.1) ∷ []) l picture vector) (sym of_new)
+    (joined_row front picture row.1 vector both (subst (λ l. in_order l ≡ true) whole order) is))
+
+pub added_apart : (old front between new : Table) (row : ℕ × List Bound) (picture : ℕ) (vector : List Bound) → old ≡ front ++ row ∷ [] → eqb row.0 picture ≡ false → between ≡ front ++ row ∷ [] → new ≡ between ++ (picture, vector) ∷ []
+    → in_order old ≡ true → keys_pass (λ k. leb k picture) old ≡ true → IsAdded old new picture vector
+added_apart old front between new row picture vector of_old apart of_between of_new order all =
+    let same : between ≡ old = of_between ∙ sym of_old in
+    let below = below_all front row.0 row.1 picture (subst (λ l. in_order l ≡ true) of_old order) (subst (λ l. keys_pass (λ k. leb k picture) l ≡ true) of_old all) (eqb-false row.0 picture apart) in
+    subst (λ l. IsAdded old l picture vector) (sym (of_new ∙ ap (λ l. l ++ (picture, vector) ∷ []) same))
+    (added_row old picture vector order (subst (λ l. keys_pass (λ k. ltb k picture) l ≡ true) (sym of_old) below))

@@ -1,0 +1,100 @@
+// What a device holds, sorted anew for another filter, with what it tells.
+ghost use Rattle.std.specs.Prelude.{◌≡◌, ℕ, ◌<◌, ◌||◌, ◌++◌, true, false, [], None, IfOk};
+ghost use Rattle.std.specs.List.{AllByRecursion};
+ghost use Rattle.photo_version.specs.Author.{Author};
+ghost use Rattle.photo_version.specs.Version.{Version};
+ghost use Rattle.item_knowledge.specs.Fragments.{knows};
+ghost use Rattle.item_knowledge.specs.Kept.{star_bound};
+ghost use Rattle.photo_device.specs.Held.{are_in_order};
+ghost use Rattle.photo_device.specs.Own.{HasEarlier};
+ghost use Rattle.photo_device.specs.Taking.{with_side, AreNewTo};
+ghost use Rattle.photo_device.specs.Telling.{tells};
+
+use crate::table::{gain_of, table_of};
+use crate::takes::{rooms, take_in};
+use crate::{HeldSet, SharedHeld, SharedList};
+use item_knowledge::Knowledge;
+use photo_filter_rules::Filter;
+use std::alloc::{AllocError, Global};
+
+/// What two sets hold, sorted anew, and what it tells.
+#[derive(Debug, Drop)]
+pub(crate) struct Anew {
+    /// What the filter matches.
+    pub store: HeldSet,
+    /// The rest.
+    pub out: HeldSet,
+    /// What all of it tells of its pictures, and no more.
+    pub told: Knowledge,
+}
+
+// The held versions of a set as a list.
+fn listed(set: &HeldSet) -> Result<SharedList, AllocError>
+    ensures value { IfOk result (λ list. list ≡ set.now) }
+    ensures ordered { are_in_order set.now ≡ true }
+{
+    // For its fact alone: a set is in order.
+    let _blocks = set.blocks();
+    set.to_list()
+}
+
+// What two lists tell of their pictures, and no more.
+fn told_of(
+    alloc: Global,
+    stored: &[SharedHeld],
+    waiting: &[SharedHeld],
+) -> Result<Knowledge, AllocError>
+    requires stored_order { are_in_order stored.now ≡ true }
+    requires waiting_order { are_in_order waiting.now ≡ true }
+    requires stored { AllByRecursion HasEarlier stored.now }
+    requires waiting { AllByRecursion HasEarlier waiting.now }
+    ensures pairs { IfOk result (λ told. (p : ℕ) (v : Version) → 0 < p → knows told.known p v ≡ (tells stored.now p v || tells waiting.now p v)) }
+    ensures star { IfOk result (λ told. (a : Author) → star_bound told.known a ≡ 0) }
+    ensures staged { IfOk result (λ told. told.staged ≡ None) }
+{
+    let table = table_of(alloc, stored, waiting)?;
+    let told = gain_of(alloc, &table)?;
+    Ok(told)
+}
+
+// The versions of two lists in two sets: those that the filter matches, and the others.
+fn sorted_anew(
+    alloc: Global,
+    wanted: &Filter,
+    stored: Vec<SharedHeld>,
+    waiting: Vec<SharedHeld>,
+) -> Result<(HeldSet, HeldSet), AllocError>
+    requires { AreNewTo waiting.items stored.items }
+    ensures store { IfOk result (λ sets. sets.0 ≡ with_side true wanted.now (stored.items ++ waiting.items) []) }
+    ensures out { IfOk result (λ sets. sets.1 ≡ with_side false wanted.now (stored.items ++ waiting.items) []) }
+{
+    let mut store = HeldSet::new(alloc);
+    let mut out = HeldSet::new(alloc);
+    let Some(all) = stored.len().checked_add(waiting.len()) else {
+        return Err(AllocError);
+    };
+    let (in_store, in_out) = rooms(&mut store, &mut out, all)?;
+    take_in(
+        wanted, waiting, stored, &mut store, in_store, &mut out, in_out,
+    );
+    Ok((store, out))
+}
+
+/// What two sets hold, sorted anew by a filter, and what it tells. Its only error is want of memory.
+pub(crate) fn held_anew(wanted: &Filter, store: &HeldSet, out: &HeldSet) -> Result<Anew, AllocError>
+    requires once { AreNewTo out.now store.now }
+    requires stored { AllByRecursion HasEarlier store.now }
+    requires waiting { AllByRecursion HasEarlier out.now }
+    ensures store { IfOk result (λ anew. anew.store ≡ with_side true wanted.now (store.now ++ out.now) []) }
+    ensures out { IfOk result (λ anew. anew.out ≡ with_side false wanted.now (store.now ++ out.now) []) }
+    ensures pairs { IfOk result (λ anew. (p : ℕ) (v : Version) → 0 < p → knows anew.told.known p v ≡ (tells store.now p v || tells out.now p v)) }
+    ensures star { IfOk result (λ anew. (a : Author) → star_bound anew.told.known a ≡ 0) }
+    ensures staged { IfOk result (λ anew. anew.told.staged ≡ None) }
+{
+    let alloc = store.alloc();
+    let stored = listed(store)?;
+    let waiting = listed(out)?;
+    let told = told_of(alloc, stored.as_slice(), waiting.as_slice())?;
+    let (store, out) = sorted_anew(alloc, wanted, stored.into_vec(), waiting.into_vec())?;
+    Ok(Anew { store, out, told })
+}

@@ -1,0 +1,28 @@
+// What a pull would count.
+ghost use Rattle.std.specs.Prelude.{◌≡◌, IfOk};
+ghost use Rattle.photo_device.specs.Device.{ModelDevice, Shows};
+ghost use Rattle.photo_pull.specs.Pull.{counts_of};
+ghost use Rattle.photo_pull.specs.MayPull.{MayPull};
+
+use crate::PullCounts;
+use crate::hearing::heard_between;
+use crate::news::news_by;
+use photo_device::Device;
+use std::alloc::{AllocError, Global};
+
+/// What a pull of the target from the source would count. It finds this as the pull does, and changes neither device.
+///
+/// Of what a pull asks it uses one thing alone, that what both devices hold of one version is of one picture. Its only
+/// error is want of memory, and none is wanted where nothing would be taken, told or dropped.
+pub fn preview(alloc: Global, target: &Device, source: &Device) -> Result<PullCounts, AllocError>
+    requires { MayPull target.now source.now }
+    ensures { IfOk result (λ counts. (t s : ModelDevice) → Shows target.now t → Shows source.now s → counts ≡ counts_of t s) }
+{
+    // For their facts alone: what is true of every device.
+    let _target = target.knowledge();
+    let _source = source.knowledge();
+    let news = news_by(alloc, target, source)?;
+    let hearing = heard_between(alloc, news, target, source)?;
+    let finding = hearing.finding(target.filter());
+    Ok(finding.counts())
+}
