@@ -1,9 +1,11 @@
 //! The calls of `fleet_steps` but those on one command.
-use crate::devices::{device, has_made, same_devices};
+use crate::devices::{device, has_made, same_device, same_devices};
 use crate::plans::LAWFUL;
 use crate::scripts::{FOUR_DEVICES, is_four, script_of};
 use crate::{devices, pulls};
-use fleet_steps::{IssueLog, Outcome, RunError, opening_devices, replay, run_command, run_plain};
+use fleet_steps::{
+    IssueLog, Outcome, RunError, no_reports, opening_device, opening_devices, replay, run_command, run_plain,
+};
 use photo_device::{Device, Held, Place};
 use photo_pull::PullCounts;
 use photo_record::PicNo;
@@ -19,6 +21,7 @@ pub fn verdict(alloc: Global, call: &str) -> Option<Verdict> {
         "run_between" => pulls::verdict(alloc, pulls::Call::RunBetween),
         "run_on" => pulls::verdict(alloc, pulls::Call::RunOn),
         "IssueLog::new" => log(alloc),
+        "no_reports" => Some(judged(makes_reports(alloc), true)),
         _ => verdict_on_scripts(alloc, call),
     }
 }
@@ -27,6 +30,7 @@ fn verdict_on_scripts(alloc: Global, call: &str) -> Option<Verdict> {
     let script = script_of(alloc, FOUR_DEVICES)?;
     let right = match call {
         "opening_devices" => opens(alloc, &script),
+        "opening_device" => opens_one(alloc, &script),
         "run_plain" => runs(alloc, &script),
         "replay" => replays(alloc, &script),
         _ => return None,
@@ -86,6 +90,26 @@ fn opens(alloc: Global, script: &Script) -> Option<bool> {
     let devices = devices.ok()?;
     let twins = opening_devices(alloc, script).ok()?;
     Some(devices.len() == 4 && same_devices(devices.as_slice(), twins.as_slice()))
+}
+
+fn opens_one(alloc: Global, script: &Script) -> Option<bool> {
+    if script.devices() < 4 {
+        return Some(false);
+    }
+    mark(alloc);
+    let device = opening_device(alloc, 3, script.filter(3));
+    mark(alloc);
+    let device = device.ok()?;
+    let devices = opening_devices(alloc, script).ok()?;
+    Some(devices.len() == 4 && same_device(&device, &devices[3]))
+}
+
+fn makes_reports(alloc: Global) -> Option<bool> {
+    mark(alloc);
+    let reports = no_reports(alloc, 70);
+    mark(alloc);
+    let reports = reports.ok()?;
+    Some(reports.len() == 70 && matches!((&reports[0], &reports[69]), (Report::NotHeld, Report::NotHeld)))
 }
 
 /// The right answer for a run of the script of four devices. None where memory was wanted.

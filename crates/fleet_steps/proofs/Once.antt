@@ -13,7 +13,7 @@ use Rattle.photo_device.specs.Device.{ModelDevice, holds, knows_entry, selects, 
 use Rattle.photo_device.specs.Refiltered.{refiltered}
 use Rattle.photo_pull.specs.Pull.{taken, handed, leaves_store, leaves_out, pulled, handed_over}
 use Rattle.fleet_steps.specs.Members.{In, here, there}
-use Rattle.fleet_steps.specs.Sound.{times}
+use Rattle.fleet_steps.specs.Sound.{occurrences}
 use Rattle.fleet_steps.proofs.Members.{in_nothing, in_passed}
 use Rattle.fleet_steps.proofs.Superseding.{clash, same_version_is, is_same_version}
 use Rattle.fleet_steps.proofs.Pulling.{coming_is_told, told_held, told_unknown}
@@ -119,14 +119,14 @@ module _ (log : List Entry) (d : ModelDevice) (p : ℕ) (r : Record) (L : IsTrac
   pub made_once : AreOnce (holds (made d p r))
   made_once v =
       let n = new_entry d p r in
-      let all : times v (holds (made d p r)) ≤ cond (is_of v n) 1 0 + times v (holds d) = sum_made (λ e. cond (is_of v e) 1 0) d p r in
+      let all : occurrences v (holds (made d p r)) ≤ cond (is_of v n) 1 0 + occurrences v (holds d) = sum_made (λ e. cond (is_of v e) 1 0) d p r in
       elim (found v (holds d)) [
         | inl none ↦ let one : cond (is_of v n) 1 0 ≤ 1 = one_or_none (is_of v n) in omega arith
         | inr some ↦ elim (cases_Bool (is_of v n)) [
           | inl same ↦ absurd (fresh log d p r L D bounded some.0 (D.logged some.0 some.1) (some.2 ∙ sym (same_version_is n.version v same)))
           | inr other ↦
               let none : cond (is_of v n) 1 0 ≤ 0 = none_of (is_of v n) other in
-              let old : times v (holds d) ≤ 1 = once v in
+              let old : occurrences v (holds d) ≤ 1 = once v in
               omega arith
         ]
       ]
@@ -140,10 +140,10 @@ refiltered_once tree d once v = subst (λ (n : ℕ). n ≤ 1) (sym (sum_refilter
 module _ (log : List Entry) (t s : ModelDevice) (L : IsTracedLog log) (T : IsTracedDevice log t) (S : IsTracedDevice log s) (known : (e : Entry) → In e (holds t) → knows_entry t e ≡ true) where
   pub pulled_once : AreOnce (holds t) → AreOnce (holds s) → AreOnce (holds (pulled t s))
   pulled_once once_t once_s v =
-      let all : times v (holds (pulled t s)) ≤ times v (taken t s ++ handed t s) + times v (holds t) = sum_pulled (λ e. cond (is_of v e) 1 0) t s in
-      let few : times v (taken t s ++ handed t s) ≤ times v (holds s) = sum_coming (λ e. cond (is_of v e) 1 0) t s in
-      let old_t : times v (holds t) ≤ 1 = once_t v in
-      let old_s : times v (holds s) ≤ 1 = once_s v in
+      let all : occurrences v (holds (pulled t s)) ≤ occurrences v (taken t s ++ handed t s) + occurrences v (holds t) = sum_pulled (λ e. cond (is_of v e) 1 0) t s in
+      let few : occurrences v (taken t s ++ handed t s) ≤ occurrences v (holds s) = sum_coming (λ e. cond (is_of v e) 1 0) t s in
+      let old_t : occurrences v (holds t) ≤ 1 = once_t v in
+      let old_s : occurrences v (holds s) ≤ 1 = once_s v in
       elim (found v (taken t s ++ handed t s)) [
         | inl none ↦ omega arith
         | inr new ↦ elim (found v (holds t)) [
@@ -157,8 +157,8 @@ module _ (log : List Entry) (t s : ModelDevice) (L : IsTracedLog log) (T : IsTra
 
   pub handed_once : AreOnce (holds s) → AreOnce (holds (handed_over t s))
   handed_once once v =
-      let all : times v (holds (handed_over t s)) ≤ times v (holds s) = sum_handed (λ e. cond (is_of v e) 1 0) t s in
-      let old : times v (holds s) ≤ 1 = once v in
+      let all : occurrences v (holds (handed_over t s)) ≤ occurrences v (holds s) = sum_handed (λ e. cond (is_of v e) 1 0) t s in
+      let old : occurrences v (holds s) ≤ 1 = once v in
       omega arith
 
 -- what isn't the first is among the rest
@@ -166,8 +166,8 @@ behind : (e y : Entry) (ys : List Entry) → In e (y ∷ ys) → not (is_of y.ve
 behind e y ys (here same) other = clash (is_of y.version e) (is_same_version e.version y.version (ap (λ (x : Entry). x.version) same)) (not-true (is_of y.version e) other)
 behind e y ys (there i) other = i
 
-at_most_one : (v : Version) (p : Entry → Bool) (xs : List Entry) → times v xs ≤ 1 → times v (filter p xs) ≤ 1
-at_most_one v p xs once = let fewer : times v (filter p xs) ≤ times v xs = sum_passed (λ e. cond (is_of v e) 1 0) p xs in omega arith
+at_most_one : (v : Version) (p : Entry → Bool) (xs : List Entry) → occurrences v xs ≤ 1 → occurrences v (filter p xs) ≤ 1
+at_most_one v p xs once = let fewer : occurrences v (filter p xs) ≤ occurrences v xs = sum_passed (λ e. cond (is_of v e) 1 0) p xs in omega arith
 
 none_in : (xs : List Entry) → ((e : Entry) → In e xs → In e []) → length xs ≤ 0
 none_in [] among = omega arith
@@ -180,8 +180,8 @@ no_more (y ∷ ys) xs among once =
     let others_of : Entry → Bool = λ (e : Entry). not (is_of y.version e) in
     let rest : List Entry = filter others_of xs in
     let both : length (filter (is_of y.version) xs) + length rest ≡ length xs = length-filter_both (is_of y.version) others_of (λ _. refl) xs in
-    let counted : length (filter (is_of y.version) xs) ≡ times y.version xs = length-filter (is_of y.version) xs in
-    let one : times y.version xs ≤ 1 = once y.version in
+    let counted : length (filter (is_of y.version) xs) ≡ occurrences y.version xs = length-filter (is_of y.version) xs in
+    let one : occurrences y.version xs ≤ 1 = once y.version in
     let among_rest : (e : Entry) → In e rest → In e ys = λ e i. let r = in_passed others_of xs i in behind e y ys (among e r.0) r.1 in
     let once_in_rest : AreOnce rest = λ v. at_most_one v others_of xs (once v) in
     let fewer : length rest ≤ length ys = no_more ys rest among_rest once_in_rest in

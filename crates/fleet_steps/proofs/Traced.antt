@@ -6,7 +6,7 @@ use Rattle.photo_device.specs.Entry.{Entry}
 use Rattle.photo_device.specs.Device.{ModelDevice, known, holds}
 use Rattle.photo_script.specs.Runs.{device_at}
 use Rattle.fleet_steps.specs.Members.{In}
-use Rattle.fleet_steps.specs.Sound.{times}
+use Rattle.fleet_steps.specs.Sound.{occurrences}
 
 -- the version is one of the log's
 pub record IsMade (log : List Entry) (v : Version) : Type 0 where
@@ -16,7 +16,7 @@ pub record IsMade (log : List Entry) (v : Version) : Type 0 where
 
 -- no version stands in the log twice, and each history has versions of the log alone
 pub record IsTracedLog (log : List Entry) : Type 0 where
-  pub once : (v : Version) → times v log ≤ 1
+  pub once : (v : Version) → occurrences v log ≤ 1
   pub distinct : (e f : Entry) → In e log → In f log → e.version ≡ f.version → e ≡ f
   pub made_only : (w : Entry) → In w log → (v : Version) → w.history v ≡ true → IsMade log v
 

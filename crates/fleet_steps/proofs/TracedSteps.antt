@@ -12,7 +12,7 @@ use Rattle.photo_device.specs.Refiltered.{refiltered}
 use Rattle.photo_pull.specs.Pull.{told, pulled, handed_over}
 use Rattle.fleet_steps.specs.Members.{In, here}
 use Rattle.fleet_steps.proofs.Members.{in_one, in_left, in_right, in_either}
-use Rattle.fleet_steps.specs.Sound.{times}
+use Rattle.fleet_steps.specs.Sound.{occurrences}
 use Rattle.fleet_steps.proofs.Superseding.{tell_is, same_version_is}
 use Rattle.fleet_steps.proofs.Times.{is_of, one_or_none, none_of, found}
 use Rattle.fleet_steps.proofs.Traced.{IsMade, IsTracedLog, IsTracedDevice}
@@ -51,18 +51,18 @@ module _ (log : List Entry) (d : ModelDevice) (p : ℕ) (r : Record) (L : IsTrac
   pub new_logged : In (new_entry d p r) (log ++ new_entry d p r ∷ [])
   new_logged = in_right log (here refl)
 
-  made_once : (v : Version) → times v (log ++ new_entry d p r ∷ []) ≤ 1
+  made_once : (v : Version) → occurrences v (log ++ new_entry d p r ∷ []) ≤ 1
   made_once v =
       let n = new_entry d p r in
-      let all : times v (log ++ n ∷ []) ≡ times v log + times v (n ∷ []) = sum_by-append (λ e. cond (is_of v e) 1 0) log (n ∷ []) in
-      let one : times v (n ∷ []) ≡ cond (is_of v n) 1 0 + 0 = sum_by-cons (λ e. cond (is_of v e) 1 0) n [] in
+      let all : occurrences v (log ++ n ∷ []) ≡ occurrences v log + occurrences v (n ∷ []) = sum_by-append (λ e. cond (is_of v e) 1 0) log (n ∷ []) in
+      let one : occurrences v (n ∷ []) ≡ cond (is_of v n) 1 0 + 0 = sum_by-cons (λ e. cond (is_of v e) 1 0) n [] in
       elim (found v log) [
         | inl none ↦ let few : cond (is_of v n) 1 0 ≤ 1 = one_or_none (is_of v n) in omega arith
         | inr some ↦ elim (cases_Bool (is_of v n)) [
           | inl same ↦ absurd (fresh some.0 some.1 (some.2 ∙ sym (same_version_is n.version v same)))
           | inr other ↦
               let none : cond (is_of v n) 1 0 ≤ 0 = none_of (is_of v n) other in
-              let old : times v log ≤ 1 = L.once v in
+              let old : occurrences v log ≤ 1 = L.once v in
               omega arith
         ]
       ]

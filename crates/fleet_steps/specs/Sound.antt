@@ -35,8 +35,8 @@ abbrev pub is_kept : List Entry → List ModelDevice → Bool
 is_kept log devices = list_all (is_held_by devices) (current log)
 
 -- how often a version stands in a list
-abbrev pub times : Version → List Entry → ℕ
-times v entries = count_by (λ e. same_version e.version v) entries
+abbrev pub occurrences : Version → List Entry → ℕ
+occurrences v entries = count_by (λ e. same_version e.version v) entries
 
 -- each device stores of the log what it is to store, and nothing else; no current version is lost; what a device holds
 -- is the log's; no version stands in the log twice; no device holds a version together with one that supersedes it; and of
@@ -45,7 +45,7 @@ pub record IsSoundAndKept (fleet : Fleet) : Type 0 where
   pub sound : list_all (is_sound fleet.log) fleet.devices ≡ true
   pub kept : is_kept fleet.log fleet.devices ≡ true
   pub logged : (d : ModelDevice) (e : Entry) → In d fleet.devices → In e (holds d) → In e fleet.log
-  pub once : (v : Version) → times v fleet.log ≤ 1
+  pub once : (v : Version) → occurrences v fleet.log ≤ 1
   pub no_older : (d : ModelDevice) (w v : Entry) → In d fleet.devices → In w (holds d) → In v (holds d) → supersedes w v ≡ false
   pub whole : (d : ModelDevice) (w : Entry) (v : Version) → In d fleet.devices → In w fleet.log → knows_entry d w ≡ true → w.history v ≡ true → known d w.picture v ≡ true
 

@@ -16,7 +16,7 @@ pub use command::{run_between, run_command, run_pull};
 pub use fault::RunError;
 pub use issue_log::IssueLog;
 pub use logging::made_on;
-pub use ordered::opening_devices;
+pub use ordered::{no_reports, opening_device, opening_devices};
 pub use outcome::Outcome;
 pub use plain::run_plain;
 pub use replaying::replay;

@@ -1,8 +1,9 @@
 // Runs of the commands of a script in a lawful order.
-ghost use Rattle.std.specs.Prelude.{◌≡◌, ◌≤◌, length, replicate, IfOk};
+ghost use Rattle.std.specs.Prelude.{◌≡◌, ◌≤◌, length, replicate, None, IfOk};
 ghost use Rattle.std.specs.List.{AllZip};
 ghost use Rattle.photo_device.specs.Held.{entries_of};
-ghost use Rattle.photo_device.specs.Device.{Shows};
+ghost use Rattle.photo_version.specs.Author.{author};
+ghost use Rattle.photo_device.specs.Device.{Shows, opening};
 ghost use Rattle.photo_script.specs.Limits.{max_devices};
 ghost use Rattle.photo_script.specs.Runs.{opening_from, run_in_order};
 ghost use Rattle.photo_script.specs.declared.report.Report.TheVariants.{NotHeld};
@@ -13,6 +14,7 @@ use crate::logging::run_and_log;
 use crate::{IssueLog, Outcome};
 use photo_batcher::laws::lawful_orders_are_the_run;
 use photo_device::Device;
+use photo_filter_rules::Filter;
 use photo_script::{Report, Script, totals_of};
 use photo_version::Author;
 use std::alloc::{AllocError, Global};
@@ -47,8 +49,8 @@ pub(crate) fn run_ordered(
     })
 }
 
-// A place for each report, all of which are written before the run ends.
-fn no_reports(alloc: Global, count: usize) -> Result<Vec<Report>, AllocError>
+/// A place for each report, all of which are written before a run ends. Its only error is want of memory.
+pub fn no_reports(alloc: Global, count: usize) -> Result<Vec<Report>, AllocError>
     ensures { IfOk result (λ reports. reports.items ≡ replicate count NotHeld) }
 {
     let mut reports = Vec::new(alloc);
@@ -67,12 +69,20 @@ pub fn opening_devices(alloc: Global, script: &Script) -> Result<Vec<Device>, Al
 {
     let mut devices = Vec::new(alloc);
     for place in 0..script.devices() {
-        let author = Author::new(place as u16);
-        let filter = script.filter(place as u16).try_clone()?;
-        let Ok(device) = Device::new(alloc, author, filter) else {
-            return Err(AllocError);
-        };
-        devices.push(device)?;
+        let place = place as u16;
+        devices.push(opening_device(alloc, place, script.filter(place))?)?;
     }
     Ok(devices)
+}
+
+/// The device at a place of a fleet, with that filter, which has made nothing and holds nothing. Its only error is want of
+/// memory.
+pub fn opening_device(alloc: Global, place: u16, filter: &Filter) -> Result<Device, AllocError>
+    ensures shown { IfOk result (λ device. Shows device (opening (author place) filter.now)) }
+    ensures settled { IfOk result (λ device. device.staged ≡ None) }
+{
+    match Device::new(alloc, Author::new(place), filter.try_clone()?) {
+        Ok(device) => Ok(device),
+        Err(_) => Err(AllocError),
+    }
 }

@@ -28,7 +28,7 @@ use Rattle.photo_batcher.proofs.Lasts.{works_first, works_second}
 use Rattle.fleet_steps.specs.Between.{MayPull, AreReady, effect_on, devices_after}
 use Rattle.photo_device.proofs.AllLemmas.{all_front, all_back}
 use Rattle.fleet_workers.specs.Jobs.{ShowsSecond, MayWork, IsFor, ShowsEffect, IsDone, IsReadyJob, IsDoneJob, AreReadyJobs, AreDoneJobs}
-use Rattle.fleet_workers.specs.Batch.{IsSecondAt, IsJobAt, AreApart, AreOut, with_other, stored, put_devices, all_devices, all_reports, all_logged, some_second, put_slots, all_slots, IsOfCommand}
+use Rattle.fleet_workers.specs.Batch.{IsSecondAt, IsJobAt, AreApart, AreOut, with_other, in_places, put_devices, all_devices, all_reports, all_logged, some_second, put_slots, all_slots, IsOfCommand}
 use Rattle.fleet_steps.specs.Running.{IsTold, RunsTo}
 use Rattle.fleet_workers.specs.declared.work.Job.{Job}
 use Rattle.fleet_workers.specs.declared.work.Done.{Done}
@@ -105,7 +105,7 @@ at_place : (script : Contents) (n : ℕ) (c : Command) → command_of script n �
 at_place script zero c is = cc
 at_place script (suc n) c is = let place : suc n - 1 ≡ n = omega arith in ap (slice_get script.commands) place ∙ is
 
-put_is : (script : Contents) (done : Done) (n : ℕ) (c : Command) (devices : List Kept) → done.number ≡ n → command_of script n ≡ Some c → put_devices script done devices ≡ stored c done.first done.second devices
+put_is : (script : Contents) (done : Done) (n : ℕ) (c : Command) (devices : List Kept) → done.number ≡ n → command_of script n ≡ Some c → put_devices script done devices ≡ in_places c done.first done.second devices
 put_is script done n c devices same is = let here : command_of script done.number ≡ Some c = ap (command_of script) same ∙ is in rw here refl
 
 -- one result is put back: one step of the run
@@ -114,7 +114,7 @@ pub put_one : (script : Contents) (front : List ℕ) (devices : List Kept) (repo
 put_one script front devices reports log more job done to at h logged =
     let c = at.command in
     let same : done.number ≡ job.number = (done_is script job c done at.is h).number in
-    let new = stored c done.first done.second devices in
+    let new = in_places c done.first done.second devices in
     let within : IsWithin (length script.names) c = subst (λ n. IsWithin n c) to.long at.within in
     let put = put_is script done job.number c devices same at.is in
     subst (λ (l : List Kept). RunsTo script (front ++ job.number ∷ []) l (set reports (done.number - 1) done.report) more) (sym put)
@@ -135,36 +135,36 @@ with_long None second xs = refl
 with_long (Some k) None xs = refl
 with_long (Some k) (Some x) xs = length-set xs k x
 
-pub stored_long : {X : Type 0} (c : Command) (first : X) (second : Option X) (xs : List X) → length (stored c first second xs) ≡ length xs
-stored_long c first second xs = with_long (devices_of c).1 second (set xs (devices_of c).0 first) ∙ length-set xs (devices_of c).0 first
+pub in_places_long : {X : Type 0} (c : Command) (first : X) (second : Option X) (xs : List X) → length (in_places c first second xs) ≡ length xs
+in_places_long c first second xs = with_long (devices_of c).1 second (set xs (devices_of c).0 first) ∙ length-set xs (devices_of c).0 first
 
 with_others : {X : Type 0} (place : Option ℕ) (second : Option X) (xs : List X) (k : ℕ) (x : X) → (is_device place k ≡ true → ⊥) → get_or (with_other place second xs) k x ≡ get_or xs k x
 with_others None second xs k x not = refl
 with_others (Some s) None xs k x not = refl
 with_others (Some s) (Some y) xs k x not = get_or-set_other xs s k y x (λ e. not (eq-eqb s k (sym e)))
 
-pub stored_others : {X : Type 0} (c : Command) (first : X) (second : Option X) (xs : List X) (k : ℕ) (x : X) → (works_on c k ≡ true → ⊥) → get_or (stored c first second xs) k x ≡ get_or xs k x
-stored_others c first second xs k x not =
+pub in_places_others : {X : Type 0} (c : Command) (first : X) (second : Option X) (xs : List X) (k : ℕ) (x : X) → (works_on c k ≡ true → ⊥) → get_or (in_places c first second xs) k x ≡ get_or xs k x
+in_places_others c first second xs k x not =
     with_others (devices_of c).1 second (set xs (devices_of c).0 first) k x (λ e. not (or_right _ _ e))
     ∙ get_or-set_other xs (devices_of c).0 k first x (λ e. not (or_left _ _ (eq-eqb (devices_of c).0 k (sym e))))
 
-still_at : (script : Contents) (devices : List Kept) (n : ℕ) (c : Command) (first : Kept) (second : Option Kept) (other : Job) → command_of script n ≡ Some c → (AreRelated script n other.number → ⊥) → IsJobAt script devices other → IsJobAt script (stored c first second devices) other
+still_at : (script : Contents) (devices : List Kept) (n : ℕ) (c : Command) (first : Kept) (second : Option Kept) (other : Job) → command_of script n ≡ Some c → (AreRelated script n other.number → ⊥) → IsJobAt script devices other → IsJobAt script (in_places c first second devices) other
 still_at script devices n c first second other is apart at =
     let e = at.command in
     let not : (k : ℕ) → works_on e k ≡ true → works_on c k ≡ true → ⊥ = λ k theirs mine. apart (record { device = k; first = used script n k c is mine; second = used script other.number k e at.is theirs }) in
     record {
       command = e;
       is = at.is;
-      within = subst (λ (m : ℕ). IsWithin m e) (sym (stored_long c first second devices)) at.within;
-      first = λ x. stored_others c first second devices (devices_of e).0 x (not (devices_of e).0 (works_first e)) ∙ at.first x;
+      within = subst (λ (m : ℕ). IsWithin m e) (sym (in_places_long c first second devices)) at.within;
+      first = λ x. in_places_others c first second devices (devices_of e).0 x (not (devices_of e).0 (works_first e)) ∙ at.first x;
       second = by_cases (devices_of e).1 refl at.second not;
     }
   where
-    by_cases : (place : Option ℕ) → (devices_of at.command).1 ≡ place → IsSecondAt place devices other.second → ((k : ℕ) → works_on at.command k ≡ true → works_on c k ≡ true → ⊥) → IsSecondAt place (stored c first second devices) other.second
+    by_cases : (place : Option ℕ) → (devices_of at.command).1 ≡ place → IsSecondAt place devices other.second → ((k : ℕ) → works_on at.command k ≡ true → works_on c k ≡ true → ⊥) → IsSecondAt place (in_places c first second devices) other.second
     by_cases None same there not = there
-    by_cases (Some k) same there not = (there.0, there.1, λ x. stored_others c first second devices k x (not k (works_second at.command k same)) ∙ there.2 x)
+    by_cases (Some k) same there not = (there.0, there.1, λ x. in_places_others c first second devices k x (not k (works_second at.command k same)) ∙ there.2 x)
 
-all_still : (script : Contents) (devices : List Kept) (n : ℕ) (c : Command) (first : Kept) (second : Option Kept) (jobs : List Job) → command_of script n ≡ Some c → AllByRecursion (λ m. AreRelated script n m → ⊥) (map (λ j. j.number) jobs) → AllByRecursion (IsJobAt script devices) jobs → AllByRecursion (IsJobAt script (stored c first second devices)) jobs
+all_still : (script : Contents) (devices : List Kept) (n : ℕ) (c : Command) (first : Kept) (second : Option Kept) (jobs : List Job) → command_of script n ≡ Some c → AllByRecursion (λ m. AreRelated script n m → ⊥) (map (λ j. j.number) jobs) → AllByRecursion (IsJobAt script devices) jobs → AllByRecursion (IsJobAt script (in_places c first second devices)) jobs
 all_still script devices n c first second [] is apart at = tt
 all_still script devices n c first second (j ∷ js) is apart at = (still_at script devices n c first second j is apart.0 at.0, all_still script devices n c first second js is apart.1 at.1)
 
@@ -227,7 +227,7 @@ pub slots_are : (script : Contents) (done : Done) (c : Command) (slots one two :
     → one ≡ set slots place (Some done.first) → two ≡ with_other other (some_second done.second) one → two ≡ put_slots script done slots
 slots_are script done c slots one two place other some is p o first second =
     let here : command_of script done.number ≡ Some c = number_of script done.number c some is in
-    let whole : two ≡ stored c (Some done.first) (some_second done.second) slots = second ∙ (λ i. with_other (o i) (some_second done.second) (first i)) ∙ ap (λ k. with_other (devices_of c).1 (some_second done.second) (set slots k (Some done.first))) p in
+    let whole : two ≡ in_places c (Some done.first) (some_second done.second) slots = second ∙ (λ i. with_other (o i) (some_second done.second) (first i)) ∙ ap (λ k. with_other (devices_of c).1 (some_second done.second) (set slots k (Some done.first))) p in
     rw here whole
 
 pub of_commands : (script : Contents) (jobs : List Job) (done : List Done) → AreReadyJobs script jobs → AreDoneJobs script jobs done → AllByRecursion (IsOfCommand script) done
@@ -282,19 +282,19 @@ back_at (Some s) p k first (Some y) xs ys long below within both works x d = eli
     first_at (inr e) other = absurd (other cc)
 
 back_in : (script : Contents) (n : ℕ) (rest : List ℕ) (c : Command) (first : Kept) (second : Option Kept) (devices : List Kept) (slots : List (Option Kept)) → command_of script n ≡ Some c → IsWithin (length devices) c → is_some second ≡ is_some (devices_of c).1
-    → AreOut script (n ∷ rest) devices slots → AreOut script rest (stored c first second devices) (stored c (Some first) (some_second second) slots)
+    → AreOut script (n ∷ rest) devices slots → AreOut script rest (in_places c first second devices) (in_places c (Some first) (some_second second) slots)
 back_in script n rest c first second devices slots is within both out = record {
-  long = stored_long c (Some first) (some_second second) slots ∙ out.long ∙ sym (stored_long c first second devices);
+  long = in_places_long c (Some first) (some_second second) slots ∙ out.long ∙ sym (in_places_long c first second devices);
   here = λ k below free x d. by_case k (works_on c k) refl below free x d;
 }
   where
-    by_case : (k : ℕ) (b : Bool) → works_on c k ≡ b → k < length (stored c first second devices) → AllByRecursion (λ m. uses script m k ≡ false) rest → (x : Option Kept) (d : Kept) → get_or (stored c (Some first) (some_second second) slots) k x ≡ Some (get_or (stored c first second devices) k d)
+    by_case : (k : ℕ) (b : Bool) → works_on c k ≡ b → k < length (in_places c first second devices) → AllByRecursion (λ m. uses script m k ≡ false) rest → (x : Option Kept) (d : Kept) → get_or (in_places c (Some first) (some_second second) slots) k x ≡ Some (get_or (in_places c first second devices) k d)
     by_case k true works below free x d = back_at (devices_of c).1 (devices_of c).0 k first second devices slots out.long within.0 within.1 both (works_cases c k works) x d
     by_case k false works below free x d =
         let not : works_on c k ≡ true → ⊥ = λ e. let e' : false ≡ true = sym works ∙ e in cc in
         let unused : uses script n k ≡ false = (let same : uses script n k ≡ works_on c k = rw is refl in same) ∙ works in
-        let long = stored_long c first second devices in
-        stored_others c (Some first) (some_second second) slots k x not ∙ out.here k (omega (arith, below, long)) (unused, free) x d ∙ ap Some (sym (stored_others c first second devices k d not))
+        let long = in_places_long c first second devices in
+        in_places_others c (Some first) (some_second second) slots k x not ∙ out.here k (omega (arith, below, long)) (unused, free) x d ∙ ap Some (sym (in_places_others c first second devices k d not))
 
 all_there : (slots : List (Option Kept)) (devices : List Kept) → length slots ≡ length devices → ((k : ℕ) → k < length devices → (x : Option Kept) (d : Kept) → get_or slots k x ≡ Some (get_or devices k d)) → slots ≡ map Some devices
 all_there [] [] long at = refl
@@ -305,7 +305,7 @@ all_there (s ∷ ss) (d ∷ ds) long at =
     let tail : ss ≡ map Some ds = all_there ss ds (omega (arith, long)) (λ k below. at (suc k) (omega (arith, below))) in
     λ i. head i ∷ tail i
 
-put_slots_is : (script : Contents) (done : Done) (n : ℕ) (c : Command) (slots : List (Option Kept)) → done.number ≡ n → command_of script n ≡ Some c → put_slots script done slots ≡ stored c (Some done.first) (some_second done.second) slots
+put_slots_is : (script : Contents) (done : Done) (n : ℕ) (c : Command) (slots : List (Option Kept)) → done.number ≡ n → command_of script n ≡ Some c → put_slots script done slots ≡ in_places c (Some done.first) (some_second done.second) slots
 put_slots_is script done n c slots same is = let here : command_of script done.number ≡ Some c = ap (command_of script) same ∙ is in rw here refl
 
 all_in : (script : Contents) (jobs : List Job) (done : List Done) (devices : List Kept) (slots : List (Option Kept)) → length devices ≡ length script.names → AllByRecursion (HasBoth script) jobs → AreDoneJobs script jobs done → AreOut script (map (λ j. j.number) jobs) devices slots → all_slots script done slots ≡ map Some (all_devices script done devices)
@@ -319,10 +319,10 @@ all_in script (j ∷ js) (d ∷ ds) devices slots long both h out =
     let put = put_is script d j.number c devices done.number is in
     let slot = put_slots_is script d j.number c slots done.number is in
     let back = back_in script j.number (map (λ j. j.number) js) c d.first d.second devices slots is (subst (λ n. IsWithin n c) (sym long) both.0.2) (done.both ∙ both.0.3) out in
-    let longer : length (put_devices script d devices) ≡ length script.names = ap length put ∙ stored_long c d.first d.second devices ∙ long in
+    let longer : length (put_devices script d devices) ≡ length script.names = ap length put ∙ in_places_long c d.first d.second devices ∙ long in
     all_in script js ds (put_devices script d devices) (put_slots script d slots) longer both.1 h.1
     (subst (λ (l : List (Option Kept)). AreOut script (map (λ j. j.number) js) (put_devices script d devices) l) (sym slot)
-    (subst (λ (l : List Kept). AreOut script (map (λ j. j.number) js) l (stored c (Some d.first) (some_second d.second) slots)) (sym put) back))
+    (subst (λ (l : List Kept). AreOut script (map (λ j. j.number) js) l (in_places c (Some d.first) (some_second d.second) slots)) (sym put) back))
 
 -- the slots have all devices again
 pub all_back_in : (script : Contents) (jobs : List Job) (done : List Done) (devices : List Kept) (slots : List (Option Kept)) → length devices ≡ length script.names → AllByRecursion (IsJobAt script devices) jobs → AreDoneJobs script jobs done → AreOut script (map (λ j. j.number) jobs) devices slots → all_slots script done slots ≡ map Some (all_devices script done devices)

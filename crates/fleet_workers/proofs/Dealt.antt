@@ -19,9 +19,9 @@ use Rattle.photo_batcher.proofs.Checked.{at_place}
 use Rattle.photo_device.proofs.AllLemmas.{all_front, all_back, all_append}
 use Rattle.fleet_workers.specs.declared.work.Job.{Job}
 use Rattle.fleet_workers.specs.Jobs.{jobs_of, numbers_of}
-use Rattle.fleet_workers.specs.Batch.{IsJobAt, IsSecondAt, IsTaken, AreApart, AreOut, stored, with_other, taken_slots}
+use Rattle.fleet_workers.specs.Batch.{IsJobAt, IsSecondAt, IsTaken, AreApart, AreOut, in_places, with_other, taken_slots}
 use Rattle.fleet_workers.specs.Dealing.{at_places, part_of, with_job, IsDealt}
-use Rattle.fleet_workers.proofs.Batched.{stored_long, stored_others}
+use Rattle.fleet_workers.proofs.Batched.{in_places_long, in_places_others}
 
 -- no command of the batch that is dealt already works on a device of the next
 pub not_yet_used : (script : Contents) (members : List ℕ) (i k : ℕ) → AreApart script members → i < length members → uses script (get_or members i 0) k ≡ true → AllByRecursion (λ m. uses script m k ≡ false) (take i members)
@@ -46,7 +46,7 @@ used_within script n k count c is within used = elim (works_cases c k (let same 
   | inr second ↦ (subst (λ o. IfSome o (λ s. (s < count) × (s ≢ (devices_of c).0))) second within.1).0
 ]
 
-pub taken_is : (script : Contents) (n : ℕ) (c : Command) (slots : List (Option Kept)) → command_of script n ≡ Some c → taken_slots script n slots ≡ stored c None (Some None) slots
+pub taken_is : (script : Contents) (n : ℕ) (c : Command) (slots : List (Option Kept)) → command_of script n ≡ Some c → taken_slots script n slots ≡ in_places c None (Some None) slots
 taken_is script n c slots is = rw is refl
 
 not_worked : (script : Contents) (n k : ℕ) (c : Command) → command_of script n ≡ Some c → uses script n k ≡ false → works_on c k ≡ true → ⊥
@@ -54,10 +54,10 @@ not_worked script n k c is not works = let e : false ≡ true = sym not ∙ used
 
 pub out_more : (script : Contents) (numbers : List ℕ) (n : ℕ) (c : Command) (devices : List Kept) (slots : List (Option Kept)) → command_of script n ≡ Some c → AreOut script numbers devices slots → AreOut script (numbers ++ n ∷ []) devices (taken_slots script n slots)
 out_more script numbers n c devices slots is out = record {
-  long = ap length (taken_is script n c slots is) ∙ stored_long c None (Some None) slots ∙ out.long;
+  long = ap length (taken_is script n c slots is) ∙ in_places_long c None (Some None) slots ∙ out.long;
   here = λ k below free x d.
       let not : works_on c k ≡ true → ⊥ = not_worked script n k c is (all_back (λ m. uses script m k ≡ false) numbers (n ∷ []) free).0 in
-      ap (λ (l : List (Option Kept)). get_or l k x) (taken_is script n c slots is) ∙ stored_others c None (Some None) slots k x not ∙ out.here k below (all_front (λ m. uses script m k ≡ false) numbers (n ∷ []) free) x d;
+      ap (λ (l : List (Option Kept)). get_or l k x) (taken_is script n c slots is) ∙ in_places_others c None (Some None) slots k x not ∙ out.here k below (all_front (λ m. uses script m k ≡ false) numbers (n ∷ []) free) x d;
 }
 
 pub out_none : (script : Contents) (devices : List Kept) → AreOut script [] devices (map Some devices)
@@ -241,7 +241,7 @@ slots_taken script n c place other slots one two is at second first then =
     then ∙ (λ i. with_other (second i) (Some None) (first i)) ∙ ap (λ (k : ℕ). with_other (devices_of c).1 (Some None) (set slots k None)) at ∙ sym (taken_is script n c slots is)
 
 pub taken_long : (script : Contents) (n : ℕ) (c : Command) (slots : List (Option Kept)) → command_of script n ≡ Some c → length (taken_slots script n slots) ≡ length slots
-taken_long script n c slots is = ap length (taken_is script n c slots is) ∙ stored_long c None (Some None) slots
+taken_long script n c slots is = ap length (taken_is script n c slots is) ∙ in_places_long c None (Some None) slots
 
 -- the number at a place of the batch
 pub numbered_at : (script : Contents) (members : List ℕ) (i : ℕ) → AllByRecursion (IsNumber script) members → i < length members → IsNumber script (get_or members i 0)

@@ -36,15 +36,15 @@ with_other None other xs = xs
 with_other (Some k) None xs = xs
 with_other (Some k) (Some x) xs = slice_set xs k x
 
-abbrev pub stored : {X : Type 0} → Command → X → Option X → List X → List X
-stored c first second xs = with_other (devices_of c).1 second (slice_set xs (devices_of c).0 first)
+abbrev pub in_places : {X : Type 0} → Command → X → Option X → List X → List X
+in_places c first second xs = with_other (devices_of c).1 second (slice_set xs (devices_of c).0 first)
 
 abbrev pub put_devices : Contents → Done → List Kept → List Kept
 put_devices script done devices = by_cases (command_of script done.number)
   where
     by_cases : Option Command → List Kept
     by_cases None = devices
-    by_cases (Some c) = stored c done.first done.second devices
+    by_cases (Some c) = in_places c done.first done.second devices
 
 -- all results put back, one after another
 
@@ -71,7 +71,7 @@ put_slots script done slots = by_cases (command_of script done.number)
   where
     by_cases : Option Command → List (Option Kept)
     by_cases None = slots
-    by_cases (Some c) = stored c (Some done.first) (some_second done.second) slots
+    by_cases (Some c) = in_places c (Some done.first) (some_second done.second) slots
 
 abbrev pub all_slots : Contents → List Done → List (Option Kept) → List (Option Kept)
 all_slots script [] slots = slots
@@ -83,7 +83,7 @@ taken_slots script n slots = by_cases (command_of script n)
   where
     by_cases : Option Command → List (Option Kept)
     by_cases None = slots
-    by_cases (Some c) = stored c None (Some None) slots
+    by_cases (Some c) = in_places c None (Some None) slots
 
 -- the slots have these devices, but for those that the commands of these numbers work on
 pub record AreOut (script : Contents) (numbers : List ℕ) (devices : List Kept) (slots : List (Option Kept)) : Type 0 where

@@ -14,12 +14,13 @@ ghost use Rattle.fleet_workers.specs.Counting.{tally_at};
 ghost use Rattle.fleet_workers.specs.Progress.{HasRun};
 
 use crate::crew::run_crew;
-use crate::deal::{deal, places_of};
+use crate::deal::deal;
 use crate::gate::Gate;
 use crate::parcel::Parcel;
 use crate::slots::Slots;
 use crate::work::Done;
 use fleet_steps::RunError;
+use photo_batcher::places_of;
 use photo_device::SharedHeld;
 use photo_script::{Report, Script};
 use std::alloc::{AllocError, Global};

@@ -4,14 +4,14 @@ ghost use Rattle.std.specs.Prelude.{ℕ, List, Option, Some, None, true, length,
 ghost use Rattle.std.specs.Prelude.{OnOk, slice_index_or, slice_set};
 ghost use Rattle.std.specs.List.{AllByRecursion};
 ghost use Rattle.photo_device.specs.Device.{Kept};
-ghost use Rattle.photo_script.specs.Contents.{devices_of};
 ghost use Rattle.photo_batcher.specs.Related.{IsNumber, uses};
 ghost use Rattle.fleet_workers.specs.Batch.{IsJobAt, AreApart, IsTaken, with_other, taken_slots};
 ghost use Rattle.fleet_workers.specs.Dealing.{IsDealt, with_job};
 
 use crate::parcel::Parcel;
 use crate::work::Job;
-use photo_script::{Command, Script, devices_of};
+use photo_batcher::places_of;
+use photo_script::Script;
 use std::alloc::{AllocError, Global};
 use std::mem;
 
@@ -82,17 +82,6 @@ fn take_job(script: &Script, slots: &mut Vec<Option<Parcel>>, number: u32) -> Jo
         number,
         first,
         second,
-    }
-}
-
-// The places of the devices of a command.
-pub(crate) fn places_of(command: &Command) -> (usize, Option<usize>)
-    ensures first { result.0 ≡ (devices_of command.now).0 }
-    ensures second { result.1 ≡ (devices_of command.now).1 }
-{
-    match devices_of(command) {
-        (first, None) => (usize::from(first), None),
-        (first, Some(second)) => (usize::from(first), Some(usize::from(second))),
     }
 }
 

@@ -1,10 +1,9 @@
 // All batches, one after another.
-ghost use Rattle.std.specs.Prelude.{◌≡◌, ◌⊎◌, ◌<◌, ◌≤◌, [], ℕ, List, length, map, replicate, Some, IfOk, IfErr};
+ghost use Rattle.std.specs.Prelude.{◌≡◌, ◌⊎◌, ◌<◌, ◌≤◌, [], ℕ, List, length, map, Some, IfOk, IfErr};
 ghost use Rattle.std.specs.Arc.{arc_value};
 ghost use Rattle.photo_device.specs.Device.{Kept};
 ghost use Rattle.photo_script.specs.Contents.{IsScript};
 ghost use Rattle.photo_script.specs.Tallies.{tally_of};
-ghost use Rattle.photo_script.specs.declared.report.Report.TheVariants.{NotHeld};
 ghost use Rattle.photo_batcher.specs.Plans.{IsPlan};
 ghost use Rattle.photo_batcher.specs.Batches.{InTurn};
 ghost use Rattle.work_ledger.specs.Ledgers.{all_parts};
@@ -19,10 +18,10 @@ use crate::gate::Gate;
 use crate::number::Workers;
 use crate::parcel::Parcel;
 use crate::slots::Slots;
-use fleet_steps::{IssueLog, Outcome, RunError, opening_devices};
+use fleet_steps::{IssueLog, Outcome, RunError, no_reports, opening_devices};
 use photo_batcher::{Plan, plan};
 use photo_device::Device;
-use photo_script::{Report, Script, Tally, Totals};
+use photo_script::{Script, Tally, Totals};
 use std::alloc::{AllocError, Global};
 use std::marker::Brand;
 use std::sync::{Arc, Wait};
@@ -73,7 +72,7 @@ pub fn run_fleet<G: Gate + 'static, R: Threads + Wait + Copy + Send + 'static>(
         reports,
         log,
     } = slots;
-    let Ok(devices) = all_devices(alloc, devices) else {
+    let Ok(devices) = devices_out_of(alloc, devices) else {
         return Err(RunError::NoMemory);
     };
     let Ok(log) = IssueLog::new(alloc, log) else {
@@ -153,7 +152,7 @@ fn opening_slots(alloc: Global, script: &Script, commands: usize) -> Result<Slot
     ensures { IfOk result (λ slots. HasRun script.now [] slots (stake all_parts (tally_of script.now) nothing_done)) }
 {
     let devices = opening_devices(alloc, script)?;
-    let devices = all_slots(alloc, devices)?;
+    let devices = slots_of(alloc, devices)?;
     let reports = no_reports(alloc, commands)?;
     Ok(Slots {
         devices,
@@ -163,7 +162,7 @@ fn opening_slots(alloc: Global, script: &Script, commands: usize) -> Result<Slot
 }
 
 // A slot for each device.
-fn all_slots(alloc: Global, devices: Vec<Device>) -> Result<Vec<Option<Parcel>>, AllocError>
+fn slots_of(alloc: Global, devices: Vec<Device>) -> Result<Vec<Option<Parcel>>, AllocError>
     ensures { IfOk result (λ slots. slots.items ≡ map Some devices.items) }
 {
     let mut slots = Vec::new(alloc);
@@ -173,19 +172,8 @@ fn all_slots(alloc: Global, devices: Vec<Device>) -> Result<Vec<Option<Parcel>>,
     Ok(slots)
 }
 
-// A place for each report, all of which are written before the run ends.
-fn no_reports(alloc: Global, count: usize) -> Result<Vec<Report>, AllocError>
-    ensures { IfOk result (λ reports. reports.items ≡ replicate count NotHeld) }
-{
-    let mut reports = Vec::new(alloc);
-    for _ in 0..count {
-        reports.push(Report::NotHeld)?;
-    }
-    Ok(reports)
-}
-
 // The devices of slots none of which is empty.
-fn all_devices(alloc: Global, slots: Vec<Option<Parcel>>) -> Result<Vec<Device>, AllocError>
+fn devices_out_of(alloc: Global, slots: Vec<Option<Parcel>>) -> Result<Vec<Device>, AllocError>
     requires { (devices : List Kept) × (slots.items ≡ map Some devices) }
     ensures { IfOk result (λ all. slots.items ≡ map Some all.items) }
 {

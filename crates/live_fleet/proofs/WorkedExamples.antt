@@ -8,7 +8,7 @@ use Rattle.photo_device.specs.Held.{entry_of, entries_of}
 use Rattle.photo_device.specs.Device.{Kept, ModelDevice, Shows, holds}
 use Rattle.photo_script.specs.declared.command.Command.TheVariants as command
 use Rattle.fleet_steps.specs.Members.{In, here}
-use Rattle.fleet_steps.specs.Sound.{times}
+use Rattle.fleet_steps.specs.Sound.{occurrences}
 use Rattle.fleet_steps.proofs.Members.{in_nothing, in_left}
 use Rattle.live_fleet.specs.Fleets.{CameAbout, after_commands}
 use Rattle.live_fleet.specs.Examples.{EditedOnBoth, ChangedByHand, ComesAboutAsTold, rated, nth, first_held, first_device, second_device, with_log}
@@ -71,7 +71,7 @@ unlogged came =
 twice : CameAbout (with_log (first_held ∷ first_held ∷ [])) → ⊥
 twice came =
     let history = came_sound _ came in
-    let once : times (nth 0 1) (entries_of (first_held ∷ first_held ∷ [])) ≤ 1 = subst (λ (log : List Entry). times (nth 0 1) log ≤ 1) (sym history.came.shown.log) (history.sound.once (nth 0 1)) in
+    let once : occurrences (nth 0 1) (entries_of (first_held ∷ first_held ∷ [])) ≤ 1 = subst (λ (log : List Entry). occurrences (nth 0 1) log ≤ 1) (sym history.came.shown.log) (history.sound.once (nth 0 1)) in
     omega arith
 
 pub comes_about_as_told : ComesAboutAsTold

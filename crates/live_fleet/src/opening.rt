@@ -5,9 +5,9 @@ ghost use Rattle.photo_device.specs.Device.{Shows};
 ghost use Rattle.photo_script.specs.Runs.{opening_from};
 ghost use Rattle.fleet_steps.specs.Between.{AreSettled};
 
+use fleet_steps::opening_device;
 use photo_device::Device;
 use photo_filter_rules::Filter;
-use photo_version::Author;
 use std::alloc::{AllocError, Global};
 
 /// A device for each filter, in their order, none of which has made or holds anything. Its only error is want of memory.
@@ -18,11 +18,7 @@ pub(crate) fn opening_devices(alloc: Global, filters: &[Filter]) -> Result<Vec<D
 {
     let mut devices = Vec::new(alloc);
     for place in 0..filters.len() {
-        let filter = filters[place].try_clone()?;
-        let Ok(device) = Device::new(alloc, Author::new(place as u16), filter) else {
-            return Err(AllocError);
-        };
-        devices.push(device)?;
+        devices.push(opening_device(alloc, place as u16, &filters[place])?)?;
     }
     Ok(devices)
 }

@@ -1,23 +1,30 @@
 //! The calls of a plan, the audit, and the number of workers.
 use crate::scripts::small;
 use fleet_runner::{Outcome, Workers, audit, run_plain};
-use photo_batcher::{Plan, plan};
+use photo_batcher::{Plan, places_of, plan};
+use photo_script::Script;
 use std::alloc::Global;
 
-/// The readers of a plan.
+/// The readers of a plan, and the places of a command's devices.
 pub fn answer_plan(alloc: Global, times: u32) -> Option<bool> {
     let script = small(alloc)?;
     let plan = plan(alloc, &script).ok()?;
-    Some(answer_of_plan(&plan, times))
+    Some(answer_of_plan(&script, &plan, times))
 }
 
-fn answer_of_plan(plan: &Plan, times: u32) -> bool {
+fn answer_of_plan(script: &Script, plan: &Plan, times: u32) -> bool {
     for _ in 0..times {
-        if !has_batches(plan) || !has_last(plan) {
+        if !has_batches(plan) || !has_last(plan) || !has_places(script) {
             return false;
         }
     }
     true
+}
+
+fn has_places(script: &Script) -> bool {
+    script.commands() == 4
+        && places_of(script.command(2)) == (1, None)
+        && places_of(script.command(3)) == (1, Some(0))
 }
 
 fn has_batches(plan: &Plan) -> bool {

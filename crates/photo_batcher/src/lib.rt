@@ -9,4 +9,5 @@ mod planning;
 
 pub use batches::Plan;
 pub use order::lawful;
+pub use places::places_of;
 pub use planning::plan;

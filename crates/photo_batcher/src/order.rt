@@ -3,7 +3,7 @@ ghost use Rattle.std.specs.Prelude.{◌≡◌, ◌<◌, ◌↔◌, true, length,
 ghost use Rattle.photo_batcher.specs.Orders.{IsLawful};
 ghost use Rattle.photo_batcher.specs.Steps.{IsAbove};
 
-use crate::places::{note, places_of};
+use crate::places::{note, places_at};
 use photo_script::Script;
 use std::alloc::{AllocError, Global};
 
@@ -20,7 +20,7 @@ pub fn lawful(alloc: Global, script: &Script, order: &[u32]) -> Result<bool, All
         if *number == 0 || *number as usize > script.commands() {
             return Ok(false);
         }
-        let (first, second) = places_of(script, *number);
+        let (first, second) = places_at(script, *number);
         if !is_above(last.as_slice(), *number, first, second) {
             return Ok(false);
         }

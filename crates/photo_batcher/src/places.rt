@@ -1,16 +1,25 @@
 //! The devices of a command, and the last command on each device.
 ghost use Rattle.std.specs.Prelude.{◌≡◌, ◌<◌, ◌≤◌, length, IfSome, slice_set};
+ghost use Rattle.photo_script.specs.Contents.{devices_of};
 ghost use Rattle.photo_batcher.specs.Steps.{ArePlaces, read_second, with_place};
 
-use photo_script::{Script, devices_of};
+use photo_script::{Command, Script, devices_of};
 
 /// The places of the devices that the command of a number works on.
-pub(crate) fn places_of(script: &Script, number: u32) -> (usize, Option<usize>)
+pub(crate) fn places_at(script: &Script, number: u32) -> (usize, Option<usize>)
     requires first { 0 < number }
     requires within { number ≤ length script.now.commands }
     ensures { ArePlaces script.now number result.0 result.1 }
 {
-    match devices_of(script.command(number)) {
+    places_of(script.command(number))
+}
+
+/// The places of the devices that a command works on, among a script's: `devices_of`, as indices.
+pub fn places_of(command: &Command) -> (usize, Option<usize>)
+    ensures first { result.0 ≡ (devices_of command.now).0 }
+    ensures second { result.1 ≡ (devices_of command.now).1 }
+{
+    match devices_of(command) {
         (first, None) => (usize::from(first), None),
         (first, Some(second)) => (usize::from(first), Some(usize::from(second))),
     }

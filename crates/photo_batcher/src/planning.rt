@@ -6,7 +6,7 @@ ghost use Rattle.photo_batcher.specs.Plans.{entry_of, IsPlan};
 ghost use Rattle.photo_batcher.specs.Steps.{IsPlannedTo, with_member};
 
 use crate::Plan;
-use crate::places::{last_on, note, places_of};
+use crate::places::{last_on, note, places_at};
 use photo_script::Script;
 use std::alloc::{AllocError, Global};
 
@@ -52,7 +52,7 @@ fn plan_next(
     ensures planned { OnOk result (IsPlannedTo script.now number last.new batches.new.items afters.new.items) }
     ensures batch { IfOk result (λ batch. batches.new.items ≡ batches.old.items ++ batch ∷ []) }
 {
-    let (first, second) = places_of(script, number);
+    let (first, second) = places_at(script, number);
     let (batch, after) = place_behind(batches.as_slice(), last[first], last_on(last, second));
     batches.push(batch)?;
     afters.push(after)?;

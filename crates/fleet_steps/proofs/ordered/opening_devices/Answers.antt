@@ -1,5 +1,4 @@
-use Rattle.std.proofs.Common.{◌≤◌, length, arith, subst, ◌∙◌}
-use Rattle.photo_filter_text.specs.Tree.{Tree}
+use Rattle.std.proofs.Common.{◌≤◌, ◌≡◌, length, arith, subst, ◌∙◌}
 use Rattle.photo_version.specs.Author.{author}
 use Rattle.photo_device.specs.Device.{Shows, opening}
 use Rattle.fleet_steps.proofs.Shown.{opening_more, opening_all, opening_long}
@@ -7,12 +6,7 @@ use Rattle.fleet_steps.proofs.ordered.opening_devices.Goals as goal
 
 pub loop-place-preserved : goal.loop-place-preserved
 loop-place-preserved c =
-    let place = c.loop-place.place in
-    let device = c.in-Ok.device in
-    let filter = c.filter.result.now in
-    let copied : Shows device (opening c.new-author.result filter) = subst (λ (t : Tree). Shows device (opening c.new-author.result t)) c.in_ok-filter.ensures c.in-Ok.ensures.ok in
-    let here : Shows device (opening (author place) filter) = subst (λ a. Shows device (opening a filter)) c.new-author.ensures copied in
-    rw c.in_ok-push.ensures.items (opening_more c.args.script.now.filters place _ _ filter c.filter.ensures c.loop-place.invariant here)
+    rw c.in_ok-push.ensures.items (opening_more c.args.script.now.filters c.loop-place.place _ _ c.filter.result.now c.filter.ensures c.loop-place.invariant c.in_ok-opening_device.ensures.shown)
 
 pub returns-clause-long : goal.returns-clause-long
 returns-clause-long c =

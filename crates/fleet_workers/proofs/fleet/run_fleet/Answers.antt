@@ -25,4 +25,4 @@ returns-clause-ok g c =
     let is = subst IsScript c.deref-source.ensures c.commands_of-count.ensures.script in
     let planned = subst (λ (s : Contents). IsPlan s c.in-Ok.plan) c.deref-source.ensures c.in-Ok.ensures in
     let run = c.in_ok-slots.ensures.ok in
-    ended script run.0 c.in_ok-slots.slots run.1 _ is (plan_lawful script c.in-Ok.plan run.0 planned run.2) run.3 c.in-Ok-all_devices.ensures refl c.in-Ok-new.ensures run.4
+    ended script run.0 c.in_ok-slots.slots run.1 _ is (plan_lawful script c.in-Ok.plan run.0 planned run.2) run.3 c.in-Ok-devices_out_of.ensures refl c.in-Ok-new.ensures run.4

@@ -9,14 +9,14 @@ use Rattle.photo_batcher.proofs.planning.plan_next.Goals as goal
 pub place_behind-batch-requires-clause-last : goal.place_behind-batch-requires-clause-last
 place_behind-batch-requires-clause-last c =
     let a = c.args in
-    let p = c.places_of-first in
+    let p = c.places_at-first in
     subst (λ (l : List ℕ). slice_index a.last.now p.result.0 ≤ length l) (sym c.as_slice.ensures.value)
     (low_last a.script.now (a.number - 1) p.result.0 a.last.now a.batches.now.items a.afters.now.items c.requires.so_far p.ensures.first_in)
 
 pub place_behind-batch-requires-clause-other : goal.place_behind-batch-requires-clause-other
 place_behind-batch-requires-clause-other c =
     let a = c.args in
-    let p = c.places_of-first in
+    let p = c.places_at-first in
     subst (λ (l : List ℕ). IfSome c.last_on.result (λ n. n ≤ length l)) (sym c.as_slice.ensures.value)
     (subst (λ o. IfSome o (λ n. n ≤ length a.batches.now.items)) (sym c.last_on.ensures)
     (low_second a.script.now (a.number - 1) p.result.1 a.last.now a.batches.now.items a.afters.now.items c.requires.so_far p.ensures.second_in))
@@ -24,7 +24,7 @@ place_behind-batch-requires-clause-other c =
 pub returns-clause-planned : goal.returns-clause-planned
 returns-clause-planned c =
     let a = c.args in
-    let p = c.places_of-first in
+    let p = c.places_at-first in
     let s = c.place_behind-batch in
     let is : a.number ≡ suc (a.number - 1) = omega (arith, c.requires.first) in
     let batch : s.result.0 ≡ first_free (entry_of a.batches.now.items) (slice_index a.last.now p.result.0) (read_second a.last.now p.result.1) =

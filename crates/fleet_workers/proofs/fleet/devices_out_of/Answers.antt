@@ -4,7 +4,7 @@ use Rattle.std.proofs.lemmas.Grind.{common_steps}
 use Rattle.std.specs.Vec.Iter.{into_iter_items}
 use Rattle.photo_device.specs.Device.{Kept}
 use Rattle.fleet_workers.proofs.Opened.{IsLeft, left_some, left_more, left_none}
-use Rattle.fleet_workers.proofs.fleet.all_devices.Goals as goal
+use Rattle.fleet_workers.proofs.fleet.devices_out_of.Goals as goal
 
 pub loop-slot-init : goal.loop-slot-init
 loop-slot-init c =

@@ -3,7 +3,7 @@ use Rattle.std.specs.Prelude.{Option, Some}
 use Rattle.std.proofs.lemmas.Grind.{common_steps}
 use Rattle.std.specs.Vec.Iter.{into_iter_items}
 use Rattle.photo_device.specs.Device.{Kept}
-use Rattle.fleet_workers.proofs.fleet.all_slots.Goals as goal
+use Rattle.fleet_workers.proofs.fleet.slots_of.Goals as goal
 
 pub loop-device-preserved : goal.loop-device-preserved
 loop-device-preserved c =
