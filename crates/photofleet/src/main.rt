@@ -40,7 +40,7 @@ fn status<T: Threads + Wait + Copy + Send + 'static>(rt: &HostRuntime, threads: 
     let Ok(mut out) = BufWriter::new(rt.alloc(), rt.stdout()) else {
         return without_memory(&mut err);
     };
-    let mut opener = FileOpener::new(rt);
+    let mut opener = FileOpener::new(rt, rt.stdin());
     serve(
         threads,
         rt.alloc(),
