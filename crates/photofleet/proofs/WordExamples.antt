@@ -9,6 +9,9 @@ words_as_told = record {
   run = record { accepted = refl; named = refl };
   dashed = record { accepted = refl; named = refl };
   help = refl;
+  version = refl;
+  short_version = refl;
+  standard_input = record { accepted = refl; named = refl };
   help_of_plain = refl;
   none = refl;
   unknown = refl;

@@ -1,12 +1,12 @@
 -- What the words of a command line ask for.
-use Rattle.std.specs.Prelude.{◌≡◌, ◌≢◌, ◌⊎◌, ℕ, List, [], ◌∷◌, map, Option, Some, None, IfSome, codes, if◌then◌else◌, option_map, option_and_then, unwrap_or}
+use Rattle.std.specs.Prelude.{◌≡◌, ◌⊎◌, ⊥, ℕ, List, [], ◌∷◌, map, Option, Some, None, IfSome, codes, if◌then◌else◌, option_map, option_and_then, unwrap_or}
 use Rattle.std.specs.Borrow.{Bor}
 use Rattle.std.specs.Str.{bytes_eq}
 use Rattle.std.specs.Str.Parse.{digits_value, without_leading_plus}
 use Rattle.clap.specs.ValueTests.{is_unsigned_in}
 use Rattle.clap.specs.Words.{Row, Text, IsAmong, all_of, subcommand_of, first_of, one_of}
 use Rattle.clap.specs.declared.error.kind.ErrorKind.{ErrorKind}
-use Rattle.clap.specs.declared.error.kind.ErrorKind.TheVariants.{DisplayHelp, MissingSubcommand}
+use Rattle.clap.specs.declared.error.kind.ErrorKind.TheVariants.{DisplayHelp, DisplayVersion, MissingSubcommand}
 use Rattle.fleet_workers.specs.Limits.{max_workers}
 use Rattle.photofleet.specs.CommandLine.{program, errors_of}
 use Rattle.photofleet.specs.declared.words.Job.{Job}
@@ -62,17 +62,21 @@ pub record Asks (words : List Text) (file : Text) (work : Work) : Type 0 where
   pub accepted : errors_of words ≡ []
   pub named : asked_of words ≡ Some (file, work)
 
--- the words ask for help
+-- the kinds of error by which `clap` says that the words ask for help or for the version
+abbrev pub IsWish : ErrorKind → Type 0
+IsWish k = (k ≡ DisplayHelp) ⊎ (k ≡ DisplayVersion)
+
+-- the words ask for help or for the version
 abbrev pub AsksForHelp : List Text → Type 0
-AsksForHelp words = IsAmong DisplayHelp (errors_of words)
+AsksForHelp words = (k : ErrorKind) × IsWish k × IsAmong k (errors_of words)
 
 -- the words may be answered by an error of that kind
 abbrev pub IsRefusal : List Text → ErrorKind → Type 0
 IsRefusal words k = IsAmong k (errors_of words) ⊎ ((k ≡ MissingSubcommand) × ((errors_of words ≡ []) × (asked_of words ≡ None)))
 
--- the words have an error, and it is no wish for help
+-- the words have an error, and it is no wish for help or for the version
 abbrev pub AreRefused : List Text → Type 0
-AreRefused words = (k : ErrorKind) × (k ≢ DisplayHelp) × IsRefusal words k
+AreRefused words = (k : ErrorKind) × (IsWish k → ⊥) × IsRefusal words k
 
 -- the words ask for some work on a file, and the file's bytes, where they are known, are such for that work
 pub record OfFile (content : List ℕ → Option (List ℕ)) (words : List Text) (IsSuch : Work → List ℕ → Type 0) : Type 0 where

@@ -44,11 +44,11 @@ batches_command = with_rule (new_app (codes "batches")) file_argument
 abbrev pub replay_command : App
 replay_command = with_rule (with_rule (new_app (codes "replay")) file_argument) order_argument
 
--- `photofleet`, of which one command is to be named
+-- `photofleet`, of which one command is to be named, and which has a version
 abbrev pub bare_program : App
 bare_program =
     let bare = new_app (codes "photofleet") in
-    record bare { top = record bare.top { subcommand_required = true } }
+    record bare { top = record bare.top { subcommand_required = true; has_version = true } }
 
 -- `photofleet` with its commands
 abbrev pub program : App

@@ -1,6 +1,6 @@
 -- Command lines, worked.
 use Rattle.std.specs.Prelude.{◌≡◌, ℕ, List, [], ◌∷◌, codes}
-use Rattle.clap.specs.declared.error.kind.ErrorKind.TheVariants.{DisplayHelp, MissingSubcommand, UnknownArgument, InvalidSubcommand, MissingRequiredArgument, ArgumentConflict, ValueValidation}
+use Rattle.clap.specs.declared.error.kind.ErrorKind.TheVariants.{DisplayHelp, DisplayVersion, MissingSubcommand, UnknownArgument, InvalidSubcommand, MissingRequiredArgument, ArgumentConflict, ValueValidation}
 use Rattle.photofleet.specs.CommandLine.{errors_of}
 use Rattle.photofleet.specs.Asked.{Asks, plain, run, replay, batches}
 
@@ -12,6 +12,9 @@ pub record WordsAreAsTold : Type 0 where
   pub run : Asks (words_of (codes "plain" ∷ codes "script" ∷ [])) (codes "script") plain
   pub dashed : Asks (words_of (codes "plain" ∷ codes "--" ∷ codes "--help" ∷ [])) (codes "--help") plain
   pub help : errors_of (words_of (codes "--help" ∷ [])) ≡ DisplayHelp ∷ []
+  pub version : errors_of (words_of (codes "--version" ∷ [])) ≡ DisplayVersion ∷ []
+  pub short_version : errors_of (words_of (codes "-V" ∷ [])) ≡ DisplayVersion ∷ []
+  pub standard_input : Asks (words_of (codes "plain" ∷ codes "-" ∷ [])) (codes "-") plain
   pub help_of_plain : errors_of (words_of (codes "plain" ∷ codes "--help" ∷ [])) ≡ DisplayHelp ∷ []
   pub none : errors_of (words_of []) ≡ MissingSubcommand ∷ []
   pub unknown : errors_of (words_of (codes "frob" ∷ [])) ≡ UnknownArgument ∷ InvalidSubcommand ∷ []

@@ -1,4 +1,7 @@
-//! What the helps end with.
+//! What the helps end with, and the version.
+
+/// The version of the program: of its words, its formats and its texts.
+pub const VERSION: &str = "1.0.0";
 
 /// The end of the program's help.
 pub const OVERVIEW: &str =
@@ -20,7 +23,8 @@ Which of its commands can run at once is told by
 
     photofleet batches FILE
 
-and 'photofleet replay FILE ORDER...' runs them in another order, to the same reports.";
+and 'photofleet replay FILE ORDER...' runs them in another order, to the same reports. The FILE '-'
+is standard input.";
 
 /// The end of the help of `plain`.
 pub const PLAIN: &str = "Lines of a script, those of devices first:

@@ -1,7 +1,8 @@
-//! Answers to command lines that ask for no work: help, and why words are refused.
-ghost use Rattle.std.specs.Prelude.{◌≡◌, ◌≢◌, ◌⊎◌, true};
+//! Answers to command lines that ask for no work: help, the version, and why words are refused.
+ghost use Rattle.std.specs.Prelude.{◌≡◌, ◌≢◌, ◌⊎◌, ⊥, true};
 ghost use Rattle.std.specs.declared.io.ErrorKind.TheVariants.{OutOfMemory};
 ghost use Rattle.clap.specs.Words.{kind_of};
+ghost use Rattle.photofleet.specs.Asked.{IsWish};
 ghost use Rattle.photofleet.specs.Doing.{AppendsSome};
 ghost use Rattle.photofleet.specs.Status.{is_status};
 
@@ -13,7 +14,7 @@ use fleet_runner::RunError;
 use std::alloc::{AllocError, Global};
 use std::io::{self, Write};
 
-/// Help is asked for, or the words are refused.
+/// Help or the version is asked for, or the words are refused.
 pub fn refused<W: Write, E: Write>(
     alloc: Global,
     refusal: &clap::Error,
@@ -22,27 +23,27 @@ pub fn refused<W: Write, E: Write>(
 ) -> u8
     ensures status { is_status result ≡ true }
     ensures of_words { result ≢ 3 }
-    ensures help { (result ≡ 0) ⊎ (result ≡ 5) → kind_of refusal.now ≡ ErrorKind.DisplayHelp }
+    ensures help { (result ≡ 0) ⊎ (result ≡ 5) → IsWish (kind_of refusal.now) }
     ensures done { result ≡ 0 → AppendsSome (W.contents out.old) (W.contents out.new) }
-    ensures words { result ≡ 2 → (kind_of refusal.now ≢ ErrorKind.DisplayHelp) × (kind_of refusal.now ≢ ErrorKind.OutOfMemory) }
+    ensures words { result ≡ 2 → (IsWish (kind_of refusal.now) → ⊥) × (kind_of refusal.now ≢ ErrorKind.OutOfMemory) }
     ensures nothing { (result ≡ 2) ⊎ (result ≡ 4) → out.new ≡ out.old }
 {
     match refusal.kind() {
         ErrorKind::OutOfMemory => without_memory(err),
-        ErrorKind::DisplayHelp => help(alloc, refusal, out, err),
+        ErrorKind::DisplayHelp | ErrorKind::DisplayVersion => shown(alloc, refusal, out, err),
         _ => bad_words(alloc, refusal, err),
     }
 }
 
-fn help<W: Write, E: Write>(alloc: Global, help: &clap::Error, out: &mut W, err: &mut E) -> u8
+fn shown<W: Write, E: Write>(alloc: Global, wish: &clap::Error, out: &mut W, err: &mut E) -> u8
     ensures status { (result ≡ 0) ⊎ ((result ≡ 4) ⊎ (result ≡ 5)) }
     ensures done { result ≡ 0 → AppendsSome (W.contents out.old) (W.contents out.new) }
     ensures nothing { result ≡ 4 → out.new ≡ out.old }
 {
-    let Ok(text) = help.to_string(alloc) else {
+    let Ok(text) = wish.to_string(alloc) else {
         return without_memory(err);
     };
-    // No contract of `clap` says that its help is not empty.
+    // No contract of `clap` says that its help or its version is not empty.
     let shown = if text.is_empty() {
         OVERVIEW
     } else {

@@ -6,7 +6,7 @@ ghost use Rattle.photofleet.specs.CommandLine.{file_argument, workers_argument, 
 ghost use Rattle.photofleet.specs.Asked.{asked_in, numbers_in, order_in, request_shown, texts, work_in, work_of};
 ghost use Rattle.photofleet.specs.Asked.{workers_in, AsksRequest, IsRefusal};
 
-use crate::helps::{BATCHES, OVERVIEW, PLAIN, REPLAY, RUN};
+use crate::helps::{BATCHES, OVERVIEW, PLAIN, REPLAY, RUN, VERSION};
 use clap::error::ErrorKind;
 use clap::{Arg, ArgAction, ArgMatches, Command, value_parser};
 use fleet_runner::Workers;
@@ -131,6 +131,7 @@ pub fn command_line<'a>(alloc: Global) -> Result<Command<'a>, AllocError>
 {
     let command = Command::new(alloc, "photofleet")
         .about("Runs scripts of a photo collection")
+        .version(VERSION)
         .after_help(OVERVIEW)
         .subcommand_required(true)
         .subcommand(plain_command(alloc)?)?

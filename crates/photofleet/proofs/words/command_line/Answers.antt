@@ -9,10 +9,13 @@ use Rattle.photofleet.proofs.words.command_line.Goals as goal
 abbrev requiring : App → App
 requiring a = record a { top = record a.top { subcommand_required = true } }
 
+abbrev versioned : App → App
+versioned a = record a { top = record a.top { has_version = true } }
+
 pub returns : goal.returns
 returns c =
     let bare_is : app_of c.subcommand_required.result ≡ bare_program =
-    ap app_of_fields c.subcommand_required.ensures ∙ ap requiring (ap app_of_fields c.after_help.ensures ∙ (ap app_of_fields c.about.ensures ∙ c.new.ensures.app)) in
+    ap app_of_fields c.subcommand_required.ensures ∙ ap requiring (ap app_of_fields c.after_help.ensures ∙ (ap app_of_fields c.version.ensures ∙ ap versioned (ap app_of_fields c.about.ensures ∙ c.new.ensures.app))) in
     let plain_is : app_of c.in_ok-subcommand.field-0 ≡ with_subcommand bare_program plain_command.top =
     c.in_ok-subcommand.ensures.shape (no_globals _ plain_command c.in_ok-plain_command.ensures refl)
     ∙ ap₂ with_subcommand bare_is (ap (λ (a : App). a.top) c.in_ok-plain_command.ensures) in
