@@ -9,7 +9,7 @@ use Rattle.live_fleet.proofs.opening.opening_devices.Goals as goal
 pub loop-place-preserved : goal.loop-place-preserved
 loop-place-preserved c =
     let place = c.loop-place.place in
-    let device = c.in_ok-opening_device.result in
+    let device = c.in_ok-opening_device.field-0 in
     let filters = c.args.filters.now in
     let filter = c.index-filters-place.result in
     let read : slice_get filters place ≡ Some filter = slice_get_read filters (length filters) place filter refl c.loop-place-test.true c.index-filters-place.is in
