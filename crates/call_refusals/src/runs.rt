@@ -4,7 +4,8 @@ use crate::plans::LAWFUL;
 use crate::scripts::{FOUR_DEVICES, is_four, script_of};
 use crate::{devices, pulls};
 use fleet_steps::{
-    IssueLog, Outcome, RunError, no_reports, opening_device, opening_devices, replay, run_command, run_plain,
+    IssueLog, Outcome, RunError, no_reports, opening_device, opening_devices, replay, run_command,
+    run_plain,
 };
 use photo_device::{Device, Held, Place};
 use photo_pull::PullCounts;
@@ -109,7 +110,13 @@ fn makes_reports(alloc: Global) -> Option<bool> {
     let reports = no_reports(alloc, 70);
     mark(alloc);
     let reports = reports.ok()?;
-    Some(reports.len() == 70 && matches!((&reports[0], &reports[69]), (Report::NotHeld, Report::NotHeld)))
+    Some(
+        reports.len() == 70
+            && matches!(
+                (&reports[0], &reports[69]),
+                (Report::NotHeld, Report::NotHeld)
+            ),
+    )
 }
 
 /// The right answer for a run of the script of four devices. None where memory was wanted.

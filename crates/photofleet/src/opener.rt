@@ -2,10 +2,9 @@
 ghost use Rattle.std.specs.Prelude.{◌≡◌, ℕ, List, Option, Some, None, IfOk, IfSome};
 
 use photo_script::ScriptFault;
-use std::fs;
-use std::io;
 use std::io::Read;
 use std::rt::{Files, Stdin};
+use std::{fs, io};
 
 /// Gives the reader of a file that the command line names.
 pub trait Opener {

@@ -29,6 +29,7 @@ knows_none_of_its_own a counter knowledge other none star known = rw none record
   where
     another : same_author (author 0) a ≡ false
     another = ne_eqb 0 a.word (λ e. absurd (omega arith))
+
     after : (v : Version) → is_earlier_epoch a v.author ≡ true → same_author (author 0) v.author ≡ false
     after v later =
         let parts = and_parts (same_device a v.author) (author_before a v.author) later in
