@@ -1,0 +1,46 @@
+//! What the helps end with.
+
+/// The end of the program's help.
+pub const OVERVIEW: &str =
+    "Scripts are those of 'photofleet', whose 'photofleet plain --help' tells their lines.
+
+    fleet_view where my.script            a table: a line for each picture, a column for each device
+    fleet_view where my.script 3 7        the same of the pictures 3 and 7
+    fleet_view chart my.script > my.svg   the run as a picture, for a browser
+    fleet_view fault my.script            where the script's fault is, and how it is mended
+
+Exit status: 0 done, 2 refused words, 3 script fault, 4 no memory, 5 output not written.";
+
+/// The end of the help of `where`.
+pub const WHERE: &str =
+    "The script is run command by command. In a device's column stands of each current version
+
+  V      it is in the device's store
+  [V]    it waits in the device's out until another device takes it
+  ~V     the device knows of it and doesn't hold it
+  -V     the device never heard of it
+
+and V* or [V]* of a version that the device holds and that is superseded. Two versions that are
+current are in conflict, and have ! between them.
+
+Below stand the pictures in conflict, and each pull that would bring its target a version: one that
+its filter selects, or one that waits in the source's out, which stands in brackets.
+
+Exit status: 0 done, 2 refused words, 3 script fault, 4 no memory, 5 output not written.";
+
+/// The end of the help of `chart`.
+pub const CHART: &str =
+    "A lane for each device, with its filter; time runs from left to right, a column for each command. A
+dot is a version that was made, under its picture's number: filled in the store, hollow in the out.
+An arrow is a pull, with what was taken (t), handed over (h) and dropped (d). A cross is a refused
+command, a square another filter, a triangle a conflict, which lasts as long as the broad band.
+Each mark tells more where the mouse rests on it. Above 500 columns there are no texts in the lanes.
+
+Exit status: 0 done, 2 refused words, 3 script fault, 4 no memory, 5 output not written.";
+
+/// The end of the help of `fault`.
+pub const FAULT: &str =
+    "The fault is told as 'photofleet' tells it, on standard output. Of a line's fault follow the line, a
+caret under what is wrong, what may stand there, what is known of the cause, and how it is mended.
+
+Exit status: 0 no fault, 2 refused words, 3 a fault, which is told, 4 no memory, 5 output not written.";

@@ -1,0 +1,63 @@
+//! Shows scripts of a photo collection to people: where each picture is once a script has run, its run as a chart, and what
+//! is wrong with a script that is refused. What is shown comes from public calls of the libraries alone.
+#![tactic(auto)]
+
+mod cause;
+mod chart;
+mod drawing;
+mod escaping;
+mod events;
+mod fault_view;
+mod field_cause;
+mod filter_cause;
+mod helps;
+mod layout;
+mod lines;
+mod moves;
+mod names;
+mod playing;
+mod refusals;
+mod serve;
+mod source;
+mod standing;
+mod statuses;
+mod strife;
+mod style;
+mod table;
+mod whereabouts;
+mod word_cause;
+mod words;
+
+use refusals::without_words;
+use serve::serve;
+use statuses::without_memory;
+use std::alloc::Global;
+use std::env;
+use std::io::{self, BufWriter};
+use std::process::ExitCode;
+
+fn main(rt: HostRuntime) -> ExitCode {
+    ExitCode::from(status(&rt))
+}
+
+// The exit status of the program on the words of its command line. Output is gathered before it is written.
+fn status(rt: &HostRuntime) -> u8 {
+    let mut err = rt.stderr();
+    let words = match given_words(rt, rt.alloc()) {
+        Ok(words) => words,
+        Err(error) => return without_words(rt.alloc(), error.kind(), &mut err),
+    };
+    let Ok(mut out) = BufWriter::new(rt.alloc(), rt.stdout()) else {
+        return without_memory(&mut err);
+    };
+    serve(rt, rt.alloc(), words.as_slice(), &mut out, &mut err)
+}
+
+// The words of the command line, the program's name first.
+fn given_words(rt: &HostRuntime, alloc: Global) -> io::Result<Vec<String>> {
+    let mut words = Vec::new(alloc);
+    for word in env::args(rt)? {
+        words.push(word)?;
+    }
+    Ok(words)
+}

@@ -1,0 +1,38 @@
+//! The bytes of the files that the command line names, and their scripts.
+use fleet_steps::RunError;
+use photo_script::{MAX_TEXT_BYTES, Script, ScriptFault, read_script};
+use std::alloc::Global;
+use std::fs;
+use std::io::Read;
+use std::rt::Files;
+
+/// The script of a file.
+pub fn script_of<R: Files>(rt: &R, alloc: Global, file: &str) -> Result<Script, RunError> {
+    let bytes = read_bytes(rt, alloc, file).map_err(RunError::Script)?;
+    read_script(alloc, bytes.as_slice()).map_err(RunError::Script)
+}
+
+/// The bytes of a file, which are no more than a script may have.
+pub fn read_bytes<R: Files>(rt: &R, alloc: Global, file: &str) -> Result<Vec<u8>, ScriptFault> {
+    let Ok(mut source) = fs::open(rt, file) else {
+        return Err(ScriptFault::Read);
+    };
+    bytes_of(alloc, &mut source)
+}
+
+fn bytes_of<R: Read>(alloc: Global, reader: &mut R) -> Result<Vec<u8>, ScriptFault> {
+    let mut bytes = Vec::new(alloc);
+    let mut piece = [0u8; 4096];
+    while bytes.len() <= MAX_TEXT_BYTES {
+        let Ok(count) = reader.read(&mut piece) else {
+            return Err(ScriptFault::Read);
+        };
+        if count == 0 {
+            return Ok(bytes);
+        }
+        if bytes.extend_from_slice(&piece[..count]).is_err() {
+            return Err(ScriptFault::NoMemory);
+        }
+    }
+    Err(ScriptFault::TooLarge)
+}

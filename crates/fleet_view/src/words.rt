@@ -1,0 +1,144 @@
+//! The words of the command line, and what they ask for.
+use crate::helps::{CHART, FAULT, OVERVIEW, WHERE};
+use crate::layout::Columns;
+use clap::error::ErrorKind;
+use clap::{Arg, ArgAction, ArgMatches, Command, value_parser};
+use std::alloc::{AllocError, Global};
+use std::convert::AsStr;
+
+/// What a command line asks for: a view of the script of a file.
+#[derive(Drop)]
+pub struct Request<'a> {
+    pub file: &'a str,
+    pub view: View,
+}
+
+/// What is shown of a script.
+#[derive(Drop)]
+pub enum View {
+    /// Where those pictures are, or all where none is named.
+    Where(Vec<u32>),
+    /// A chart of its run.
+    Chart(Columns),
+    /// What is wrong with it.
+    Fault,
+}
+
+/// What the words ask for, which begin with the program's name, or why they are refused.
+pub fn request_of<'a, S: AsStr>(alloc: Global, words: &'a [S]) -> Result<Request<'a>, clap::Error> {
+    let mut command = command_line(alloc)?;
+    let matches = command.try_get_matches_from_mut(words)?;
+    match request_in(alloc, &matches)? {
+        Some(request) => Ok(request),
+        None => Err(command.error(ErrorKind::MissingSubcommand, "a command is missing")?),
+    }
+}
+
+// What was found on the command line.
+fn request_in<'a>(
+    alloc: Global,
+    matches: &ArgMatches<'a>,
+) -> Result<Option<Request<'a>>, AllocError> {
+    let Some((name, given)) = matches.subcommand() else {
+        return Ok(None);
+    };
+    let Some(file) = given.get_str("FILE") else {
+        return Ok(None);
+    };
+    match view_in(alloc, name, given)? {
+        Some(view) => Ok(Some(Request { file, view })),
+        None => Ok(None),
+    }
+}
+
+// What a command with its arguments shows.
+fn view_in(alloc: Global, name: &str, given: &ArgMatches<'_>) -> Result<Option<View>, AllocError> {
+    match name {
+        "where" => match pictures_in(alloc, given)? {
+            Some(pictures) => Ok(Some(View::Where(pictures))),
+            None => Ok(None),
+        },
+        "chart" => {
+            let columns = if given.get_flag("batches") {
+                Columns::Batches
+            } else {
+                Columns::Commands
+            };
+            Ok(Some(View::Chart(columns)))
+        }
+        "fault" => Ok(Some(View::Fault)),
+        _ => Ok(None),
+    }
+}
+
+// The pictures that are named, perhaps none.
+fn pictures_in(alloc: Global, given: &ArgMatches<'_>) -> Result<Option<Vec<u32>>, AllocError> {
+    let mut pictures = Vec::new(alloc);
+    let words: &[&str] = given.get_strs("PICTURE").unwrap_or(&[]);
+    for word in words {
+        let Ok(picture) = word.parse::<u32>() else {
+            return Ok(None);
+        };
+        pictures.push(picture)?;
+    }
+    Ok(Some(pictures))
+}
+
+/// The program's command line.
+pub fn command_line<'a>(alloc: Global) -> Result<Command<'a>, AllocError> {
+    let command = Command::new(alloc, "fleet_view")
+        .about("Shows where a script's pictures are, a chart of its run, or what is wrong with it")
+        .after_help(OVERVIEW)
+        .subcommand_required(true)
+        .subcommand(where_command(alloc)?)?
+        .subcommand(chart_command(alloc)?)?;
+    command.subcommand(fault_command(alloc)?)
+}
+
+// `where FILE [PICTURE]...`
+fn where_command<'a>(alloc: Global) -> Result<Command<'a>, AllocError> {
+    Command::new(alloc, "where")
+        .about("Tells where each picture is once the script has run")
+        .after_help(WHERE)
+        .arg(file_argument(alloc))?
+        .arg(picture_argument(alloc))
+}
+
+// `chart [--batches] FILE`
+fn chart_command<'a>(alloc: Global) -> Result<Command<'a>, AllocError> {
+    Command::new(alloc, "chart")
+        .about("Draws the script's run as an SVG")
+        .after_help(CHART)
+        .arg(batches_argument(alloc))?
+        .arg(file_argument(alloc))
+}
+
+// `fault FILE`
+fn fault_command<'a>(alloc: Global) -> Result<Command<'a>, AllocError> {
+    Command::new(alloc, "fault")
+        .about("Tells what is wrong with a script, where, and how it is mended")
+        .after_help(FAULT)
+        .arg(file_argument(alloc))
+}
+
+fn file_argument<'a>(alloc: Global) -> Arg<'a> {
+    Arg::new(alloc, "FILE")
+        .help("The file with the script")
+        .required(true)
+        .action(ArgAction::Set)
+}
+
+fn picture_argument<'a>(alloc: Global) -> Arg<'a> {
+    Arg::new(alloc, "PICTURE")
+        .help("The numbers of the pictures that are asked for; all where none is said")
+        .num_args(0..)
+        .value_parser(value_parser!(u32).range(1..=999_999_999))
+        .action(ArgAction::Append)
+}
+
+fn batches_argument<'a>(alloc: Global) -> Arg<'a> {
+    Arg::new(alloc, "batches")
+        .long("batches")
+        .help("A band for each batch, the commands that can run at once, and not for each command")
+        .action(ArgAction::SetTrue)
+}
