@@ -138,7 +138,7 @@ fn push_bands(
         Columns::Commands => ("command", 1),
         Columns::Batches => ("batch", 0),
     };
-    let x = u64::from(layout.left) - 8;
+    let x = layout.start() - 8;
     writeln!(
         text,
         "<text class=\"note end\" x=\"{x}\" y=\"28\">{word}</text>"
@@ -196,7 +196,7 @@ fn push_lane(
     layout: &Layout,
     place: u16,
 ) -> Result<(), AllocError> {
-    let (y, from, end) = (layout.y(place), layout.left, layout.end());
+    let (y, from, end) = (layout.y(place), layout.start(), layout.end());
     let name = device_name(script, place);
     writeln!(
         text,

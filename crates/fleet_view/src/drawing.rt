@@ -1,6 +1,4 @@
 //! What is drawn of a run, in two layers, and the marks that it is drawn with.
-ghost use Rattle.std.specs.Prelude.{◌≤◌};
-
 use crate::escaping::push_escaped;
 use crate::layout::Layout;
 use std::alloc::{AllocError, Global};
@@ -122,17 +120,20 @@ impl Drawing {
         Ok(())
     }
 
-    /// A text that begins at a spot and stands so far below or above its lane, where there is room for texts.
-    pub fn note(&mut self, spot: Spot, right: u64, line: u64, text: &str) -> Result<(), AllocError>
-        requires { line ≤ 60 }
-    {
+    /// A text that begins a little right of a spot, and stands below its lane but so far higher, where there is room for
+    /// texts.
+    pub fn note(
+        &mut self,
+        spot: Spot,
+        right: u16,
+        higher: u64,
+        text: &str,
+    ) -> Result<(), AllocError> {
         if !self.layout.labelled {
             return Ok(());
         }
-        let (x, y) = (
-            self.layout.x(spot.column) + right,
-            self.layout.y(spot.device) + 16 - line,
-        );
+        let x = self.layout.x(spot.column) + u64::from(right);
+        let y = (self.layout.y(spot.device) + 16).saturating_sub(higher);
         write!(self.above, "<text class=\"note\" x=\"{x}\" y=\"{y}\">")?;
         push_escaped(&mut self.above, text)?;
         self.above.push_str("</text>")?;

@@ -193,7 +193,7 @@ fn draw_pull(
         column: spot.column,
         device: spot.device.max(source),
     };
-    let mut line = 58;
+    let mut line = 58u64;
     for (letter, count) in [
         ("t", counts.taken),
         ("h", counts.handed),
@@ -202,7 +202,7 @@ fn draw_pull(
         if count > 0 {
             let label = format!(in drawing.alloc; "{letter}{count}")?;
             drawing.note(lower, 5, line, label.as_str())?;
-            line -= 12;
+            line = line.saturating_sub(12);
         }
     }
     if line == 58 {

@@ -1,5 +1,5 @@
 //! Where in the chart what stands: columns from left to right, a lane for each device from top to bottom.
-ghost use Rattle.std.specs.Prelude.{◌≡◌, ◌+◌, ◌*◌, ◌<◌};
+ghost use Rattle.std.specs.Prelude.{◌≡◌, ◌+◌, ◌*◌, ◌≤◌};
 
 use photo_batcher::{Plan, plan};
 use photo_script::{Command, Script, devices_of};
@@ -104,9 +104,11 @@ pub struct Layout {
     pub labelled: bool,
 }
 
+// The least room at the left, and the widest that all columns together may be.
+const LEAST: u64 = 20;
+const WIDEST: u64 = 1_000_000_000;
 // The first lane, and from a lane to the next.
 const TOP: u64 = 84;
-
 const LANE: u64 = 74;
 // Below the last lane: room for what is said of it and for the legend.
 const BOTTOM: u64 = 110;
@@ -116,28 +118,41 @@ const LEGEND: u64 = 880;
 const RIGHT: u64 = 40;
 
 impl Layout {
-    /// The middle of a column.
-    pub fn x(&self, column: u32) -> u64
-        ensures { result ≡ self.now.left + self.now.step * column + self.now.step / 2 }
+    /// Where the lanes begin.
+    pub fn start(&self) -> u64
+        ensures least { 20 ≤ result }
+        ensures most { result ≤ 65_535 }
     {
-        u64::from(self.left) + u64::from(self.step) * u64::from(column) + u64::from(self.step / 2)
+        u64::from(self.left).max(LEAST)
     }
 
     /// Where a column begins.
     pub fn edge(&self, column: u32) -> u64
-        ensures { result ≡ self.now.left + self.now.step * column }
+        ensures least { 20 ≤ result }
+        ensures most { result ≤ 1_000_065_535 }
     {
-        u64::from(self.left) + u64::from(self.step) * u64::from(column)
+        let before = u64::from(self.step).saturating_mul(u64::from(column));
+        self.start() + before.min(WIDEST)
+    }
+
+    /// The middle of a column.
+    pub fn x(&self, column: u32) -> u64
+        ensures least { 20 ≤ result }
+        ensures most { result ≤ 1_000_131_070 }
+    {
+        self.edge(column) + u64::from(self.step / 2)
     }
 
     /// Where the lanes end.
-    pub fn end(&self) -> u64 {
+    pub fn end(&self) -> u64
+        ensures { result ≤ 1_000_065_535 }
+    {
         self.edge(self.columns)
     }
 
     /// The lane of a device.
     pub fn y(&self, device: u16) -> u64
-        ensures { result ≡ TOP + LANE * device }
+        ensures { result ≡ 84 + 74 * device }
     {
         TOP + LANE * u64::from(device)
     }
@@ -153,7 +168,9 @@ impl Layout {
     }
 
     /// Where the legend stands.
-    pub fn legend(&self) -> u64 {
+    pub fn legend(&self) -> u64
+        ensures { 60 ≤ result }
+    {
         TOP + LANE * u64::from(self.lanes) + 50 - LANE
     }
 }

@@ -2,17 +2,12 @@
 //! is wrong with a script that is refused. What is shown comes from public calls of the libraries alone.
 #![tactic(auto)]
 
-mod cause;
 mod chart;
 mod drawing;
 mod escaping;
 mod events;
-mod fault_view;
-mod field_cause;
-mod filter_cause;
 mod helps;
 mod layout;
-mod lines;
 mod moves;
 mod names;
 mod playing;
@@ -25,7 +20,6 @@ mod strife;
 mod style;
 mod table;
 mod whereabouts;
-mod word_cause;
 mod words;
 
 use refusals::without_words;

@@ -2,7 +2,6 @@
 ghost use Rattle.std.specs.Prelude.{◌≡◌, ◌⊎◌};
 
 use crate::chart::chart;
-use crate::fault_view::{NO_FAULT, fault_view};
 use crate::refusals::refused;
 use crate::source::{read_bytes, script_of};
 use crate::statuses::{BAD_SCRIPT, DONE, status_of};
@@ -10,10 +9,14 @@ use crate::whereabouts::whereabouts;
 use crate::words::{Request, View, request_of};
 use fleet_steps::RunError;
 use photo_script::{Script, ScriptFault, read_script};
+use script_faults::fault_view;
 use std::alloc::{AllocError, Global};
 use std::convert::AsStr;
 use std::io::Write;
 use std::rt::Files;
+
+// What is told of a script that has no fault.
+const NO_FAULT: &str = "no fault: it is a script\n";
 
 /// Does what a command line asks for, and gives the exit status. `words` begins with the program's name.
 ///
@@ -63,7 +66,7 @@ fn view_of(alloc: Global, script: &Script, view: &View) -> Result<String, AllocE
     }
 }
 
-// Writes a script's fault, or that it has none, and gives the status.
+// Writes a script's fault, or that it has none, and gives the status. Want of memory is told as that of any command.
 fn tell_fault<R: Files, W: Write>(
     rt: &R,
     alloc: Global,
@@ -89,6 +92,9 @@ fn write_fault<W: Write>(
     fault: ScriptFault,
     out: &mut W,
 ) -> Result<u8, RunError> {
+    if fault == ScriptFault::NoMemory {
+        return Err(RunError::Script(fault));
+    }
     let Ok(text) = fault_view(alloc, bytes, fault) else {
         return Err(RunError::NoMemory);
     };

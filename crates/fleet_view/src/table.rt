@@ -80,8 +80,8 @@ pub fn missing(cell: &str, width: usize) -> usize
     width.saturating_sub(cell.width())
 }
 
-/// Puts so many spaces behind a text.
-pub fn push_spaces(text: &mut String, count: usize) -> Result<(), AllocError> {
+// Puts so many spaces behind a text.
+fn push_spaces(text: &mut String, count: usize) -> Result<(), AllocError> {
     for _ in 0..count {
         text.push_str(" ")?;
     }

@@ -1,9 +1,8 @@
-//! The text of `fault`: what is wrong with a script, where, and how it is mended.
+//! The text that tells a fault: what is wrong with a script, where, and how it is mended.
 use crate::cause::Cause;
 use crate::field_cause as causes;
 use crate::filter_cause::bad_filter;
 use crate::lines::{Line, Span};
-use crate::table::push_spaces;
 use photo_script::{LineFault, ScriptFault};
 use std::alloc::{AllocError, Global};
 use std::str::from_utf8;
@@ -11,9 +10,6 @@ use unicode_width::UnicodeWidthStr;
 
 // The most bytes that are shown of a line.
 const SHOWN: usize = 1024;
-
-/// What is told of a script that has no fault.
-pub const NO_FAULT: &str = "no fault: it is a script\n";
 
 /// The text that tells the fault of a script's bytes, which were read as far as they could be.
 pub fn fault_view(alloc: Global, bytes: &[u8], fault: ScriptFault) -> Result<String, AllocError> {
@@ -136,4 +132,12 @@ fn shown(alloc: Global, text: &str) -> Result<String, AllocError> {
         shown.push(if c.is_control() { '\u{fffd}' } else { c })?;
     }
     Ok(shown)
+}
+
+// Puts so many spaces behind a text.
+fn push_spaces(text: &mut String, count: usize) -> Result<(), AllocError> {
+    for _ in 0..count {
+        text.push_str(" ")?;
+    }
+    Ok(())
 }
