@@ -48,19 +48,21 @@ impl Strife {
             column,
             device: place,
         };
+        let i = usize::from(place);
+        let (Some(device), Some(before)) = (fleet.devices().get(i), self.since.get(i)) else {
+            return Ok(());
+        };
         if !is_change(command) {
             return Ok(());
         }
-        if let (Some(device), Some(since)) = (
-            fleet.devices().get(usize::from(place)),
-            self.since.get_mut(usize::from(place)),
-        ) {
-            let conflicts = device.conflicts()?;
-            let before = since.map_or(0, |known| known.pictures);
-            if conflicts.len() > before {
-                draw_alarm(drawing, script, spot, number, &conflicts)?;
-            }
-            *since = later(drawing, spot, *since, conflicts.len())?;
+        let before = *before;
+        let conflicts = device.conflicts()?;
+        if conflicts.len() > before.map_or(0, |known| known.pictures) {
+            draw_alarm(drawing, script, spot, number, &conflicts)?;
+        }
+        let now = later(drawing, spot, before, conflicts.len())?;
+        if let Some(since) = self.since.get_mut(i) {
+            *since = now;
         }
         Ok(())
     }

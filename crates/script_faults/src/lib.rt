@@ -3,10 +3,10 @@
 #![tactic(auto)]
 
 mod cause;
-mod fault_view;
 mod field_cause;
 mod filter_cause;
 mod lines;
+mod telling;
 mod word_cause;
 
-pub use fault_view::fault_view;
+pub use telling::fault_view;
