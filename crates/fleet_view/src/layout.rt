@@ -106,9 +106,11 @@ pub struct Layout {
 
 // The least room at the left, and the widest that all columns together may be.
 const LEAST: u64 = 20;
+
 const WIDEST: u64 = 1_000_000_000;
 // The first lane, and from a lane to the next.
 const TOP: u64 = 84;
+
 const LANE: u64 = 74;
 // Below the last lane: room for what is said of it and for the legend.
 const BOTTOM: u64 = 110;
