@@ -69,15 +69,11 @@ impl Strife {
 
     /// Draws the bands of the conflicts that are left at the end.
     pub fn finish(&self, drawing: &mut Drawing) -> Result<(), AllocError> {
-        let end = drawing.layout.columns;
+        let layout = drawing.layout;
+        let end = layout.end();
         for (place, since) in self.since.iter().enumerate() {
             if let Some(known) = since {
-                draw_band(
-                    drawing,
-                    place as u64,
-                    known.column,
-                    drawing.layout.edge(end),
-                )?;
+                draw_band(drawing, place as u64, known.column, end)?;
             }
         }
         Ok(())
