@@ -1,0 +1,3 @@
+mod Texts
+mod Loosed
+mod Handles

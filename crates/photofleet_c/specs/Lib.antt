@@ -1,0 +1,5 @@
+pub mod Placed
+pub mod Printed
+pub mod Statuses
+pub mod Sessions
+pub mod Kept
