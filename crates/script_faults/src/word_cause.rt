@@ -73,12 +73,13 @@ fn is_repeated(
     word: &Word,
 ) -> Result<bool, AllocError> {
     for piece in pieces {
-        if piece.from < from {
-            if let Ok(other) = Word::read(alloc, line.at(*piece)) {
-                if other.text() == word.text() {
-                    return Ok(true);
-                }
-            }
+        if piece.from >= from {
+            continue;
+        }
+        match Word::read(alloc, line.at(*piece)) {
+            Ok(other) if other.text() == word.text() => return Ok(true),
+            Err(WordFault::NoMemory) => return Err(AllocError),
+            _ => {}
         }
     }
     Ok(false)
