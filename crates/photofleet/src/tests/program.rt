@@ -348,7 +348,8 @@ fn is_told_unflushed<T: Threads + Wait + Copy + Send + 'static>(
 }
 
 const HELPS: &[(&[&str], &str)] = &[
-    (&["photofleet", "--help"], "to the same reports.\n"),
+    (&["photofleet", "--help"], "is standard input.\n"),
+    (&["photofleet", "--version"], "photofleet 1.0.0\n"),
     (&["photofleet", "plain", "--help"], "plain my.script'.\n"),
     (
         &["photofleet", "run", "--help"],
