@@ -9,6 +9,9 @@ use crate::index::IndexEntry;
 // How many places one goes forward from a hint before the whole index is searched.
 const STEPS: usize = 32;
 
+// What the number of a device is multiplied by in its author's word.
+pub(crate) const EPOCHS: u64 = 4_294_967_296;
+
 /// The number of the fragment to which an index leads from a picture, 0 for the star, and the place in the index at which
 /// the picture stands or would stand.
 pub(crate) fn number_at(index: &[IndexEntry], picture: u32) -> (usize, usize)
@@ -113,8 +116,8 @@ pub(crate) fn bound_at(row: &[u64], author: u64) -> u64
     requires order { in_order (pairs row.now) ≡ true }
     ensures { result ≡ bound (pairs row.now) author }
 {
-    // Devices are numbered from 0, so where each before it has an entry too, an author's stands at its own number.
-    if let Some(n) = bound_there(row, author as usize, author) {
+    // Where each device before it has one entry, an author's stands at its device's number.
+    if let Some(n) = bound_there(row, (author / EPOCHS) as usize, author) {
         return n;
     }
     let mut i = 0;

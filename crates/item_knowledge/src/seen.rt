@@ -7,15 +7,12 @@ ghost use Rattle.item_knowledge.specs.Seen as spec;
 ghost use Rattle.item_knowledge.specs.Tables.{in_order};
 
 use crate::rows::Rows;
-use crate::search::{bound_at, entry_at};
+use crate::search::{EPOCHS, bound_at, entry_at};
 use crate::union::entries;
 use std::alloc::{AllocError, Global};
 
 // So many numbers have words of their own; those behind them come round again.
 const PERIOD: u64 = 8192;
-
-// What the number of a device is multiplied by in its author's word.
-const EPOCHS: u64 = 4_294_967_296;
 
 /// Marks of the bounds that stand in rows: a bound without a mark stands in none of them. One with a mark may stand in none as
 /// well, since marks stay, and are shared.

@@ -28,6 +28,12 @@ partitioned a (b ∷ bs) h zero (suc j) d le l p =
 partitioned a (b ∷ bs) h (suc i) zero d le l p = absurd (omega arith)
 partitioned a (b ∷ bs) h (suc i) (suc j) d le l p = partitioned a bs (vector_parts b bs h).rest i j d (omega arith) (omega arith) p
 
+in_order_at : (bs : List Bound) (j k : ℕ) (d e : Bound) → is_vector bs ≡ true → j < k → k < length bs → author_before (get_or bs j d).0 (get_or bs k e).0 ≡ true
+in_order_at [] j k d e h less l = absurd (omega arith)
+in_order_at (b ∷ bs) j zero d e h less l = absurd (omega arith)
+in_order_at (b ∷ bs) zero (suc k) d e h less l = above_at b.0 bs k e (vector_parts b bs h).above (omega arith)
+in_order_at (b ∷ bs) (suc j) (suc k) d e h less l = in_order_at bs j k d e (vector_parts b bs h).rest (omega arith) (omega arith)
+
 -- what stands before the place of the author is of no matter
 denotes-from : (bs : List Bound) (n : ℕ) (v : Version) → n ≤ length bs → ((k : ℕ) (d : Bound) → k < n → author_before (get_or bs k d).0 v.author ≡ true) → denotes bs v ≡ denotes (drop n bs) v
 denotes-from bs zero v l f = refl
@@ -68,12 +74,15 @@ or_none : (t : Bool) → (t || false) ≡ t
 or_none true = refl
 or_none false = refl
 
-pub number_here : (bs : List Bound) (n : ℕ) (d : Bound) (v : Version) → IsPlace v.author bs n → n < length bs → same_author (get_or bs n d).0 v.author ≡ true → 0 < v.number → denotes bs v ≡ leb v.number (get_or bs n d).1
-number_here bs n d v p l s positive =
+-- a bound of the author tells it
+pub number_here : (bs : List Bound) (n : ℕ) (d : Bound) (v : Version) → is_vector bs ≡ true → n < length bs → same_author (get_or bs n d).0 v.author ≡ true → 0 < v.number → denotes bs v ≡ leb v.number (get_or bs n d).1
+number_here bs n d v h l s positive =
     let b = get_or bs n d in
-    let parts = vector_parts b (drop (n + 1) bs) (subst (λ zs. is_vector zs ≡ true) (drop_more bs n d l) (vector_left bs n p.vector)) in
-    let none = denotes-above (drop (n + 1) bs) v (subst (λ a. is_above a (drop (n + 1) bs) ≡ true) (same_is b.0 v.author s) parts.above) in
-    denotes-from bs n v p.within p.before
+    let author = same_is b.0 v.author s in
+    let before : (k : ℕ) (e : Bound) → k < n → author_before (get_or bs k e).0 v.author ≡ true = λ k e less. subst (λ a. author_before (get_or bs k e).0 a ≡ true) author (in_order_at bs k n e d h less l) in
+    let parts = vector_parts b (drop (n + 1) bs) (subst (λ zs. is_vector zs ≡ true) (drop_more bs n d l) (vector_left bs n h)) in
+    let none = denotes-above (drop (n + 1) bs) v (subst (λ a. is_above a (drop (n + 1) bs) ≡ true) author parts.above) in
+    denotes-from bs n v (omega arith) before
     ∙ (ap (λ zs. denotes zs v) (drop_more bs n d l)
     ∙ rw (s, le-leb 1 v.number (omega arith), none) (or_none (leb v.number b.1)))
 

@@ -1,5 +1,5 @@
 // Vectors as slices of their bounds, in the order of their authors.
-ghost use Rattle.std.specs.Prelude.{◌≡◌, ◌++◌, true, ◌<◌, drop, IfOk, OnOk};
+ghost use Rattle.std.specs.Prelude.{◌≡◌, ◌++◌, true, ◌<◌, drop, IfOk, IfSome, OnOk};
 ghost use Rattle.photo_version.specs.Version.{Version};
 ghost use Rattle.photo_version.specs.Vector as spec;
 
@@ -9,12 +9,31 @@ use std::alloc::{AllocError, Global};
 /// The last version of an author that is in a vector, by its number.
 pub type Bound = (Author, u32);
 
+// Whether the version is among those that the bounds denote, where the bound of its author stands at that place.
+fn has_there(bounds: &[Bound], place: usize, version: Version) -> Option<bool>
+    requires { spec.is_vector bounds.now ≡ true }
+    ensures { IfSome result (λ is. is ≡ spec.denotes bounds.now version) }
+{
+    if place >= bounds.len() {
+        return None;
+    }
+    let bound = bounds[place];
+    if bound.0 != version.author() {
+        return None;
+    }
+    Some(version.n() <= bound.1)
+}
+
 /// Whether the version is among those that the bounds denote.
 pub fn has(bounds: &[Bound], version: Version) -> bool
     requires { spec.is_vector bounds.now ≡ true }
     ensures { result ≡ spec.denotes bounds.now version }
 {
     let author = version.author();
+    // Where each device before it has one bound, an author's stands at its device's number.
+    if let Some(is) = has_there(bounds, author.value() as usize, version) {
+        return is;
+    }
     let place = bounds.partition_point(|b| b.0 < author);
     if place == bounds.len() {
         return false;
