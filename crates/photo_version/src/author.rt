@@ -19,8 +19,9 @@ const EPOCHS: u64 = 4_294_967_296;
 /// are ordered by device, then epoch.
 #[derive(Clone, Copy, Debug)]
 pub struct Author {
-    device: u16,
     epoch: u32,
+    // Below 65,536. It is as wide as the epoch, so that an author lies in memory as its word.
+    device: u32,
 }
 
 impl Model for Author {
@@ -32,11 +33,11 @@ impl Model for Author {
 
     ghost view = { λ a. spec.author_at a.device a.epoch };
 
-    ghost invariant = { λ a. a.epoch < 4294967296 };
+    ghost invariant = { λ a. (a.device < 65536) × (a.epoch < 4294967296) };
 
     ghost inverse = { λ a. record { device = spec.device_of_author a; epoch = spec.epoch_of_author a } };
 
-    ghost inverse_ok = { λ a h i. record { device = device_back a.device a.epoch h i; epoch = epoch_back a.device a.epoch h i } };
+    ghost inverse_ok = { λ a h i. record { device = device_back a.device a.epoch h.1 i; epoch = epoch_back a.device a.epoch h.1 i } };
 }
 
 impl Author {
@@ -47,21 +48,24 @@ impl Author {
     pub fn new(device: u16) -> Author
         ensures { result ≡ author device }
     {
-        Author { device, epoch: 0 }
+        Author::at(device, 0)
     }
 
     /// The author that stands for the device of that number in that epoch.
     pub fn at(device: u16, epoch: u32) -> Author
         ensures { result ≡ author_at device epoch }
     {
-        Author { device, epoch }
+        Author {
+            epoch,
+            device: u32::from(device),
+        }
     }
 
     /// The number of the device.
     pub fn value(&self) -> u16
         ensures { result ≡ device_of_author self.now }
     {
-        self.device
+        self.device as u16
     }
 
     /// The epoch of the device, from 0.
@@ -77,8 +81,8 @@ impl Author {
     {
         let epoch = self.epoch.checked_add(1)?;
         Some(Author {
-            device: self.device,
             epoch,
+            device: self.device,
         })
     }
 
@@ -96,8 +100,8 @@ impl Author {
         ensures { result ≡ author_of_word word }
     {
         Author {
-            device: (word / EPOCHS) as u16,
             epoch: (word % EPOCHS) as u32,
+            device: (word / EPOCHS) as u32,
         }
     }
 }
