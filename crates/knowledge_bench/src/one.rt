@@ -13,15 +13,30 @@ use std::alloc::{AllocError, Global};
 /// The author of what is learned later.
 pub const LATER: u16 = 7;
 
-/// A knowledge, one that knows the same, and one that knows other versions of the same pictures; what the first was told;
-/// and what came of the last work, which is kept until the next, as a device keeps what it knows.
+/// A knowledge, one that knows the same, and one that knows other versions of the same pictures.
+#[derive(Drop)]
+struct Sides {
+    left: Knowledge,
+    same: Knowledge,
+    right: Knowledge,
+}
+
+impl Sides {
+    fn new(alloc: Global, n: u32) -> Result<Sides, AllocError> {
+        let left = of_table(alloc, 1, n)?;
+        let same = of_table(alloc, 1, n)?;
+        let right = of_table(alloc, 2, n)?;
+        Ok(Sides { left, same, right })
+    }
+}
+
+/// Knowledges to work with; what the first of them was told; and what came of the last work, which is kept until the next, as
+/// a device keeps what it knows.
 #[derive(Drop)]
 pub struct Workpiece {
     alloc: Global,
     told: Vec<(PicNo, Vector)>,
-    left: Knowledge,
-    same: Knowledge,
-    right: Knowledge,
+    sides: Sides,
     worked: Knowledge,
     ghost in_order: { in_order told.items ≡ true },
 }
@@ -29,16 +44,13 @@ pub struct Workpiece {
 impl Workpiece {
     pub fn new(alloc: Global, n: u32) -> Result<Workpiece, AllocError> {
         let told = table(alloc, 1, n)?;
-        let left = of_table(alloc, 1, n)?;
-        let same = of_table(alloc, 1, n)?;
-        let right = of_table(alloc, 2, n)?;
+        let sides = Sides::new(alloc, n)?;
+        let worked = Knowledge::new(alloc)?;
         Ok(Workpiece {
             alloc,
             told,
-            left,
-            same,
-            right,
-            worked: Knowledge::new(alloc)?,
+            sides,
+            worked,
         })
     }
 
@@ -55,7 +67,7 @@ impl Workpiece {
     }
 
     fn try_clone(&mut self) -> Result<(), AllocError> {
-        self.worked = self.left.try_clone()?;
+        self.worked = self.sides.left.try_clone()?;
         Ok(())
     }
 
@@ -65,12 +77,12 @@ impl Workpiece {
     }
 
     fn learn_all(&mut self) -> Result<(), AllocError> {
-        self.worked = self.left.try_clone()?;
-        self.worked.learn_all(&self.right)
+        self.worked = self.sides.left.try_clone()?;
+        self.worked.learn_all(&self.sides.right)
     }
 
     fn learn_all_again(&mut self) -> Result<(), AllocError> {
-        self.left.learn_all(&self.same)
+        self.sides.left.learn_all(&self.sides.same)
     }
 }
 

@@ -1,4 +1,6 @@
 //! The kinds of work, by their lines.
+ghost use Rattle.std.specs.Prelude.{◌<◌};
+
 use crate::one::{Growing, LATER, Workpiece};
 use crate::table::{of_table, version};
 use item_knowledge::Knowledge;
@@ -61,20 +63,46 @@ fn learn_own(alloc: Global, n: u32, times: u32) -> Result<u64, AllocError> {
     Ok(all.len() as u64)
 }
 
+// Knowledges that know the same, as many as have the pictures of a round together.
+fn of_round(alloc: Global, n: u32) -> Result<Vec<Knowledge>, AllocError> {
+    let mut all = Vec::new(alloc);
+    for _ in 0..PICTURES / n.max(1) {
+        all.push(of_table(alloc, 1, n)?)?;
+    }
+    Ok(all)
+}
+
+// The version of the later author that stands behind so many.
+fn next(alloc: Global, i: u32) -> Result<Vector, AllocError>
+    requires { i < 4_294_967_295 }
+{
+    Vector::new(alloc).with(version(LATER, i + 1))
+}
+
+// Each of some knowledges learns a vector of a picture.
+fn learn_each(all: &mut [Knowledge], picture: PicNo, vector: &Vector) -> Result<(), AllocError> {
+    for one in all {
+        one.learn(picture, vector)?;
+    }
+    Ok(())
+}
+
+// Each of some knowledges learns all of another one.
+fn learn_all_of(all: &mut [Knowledge], other: &Knowledge) -> Result<(), AllocError> {
+    for one in all {
+        one.learn_all(other)?;
+    }
+    Ok(())
+}
+
 // Each of some knowledges learns of one picture one version more, in each of so many rounds.
 fn learn(alloc: Global, n: u32, times: u32) -> Result<u64, AllocError> {
     let Some(picture) = PicNo::new(n / 2 + 1) else {
         return Ok(0);
     };
-    let mut all = Vec::new(alloc);
-    for _ in 0..PICTURES / n.max(1) {
-        all.push(of_table(alloc, 1, n)?)?;
-    }
+    let mut all = of_round(alloc, n)?;
     for i in 0..times {
-        let vector = Vector::new(alloc).with(version(LATER, i + 1))?;
-        for one in &mut all {
-            one.learn(picture, &vector)?;
-        }
+        learn_each(&mut all, picture, &next(alloc, i)?)?;
     }
     Ok(all.len() as u64)
 }
@@ -85,16 +113,10 @@ fn learn_few(alloc: Global, n: u32, times: u32) -> Result<u64, AllocError> {
         return Ok(0);
     };
     let mut other = of_table(alloc, 1, n)?;
-    let mut all = Vec::new(alloc);
-    for _ in 0..PICTURES / n.max(1) {
-        all.push(of_table(alloc, 1, n)?)?;
-    }
+    let mut all = of_round(alloc, n)?;
     for i in 0..times {
-        let vector = Vector::new(alloc).with(version(LATER, i + 1))?;
-        other.learn(picture, &vector)?;
-        for one in &mut all {
-            one.learn_all(&other)?;
-        }
+        other.learn(picture, &next(alloc, i)?)?;
+        learn_all_of(&mut all, &other)?;
     }
     Ok(all.len() as u64)
 }
@@ -102,15 +124,10 @@ fn learn_few(alloc: Global, n: u32, times: u32) -> Result<u64, AllocError> {
 // The same, where the other one learns the next version of an author of every picture.
 fn learn_risen(alloc: Global, n: u32, times: u32) -> Result<u64, AllocError> {
     let mut other = Growing::new(alloc, n)?;
-    let mut all = Vec::new(alloc);
-    for _ in 0..PICTURES / n.max(1) {
-        all.push(of_table(alloc, 1, n)?)?;
-    }
+    let mut all = of_round(alloc, n)?;
     for _ in 0..times {
         other.learn_own()?;
-        for one in &mut all {
-            one.learn_all(other.knowledge())?;
-        }
+        learn_all_of(&mut all, other.knowledge())?;
     }
     Ok(all.len() as u64)
 }
