@@ -3,26 +3,28 @@
 
     tools/compare-c.py LIBRARY PROGRAM EXAMPLES
 
-The scripts are the examples, a script of the greatest size and one a byte larger, and drawn ones: 10,000, or as many as end
-within a minute. The last line is 'N passed, M failed'.
+The scripts are the examples, a script of the greatest size and one a byte larger, and 10,000 drawn ones of up to 40 commands,
+of which every fifth is given a line with a fault, a further byte or declarations above the limit. Among what is told of these
+have to be each report, each answer and each fault of a text. The last line is 'N passed, M failed'.
 """
 import ctypes
 import glob
 import random
+import re
 import subprocess
 import sys
-import time
 
 LIBRARY, PROGRAM, EXAMPLES = ctypes.CDLL(sys.argv[1]), sys.argv[2], sys.argv[3]
 LIBRARY.photofleet_plain.argtypes = [ctypes.c_char_p, ctypes.c_size_t, ctypes.c_char_p, ctypes.c_size_t, ctypes.POINTER(ctypes.c_size_t)]
 LIBRARY.photofleet_plain.restype = ctypes.c_uint8
 LIMIT = 8_388_608
 TOO_SMALL = 5
+SCRIPTS = 10_000
 
 
 def called(script):
     """Returns the status and the text of the library's call."""
-    written = ctypes.c_size_t(1 << 16)
+    written = ctypes.c_size_t(1 << 14)
     while True:
         out = ctypes.create_string_buffer(max(written.value, 1))
         status = LIBRARY.photofleet_plain(script, len(script), out, len(out), ctypes.byref(written))
@@ -36,21 +38,38 @@ def run(script):
     return done.returncode, done.stdout + done.stderr
 
 
-FILTERS = ["all", "none", "rating >= 3", "rating <= 2", "rating >= 1 and keyword sea", "day >= 2024-05-02", "keyword sea or keyword wood",
-           "not keyword private", "rating = 4 and not (day <= 2024-05-01)"]
 NAMES = ["cam", "hall", "desk", "attic"]
-WORDS = ["-", "sea", "wood,sea", "private", "beach,sea,wood"]
+TESTS = ["all", "none", "rating >= 3", "rating <= 2", "rating = 4", "day >= 2024-05-02", "day <= 2024-05-01", "keyword sea", "keyword private",
+         "keyword cafe\u0301"]
+SHAPES = ["{}", "{}", "not {}", "{} and {}", "{} or {}", "{} and not ({} or {})", "not ({} and {}) or {}"]
+WORDS = ["-", "sea", "wood,sea", "private", "beach,sea,wood", "caf\u00e9", "cafe\u0301,sea"]
+KINDS = ["new", "new", "edit", "edit", "remove", "pull", "pull", "pull", "pull", "pull", "narrow", "refilter", "preview", "list", "conflicts",
+         "knowledge", "knows", "knows", "# remark", ""]
+FAULTS = ["take cam", "pull\tcam hall", "new cam 70 5 2024-05-03", "new cam 70 5 2024-05-03 sea, wood", "list", "list cam hall", "narrow cam",
+          "device Attic all", "device 9 all", "list roof", "pull cam roof", "knows cam 7 roof:1", "device cam none", "device more all",
+          "new cam 007 5 2024-05-03 -", "edit cam 1000000000 5 2024-05-03 -", "remove cam x", "knows cam 7 cam", "knows cam 7 cam.0:1",
+          "knows cam 7 cam:100001", "new cam 70 6 2024-05-03 -", "edit cam 7 -1 2024-05-03 -", "new cam 70 5 2024-5-3 -",
+          "edit cam 7 5 2023-02-29 -", "new cam 70 5 2024-05-03 sea,sea", "edit cam 7 5 2024-05-03 sea,", "narrow cam rating>=5",
+          "refilter cam (all", "refilter cam keyword", "device more rating > 3", "new cam 70 5 2024-05-03 -\nnew cam 70 5 2024-05-03 -",
+          "pull cam cam", "preview cam cam", "#" * 1025]
+TOLD = {"made", "list", "narrowed", "refiltered", "pulled", "preview", "conflicts", "knowledge", "knows yes", "knows no", "refused C1 NotHeld",
+        "refused C2 NotNarrower"}
+REFUSED = {f"F{number}" for number in (*range(3, 18), 19)}
+
+
+def filter_of(draws):
+    return draws.choice(SHAPES).format(*draws.choices(TESTS, k=3))
 
 
 def drawn(draws):
     """A script of some devices and commands, of which few have a fault."""
     names = NAMES[:draws.randint(1, 4)]
-    lines = [f"device {name} {draws.choice(FILTERS)}" for name in names]
+    filters = {name: filter_of(draws) for name in names}
+    lines = [f"device {name} {text}" for name, text in filters.items()]
     made = 0
-    for _ in range(draws.randint(0, 30)):
-        kind = draws.choice(["new", "new", "edit", "edit", "remove", "pull", "pull", "pull", "pull", "narrow", "refilter", "preview", "list",
-                             "conflicts", "knowledge", "knows"])
-        one, picture = draws.choice(names), draws.randint(1, 6)
+    for _ in range(draws.randint(0, 40)):
+        kind = draws.choice(KINDS)
+        one, picture = draws.choice(names), draws.randint(1, 8)
         other = draws.choice([name for name in names if name != one] or names)
         said = f"{draws.randint(0, 5)} 2024-05-0{draws.randint(1, 3)} {draws.choice(WORDS)}"
         if kind == "new":
@@ -59,19 +78,25 @@ def drawn(draws):
         elif kind == "edit":
             lines.append(f"edit {one} {picture} {said}")
         elif kind == "remove":
-            lines.append(f"remove {one} {picture}")
-        elif kind in ("pull", "preview") and other != one:
-            lines.append(f"{kind} {one} {other}")
-        elif kind in ("narrow", "refilter"):
-            lines.append(f"{kind} {one} {draws.choice(FILTERS)}")
-        elif kind in ("list", "conflicts", "knowledge"):
-            lines.append(f"{kind} {one}")
+            lines.append(f"remove {one}   {picture} ")
+        elif kind in ("pull", "preview"):
+            lines += [f"{kind} {one} {other}"] if other != one else []
+        elif kind == "narrow":
+            lines.append(f"narrow {one} {draws.choice([f'({filters[one]}) and ', ''])}{draws.choice(TESTS)}")
+        elif kind == "refilter":
+            filters[one] = filter_of(draws)
+            lines.append(f"refilter {one} {filters[one]}")
         elif kind == "knows":
-            lines.append(f"knows {one} {picture} {other}:{draws.randint(1, 4)}")
-    if draws.random() < 0.1:
-        lines.insert(draws.randint(0, len(lines)), draws.choice(["take cam", "device cam all", "list roof", "new cam 0 9 x -", "# a remark", ""]))
-    text = "\n".join(lines).encode()
-    if draws.random() < 0.03:
+            lines.append(f"knows {one} {picture} {other}{draws.choice(['', '', '.1', '.2'])}:{draws.randint(1, 4)}")
+        else:
+            lines.append(f"{kind} {one}" if kind.isalpha() else kind)
+    fault = draws.random()
+    if fault < 0.17:
+        lines.insert(draws.choice([len(names), draws.randint(0, len(lines))]), draws.choice(FAULTS))
+    elif fault < 0.171:
+        lines[:0] = [f"device d{number} none" for number in range(draws.randint(252, 257))]
+    text = draws.choice(["\n", "\n", "\r\n"]).join(lines + [""] * draws.randint(0, 1)).encode()
+    if 0.171 <= fault < 0.2:
         at = draws.randint(0, len(text))
         text = text[:at] + bytes([draws.randrange(256)]) + text[at:]
     return text
@@ -96,7 +121,7 @@ def tell(name, holds):
         passed += 1
     else:
         failed += 1
-        print(f"{name}: NOT AS EXPECTED")
+        print(f"{name}: NOT AS EXPECTED", flush=True)
 
 
 for path in sorted(glob.glob(f"{EXAMPLES}/*.script")):
@@ -106,16 +131,22 @@ large = greatest()
 tell("a script of 8,388,608 bytes", len(large) == LIMIT and called(large) == run(large) and called(large)[0] == 0)
 tell("a byte more", called(large + b"x") == run(large + b"x") == (3, b"script fault: F2 TooLarge\n"))
 
-begin, count, refused = time.monotonic(), 0, 0
-while count < 10_000 and time.monotonic() - begin < 60:
-    script = drawn(random.Random(count))
-    answer = called(script)
+scripts, told, refused, others = 0, set(), {}, 0
+for seed in range(SCRIPTS):
+    script = drawn(random.Random(seed))
+    status, text = answer = called(script)
     if answer != run(script):
-        tell(f"the drawn script {count}: {script!r}", False)
-        break
-    refused += answer[0] != 0
-    count += 1
-print(f"{count} drawn scripts, {refused} of them refused")
-tell("drawn scripts", count > 0 and 0 < refused < count)
+        others += 1
+        print(f"the drawn script {seed}: {script!r}", flush=True)
+    if status == 0:
+        told |= {found.decode() for found in re.findall(rb"(?m)^\d+ (refused C\d \w+|knows \w+|\w+)", text)}
+    else:
+        fault = re.search(rb"F\d+", text)[0].decode()
+        refused[fault] = refused.get(fault, 0) + 1
+print(f"{SCRIPTS:,} drawn scripts, {sum(refused.values()):,} of them refused: "
+      + ", ".join(f"{refused[fault]} by {fault}" for fault in sorted(refused, key=lambda fault: int(fault[1:]))))
+tell(f"{others} drawn scripts", others == 0)
+tell(f"reports and answers of drawn scripts ({', '.join(TOLD ^ told)})", told == TOLD)
+tell(f"faults of drawn scripts ({', '.join(REFUSED ^ set(refused))})", set(refused) == REFUSED)
 print(f"{passed} passed, {failed} failed")
 sys.exit(failed != 0)
