@@ -67,7 +67,7 @@ def drawn(draws):
     filters = {name: filter_of(draws) for name in names}
     lines = [f"device {name} {text}" for name, text in filters.items()]
     made = 0
-    for _ in range(draws.randint(0, 40)):
+    for _ in range(draws.randint(3, 40)):
         kind = draws.choice(KINDS)
         one, picture = draws.choice(names), draws.randint(1, 8)
         other = draws.choice([name for name in names if name != one] or names)
