@@ -69,7 +69,7 @@ def drawn(draws):
     made = 0
     for _ in range(draws.randint(3, 40)):
         kind = draws.choice(KINDS)
-        one, picture = draws.choice(names), draws.randint(1, 8)
+        one, picture = draws.choice(names), draws.randint(1, min(made, 7) + 1)
         other = draws.choice([name for name in names if name != one] or names)
         said = f"{draws.randint(0, 5)} 2024-05-0{draws.randint(1, 3)} {draws.choice(WORDS)}"
         if kind == "new":
@@ -93,10 +93,10 @@ def drawn(draws):
     fault = draws.random()
     if fault < 0.17:
         lines.insert(draws.choice([len(names), draws.randint(0, len(lines))]), draws.choice(FAULTS))
-    elif fault < 0.171:
+    elif fault < 0.172:
         lines[:0] = [f"device d{number} none" for number in range(draws.randint(252, 257))]
     text = draws.choice(["\n", "\n", "\r\n"]).join(lines + [""] * draws.randint(0, 1)).encode()
-    if 0.171 <= fault < 0.2:
+    if 0.172 <= fault < 0.2:
         at = draws.randint(0, len(text))
         text = text[:at] + bytes([draws.randrange(256)]) + text[at:]
     return text
