@@ -1,9 +1,9 @@
 //! The calls of a device and of held versions.
-use crate::filters::{filter_of, rated};
 use photo_device::{Device, HeldSet, Spot};
 use photo_record::{PicNo, Record};
 use photo_version::{Author, Version};
 use std::alloc::Global;
+use value_refusals::{filter_of, rated};
 
 // Makes a version of each of the pictures 1 to 300.
 fn make_all(device: &mut Device, content: &Record) -> Option<()> {

@@ -1,23 +1,9 @@
 //! The calls of a filter.
 use photo_filter_rules::{Filter, covers};
 use photo_filter_text::FilterTree;
-use photo_record::{Day, Rating, Record, Words};
+use photo_record::Record;
 use std::alloc::Global;
-
-/// The filter of a text.
-pub fn filter_of(alloc: Global, text: &str) -> Option<Filter> {
-    let tree = photo_filter_text::read(alloc, text).ok()?;
-    Filter::build(alloc, tree).ok()
-}
-
-/// A record of that rating.
-pub fn rated(alloc: Global, rating: u8) -> Option<Record> {
-    Some(Record::Picture {
-        rating: Rating::new(rating)?,
-        day: Day::read("2024-01-01")?,
-        words: Words::read(alloc, "sea,ball,sun").ok()?,
-    })
-}
+use value_refusals::{filter_of, rated};
 
 /// `covers`, `matches` and the readers of a filter.
 pub fn answer(alloc: Global, times: u32) -> Option<bool> {

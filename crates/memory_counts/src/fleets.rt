@@ -1,11 +1,11 @@
 //! The readers of a fleet that is driven by hand, and those of a run's log.
-use crate::filters::filter_of;
 use crate::scripts::small;
 use fleet_runner::{Fleet, IssueLog, Outcome, run_plain};
 use fleet_steps::made_on;
 use photo_record::PicNo;
 use photo_script::{Command, Script};
 use std::alloc::Global;
+use value_refusals::filter_of;
 
 /// `takes` and the readers of a fleet of one device.
 pub fn answer(alloc: Global, times: u32) -> Option<bool> {

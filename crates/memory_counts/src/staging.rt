@@ -6,7 +6,6 @@ ghost use Rattle.photo_version.specs.Vector.{denotes};
 ghost use Rattle.item_knowledge.specs.Fragments.{knows};
 ghost use Rattle.item_knowledge.specs.Kept.{star_bound};
 
-use crate::filters::{filter_of, rated};
 use crate::knowledges::first_known;
 use item_knowledge::Knowledge;
 use photo_device::laws::with_knowledge;
@@ -14,7 +13,7 @@ use photo_device::{Device, SharedHeld, SharedList, VersionList};
 use photo_record::{PicNo, Record};
 use photo_version::{Author, Version};
 use std::alloc::Global;
-use value_refusals::told;
+use value_refusals::{filter_of, rated, told};
 
 // A device that has made nothing, and keeps what has a rating of 3 or more.
 fn opened(alloc: Global, number: u16) -> Option<Device> {
