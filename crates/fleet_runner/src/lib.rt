@@ -18,6 +18,3 @@ pub use plans::write_plan;
 pub use reports::write_reports;
 pub use source::read_source;
 pub use stream::{plain_stream, run_stream};
-
-#[cfg(test)]
-mod tests;

@@ -1,8 +1,8 @@
 //! The run of a script as a chart: what stands still in it, and the drawing of all commands.
+use crate::columns::{Band, Columned, Columns, by_batch, by_command, digits_of, layout_of};
 use crate::drawing::Drawing;
 use crate::escaping::push_escaped;
 use crate::events::draw_command;
-use crate::layout::{Band, Columned, Columns, Layout, by_batch, by_command, digits_of, layout_of};
 use crate::names::device_name;
 use crate::playing::opening_fleet;
 use crate::strife::Strife;
@@ -12,6 +12,7 @@ use photo_filter_text::print;
 use photo_script::Script;
 use std::alloc::{AllocError, Global};
 use unicode_width::UnicodeWidthStr;
+use view_parts::Layout;
 
 // The most characters that a lane shows of its filter.
 const FILTER_SHOWN: usize = 44;

@@ -1,7 +1,7 @@
 //! What is drawn of a run, in two layers, and the marks that it is drawn with.
 use crate::escaping::push_escaped;
-use crate::layout::Layout;
 use std::alloc::{AllocError, Global};
+use view_parts::Layout;
 
 /// What is drawn of a run: what lies below, and what lies above it.
 #[derive(Drop)]

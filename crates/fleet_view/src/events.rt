@@ -2,8 +2,8 @@
 ghost use Rattle.std.specs.Prelude.{◌≤◌, ◌<◌, length};
 
 use crate::chart::shown_filter;
+use crate::columns::picture_of;
 use crate::drawing::{Drawing, Spot};
-use crate::layout::picture_of;
 use crate::names::{device_name, push_version};
 use photo_device::Place;
 use photo_filter_rules::Filter;

@@ -3,19 +3,18 @@
 #![tactic(auto)]
 
 mod chart;
+mod columns;
+mod current;
 mod drawing;
 mod escaping;
 mod events;
 mod helps;
-mod layout;
 mod moves;
 mod names;
 mod playing;
 mod refusals;
 mod serve;
 mod source;
-mod standing;
-mod statuses;
 mod strife;
 mod style;
 mod table;
@@ -24,11 +23,11 @@ mod words;
 
 use refusals::without_words;
 use serve::serve;
-use statuses::without_memory;
 use std::alloc::Global;
 use std::env;
 use std::io::{self, BufWriter};
 use std::process::ExitCode;
+use view_parts::without_memory;
 
 fn main(rt: HostRuntime) -> ExitCode {
     ExitCode::from(status(&rt))

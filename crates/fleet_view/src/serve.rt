@@ -4,7 +4,6 @@ ghost use Rattle.std.specs.Prelude.{◌≡◌, ◌⊎◌};
 use crate::chart::chart;
 use crate::refusals::refused;
 use crate::source::{read_bytes, script_of};
-use crate::statuses::{BAD_SCRIPT, DONE, status_of};
 use crate::whereabouts::whereabouts;
 use crate::words::{Request, View, request_of};
 use fleet_steps::RunError;
@@ -14,6 +13,7 @@ use std::alloc::{AllocError, Global};
 use std::convert::AsStr;
 use std::io::Write;
 use std::rt::Files;
+use view_parts::{BAD_SCRIPT, DONE, status_of};
 
 // What is told of a script that has no fault.
 const NO_FAULT: &str = "no fault: it is a script\n";

@@ -1,9 +1,7 @@
 //! A table for a terminal: each column is as wide as its widest cell.
-ghost use Rattle.std.specs.Prelude.{◌≡◌, ◌≤◌, ◌-◌, ◌+◌, false, chars, length, OnOk, string_bytes};
-ghost use Rattle.unicode_width.specs.Width.{str_width};
-
 use std::alloc::{AllocError, Global};
 use unicode_width::UnicodeWidthStr;
+use view_parts::missing;
 
 // Between two columns.
 const GAP: &str = "  ";
@@ -71,13 +69,6 @@ fn push_row(text: &mut String, row: &[String], widths: &[usize]) -> Result<(), A
     }
     text.push_str("\n")?;
     Ok(())
-}
-
-/// How many spaces fill the column behind a cell.
-pub fn missing(cell: &str, width: usize) -> usize
-    ensures { result ≡ width - str_width false (chars cell.now) }
-{
-    width.saturating_sub(cell.width())
 }
 
 // Puts so many spaces behind a text.

@@ -1,8 +1,8 @@
 //! Where the pictures are once a script has run: a table, and below it conflicts and the pulls that would move something.
+use crate::current::current_of;
 use crate::moves::push_moves;
 use crate::names::{device_name, push_version, version_name};
 use crate::playing::played_fleet;
-use crate::standing::{Standing, current_of, standing_of};
 use crate::table::Table;
 use live_fleet::Fleet;
 use photo_device::{Device, Held};
@@ -10,6 +10,7 @@ use photo_record::Record;
 use photo_script::Script;
 use std::alloc::{AllocError, Global};
 use std::collections::BTreeMap;
+use view_parts::{Standing, standing_of};
 
 // What the marks of a cell mean.
 const LEGEND: &str =

@@ -1,6 +1,6 @@
 //! The words of the command line, and what they ask for.
+use crate::columns::Columns;
 use crate::helps::{CHART, FAULT, OVERVIEW, WHERE};
-use crate::layout::Columns;
 use clap::error::ErrorKind;
 use clap::{Arg, ArgAction, ArgMatches, Command, value_parser};
 use std::alloc::{AllocError, Global};

@@ -2,20 +2,11 @@
 #![tactic(auto)]
 
 mod arguments;
-mod helps;
-mod laws;
 mod opener;
-mod refusals;
-mod serve;
-mod statuses;
-mod streams;
-mod words;
 
 use arguments::Arguments;
 use opener::FileOpener;
-use refusals::without_words;
-use serve::serve;
-use statuses::without_memory;
+use photofleet_serve::{serve, without_memory, without_words};
 use std::io::BufWriter;
 use std::process::ExitCode;
 use std::sync::Wait;

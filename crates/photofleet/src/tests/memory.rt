@@ -2,9 +2,8 @@
 ghost use Rattle.std.specs.Prelude.{Some, None, codes, if◌then◌else◌};
 ghost use Rattle.std.specs.Str.{bytes_eq};
 
-use crate::opener::Opener;
-use crate::serve::serve;
 use photo_script::ScriptFault;
+use photofleet_serve::{Opener, serve};
 use std::alloc::Global;
 use std::io::{self, ErrorKind, Write};
 use std::sync::Wait;

@@ -1,0 +1,139 @@
+//! The columns of the chart, from left to right, and how wide it is for a script.
+use photo_batcher::{Plan, plan};
+use photo_script::{Command, Script, devices_of};
+use std::alloc::{AllocError, Global};
+use view_parts::Layout;
+
+/// What a column of the chart stands for.
+#[derive(Clone, Copy, Debug, PartialEq, Eq)]
+pub enum Columns {
+    /// Each command has one.
+    Commands,
+    /// Each batch has one for what its commands do on single devices, and one for each pull.
+    Batches,
+}
+
+/// The columns of one batch, or of one command: from the first on up to the end.
+#[derive(Clone, Copy, Debug, PartialEq, Eq)]
+pub struct Band {
+    pub from: u32,
+    pub end: u32,
+}
+
+/// The column of each command, by its number less one, and the columns that belong together.
+#[derive(Drop)]
+pub struct Columned {
+    pub columns: Vec<u32>,
+    pub bands: Vec<Band>,
+}
+
+/// A column for each command.
+pub fn by_command(alloc: Global, script: &Script) -> Result<Columned, AllocError> {
+    let mut columns = Vec::new(alloc);
+    let mut bands = Vec::new(alloc);
+    for place in 0..script.commands() {
+        let from = place as u32;
+        columns.push(from)?;
+        bands.push(Band {
+            from,
+            end: from + 1,
+        })?;
+    }
+    Ok(Columned { columns, bands })
+}
+
+/// Columns for each batch of the script's plan.
+pub fn by_batch(alloc: Global, script: &Script) -> Result<Columned, AllocError> {
+    let plan: Plan = plan(alloc, script)?;
+    let mut columns = vec![in alloc; 0; script.commands()]?;
+    let mut bands = Vec::new(alloc);
+    let mut from = 0;
+    for batch in 0..plan.batches() {
+        let end = place_members(script, plan.members(batch), &mut columns, from);
+        bands.push(Band { from, end })?;
+        from = end;
+    }
+    Ok(Columned { columns, bands })
+}
+
+// Gives each command of a batch its column, from a first one on, and gives the column behind them. A command between two
+// devices has one of its own, the others share one.
+fn place_members(script: &Script, members: &[u32], columns: &mut [u32], from: u32) -> u32 {
+    let mut next = from;
+    let mut shared = None;
+    for number in members {
+        let place = (*number as usize).saturating_sub(1);
+        if let Some(column) = columns.get_mut(place) {
+            *column = match (is_between(script, *number), shared) {
+                (false, Some(taken)) => taken,
+                (between, _) => {
+                    if !between {
+                        shared = Some(next);
+                    }
+                    let own = next;
+                    next = next.saturating_add(1);
+                    own
+                }
+            };
+        }
+    }
+    next
+}
+
+// Whether the command of that number works on two devices.
+fn is_between(script: &Script, number: u32) -> bool {
+    if number == 0 || number as usize > script.commands() {
+        return false;
+    }
+    devices_of(script.command(number)).1.is_some()
+}
+
+// The most columns of a chart with texts in it.
+const MOST_LABELLED: usize = 500;
+
+/// The layout of a chart whose texts at the left have so many columns of a terminal, and whose greatest number in a label has
+/// so many digits.
+pub fn layout_of(script: &Script, columns: usize, left: usize, digits: u16) -> Layout {
+    let labelled = columns <= MOST_LABELLED;
+    let step = if labelled {
+        digits.clamp(3, 12) * 7 + 13
+    } else {
+        8
+    };
+    Layout {
+        left: (left.clamp(10, 46) * 13 / 2 + 26) as u16,
+        step,
+        columns: columns.min(1_000_000) as u32,
+        lanes: script.devices() as u16,
+        labelled,
+    }
+}
+
+/// How many digits the greatest number of a picture has that a change names.
+pub fn digits_of(script: &Script) -> u16 {
+    let mut greatest = 0;
+    for place in 0..script.commands() {
+        greatest = picture_of(script.command(place as u32 + 1)).max(greatest);
+    }
+    match greatest {
+        0..=9 => 1,
+        10..=99 => 2,
+        100..=999 => 3,
+        1_000..=9_999 => 4,
+        10_000..=99_999 => 5,
+        100_000..=999_999 => 6,
+        1_000_000..=9_999_999 => 7,
+        10_000_000..=99_999_999 => 8,
+        _ => 9,
+    }
+}
+
+/// The picture's number that a change names; 0 of another command.
+pub fn picture_of(command: &Command) -> u32 {
+    match command {
+        Command::New { picture, .. }
+        | Command::Edit { picture, .. }
+        | Command::Remove { picture, .. } => picture.value(),
+        _ => 0,
+    }
+}

@@ -1,0 +1,17 @@
+//! What the program does, from the words of its command line to its exit status, over any files and writers. Its
+//! invariant: **a status says what was written**, for every opener and writer that tell their bytes.
+#![tactic(auto)]
+
+mod helps;
+pub mod laws;
+mod opener;
+mod refusals;
+mod serve;
+mod statuses;
+mod streams;
+mod words;
+
+pub use opener::Opener;
+pub use refusals::without_words;
+pub use serve::serve;
+pub use statuses::without_memory;

@@ -1,0 +1,12 @@
+//! How far a cell of a table for a terminal is from its column's end.
+ghost use Rattle.std.specs.Prelude.{◌≡◌, ◌-◌, false, chars};
+ghost use Rattle.unicode_width.specs.Width.{str_width};
+
+use unicode_width::UnicodeWidthStr;
+
+/// How many spaces fill the column behind a cell.
+pub fn missing(cell: &str, width: usize) -> usize
+    ensures { result ≡ width - str_width false (chars cell.now) }
+{
+    width.saturating_sub(cell.width())
+}
