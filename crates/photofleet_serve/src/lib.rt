@@ -6,12 +6,12 @@ mod helps;
 pub mod laws;
 mod opener;
 mod refusals;
-mod serve;
+mod serving;
 mod statuses;
 mod streams;
 mod words;
 
 pub use opener::Opener;
 pub use refusals::without_words;
-pub use serve::serve;
+pub use serving::serve;
 pub use statuses::without_memory;

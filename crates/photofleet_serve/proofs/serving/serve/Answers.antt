@@ -1,5 +1,5 @@
 use Rattle.clap.specs.Words.{kind_of}
-use Rattle.photofleet_serve.proofs.serve.serve.Goals as goal
+use Rattle.photofleet_serve.proofs.serving.serve.Goals as goal
 
 pub returns-in-Err-clause-refused : goal.returns-in-Err-clause-refused
 returns-in-Err-clause-refused g c = λ two.
