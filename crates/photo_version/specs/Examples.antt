@@ -1,7 +1,8 @@
--- The definitions at some vectors.
-use Rattle.std.specs.Prelude.{◌≡◌, ℕ, true, false, List, [], ◌∷◌}
+-- The definitions at some vectors and texts.
+use Rattle.std.specs.Prelude.{◌≡◌, ℕ, true, false, List, [], ◌∷◌, codes}
 use Rattle.photo_version.specs.Author.{author, author_at, next_author, is_earlier_epoch}
 use Rattle.photo_version.specs.Version.{version}
+use Rattle.photo_version.specs.Showing.{author_text, version_text}
 use Rattle.photo_version.specs.Vector.{Bound, denotes, is_vector, raised, joined, is_within}
 
 -- the bound n of the author of device a
@@ -46,3 +47,10 @@ pub record TheVectors : Type 0 where
   pub out_of_order : is_vector (bound 1 3 ∷ bound 0 1 ∷ []) ≡ false
   pub twice : is_vector (bound 0 1 ∷ bound 0 2 ∷ []) ≡ false
   pub bound_zero : is_vector (bound 0 0 ∷ []) ≡ false
+
+-- the first epoch isn't shown
+pub record TheTexts : Type 0 where
+  pub first_epoch : version_text (version (author 0) 3) ≡ codes "0:3"
+  pub later_epoch : version_text (version (author_at 0 1) 3) ≡ codes "0.1:3"
+  pub tens : version_text (version (author_at 12 10) 40) ≡ codes "12.10:40"
+  pub last_device : author_text (author 65535) ≡ codes "65535"

@@ -4,3 +4,4 @@ pub mod Vector
 pub mod Shared
 pub mod Examples
 pub mod Words
+pub mod Showing

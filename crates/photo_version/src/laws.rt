@@ -4,7 +4,7 @@ ghost use Rattle.std.specs.Ordering.{is_lt};
 ghost use Rattle.photo_version.specs.Author.{Author, author_at, device_of_author, epoch_of_author, same_author, same_device, author_before, next_author, author_word, author_of_word};
 ghost use Rattle.photo_version.specs.Version.{Version, same_version, version_before};
 ghost use Rattle.photo_version.specs.Vector.{Bound, denotes, is_vector};
-ghost use Rattle.photo_version.specs.Examples.{TheEpochs, TheVectors};
+ghost use Rattle.photo_version.specs.Examples.{TheEpochs, TheTexts, TheVectors};
 
 /// `==` and the order of authors are those of the definitions.
 pub fn authors_compare()
@@ -45,8 +45,9 @@ pub fn vectors_are_one()
     ensures equality { (bounds others : List Bound) → (⟦<crate::Vector as PartialEq>⟧.eq bounds others ≡ true) ↔ (bounds ≡ others) }
 {}
 
-/// The definitions at some vectors.
+/// The definitions at some vectors and texts.
 pub fn examples()
     ensures vectors { TheVectors }
     ensures epochs { TheEpochs }
+    ensures texts { TheTexts }
 {}

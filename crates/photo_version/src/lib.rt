@@ -4,6 +4,7 @@
 mod author;
 mod bounds;
 pub mod laws;
+mod show;
 mod vector;
 mod version;
 

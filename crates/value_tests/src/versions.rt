@@ -247,3 +247,22 @@ fn has_forty_authors(alloc: Global) -> bool {
 fn a_union_may_have_many_authors(rt: HostRuntime) {
     assert!(rt; has_forty_authors(rt.alloc()));
 }
+
+// Whether a version is there, and is shown so.
+fn is_shown_as(alloc: Global, version: Option<Version>, text: &str) -> bool {
+    let Some(version) = version else {
+        return false;
+    };
+    match version.to_string(alloc) {
+        Ok(shown) => shown.as_str() == text,
+        Err(_) => false,
+    }
+}
+
+#[test]
+fn a_version_is_shown_by_the_number_of_its_device(rt: HostRuntime) {
+    let (first, next) = (Author::new(0), Author::at(0, 1));
+    assert!(rt; is_shown_as(rt.alloc(), Version::new(first, 3), "0:3"));
+    assert!(rt; is_shown_as(rt.alloc(), Version::new(next, 3), "0.1:3"));
+    assert!(rt; is_shown_as(rt.alloc(), Version::new(Author::at(12, 40), 7), "12.40:7"));
+}
