@@ -3,3 +3,4 @@ pub mod FormLemmas
 pub mod DayLemmas
 pub mod DateLemmas
 pub mod ReadLemmas
+mod Shown

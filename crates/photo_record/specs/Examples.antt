@@ -1,6 +1,8 @@
--- What some texts denote.
+-- What some texts denote, and how some values are shown.
 use Rattle.std.specs.Prelude.{◌≡◌, [], ◌∷◌, ◌++◌, pos, neg_ℤ, Some, None, Ok, Err, codes, replicate}
 use Rattle.photo_record.specs.Reading.{rating_of_text, day_of_text, word_of_text, words_of_text}
+use Rattle.photo_record.specs.Showing.{day_text, words_text, record_text}
+use Rattle.photo_record.specs.declared.record.Record.TheVariants.{Picture, Removed}
 use Rattle.photo_record.specs.declared.fault.WordFault.TheVariants.{Empty, BadCharacter, TooLong, TooMany, Repeated}
 
 pub record TheRatings : Type 0 where
@@ -43,3 +45,12 @@ pub record TheSets : Type 0 where
       ∷ codes "i" ∷ codes "j" ∷ codes "k" ∷ codes "l" ∷ codes "m" ∷ codes "n" ∷ codes "o" ∷ codes "p" ∷ [])
   -- the seventeenth piece is not read
   pub seventeen : words_of_text (codes "a,b,c,d,e,f,g,h,i,j,k,l,m,n,o,p,(") ≡ Err TooMany
+
+-- 2024-05-01 is the day 19844
+pub record TheShown : Type 0 where
+  pub picture : record_text (Picture 5 (pos 19_844) (codes "beach" ∷ codes "sun" ∷ [])) ≡ codes "rating 5 day 2024-05-01 words beach,sun"
+  pub no_words : record_text (Picture 3 (pos 19_844) []) ≡ codes "rating 3 day 2024-05-01 words -"
+  pub removed : record_text Removed ≡ codes "removed"
+  pub first : day_text (neg_ℤ (pos 719_528)) ≡ codes "0000-01-01"
+  pub last : day_text (pos 2_932_896) ≡ codes "9999-12-31"
+  pub dash : words_text (codes "-" ∷ []) ≡ codes "-"

@@ -5,3 +5,4 @@ pub mod Word
 pub mod Shared
 pub mod Reading
 pub mod Examples
+pub mod Showing

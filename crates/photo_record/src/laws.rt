@@ -7,7 +7,7 @@ ghost use Rattle.photo_record.specs.Limits.{IsDay, max_words};
 ghost use Rattle.photo_record.specs.Calendar.{Civil, IsDateOf, is_date, day_number, date_of};
 ghost use Rattle.photo_record.specs.Word.{IsWord, is_rising};
 ghost use Rattle.photo_record.specs.Reading.{word_of_text, words_of_text};
-ghost use Rattle.photo_record.specs.Examples.{TheRatings, TheDays, TheWords, TheSets};
+ghost use Rattle.photo_record.specs.Examples.{TheRatings, TheDays, TheWords, TheSets, TheShown};
 
 use crate::{Day, PicNo, Rating, Word};
 
@@ -38,10 +38,11 @@ pub fn orders()
     ensures words { (v w : List ℕ) → ⟦<Word as Ord>⟧.cmp v w ≡ slice_cmp nat_cmp v w }
 {}
 
-/// The definitions at some texts.
+/// The definitions at some texts and values.
 pub fn examples()
     ensures ratings { TheRatings }
     ensures days { TheDays }
     ensures words { TheWords }
     ensures sets { TheSets }
+    ensures shown { TheShown }
 {}

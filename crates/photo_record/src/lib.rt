@@ -2,11 +2,13 @@
 #![tactic(auto)]
 
 mod day;
+mod each_word;
 mod fault;
 pub mod laws;
 mod pic_no;
 mod rating;
 mod record;
+mod show;
 mod word;
 mod word_list;
 mod words;

@@ -52,7 +52,7 @@ impl Words {
         })
     }
 
-    fn as_slice(&self) -> &[Word]
+    pub(crate) fn as_slice(&self) -> &[Word]
         ensures value { result.now ≡ self.now }
         ensures set { IsWordSet self.now }
     {

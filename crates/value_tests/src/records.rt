@@ -1,6 +1,7 @@
 //! Ratings, picture numbers, days and words, at their limits and beyond.
 use photo_record::{Day, PicNo, Rating, Record, Word, WordFault, Words};
 use std::alloc::Global;
+use std::fmt::Display;
 
 const RATINGS: &[(u8, Option<u8>)] = &[(0, Some(0)), (5, Some(5)), (6, None), (255, None)];
 
@@ -309,5 +310,83 @@ const FAULTS: &[(WordFault, &str)] = &[
 fn faults(rt: HostRuntime) {
     for (fault, text) in FAULTS {
         assert!(rt; is_written(rt.alloc(), *fault, text), "at {text}");
+    }
+}
+
+// What a record is read from, and how it is shown.
+const SHOWN: &[(&str, &str, &str, &str)] = &[
+    (
+        "5",
+        "2024-05-01",
+        "sun,beach",
+        "rating 5 day 2024-05-01 words beach,sun",
+    ),
+    ("3", "0007-02-09", "-", "rating 3 day 0007-02-09 words -"),
+    (
+        "0",
+        "9999-12-31",
+        "e\u{301},a,b",
+        "rating 0 day 9999-12-31 words a,b,é",
+    ),
+];
+
+#[test]
+fn records_are_shown(rt: HostRuntime) {
+    for (rating, day, words, text) in SHOWN {
+        assert!(rt;
+            is_record_shown(rt.alloc(), rating, day, words, text),
+            "at {text}"
+        );
+    }
+    assert!(rt; is_shown(rt.alloc(), &Record::Removed, "removed"));
+}
+
+fn is_record_shown(alloc: Global, rating: &str, day: &str, words: &str, text: &str) -> bool {
+    match record_of(alloc, rating, day, words) {
+        Some(record) => is_shown(alloc, &record, text),
+        None => false,
+    }
+}
+
+fn record_of(alloc: Global, rating: &str, day: &str, words: &str) -> Option<Record> {
+    let rating = Rating::read(rating)?;
+    let day = Day::read(day)?;
+    match Words::read(alloc, words) {
+        Ok(words) => Some(Record::Picture { rating, day, words }),
+        Err(_) => None,
+    }
+}
+
+fn is_shown<D: Display>(alloc: Global, value: &D, text: &str) -> bool {
+    value.to_string(alloc).is_ok_and(|t| t.as_str() == text)
+}
+
+#[test]
+fn parts_are_shown(rt: HostRuntime) {
+    assert!(rt; are_numbers_shown(rt.alloc()) == Some(true));
+    assert!(rt; is_word_shown(rt.alloc()));
+}
+
+fn are_numbers_shown(alloc: Global) -> Option<bool> {
+    let (rating, picture) = (Rating::new(4)?, PicNo::new(1_200)?);
+    Some(
+        is_shown(alloc, &rating, "4")
+            && is_shown(alloc, &picture, "1200")
+            && is_padded(alloc, picture),
+    )
+}
+
+// Whether the picture is shown in a column of eight.
+fn is_padded(alloc: Global, picture: PicNo) -> bool {
+    match format!(in alloc; "{picture:>8}|") {
+        Ok(text) => text.as_str() == "    1200|",
+        Err(_) => false,
+    }
+}
+
+fn is_word_shown(alloc: Global) -> bool {
+    match Word::read(alloc, "sunset") {
+        Ok(word) => is_shown(alloc, &word, "sunset"),
+        Err(_) => false,
     }
 }
