@@ -3,6 +3,7 @@
 
 mod author;
 mod bounds;
+mod each_entry;
 pub mod laws;
 mod show;
 mod vector;

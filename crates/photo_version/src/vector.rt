@@ -146,7 +146,7 @@ impl Vector {
         })
     }
 
-    fn entries(&self) -> &[Bound]
+    pub(crate) fn entries(&self) -> &[Bound]
         ensures value { result.now ≡ self.now }
         ensures vector { is_vector result.now ≡ true }
     {
