@@ -16,3 +16,4 @@ pub mod Decided
 pub mod WantedAt
 pub mod Judged
 pub mod Bracketed
+pub mod Dates

@@ -1,7 +1,9 @@
 //! Laws of the filter language. Each function's contract is a law, and its body does nothing.
 
-ghost use Rattle.std.specs.Prelude.{◌≡◌, ◌≢◌, ◌⊎◌, ℕ, ◌+◌, ◌≤◌, true, List, length, take};
+ghost use Rattle.std.specs.Prelude.{◌≡◌, ◌≢◌, ◌⊎◌, ℕ, ℤ, ◌+◌, ◌≤◌, true, List, length, take};
 ghost use Rattle.std.specs.List.{list_any};
+ghost use Rattle.photo_record.specs.Limits.{IsDay};
+ghost use Rattle.photo_record.specs.Showing.{day_text};
 ghost use Rattle.photo_filter_text.specs.Tree.{Tree, height};
 ghost use Rattle.photo_filter_text.specs.Tokens.{Token, tokens_of};
 ghost use Rattle.photo_filter_text.specs.Grammar.{IsExpr};
@@ -9,7 +11,7 @@ ghost use Rattle.photo_filter_text.specs.Limits.{max_tokens, max_height};
 ghost use Rattle.photo_filter_text.specs.Fronts.{Begins};
 ghost use Rattle.photo_filter_text.specs.Memory.{MayWantMemory, is_keeper};
 ghost use Rattle.photo_filter_text.specs.Fault.{IsFilter, IsFault};
-ghost use Rattle.photo_filter_text.specs.Printed.{text_of, IsSound};
+ghost use Rattle.photo_filter_text.specs.Printed.{text_of, date_text, IsSound};
 ghost use Rattle.photo_filter_text.specs.Examples.{TheTokens, TheTrees, TheTexts, TheFaults, TheFilters};
 ghost use Rattle.photo_filter_text.specs.declared.fault.FilterFault.{FilterFault};
 ghost use Rattle.photo_filter_text.specs.declared.fault.FilterFault.TheVariants.{NoMemory};
@@ -44,6 +46,11 @@ pub fn memory_wanted()
 pub fn printed_again()
     ensures { (tree : Tree) → IsSound tree → length (tokens_of (text_of tree)) ≤ max_tokens → height tree ≤ max_height
         → IsFilter (tokens_of (text_of tree)) tree }
+{}
+
+/// Days are printed as records show them.
+pub fn days_are_shown()
+    ensures { (day : ℤ) → IsDay day → date_text day ≡ day_text day }
 {}
 
 /// The definitions at some texts: their tokens, trees, printed forms and faults, and filters just within the limits.

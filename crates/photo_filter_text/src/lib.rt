@@ -6,6 +6,7 @@ pub mod laws;
 mod printing;
 mod reader;
 mod reading;
+mod show;
 mod symbol;
 mod tokens;
 mod tree;

@@ -77,7 +77,7 @@ fn push_keyword(text: &mut String, word: &Word) -> Result<(), AllocError>
     text.push_str(word.text())
 }
 
-fn cmp_text(cmp: Cmp) -> &'static str
+pub(crate) fn cmp_text(cmp: Cmp) -> &'static str
     ensures { result.now ≡ cmp_text cmp }
 {
     match cmp {

@@ -64,6 +64,28 @@ fn texts_are_read_and_printed(rt: HostRuntime) {
     assert!(rt; wrong.is_none(), "{wrong:?}");
 }
 
+// Whether a text is read, and what was read is shown so.
+fn is_shown(alloc: Global, text: &str, want: &str) -> bool {
+    match read(alloc, text) {
+        Ok(tree) => is_shown_as(alloc, &tree, want),
+        Err(_) => false,
+    }
+}
+
+fn is_shown_as(alloc: Global, tree: &FilterTree, want: &str) -> bool {
+    match tree.to_string(alloc) {
+        Ok(shown) => shown.as_str() == want,
+        Err(_) => false,
+    }
+}
+
+#[test]
+fn trees_are_shown_as_they_are_printed(rt: HostRuntime) {
+    for (text, want) in READ_TEXTS {
+        assert!(rt; is_shown(rt.alloc(), text, want), "{text}");
+    }
+}
+
 const REFUSED_TEXTS: &[(&str, &str)] = &[
     ("", "Empty"),
     ("   ", "Empty"),

@@ -229,7 +229,22 @@ fn lists(set: &Words, words: &[&str]) -> bool {
             return false;
         }
     }
-    true
+    goes_over(set, words)
+}
+
+// Whether those are the words over which one goes, in that order.
+fn goes_over(set: &Words, words: &[&str]) -> bool {
+    let mut rest = words;
+    for word in set {
+        let Some((next, others)) = rest.split_first() else {
+            return false;
+        };
+        if word.text() != *next {
+            return false;
+        }
+        rest = others;
+    }
+    rest.is_empty()
 }
 
 fn has_all(alloc: Global, set: &Words, words: &[&str]) -> bool {

@@ -72,10 +72,25 @@ fn has_entries(vector: &Vector, bounds: &[(u16, u32)]) -> bool {
     true
 }
 
+// The same, where they are gone over.
+fn goes_over(vector: &Vector, bounds: &[(u16, u32)]) -> bool {
+    let mut rest = bounds;
+    for (author, n) in vector {
+        let Some((bound, others)) = rest.split_first() else {
+            return false;
+        };
+        if (author.value(), *n) != *bound {
+            return false;
+        }
+        rest = others;
+    }
+    rest.is_empty()
+}
+
 // Whether the union of two vectors has these entries.
 fn joins(left: &Vector, right: &Vector, wanted: &[(u16, u32)]) -> bool {
     match left.join(right) {
-        Ok(both) => has_entries(&both, wanted),
+        Ok(both) => has_entries(&both, wanted) && goes_over(&both, wanted),
         Err(_) => false,
     }
 }
