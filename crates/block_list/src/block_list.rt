@@ -4,7 +4,7 @@ use crate::kept::retain_in;
 use crate::near::{behind, spot_near};
 use crate::search::{element_behind, first_failing, index_of, is_alone, passes_behind, spot_of};
 use crate::taken::{spot_passing, take_at};
-use crate::{Room, Roomy, Spot};
+use crate::{Iter, Room, Roomy, Spot};
 use std::alloc::{AllocError, Global};
 use std::marker::Model;
 
@@ -76,6 +76,13 @@ impl<T> BlockList<T> {
     {
         let (block, place) = element_at(&self.blocks, i);
         &self.blocks[block][place]
+    }
+
+    /// The elements, in order.
+    pub fn iter(&self) -> Iter<'_, T>
+        ensures { result ≡ self.now }
+    {
+        Iter::new(&self.blocks, self.len)
     }
 
     /// The blocks, which one after another are the list.

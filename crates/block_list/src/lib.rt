@@ -3,6 +3,7 @@
 
 mod block_list;
 mod blocks;
+mod elements;
 mod gather;
 mod kept;
 pub mod laws;
@@ -16,6 +17,7 @@ mod spot;
 mod taken;
 
 pub use block_list::BlockList;
+pub use elements::Iter;
 pub use room::Room;
 pub use roomy::Roomy;
 pub use spot::Spot;
