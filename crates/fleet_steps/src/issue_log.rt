@@ -1,11 +1,13 @@
 // The versions that a run made, and which of them are of a picture.
 ghost use Rattle.std.specs.Prelude.{◌≡◌, ◌<◌, IfOk, OnOk};
+ghost use Rattle.std.specs.Slice.Iter.{iter_rest};
 ghost use Rattle.fleet_steps.specs.Logged.{AreAbove, IsIndex};
 
 use photo_device::{Held, SharedHeld};
 use photo_record::PicNo;
 use std::alloc::{AllocError, Global};
 use std::marker::Model;
+use std::slice;
 
 /// The versions that a run made, oldest first, each as the device held it that made it, which it shares. Contracts see it as
 /// their list.
@@ -34,6 +36,8 @@ impl IssueLog {
     ghost use Rattle.std.specs.Prelude.{◌≡◌, ◌<◌, ◌==◌, ◌&&◌, Bool, length, slice_get, Some, IfOk};
     ghost use Rattle.std.specs.List.{list_any};
     ghost use Rattle.std.specs.List.Sorted.{IsSortedBy};
+    ghost use Rattle.std.specs.Iterator.Adapters.{IterYieldsInOrder};
+    ghost use Rattle.std.specs.Slice.Iter.{iter_rest};
     ghost use Rattle.photo_device.specs.Held.{held_before};
     ghost use Rattle.photo_device.specs.declared.held.Held as spec;
     ghost use Rattle.fleet_steps.specs.Logged.{IsIndex};
@@ -68,6 +72,14 @@ impl IssueLog {
         self.issued[i].as_held()
     }
 
+    /// The versions, oldest first.
+    pub fn iter(&self) -> slice::Iter<'_, SharedHeld>
+        ensures issued { iter_rest result ≡ self.now }
+        ensures in_order { IterYieldsInOrder SharedHeld }
+    {
+        self.issued.iter()
+    }
+
     /// The versions in the order of pictures, and those of a picture in the order of versions.
     pub fn by_picture(&self) -> &[SharedHeld]
         ensures { IsIndex self.now result.now }
@@ -84,6 +96,18 @@ impl IssueLog {
         let from = index.partition_point(|held| held.picture() < picture);
         let to = index.partition_point(|held| held.picture() <= picture);
         &index[from..to]
+    }
+}
+
+impl<'a> IntoIterator for &'a IssueLog {
+    type Item = &'a SharedHeld;
+
+    type IntoIter = slice::Iter<'a, SharedHeld>;
+
+    ghost into_iter_gives = { λ log items. iter_rest items ≡ log.now };
+
+    fn into_iter(self) -> slice::Iter<'a, SharedHeld> {
+        self.iter()
     }
 }
 

@@ -101,6 +101,7 @@ fn has_hundredth(set: &HeldSet) -> bool {
         && set.of(picture, version).is_some()
         && set.find(version).is_some()
         && set.blocks().len() == 3
+        && set.iter().all(|held| held.version().n() <= 300)
         && set.len() == 300
         && set.get(99).picture == picture
 }

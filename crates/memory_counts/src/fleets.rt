@@ -57,6 +57,7 @@ fn has_one(log: &IssueLog) -> bool {
         && log.get(0).picture == picture
         && log.by_picture().len() == 1
         && log.of_picture(picture).len() == 1
+        && log.iter().all(|held| held.picture() == picture)
 }
 
 // The first command has made a version on the first device.

@@ -22,7 +22,11 @@ fn answer_of(alloc: Global, list: &SharedList, times: u32) -> bool {
 }
 
 fn has_all(list: &SharedList) -> bool {
-    list.len() == 300 && !list.is_empty() && list.as_slice().len() == 300 && is_first(list.get(0))
+    list.len() == 300
+        && !list.is_empty()
+        && list.as_slice().len() == 300
+        && list.iter().all(|held| held.version().n() <= 300)
+        && is_first(list.get(0))
 }
 
 fn is_first(held: &SharedHeld) -> bool {

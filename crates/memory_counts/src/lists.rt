@@ -38,7 +38,7 @@ fn sets(list: &mut BlockList<u32>) -> bool {
         return false;
     }
     list.set(700, 700);
-    *list.get(700) == 700
+    *list.get(700) == 700 && list.iter().all(|x| *x < 1_500)
 }
 
 fn finds(list: &BlockList<u32>) -> bool {

@@ -52,5 +52,6 @@ fn has_words(words: &Words, word: &Word) -> bool {
         && words.has(word)
         && words.get(0).text() == "ball"
         && words.get(4).text() == "tree"
+        && words.iter().all(|word| word.text().len() <= 4)
         && words.try_clone().is_ok_and(|copy| copy == *words)
 }

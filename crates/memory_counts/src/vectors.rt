@@ -59,6 +59,7 @@ fn has_versions(one: &Vector, other: &Vector) -> bool {
         && other.has(version)
         && one.len() == 20
         && one.entry(7) == (Author::new(7), 3)
+        && one.iter().all(|entry| entry.1 == 3)
 }
 
 fn shares(one: &Vector, other: &Vector) -> bool {

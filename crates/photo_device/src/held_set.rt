@@ -7,7 +7,7 @@ use crate::range::range_of;
 use crate::roomy_set::RoomySet;
 use crate::sought::Sought;
 use crate::{Held, SharedHeld, SharedList};
-use block_list::{BlockList, Room, Spot};
+use block_list::{BlockList, Iter, Room, Spot};
 use photo_filter_rules::Filter;
 use photo_record::PicNo;
 use photo_version::Version;
@@ -108,6 +108,14 @@ impl HeldSet {
         ensures ordered { are_in_order self.now ≡ true }
     {
         self.items.get(i).as_held()
+    }
+
+    /// The held versions, in the order of pictures and then of versions.
+    pub fn iter(&self) -> Iter<'_, SharedHeld>
+        ensures helds { result ≡ self.now }
+        ensures ordered { are_in_order self.now ≡ true }
+    {
+        self.items.iter()
     }
 
     /// The held versions in blocks, which one after another are the set. For callers that go over all of them.

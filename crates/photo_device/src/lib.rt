@@ -7,6 +7,7 @@ mod conflict;
 mod conflicts;
 mod device;
 mod drops;
+mod each;
 mod fault;
 mod held;
 mod held_set;

@@ -51,9 +51,13 @@ fn main(rt: HostRuntime) -> io::Result<()> {
     for conflict in &fleet.devices()[0].conflicts()? {
         println!(rt;
             "{} has {} versions",
-            conflict.picture.value(),
+            conflict.picture,
             conflict.versions.len()
         )?;
+    }
+    for held in fleet.devices()[0].store() {
+        let (picture, version) = (held.picture(), held.version());
+        println!(rt; "{picture} {version} {}", held.content())?;
     }
     Ok(())
 }

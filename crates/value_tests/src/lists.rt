@@ -50,12 +50,27 @@ fn counts_without(list: &BlockList<u32>, from: u32, to: u32) -> bool {
     true
 }
 
+// The same of a list without gaps, gone over by its elements.
+fn goes_over(list: &BlockList<u32>, n: u32) -> bool {
+    let mut next = 0;
+    for item in list {
+        if *item != next {
+            return false;
+        }
+        next = next.wrapping_add(1);
+    }
+    next == n
+}
+
 // How many blocks there are to be, and how long the first.
 type Shape = (usize, usize);
 
 // Whether the list is 0, 1, 2 .. n - 1, in blocks of that shape.
 fn counts_to(list: &BlockList<u32>, n: u32, wanted: Shape) -> bool {
-    list.len() == n as usize && counts_without(list, 0, 0) && shape(list) == wanted
+    list.len() == n as usize
+        && counts_without(list, 0, 0)
+        && goes_over(list, n)
+        && shape(list) == wanted
 }
 
 fn falls(alloc: Global, n: u32, wanted: Shape) -> bool {
