@@ -26,22 +26,7 @@ none_found q (x ∷ xs) h =
     let fails = found_later q x xs (q x) h in
     and_from (not (q x)) _ (ap not fails.0) (none_found q xs fails.1)
 
-pub inserted_by_tests : (h : Held) (xs new : List Held) → {F G : Type 0} {f : Mut F (Bor Held × Unit {0}) Bool} {g : Mut G (Bor Held × Unit {0}) Bool} {before : F} {through : G}
-    → ((t u : Held → Bool) → ComputesKey f t before → ComputesKey g u through → IsPartitionedBy t xs → IsPartitionedBy u xs → ((y : Held) → t y ≡ true → u y ≡ true) → IsReplaced t u xs h new)
-    → are_in_order xs ≡ true
-    → ((a : Bor Held × Unit {0}) (r : Bool) (f' : F) → Called f before a r f' → (r ≡ stands_before a.0.now h.picture h.version) × (f' ≡ before))
-    → ((a : Bor Held × Unit {0}) (r : Bool) (g' : G) → Called g through a r g' → (r ≡ stands_before a.0.now h.picture h.version) × (g' ≡ through))
-    → new ≡ put held_before h xs
-inserted_by_tests h xs new {f = f} {g = g} {before = before} {through = through} clause ordered less most =
-    let parts = partitioned held_order h xs ordered in
-    let test = λ (x : Held). stands_before x h.picture h.version in
-    let r = clause test test (always_returns_same f (λ a r. r ≡ test a.0.now) before less) (always_returns_same g (λ a r. r ≡ test a.0.now) through most) parts parts (λ y e. e) in
-    let order = r.between.order in
-    let within = r.between.within in
-    let same = turns_once test xs r.from r.to order within r.between.first r.between.last in
-    r.list ∙ ap (λ n. take r.from xs ++ h ∷ drop n xs) (sym same) ∙ sym (put_at held_before h xs r.from (omega arith) r.between.first)
-
--- the same by one test
+-- by a test of the code
 pub inserted_by_test : (h : Held) (xs new : List Held) → {F : Type 0} {f : Mut F (Bor Held × Unit {0}) Bool} {before : F}
     → ((t : Held → Bool) → ComputesKey f t before → IsPartitionedBy t xs → IsReplaced t t xs h new)
     → are_in_order xs ≡ true

@@ -1,25 +1,24 @@
 -- What is true of a device that narrowed.
-use Rattle.std.proofs.Common.{◌≡◌, ℕ, ◌+◌, ◌-◌, ◌≤◌, ◌<◌, Bool, true, false, not, cond, ◌||◌, eqb, List, [], ◌∷◌, ◌++◌, length, get_or, drop, Vec, refl, sym, ap, ◌∙◌, inl, inr, arith, subst}
+use Rattle.std.proofs.Common.{◌≡◌, ℕ, ◌+◌, ◌-◌, ◌≤◌, Bool, true, false, not, cond, List, [], ◌∷◌, ◌++◌, length, refl, sym, ap, ◌∙◌, arith}
 use Rattle.std.specs.Prelude.{filter}
 use Rattle.std.specs.List.{AllByRecursion}
-use Rattle.std.proofs.lemmas.Bool.{cases_Bool, eq-eqb, and_from, and_parts}
-use Rattle.std.proofs.Math.Bool.{or-true}
-use Rattle.std.specs.declared.alloc.Global.{Global}
-use Rattle.std.proofs.lemmas.List.{drop_more}
-use Rattle.block_list.specs.Blocks.{joined}
+use Rattle.std.proofs.lemmas.Bool.{and_parts}
+use Rattle.std.proofs.lemmas.List.{append-nil}
 use Rattle.photo_filter_text.specs.Tree.{Tree}
 use Rattle.photo_filter_rules.specs.Matching.{matches}
-use Rattle.photo_version.specs.Version.{Version, same_version}
+use Rattle.photo_version.specs.Version.{Version}
 use Rattle.photo_device.specs.declared.held.Held.{Held}
+use Rattle.photo_device.specs.Ordered.{put}
 use Rattle.photo_device.specs.Entry.{Entry, put_entries}
-use Rattle.photo_device.specs.Held.{entries_of, count_of, is_of, has_version_of}
+use Rattle.photo_device.specs.Held.{entries_of, held_before, are_in_order, count_of, put_helds}
 use Rattle.photo_device.specs.Device.{Kept, ModelDevice, Shows, narrowed, moved}
 use Rattle.photo_device.specs.Own.{HasEarlier, IsKnownBy, IsDevice}
 use Rattle.photo_device.specs.Taking.{is_on_side, AreNewTo, with_side}
 use Rattle.photo_device.proofs.AllLemmas.{all_filter}
-use Rattle.photo_device.proofs.Counts.{one_of, count_of-cons, count_of-append, count_of-filter, same_version_self}
-use Rattle.photo_device.proofs.OwnLemmas.{all_of}
-use Rattle.photo_device.proofs.Taken.{count_of-put_helds, IsTaking, has_put, has_skipped, put_one_by_one, one_by_one}
+use Rattle.photo_device.proofs.Counts.{count_of-append}
+use Rattle.photo_device.proofs.Lexical.{held_order}
+use Rattle.photo_device.proofs.Putting.{list_all_wider, put_first, in_order-filter}
+use Rattle.photo_device.proofs.Taken.{count_of-put_helds}
 use Rattle.photo_device.proofs.Changed.{both_sides, all_put_helds, entries-filter, entries-put_helds}
 
 pub narrows_device : (tree : Tree) (d : Kept) → IsDevice d → IsDevice (record d { tree = tree; store = filter (λ h. matches tree h.content) d.store; out = with_side false tree d.store d.out })
@@ -76,51 +75,6 @@ moved_away tree d m shows =
     entries_long [] = refl
     entries_long (x ∷ xs) = let rest = entries_long xs in omega arith
 
--- a block of what is taken
-pub block_taken : (matched : Bool) (tree : Tree) (takes before block left now : List Held) → IsTaking matched tree takes before (block ++ left) now → IsTaking matched tree takes before left (put_one_by_one (filter (is_on_side matched tree) block) now)
-block_taken matched tree takes before [] left now taking = taking
-block_taken matched tree takes before (h ∷ block) left now taking =
-    elim (cases_Bool (is_on_side matched tree h)) [
-      | inl side ↦
-          subst (λ b. IsTaking matched tree takes before left (put_one_by_one (cond b (h ∷ filter (is_on_side matched tree) block) (filter (is_on_side matched tree) block)) now)) (sym side)
-          (block_taken matched tree takes before block left _ (has_put matched tree takes before (block ++ left) now h taking side))
-      | inr side ↦
-          subst (λ b. IsTaking matched tree takes before left (put_one_by_one (cond b (h ∷ filter (is_on_side matched tree) block) (filter (is_on_side matched tree) block)) now)) (sym side)
-          (block_taken matched tree takes before block left _ (has_skipped matched tree takes before (block ++ left) now h taking side))
-    ]
-
--- what another set has
-
-is_of_itself : (h : Held) → is_of h h.picture h.version ≡ true
-is_of_itself h = and_from _ _ (eq-eqb h.picture h.picture refl) (same_version_self h.version)
-
-pub all_had : (xs : List Held) → AllByRecursion (λ h. has_version_of h.picture h.version xs ≡ true) xs
-all_had [] = tt
-all_had (x ∷ xs) = (
-  ap (λ b. b || has_version_of x.picture x.version xs) (is_of_itself x),
-  all_of (λ h. has_version_of h.picture h.version xs ≡ true) (λ h. has_version_of h.picture h.version (x ∷ xs) ≡ true)
-      (λ h had. ap (λ b. is_of x h.picture h.version || b) had ∙ or-true (is_of x h.picture h.version)) xs (all_had xs),
-)
-
-none_had : (p : ℕ) (v : Version) (xs : List Held) → count_of v xs ≡ 0 → has_version_of p v xs ≡ false
-none_had p v [] none = refl
-none_had p v (x ∷ xs) none =
-    let all = count_of-cons v x xs in
-    elim (cases_Bool (is_of x p v)) [
-      | inl here ↦ let one : one_of v x ≡ 1 = rw (and_parts (eqb x.picture p) (same_version x.version v) here).1 refl in absurd (omega arith)
-      | inr apart ↦ ap (λ b. b || has_version_of p v xs) apart ∙ none_had p v xs (omega arith)
-    ]
-
-pub none_given_back : (store out : List Held) → ((v : Version) → count_of v store + count_of v out ≤ 1) → filter (λ h. not (has_version_of h.picture h.version store)) out ≡ out
-none_given_back store [] once = refl
-none_given_back store (h ∷ out) once =
-    let here = once h.version in
-    let all = count_of-cons h.version h out in
-    let one : one_of h.version h ≡ 1 = rw (same_version_self h.version) refl in
-    let none = none_had h.picture h.version store (omega arith) in
-    ap (λ b. cond (not b) (h ∷ filter (λ x. not (has_version_of x.picture x.version store)) out) (filter (λ x. not (has_version_of x.picture x.version store)) out)) none
-    ∙ ap (λ l. h ∷ l) (none_given_back store out (λ v. let whole = once v in let part = count_of-cons v h out in omega arith))
-
 pub shorter : (q : Held → Bool) (xs : List Held) → length (filter q xs) ≤ length xs
 shorter q [] = omega arith
 shorter q (x ∷ xs) =
@@ -130,31 +84,27 @@ shorter q (x ∷ xs) =
       | false ↦ omega arith
     ]
 
--- along the blocks of what is taken
+-- a set in order, put together anew
+put_in_none : (xs : List Held) → are_in_order xs ≡ true → put_helds xs [] ≡ xs
+put_in_none [] o = refl
+put_in_none (x ∷ xs) o =
+    ap (put held_before x) (put_in_none xs (and_parts _ _ o).1)
+    ∙ put_first held_order x xs (list_all_wider (held_before x) (λ z. not (held_before z x)) (λ z h. ap not (held_order.one_way x z h)) xs (and_parts _ _ o).0)
 
-pub next_block : (blocks : List (Vec Held Global)) (i : ℕ) (block : Vec Held Global) → i < length blocks → block ≡ get_or blocks i block → joined (drop i blocks) ≡ block.items ++ joined (drop (i + 1) blocks)
-next_block blocks i block h is = ap (λ l. joined l) (drop_more blocks i block h) ∙ ap (λ (b : Vec Held Global). joined (b ∷ drop (i + 1) blocks)) (sym is)
+-- what the tree matches of a set in order
+pub kept_anew : (tree : Tree) (xs ys zs : List Held) → are_in_order xs ≡ true → ys ≡ [] → zs ≡ [] → with_side true tree (xs ++ ys) zs ≡ filter (λ h. matches tree h.content) xs
+kept_anew tree xs ys zs o none empty =
+    (λ i. with_side true tree (xs ++ none i) (empty i))
+    ∙ ap (λ l. with_side true tree l []) (append-nil xs)
+    ∙ put_in_none (filter (is_on_side true tree) xs) (in_order-filter held_before (is_on_side true tree) xs o)
 
-pub front_new : (block left now : List Held) → AreNewTo now (block ++ left) → AreNewTo now block
-front_new block left now new = record {
+-- what is new to a set is new to an empty one
+pub new_alone : (takes helds : List Held) → AreNewTo helds takes → AreNewTo [] takes
+new_alone takes helds new = record {
   once = λ v.
       let once = new.once v in
-      let all = count_of-append v (block ++ left) now in
-      let both = count_of-append v block left in
-      let front = count_of-append v block now in
+      let both = count_of-append v takes helds in
+      let alone = count_of-append v takes [] in
+      let nothing : count_of v [] ≡ 0 = refl in
       omega arith;
 }
-
-pub side_taken : (matched : Bool) (tree : Tree) (takes before block left now : List Held) → IsTaking matched tree takes before (block ++ left) now → IsTaking matched tree takes before left (with_side matched tree block now)
-side_taken matched tree takes before block left now taking =
-    subst (IsTaking matched tree takes before left)
-    (one_by_one (filter (is_on_side matched tree) block) now
-    (λ v. let once = (front_new block left now taking.new).once v in let both = count_of-append v block now in let some = count_of-filter v (is_on_side matched tree) block in omega arith))
-    (block_taken matched tree takes before block left now taking)
-
--- what the other set has goes
-pub none_pass : (store : List Held) → AllByRecursion (λ h. not (has_version_of h.picture h.version store) ≡ false) store
-none_pass store = all_of (λ h. has_version_of h.picture h.version store ≡ true) (λ h. not (has_version_of h.picture h.version store) ≡ false) (λ h had. ap not had) store (all_had store)
-
-pub once_apart : (store out : List Held) → AreNewTo out store → (v : Version) → count_of v store + count_of v out ≤ 1
-once_apart store out new v = let once = new.once v in let both = count_of-append v store out in omega arith

@@ -17,7 +17,8 @@ use Rattle.photo_device.specs.Entry.{Entry, put_entries, without}
 use Rattle.photo_device.specs.Held.{entries_of, held_before, count_of, find_version, is_listed, helds_without, put_helds, RoomyHelds}
 use Rattle.photo_device.specs.Device.{Kept, Staging, ModelDevice, Shows, changed, unstaged, IsAsItWas}
 use Rattle.photo_device.specs.Own.{HasEarlier, IsKnownBy, IsDevice, KnowsNoMore}
-use Rattle.photo_device.specs.Taking.{is_on_side, AreNewTo, with_side}
+use Rattle.block_list.specs.Room.{Reserved}
+use Rattle.photo_device.specs.Taking.{is_on_side, AreNewTo, MayTake, with_side}
 use Rattle.photo_device.specs.Staging.{HasStaged, MayHand, MayStage, staging_of, IsAhead, IsPrepared, FitsWhatIsPrepared, AreParts}
 use Rattle.photo_device.proofs.AllLemmas.{all_append}
 use Rattle.photo_device.proofs.Counts.{count_of-append, count_of-filter}
@@ -310,35 +311,21 @@ committing prepared o p handed d now is same parts may = record {
 pub held_once : (p : Prepared) (o : Option (List Fragment)) (handed : List Held) (d : Kept) → IsCommitting p o handed d → (v : Version) → count_of v d.store + count_of v d.out ≤ 1
 held_once p o handed d are v = let all = all_coming o p handed d are.prepared are.may v in omega arith
 
-pub store_new : (p : Prepared) (o : Option (List Fragment)) (handed : List Held) (d : Kept) (drops : List Version) → IsCommitting p o handed d → AreNewTo (helds_without drops d.store) (handed ++ p.takes)
-store_new p o handed d drops are = coming_to (λ (h : Held). not (is_listed drops h.version)) handed p.takes d.store (λ v. let all = all_coming o p handed d are.prepared are.may v in omega arith)
-
-pub out_new : (p : Prepared) (o : Option (List Fragment)) (handed : List Held) (d : Kept) (drops : List Version) → IsCommitting p o handed d → AreNewTo (helds_without drops d.out) (handed ++ p.takes)
-out_new p o handed d drops are = coming_to (λ (h : Held). not (is_listed drops h.version)) handed p.takes d.out (λ v. let all = all_coming o p handed d are.prepared are.may v in omega arith)
-
-pub store_most : (p : Prepared) (o : Option (List Fragment)) (handed : List Held) (d : Kept) (drops : List Version) → IsCommitting p o handed d → length (helds_without drops d.store) ≤ p.in_store.most
-store_most p o handed d drops are =
-    let less = shorter (λ (h : Held). not (is_listed drops h.version)) d.store in
-    let most = are.prepared.store in
-    omega arith
-
-pub out_most : (p : Prepared) (o : Option (List Fragment)) (handed : List Held) (d : Kept) (drops : List Version) → IsCommitting p o handed d → length (helds_without drops d.out) ≤ p.in_out.most
-out_most p o handed d drops are =
-    let less = shorter (λ (h : Held). not (is_listed drops h.version)) d.out in
-    let most = are.prepared.out in
-    omega arith
-
-pub store_fits : (p : Prepared) (o : Option (List Fragment)) (handed : List Held) (d : Kept) → IsCommitting p o handed d → length p.takes + length handed ≤ p.in_store.more
-store_fits p o handed d are =
+-- either set may take what comes, once it has given up what goes
+fits_in : (p : Prepared) (o : Option (List Fragment)) (handed : List Held) (d : Kept) (drops : List Version) (helds : List Held) (room : Reserved) → IsCommitting p o handed d → ((v : Version) → count_of v handed + count_of v p.takes + count_of v helds ≤ 1)
+    → length helds ≤ room.most → length p.takes + p.room ≤ room.more → MayTake (helds_without drops helds) handed p.takes room
+fits_in p o handed d drops helds room are once most more =
     let few = handed_few o p handed d are.prepared are.may in
-    let room = are.prepared.store_room in
-    omega arith
+    let less = shorter (λ (h : Held). not (is_listed drops h.version)) helds in
+    record { new = coming_to (λ (h : Held). not (is_listed drops h.version)) handed p.takes helds once; most = omega arith; more = omega arith }
 
-pub out_fits : (p : Prepared) (o : Option (List Fragment)) (handed : List Held) (d : Kept) → IsCommitting p o handed d → length p.takes + length handed ≤ p.in_out.more
-out_fits p o handed d are =
-    let few = handed_few o p handed d are.prepared are.may in
-    let room = are.prepared.out_room in
-    omega arith
+pub store_fits : (p : Prepared) (o : Option (List Fragment)) (handed : List Held) (d : Kept) (drops : List Version) → IsCommitting p o handed d → MayTake (helds_without drops d.store) handed p.takes p.in_store
+store_fits p o handed d drops are =
+    fits_in p o handed d drops d.store p.in_store are (λ v. let all = all_coming o p handed d are.prepared are.may v in omega arith) are.prepared.store are.prepared.store_room
+
+pub out_fits : (p : Prepared) (o : Option (List Fragment)) (handed : List Held) (d : Kept) (drops : List Version) → IsCommitting p o handed d → MayTake (helds_without drops d.out) handed p.takes p.in_out
+out_fits p o handed d drops are =
+    fits_in p o handed d drops d.out p.in_out are (λ v. let all = all_coming o p handed d are.prepared are.may v in omega arith) are.prepared.out are.prepared.out_room
 
 is_known : (o : Option (List Fragment)) (new : Knowing) → IfSome o (λ s. new ≡ settled s) → IfSome o (λ fs. new.known ≡ fs)
 is_known o new is = IfSome_then o is (λ s same. ap (λ (k : Knowing). k.known) same)

@@ -11,7 +11,7 @@ use Rattle.photo_version.specs.Version.{Version, same_version}
 use Rattle.photo_device.specs.declared.held.Held.{Held}
 use Rattle.photo_device.specs.Ordered.{put}
 use Rattle.photo_device.specs.Held.{held_before, count_of, find_version, is_listed, helds_without, put_helds}
-use Rattle.photo_device.specs.Taking.{is_on_side, versions_in, AreNewTo, with_side}
+use Rattle.photo_device.specs.Taking.{is_on_side, AreNewTo, with_side}
 use Rattle.photo_device.proofs.Counts.{one_of, count_of-cons, count_of-append, count_of-put, count_of-filter, same_version_is, same_version_self}
 use Rattle.photo_device.proofs.Lexical.{held_order, held_apart}
 use Rattle.photo_device.proofs.Putting.{follows, filter-put_out}
@@ -168,78 +168,30 @@ without_other v (x ∷ xs) none =
           ∙ ap (λ l. x ∷ l) (without_other v xs (omega arith))
     ]
 
-pub untouched : (takes helds : List Held) → AreNewTo helds takes → helds_without (versions_in takes) helds ≡ helds
-untouched [] helds new = without_none helds
-untouched (h ∷ takes) helds new =
-    let none : count_of h.version helds ≡ 0 = (let all = first_new h takes helds new in let both = count_of-append h.version takes helds in omega arith) in
-    sym (without-cons h.version (versions_in takes) helds)
-    ∙ ap (helds_without (versions_in takes)) (without_other h.version helds none)
-    ∙ untouched takes helds (rest_new h takes helds new)
-
-back_put : (versions : List Version) (h : Held) (xs : List Held) → is_listed versions h.version ≡ true → helds_without versions (put held_before h xs) ≡ helds_without versions xs
-back_put versions h xs listed = filter-put_out held_before (λ (x : Held). not (is_listed versions x.version)) h xs (ap not listed)
-
-first_listed : (h : Held) (left : List Held) → is_listed (versions_in (h ∷ left)) h.version ≡ true
-first_listed h left = ap (λ b. b || is_listed (versions_in left) h.version) (same_version_self h.version)
-
-rest_listed : (h : Held) (left : List Held) (v : Version) → is_listed (versions_in left) v ≡ true → is_listed (versions_in (h ∷ left)) v ≡ true
-rest_listed h left v listed = ap (λ b. same_version h.version v || b) listed ∙ or-true (same_version h.version v)
-
-back_side : (versions : List Version) (q : Held → Bool) (takes helds : List Held) → ((v : Version) → is_listed (versions_in takes) v ≡ true → is_listed versions v ≡ true) → helds_without versions (put_helds (filter q takes) helds) ≡ helds_without versions helds
-back_side versions q [] helds among = refl
-back_side versions q (h ∷ takes) helds among =
-    let rest = back_side versions q takes helds (λ v listed. among v (rest_listed h takes v listed)) in
-    elim (q h) as (λ b. helds_without versions (put_helds (cond b (h ∷ filter q takes) (filter q takes)) helds) ≡ helds_without versions helds) [
-      | true ↦ back_put versions h _ (among h.version (first_listed h takes)) ∙ rest
-      | false ↦ rest
-    ]
-
--- what was taken is given back
-pub given_back : (matched : Bool) (tree : Tree) (takes helds : List Held) → AreNewTo helds takes → helds_without (versions_in takes) (with_side matched tree takes helds) ≡ helds
-given_back matched tree takes helds new = back_side (versions_in takes) (is_on_side matched tree) takes helds (λ v listed. listed) ∙ untouched takes helds new
-
--- a set that takes them one after another: those that are left, and what it has now. A test that none of them passes
--- leaves of it what it leaves of the set before
+-- a set that takes them one after another: those that are left, and what it has now
 pub record IsTaking (matched : Bool) (tree : Tree) (takes before left now : List Held) : Type 0 where
   pub done : put_one_by_one (filter (is_on_side matched tree) left) now ≡ put_one_by_one (filter (is_on_side matched tree) takes) before
   pub new : AreNewTo now left
-  pub back : (q : Held → Bool) → AllByRecursion (λ h. q h ≡ false) takes → filter q now ≡ filter q before
-  pub among : (q : Held → Bool) → AllByRecursion (λ h. q h ≡ false) takes → AllByRecursion (λ h. q h ≡ false) left
 
 pub is_starting : (matched : Bool) (tree : Tree) (takes before : List Held) → AreNewTo before takes → IsTaking matched tree takes before takes before
-is_starting matched tree takes before new = record { done = refl; new = new; back = λ q none. refl; among = λ q none. none }
+is_starting matched tree takes before new = record { done = refl; new = new }
 
 pub has_put : (matched : Bool) (tree : Tree) (takes before left now : List Held) (h : Held) → IsTaking matched tree takes before (h ∷ left) now → is_on_side matched tree h ≡ true → IsTaking matched tree takes before left (put held_before h now)
 has_put matched tree takes before left now h taking side = record {
   done = ap (λ b. put_one_by_one (cond b (h ∷ filter (is_on_side matched tree) left) (filter (is_on_side matched tree) left)) now) (sym side) ∙ taking.done;
   new = put_new h left now taking.new;
-  back = λ q none. filter-put_out held_before q h now (taking.among q none).0 ∙ taking.back q none;
-  among = λ q none. (taking.among q none).1;
 }
 
 pub has_skipped : (matched : Bool) (tree : Tree) (takes before left now : List Held) (h : Held) → IsTaking matched tree takes before (h ∷ left) now → is_on_side matched tree h ≡ false → IsTaking matched tree takes before left now
 has_skipped matched tree takes before left now h taking side = record {
   done = ap (λ b. put_one_by_one (cond b (h ∷ filter (is_on_side matched tree) left) (filter (is_on_side matched tree) left)) now) (sym side) ∙ taking.done;
   new = rest_new h left now taking.new;
-  back = taking.back;
-  among = λ q none. (taking.among q none).1;
 }
-
--- a test for those that are not taken: none of these passes it
-pub all_listed : (takes : List Held) (versions : List Version) → ((v : Version) → is_listed (versions_in takes) v ≡ true → is_listed versions v ≡ true) → AllByRecursion (λ h. not (is_listed versions h.version) ≡ false) takes
-all_listed [] versions among = tt
-all_listed (h ∷ takes) versions among = (ap not (among h.version (first_listed h takes)), all_listed takes versions (λ v listed. among v (rest_listed h takes v listed)))
 
 pub has_taken : (matched : Bool) (tree : Tree) (takes before now : List Held) → AreNewTo before takes → IsTaking matched tree takes before [] now → now ≡ with_side matched tree takes before
 has_taken matched tree takes before now new taking =
     taking.done ∙ one_by_one (filter (is_on_side matched tree) takes) before
     (λ v. let once = new.once v in let both = count_of-append v takes before in let some = count_of-filter v (is_on_side matched tree) takes in omega arith)
-
-pub next_left : (takes : List Held) (i : ℕ) (h : Held) → i < length takes → h ≡ get_or takes i h → drop i takes ≡ h ∷ drop (i + 1) takes
-next_left takes i h l is = drop_more takes i h l ∙ ap (λ (x : Held). x ∷ drop (i + 1) takes) (sym is)
-
-pub none_left : (takes : List Held) (i : ℕ) → length takes ≤ i → drop i takes ≡ []
-none_left takes i h = drop_all i takes h
 
 pub next_new : (h : Held) (left now : List Held) → AreNewTo now (h ∷ left) → find_version h.version now ≡ None
 next_new h left now new =

@@ -1,5 +1,6 @@
 -- Machinery of the proofs: what a set takes of versions.
-use Rattle.std.specs.Prelude.{◌≤◌, Bool, true, false, not, List, ◌++◌, map, filter}
+use Rattle.std.specs.Prelude.{◌≤◌, ◌+◌, Bool, true, false, not, List, ◌++◌, length, filter}
+use Rattle.block_list.specs.Room.{Reserved}
 use Rattle.photo_filter_text.specs.Tree.{Tree}
 use Rattle.photo_filter_rules.specs.Matching.{matches}
 use Rattle.photo_version.specs.Version.{Version}
@@ -11,12 +12,15 @@ abbrev pub is_on_side : Bool → Tree → Held → Bool
 is_on_side true tree held = matches tree held.content
 is_on_side false tree held = not (matches tree held.content)
 
-abbrev pub versions_in : List Held → List Version
-versions_in helds = map (λ h. h.version) helds
-
 -- in both together each version stands once
 pub record AreNewTo (helds takes : List Held) : Type 0 where
   pub once : (v : Version) → count_of v (takes ++ helds) ≤ 1
+
+-- a set may take two lists of versions in that room
+pub record MayTake (helds handed takes : List Held) (room : Reserved) : Type 0 where
+  pub new : AreNewTo helds (handed ++ takes)
+  pub most : length helds ≤ room.most
+  pub more : length takes + length handed ≤ room.more
 
 -- a set with those of one side
 abbrev pub with_side : Bool → Tree → List Held → List Held → List Held

@@ -1,6 +1,7 @@
-// What a device holds, sorted anew for another filter, with what it tells.
-ghost use Rattle.std.specs.Prelude.{◌≡◌, ℕ, ◌<◌, ◌||◌, ◌++◌, true, false, [], None, IfOk};
+// What a device holds, sorted anew for another filter.
+ghost use Rattle.std.specs.Prelude.{◌≡◌, ℕ, ◌<◌, ◌||◌, ◌++◌, true, false, [], filter, None, IfOk, OnOk, OnErr};
 ghost use Rattle.std.specs.List.{AllByRecursion};
+ghost use Rattle.photo_filter_rules.specs.Matching.{matches};
 ghost use Rattle.photo_version.specs.Author.{Author};
 ghost use Rattle.photo_version.specs.Version.{Version};
 ghost use Rattle.item_knowledge.specs.Fragments.{knows};
@@ -11,7 +12,7 @@ ghost use Rattle.photo_device.specs.Taking.{with_side, AreNewTo};
 ghost use Rattle.photo_device.specs.Telling.{tells};
 
 use crate::table::{gain_of, table_of};
-use crate::takes::{rooms, take_in};
+use crate::takes::sort_in;
 use crate::{HeldSet, SharedHeld, SharedList};
 use item_knowledge::Knowledge;
 use photo_filter_rules::Filter;
@@ -57,29 +58,6 @@ fn told_of(
     Ok(told)
 }
 
-// The versions of two lists in two sets: those that the filter matches, and the others.
-fn sorted_anew(
-    alloc: Global,
-    wanted: &Filter,
-    stored: Vec<SharedHeld>,
-    waiting: Vec<SharedHeld>,
-) -> Result<(HeldSet, HeldSet), AllocError>
-    requires { AreNewTo waiting.items stored.items }
-    ensures store { IfOk result (λ sets. sets.0 ≡ with_side true wanted.now (stored.items ++ waiting.items) []) }
-    ensures out { IfOk result (λ sets. sets.1 ≡ with_side false wanted.now (stored.items ++ waiting.items) []) }
-{
-    let mut store = HeldSet::new(alloc);
-    let mut out = HeldSet::new(alloc);
-    let Some(all) = stored.len().checked_add(waiting.len()) else {
-        return Err(AllocError);
-    };
-    let (in_store, in_out) = rooms(&mut store, &mut out, all)?;
-    take_in(
-        wanted, waiting, stored, &mut store, in_store, &mut out, in_out,
-    );
-    Ok((store, out))
-}
-
 /// What two sets hold, sorted anew by a filter, and what it tells. Its only error is want of memory.
 pub(crate) fn held_anew(wanted: &Filter, store: &HeldSet, out: &HeldSet) -> Result<Anew, AllocError>
     requires once { AreNewTo out.now store.now }
@@ -95,6 +73,33 @@ pub(crate) fn held_anew(wanted: &Filter, store: &HeldSet, out: &HeldSet) -> Resu
     let stored = listed(store)?;
     let waiting = listed(out)?;
     let told = told_of(alloc, stored.as_slice(), waiting.as_slice())?;
-    let (store, out) = sorted_anew(alloc, wanted, stored.into_vec(), waiting.into_vec())?;
+    let mut store = HeldSet::new(alloc);
+    let mut out = HeldSet::new(alloc);
+    sort_in(
+        wanted,
+        stored.into_vec(),
+        waiting.into_vec(),
+        &mut store,
+        &mut out,
+    )?;
     Ok(Anew { store, out, told })
+}
+
+/// What a store holds, sorted anew by a filter: what it matches, as a set, while the rest comes into the out. After want of
+/// memory the out is as it was.
+pub(crate) fn narrowed(
+    wanted: &Filter,
+    store: &HeldSet,
+    out: &mut HeldSet,
+) -> Result<HeldSet, AllocError>
+    requires { AreNewTo out.old store.now }
+    ensures kept { IfOk result (λ kept. kept ≡ filter (λ h. matches wanted.now h.content) store.now) }
+    ensures out { OnOk result (out.new ≡ with_side false wanted.now store.now out.old) }
+    ensures err { OnErr result (out.new ≡ out.old) }
+{
+    let alloc = store.alloc();
+    let stored = listed(store)?;
+    let mut kept = HeldSet::new(alloc);
+    sort_in(wanted, stored.into_vec(), Vec::new(alloc), &mut kept, out)?;
+    Ok(kept)
 }

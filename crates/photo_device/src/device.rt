@@ -4,11 +4,11 @@ ghost use Rattle.item_knowledge.specs.Kept.{star_bound};
 ghost use Rattle.photo_device.specs.Device.{store_with, out_with};
 ghost use Rattle.photo_device.specs.Learning.{IsOwnLearned};
 
-use crate::anew::{Anew, held_anew};
+use crate::anew::{Anew, held_anew, narrowed};
 use crate::drops::give_up;
 use crate::noted_knowledge::NotedKnowledge;
 use crate::prepared::Prepared;
-use crate::takes::{rooms, take_in, take_others};
+use crate::takes::{rooms, take_in};
 use crate::{
     Change, ChangeFault, Conflict, Held, HeldSet, NarrowFault, Place, SharedHeld, SharedList,
     VersionList, conflicts,
@@ -163,7 +163,7 @@ impl Device {
         ensures ok { OnOk result (HasMade place held self.old self.new) }
         ensures err { OnErr result (self.new ≡ self.old) }
     {
-        self.knowledge.make_place(held.version())?;
+        self.knowledge.make_place(held.version());
         if self.counter == 0 {
             return self.add_first(place, held);
         }
@@ -496,13 +496,13 @@ impl Device {
         if !covers(&self.filter, &filter) {
             return Err((filter, NarrowFault::NotNarrower));
         }
-        if let Err(_) = take_others(&filter, &self.store, &mut self.out) {
+        let Ok(kept) = narrowed(&filter, &self.store, &mut self.out) else {
             return Err((filter, NarrowFault::NoMemory));
-        }
-        let before = self.store.len();
-        self.store.keep_matched(&filter);
+        };
+        let gone = self.store.len() - kept.len();
+        self.store = kept;
         self.filter = filter;
-        Ok((before - self.store.len()) as u64)
+        Ok(gone as u64)
     }
 
     /// Is to keep from now on what any filter matches, and begins its next epoch as an author. What it holds is sorted anew

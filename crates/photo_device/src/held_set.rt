@@ -8,7 +8,6 @@ use crate::roomy_set::RoomySet;
 use crate::sought::Sought;
 use crate::{Held, SharedHeld, SharedList};
 use block_list::{BlockList, Iter, Room, Spot};
-use photo_filter_rules::Filter;
 use photo_record::PicNo;
 use photo_version::Version;
 use std::alloc::{AllocError, Global};
@@ -36,13 +35,11 @@ impl Model for HeldSet {
 }
 
 impl HeldSet {
-    ghost use Rattle.std.specs.Prelude.{◌≡◌, ◌+◌, ◌<◌, ◌≤◌, ◌==◌, true, false, not, None, [], ◌∷◌, ◌++◌, length, filter, slice_get, Some};
+    ghost use Rattle.std.specs.Prelude.{◌≡◌, ◌+◌, ◌<◌, ◌≤◌, ◌==◌, true, false, None, [], ◌∷◌, ◌++◌, length, slice_get, Some};
     ghost use Rattle.std.specs.Prelude.{IfOk, OnOk, OnErr, vec_len, vec_capacity};
     ghost use Rattle.std.specs.Option.{option_copied};
-    ghost use Rattle.photo_filter_rules.specs.Matching.{matches};
     ghost use Rattle.block_list.specs.Blocks.{joined};
-    ghost use Rattle.photo_device.specs.Ordered.{put};
-    ghost use Rattle.photo_device.specs.Held.{held_before, are_in_order, held_of_others, has_picture, has_version_of};
+    ghost use Rattle.photo_device.specs.Held.{are_in_order, held_of_others, has_picture, has_version_of};
     ghost use Rattle.photo_device.specs.Held.{helds_without, replaced};
     ghost use Rattle.photo_device.specs.Held.{find_version, find_version_of, count_of, times_in, helds_at};
     ghost use Rattle.photo_version.specs.Version as spec;
@@ -208,18 +205,6 @@ impl HeldSet {
         Ok(())
     }
 
-    /// Puts a version among the others, of which none is of that version. An error leaves the set as it was.
-    pub(crate) fn insert(&mut self, held: SharedHeld) -> Result<(), AllocError>
-        requires { find_version held.version self.old ≡ None }
-        ensures ok { OnOk result (self.new ≡ put held_before held self.old) }
-        ensures err { OnErr result (self.new ≡ self.old) }
-    {
-        let (picture, version) = (held.picture(), held.version());
-        let before = |other: &SharedHeld| other.is_before(picture, version);
-        self.items.replace_between(&before, &before, held)?;
-        Ok(())
-    }
-
     /// Gives up those versions, in whatever order they come. It takes no memory, and is quickest where they stand in
     /// the order of versions.
     pub(crate) fn drop_versions(&mut self, versions: &[Version])
@@ -274,21 +259,6 @@ impl HeldSet {
         ensures rest { self.new ≡ helds_without (version ∷ []) self.old }
     {
         self.items.take_near(near, |held| held.version() == version)
-    }
-
-    /// Gives up what the filter doesn't match. It takes no memory.
-    pub(crate) fn keep_matched(&mut self, wanted: &Filter)
-        ensures { self.new ≡ filter (λ h. matches wanted.now h.content) self.old }
-    {
-        self.items.retain(|held| wanted.matches(held.content()));
-    }
-
-    /// Gives up what the other set has as well. It takes no memory.
-    pub(crate) fn drop_those_of(&mut self, other: &HeldSet)
-        ensures { self.new ≡ filter (λ h. not (has_version_of h.picture h.version other.now)) self.old }
-    {
-        self.items
-            .retain(|held| !other.has(held.picture(), held.version()));
     }
 
     /// Gives up all versions of a picture.

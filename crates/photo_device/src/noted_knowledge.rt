@@ -107,11 +107,11 @@ impl NotedKnowledge {
         self.knowledge.commit();
     }
 
-    /// A place for the note of a version. Its only error is want of memory; what is known stays in any case.
-    pub fn make_place(&mut self, version: Version) -> Result<(), AllocError>
+    /// A place for the note of a version, if there is memory for that. What is known stays.
+    pub fn make_place(&mut self, version: Version)
         ensures { self.new ≡ self.old }
     {
-        self.noted.make_place(version)
+        self.noted.make_place(version);
     }
 
     /// Copies of those of a set that aren't known. Its only error is want of memory, and none is wanted where all are known.
@@ -218,7 +218,7 @@ fn push_unknown(
             noted.note(picture, version);
             continue;
         }
-        noted.make_place(version)?;
+        noted.make_place(version);
         found.push(held.try_clone()?)?;
     }
     Ok(())

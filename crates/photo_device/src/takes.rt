@@ -1,9 +1,7 @@
 // Versions that come into the store and the out of a device.
-ghost use Rattle.std.specs.Prelude.{◌≡◌, ◌+◌, ◌<◌, ◌≤◌, ◌++◌, Bool, true, false, [], ◌∷◌, length, filter, None, IfOk, OnOk, OnErr};
-ghost use Rattle.std.specs.List.{AllByRecursion};
-ghost use Rattle.photo_device.specs.declared.held.Held as spec;
+ghost use Rattle.std.specs.Prelude.{◌≡◌, ◌+◌, ◌<◌, ◌≤◌, ◌++◌, true, false, [], ◌∷◌, length, None, IfOk, OnOk, OnErr};
 ghost use Rattle.photo_device.specs.Held.{find_version};
-ghost use Rattle.photo_device.specs.Taking.{with_side, AreNewTo};
+ghost use Rattle.photo_device.specs.Taking.{with_side, AreNewTo, MayTake};
 
 use crate::roomy_set::RoomySet;
 use crate::{HeldSet, SharedHeld};
@@ -51,12 +49,8 @@ pub(crate) fn take_in(
     out: &mut HeldSet,
     in_out: Room<SharedHeld>,
 )
-    requires store_new { AreNewTo store.old (handed.items ++ takes.items) }
-    requires out_new { AreNewTo out.old (handed.items ++ takes.items) }
-    requires store_most { length store.old ≤ in_store.most }
-    requires store_room { length takes.items + length handed.items ≤ in_store.more }
-    requires out_most { length out.old ≤ in_out.most }
-    requires out_room { length takes.items + length handed.items ≤ in_out.more }
+    requires store { MayTake store.old handed.items takes.items in_store }
+    requires out { MayTake out.old handed.items takes.items in_out }
     ensures store { store.new ≡ with_side true wanted.now (takes.items ++ handed.items) store.old }
     ensures out { out.new ≡ with_side false wanted.now (takes.items ++ handed.items) out.old }
 {
@@ -102,37 +96,26 @@ fn put_one(wanted: &Filter, held: SharedHeld, store: &mut RoomySet, out: &mut Ro
     }
 }
 
-/// The out takes copies of what stands in the store and the filter doesn't match. After want of memory it is as it was.
-pub(crate) fn take_others(
+/// The versions of two lists come into two sets: those that the filter matches into the first, and the others into the
+/// second. After want of memory both are as they were.
+pub(crate) fn sort_in(
     wanted: &Filter,
-    store: &HeldSet,
+    stored: Vec<SharedHeld>,
+    waiting: Vec<SharedHeld>,
+    store: &mut HeldSet,
     out: &mut HeldSet,
 ) -> Result<(), AllocError>
-    requires { AreNewTo out.old store.now }
-    ensures ok { OnOk result (out.new ≡ with_side false wanted.now store.now out.old) }
-    ensures err { OnErr result (out.new ≡ out.old) }
+    requires store_new { AreNewTo store.old (waiting.items ++ stored.items) }
+    requires out_new { AreNewTo out.old (waiting.items ++ stored.items) }
+    ensures store { OnOk result (store.new ≡ with_side true wanted.now (stored.items ++ waiting.items) store.old) }
+    ensures out { OnOk result (out.new ≡ with_side false wanted.now (stored.items ++ waiting.items) out.old) }
+    ensures store_kept { OnErr result (store.new ≡ store.old) }
+    ensures out_kept { OnErr result (out.new ≡ out.old) }
 {
-    for block in store.blocks() {
-        if let Err(refused) = put_others(wanted, block, out) {
-            out.drop_those_of(store);
-            return Err(refused);
-        }
-    }
-    Ok(())
-}
-
-// After want of memory the set has taken some of them: what passes a test that none of them passes is as it was.
-fn put_others(wanted: &Filter, takes: &[SharedHeld], set: &mut HeldSet) -> Result<(), AllocError>
-    requires { AreNewTo set.old takes.now }
-    ensures ok { OnOk result (set.new ≡ with_side false wanted.now takes.now set.old) }
-    ensures err { OnErr result
-        ((q : spec.Held → Bool) → AllByRecursion (λ h. q h ≡ false) takes.now → filter q set.new ≡ filter q set.old) }
-{
-    for held in takes {
-        if wanted.matches(held.content()) {
-            continue;
-        }
-        set.insert(held.try_clone()?)?;
-    }
+    let Some(all) = stored.len().checked_add(waiting.len()) else {
+        return Err(AllocError);
+    };
+    let (in_store, in_out) = rooms(store, out, all)?;
+    take_in(wanted, waiting, stored, store, in_store, out, in_out);
     Ok(())
 }

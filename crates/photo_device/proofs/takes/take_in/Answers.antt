@@ -5,20 +5,20 @@ use Rattle.photo_device.proofs.Staged.{both_taken, new_first, new_then}
 use Rattle.photo_device.proofs.takes.take_in.Goals as goal
 
 pub put_all-requires-clause-store : goal.put_all-requires-clause-store
-put_all-requires-clause-store c = subst (λ (l : List Held). AreNewTo l c.args.handed.items) (sym c.opened-stored.ensures.helds) (new_first _ _ _ c.requires.store_new)
+put_all-requires-clause-store c = subst (λ (l : List Held). AreNewTo l c.args.handed.items) (sym c.opened-stored.ensures.helds) (new_first _ _ _ c.requires.store.new)
 
 pub put_all-requires-clause-out : goal.put_all-requires-clause-out
-put_all-requires-clause-out c = subst (λ (l : List Held). AreNewTo l c.args.handed.items) (sym c.opened-waiting.ensures.helds) (new_first _ _ _ c.requires.out_new)
+put_all-requires-clause-out c = subst (λ (l : List Held). AreNewTo l c.args.handed.items) (sym c.opened-waiting.ensures.helds) (new_first _ _ _ c.requires.out.new)
 
 pub put_all-requires-2-clause-store : goal.put_all-requires-2-clause-store
 put_all-requires-2-clause-store c =
     let is = c.put_all.ensures.store ∙ ap (with_side true c.args.wanted.now c.args.handed.items) c.opened-stored.ensures.helds in
-    subst (λ (l : List Held). AreNewTo l c.args.takes.items) (sym is) (new_then true c.args.wanted.now _ _ _ c.requires.store_new)
+    subst (λ (l : List Held). AreNewTo l c.args.takes.items) (sym is) (new_then true c.args.wanted.now _ _ _ c.requires.store.new)
 
 pub put_all-requires-2-clause-out : goal.put_all-requires-2-clause-out
 put_all-requires-2-clause-out c =
     let is = c.put_all.ensures.out ∙ ap (with_side false c.args.wanted.now c.args.handed.items) c.opened-waiting.ensures.helds in
-    subst (λ (l : List Held). AreNewTo l c.args.takes.items) (sym is) (new_then false c.args.wanted.now _ _ _ c.requires.out_new)
+    subst (λ (l : List Held). AreNewTo l c.args.takes.items) (sym is) (new_then false c.args.wanted.now _ _ _ c.requires.out.new)
 
 pub returns-clause-store : goal.returns-clause-store
 returns-clause-store c =

@@ -4,7 +4,7 @@ use Rattle.photo_version.specs.Version.{Version}
 use Rattle.photo_device.specs.Held.{helds_without}
 use Rattle.photo_device.specs.Taking.{with_side}
 use Rattle.photo_device.specs.Staging.{staging_of}
-use Rattle.photo_device.proofs.Staged.{committing, held_once, store_new, out_new, store_most, out_most, store_fits, out_fits, commits, shows_after}
+use Rattle.photo_device.proofs.Staged.{committing, held_once, store_fits, out_fits, commits, shows_after}
 use Rattle.photo_device.proofs.device.Device.commit.Goals as goal
 
 pub give_up-requires : goal.give_up-requires
@@ -15,59 +15,23 @@ give_up-requires c =
     let is : c.self.inside.prepared ≡ Some p = sym c.take.ensures.value ∙ c.in-Some.is in
     held_once p o handed _ (committing c.self.inside.prepared o p handed _ c.args.self.now is c.self.view_is c.self.invariant c.requires.handed)
 
-pub take_in-requires-clause-store_new : goal.take_in-requires-clause-store_new
-take_in-requires-clause-store_new c =
+pub take_in-requires-clause-store : goal.take_in-requires-clause-store
+take_in-requires-clause-store c =
     let o = c.self.inside.knowledge.staged in
     let handed = c.args.handed.items in
     let p = c.in-Some.prepared in
     let is : c.self.inside.prepared ≡ Some p = sym c.take.ensures.value ∙ c.in-Some.is in
     let are = committing c.self.inside.prepared o p handed _ c.args.self.now is c.self.view_is c.self.invariant c.requires.handed in
-    rw (c.give_up.ensures.store, c.into_vec.ensures) (store_new p o handed _ c.as_slice.result.now are)
+    rw (c.give_up.ensures.store, c.into_vec.ensures) (store_fits p o handed _ c.as_slice.result.now are)
 
-pub take_in-requires-clause-out_new : goal.take_in-requires-clause-out_new
-take_in-requires-clause-out_new c =
+pub take_in-requires-clause-out : goal.take_in-requires-clause-out
+take_in-requires-clause-out c =
     let o = c.self.inside.knowledge.staged in
     let handed = c.args.handed.items in
     let p = c.in-Some.prepared in
     let is : c.self.inside.prepared ≡ Some p = sym c.take.ensures.value ∙ c.in-Some.is in
     let are = committing c.self.inside.prepared o p handed _ c.args.self.now is c.self.view_is c.self.invariant c.requires.handed in
-    rw (c.give_up.ensures.out, c.into_vec.ensures) (out_new p o handed _ c.as_slice.result.now are)
-
-pub take_in-requires-clause-store_most : goal.take_in-requires-clause-store_most
-take_in-requires-clause-store_most c =
-    let o = c.self.inside.knowledge.staged in
-    let handed = c.args.handed.items in
-    let p = c.in-Some.prepared in
-    let is : c.self.inside.prepared ≡ Some p = sym c.take.ensures.value ∙ c.in-Some.is in
-    let are = committing c.self.inside.prepared o p handed _ c.args.self.now is c.self.view_is c.self.invariant c.requires.handed in
-    rw c.give_up.ensures.store (store_most p o handed _ c.as_slice.result.now are)
-
-pub take_in-requires-clause-out_most : goal.take_in-requires-clause-out_most
-take_in-requires-clause-out_most c =
-    let o = c.self.inside.knowledge.staged in
-    let handed = c.args.handed.items in
-    let p = c.in-Some.prepared in
-    let is : c.self.inside.prepared ≡ Some p = sym c.take.ensures.value ∙ c.in-Some.is in
-    let are = committing c.self.inside.prepared o p handed _ c.args.self.now is c.self.view_is c.self.invariant c.requires.handed in
-    rw c.give_up.ensures.out (out_most p o handed _ c.as_slice.result.now are)
-
-pub take_in-requires-clause-store_room : goal.take_in-requires-clause-store_room
-take_in-requires-clause-store_room c =
-    let o = c.self.inside.knowledge.staged in
-    let handed = c.args.handed.items in
-    let p = c.in-Some.prepared in
-    let is : c.self.inside.prepared ≡ Some p = sym c.take.ensures.value ∙ c.in-Some.is in
-    let are = committing c.self.inside.prepared o p handed _ c.args.self.now is c.self.view_is c.self.invariant c.requires.handed in
-    rw c.into_vec.ensures (store_fits p o handed _ are)
-
-pub take_in-requires-clause-out_room : goal.take_in-requires-clause-out_room
-take_in-requires-clause-out_room c =
-    let o = c.self.inside.knowledge.staged in
-    let handed = c.args.handed.items in
-    let p = c.in-Some.prepared in
-    let is : c.self.inside.prepared ≡ Some p = sym c.take.ensures.value ∙ c.in-Some.is in
-    let are = committing c.self.inside.prepared o p handed _ c.args.self.now is c.self.view_is c.self.invariant c.requires.handed in
-    rw c.into_vec.ensures (out_fits p o handed _ are)
+    rw (c.give_up.ensures.out, c.into_vec.ensures) (out_fits p o handed _ c.as_slice.result.now are)
 
 pub invariant_of-self : goal.invariant_of-self
 invariant_of-self c =

@@ -7,29 +7,27 @@ use Rattle.std.specs.Prelude.{None}
 use Rattle.photo_device.proofs.Staged.{shows_staged, none_fits}
 use Rattle.photo_device.proofs.device.Device.narrow.Goals as goal
 
-pub overflow_sub-result : goal.overflow_sub-result
-overflow_sub-result c =
+pub overflow_sub-gone : goal.overflow_sub-gone
+overflow_sub-gone c =
     let less = shorter (λ (h : Held). matches c.args.filter h.content) c.self.inside.store in
-    let kept = c.len.ensures ∙ ap length c.keep_matched.ensures in
-    let all = c.len-before.ensures in
+    let kept = c.len-2.ensures ∙ ap length c.in-Ok.ensures.kept in
+    let all = c.len.ensures in
     omega arith
 
 pub invariant_of-self-2 : goal.invariant_of-self-2
 invariant_of-self-2 c =
-    let out = c.in_default.ensures.ok in
     let none = ap (λ (d : Kept). d.staged) (c.self.view_is ∙ c.unstage.ensures) in
-    rw (c.keep_matched.ensures, out) (none_fits c.self.inside.prepared c.self.inside.knowledge.staged _ _ c.self.invariant none (narrows_device c.args.filter _ c.self.invariant.device))
+    rw (c.in-Ok.ensures.kept, c.in-Ok.ensures.out) (none_fits c.self.inside.prepared c.self.inside.knowledge.staged _ _ c.self.invariant none (narrows_device c.args.filter _ c.self.invariant.device))
 
 pub returns-clause-shows : goal.returns-clause-shows
 returns-clause-shows c =
     λ m shows.
-    let out = c.in_default.ensures.ok in
     let before = subst (λ (d : Kept). Shows d m) (sym (c.self.view_is ∙ c.unstage.ensures)) (shows_staged c.args.self.now None m shows) in
-    rw (c.keep_matched.ensures, out) (shows_narrowed c.args.filter _ m before)
+    rw (c.in-Ok.ensures.kept, c.in-Ok.ensures.out) (shows_narrowed c.args.filter _ m before)
 
 pub returns-clause-moved : goal.returns-clause-moved
 returns-clause-moved c =
     λ m shows.
-    let kept = c.len.ensures ∙ ap length c.keep_matched.ensures in
+    let kept = c.len-2.ensures ∙ ap length c.in-Ok.ensures.kept in
     let before = subst (λ (d : Kept). Shows d m) (sym (c.self.view_is ∙ c.unstage.ensures)) (shows_staged c.args.self.now None m shows) in
-    (λ i. c.len-before.ensures i - kept i) ∙ moved_away c.args.filter _ m before
+    (λ i. c.len.ensures i - kept i) ∙ moved_away c.args.filter _ m before

@@ -5,14 +5,9 @@ use Rattle.photo_device.proofs.noted_versions.NotedVersions.make_place.Goals as 
 
 pub loop-preserved : goal.loop-preserved
 loop-preserved c known all =
-    subst (AreKnown known) (sym c.in_ok-push.ensures.items) (known_behind known c.loop.self.rows.items c.new.result c.new.ensures.items (c.loop.invariant known all))
+    subst (AreKnown known) (sym c.in-Ok.ensures.items) (known_behind known c.loop.self.rows.items c.new.result c.new.ensures.items (c.loop.invariant known all))
 
-pub returns-in_err-fill : goal.returns-in_err-fill
-returns-in_err-fill c known all =
+pub returns-then-device-len : goal.returns-then-device-len
+returns-then-device-len c known all =
     let within : c.from-device.result < length c.loop.self.rows.items = search rules in
-    known_still known c.loop.self.rows.items c.from-device.result _ c.index_mut.result.now c.fill.new.row within c.index_mut.ensures.value c.fill.ensures.items (c.loop.invariant known all)
-
-pub returns-in_ok-fill : goal.returns-in_ok-fill
-returns-in_ok-fill c known all =
-    let within : c.from-device.result < length c.loop.self.rows.items = search rules in
-    known_still known c.loop.self.rows.items c.from-device.result _ c.index_mut.result.now c.fill.new.row within c.index_mut.ensures.value c.fill.ensures.items (c.loop.invariant known all)
+    known_still known c.loop.self.rows.items c.from-device.result _ c.index_mut.result.now c.fill.new.row within c.index_mut.ensures.value c.fill.ensures (c.loop.invariant known all)
