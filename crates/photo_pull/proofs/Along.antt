@@ -37,39 +37,9 @@ same_picture xs k w d l is = ap (λ (x : Held). x.picture) (other_default xs k l
     other_default (x ∷ xs) zero l = refl
     other_default (x ∷ xs) (suc k) l = other_default xs k (omega arith)
 
-pub less_before : (xs : List Held) (k : ℕ) (w : Held) (p : ℕ) (h : Held) → are_in_order xs ≡ true → 0 < k → k ≤ length xs → w ≡ get_or xs (k - 1) w → w.picture < p → h.picture ≡ p → has_above (drop k xs) h ≡ has_above xs h
-less_before xs k w p h order some within is less of_it = behind xs k h within
-    (λ i d l.
-    let rise = rises xs order i (k - 1) d (omega arith) (omega arith) in
-    let last = same_picture xs (k - 1) w d (omega arith) is in
-    omega arith)
-
 pub greater_from : (xs : List Held) (k : ℕ) (w h : Held) → are_in_order xs ≡ true → k < length xs → w ≡ get_or xs k w → h.picture < w.picture → has_above (drop k xs) h ≡ false
 greater_from xs k w h order within is greater = none_from xs k h
     (λ i d g l.
     let rise = rises xs order k i d g l in
     let first = same_picture xs k w d within is in
     omega arith)
-
-pub one_from : (xs : List Held) (k : ℕ) (w h : Held) → k < length xs → w ≡ get_or xs k w → has_above (drop k xs) h ≡ (is_above w h || has_above (drop (k + 1) xs) h)
-one_from xs k w h l is = rw add-one (at_place xs k l is)
-  where
-    at_place : (xs : List Held) (k : ℕ) → k < length xs → w ≡ get_or xs k w → has_above (drop k xs) h ≡ (is_above w h || has_above (drop (suc k) xs) h)
-    at_place [] k l is = absurd (omega arith)
-    at_place (x ∷ xs) zero l is = ap (λ y. is_above y h || has_above xs h) (sym is)
-    at_place (x ∷ xs) (suc k) l is = at_place xs k (omega arith) is
-
--- where nothing is new, and no keeping is followed, nothing is dropped
-pub none_over : (followed : Bool) (test : Held → Bool) (stored waiting xs : List Held) → followed ≡ false → (eqb (length stored) 0 && eqb (length waiting) 0) ≡ true
-    → filter (λ h. (has_above stored h || has_above waiting h) || (followed && test h)) xs ≡ []
-none_over followed test stored waiting xs unfollowed none =
-    let parts = and_parts (eqb (length stored) 0) (eqb (length waiting) 0) none in
-    (λ i. filter (λ h. (has_above (no_element stored parts.0 i) h || has_above (no_element waiting parts.1 i) h) || (unfollowed i && test h)) xs) ∙ nothing xs
-  where
-    no_element : (hs : List Held) → eqb (length hs) 0 ≡ true → hs ≡ []
-    no_element [] e = refl
-    no_element (h ∷ hs) e = let zero_length = eqb-true (length (h ∷ hs)) 0 e in absurd (omega arith)
-
-    nothing : (hs : List Held) → filter (λ h. false) hs ≡ []
-    nothing [] = refl
-    nothing (h ∷ hs) = nothing hs

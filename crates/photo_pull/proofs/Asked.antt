@@ -57,11 +57,6 @@ module _ (t s : Kept) (ready : AreReady t s) where
       (all_map P (λ (h : Held). h.version) (dropped_stored t s) (all_passing (λ h. P h.version) (is_dropped t s) t.store (λ h here _. found_some (λ (g : Held). same_version g.version h.version) h (t.store ++ t.out) (in_left h t.store t.out here) (same_itself h.version))))
       (all_map P (λ (h : Held). h.version) (dropped_waiting t s) (all_passing (λ h. P h.version) (is_over t s) t.out (λ h here _. found_some (λ (g : Held). same_version g.version h.version) h (t.store ++ t.out) (in_right h t.store t.out here) (same_itself h.version))))
 
-  pub handed_held : AllByRecursion (λ v. is_some (find_version v s.out) ≡ true) (versions (new_waiting t s))
-  handed_held =
-      let P : Version → Type 0 = λ v. is_some (find_version v s.out) ≡ true in
-      all_map P (λ (h : Held). h.version) (new_waiting t s) (all_passing (λ h. P h.version) (is_new t.knowledge) s.out (λ h here _. found_some (λ (g : Held). same_version g.version h.version) h s.out here (same_itself h.version)))
-
   -- what the source holds and the target doesn't know, the target doesn't hold
   not_held : (w : Held) → In w (s.store ++ s.out) → is_new t.knowledge w ≡ true → find_version w.version (t.store ++ t.out) ≡ None
   not_held w here new = by (find_version w.version (t.store ++ t.out)) refl

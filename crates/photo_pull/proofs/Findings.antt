@@ -47,9 +47,6 @@ module _ (t s : Kept) (f : Finding) (found : IsFound t s f) where
   pub drops_are : versions f.dropped.stored.items ++ versions f.dropped.waiting.items ≡ drops t s
   drops_are = λ i. versions (found.dropped_stored i) ++ versions (found.dropped_waiting i)
 
-  pub takes_are : f.taken.items ++ f.handed.items ≡ takes t s
-  takes_are = λ i. found.taken i ++ found.handed i
-
   pub nothing_found : f.taken.items ≡ [] → f.notices ≡ 0 → f.handed.items ≡ [] → f.dropped.stored.items ≡ [] → f.dropped.waiting.items ≡ []
       → (f.learned ≡ true → (p : ℕ) (v : Version) → 0 < p → knows s.knowledge p v ≡ true → knows t.knowledge p v ≡ true) → IsNothing t s
   nothing_found none no_notice none_handed stored dropped known = record {

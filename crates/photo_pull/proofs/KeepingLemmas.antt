@@ -14,8 +14,10 @@ use Rattle.photo_device.specs.declared.held.Held.{Held}
 use Rattle.photo_pull.specs.declared.gap.Gap.{Gap}
 use Rattle.photo_pull.specs.OnHeld.{has_above, has_same}
 use Rattle.photo_pull.specs.Gaps.{IsGap, are_kept}
-use Rattle.photo_pull.proofs.GapLemmas.{lies_in}
 use Rattle.photo_pull.proofs.Told.{or_intro, or_other}
+
+abbrev pub lies_in : ℕ → ℕ → Held → Bool
+lies_in from end h = leb from h.picture && ltb h.picture end
 
 -- an element of a part of a list is one of the list
 

@@ -1,7 +1,6 @@
 pub mod Along
 pub mod Members
 pub mod Ranges
-mod GapLemmas
 pub mod Ready
 pub mod Told
 mod KeepingLemmas

@@ -18,9 +18,6 @@ changed_moved vs ws moved takes gain m = λ i. record m {
   of = λ picture v. m.of picture v || gain picture v;
 }
 
-pub waiting_moved : (vs ws : List Version) → IsPermutation vs ws → (m : ModelDevice) → without_waiting ws m ≡ without_waiting vs m
-waiting_moved vs ws moved m = λ i. record m { out = without_moved vs ws moved m.out i }
-
 none_fails : (test : Version → Bool) (vs : List Version) → AllByRecursion (λ v. test v ≡ true) vs → list_any (λ v. not (test v)) vs ≡ false
 none_fails test [] all = refl
 none_fails test (v ∷ vs) all = rw (all.0) (none_fails test vs all.1)

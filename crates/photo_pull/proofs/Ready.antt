@@ -25,9 +25,6 @@ same_is v w h =
 pub same_itself : (v : Version) → same_version v v ≡ true
 same_itself v = and_from _ _ (eq-eqb v.author.word v.author.word refl) (eq-eqb v.number v.number refl)
 
-pub is_version : Version → Held → Bool
-is_version v h = same_version h.version v
-
 module _ (t s : Kept) (ready : AreReady t s) where
   pub known_target : (h : Held) → In h (t.store ++ t.out) → IsKnownBy t.knowledge h
   known_target h here = all_at (IsKnownBy t.knowledge) h (t.store ++ t.out) (all_append (IsKnownBy t.knowledge) t.store t.out ready.target.store_known ready.target.out_known) here

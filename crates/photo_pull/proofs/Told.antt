@@ -45,11 +45,6 @@ selected_heard true true o = refl
 selected_heard true false true = refl
 selected_heard true false false = refl
 
-rest_heard : (n k m : Bool) → ((n && k) || (n && (not k && m))) ≡ (n && (k || m))
-rest_heard false k m = refl
-rest_heard true true m = refl
-rest_heard true false m = refl
-
 -- what is told of, in three parts
 join : (f g h : Bool) → ((f || g) || h) ≡ ((f || h) || g)
 join true g h = refl

@@ -8,10 +8,12 @@ use Rattle.item_knowledge.specs.Fragments.{Fragment, knows}
 use Rattle.item_knowledge.specs.Tables.{in_order, at}
 use Rattle.photo_device.specs.declared.held.Held.{Held}
 use Rattle.photo_device.specs.Held.{are_in_order}
-use Rattle.photo_device.specs.Device.{Kept}
+use Rattle.photo_device.specs.Device.{Kept, ModelDevice, Shows}
 use Rattle.photo_device.specs.Own.{HasEarlier}
 use Rattle.photo_device.specs.Staging.{HasStaged}
 use Rattle.photo_device.specs.Telling.{tells}
+use Rattle.photo_pull.specs.declared.counts.PullCounts.{PullCounts}
+use Rattle.photo_pull.specs.Pull.{pulled, handed_over, counts_of}
 use Rattle.photo_pull.specs.OnHeld.{new_stored, new_waiting, dropped_stored, dropped_waiting, heard, taken_stored, learns, versions}
 use Rattle.photo_pull.specs.declared.part.Part.{Part}
 use Rattle.photo_pull.specs.declared.hearing.Hearing.{Hearing}
@@ -75,3 +77,9 @@ pub record HasStagedFound (f : Finding) (table : List (ℕ × List Bound)) (room
   pub drops : List Version
   pub permuted : IsPermutation (drops_found f) drops
   pub change : HasStagedGain drops f.taken.items (gain_found s f table) room old new
+
+-- two devices after a pull, and its counts
+pub record HavePulled (t s after_t after_s : Kept) (counts : PullCounts) : Type 0 where
+  pub target : (tm sm : ModelDevice) → Shows t tm → Shows s sm → Shows after_t (pulled tm sm)
+  pub source : (tm sm : ModelDevice) → Shows t tm → Shows s sm → Shows after_s (handed_over tm sm)
+  pub counted : (tm sm : ModelDevice) → Shows t tm → Shows s sm → counts ≡ counts_of tm sm

@@ -21,12 +21,13 @@ use std::alloc::{AllocError, Global};
 // cost less than it does to go along all that is held.
 const HELD_BY_DROP: usize = 64;
 
-// Puts the pictures of those of a list behind others.
-fn push_pictures(pictures: &mut Vec<PicNo>, list: &[SharedHeld]) -> Result<(), AllocError> {
+// Puts the pictures of those of a list behind others, as long as there is memory for that.
+fn push_pictures(pictures: &mut Vec<PicNo>, list: &[SharedHeld]) {
     for held in list {
-        pictures.push(held.picture())?;
+        let Ok(()) = pictures.push(held.picture()) else {
+            return;
+        };
     }
-    Ok(())
 }
 
 // Whether so many versions are few of those that a device holds.
@@ -50,8 +51,8 @@ fn drops_of(
     push_versions(&mut drops, waiting)?;
     let mut pictures = Vec::new(alloc);
     if are_few(drops.len(), device) {
-        push_pictures(&mut pictures, stored)?;
-        push_pictures(&mut pictures, waiting)?;
+        push_pictures(&mut pictures, stored);
+        push_pictures(&mut pictures, waiting);
         return Ok((VersionList::new(drops), pictures));
     }
     drops.sort_unstable();

@@ -6,7 +6,6 @@ ghost use Rattle.photo_pull.specs.Gaps.{IsGap, are_kept};
 ghost use Rattle.item_knowledge.specs.Fragments.{knows};
 
 use crate::gap::Gap;
-use crate::hints::Hints;
 use crate::keeping::{Along, kept_along};
 use crate::part::Part;
 use photo_device::{Device, HeldSet, SharedHeld};
@@ -15,18 +14,11 @@ use photo_version::Version;
 use std::alloc::{AllocError, Global};
 
 // Whether a device knows a version and doesn't keep it.
-fn has_given_up(device: &Device, hints: &mut Hints, held: &SharedHeld) -> bool
+fn has_given_up(device: &Device, held: &SharedHeld) -> bool
     ensures { result ≡ (knows device.now.knowledge held.now.picture held.now.version && not (has_same device.now.store held.now)) }
 {
     let (picture, version) = (held.picture(), held.version());
-    let (keeps, next) = device.store().has_near(hints.kept, picture, version);
-    hints.kept = next;
-    if keeps {
-        return false;
-    }
-    let (known, next) = device.knowledge().knows_near(hints.known, picture, version);
-    hints.known = next;
-    known
+    !device.store().has(picture, version) && device.knowledge().knows(picture, version)
 }
 
 // Whether something new supersedes a version, or a device has given it up whose keeping is followed.
@@ -35,7 +27,6 @@ fn is_dropped(
     followed: bool,
     device: &Device,
     gap: &mut Gap,
-    hints: &mut Hints,
     held: &SharedHeld,
 ) -> bool
     requires stored { are_in_order news.now.stored.items ≡ true }
@@ -46,45 +37,28 @@ fn is_dropped(
         && not (has_same device.now.store held.now)))) }
     ensures gap { IsGap news.now.stored.items news.now.waiting.items gap.new }
 {
-    if news.any_above_along(gap, hints, held) {
+    if news.any_above_along(gap, held) {
         return true;
     }
-    followed && has_given_up(device, hints, held)
+    followed && has_given_up(device, held)
 }
 
-// How many of the first of a list are seen to stay: their pictures are in a gap, and the device keeps them.
-fn staying(device: &Device, along: &mut Along, list: &[SharedHeld], gap: &Gap) -> usize
+// How many of the first of a list are seen to stay, where keeping is followed: their pictures are in a gap, and the device
+// keeps them.
+fn staying(
+    followed: bool,
+    device: &Device,
+    along: &mut Along,
+    list: &[SharedHeld],
+    gap: &Gap,
+) -> usize
     ensures fewer { result ≤ length list.now }
     ensures kept { are_kept gap.now device.now.store (take result list.now) ≡ true }
 {
-    kept_along(device.store(), along, list, gap)
-}
-
-// Puts copies of those of a list that something new supersedes behind others.
-fn push_superseded(
-    found: &mut Vec<SharedHeld>,
-    news: &Part,
-    gap: &mut Gap,
-    hints: &mut Hints,
-    list: &[SharedHeld],
-) -> Result<(), AllocError>
-    requires stored { are_in_order news.now.stored.items ≡ true }
-    requires waiting { are_in_order news.now.waiting.items ≡ true }
-    requires gap { IsGap news.now.stored.items news.now.waiting.items gap.old }
-    ensures gap { OnOk result (IsGap news.now.stored.items news.now.waiting.items gap.new) }
-    ensures found { OnOk result (found.new.items ≡ found.old.items ++ filter
-        (λ h. has_above news.now.stored.items h || has_above news.now.waiting.items h) list.now) }
-{
-    for held in list {
-        if gap.has(held.picture()) {
-            continue;
-        }
-        if !news.any_above_along(gap, hints, held) {
-            continue;
-        }
-        found.push(held.try_clone()?)?;
+    if !followed {
+        return 0;
     }
-    Ok(())
+    kept_along(device.store(), along, list, gap)
 }
 
 // Puts copies of those of a list that go behind others.
@@ -94,7 +68,6 @@ fn push_dropped(
     followed: bool,
     device: &Device,
     gap: &mut Gap,
-    hints: &mut Hints,
     along: &mut Along,
     list: &[SharedHeld],
 ) -> Result<(), AllocError>
@@ -106,18 +79,15 @@ fn push_dropped(
         (λ h. (has_above news.now.stored.items h || has_above news.now.waiting.items h)
         || (followed && (knows device.now.knowledge h.picture h.version && not (has_same device.now.store h)))) list.now) }
 {
-    if !followed {
-        return push_superseded(found, news, gap, hints, list);
-    }
     let mut place = 0;
     loop {
-        place += staying(device, along, &list[place..], gap);
+        place += staying(followed, device, along, &list[place..], gap);
         if place == list.len() {
             return Ok(());
         }
         let held = &list[place];
         place += 1;
-        if !is_dropped(news, followed, device, gap, hints, held) {
+        if !is_dropped(news, followed, device, gap, held) {
             continue;
         }
         found.push(held.try_clone()?)?;
@@ -140,19 +110,11 @@ pub(crate) fn dropped_of(
     ensures ordered { IfOk result (λ found. are_in_order found.items ≡ true) }
 {
     let mut found = Vec::new(alloc);
-    if !followed && news.is_empty() {
-        return Ok(found);
-    }
     let mut gap = Gap::none();
-    let mut hints = Hints::new();
     let mut along = Along::start();
     for block in set.blocks() {
-        // Its pictures have no news, so it is not gone over.
-        if !followed && gap.has_all(block) {
-            continue;
-        }
         push_dropped(
-            &mut found, news, followed, device, &mut gap, &mut hints, &mut along, block,
+            &mut found, news, followed, device, &mut gap, &mut along, block,
         )?;
     }
     Ok(found)

@@ -1,5 +1,4 @@
 // Pictures of which nothing is new.
-use photo_device::SharedHeld;
 use photo_record::PicNo;
 
 /// Pictures of which a device is told nothing new: from the first up to before the second.
@@ -10,9 +9,7 @@ pub(crate) struct Gap {
 }
 
 impl Gap {
-    ghost use Rattle.std.specs.Prelude.{◌≡◌, ◌&&◌, nat_le, nat_lt, true};
-    ghost use Rattle.std.specs.List.{list_all};
-    ghost use Rattle.photo_device.specs.Held.{are_in_order};
+    ghost use Rattle.std.specs.Prelude.{◌≡◌, ◌&&◌, nat_le, nat_lt};
 
     /// No picture.
     pub fn none() -> Gap
@@ -27,16 +24,5 @@ impl Gap {
         ensures { result ≡ (nat_le self.now.from picture && nat_lt picture self.now.end) }
     {
         self.from <= picture.value() && picture.value() < self.end
-    }
-
-    /// Whether the pictures of a list in order are all among them.
-    pub fn has_all(&self, list: &[SharedHeld]) -> bool
-        requires { are_in_order list.now ≡ true }
-        ensures { result ≡ list_all (λ h. nat_le self.now.from h.picture && nat_lt h.picture self.now.end) list.now }
-    {
-        match (list.first(), list.last()) {
-            (Some(first), Some(last)) => self.has(first.picture()) && self.has(last.picture()),
-            _ => true,
-        }
     }
 }

@@ -7,7 +7,6 @@ mod filtered;
 mod finding;
 mod gap;
 mod hearing;
-mod hints;
 mod keeping;
 mod news;
 mod part;

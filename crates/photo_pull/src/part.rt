@@ -1,7 +1,6 @@
 // Some of the versions that a device holds.
 use crate::gap::Gap;
-use crate::hints::Hints;
-use crate::superseding::{any_above_near, any_below, next_picture};
+use crate::superseding::{any_above, any_below, next_picture};
 use photo_device::SharedHeld;
 use photo_record::PicNo;
 
@@ -28,19 +27,12 @@ impl Part {
     }
 
     /// Whether one of them supersedes the version.
-    pub fn any_above(&self, hints: &mut Hints, held: &SharedHeld) -> bool
+    pub fn any_above(&self, held: &SharedHeld) -> bool
         requires stored { are_in_order self.now.stored.items ≡ true }
         requires waiting { are_in_order self.now.waiting.items ≡ true }
         ensures { result ≡ (has_above self.now.stored.items held.now || has_above self.now.waiting.items held.now) }
     {
-        let (above, next) = any_above_near(&self.stored, hints.stored, held);
-        hints.stored = next;
-        if above {
-            return true;
-        }
-        let (above, next) = any_above_near(&self.waiting, hints.waiting, held);
-        hints.waiting = next;
-        above
+        any_above(&self.stored, held) || any_above(&self.waiting, held)
     }
 
     /// Pictures from this one on of which it has none.
@@ -59,7 +51,7 @@ impl Part {
 
     /// Whether one of them supersedes the version. Where pictures are asked in rising order, each with the gap that was
     /// left, those of which it has none cost little.
-    pub fn any_above_along(&self, gap: &mut Gap, hints: &mut Hints, held: &SharedHeld) -> bool
+    pub fn any_above_along(&self, gap: &mut Gap, held: &SharedHeld) -> bool
         requires stored { are_in_order self.now.stored.items ≡ true }
         requires waiting { are_in_order self.now.waiting.items ≡ true }
         requires gap { IsGap self.now.stored.items self.now.waiting.items gap.old }
@@ -69,7 +61,7 @@ impl Part {
         if gap.has(held.picture()) {
             return false;
         }
-        if self.any_above(hints, held) {
+        if self.any_above(held) {
             return true;
         }
         // Of a picture with news the gap is empty, and asked for once.

@@ -3,7 +3,7 @@ ghost use Rattle.std.specs.Prelude.{◌≡◌, None, IfOk, OnOk, OnErr};
 ghost use Rattle.photo_device.specs.Device.{ModelDevice, Shows, IsAsItWas};
 ghost use Rattle.photo_pull.specs.MayPull.{MayPull};
 ghost use Rattle.photo_pull.specs.Pull.{pulled, handed_over, counts_of};
-ghost use Rattle.photo_pull.specs.Findings.{AreNews};
+ghost use Rattle.photo_pull.specs.Findings.{AreNews, HavePulled};
 
 use crate::PullCounts;
 use crate::change::{handed_of, stage_found};
@@ -36,31 +36,12 @@ pub fn pull(
 {
     target.unstage();
     source.unstage();
-    pull_between(alloc, target, source)
-}
-
-// The pull between two devices on which nothing is staged.
-fn pull_between(
-    alloc: Global,
-    target: &mut Device,
-    source: &mut Device,
-) -> Result<PullCounts, AllocError>
-    requires may { MayPull target.old source.old }
-    requires target_unstaged { target.old.staged ≡ None }
-    requires source_unstaged { source.old.staged ≡ None }
-    ensures target { OnOk result ((t s : ModelDevice) → Shows target.old t → Shows source.old s → Shows target.new (pulled t s)) }
-    ensures source { OnOk result ((t s : ModelDevice) → Shows target.old t → Shows source.old s → Shows source.new (handed_over t s)) }
-    ensures counts { IfOk result (λ counts. (t s : ModelDevice) → Shows target.old t → Shows source.old s → counts ≡ counts_of t s) }
-    ensures target_kept { OnErr result (IsAsItWas target.old target.new) }
-    ensures source_kept { OnErr result (IsAsItWas source.old source.new) }
-    ensures target_still { target.new.staged ≡ None }
-    ensures source_still { source.new.staged ≡ None }
-{
     let news = news_of(alloc, target, source)?;
-    pull_news(alloc, news, target, source)
+    let counts = pull_news(alloc, news, target, source)?;
+    Ok(counts)
 }
 
-// The pull by what is new to the target.
+// The pull by what is new to the target, between two devices on which nothing is staged.
 fn pull_news(
     alloc: Global,
     news: Part,
@@ -71,9 +52,7 @@ fn pull_news(
     requires may { MayPull target.old source.old }
     requires target_unstaged { target.old.staged ≡ None }
     requires source_unstaged { source.old.staged ≡ None }
-    ensures target { OnOk result ((t s : ModelDevice) → Shows target.old t → Shows source.old s → Shows target.new (pulled t s)) }
-    ensures source { OnOk result ((t s : ModelDevice) → Shows target.old t → Shows source.old s → Shows source.new (handed_over t s)) }
-    ensures counts { IfOk result (λ counts. (t s : ModelDevice) → Shows target.old t → Shows source.old s → counts ≡ counts_of t s) }
+    ensures done { IfOk result (λ counts. HavePulled target.old source.old target.new source.new counts) }
     ensures target_kept { OnErr result (IsAsItWas target.old target.new) }
     ensures source_kept { OnErr result (IsAsItWas source.old source.new) }
     ensures target_still { target.new.staged ≡ None }

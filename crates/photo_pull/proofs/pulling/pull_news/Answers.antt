@@ -12,26 +12,18 @@ use Rattle.photo_pull.proofs.Findings.{told_found, nothing_found, counts_found}
 use Rattle.photo_pull.proofs.StagedFound.{may_stage, may_hand_found, shows_found}
 use Rattle.photo_pull.proofs.pulling.pull_news.Goals as goal
 
-pub returns-then-is_nothing-clause-target : goal.returns-then-is_nothing-clause-target
-returns-then-is_nothing-clause-target c = λ t s shows_t shows_s.
+pub returns-then-is_nothing-clause-done : goal.returns-then-is_nothing-clause-done
+returns-then-is_nothing-clause-done c =
     let ready : AreReady c.args.target.now c.args.source.now = record { target = c.knowledge.ensures.device; source = c.knowledge-2.ensures.device; one = c.requires.may.one } in
     let found = c.finding-finding.ensures c.args.target.now c.args.source.now c.filter.ensures c.in_ok-hearing.ensures in
     let e = c.if-is_nothing.true in
     let nothing = nothing_found c.args.target.now c.args.source.now c.finding-finding.result found (c.is_nothing.ensures.taken e) (c.is_nothing.ensures.notices e) (c.is_nothing.ensures.handed e) (c.is_nothing.ensures.dropped_stored e) (c.is_nothing.ensures.dropped_waiting e)
     (λ l p v above k. sym (ap (λ (fs : List Fragment). knows fs p v) c.knowledge.ensures.value) ∙ c.is_nothing.ensures.known e l p v above (ap (λ (fs : List Fragment). knows fs p v) c.knowledge-2.ensures.value ∙ k)) in
-    shows_pulled c.args.target.now c.args.source.now ready t s shows_t shows_s c.args.target.now (gains c.args.target.now c.args.source.now) (λ p v above. refl) (shows_unchanged c.args.target.now c.args.source.now ready nothing)
-
-pub returns-then-is_nothing-clause-source : goal.returns-then-is_nothing-clause-source
-returns-then-is_nothing-clause-source c = λ t s shows_t shows_s.
-    let ready : AreReady c.args.target.now c.args.source.now = record { target = c.knowledge.ensures.device; source = c.knowledge-2.ensures.device; one = c.requires.may.one } in
-    let found = c.finding-finding.ensures c.args.target.now c.args.source.now c.filter.ensures c.in_ok-hearing.ensures in
-    shows_not_handed c.args.target.now c.args.source.now ready t s shows_t shows_s (sym found.handed ∙ c.is_nothing.ensures.handed c.if-is_nothing.true)
-
-pub returns-then-is_nothing-clause-counts : goal.returns-then-is_nothing-clause-counts
-returns-then-is_nothing-clause-counts c = λ t s shows_t shows_s.
-    let ready : AreReady c.args.target.now c.args.source.now = record { target = c.knowledge.ensures.device; source = c.knowledge-2.ensures.device; one = c.requires.may.one } in
-    let found = c.finding-finding.ensures c.args.target.now c.args.source.now c.filter.ensures c.in_ok-hearing.ensures in
-    counts_found c.args.target.now c.args.source.now c.finding-finding.result found ready t s shows_t shows_s c.counts-counts.result c.counts-counts.ensures.taken c.counts-counts.ensures.handed c.counts-counts.ensures.notices c.counts-counts.ensures.dropped c.counts-counts.ensures.learned
+    record {
+      target = λ t s shows_t shows_s. shows_pulled c.args.target.now c.args.source.now ready t s shows_t shows_s c.args.target.now (gains c.args.target.now c.args.source.now) (λ p v above. refl) (shows_unchanged c.args.target.now c.args.source.now ready nothing);
+      source = λ t s shows_t shows_s. shows_not_handed c.args.target.now c.args.source.now ready t s shows_t shows_s (sym found.handed ∙ c.is_nothing.ensures.handed e);
+      counted = λ t s shows_t shows_s. counts_found c.args.target.now c.args.source.now c.finding-finding.result found ready t s shows_t shows_s c.counts-counts.result c.counts-counts.ensures.taken c.counts-counts.ensures.handed c.counts-counts.ensures.notices c.counts-counts.ensures.dropped c.counts-counts.ensures.learned;
+    }
 
 pub stage_found-requires-clause-may : goal.stage_found-requires-clause-may
 stage_found-requires-clause-may c =
@@ -62,26 +54,17 @@ commit-requires-clause-handed c =
     (let long = ap (length {A = Held}) handed in let all = versions_long (new_waiting c.args.target.now c.args.source.now) in let counted = c.in_ok-asked.asked.ok.0 in let n = c.len.ensures in
     let asked_long = ap length (c.in_ok-asked.ensures.asked ∙ ap versions found.handed) in omega arith)
 
-pub returns-clause-target : goal.returns-clause-target
-returns-clause-target c =
+pub returns-clause-done : goal.returns-clause-done
+returns-clause-done c =
     let ready : AreReady c.args.target.now c.args.source.now = record { target = c.knowledge.ensures.device; source = c.knowledge-2.ensures.device; one = c.requires.may.one } in
     let found = c.finding-finding.ensures c.args.target.now c.args.source.now c.filter.ensures c.in_ok-hearing.ensures in
     let asked : c.deref-2.result.now ≡ versions (new_waiting c.args.target.now c.args.source.now) = c.deref-2.ensures.value ∙ c.in_ok-asked.ensures.asked ∙ ap versions found.handed in
     let handed : c.hand_over.new.handed.items ≡ new_waiting c.args.target.now c.args.source.now =
     c.hand_over.ensures.handed ∙ (λ i. c.in_ok-asked.ensures.empty i ++ helds_at (asked i) (c.stage_found.ensures.source i).out) ∙ handed_are c.args.target.now c.args.source.now ready in
     let told = told_found c.args.target.now c.args.source.now c.in_ok-hearing.hearing c.finding-finding.result c.deref.result.now c.in_ok-hearing.ensures found (subst (IsTold c.in_ok-hearing.hearing.learned c.in_ok-hearing.hearing.heard.items c.in_ok-hearing.hearing.handed.items) (sym c.deref.ensures.value) c.in_ok-told.ensures) in
-    shows_found c.args.target.now c.args.source.now ready c.finding-finding.result found c.deref.result.now told _ c.stage_found.new.target c.in_ok-stage_found.ensures.staged c.hand_over.new.handed.items handed c.commit.new.self c.commit.ensures.shows
-
-pub returns-clause-source : goal.returns-clause-source
-returns-clause-source c = λ t s shows_t shows_s.
-    let ready : AreReady c.args.target.now c.args.source.now = record { target = c.knowledge.ensures.device; source = c.knowledge-2.ensures.device; one = c.requires.may.one } in
-    let found = c.finding-finding.ensures c.args.target.now c.args.source.now c.filter.ensures c.in_ok-hearing.ensures in
-    let asked : c.deref-2.result.now ≡ versions (new_waiting c.args.target.now c.args.source.now) = c.deref-2.ensures.value ∙ c.in_ok-asked.ensures.asked ∙ ap versions found.handed in
-    shows_handed c.args.target.now c.args.source.now ready t s shows_t shows_s c.hand_over.new.self
-    (λ m shows. subst (λ vs. Shows c.hand_over.new.self (without_waiting vs m)) asked (c.hand_over.ensures.shows m (subst (λ (d : Kept). Shows d m) (sym c.stage_found.ensures.source) shows)))
-
-pub returns-clause-counts : goal.returns-clause-counts
-returns-clause-counts c = λ t s shows_t shows_s.
-    let ready : AreReady c.args.target.now c.args.source.now = record { target = c.knowledge.ensures.device; source = c.knowledge-2.ensures.device; one = c.requires.may.one } in
-    let found = c.finding-finding.ensures c.args.target.now c.args.source.now c.filter.ensures c.in_ok-hearing.ensures in
-    counts_found c.args.target.now c.args.source.now c.finding-finding.result found ready t s shows_t shows_s c.counts-counts.result c.counts-counts.ensures.taken c.counts-counts.ensures.handed c.counts-counts.ensures.notices c.counts-counts.ensures.dropped c.counts-counts.ensures.learned
+    record {
+      target = shows_found c.args.target.now c.args.source.now ready c.finding-finding.result found c.deref.result.now told _ c.stage_found.new.target c.in_ok-stage_found.ensures.staged c.hand_over.new.handed.items handed c.commit.new.self c.commit.ensures.shows;
+      source = λ t s shows_t shows_s. shows_handed c.args.target.now c.args.source.now ready t s shows_t shows_s c.hand_over.new.self
+          (λ m shows. subst (λ vs. Shows c.hand_over.new.self (without_waiting vs m)) asked (c.hand_over.ensures.shows m (subst (λ (d : Kept). Shows d m) (sym c.stage_found.ensures.source) shows)));
+      counted = λ t s shows_t shows_s. counts_found c.args.target.now c.args.source.now c.finding-finding.result found ready t s shows_t shows_s c.counts-counts.result c.counts-counts.ensures.taken c.counts-counts.ensures.handed c.counts-counts.ensures.notices c.counts-counts.ensures.dropped c.counts-counts.ensures.learned;
+    }
