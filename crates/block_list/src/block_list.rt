@@ -120,7 +120,7 @@ impl<T> BlockList<T> {
 
     /// What `find_failing` gives, and a hint for the next search. Any hint will do.
     ///
-    /// Where searches go along the list, each with the hint that the one before gave, the work for one is small.
+    /// A search that ends where the one before did, and has its hint, looks at two elements.
     pub fn find_failing_near<P: Fn(&T) -> bool>(&self, near: Spot, pred: P) -> (Option<&T>, Spot)
         requires { P.IsAlwaysCallable pred }
         ensures { (p : T → Bool) → ComputesKey P.FnMut p pred → IsPartitionedBy p self.now

@@ -7,10 +7,7 @@ ghost use Rattle.block_list.specs.Blocks.{joined, AreFilled, start_of, IsPlace};
 use crate::Spot;
 use crate::search::{element_behind, passes_behind, spot_of};
 
-// How many elements further than its hint a search goes before it looks at all blocks.
-const STEPS: usize = 16;
-
-/// What `spot_of` gives. It is found at once where it is a few elements behind the hint.
+/// What `spot_of` gives. It is found at once where it is the hint.
 pub fn spot_near<T, P: Fn(&T) -> bool>(blocks: &[Vec<T>], near: Spot, pred: P) -> (usize, usize)
     requires callable { P.IsAlwaysCallable pred }
     requires filled { AreFilled blocks.now }
@@ -20,57 +17,10 @@ pub fn spot_near<T, P: Fn(&T) -> bool>(blocks: &[Vec<T>], near: Spot, pred: P) -
         → IsPartitionPoint (λ y. p y ≡ true) (λ y. p y ≡ false) (joined blocks.now)
         (start_of blocks.now result.0 + result.1) }
 {
-    let spot = moved_on(blocks, near, &pred);
-    if turns_at(blocks, spot.block, spot.place, &pred) {
-        return (spot.block, spot.place);
+    if turns_at(blocks, near.block, near.place, &pred) {
+        return (near.block, near.place);
     }
     spot_of(blocks, pred)
-}
-
-// The hint, moved on over elements that pass the test.
-fn moved_on<T, P: Fn(&T) -> bool>(blocks: &[Vec<T>], near: Spot, pred: &P) -> Spot
-    requires { P.IsAlwaysCallable pred.now }
-{
-    let mut spot = near;
-    for _ in 0..STEPS {
-        match next(blocks, spot, pred) {
-            Some(further) => spot = further,
-            None => return spot,
-        }
-    }
-    spot
-}
-
-// Behind the next element, where that passes the test.
-fn next<T, P: Fn(&T) -> bool>(blocks: &[Vec<T>], spot: Spot, pred: &P) -> Option<Spot>
-    requires { P.IsAlwaysCallable pred.now }
-{
-    let Spot { block, place } = spot;
-    if block >= blocks.len() {
-        return None;
-    }
-    if place < blocks[block].len() {
-        return passed(blocks, block, place, pred);
-    }
-    passed(blocks, block + 1, 0, pred)
-}
-
-// Behind an element, where there is that one and it passes the test.
-fn passed<T, P: Fn(&T) -> bool>(
-    blocks: &[Vec<T>],
-    block: usize,
-    place: usize,
-    pred: &P,
-) -> Option<Spot>
-    requires { P.IsAlwaysCallable pred.now }
-{
-    match blocks.get(block)?.get(place) {
-        Some(item) if pred(item) => Some(Spot {
-            block,
-            place: place + 1,
-        }),
-        _ => None,
-    }
 }
 
 // Whether the test is seen to turn at a place in a block: the element before it passes, or there is none, and the one

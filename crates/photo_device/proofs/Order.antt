@@ -1,13 +1,17 @@
 -- Held versions in order.
-use Rattle.std.proofs.Common.{◌≡◌, ℕ, zero, suc, ◌<◌, ◌≤◌, Bool, true, false, leb, ltb, cond, List, [], ◌∷◌, ◌++◌, length, get_or, take, drop, Vec, refl, sym, ap, ◌∙◌, inl, inr, arith}
+use Rattle.std.proofs.Common.{◌≡◌, ℕ, zero, suc, ◌<◌, ◌≤◌, Bool, true, false, leb, ltb, ◌||◌, List, [], ◌∷◌, ◌++◌, length, get_or, take, drop, Vec, refl, sym, ap, ◌∙◌, inl, inr, arith}
 use Rattle.std.specs.Prelude.{filter}
 use Rattle.std.specs.List.{list_all}
 use Rattle.std.specs.declared.alloc.Global.{Global}
 use Rattle.std.specs.List.Sorted.{IsNonDecreasingBy, IsPartitionPoint}
 use Rattle.std.proofs.lemmas.Bool.{and_parts, and_from, lt-ltb, le-ltb, ltb-true, ltb-false, eqb-false, eq-eqb, ne_eqb, cases_Bool, not-true, leb-true, leb-false, cases_lt, false≢true, cases_order}
+use Rattle.std.proofs.Math.Bool.{or-true}
+use Rattle.std.proofs.lemmas.List.{take_all}
 use Rattle.block_list.specs.Blocks.{joined}
 use Rattle.photo_device.specs.declared.held.Held.{Held}
 use Rattle.photo_device.specs.Ordered.{put}
+use Rattle.photo_device.proofs.Lexical.{held_order}
+use Rattle.photo_device.proofs.Putting as putting
 use Rattle.photo_device.specs.Entry.{is_of_other}
 use Rattle.photo_device.specs.Held.{entry_of, held_before, are_in_order, held_of_others, replaced, IsRangeOf}
 
@@ -115,48 +119,18 @@ place_of h (x ∷ xs) (suc from) (suc to) o w parts =
 
 -- the order is kept
 
-list_all-filter : (q r : Held → Bool) (xs : List Held) → list_all q xs ≡ true → list_all q (filter r xs) ≡ true
-list_all-filter q r [] h = refl
-list_all-filter q r (x ∷ xs) h =
-    elim (r x) as (λ b. list_all q (cond b (x ∷ filter r xs) (filter r xs)) ≡ true) [
-      | true ↦ and_from _ _ (and_parts _ _ h).0 (list_all-filter q r xs (and_parts _ _ h).1)
-      | false ↦ list_all-filter q r xs (and_parts _ _ h).1
-    ]
-
 pub in_order-filter : (r : Held → Bool) (xs : List Held) → are_in_order xs ≡ true → are_in_order (filter r xs) ≡ true
-in_order-filter r [] h = refl
-in_order-filter r (x ∷ xs) h =
-    elim (r x) as (λ b. are_in_order (cond b (x ∷ filter r xs) (filter r xs)) ≡ true) [
-      | true ↦ and_from _ _ (list_all-filter _ r xs (and_parts _ _ h).0) (in_order-filter r xs (and_parts _ _ h).1)
-      | false ↦ in_order-filter r xs (and_parts _ _ h).1
-    ]
+in_order-filter r xs o = putting.in_order-filter held_before r xs o
 
-list_all-put : (q : Held → Bool) (h : Held) (xs : List Held) → q h ≡ true → list_all q xs ≡ true → list_all q (put held_before h xs) ≡ true
-list_all-put q h [] p a = and_from _ _ p refl
-list_all-put q h (x ∷ xs) p a =
-    elim (held_before x h) as (λ b. list_all q (cond b (x ∷ put held_before h xs) (h ∷ x ∷ xs)) ≡ true) [
-      | true ↦ and_from _ _ (and_parts _ _ a).0 (list_all-put q h xs p (and_parts _ _ a).1)
-      | false ↦ and_from _ _ p a
-    ]
-
--- a version before the first of a list in order is before all
-before_all : (h x : Held) (xs : List Held) → h.picture < x.picture → list_all (held_before x) xs ≡ true → list_all (held_before h) xs ≡ true
-before_all h x [] l a = refl
-before_all h x (y ∷ ys) l a =
-    let le = held_before-le x y (and_parts _ _ a).0 in
-    and_from _ _ (held_before-less h y (omega arith)) (before_all h x ys l (and_parts _ _ a).1)
-
-pub in_order-put : (h : Held) (xs : List Held) → are_in_order xs ≡ true → list_all (λ x. is_of_other h.picture (entry_of x)) xs ≡ true → are_in_order (put held_before h xs) ≡ true
-in_order-put h [] o e = refl
-in_order-put h (x ∷ xs) o e =
-    let apart = eqb-false x.picture h.picture (not-true _ (and_parts _ _ e).0) in
-    elim (cases_order x.picture h.picture) [
-      | inl same ↦ absurd (apart same)
-      | inr side ↦ elim side [
-        | inl less ↦ rw (put_after h x xs less) (and_from _ _ (list_all-put _ h xs (held_before-less x h less) (and_parts _ _ o).0) (in_order-put h xs (and_parts _ _ o).1 (and_parts _ _ e).1))
-        | inr greater ↦ rw (put_before h x xs greater) (and_from _ _ (and_from _ _ (held_before-less h x greater) (before_all h x xs greater (and_parts _ _ o).0)) o)
-      ]
-    ]
+-- versions of two pictures stand one before the other
+pictures_apart : (a b : Held) → is_of_other a.picture (entry_of b) ≡ true → (held_before a b || held_before b a) ≡ true
+pictures_apart a b other = elim (cases_order a.picture b.picture) [
+  | inl same ↦ absurd (eqb-false b.picture a.picture (not-true _ other) (sym same))
+  | inr side ↦ elim side [
+    | inl less ↦ ap (λ t. t || held_before b a) (held_before-less a b less)
+    | inr greater ↦ ap (λ t. held_before a b || t) (held_before-less b a greater) ∙ or-true (held_before a b)
+  ]
+]
 
 all_elsewhere : (p : ℕ) (xs : List Held) → list_all (λ x. is_of_other p (entry_of x)) (held_of_others p xs) ≡ true
 all_elsewhere p [] = refl
@@ -166,7 +140,9 @@ all_elsewhere p (x ∷ xs) = elim (cases_Bool (is_of_other p (entry_of x))) [
 ]
 
 pub in_order-replaced : (h : Held) (xs : List Held) → are_in_order xs ≡ true → are_in_order (replaced h xs) ≡ true
-in_order-replaced h xs o = in_order-put h _ (in_order-filter _ xs o) (all_elsewhere h.picture xs)
+in_order-replaced h xs o =
+    putting.in_order-put held_order h _ (in_order-filter _ xs o)
+    (putting.list_all_wider (λ x. is_of_other h.picture (entry_of x)) (λ x. held_before h x || held_before x h) (pictures_apart h) _ (all_elsewhere h.picture xs))
 
 -- what two binary searches for a picture answer
 
@@ -211,10 +187,4 @@ is_range p xs from to f t less most =
 -- what passes in all blocks of a set in order
 pub in_order-passing : (p : Held → Bool) (items set : List Held) (blocks : List (Vec Held Global)) (k : ℕ) → length blocks ≤ k → joined blocks ≡ set → are_in_order set ≡ true → items ≡ filter p (joined (take k blocks)) → are_in_order items ≡ true
 in_order-passing p items set blocks k all of_set order passing =
-    ap are_in_order (passing ∙ ap (λ l. filter p (joined l)) (whole blocks k all) ∙ ap (filter p) of_set) ∙ in_order-filter p set order
-  where
-    whole : (xs : List (Vec Held Global)) (n : ℕ) → length xs ≤ n → take n xs ≡ xs
-    whole [] zero h = refl
-    whole [] (suc n) h = refl
-    whole (x ∷ xs) zero h = absurd (omega arith)
-    whole (x ∷ xs) (suc n) h = ap (λ l. x ∷ l) (whole xs n (omega arith))
+    ap are_in_order (passing ∙ ap (λ l. filter p (joined l)) (take_all k blocks all) ∙ ap (filter p) of_set) ∙ in_order-filter p set order
