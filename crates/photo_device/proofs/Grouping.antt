@@ -3,7 +3,7 @@ use Rattle.std.proofs.Common.{◌≡◌, ℕ, zero, suc, ◌+◌, ◌-◌, ◌<�
 use Rattle.std.specs.Prelude.{filter, map}
 use Rattle.std.specs.List.{list_all}
 use Rattle.std.proofs.lemmas.Bool.{and_parts, and_from, cases_lt, false≢true, not-true, eqb-true, eq-eqb, ne_eqb, lt-ltb, le-ltb}
-use Rattle.std.proofs.lemmas.List.{get_or_default, get_or-take, get_or-drop, drop-drop, take-append-drop, length-take-le, length-drop}
+use Rattle.std.proofs.lemmas.List.{length-map, get_or_default, get_or-take, get_or-drop, drop-drop, take-append-drop, length-take-le, length-drop}
 use Rattle.std.proofs.lemmas.List.Elements.{filter-append}
 use Rattle.photo_version.specs.Version.{Version, version_before}
 use Rattle.photo_device.specs.declared.held.Held.{Held}
@@ -185,17 +185,13 @@ versions_alone : (run : List (ℕ × Version)) → map (λ (e : Entry). e.versio
 versions_alone [] = refl
 versions_alone (x ∷ xs) = ap (λ l. x.1 ∷ l) (versions_alone xs)
 
-length-as_entries : (run : List (ℕ × Version)) → length (map (λ (p : ℕ × Version). p.1) run) ≡ length run
-length-as_entries [] = refl
-length-as_entries (x ∷ xs) = omega (arith, length-as_entries xs)
-
 -- the conflicts of the versions of one picture
 run_alone : (run : List (ℕ × Version)) (d : ℕ × Version) → 0 < length run → ((k : ℕ) (d : ℕ × Version) → k < length run → (get_or run k d).0 ≡ (get_or run 0 d).0) → conflicts_in (as_entries run) ≡ cond (ltb 1 (length run)) (record { picture = (get_or run 0 d).0; versions = map (λ (p : ℕ × Version). p.1) run } ∷ []) []
 run_alone [] d some same = absurd (omega arith)
 run_alone (x ∷ xs) d some same =
     one_conflict x.0 (as_entry x) (as_entries xs) (all_of x.0 (x ∷ xs) (λ k e l. same k e l))
     ∙ (λ i. cond (ltb 1 (length (versions_alone (x ∷ xs) i))) (record { picture = x.0; versions = versions_alone (x ∷ xs) i } ∷ []) [])
-    ∙ ap (λ n. cond (ltb 1 n) (record { picture = x.0; versions = map (λ (p : ℕ × Version). p.1) (x ∷ xs) } ∷ []) []) (length-as_entries (x ∷ xs))
+    ∙ ap (λ n. cond (ltb 1 n) (record { picture = x.0; versions = map (λ (p : ℕ × Version). p.1) (x ∷ xs) } ∷ []) []) (length-map (x ∷ xs) (λ (p : ℕ × Version). p.1))
 
 pub run_two : (run : List (ℕ × Version)) (d : ℕ × Version) (old : List Conflict) (versions : List Version) → 0 < length run → ((k : ℕ) (d : ℕ × Version) → k < length run → (get_or run k d).0 ≡ (get_or run 0 d).0) → 1 < length run → versions ≡ map (λ (p : ℕ × Version). p.1) run → old ++ record { picture = (get_or run 0 d).0; versions = versions } ∷ [] ≡ old ++ conflicts_in (as_entries run)
 run_two run d old versions some same two is =

@@ -3,14 +3,15 @@ use Rattle.std.proofs.Common.{◌≡◌, ℕ, ◌+◌, ◌-◌, ◌≤◌, Bool,
 use Rattle.std.specs.Prelude.{filter}
 use Rattle.std.specs.List.{AllByRecursion}
 use Rattle.std.proofs.lemmas.Bool.{and_parts}
-use Rattle.std.proofs.lemmas.List.{append-nil}
+use Rattle.std.proofs.lemmas.List.{append-nil, length-map}
+use Rattle.std.proofs.lemmas.List.Filters.{length-filter_both}
 use Rattle.photo_filter_text.specs.Tree.{Tree}
 use Rattle.photo_filter_rules.specs.Matching.{matches}
 use Rattle.photo_version.specs.Version.{Version}
 use Rattle.photo_device.specs.declared.held.Held.{Held}
 use Rattle.photo_device.specs.Ordered.{put}
 use Rattle.photo_device.specs.Entry.{Entry, put_entries}
-use Rattle.photo_device.specs.Held.{entries_of, held_before, are_in_order, count_of, put_helds}
+use Rattle.photo_device.specs.Held.{entry_of, entries_of, held_before, are_in_order, count_of, put_helds}
 use Rattle.photo_device.specs.Device.{Kept, ModelDevice, Shows, narrowed, moved}
 use Rattle.photo_device.specs.Own.{HasEarlier, IsKnownBy, IsDevice}
 use Rattle.photo_device.specs.Taking.{is_on_side, AreNewTo, with_side}
@@ -51,38 +52,17 @@ shows_narrowed tree d m shows = record {
 }
 
 -- how many go
-left_and_gone : (q : Entry → Bool) (es : List Entry) → length (filter q es) + length (filter (λ e. not (q e)) es) ≡ length es
-left_and_gone q [] = refl
-left_and_gone q (e ∷ es) =
-    let rest = left_and_gone q es in
-    let left = filter q es in
-    let gone = filter (λ x. not (q x)) es in
-    elim (q e) as (λ b. length (cond b (e ∷ left) left) + length (cond (not b) (e ∷ gone) gone) ≡ length (e ∷ es)) [
-      | true ↦ omega arith
-      | false ↦ omega arith
-    ]
-
 pub moved_away : (tree : Tree) (d : Kept) (m : ModelDevice) → Shows d m → length d.store - length (filter (λ h. matches tree h.content) d.store) ≡ moved tree m
 moved_away tree d m shows =
     let q = λ (e : Entry). matches tree e.content in
-    let split = left_and_gone q (entries_of d.store) in
-    let all = entries_long d.store in
-    let left = sym (entries_long (filter (λ h. matches tree h.content) d.store)) ∙ ap length (entries-filter q d.store) in
+    let split = length-filter_both q (λ e. not (q e)) (λ e. refl) (entries_of d.store) in
+    let all = length-map d.store entry_of in
+    let left = sym (length-map (filter (λ h. matches tree h.content) d.store) entry_of) ∙ ap length (entries-filter q d.store) in
     let gone : length d.store - length (filter (λ h. matches tree h.content) d.store) ≡ length (filter (λ (e : Entry). not (matches tree e.content)) (entries_of d.store)) = omega arith in
     gone ∙ ap (λ es. length (filter (λ (e : Entry). not (matches tree e.content)) es)) shows.store
-  where
-    entries_long : (xs : List Held) → length (entries_of xs) ≡ length xs
-    entries_long [] = refl
-    entries_long (x ∷ xs) = let rest = entries_long xs in omega arith
 
 pub shorter : (q : Held → Bool) (xs : List Held) → length (filter q xs) ≤ length xs
-shorter q [] = omega arith
-shorter q (x ∷ xs) =
-    let rest = shorter q xs in
-    elim (q x) as (λ b. length (cond b (x ∷ filter q xs) (filter q xs)) ≤ length (x ∷ xs)) [
-      | true ↦ omega arith
-      | false ↦ omega arith
-    ]
+shorter q xs = let both = length-filter_both q (λ h. not (q h)) (λ h. refl) xs in omega arith
 
 -- a set in order, put together anew
 put_in_none : (xs : List Held) → are_in_order xs ≡ true → put_helds xs [] ≡ xs

@@ -1,9 +1,8 @@
 // Sets of held versions, in the order of their pictures.
-ghost use Rattle.std.specs.Prelude.{◌≡◌};
+ghost use Rattle.std.specs.Prelude.{◌≡◌, true};
 ghost use Rattle.std.specs.Option.{option_copied};
-ghost use Rattle.photo_device.specs.Held.{find_version};
+ghost use Rattle.photo_device.specs.Held.{are_in_order, find_version, IsRangeOf};
 
-use crate::range::range_of;
 use crate::roomy_set::RoomySet;
 use crate::sought::Sought;
 use crate::{Held, SharedHeld, SharedList};
@@ -288,4 +287,14 @@ fn find_in(items: &[SharedHeld], version: Version) -> Option<&SharedHeld>
     ensures { option_copied result ≡ find_version version items.now }
 {
     items.iter().find(|held| held.version() == version)
+}
+
+// Where the versions of a picture stand: from the first place up to before the second.
+fn range_of(items: &BlockList<SharedHeld>, picture: PicNo) -> (usize, usize)
+    requires { are_in_order items.now ≡ true }
+    ensures { IsRangeOf picture items.now result.0 result.1 }
+{
+    let from = items.partition_point(|held| held.picture() < picture);
+    let to = items.partition_point(|held| held.picture() <= picture);
+    (from, to)
 }

@@ -18,7 +18,6 @@ mod noted_knowledge;
 mod noted_versions;
 mod place;
 mod prepared;
-mod range;
 mod roomy_set;
 mod shared_held;
 mod sought;

@@ -2,7 +2,7 @@ use Rattle.std.proofs.Common.{ltb, leb, rules}
 use Rattle.std.proofs.lemmas.List.Sorted.{IsPartitionedBy-leb, IsPartitionedBy-ltb, IsPartitionPoint-from_clause}
 use Rattle.photo_device.specs.declared.held.Held.{Held}
 use Rattle.photo_device.proofs.Order.{rises, is_range}
-use Rattle.photo_device.proofs.range.range_of.Goals as goal
+use Rattle.photo_device.proofs.held_set.range_of.Goals as goal
 
 pub returns : goal.returns
 returns c =
