@@ -1,6 +1,7 @@
 -- What two devices show after a pull.
 use Rattle.std.proofs.Common.{◌≡◌, ℕ, suc, ◌+◌, ◌<◌, Bool, true, false, not, ◌&&◌, ◌||◌, List, [], ◌∷◌, ◌++◌, length, refl, sym, ap, ◌∙◌, arith}
 use Rattle.std.proofs.Math.Bool.{or-false}
+use Rattle.std.proofs.lemmas.List.{length-map}
 use Rattle.std.specs.Prelude.{filter}
 use Rattle.photo_version.specs.Version.{Version, Versions}
 use Rattle.item_knowledge.specs.Fragments.{knows}
@@ -46,10 +47,6 @@ takes t s = taken_stored t s ++ new_waiting t s
 filter_all : (es : List Entry) → filter (λ e. true) es ≡ es
 filter_all [] = refl
 filter_all (e ∷ es) = ap (λ l. e ∷ l) (filter_all es)
-
-entries_length : (hs : List Held) → length (entries_of hs) ≡ length hs
-entries_length [] = refl
-entries_length (h ∷ hs) = ap (λ n. suc n) (entries_length hs)
 
 -- nothing is taken, handed over or dropped, and what the source may teach is known
 pub record IsNothing (t s : Kept) : Type 0 where
@@ -141,9 +138,9 @@ module _ (t s : Kept) (ready : AreReady t s) where
         let all = notices_count t s ready in
         let rest : counts.notices ≡ length (notices t s ready) = omega arith in
         λ i. record {
-          taken = (taken_is ∙ sym (ap length (taken_shown t s tm sm ready shows_t shows_s) ∙ entries_length (taken_stored t s))) i;
-          handed = (handed_is ∙ sym (ap length (handed_shown t s tm sm ready shows_t shows_s) ∙ entries_length (new_waiting t s))) i;
-          notices = (rest ∙ sym (ap length (noticed_shown t s tm sm ready shows_t shows_s) ∙ entries_length (notices t s ready))) i;
-          dropped = (dropped_is ∙ sym (λ j. (ap length (dropped_stored_shown t s tm sm ready shows_t shows_s) ∙ entries_length (dropped_stored t s)) j + (ap length (dropped_waiting_shown t s tm sm ready shows_t shows_s) ∙ entries_length (dropped_waiting t s)) j)) i;
+          taken = (taken_is ∙ sym (ap length (taken_shown t s tm sm ready shows_t shows_s) ∙ length-map (taken_stored t s) entry_of)) i;
+          handed = (handed_is ∙ sym (ap length (handed_shown t s tm sm ready shows_t shows_s) ∙ length-map (new_waiting t s) entry_of)) i;
+          notices = (rest ∙ sym (ap length (noticed_shown t s tm sm ready shows_t shows_s) ∙ length-map (notices t s ready) entry_of)) i;
+          dropped = (dropped_is ∙ sym (λ j. (ap length (dropped_stored_shown t s tm sm ready shows_t shows_s) ∙ length-map (dropped_stored t s) entry_of) j + (ap length (dropped_waiting_shown t s tm sm ready shows_t shows_s) ∙ length-map (dropped_waiting t s) entry_of) j)) i;
           learned = (learned_is ∙ sym (learns_shown t s tm sm ready shows_t shows_s)) i;
         }

@@ -28,10 +28,6 @@ asked_times v (h ∷ hs) = elim (same_version h.version v) as (λ b. length (con
   | false ↦ asked_times v hs
 ]
 
-pub versions_long : (hs : List Held) → length (versions hs) ≡ length hs
-versions_long [] = refl
-versions_long (h ∷ hs) = ap (λ n. suc n) (versions_long hs)
-
 -- those of a list that are found are what is asked for
 all_found : (hs helds : List Held) → AllByRecursion (λ h. find_version h.version helds ≡ Some h) hs → helds_at (versions hs) helds ≡ hs
 all_found [] helds all = refl

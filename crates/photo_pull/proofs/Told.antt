@@ -3,6 +3,7 @@ use Rattle.std.proofs.Common.{◌≡◌, ℕ, ◌+◌, Bool, true, false, not, c
 use Rattle.std.specs.Prelude.{filter}
 use Rattle.std.proofs.lemmas.Bool.{cases_Bool}
 use Rattle.std.proofs.lemmas.List.Folds.{list_any-append}
+use Rattle.std.proofs.lemmas.List.Filters.{length-filter_both}
 use Rattle.photo_version.specs.Version.{Version}
 use Rattle.photo_device.specs.declared.held.Held.{Held}
 use Rattle.photo_device.specs.Device.{Kept}
@@ -61,16 +62,8 @@ both_or true false m a = refl
 
 -- a filter's parts by a second test
 parts_length : {X : Type 0} (p q : X → Bool) (xs : List X) → length (filter (λ x. p x && (q x)) xs) + length (filter (λ x. p x && not (q x)) xs) ≡ length (filter p xs)
-parts_length p q [] = refl
-parts_length p q (x ∷ xs) =
-    let rest = parts_length p q xs in
-    elim (p x) as (λ b. length (cond (b && q x) (x ∷ filter (λ y. p y && q y) xs) (filter (λ y. p y && q y) xs)) + length (cond (b && not (q x)) (x ∷ filter (λ y. p y && not (q y)) xs) (filter (λ y. p y && not (q y)) xs)) ≡ length (cond b (x ∷ filter p xs) (filter p xs))) [
-      | true ↦ elim (q x) as (λ b. length (cond b (x ∷ filter (λ y. p y && q y) xs) (filter (λ y. p y && q y) xs)) + length (cond (not b) (x ∷ filter (λ y. p y && not (q y)) xs) (filter (λ y. p y && not (q y)) xs)) ≡ length (x ∷ filter p xs)) [
-        | true ↦ omega arith
-        | false ↦ omega arith
-      ]
-      | false ↦ rest
-    ]
+parts_length p q xs =
+    (λ i. length (sym (filter_filter q p xs) i) + length (sym (filter_filter (λ x. not (q x)) p xs) i)) ∙ length-filter_both q (λ x. not (q x)) (λ x. refl) (filter p xs)
 
 module _ (t s : Kept) (ready : AreReady t s) where
   -- what supersedes something held supersedes something given up

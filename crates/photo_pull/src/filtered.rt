@@ -14,11 +14,18 @@ use photo_version::Version;
 use std::alloc::{AllocError, Global};
 
 // Whether a device knows a version and doesn't keep it.
-fn has_given_up(device: &Device, held: &SharedHeld) -> bool
+fn has_given_up(device: &Device, along: &mut Along, held: &SharedHeld) -> bool
     ensures { result ≡ (knows device.now.knowledge held.now.picture held.now.version && not (has_same device.now.store held.now)) }
 {
     let (picture, version) = (held.picture(), held.version());
-    !device.store().has(picture, version) && device.knowledge().knows(picture, version)
+    let (keeps, next) = device.store().has_near(along.kept, picture, version);
+    along.kept = next;
+    if keeps {
+        return false;
+    }
+    let (known, next) = device.knowledge().knows_near(along.known, picture, version);
+    along.known = next;
+    known
 }
 
 // Whether something new supersedes a version, or a device has given it up whose keeping is followed.
@@ -27,6 +34,7 @@ fn is_dropped(
     followed: bool,
     device: &Device,
     gap: &mut Gap,
+    along: &mut Along,
     held: &SharedHeld,
 ) -> bool
     requires stored { are_in_order news.now.stored.items ≡ true }
@@ -40,7 +48,7 @@ fn is_dropped(
     if news.any_above_along(gap, held) {
         return true;
     }
-    followed && has_given_up(device, held)
+    followed && has_given_up(device, along, held)
 }
 
 // How many of the first of a list are seen to stay, where keeping is followed: their pictures are in a gap, and the device
@@ -87,7 +95,7 @@ fn push_dropped(
         }
         let held = &list[place];
         place += 1;
-        if !is_dropped(news, followed, device, gap, held) {
+        if !is_dropped(news, followed, device, gap, along, held) {
             continue;
         }
         found.push(held.try_clone()?)?;

@@ -4,19 +4,28 @@ ghost use Rattle.photo_version.specs.Version.{same_version};
 ghost use Rattle.photo_pull.specs.Gaps.{are_kept};
 
 use crate::gap::Gap;
-use photo_device::{HeldSet, SharedHeld};
+use photo_device::{HeldSet, SharedHeld, Spot};
 
-/// Where in the blocks of a set one is to look next.
+/// Where one is to look next: in the blocks of a set, and for what is asked of single versions. Any places will do.
 #[derive(Clone, Copy, Debug)]
 pub(crate) struct Along {
     pub block: usize,
     pub place: usize,
+    /// In what a device keeps.
+    pub kept: Spot,
+    /// In what it knows.
+    pub known: usize,
 }
 
 impl Along {
     /// At the first of a set.
     pub fn start() -> Along {
-        Along { block: 0, place: 0 }
+        Along {
+            block: 0,
+            place: 0,
+            kept: Spot::start(),
+            known: 0,
+        }
     }
 }
 

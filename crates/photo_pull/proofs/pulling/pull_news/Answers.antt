@@ -1,4 +1,5 @@
 use Rattle.std.proofs.Common.{◌≡◌, ◌≤◌, ◌++◌, List, length, refl, sym, ap, ◌∙◌, subst, arith}
+use Rattle.std.proofs.lemmas.List.{length-map}
 use Rattle.item_knowledge.specs.Fragments.{Fragment, knows}
 use Rattle.photo_device.specs.declared.held.Held.{Held}
 use Rattle.photo_device.specs.Held.{times_in, helds_at}
@@ -7,7 +8,7 @@ use Rattle.photo_pull.specs.OnHeld.{versions, gains, new_waiting}
 use Rattle.photo_pull.specs.Findings.{IsTold}
 use Rattle.photo_pull.proofs.Ready.{AreReady}
 use Rattle.photo_pull.proofs.Changes.{shows_unchanged, shows_pulled, shows_handed, shows_not_handed}
-use Rattle.photo_pull.proofs.Committed.{asked_once, handed_are, is_staged, versions_long}
+use Rattle.photo_pull.proofs.Committed.{asked_once, handed_are, is_staged}
 use Rattle.photo_pull.proofs.Findings.{told_found, nothing_found, counts_found}
 use Rattle.photo_pull.proofs.StagedFound.{may_stage, may_hand_found, shows_found}
 use Rattle.photo_pull.proofs.pulling.pull_news.Goals as goal
@@ -51,7 +52,7 @@ commit-requires-clause-handed c =
     c.hand_over.ensures.handed ∙ (λ i. c.in_ok-asked.ensures.empty i ++ helds_at (asked i) (c.stage_found.ensures.source i).out) ∙ handed_are c.args.target.now c.args.source.now ready in
     let told = told_found c.args.target.now c.args.source.now c.in_ok-hearing.hearing c.finding-finding.result c.deref.result.now c.in_ok-hearing.ensures found (subst (IsTold c.in_ok-hearing.hearing.learned c.in_ok-hearing.hearing.heard.items c.in_ok-hearing.hearing.handed.items) (sym c.deref.ensures.value) c.in_ok-told.ensures) in
     may_hand_found c.args.target.now c.args.source.now ready c.finding-finding.result found c.deref.result.now told _ c.stage_found.new.target c.in_ok-stage_found.ensures.staged c.hand_over.new.handed.items handed
-    (let long = ap (length {A = Held}) handed in let all = versions_long (new_waiting c.args.target.now c.args.source.now) in let counted = c.in_ok-asked.asked.ok.0 in let n = c.len.ensures in
+    (let long = ap (length {A = Held}) handed in let all = length-map (new_waiting c.args.target.now c.args.source.now) (λ (h : Held). h.version) in let counted = c.in_ok-asked.asked.ok.0 in let n = c.len.ensures in
     let asked_long = ap length (c.in_ok-asked.ensures.asked ∙ ap versions found.handed) in omega arith)
 
 pub returns-clause-done : goal.returns-clause-done
