@@ -1,7 +1,8 @@
 -- Machinery of the proofs: what the code finds between two devices is what `OnHeld` says, and is staged on one of them.
-use Rattle.std.specs.Prelude.{◌≡◌, ℕ, ◌+◌, ◌<◌, Bool, true, false, ◌||◌, if◌then◌else◌, List, [], ◌++◌, length}
+use Rattle.std.specs.Prelude.{◌≡◌, ℕ, ◌<◌, Bool, true, false, ◌||◌, if◌then◌else◌, List, [], ◌++◌, filter}
 use Rattle.std.specs.List.{AllByRecursion}
 use Rattle.std.specs.List.Sorted.{IsPermutation}
+use Rattle.photo_filter_text.specs.Tree.{Tree}
 use Rattle.photo_version.specs.Version.{Version, Versions}
 use Rattle.photo_version.specs.Vector.{Bound, denotes}
 use Rattle.item_knowledge.specs.Fragments.{Fragment, knows}
@@ -14,10 +15,9 @@ use Rattle.photo_device.specs.Staging.{HasStaged}
 use Rattle.photo_device.specs.Telling.{tells}
 use Rattle.photo_pull.specs.declared.counts.PullCounts.{PullCounts}
 use Rattle.photo_pull.specs.Pull.{pulled, handed_over, counts_of}
-use Rattle.photo_pull.specs.OnHeld.{new_stored, new_waiting, dropped_stored, dropped_waiting, heard, taken_stored, learns, versions}
+use Rattle.photo_pull.specs.OnHeld.{new_stored, new_waiting, dropped_stored, dropped_waiting, heard, is_selected, learns, versions}
 use Rattle.photo_pull.specs.declared.part.Part.{Part}
 use Rattle.photo_pull.specs.declared.hearing.Hearing.{Hearing}
-use Rattle.photo_pull.specs.declared.finding.Finding.{Finding}
 
 -- news are what the target doesn't know of what the source holds
 pub record AreNews (t s : Kept) (news : Part) : Type 0 where
@@ -45,26 +45,21 @@ pub record IsTold (learned : Bool) (hs ws : List Held) (table : List (ℕ × Lis
   pub order : in_order table ≡ true
   pub told : learned ≡ false → (p : ℕ) (v : Version) → denotes (at [] table p) v ≡ (tells hs p v || tells ws p v)
 
--- what is found is what is to be moved and told
-pub record IsFound (t s : Kept) (f : Finding) : Type 0 where
-  pub learned : f.learned ≡ learns t s
-  pub dropped_stored : f.dropped.stored.items ≡ dropped_stored t s
-  pub dropped_waiting : f.dropped.waiting.items ≡ dropped_waiting t s
-  pub taken : f.taken.items ≡ taken_stored t s
-  pub handed : f.handed.items ≡ new_waiting t s
-  pub notices : f.notices + length f.taken.items ≡ length (heard t s)
-
 -- a knowledge has of each picture what is said
 pub record IsGain (gain : List Fragment) (said : ℕ → Versions) : Type 0 where
   pub pairs : (p : ℕ) (v : Version) → 0 < p → knows gain p v ≡ said p v
 
 -- what the target learns after what was found, and what a table tells
-abbrev pub gain_found : Kept → Finding → List (ℕ × List Bound) → ℕ → Versions
-gain_found s f table p = λ v. if f.learned then knows s.knowledge p v else denotes (at [] table p) v
+abbrev pub gain_found : Kept → Hearing → List (ℕ × List Bound) → ℕ → Versions
+gain_found s h table p = λ v. if h.learned then knows s.knowledge p v else denotes (at [] table p) v
 
 -- what it drops
-abbrev pub drops_found : Finding → List Version
-drops_found f = versions f.dropped.stored.items ++ versions f.dropped.waiting.items
+abbrev pub drops_found : Hearing → List Version
+drops_found h = versions h.dropped.stored.items ++ versions h.dropped.waiting.items
+
+-- what it takes of the source's store, by the tree of its filter
+abbrev pub takes_found : Tree → Hearing → List Held
+takes_found tree h = filter (is_selected tree) h.heard.items
 
 -- a change is staged on a device, by which it learns what is said
 pub record HasStagedGain (drops : List Version) (takes : List Held) (said : ℕ → Versions) (room : ℕ) (old new : Kept) : Type 0 where
@@ -73,10 +68,10 @@ pub record HasStagedGain (drops : List Version) (takes : List Held) (said : ℕ 
   pub staged : HasStaged drops takes gain room old new
 
 -- the change that was found is staged on a device
-pub record HasStagedFound (f : Finding) (table : List (ℕ × List Bound)) (room : ℕ) (s old new : Kept) : Type 0 where
+pub record HasStagedFound (h : Hearing) (table : List (ℕ × List Bound)) (room : ℕ) (s old new : Kept) : Type 0 where
   pub drops : List Version
-  pub permuted : IsPermutation (drops_found f) drops
-  pub change : HasStagedGain drops f.taken.items (gain_found s f table) room old new
+  pub permuted : IsPermutation (drops_found h) drops
+  pub change : HasStagedGain drops (takes_found old.tree h) (gain_found s h table) room old new
 
 -- two devices after a pull, and its counts
 pub record HavePulled (t s after_t after_s : Kept) (counts : PullCounts) : Type 0 where

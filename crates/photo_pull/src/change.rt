@@ -8,10 +8,10 @@ ghost use Rattle.item_knowledge.specs.Tables.{in_order, at};
 ghost use Rattle.photo_device.specs.Device.{IsAsItWas};
 ghost use Rattle.photo_device.specs.Staging.{HasStaged, MayStage};
 ghost use Rattle.photo_pull.specs.OnHeld.{versions};
-ghost use Rattle.photo_pull.specs.Findings.{IsGain, gain_found, drops_found, HasStagedGain, HasStagedFound};
+ghost use Rattle.photo_pull.specs.Findings.{IsGain, gain_found, drops_found, takes_found, HasStagedGain, HasStagedFound};
 
-use crate::filtered::push_versions;
-use crate::finding::Finding;
+use crate::filtered::{push_versions, taken_of};
+use crate::hearing::Hearing;
 use photo_device::{Device, SharedHeld, SharedList, VersionList, gain_of};
 use photo_record::PicNo;
 use photo_version::{Vector, Version};
@@ -62,14 +62,14 @@ fn drops_of(
 /// The versions that the source hands over, in the order of its out, and an empty list with room for them.
 pub(crate) fn handed_of(
     alloc: Global,
-    finding: &Finding,
+    hearing: &Hearing,
 ) -> Result<(Vec<Version>, Vec<SharedHeld>), AllocError>
-    ensures asked { IfOk result (λ all. all.0.items ≡ versions finding.now.handed.items) }
+    ensures asked { IfOk result (λ all. all.0.items ≡ versions hearing.now.handed.items) }
     ensures empty { IfOk result (λ all. all.1.items ≡ []) }
     ensures room { IfOk result (λ all. vec_len all.1 + length all.0.items ≤ vec_capacity all.1) }
 {
-    let mut asked = Vec::with_capacity(alloc, finding.handed.len())?;
-    push_versions(&mut asked, &finding.handed)?;
+    let mut asked = Vec::with_capacity(alloc, hearing.handed.len())?;
+    push_versions(&mut asked, &hearing.handed)?;
     let handed = Vec::with_capacity(alloc, asked.len())?;
     Ok((asked, handed))
 }
@@ -130,7 +130,7 @@ fn stage_told(
 /// memory, which leaves nothing staged.
 pub(crate) fn stage_found(
     alloc: Global,
-    finding: Finding,
+    hearing: Hearing,
     told: &[(PicNo, Vector)],
     target: &mut Device,
     source: &mut Device,
@@ -138,9 +138,9 @@ pub(crate) fn stage_found(
 ) -> Result<(), AllocError>
     requires order { in_order told.now ≡ true }
     requires unstaged { target.old.staged ≡ None }
-    requires may { (drops : List spec.Version) (gain : List Fragment) → IsPermutation (drops_found finding) drops
-        → IsGain gain (gain_found source.old finding told.now) → MayStage drops finding.taken.items gain target.old }
-    ensures staged { OnOk result (HasStagedFound finding told.now room source.old target.old target.new) }
+    requires may { (drops : List spec.Version) (gain : List Fragment) → IsPermutation (drops_found hearing) drops
+        → IsGain gain (gain_found source.old hearing told.now) → MayStage drops (takes_found target.old.tree hearing) gain target.old }
+    ensures staged { OnOk result (HasStagedFound hearing told.now room source.old target.old target.new) }
     ensures err { OnErr result (IsAsItWas target.old target.new) }
     ensures unstaged { OnErr result (target.new.staged ≡ None) }
     ensures source { source.new ≡ source.old }
@@ -148,11 +148,11 @@ pub(crate) fn stage_found(
     let (drops, pictures) = drops_of(
         alloc,
         target,
-        &finding.dropped.stored,
-        &finding.dropped.waiting,
+        &hearing.dropped.stored,
+        &hearing.dropped.waiting,
     )?;
-    let Finding { learned, taken, .. } = finding;
-    let takes = SharedList::new(taken);
+    let Hearing { learned, heard, .. } = hearing;
+    let takes = SharedList::new(taken_of(target.filter(), heard));
     if learned {
         return stage_taught(drops, pictures, takes, target, source, room);
     }

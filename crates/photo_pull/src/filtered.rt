@@ -142,12 +142,26 @@ pub(crate) fn heard_of(wanted: &Filter, dropped: &Part, list: Vec<SharedHeld>) -
 
 /// Those of a list that a filter matches.
 pub(crate) fn taken_of(wanted: &Filter, list: Vec<SharedHeld>) -> Vec<SharedHeld>
-    ensures items { result.items ≡ filter (is_selected wanted.now) list.items }
-    ensures fewer { length result.items ≤ length list.items }
+    ensures { result.items ≡ filter (is_selected wanted.now) list.items }
 {
     let mut taken = list;
     taken.retain(|held| wanted.matches(held.content()));
     taken
+}
+
+/// How many of a list a filter matches.
+pub(crate) fn count_of(wanted: &Filter, list: &[SharedHeld]) -> usize
+    ensures count { result ≡ length (filter (is_selected wanted.now) list.now) }
+    ensures fewer { result ≤ length list.now }
+{
+    let mut count = 0;
+    for held in list {
+        if !wanted.matches(held.content()) {
+            continue;
+        }
+        count += 1;
+    }
+    count
 }
 
 /// Puts the versions of those of a list behind others.

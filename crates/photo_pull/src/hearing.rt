@@ -4,16 +4,17 @@ ghost use Rattle.photo_device.specs.Held.{are_in_order};
 ghost use Rattle.photo_pull.specs.OnHeld.{new_stored, new_waiting, dropped_stored, dropped_waiting, learns};
 ghost use Rattle.photo_pull.specs.Findings.{AreNews, IsHearing};
 
-use crate::filtered::{dropped_of, heard_of, taken_of};
-use crate::finding::Finding;
+use crate::PullCounts;
+use crate::filtered::{count_of, dropped_of, heard_of};
 use crate::part::Part;
+use item_knowledge::Knowledge;
 use photo_device::{Device, SharedHeld, table_of};
 use photo_filter_rules::{Filter, covers};
 use photo_record::PicNo;
 use photo_version::Vector;
 use std::alloc::{AllocError, Global};
 
-/// What a target hears of from a source, before what it takes is told apart from what it only notices.
+/// What a target hears of from a source, of which it takes what its filter matches and only notices the rest.
 #[derive(Debug, Drop)]
 pub(crate) struct Hearing {
     /// Whether the target learns all that the source knows.
@@ -72,12 +73,14 @@ pub(crate) fn heard_between(
 }
 
 impl Hearing {
-    ghost use Rattle.std.specs.Prelude.{◌≡◌, true, IfOk};
+    ghost use Rattle.std.specs.Prelude.{◌≡◌, ℕ, ◌+◌, ◌<◌, ◌&&◌, ◌==◌, true, [], length, filter, IfOk};
     ghost use Rattle.std.specs.List.{AllByRecursion};
+    ghost use Rattle.photo_version.specs.Version.{Version};
+    ghost use Rattle.item_knowledge.specs.Fragments.{knows};
     ghost use Rattle.photo_device.specs.Held.{are_in_order};
-    ghost use Rattle.photo_device.specs.Device.{Kept};
     ghost use Rattle.photo_device.specs.Own.{HasEarlier};
-    ghost use Rattle.photo_pull.specs.Findings.{IsHearing, IsFound, IsTold};
+    ghost use Rattle.photo_pull.specs.OnHeld.{is_selected};
+    ghost use Rattle.photo_pull.specs.Findings.{IsTold};
 
     /// What it tells of the pictures, or nothing where the target learns all anyhow. Its only error is want of memory.
     pub fn told(&self, alloc: Global) -> Result<Vec<(PicNo, Vector)>, AllocError>
@@ -93,25 +96,44 @@ impl Hearing {
         table_of(alloc, &self.heard, &self.handed)
     }
 
-    /// What the pull finds, where the filter is the target's.
-    pub fn finding(self, wanted: &Filter) -> Finding
-        ensures { (t s : Kept) → wanted.now ≡ t.tree → IsHearing t s self → IsFound t s result }
+    /// What the pull moves and tells, where the filter is the target's.
+    pub fn counts(&self, wanted: &Filter) -> PullCounts
+        ensures taken { result.taken ≡ length (filter (is_selected wanted.now) self.now.heard.items) }
+        ensures handed { result.handed ≡ length self.now.handed.items }
+        ensures notices { result.notices + result.taken ≡ length self.now.heard.items }
+        ensures dropped { result.dropped ≡ length self.now.dropped.stored.items + length self.now.dropped.waiting.items }
+        ensures learned { result.learned ≡ self.now.learned }
     {
-        let Hearing {
-            learned,
-            dropped,
-            heard,
-            handed,
-        } = self;
-        let all = heard.len();
-        let taken = taken_of(wanted, heard);
-        let notices = all - taken.len();
-        Finding {
-            learned,
-            dropped,
-            taken,
-            handed,
-            notices,
+        let taken = count_of(wanted, &self.heard);
+        PullCounts {
+            taken: taken as u64,
+            handed: self.handed.len() as u64,
+            notices: (self.heard.len() - taken) as u64,
+            dropped: self.dropped.stored.len() as u64 + self.dropped.waiting.len() as u64,
+            learned: self.learned,
         }
+    }
+
+    /// Whether no version is heard of, handed over or dropped.
+    pub fn is_empty(&self) -> bool
+        ensures { result ≡ ((length self.now.heard.items == 0) && ((length self.now.handed.items == 0)
+            && ((length self.now.dropped.stored.items == 0) && (length self.now.dropped.waiting.items == 0)))) }
+    {
+        self.heard.is_empty() && (self.handed.is_empty() && self.dropped.is_empty())
+    }
+
+    /// Whether nothing is heard of, handed over or dropped, and what the source may teach is known.
+    pub fn is_nothing(&self, known: &Knowledge, taught: &Knowledge) -> bool
+        ensures heard { result ≡ true → self.now.heard.items ≡ [] }
+        ensures handed { result ≡ true → self.now.handed.items ≡ [] }
+        ensures dropped_stored { result ≡ true → self.now.dropped.stored.items ≡ [] }
+        ensures dropped_waiting { result ≡ true → self.now.dropped.waiting.items ≡ [] }
+        ensures known { result ≡ true → self.now.learned ≡ true → (p : ℕ) (v : Version) → 0 < p → knows taught.now.known p v ≡ true
+            → knows known.now.known p v ≡ true }
+    {
+        if !self.is_empty() {
+            return false;
+        }
+        !self.learned || known.has_all(taught)
     }
 }

@@ -4,7 +4,6 @@
 mod change;
 mod counts;
 mod filtered;
-mod finding;
 mod gap;
 mod hearing;
 mod keeping;

@@ -23,6 +23,5 @@ pub fn preview(alloc: Global, target: &Device, source: &Device) -> Result<PullCo
     let _source = source.knowledge();
     let news = news_by(alloc, target, source)?;
     let hearing = heard_between(alloc, news, target, source)?;
-    let finding = hearing.finding(target.filter());
-    Ok(finding.counts())
+    Ok(hearing.counts(target.filter()))
 }

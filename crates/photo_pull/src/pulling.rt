@@ -60,13 +60,12 @@ fn pull_news(
 {
     let hearing = heard_between(alloc, news, target, source)?;
     let told = hearing.told(alloc)?;
-    let finding = hearing.finding(target.filter());
-    let counts = finding.counts();
-    if finding.is_nothing(target.knowledge(), source.knowledge()) {
+    let counts = hearing.counts(target.filter());
+    if hearing.is_nothing(target.knowledge(), source.knowledge()) {
         return Ok(counts);
     }
-    let (asked, mut handed) = handed_of(alloc, &finding)?;
-    stage_found(alloc, finding, &told, target, source, asked.len())?;
+    let (asked, mut handed) = handed_of(alloc, &hearing)?;
+    stage_found(alloc, hearing, &told, target, source, asked.len())?;
     source.hand_over(&asked, &mut handed);
     target.commit(handed);
     Ok(counts)

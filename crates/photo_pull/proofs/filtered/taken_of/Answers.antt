@@ -3,5 +3,5 @@ use Rattle.std.proofs.lemmas.Fn.{filter_same}
 use Rattle.photo_pull.specs.OnHeld.{is_selected}
 use Rattle.photo_pull.proofs.filtered.taken_of.Goals as goal
 
-pub returns-clause-items : goal.returns-clause-items
-returns-clause-items c = filter_same _ (is_selected c.args.wanted.now) _ (λ x b f k. search rules) _ _ c.retain.ensures.filtered
+pub returns : goal.returns
+returns c = filter_same _ (is_selected c.args.wanted.now) _ (λ x b f k. search rules) _ _ c.retain.ensures.filtered
