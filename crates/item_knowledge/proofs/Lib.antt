@@ -5,7 +5,6 @@ pub mod TableLemmas
 pub mod MergeLemmas
 pub mod JoinLemmas
 pub mod RowLemmas
-pub mod AlikeLemmas
 pub mod AddLemmas
 pub mod GatherLemmas
 pub mod ChainLemmas
@@ -30,7 +29,6 @@ pub mod SeenLemmas
 pub mod NormalLemmas
 pub mod CarryLemmas
 pub mod AloneLemmas
-pub mod UnchangedLemmas
 pub mod ApartLemmas
 pub mod SpanLemmas
 pub mod PairingLemmas

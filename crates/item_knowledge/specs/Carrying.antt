@@ -16,18 +16,6 @@ HasCome fs changed row last next last_then next_then =
 abbrev pub AddsNothing : List Fragment → List Fragment → ℕ → ℕ → Type 0
 AddsNothing fs gs a b = (b ≡ 0) ⊎ (leq (entries_at gs b) (entries_at fs a) ≡ true)
 
--- where `true` stands beside an entry of the right's index, the right adds nothing to the left at its picture
-abbrev pub AreUnchanged : List Fragment → List (ℕ × ℕ) → List Fragment → List (ℕ × ℕ) → List Bool → Type 0
-AreUnchanged fs xs gs ys marks = (j : ℕ) → j < length marks → get_or marks j false ≡ true → AddsNothing fs gs (at 0 xs (get_or ys j (0, 0)).0) (get_or ys j (0, 0)).1
-
--- `true` stands beside a picture
-pub record IsMarkedUnchanged (marks : List Bool) (ys : List (ℕ × ℕ)) (picture : ℕ) : Type 0 where
-  pub place : ℕ
-  pub marked : place < length marks
-  pub there : place < length ys
-  pub is : (get_or ys place (0, 0)).0 ≡ picture
-  pub mark : get_or marks place false ≡ true
-
 -- each picture that an index lists beside another number than the star's is alone in the row of pictures of that fragment
 pub record AreAlone (rows : List (List ℕ)) (index : List (ℕ × ℕ)) : Type 0 where
   pub alone : (p : ℕ) → 0 < at 0 index p → get_or rows (2 * at 0 index p) [] ≡ p ∷ []

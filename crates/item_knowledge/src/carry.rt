@@ -2,7 +2,7 @@
 // that stays is compared with the few that changed, in place of all. Neighbours that stay are written as one run.
 ghost use Rattle.std.specs.Prelude.{◌≡◌, ◌+◌, ◌*◌, ◌<◌, ◌≤◌, [], ◌∷◌, ◌++◌, true, length, IfOk, IfSome, OnOk};
 ghost use Rattle.fragment_arena.specs.Arena.{run};
-ghost use Rattle.item_knowledge.specs.Carrying.{HasCome, AddsNothing, AreUnchanged, IsMarkedUnchanged, AreAlone, KeepsRow};
+ghost use Rattle.item_knowledge.specs.Carrying.{HasCome, AddsNothing, AreAlone, KeepsRow};
 ghost use Rattle.item_knowledge.specs.Entries.{is_vector};
 ghost use Rattle.item_knowledge.specs.Fragments.{is_normal, entries_at};
 ghost use Rattle.item_knowledge.specs.Gathering.{IsSide, IsIndex, pair_vector, groups_of, index_of, star_first};
@@ -73,48 +73,13 @@ fn adds_nothing(left: &Rows, right: &Rows, a: usize, b: usize) -> bool
     is_leq(entries(right, b), entries(left, a))
 }
 
-// Whether a picture was found to change nothing, where the right lists it, right before a place of its index, as its fragment
-// `b`.
-fn is_unchanged(
-    unchanged: &[bool],
-    right_index: &[IndexEntry],
-    place: usize,
-    picture: u32,
-    b: usize,
-) -> bool
-    ensures { result ≡ true → IsMarkedUnchanged unchanged.now right_index.now picture }
-{
-    if b == 0 || place == 0 || place > right_index.len() || place > unchanged.len() {
-        return false;
-    }
-    right_index[place - 1].0 == picture && unchanged[place - 1]
-}
-
-// The same, where it may have been found before.
-fn has_nothing(left: &Rows, right: &Rows, is_unchanged: bool, a: usize, b: usize) -> bool
-    requires left_rows { AreRows left.now }
-    requires right_rows { AreRows right.now }
-    requires unchanged { is_unchanged ≡ true → AddsNothing (fragments_of left.now) (fragments_of right.now) a b }
-    requires a { a < length (fragments_of left.now) }
-    requires b { b < length (fragments_of right.now) }
-    requires order { in_order (entries_at (fragments_of left.now) a) ≡ true }
-    requires vector { is_vector (entries_at (fragments_of right.now) b) ≡ true }
-    ensures { result ≡ true → AddsNothing (fragments_of left.now) (fragments_of right.now) a b }
-{
-    if is_unchanged {
-        return true;
-    }
-    adds_nothing(left, right, a, b)
-}
-
 // Whether the row of the left's fragment `a` stays as it is: it lies behind those that came, the right's `b` has nothing beyond
-// it, which may have been found before, and no changed row equals it, which need not be asked where all of them are new.
+// it, and no changed row equals it, which need not be asked where all of them are new.
 fn stays(
     left: &Rows,
     right: &Rows,
     changed: &Places,
     all_new: bool,
-    is_unchanged: bool,
     last: usize,
     a: usize,
     b: usize,
@@ -123,7 +88,6 @@ fn stays(
     requires right { AreRows right.now }
     requires changed { IsFound changed.now }
     requires new { all_new ≡ true → AreNew left.now (vectors_in changed.now.rows) }
-    requires unchanged { is_unchanged ≡ true → AddsNothing (fragments_of left.now) (fragments_of right.now) a b }
     requires a { a < length (fragments_of left.now) }
     requires b { b < length (fragments_of right.now) }
     requires order { in_order (entries_at (fragments_of left.now) a) ≡ true }
@@ -133,7 +97,7 @@ fn stays(
     if a <= last {
         return false;
     }
-    if !has_nothing(left, right, is_unchanged, a, b) {
+    if !adds_nothing(left, right, a, b) {
         return false;
     }
     if all_new {
@@ -211,7 +175,6 @@ fn carry(
     right_index: &[IndexEntry],
     star: &[u64],
     changed: &Places,
-    unchanged: &[bool],
     all_new: bool,
     room: &mut Vec<u64>,
     index: &mut Vec<IndexEntry>,
@@ -227,7 +190,6 @@ fn carry(
     requires star { pairs star.now ≡ pair_vector (fragments_of left.now) (fragments_of right.now) (0, 0) }
     requires left_star { pairs star.now ≡ entries_at (fragments_of left.now) 0 }
     requires changed { IsFound changed.now }
-    requires unchanged { AreUnchanged (fragments_of left.now) left_index.now (fragments_of right.now) right_index.now unchanged.now }
     requires new { all_new ≡ true → AreNew left.now (vectors_in changed.now.rows) }
     requires index { index.old.items ≡ [] }
     requires out { out.old ≡ [] ∷ star.now ∷ [] }
@@ -244,8 +206,7 @@ fn carry(
     let mut next = 0;
     let mut pairing = Pairing::new();
     while let Some((picture, (a, b))) = pairing.next(left_index, right_index) {
-        let known = is_unchanged(unchanged, right_index, pairing.right, picture, b);
-        if stays(left, right, changed, all_new, known, last, a, b) {
+        if stays(left, right, changed, all_new, last, a, b) {
             from = run_to(left, from, last + 1, a, out)?;
             add_number(picture, index)?;
             last = a;
@@ -278,8 +239,7 @@ fn most_changes(left_count: usize, right_count: usize) -> usize {
 }
 
 // Finds the rows of the union that are not those of the left at the same picture, in the order of their pictures, each
-// once, and marks which pictures of the right change nothing; whether all changed rows are rows that the left has nowhere, by
-// its marks, or none where they are too many.
+// once; whether all changed rows are rows that the left has nowhere, by its marks, or none where they are too many.
 fn find_changes(
     left: &Rows,
     left_index: &[IndexEntry],
@@ -289,7 +249,6 @@ fn find_changes(
     most: usize,
     room: &mut Vec<u64>,
     changed: &mut Places,
-    unchanged: &mut Vec<bool>,
 ) -> Result<Option<bool>, AllocError>
     requires left_rows { AreRows left.now }
     requires right_rows { AreRows right.now }
@@ -298,10 +257,7 @@ fn find_changes(
     requires seen { IsSeen seen.now.words.items left.now }
     requires changed { IsFound changed.old }
     requires none { changed.old.rows ≡ [] }
-    requires unmarked { unchanged.old.items ≡ [] }
     ensures found { OnOk result (IsFound changed.new) }
-    ensures unchanged { OnOk result (AreUnchanged (fragments_of left.now) left_index.now (fragments_of right.now) right_index.now
-        unchanged.new.items) }
     ensures new { IfOk result (λ found. IfSome found (λ all_new. all_new ≡ true → AreNew left.now (vectors_in changed.new.rows))) }
 {
     let mut all_new = true;
@@ -311,9 +267,7 @@ fn find_changes(
         let b = number as usize;
         let (a, near) = number_near(left_index, hint, picture);
         hint = near;
-        let is_unchanged = adds_nothing(left, right, a, b);
-        unchanged.push(is_unchanged)?;
-        if is_unchanged {
+        if adds_nothing(left, right, a, b) {
             continue;
         }
         let row = pair(left, left_index, right, right_index, a, b, room)?;
@@ -382,7 +336,6 @@ pub(crate) fn carried(
     }
     let mut room = Vec::new(alloc);
     let mut changed = no_changes(alloc, most, right.words())?;
-    let mut unchanged = Vec::with_capacity(alloc, right_index.len())?;
     let Some(all_new) = find_changes(
         left,
         left_index,
@@ -392,7 +345,6 @@ pub(crate) fn carried(
         most,
         &mut room,
         &mut changed,
-        &mut unchanged,
     )?
     else {
         return Ok(None);
@@ -412,7 +364,6 @@ pub(crate) fn carried(
         right_index,
         star,
         &changed,
-        &unchanged,
         all_new,
         &mut room,
         &mut index,

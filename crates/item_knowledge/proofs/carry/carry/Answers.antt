@@ -7,7 +7,6 @@ use Rattle.item_knowledge.proofs.OnTheWay.{CanCarry}
 use Rattle.item_knowledge.proofs.RowLemmas.{rows_read}
 use Rattle.item_knowledge.proofs.UnionLemmas.{above, entries_order}
 use Rattle.item_knowledge.proofs.AloneLemmas.{next_alone}
-use Rattle.item_knowledge.proofs.UnchangedLemmas.{next_unchanged}
 use Rattle.item_knowledge.proofs.SpanLemmas.{come_below}
 use Rattle.item_knowledge.proofs.WayLemmas.{on_first, row_inside, on_star, on_stays, on_one, on_all}
 use Rattle.item_knowledge.proofs.carry.carry.Goals as goal
@@ -42,12 +41,6 @@ stays-requires-clause-vector c =
     let r : ℕ × (ℕ × ℕ) = (c.in-Some.picture, (c.in-Some.a, c.in-Some.b)) in
     let there = row_inside c.args.left.now c.args.right.now c.args.left_index.now c.args.right_index.now c.args.star.now (vectors_in c.args.changed.now.rows) c.loop-next.out c.loop-next.index.items c.loop-next.pairing c.loop-next.from c.loop-next.last c.loop-next.next on c.next.new.self r c.requires.left c.requires.right c.in-Some.ensures.next in
     (above (fragments_of c.args.right.now) c.args.right_index.now c.in-Some.b c.requires.right there.1).vector
-
-pub stays-requires-clause-unchanged : goal.stays-requires-clause-unchanged
-stays-requires-clause-unchanged c = λ yes.
-    let on = c.loop-next.invariant in
-    let r : ℕ × (ℕ × ℕ) = (c.in-Some.picture, (c.in-Some.a, c.in-Some.b)) in
-    next_unchanged (fragments_of c.args.left.now) (fragments_of c.args.right.now) c.args.left_index.now c.args.right_index.now c.args.unchanged.now c.loop-next.pairing c.next.new.self on.place r c.requires.left.order c.requires.right.order on.along c.in-Some.ensures.next c.requires.unchanged (c.is_unchanged-known.ensures yes)
 
 pub run_to-requires-clause-order : goal.run_to-requires-clause-order
 run_to-requires-clause-order c =

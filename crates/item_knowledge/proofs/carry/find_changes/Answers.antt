@@ -2,14 +2,12 @@ use Rattle.std.proofs.Common.{◌≡◌, true, ◌<◌, length, get_or, sym, sub
 use Rattle.std.proofs.lemmas.Bool.{false≢true}
 use Rattle.item_knowledge.specs.Tables.{in_order, at}
 use Rattle.item_knowledge.specs.Fragments.{entries_at}
-use Rattle.item_knowledge.specs.Carrying.{AddsNothing}
 use Rattle.item_knowledge.specs.Rows.{pairs, fragments_of, vectors_in}
 use Rattle.item_knowledge.specs.Seen.{has_unseen}
 use Rattle.item_knowledge.proofs.KeptLemmas.{number_below}
 use Rattle.item_knowledge.proofs.AlongLemmas.{side_at}
 use Rattle.item_knowledge.proofs.UnionLemmas.{above, entries_order}
 use Rattle.item_knowledge.proofs.SeenLemmas.{one_new, unseen_differs}
-use Rattle.item_knowledge.proofs.UnchangedLemmas.{mark_counted, mark_pushed}
 use Rattle.item_knowledge.proofs.carry.find_changes.Goals.{then-all_new, else-all_new}
 use Rattle.item_knowledge.proofs.carry.find_changes.Goals as goal
 
@@ -23,24 +21,24 @@ pair-requires-clause-b c =
     let less : c.loop-i.i < length c.args.right_index.now = omega arith in
     side_at (fragments_of c.args.right.now) c.args.right_index.now c.loop-i.i c.requires.right less
 
-pub adds_nothing-is_unchanged-requires-clause-a : goal.adds_nothing-is_unchanged-requires-clause-a
-adds_nothing-is_unchanged-requires-clause-a c =
+pub adds_nothing-requires-clause-a : goal.adds_nothing-requires-clause-a
+adds_nothing-requires-clause-a c =
     subst (λ n. n < length (fragments_of c.args.left.now)) (sym c.number_near-a.ensures)
     (number_below (fragments_of c.args.left.now) c.args.left_index.now (get_or c.args.right_index.now c.loop-i.i (0, 0)).0 c.requires.left)
 
-pub adds_nothing-is_unchanged-requires-clause-b : goal.adds_nothing-is_unchanged-requires-clause-b
-adds_nothing-is_unchanged-requires-clause-b c =
+pub adds_nothing-requires-clause-b : goal.adds_nothing-requires-clause-b
+adds_nothing-requires-clause-b c =
     let less : c.loop-i.i < length c.args.right_index.now = omega arith in
     side_at (fragments_of c.args.right.now) c.args.right_index.now c.loop-i.i c.requires.right less
 
-pub adds_nothing-is_unchanged-requires-clause-order : goal.adds_nothing-is_unchanged-requires-clause-order
-adds_nothing-is_unchanged-requires-clause-order c =
+pub adds_nothing-requires-clause-order : goal.adds_nothing-requires-clause-order
+adds_nothing-requires-clause-order c =
     subst (λ n. in_order (entries_at (fragments_of c.args.left.now) n) ≡ true) (sym c.number_near-a.ensures)
     (entries_order (fragments_of c.args.left.now) c.args.left_index.now (at 0 c.args.left_index.now (get_or c.args.right_index.now c.loop-i.i (0, 0)).0) c.requires.left
     (number_below (fragments_of c.args.left.now) c.args.left_index.now (get_or c.args.right_index.now c.loop-i.i (0, 0)).0 c.requires.left))
 
-pub adds_nothing-is_unchanged-requires-clause-vector : goal.adds_nothing-is_unchanged-requires-clause-vector
-adds_nothing-is_unchanged-requires-clause-vector c =
+pub adds_nothing-requires-clause-vector : goal.adds_nothing-requires-clause-vector
+adds_nothing-requires-clause-vector c =
     let less : c.loop-i.i < length c.args.right_index.now = omega arith in
     (above (fragments_of c.args.right.now) c.args.right_index.now (get_or c.args.right_index.now c.loop-i.i (0, 0)).1 c.requires.right
     (side_at (fragments_of c.args.right.now) c.args.right_index.now c.loop-i.i c.requires.right less)).vector
@@ -51,17 +49,14 @@ lacks_one-all_new-requires-clause-order c =
 
 pub loop-i-preserved : goal.loop-i-preserved
 loop-i-preserved c = record {
-  found = c.in_ok-push-2.ensures.found;
-  marked = mark_counted c.loop-i.unchanged.items c.push.new.self.items c.adds_nothing-is_unchanged.result c.loop-i.i c.loop-i.invariant.marked c.in_ok-push.ensures.items;
-  unchanged = mark_pushed (fragments_of c.args.left.now) (fragments_of c.args.right.now) c.args.left_index.now c.args.right_index.now c.loop-i.unchanged.items c.push.new.self.items c.adds_nothing-is_unchanged.result c.loop-i.i c.loop-i.invariant.marked c.loop-i.invariant.unchanged
-      (λ yes. subst (λ n. AddsNothing (fragments_of c.args.left.now) (fragments_of c.args.right.now) n (get_or c.args.right_index.now c.loop-i.i (0, 0)).1) c.number_near-a.ensures (c.adds_nothing-is_unchanged.ensures yes)) c.in_ok-push.ensures.items;
+  found = c.in_ok-push.ensures.found;
   new = λ yes. elim c.if-all_new.branch [
     | then-all_new w ↦
         let unseen : has_unseen c.args.seen.now.words.items (entries_at (fragments_of c.args.left.now) 0) (pairs c.in_ok-row.row.now) ≡ true =
         ap (λ es. has_unseen c.args.seen.now.words.items es (pairs c.in_ok-row.row.now)) (sym w.entries.ensures.entries) ∙ (sym w.lacks_one-all_new.ensures ∙ (sym w.all_new-is ∙ yes)) in
-        one_new c.args.left.now (vectors_in c.loop-i.changed.rows) (vectors_in c.push-in-loop-i.new.self.rows) c.in_ok-row.row.now (c.loop-i.invariant.new w.if-all_new.true)
+        one_new c.args.left.now (vectors_in c.loop-i.changed.rows) (vectors_in c.push.new.self.rows) c.in_ok-row.row.now (c.loop-i.invariant.new w.if-all_new.true)
         (λ k l is. unseen_differs c.args.seen.now.words.items c.in_ok-row.row.now c.args.left.now k c.requires.left_rows c.requires.seen (entries_order (fragments_of c.args.left.now) c.args.left_index.now k c.requires.left l) l unseen is)
-        c.in_ok-push-2.ensures.vectors
+        c.in_ok-push.ensures.vectors
     | else-all_new w ↦ absurd (false≢true (sym w.if-all_new.false ∙ (sym w.all_new-is ∙ yes)))
   ];
 }

@@ -16,7 +16,7 @@ returns-then-is_free c h =
     sym c.entries-row.ensures.row ∙ ap flat c.entries-row.ensures.entries ∙ sym (entries_read c.args.left.now c.args.a c.requires.left c.requires.a) in
     record {
       later = c.if-a-last.false;
-      nothing = c.has_nothing.ensures (search rules);
+      nothing = c.adds_nothing.ensures (search rules);
       new = subst (is_new (vectors_in c.args.changed.now.rows)) row new;
     }
 
@@ -28,6 +28,6 @@ returns c h =
     sym c.entries-row.ensures.row ∙ ap flat c.entries-row.ensures.entries ∙ sym (entries_read c.args.left.now c.args.a c.requires.left c.requires.a) in
     record {
       later = c.if-a-last.false;
-      nothing = c.has_nothing.ensures (search rules);
+      nothing = c.adds_nothing.ensures (search rules);
       new = subst (is_new (vectors_in c.args.changed.now.rows)) row new;
     }
