@@ -1,0 +1,11 @@
+pub mod Bytes
+pub mod Cuts
+pub mod Digits
+pub mod Wording
+pub mod FilterBytes
+pub mod NameBytes
+pub mod Saying
+pub mod SaidKinds
+pub mod CommandLines
+pub mod Adding
+pub mod Printed
