@@ -148,7 +148,7 @@ filters-commands s [] lines = refl
 filters-commands s (x ∷ xs) lines = ap (λ fs. fs ++ filters_of (map (line_of_command s) xs)) lines.0.no_filter ∙ filters-commands s xs lines.1
 
 -- a picture isn't among those before it
-not-made : (front : List ℕ) (p : ℕ) (rest : List ℕ) → AllDiffer (front ++ p ∷ rest) → list_any (λ q. eqb q p) front ≡ false
+pub not-made : (front : List ℕ) (p : ℕ) (rest : List ℕ) → AllDiffer (front ++ p ∷ rest) → list_any (λ q. eqb q p) front ≡ false
 not-made front p rest apart =
     let all = front ++ p ∷ rest in
     let here : get_or all (length front) 0 ≡ p = get_or_at front p rest 0 (length front) refl in

@@ -9,3 +9,7 @@ pub mod SaidKinds
 pub mod CommandLines
 pub mod Adding
 pub mod Printed
+pub mod WordTurns
+pub mod LineTurns
+pub mod Differing
+pub mod Fitting

@@ -75,7 +75,7 @@ name-at names k named within = All-get_or (λ name. is_name name ≡ true) names
 
 -- Places
 
-differ : (a b : List ℕ) → (b ≡ a → ⊥) → bytes_eq a b ≡ false
+pub differ : (a b : List ℕ) → (b ≡ a → ⊥) → bytes_eq a b ≡ false
 differ a b h = false_from_ne_true (bytes_eq a b) (λ t. h (sym ((bytes_eq-Decides a b).0 t)))
 
 -- a name has its own place among names that differ

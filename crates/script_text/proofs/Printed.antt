@@ -22,11 +22,11 @@ use Rattle.script_text.proofs.Cuts.{lines-ended}
 use Rattle.script_text.proofs.CommandLines.{command-line}
 use Rattle.script_text.proofs.Adding.{AreDeviceLines, device-said, devices-said, names-devices, filters-devices, pictures-devices, commands-devices, AreCommandLines, names-commands, filters-commands, commands-are-said}
 
-short-front : (xs ys : List (List ℕ)) → AllByRecursion IsShort (xs ++ ys) → AllByRecursion IsShort xs
+pub short-front : (xs ys : List (List ℕ)) → AllByRecursion IsShort (xs ++ ys) → AllByRecursion IsShort xs
 short-front [] ys h = tt
 short-front (x ∷ xs) ys h = (h.0, short-front xs ys h.1)
 
-short-rest : (xs ys : List (List ℕ)) → AllByRecursion IsShort (xs ++ ys) → AllByRecursion IsShort ys
+pub short-rest : (xs ys : List (List ℕ)) → AllByRecursion IsShort (xs ++ ys) → AllByRecursion IsShort ys
 short-rest [] ys h = h
 short-rest (x ∷ xs) ys h = short-rest xs ys h.1
 

@@ -1,3 +1,4 @@
 pub mod Texts
 pub mod Printable
+pub mod Parts
 pub mod Laws

@@ -3,12 +3,13 @@
 #![tactic(auto)]
 
 mod field;
-//mod fit;
+mod fit;
 pub mod laws;
 mod limits;
 mod line;
-//mod name;
-//mod text;
+mod made;
+mod name;
+mod text;
 
 pub use line::command_text;
-//pub use text::script_text;
+pub use text::script_text;

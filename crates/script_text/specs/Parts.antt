@@ -1,0 +1,25 @@
+-- Machinery of the proofs, which only contracts of private functions cite: what fits of the parts of a script's text.
+use Rattle.std.specs.Prelude.{◌≡◌, ℕ, List, [], ◌∷◌}
+use Rattle.photo_filter_text.specs.Tree.{Tree}
+use Rattle.photo_filter_rules.specs.Filters.{IsFilterOf}
+use Rattle.photo_script.specs.Contents.{Contents}
+use Rattle.photo_script.specs.declared.command.Command.{Command}
+use Rattle.script_text.specs.Texts.{line_of_command, line_of_device}
+use Rattle.script_text.specs.Printable.{FitsFilter, FitsCommand, IsShort}
+
+-- the text is a filter
+abbrev pub IsSomeFilter : List ℕ → Type 0
+IsSomeFilter text = (tree : Tree) × IsFilterOf text tree
+
+-- a device's filter, and its line
+abbrev pub FitsDevice : List ℕ → Tree → Type 0
+FitsDevice name filter = FitsFilter filter × IsShort (line_of_device name filter)
+
+abbrev pub FitDevices : List (List ℕ) → List Tree → Type 0
+FitDevices [] filters = Unit {0}
+FitDevices (name ∷ names) [] = Unit {0}
+FitDevices (name ∷ names) (filter ∷ filters) = FitsDevice name filter × FitDevices names filters
+
+-- a command, and its line
+abbrev pub FitsLine : Contents → Command → Type 0
+FitsLine s x = FitsCommand s x × IsShort (line_of_command s x)
