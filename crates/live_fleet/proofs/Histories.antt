@@ -30,17 +30,17 @@ use Rattle.fleet_steps.proofs.SoundRuns.{opening_sound, sound_kept, sound_and_ke
 use Rattle.live_fleet.specs.Fleets.{KeptFleet, ShowsFleet, AreAlike, RunsGrowByCommands, after_commands, CameAbout, HasSoundHistory}
 
 -- two that are alike are so after one command more, whatever number it has
-alike_after : (f g : Fleet) (j k : ℕ) (c : Command) → AreAlike f g → AreAlike (after_command f j c) (after_command g k c)
+pub alike_after : (f g : Fleet) (j k : ℕ) (c : Command) → AreAlike f g → AreAlike (after_command f j c) (after_command g k c)
 alike_after f g j k c same = record {
   devices = ap (λ ds. devices_after ds c) same.devices;
   log = λ i. same.log i ++ (effect_on (same.devices i) c).entries;
 }
 
 -- commands one after another, none of which has a report
-abbrev ran : Fleet → Command → Fleet
+abbrev pub ran : Fleet → Command → Fleet
 ran fleet c = after_command fleet 0 c
 
-abbrev opened : List Tree → Fleet
+abbrev pub opened : List Tree → Fleet
 opened filters = opening_fleet (contents [] filters [])
 
 -- the first commands of a run
@@ -63,7 +63,7 @@ begins filters commands (suc n) few = elim (slice_get_cases commands n).1 [
   | inr past ↦ let far = past.0 in absurd (omega arith)
 ]
 
-is_folded : (filters : List Tree) (commands : List Command) → AreAlike (after_commands filters commands) (fold ran (opened filters) commands)
+pub is_folded : (filters : List Tree) (commands : List Command) → AreAlike (after_commands filters commands) (fold ran (opened filters) commands)
 is_folded filters commands =
     subst (λ (cs : List Command). AreAlike (after_commands filters commands) (fold ran (opened filters) cs)) (take_all (length commands) commands (le_refl _)) (begins filters commands (length commands) (le_refl _))
 
@@ -97,7 +97,7 @@ module _ (Fits : Record → Type 0) (P : List Entry → List ModelDevice → Typ
         few = subst (λ (j : ℕ). AllByRecursion (HasMadeAtMost j) (fold ran (ran fleet c) commands).devices) (omega arith) rest.few;
       }
 
-within_opened : (filters : List Tree) (commands : List Command) → AllByRecursion (IsWithin (length filters)) commands → AllByRecursion (IsWithin (length (opening_from 0 filters))) commands
+pub within_opened : (filters : List Tree) (commands : List Command) → AllByRecursion (IsWithin (length filters)) commands → AllByRecursion (IsWithin (length (opening_from 0 filters))) commands
 within_opened filters commands within = subst (λ (n : ℕ). AllByRecursion (IsWithin n) commands) (sym (length_opening 0 filters)) within
 
 -- after commands every device is sound, and none has made more versions or begun more epochs than commands have run
@@ -113,7 +113,7 @@ sound_after filters commands few within fits =
     }
 
 -- so they are ready for one command more
-ready_after : (filters : List Tree) (commands : List Command) → length commands ≤ 4_294_967_295 → AllByRecursion (IsWithin (length filters)) commands → IsReady (after_commands filters commands).devices
+pub ready_after : (filters : List Tree) (commands : List Command) → length commands ≤ 4_294_967_295 → AllByRecursion (IsWithin (length filters)) commands → IsReady (after_commands filters commands).devices
 ready_after filters commands few within =
     let all = kept_along (λ r. Unit {0}) (λ log ds. IsReady ds) ready_kept (opened filters) 0 commands (opening_ready filters) (omega arith) (opening_at_most filters 0) (within_opened filters commands within) (all_fit commands) in
     subst IsReady (sym (is_folded filters commands).devices) all.fact

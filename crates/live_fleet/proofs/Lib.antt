@@ -1,3 +1,6 @@
 mod Histories
 mod Entries
 mod WorkedExamples
+mod Joining
+mod Named
+mod AlongScripts

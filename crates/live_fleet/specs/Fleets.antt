@@ -1,15 +1,16 @@
 -- Fleets that commands are given to, one after another.
-use Rattle.std.specs.Prelude.{◌≡◌, ℕ, ◌+◌, ◌≤◌, List, [], ◌∷◌, ◌++◌, length, IfSome}
+use Rattle.std.specs.Prelude.{◌≡◌, ℕ, ◌+◌, ◌≤◌, List, [], ◌∷◌, ◌++◌, length, Some, IfSome}
 use Rattle.std.specs.List.{AllZip, AllByRecursion}
 use Rattle.photo_filter_text.specs.Tree.{Tree}
 use Rattle.photo_filter_rules.specs.Matching.{IsInRange}
+use Rattle.photo_version.specs.Author.{author}
 use Rattle.photo_device.specs.declared.held.Held.{Held}
 use Rattle.photo_device.specs.Held.{entries_of}
-use Rattle.photo_device.specs.Device.{Kept, Shows}
+use Rattle.photo_device.specs.Device.{Kept, Shows, opening}
 use Rattle.photo_script.specs.declared.command.Command.{Command}
-use Rattle.photo_script.specs.Contents.{contents, IsWithin, record_of}
-use Rattle.photo_script.specs.Reports.{Answer, Tells}
-use Rattle.photo_script.specs.Runs.{Fleet, after_command, run}
+use Rattle.photo_script.specs.Contents.{Contents, contents, IsWithin, command_of, record_of}
+use Rattle.photo_script.specs.Reports.{Answer, Tells, IsAbout}
+use Rattle.photo_script.specs.Runs.{Fleet, after_command, run, run_in_order, numbers_to}
 use Rattle.fleet_steps.specs.Between.{AreSettled, effect_on}
 use Rattle.fleet_steps.specs.Sound.{IsSoundAndKept}
 
@@ -70,3 +71,21 @@ pub record HasRun (c : Command) (old new : KeptFleet) : Type 0 where
 -- the answer is the right one to the command, where it is given to that fleet
 abbrev pub IsAnswerTo : Command → KeptFleet → Answer → Type 0
 IsAnswerTo c old answer = (m : ModelFleet) → ShowsFleet old m → Tells answer (effect_on m.devices c).report
+
+-- the answer speaks of none but the fleet's devices, so whatever script names as many has a name for each
+abbrev pub SpeaksOf : KeptFleet → Answer → Type 0
+SpeaksOf f answer = (script : Contents) → length f.devices ≤ length script.names → IsAbout script answer
+
+-- the model fleet with one device more behind the others, which has that filter, and has made and holds nothing
+abbrev pub with_device : Tree → ModelFleet → ModelFleet
+with_device filter m = record m { devices = m.devices ++ opening (author (length m.devices)) filter ∷ [] }
+
+-- a device with that filter has come behind the others: whatever model fleet the old fleet shows, the new one shows that
+-- with one device more. No command has run
+pub record HasJoined (filter : Tree) (old new : KeptFleet) : Type 0 where
+  pub shows : (m : ModelFleet) → ShowsFleet old m → ShowsFleet new (with_device filter m)
+  pub count : new.commands ≡ old.commands
+
+-- where a fleet shows the run of the first commands of a script, it shows that of one more after the next one has run
+abbrev pub RunsAlongScripts : Type 0
+RunsAlongScripts = (script : Contents) (n : ℕ) (c : Command) (old new : KeptFleet) → command_of script (n + 1) ≡ Some c → ShowsFleet old (run_in_order script (numbers_to n)) → HasRun c old new → ShowsFleet new (run_in_order script (numbers_to (n + 1)))

@@ -1,14 +1,15 @@
 // The fleet: what it is seen as, and its calls.
 use crate::answer::{made_in, narrowed_in, pulled_in, refiltered_in};
 use crate::asking::preview_between;
-use crate::opening::opening_devices;
+use crate::opening::{devices_of_script, opening_devices};
 use crate::ranges::command_in_range;
 use crate::step::run_and_keep;
+use fleet_steps::opening_device;
 use photo_device::{Device, Held, Place};
 use photo_filter_rules::Filter;
 use photo_pull::PullCounts;
 use photo_record::{PicNo, Record};
-use photo_script::{Command, Report, devices_of};
+use photo_script::{Command, Report, Script, devices_of};
 use photo_version::Version;
 use std::alloc::{AllocError, Global};
 use std::marker::Model;
@@ -39,13 +40,13 @@ impl Model for Fleet {
 }
 
 impl Fleet {
-    ghost use Rattle.std.specs.Prelude.{◌≡◌, ◌≢◌, ◌+◌, ◌<◌, ◌≤◌, ◌↔◌, [], length, IsTrue, IfOk, OnOk, OnErr};
-    ghost use Rattle.photo_script.specs.Contents.{IsWithin};
-    ghost use Rattle.photo_script.specs.Reports.{Made, Pulled, Preview, Refiltered, answer_of};
+    ghost use Rattle.std.specs.Prelude.{◌≡◌, ◌≢◌, ◌+◌, ◌<◌, ◌≤◌, ◌↔◌, [], length, IsTrue, IfOk, IfSome, OnOk, OnErr};
+    ghost use Rattle.photo_script.specs.Contents.{IsWithin, command_of};
+    ghost use Rattle.photo_script.specs.Reports.{Made, Pulled, Preview, Refiltered, IsAbout, answer_of};
     ghost use Rattle.photo_script.specs.declared.command.Command.TheVariants.{New, Edit, Remove, Pull, Narrow, Refilter};
     ghost use Rattle.photo_script.specs.declared.command.Command.TheVariants as asked;
     ghost use Rattle.live_fleet.specs.Answers.{change_answer, narrow_answer};
-    ghost use Rattle.live_fleet.specs.Fleets.{CameAbout, HasRun, IsAnswerTo, ShowsFleet, after_commands};
+    ghost use Rattle.live_fleet.specs.Fleets.{CameAbout, HasJoined, HasRun, IsAnswerTo, ShowsFleet, SpeaksOf, after_commands};
 
     /// A device for each filter, in their order, none of which has made or holds anything. There may be 65,536 of them.
     /// Its only error is want of memory.
@@ -64,16 +65,52 @@ impl Fleet {
         })
     }
 
+    /// The devices of a script, none of which has made or holds anything. Its commands run by [`Fleet::run_number`]. Its only
+    /// error is want of memory.
+    pub fn of_script(alloc: Global, script: &Script) -> Result<Fleet, AllocError>
+        ensures fleet { IfOk result (λ fleet. ShowsFleet fleet (after_commands script.now.filters [])) }
+        ensures long { IfOk result (λ fleet. length fleet.devices ≡ length script.now.names) }
+        ensures count { IfOk result (λ fleet. fleet.commands ≡ 0) }
+    {
+        let devices = devices_of_script(alloc, script)?;
+        Ok(Fleet {
+            devices,
+            log: Vec::new(alloc),
+            commands: 0,
+            alloc,
+        })
+    }
+
+    /// Puts a device with that filter behind the others, which has made and holds nothing. Gives its number, which is how
+    /// many devices there were; there may be 65,536. It isn't counted as a command. Its only error is want of memory, after
+    /// which the fleet is as it was.
+    pub fn add(&mut self, filter: &Filter) -> Result<u16, AllocError>
+        requires few { length self.old.devices < 65_536 }
+        ensures joined { OnOk result (HasJoined filter.now self.old self.new) }
+        ensures number { IfOk result (λ number. number ≡ length self.old.devices) }
+        ensures err { OnErr result (self.new ≡ self.old) }
+        ensures long { OnOk result (length self.new.devices ≡ length self.old.devices + 1) }
+        ensures kept { length self.old.devices ≤ length self.new.devices }
+        ensures count { self.new.commands ≡ self.old.commands }
+    {
+        let number = self.devices.len() as u16;
+        let device = opening_device(self.alloc, number, filter)?;
+        self.devices.push(device)?;
+        Ok(number)
+    }
+
     /// Runs one command on the one or two of the devices that it works on, puts the version that it makes behind the log,
     /// and gives the report. Its only error is want of memory, after which the fleet is as it was.
     ///
     /// [`Fleet::takes`] tells whether the command's devices are there, and [`Fleet::is_full`] whether there is room for
-    /// one command more. `new` may name a picture that has been made: it makes a further version of it.
+    /// one command more. `new` may name a picture that has been made: it makes a further version of it. The report speaks of
+    /// the fleet's devices alone, so it has a text for each script that names as many (`photo_script::report_text`).
     pub fn run(&mut self, command: &Command) -> Result<Report, AllocError>
         requires within { IsWithin (length self.old.devices) command.now }
         requires room { self.old.commands < 4_294_967_295 }
         ensures ran { OnOk result (HasRun command.now self.old self.new) }
         ensures report { IfOk result (λ report. IsAnswerTo command.now self.old (answer_of report)) }
+        ensures about { IfOk result (λ report. SpeaksOf self.old (answer_of report)) }
         ensures err { OnErr result (self.new ≡ self.old) }
         ensures long { length self.new.devices ≡ length self.old.devices }
         ensures count { self.new.commands ≤ self.old.commands + 1 }
@@ -98,6 +135,23 @@ impl Fleet {
         ensures came { CameAbout self.old }
     {
         self.run(&command)
+    }
+
+    /// Runs the command of that number, from 1, of a script that has as many devices, as [`Fleet::run`] does. The script has a
+    /// text for the report. Its only error is want of memory, after which the fleet is as it was.
+    pub fn run_number(&mut self, script: &Script, number: u32) -> Result<Report, AllocError>
+        requires first { 0 < number }
+        requires last { number ≤ length script.now.commands }
+        requires devices { length self.old.devices ≡ length script.now.names }
+        requires room { self.old.commands < 4_294_967_295 }
+        ensures ran { OnOk result (IfSome (command_of script.now number) (λ c. HasRun c self.old self.new)) }
+        ensures report { IfOk result (λ report. IfSome (command_of script.now number) (λ c. IsAnswerTo c self.old (answer_of report))) }
+        ensures about { IfOk result (λ report. IsAbout script.now (answer_of report)) }
+        ensures err { OnErr result (self.new ≡ self.old) }
+        ensures long { length self.new.devices ≡ length self.old.devices }
+        ensures count { self.new.commands ≤ self.old.commands + 1 }
+    {
+        self.run(script.command(number))
     }
 
     /// A device makes a version of a picture, whether or not there was one, as by `new`. Gives the version and where it

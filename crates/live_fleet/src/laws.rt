@@ -1,6 +1,6 @@
 //! What holds of every fleet, and of runs that grow by commands.
 ghost use Rattle.live_fleet.specs.Examples.{EditedOnBoth, ChangedByHand, ComesAboutAsTold};
-ghost use Rattle.live_fleet.specs.Fleets.{HasSoundHistory, RunsGrowByCommands};
+ghost use Rattle.live_fleet.specs.Fleets.{HasSoundHistory, RunsAlongScripts, RunsGrowByCommands};
 
 use crate::Fleet;
 
@@ -18,6 +18,12 @@ pub fn each_fleet_is_sound(fleet: &Fleet)
 /// whoever knows the filters of a fleet and the commands that it was given knows that it shows the run of that script.
 pub fn runs_grow_by_commands()
     ensures { RunsGrowByCommands }
+{}
+
+/// A fleet of a script to which the script's commands are given by [`Fleet::run_number`], from 1 on, shows after each what a run
+/// of the script shows after it, and so in the end the run.
+pub fn runs_along_scripts()
+    ensures { RunsAlongScripts }
 {}
 
 /// The definitions at some fleets: two devices that edit one picture, a device that is given narrower filters, and which

@@ -1,5 +1,5 @@
 // The devices of a new fleet.
-ghost use Rattle.std.specs.Prelude.{◌≤◌, length, IfOk};
+ghost use Rattle.std.specs.Prelude.{◌≡◌, ◌≤◌, length, IfOk};
 ghost use Rattle.std.specs.List.{AllZip};
 ghost use Rattle.photo_device.specs.Device.{Shows};
 ghost use Rattle.photo_script.specs.Runs.{opening_from};
@@ -8,6 +8,7 @@ ghost use Rattle.fleet_steps.specs.Between.{AreSettled};
 use fleet_steps::opening_device;
 use photo_device::Device;
 use photo_filter_rules::Filter;
+use photo_script::Script;
 use std::alloc::{AllocError, Global};
 
 /// A device for each filter, in their order, none of which has made or holds anything. Its only error is want of memory.
@@ -19,6 +20,21 @@ pub(crate) fn opening_devices(alloc: Global, filters: &[Filter]) -> Result<Vec<D
     let mut devices = Vec::new(alloc);
     for place in 0..filters.len() {
         devices.push(opening_device(alloc, place as u16, &filters[place])?)?;
+    }
+    Ok(devices)
+}
+
+/// The devices of a script in order of declaration, none of which has made or holds anything. Its only error is want of
+/// memory.
+pub(crate) fn devices_of_script(alloc: Global, script: &Script) -> Result<Vec<Device>, AllocError>
+    ensures shown { IfOk result (λ devices. AllZip Shows devices.items (opening_from 0 script.now.filters)) }
+    ensures settled { IfOk result (λ devices. AreSettled devices.items) }
+    ensures long { IfOk result (λ devices. length devices.items ≡ length script.now.names) }
+{
+    let mut devices = Vec::new(alloc);
+    for place in 0..script.devices() {
+        let place = place as u16;
+        devices.push(opening_device(alloc, place, script.filter(place))?)?;
     }
     Ok(devices)
 }

@@ -1,10 +1,13 @@
-use Rattle.std.proofs.Common.{◌≡◌, ◌∙◌, ◌+◌, ◌++◌, length, take, drop, sym, ap, subst, refl, arith}
+use Rattle.std.proofs.Common.{◌≡◌, ◌≤◌, ◌∙◌, ◌+◌, List, ◌++◌, length, take, drop, sym, ap, subst, refl, arith}
+use Rattle.std.specs.List.{AllZip}
+use Rattle.photo_device.specs.Device.{Kept, Shows}
 use Rattle.photo_script.specs.Contents.{IsWithin}
 use Rattle.fleet_steps.specs.Between.{AreReady, AreSettled, HaveRoom}
 use Rattle.fleet_steps.proofs.Between.{written_back}
 use Rattle.fleet_steps.proofs.Settled.{settled_same, on_err}
-use Rattle.live_fleet.specs.Fleets.{KeptFleet}
+use Rattle.live_fleet.specs.Fleets.{KeptFleet, after_commands}
 use Rattle.live_fleet.proofs.Histories.{came_ready, came_room, came_more, run_shows}
+use Rattle.live_fleet.proofs.Named.{came_about}
 use Rattle.live_fleet.proofs.fleet.Fleet.run.Goals as goal
 
 pub run_and_keep-requires-clause-ready : goal.run_and_keep-requires-clause-ready
@@ -55,3 +58,13 @@ returns-in_err-report-clause-err c =
     let kept : take c.self.inside.devices.len (new ++ drop (length new) items) ≡ items =
     whole ∙ settled_same _ new before (c.run_and_keep.ensures.settled before) c.in_err-report.ensures.devices_kept ∙ given.value in
     on_err c.from_residual.result ((λ i. record { devices = kept i; log = c.in_err-report.ensures.log_kept i; commands = c.self.inside.commands }) ∙ c.self.view_is)
+
+pub returns-clause-about : goal.returns-clause-about
+returns-clause-about c = λ script enough.
+    let f : KeptFleet = record { devices = c.self.inside.devices.items; log = c.self.inside.log.items; commands = c.self.inside.commands } in
+    let came = c.self.invariant in
+    let command = c.args.command.now in
+    let shown = subst (λ (ds : List Kept). AllZip Shows ds (after_commands came.filters came.commands).devices) (sym c.as_mut_slice-devices.ensures.value) came.shown.devices in
+    let within : IsWithin (length f.devices) command = subst (λ (x : KeptFleet). IsWithin (length x.devices) command) (sym c.self.view_is) c.requires.within in
+    let enough' : length f.devices ≤ length script.names = subst (λ (x : KeptFleet). length x.devices ≤ length script.names) (sym c.self.view_is) enough in
+    came_about f came command _ within (c.in_ok-report.ensures.report (after_commands came.filters came.commands).devices shown) script enough'
