@@ -1,4 +1,4 @@
-mod Histories
+pub mod Histories
 mod Entries
 mod WorkedExamples
 mod Joining

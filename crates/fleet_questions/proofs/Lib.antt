@@ -1,0 +1,5 @@
+mod Sorted
+mod Shown
+mod Holders
+mod SaysYes
+mod WorkedExamples
