@@ -11,7 +11,7 @@ use Rattle.fleet_steps.specs.Members.{In, here}
 use Rattle.fleet_steps.specs.Sound.{occurrences}
 use Rattle.fleet_steps.proofs.Members.{in_nothing, in_left}
 use Rattle.live_fleet.specs.Fleets.{CameAbout, after_commands}
-use Rattle.live_fleet.specs.Examples.{EditedOnBoth, ChangedByHand, ComesAboutAsTold, rated, nth, first_held, first_device, second_device, with_log}
+use Rattle.live_fleet.specs.Examples.{EditedOnBoth, ChangedByHand, JoinsLater, ComesAboutAsTold, rated, nth, first_held, first_device, second_device, with_log}
 use Rattle.live_fleet.proofs.Histories.{came_sound}
 
 pub edited_on_both : EditedOnBoth
@@ -35,6 +35,15 @@ changed_by_hand = record {
   out = refl;
   sound = refl;
   kept = refl;
+}
+
+pub joins_later : JoinsLater
+joins_later = record {
+  author = refl;
+  store = refl;
+  same = refl;
+  log = refl;
+  sound = refl;
 }
 
 came : CameAbout (with_log (first_held ∷ []))

@@ -15,10 +15,10 @@ use Rattle.photo_pull.specs.declared.counts.PullCounts.{PullCounts}
 use Rattle.photo_script.specs.declared.command.Command.{Command}
 use Rattle.photo_script.specs.declared.command.Command.TheVariants as command
 use Rattle.photo_script.specs.Reports.{Made, Pulled, Exactly}
-use Rattle.photo_script.specs.Runs.{device_at, reports_of}
+use Rattle.photo_script.specs.Runs.{device_at, after_command, reports_of}
 use Rattle.fleet_steps.specs.Sound.{is_sound, is_kept}
 use Rattle.live_fleet.specs.Answers.{change_answer, narrow_answer}
-use Rattle.live_fleet.specs.Fleets.{KeptFleet, ModelFleet, CameAbout, after_commands}
+use Rattle.live_fleet.specs.Fleets.{KeptFleet, ModelFleet, CameAbout, after_commands, with_device}
 
 abbrev pub rated : ℕ → Record
 rated rating = Picture rating (pos 19_844) []
@@ -71,6 +71,20 @@ pub record ChangedByHand : Type 0 where
   pub out : map (λ e. e.version) (device_at changed.devices 0).out ≡ nth 0 3 ∷ []
   pub sound : list_all (is_sound changed.log) changed.devices ≡ true
   pub kept : is_kept changed.log changed.devices ≡ true
+
+-- a second device comes after the first one has made a picture, and pulls it: as if it had been there from the beginning
+abbrev pub joined_later : ModelFleet
+joined_later = after_command (with_device All (after_commands (All ∷ []) (command.New 0 7 (rated 3) ∷ []))) 2 (command.Pull 1 0)
+
+abbrev pub there_from_the_beginning : ModelFleet
+there_from_the_beginning = after_commands (All ∷ All ∷ []) (command.New 0 7 (rated 3) ∷ command.Pull 1 0 ∷ [])
+
+pub record JoinsLater : Type 0 where
+  pub author : (device_at joined_later.devices 1).author ≡ author 1
+  pub store : map (λ e. e.version) (device_at joined_later.devices 1).store ≡ nth 0 1 ∷ []
+  pub same : (device_at joined_later.devices 1).store ≡ (device_at there_from_the_beginning.devices 1).store
+  pub log : map (λ e. e.version) joined_later.log ≡ nth 0 1 ∷ []
+  pub sound : list_all (is_sound joined_later.log) joined_later.devices ≡ true
 
 -- what a program keeps after one device made a picture, and another did nothing
 

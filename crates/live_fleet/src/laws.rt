@@ -1,5 +1,5 @@
 //! What holds of every fleet, and of runs that grow by commands.
-ghost use Rattle.live_fleet.specs.Examples.{EditedOnBoth, ChangedByHand, ComesAboutAsTold};
+ghost use Rattle.live_fleet.specs.Examples.{EditedOnBoth, ChangedByHand, JoinsLater, ComesAboutAsTold};
 ghost use Rattle.live_fleet.specs.Fleets.{HasSoundHistory, RunsAlongScripts, RunsGrowByCommands};
 
 use crate::Fleet;
@@ -26,10 +26,11 @@ pub fn runs_along_scripts()
     ensures { RunsAlongScripts }
 {}
 
-/// The definitions at some fleets: two devices that edit one picture, a device that is given narrower filters, and which
-/// fleets come about.
+/// The definitions at some fleets: two devices that edit one picture, a device that is given narrower filters, one that
+/// comes later, and which fleets come about.
 pub fn examples()
     ensures edited { EditedOnBoth }
     ensures changed { ChangedByHand }
+    ensures joins { JoinsLater }
     ensures came { ComesAboutAsTold }
 {}

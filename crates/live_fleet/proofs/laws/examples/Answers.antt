@@ -1,4 +1,4 @@
-use Rattle.live_fleet.proofs.WorkedExamples.{edited_on_both, changed_by_hand, comes_about_as_told}
+use Rattle.live_fleet.proofs.WorkedExamples.{edited_on_both, changed_by_hand, joins_later, comes_about_as_told}
 use Rattle.live_fleet.proofs.laws.examples.Goals as goal
 
 pub returns-clause-edited : goal.returns-clause-edited
@@ -6,6 +6,9 @@ returns-clause-edited c = edited_on_both
 
 pub returns-clause-changed : goal.returns-clause-changed
 returns-clause-changed c = changed_by_hand
+
+pub returns-clause-joins : goal.returns-clause-joins
+returns-clause-joins c = joins_later
 
 pub returns-clause-came : goal.returns-clause-came
 returns-clause-came c = comes_about_as_told
