@@ -1,5 +1,7 @@
 //! Calls by their names.
-use crate::{devices, fleets, gates, plans, pulls, runs, scripts, streams};
+use crate::{
+    devices, fleets, gates, plans, pulls, questions, runs, scripts, sessions, streams,
+};
 use std::alloc::Global;
 use std::sync::Wait;
 use std::thread::Threads;
@@ -19,6 +21,8 @@ pub fn of_line<R: Threads + Wait + Copy + Send + 'static>(
         "fleet_runner" => streams::verdict(alloc, call),
         "fleet_steps" => runs::verdict(alloc, call),
         "live_fleet" => fleets::verdict(alloc, call),
+        "fleet_questions" => questions::verdict(alloc, call),
+        "fleet_session" => sessions::verdict(alloc, call),
         _ => of_scripts(alloc, library, call),
     }
 }

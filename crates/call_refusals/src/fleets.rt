@@ -2,11 +2,12 @@
 ghost use Rattle.std.specs.Prelude.{◌≡◌, ◌+◌, ◌≤◌, length, IfSome};
 
 use crate::devices::same_devices;
+use crate::scripts::{FOUR_DEVICES, is_four, script_of};
 use live_fleet::Fleet;
 use photo_device::Place;
 use photo_pull::PullCounts;
 use photo_record::{PicNo, Record};
-use photo_script::{Command, Report};
+use photo_script::{Command, Report, Script};
 use photo_version::Version;
 use std::alloc::Global;
 use value_refusals::{Verdict, filter_of, judged, mark, rated};
@@ -31,6 +32,15 @@ fn verdict_on_others(alloc: Global, call: &str) -> Option<Verdict> {
         "Fleet::preview" => on_fleet(alloc, Call::Preview),
         "Fleet::make first" => first_made(alloc),
         "Fleet::pull first" => first_pulled(alloc),
+        _ => verdict_on_devices(alloc, call),
+    }
+}
+
+fn verdict_on_devices(alloc: Global, call: &str) -> Option<Verdict> {
+    match call {
+        "Fleet::add" => on_fleet(alloc, Call::Add),
+        "Fleet::of_script" => of_script(alloc),
+        "Fleet::run_number" => on_script(alloc),
         _ => None,
     }
 }
@@ -45,6 +55,7 @@ enum Call {
     Narrow,
     Refilter,
     Preview,
+    Add,
 }
 
 fn new(alloc: Global) -> Option<Verdict> {
@@ -113,7 +124,8 @@ fn on_fleet(alloc: Global, call: Call) -> Option<Verdict> {
     Some(judged(right, unchanged))
 }
 
-fn same_fleet(one: &Fleet, other: &Fleet) -> bool {
+/// Whether two fleets are the same, as far as public readers tell.
+pub fn same_fleet(one: &Fleet, other: &Fleet) -> bool {
     one.commands() == other.commands()
         && one.log() == other.log()
         && same_devices(one.devices(), other.devices())
@@ -132,6 +144,7 @@ fn calls(alloc: Global, fleet: &mut Fleet, call: Call) -> Option<bool>
         Call::Narrow => narrows(alloc, fleet),
         Call::Refilter => refilters(alloc, fleet),
         Call::Preview => previews(alloc, fleet),
+        Call::Add => adds(alloc, fleet),
     }
 }
 
@@ -248,6 +261,54 @@ fn previews(alloc: Global, fleet: &Fleet) -> Option<bool>
     let counts = fleet.preview(0, 1);
     mark(alloc);
     Some(counts.ok()? == TAKEN && fleet.commands() == 4)
+}
+
+fn adds(alloc: Global, fleet: &mut Fleet) -> Option<bool>
+    requires { length fleet.old.devices ≡ 2 }
+{
+    let filter = filter_of(alloc, "rating >= 5")?;
+    mark(alloc);
+    let number = fleet.add(&filter);
+    mark(alloc);
+    Some(number.ok()? == 2 && fleet.devices().len() == 3 && fleet.commands() == 4)
+}
+
+// What came of the devices of a script.
+fn of_script(alloc: Global) -> Option<Verdict> {
+    let script = script_of(alloc, FOUR_DEVICES)?;
+    mark(alloc);
+    let fleet = Fleet::of_script(alloc, &script);
+    mark(alloc);
+    Some(match fleet {
+        Ok(fleet) => judged(Some(fleet.devices().len() == 4 && fleet.commands() == 0), true),
+        Err(_) => judged(None, is_four(&script)),
+    })
+}
+
+// What came of the first command of a script.
+fn on_script(alloc: Global) -> Option<Verdict> {
+    let script = script_of(alloc, FOUR_DEVICES)?;
+    let mut fleet = Fleet::of_script(alloc, &script).ok()?;
+    match Fleet::of_script(alloc, &script) {
+        Ok(twin) => {
+            let right = runs_first(alloc, &mut fleet, &script);
+            Some(judged(right, same_fleet(&fleet, &twin)))
+        }
+        Err(_) => None,
+    }
+}
+
+fn runs_first(alloc: Global, fleet: &mut Fleet, script: &Script) -> Option<bool>
+    requires devices { length fleet.old.devices ≡ length script.now.names }
+    requires commands { fleet.old.commands ≡ 0 }
+{
+    if script.commands() == 0 {
+        return None;
+    }
+    mark(alloc);
+    let report = fleet.run_number(script, 1);
+    mark(alloc);
+    Some(is_made(&report.ok()?, 1) && fleet.commands() == 1 && fleet.log().len() == 1)
 }
 
 // What came of a fleet's first version, for which the log has no room yet.

@@ -9,8 +9,10 @@ mod fleets;
 mod gates;
 mod plans;
 mod pulls;
+mod questions;
 mod runs;
 mod scripts;
+mod sessions;
 mod streams;
 
 use std::io;

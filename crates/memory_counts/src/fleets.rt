@@ -1,6 +1,7 @@
 //! The readers of a fleet that is driven by hand, and those of a run's log.
 use crate::scripts::small;
 use fleet_runner::{Fleet, IssueLog, Outcome, run_plain};
+use fleet_session::Session;
 use fleet_steps::made_on;
 use photo_record::PicNo;
 use photo_script::{Command, Script};
@@ -30,6 +31,21 @@ fn is_fresh(fleet: &Fleet) -> bool {
         && !fleet.is_full()
         && fleet.takes(&Command::List { device: 0 })
         && !fleet.takes(&Command::List { device: 1 })
+}
+
+/// What passes a fleet on, and the readers of a session.
+pub fn answer_session(alloc: Global, times: u32) -> Option<bool> {
+    let filters = [filter_of(alloc, "rating >= 3")?];
+    let mut fleet = Fleet::new(alloc, &filters).ok()?;
+    for _ in 0..times {
+        let session = Session::of_fleet(fleet);
+        let is_right = is_fresh(session.fleet()) && session.device(0).is_some() && session.device(1).is_none();
+        fleet = session.into_fleet();
+        if !is_right {
+            return Some(false);
+        }
+    }
+    Some(true)
 }
 
 /// `made_on` and the readers of a log.

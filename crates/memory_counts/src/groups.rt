@@ -67,6 +67,7 @@ fn of_runs(alloc: Global, group: &str, times: u32) -> Option<bool> {
         "plan" => runs::answer_plan(alloc, times),
         "audit" => runs::answer_audit(alloc, times),
         "fleet" => fleets::answer(alloc, times),
+        "session" => fleets::answer_session(alloc, times),
         "log" => fleets::answer_log(alloc, times),
         "workers" => Some(runs::answer_workers(times)),
         _ => of_takers(alloc, group, times),

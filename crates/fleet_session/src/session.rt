@@ -1,0 +1,295 @@
+//! A session: what it is seen as, and its calls.
+ghost use Rattle.std.specs.Prelude.{◌≡◌};
+
+use crate::FleetFault;
+use live_fleet::Fleet;
+use photo_device::{Device, Place};
+use photo_filter_rules::Filter;
+use photo_pull::PullCounts;
+use photo_record::{PicNo, Record};
+use photo_script::{Command, Report, Script, report_text};
+use photo_version::Version;
+use std::alloc::{AllocError, Global};
+use std::marker::Model;
+
+/// A fleet whose calls have no condition. Contracts see the fleet, and say of each call what the fleet's own call says.
+///
+/// Whatever was refused, the fleet is as it was. `NoDevice` and `Full` come only where they hold, and `NoMemory` where memory was
+/// refused.
+#[derive(Debug, Drop)]
+pub struct Session {
+    fleet: Fleet,
+}
+
+impl Model for Session {
+    ghost use Rattle.live_fleet.specs.Fleets.{KeptFleet};
+    ghost use Rattle.live_fleet.specs.Coding.{fleet_code};
+
+    ghost Value = { KeptFleet };
+
+    ghost coded = { fleet_code };
+
+    ghost view = { λ s. s.fleet };
+}
+
+impl Session {
+    ghost use Rattle.std.specs.Prelude.{◌≡◌, ◌+◌, ◌<◌, ◌≤◌, [], length, slice_get, IfOk, IfErr, IfSome, OnOk, OnErr};
+    ghost use Rattle.std.specs.Option.{option_copied};
+    ghost use Rattle.photo_script.specs.Contents.{IsWithin, command_of};
+    ghost use Rattle.photo_script.specs.Reports.{Made, Pulled, Preview, Refiltered, IsAbout, answer_of};
+    ghost use Rattle.photo_script.specs.declared.command.Command.TheVariants.{New, Edit, Remove, Pull, Narrow, Refilter};
+    ghost use Rattle.photo_script.specs.declared.command.Command.TheVariants as asked;
+    ghost use Rattle.live_fleet.specs.Answers.{change_answer, narrow_answer};
+    ghost use Rattle.live_fleet.specs.Fleets.{HasJoined, HasRun, IsAnswerTo, ShowsFleet, SpeaksOf, after_commands};
+    ghost use Rattle.fleet_session.specs.Faults.{MayRefuse, MayRefuseDevices, MayRefuseNumber};
+
+    /// A device for each filter, as [`Fleet::new`] makes them. `Full` comes where there are more than 65,536.
+    pub fn new(alloc: Global, filters: &[Filter]) -> Result<Session, FleetFault>
+        ensures fleet { IfOk result (λ session. ShowsFleet session (after_commands filters.now [])) }
+        ensures long { IfOk result (λ session. length session.devices ≡ length filters.now) }
+        ensures refused { IfErr result (λ fault. MayRefuseDevices fault (length filters.now)) }
+    {
+        if filters.len() > 65_536 {
+            return Err(FleetFault::Full);
+        }
+        let Ok(fleet) = Fleet::new(alloc, filters) else {
+            return Err(FleetFault::NoMemory);
+        };
+        Ok(Session { fleet })
+    }
+
+    /// The devices of a script, as [`Fleet::of_script`] makes them. Its only error is want of memory.
+    pub fn of_script(alloc: Global, script: &Script) -> Result<Session, AllocError>
+        ensures fleet { IfOk result (λ session. ShowsFleet session (after_commands script.now.filters [])) }
+        ensures long { IfOk result (λ session. length session.devices ≡ length script.now.names) }
+    {
+        let fleet = Fleet::of_script(alloc, script)?;
+        Ok(Session { fleet })
+    }
+
+    /// A session of a fleet, however far that has come.
+    pub fn of_fleet(fleet: Fleet) -> Session
+        ensures { result ≡ fleet }
+    {
+        Session { fleet }
+    }
+
+    /// The fleet, of which all that is asked without a condition can be asked.
+    pub fn fleet(&self) -> &Fleet
+        ensures { result.now ≡ self.now }
+    {
+        &self.fleet
+    }
+
+    /// The device of that number, if it is there.
+    pub fn device(&self, number: u16) -> Option<&Device>
+        ensures { option_copied result ≡ slice_get self.now.devices number }
+    {
+        self.fleet.devices().get(usize::from(number))
+    }
+
+    /// The fleet alone.
+    pub fn into_fleet(self) -> Fleet
+        ensures { result ≡ self }
+    {
+        self.fleet
+    }
+
+    /// As [`Fleet::run`].
+    pub fn run(&mut self, command: &Command) -> Result<Report, FleetFault>
+        ensures ran { OnOk result (HasRun command.now self.old self.new) }
+        ensures report { IfOk result (λ report. IsAnswerTo command.now self.old (answer_of report)) }
+        ensures about { IfOk result (λ report. SpeaksOf self.old (answer_of report)) }
+        ensures err { OnErr result (self.new ≡ self.old) }
+        ensures refused { IfErr result (λ fault. MayRefuse fault (command.now) self.old) }
+        ensures long { length self.new.devices ≡ length self.old.devices }
+    {
+        if !self.fleet.takes(command) {
+            return Err(FleetFault::NoDevice);
+        }
+        if self.fleet.commands() == u32::MAX {
+            return Err(FleetFault::Full);
+        }
+        let Ok(report) = self.fleet.run(command) else {
+            return Err(FleetFault::NoMemory);
+        };
+        Ok(report)
+    }
+
+    /// As [`Fleet::make`].
+    pub fn make(
+        &mut self,
+        device: u16,
+        picture: PicNo,
+        content: &Record,
+    ) -> Result<(Version, Place), FleetFault>
+        ensures ran { OnOk result (HasRun (New device picture content.now) self.old self.new) }
+        ensures answer { IfOk result (λ made. IsAnswerTo (New device picture content.now) self.old (Made made.0 made.1)) }
+        ensures err { OnErr result (self.new ≡ self.old) }
+        ensures refused { IfErr result (λ fault. MayRefuse fault (New device picture content.now) self.old) }
+        ensures long { length self.new.devices ≡ length self.old.devices }
+    {
+        self.check(device)?;
+        let Ok(made) = self.fleet.make(device, picture, content) else {
+            return Err(FleetFault::NoMemory);
+        };
+        Ok(made)
+    }
+
+    /// As [`Fleet::edit`].
+    pub fn edit(
+        &mut self,
+        device: u16,
+        picture: PicNo,
+        content: &Record,
+    ) -> Result<Option<(Version, Place)>, FleetFault>
+        ensures ran { OnOk result (HasRun (Edit device picture content.now) self.old self.new) }
+        ensures answer { IfOk result (λ made. IsAnswerTo (Edit device picture content.now) self.old (change_answer made)) }
+        ensures err { OnErr result (self.new ≡ self.old) }
+        ensures refused { IfErr result (λ fault. MayRefuse fault (Edit device picture content.now) self.old) }
+        ensures long { length self.new.devices ≡ length self.old.devices }
+    {
+        self.check(device)?;
+        let Ok(made) = self.fleet.edit(device, picture, content) else {
+            return Err(FleetFault::NoMemory);
+        };
+        Ok(made)
+    }
+
+    /// As [`Fleet::remove`].
+    pub fn remove(
+        &mut self,
+        device: u16,
+        picture: PicNo,
+    ) -> Result<Option<(Version, Place)>, FleetFault>
+        ensures ran { OnOk result (HasRun (Remove device picture) self.old self.new) }
+        ensures answer { IfOk result (λ made. IsAnswerTo (Remove device picture) self.old (change_answer made)) }
+        ensures err { OnErr result (self.new ≡ self.old) }
+        ensures refused { IfErr result (λ fault. MayRefuse fault (Remove device picture) self.old) }
+        ensures long { length self.new.devices ≡ length self.old.devices }
+    {
+        self.check(device)?;
+        let Ok(made) = self.fleet.remove(device, picture) else {
+            return Err(FleetFault::NoMemory);
+        };
+        Ok(made)
+    }
+
+    /// As [`Fleet::pull`].
+    pub fn pull(&mut self, target: u16, source: u16) -> Result<PullCounts, FleetFault>
+        ensures ran { OnOk result (HasRun (Pull target source) self.old self.new) }
+        ensures answer { IfOk result (λ counts. IsAnswerTo (Pull target source) self.old (Pulled counts)) }
+        ensures err { OnErr result (self.new ≡ self.old) }
+        ensures refused { IfErr result (λ fault. MayRefuse fault (Pull target source) self.old) }
+        ensures long { length self.new.devices ≡ length self.old.devices }
+    {
+        self.check(target)?;
+        if usize::from(source) >= self.fleet.devices().len() || source == target {
+            return Err(FleetFault::NoDevice);
+        }
+        let Ok(counts) = self.fleet.pull(target, source) else {
+            return Err(FleetFault::NoMemory);
+        };
+        Ok(counts)
+    }
+
+    /// As [`Fleet::narrow`].
+    pub fn narrow(&mut self, device: u16, filter: &Filter) -> Result<Option<u64>, FleetFault>
+        ensures ran { OnOk result (HasRun (Narrow device filter.now) self.old self.new) }
+        ensures answer { IfOk result (λ count. IsAnswerTo (Narrow device filter.now) self.old (narrow_answer count)) }
+        ensures err { OnErr result (self.new ≡ self.old) }
+        ensures refused { IfErr result (λ fault. MayRefuse fault (Narrow device filter.now) self.old) }
+        ensures long { length self.new.devices ≡ length self.old.devices }
+    {
+        self.check(device)?;
+        let Ok(count) = self.fleet.narrow(device, filter) else {
+            return Err(FleetFault::NoMemory);
+        };
+        Ok(count)
+    }
+
+    /// As [`Fleet::refilter`].
+    pub fn refilter(&mut self, device: u16, filter: &Filter) -> Result<(u64, u64), FleetFault>
+        ensures ran { OnOk result (HasRun (Refilter device filter.now) self.old self.new) }
+        ensures answer { IfOk result (λ sizes. IsAnswerTo (Refilter device filter.now) self.old (Refiltered sizes.0 sizes.1)) }
+        ensures err { OnErr result (self.new ≡ self.old) }
+        ensures refused { IfErr result (λ fault. MayRefuse fault (Refilter device filter.now) self.old) }
+        ensures long { length self.new.devices ≡ length self.old.devices }
+    {
+        self.check(device)?;
+        let Ok(sizes) = self.fleet.refilter(device, filter) else {
+            return Err(FleetFault::NoMemory);
+        };
+        Ok(sizes)
+    }
+
+    /// As [`Fleet::preview`]. It isn't counted, so `Full` doesn't come.
+    pub fn preview(&self, target: u16, source: u16) -> Result<PullCounts, FleetFault>
+        ensures answer { IfOk result (λ counts. IsAnswerTo (asked.Preview target source) self.now (Preview counts)) }
+        ensures refused { IfErr result (λ fault. MayRefuse fault (asked.Preview target source) self.now) }
+    {
+        let count = self.fleet.devices().len();
+        if usize::from(target) >= count || usize::from(source) >= count || source == target {
+            return Err(FleetFault::NoDevice);
+        }
+        let Ok(counts) = self.fleet.preview(target, source) else {
+            return Err(FleetFault::NoMemory);
+        };
+        Ok(counts)
+    }
+
+    /// As [`Fleet::add`].
+    pub fn add(&mut self, filter: &Filter) -> Result<u16, FleetFault>
+        ensures joined { OnOk result (HasJoined filter.now self.old self.new) }
+        ensures number { IfOk result (λ number. number ≡ length self.old.devices) }
+        ensures err { OnErr result (self.new ≡ self.old) }
+        ensures refused { IfErr result (λ fault. MayRefuseDevices fault (length self.old.devices + 1)) }
+    {
+        if self.fleet.devices().len() >= 65_536 {
+            return Err(FleetFault::Full);
+        }
+        let Ok(number) = self.fleet.add(filter) else {
+            return Err(FleetFault::NoMemory);
+        };
+        Ok(number)
+    }
+
+    /// As [`Fleet::run_number`]. `NoCommand` comes where the script has no command of that number, or not as many devices.
+    pub fn run_number(&mut self, script: &Script, number: u32) -> Result<Report, FleetFault>
+        ensures ran { OnOk result (IfSome (command_of script.now number) (λ c. HasRun c self.old self.new)) }
+        ensures report { IfOk result (λ report. IfSome (command_of script.now number) (λ c. IsAnswerTo c self.old (answer_of report))) }
+        ensures about { IfOk result (λ report. IsAbout script.now (answer_of report)) }
+        ensures err { OnErr result (self.new ≡ self.old) }
+        ensures refused { IfErr result (λ fault. MayRefuseNumber fault script.now number self.old) }
+        ensures long { length self.new.devices ≡ length self.old.devices }
+    {
+        if number == 0 || number as usize > script.commands() {
+            return Err(FleetFault::NoCommand);
+        }
+        if self.fleet.devices().len() != script.devices() {
+            return Err(FleetFault::NoCommand);
+        }
+        if self.fleet.commands() == u32::MAX {
+            return Err(FleetFault::Full);
+        }
+        let Ok(report) = self.fleet.run_number(script, number) else {
+            return Err(FleetFault::NoMemory);
+        };
+        Ok(report)
+    }
+
+    // Whether a device is there, and there is room for one command more.
+    fn check(&self, device: u16) -> Result<(), FleetFault>
+        ensures there { OnOk result (device < length self.now.devices) }
+        ensures room { OnOk result (self.now.commands < 4_294_967_295) }
+        ensures refused { IfErr result (λ fault. MayRefuse fault (asked.List device) self.now) }
+    {
+        if usize::from(device) >= self.fleet.devices().len() {
+            return Err(FleetFault::NoDevice);
+        }
+        if self.fleet.commands() == u32::MAX {
+            return Err(FleetFault::Full);
+        }
+        Ok(())
+    }
+}
