@@ -1,42 +1,270 @@
--- A union in which no two pictures that are listed have the same vector.
-use Rattle.std.proofs.Common.{◌≡◌, ℕ, suc, ◌+◌, ◌<◌, true, false, List, [], length, get_or, sym, ap, ◌∙◌, inl, inr, arith, None}
-use Rattle.std.proofs.lemmas.Bool.{cases_Bool}
+-- A union in which each picture that is listed has a fragment of its own: where their vectors differ it is the normal form.
+use Rattle.std.proofs.Common.{◌≡◌, ℕ, zero, suc, ◌+◌, ◌*◌, ◌<◌, ◌≤◌, Bool, true, false, ltb, ◌⊎◌, List, [], ◌∷◌, ◌++◌, length, get_or, map, take, refl, sym, subst, ap, ◌∙◌, inl, inr, arith, append_assoc, append-nil, length-append, None, Some}
+use Rattle.std.specs.List.{list_all}
+use Rattle.std.proofs.Math.ListN.{get_or-append}
+use Rattle.std.proofs.Math.Seq.{get_or-append_seam}
+use Rattle.std.proofs.lemmas.List.{get_or-map, take_all}
+use Rattle.std.proofs.lemmas.Bool.{and_parts, cases_Bool, cases_lt, cases_eq, ltb-true}
+use Rattle.item_knowledge.specs.Tables.{keys_pass, in_order}
 use Rattle.item_knowledge.specs.Entries.{Entry, same_entries}
-use Rattle.item_knowledge.specs.Fragments.{Fragment, entries_at}
-use Rattle.item_knowledge.specs.Gathering.{place, star_first}
-use Rattle.item_knowledge.specs.Places.{is_new}
-use Rattle.item_knowledge.specs.Rows.{pairs, flat, IsRow, vectors_in}
-use Rattle.item_knowledge.proofs.OnTheWay.{groups_in, IsWritten}
-use Rattle.item_knowledge.proofs.FragmentLemmas.{entries_decide}
-use Rattle.item_knowledge.proofs.RowLemmas.{pairs_flat, vectors_row, vectors_length}
-use Rattle.item_knowledge.proofs.CarryLemmas.{place_none}
+use Rattle.item_knowledge.specs.Fragments.{Fragment, are_groups, is_normal, goes_before, first, nothing, entries_at}
+use Rattle.item_knowledge.specs.Gathering.{IsSide, add, gathered, indexed, place, after, number, star_first, paired, pair_vector, groups_of, index_of}
+use Rattle.item_knowledge.specs.declared.places.Places.{Places}
+use Rattle.item_knowledge.specs.Places.{vectors_at, IsFound}
+use Rattle.item_knowledge.specs.Rows.{flat, fragments_of, rows_of, AreRows}
+use Rattle.item_knowledge.specs.Seen.{IsSeen, has_unseen}
+use Rattle.item_knowledge.specs.Apart.{singles, numbered, spread_of, FromLeft, IsListed, AreThere, AreApart, AreUnseen, AreTold, IsSpread}
+use Rattle.item_knowledge.proofs.FragmentLemmas.{entries_decide, before_parts, groups_parts, normal_parts}
+use Rattle.item_knowledge.proofs.GatherLemmas.{unless_same, unless_other}
+use Rattle.item_knowledge.proofs.IndexLemmas.{indexed_same, indexed_other}
+use Rattle.item_knowledge.proofs.PlaceLemmas.{of_one, add_absent, place_of_added, place_later, vectors_length, vector_there}
+use Rattle.item_knowledge.proofs.RowLemmas.{entries_row, fragments_rows, rows_rows}
+use Rattle.item_knowledge.proofs.SeenLemmas.{unseen_nowhere}
+use Rattle.item_knowledge.proofs.TableLemmas.{merge_order}
+use Rattle.item_knowledge.proofs.UnionLemmas.{entries_order}
 
-module _ (f : ℕ × ℕ → List Entry) (table : List (ℕ × (ℕ × ℕ))) (out : List (List ℕ)) (numbers : List (ℕ × ℕ)) (i : ℕ) (all : List Fragment) (every : List (ℕ × ℕ)) (h : IsWritten f (f (0, 0)) table out numbers i all every) where
-  -- the vectors are the star's and those of the groups
-  vector_is : (k : ℕ) → k < suc (length (groups_in out)) → get_or (vectors_in out) k [] ≡ flat (entries_at (star_first (f (0, 0)) (groups_in out)) k)
-  vector_is k l = ap (λ rows. get_or (vectors_in rows) k []) h.whole ∙ vectors_row (star_first (f (0, 0)) (groups_in out)) k l
+-- Vectors of a normal form differ
 
-  pub vectors_counted : length (vectors_in out) ≡ length numbers + 1
-  vectors_counted =
-      let all_of = ap (λ rows. length (vectors_in rows)) h.whole ∙ vectors_length (star_first (f (0, 0)) (groups_in out)) in
-      omega (arith, all_of, h.counted)
+before_at : (g : Fragment) (gs : List Fragment) (b : ℕ) → list_all (λ (h : Fragment). goes_before g h) gs ≡ true → b < length gs → g.entries ≡ entries_at gs b → ⊥
+before_at g [] b h l = absurd (omega (arith, l))
+before_at g (x ∷ gs) zero h l = (before_parts g x (and_parts (goes_before g x) (list_all (λ (y : Fragment). goes_before g y) gs) h).0).other
+before_at g (x ∷ gs) (suc b) h l = before_at g gs b (and_parts (goes_before g x) (list_all (λ (y : Fragment). goes_before g y) gs) h).1 (omega (arith, l))
 
-  -- a row that is the first one is the star's
-  pub first_is_star : (row : List ℕ) (v : List Entry) → pairs row ≡ v → get_or (vectors_in out) 0 [] ≡ row → same_entries (f (0, 0)) v ≡ true
-  first_is_star row v vector e =
-      (entries_decide (f (0, 0)) v).1 (sym (pairs_flat (f (0, 0))) ∙ ap pairs (sym (vector_is 0 (omega arith)) ∙ e) ∙ vector)
+groups_differ : (star : List Entry) (gs : List Fragment) (a b : ℕ) → are_groups star gs ≡ true → a < b → b < length gs → entries_at gs a ≡ entries_at gs b → ⊥
+groups_differ star [] a b h l m e = absurd (omega (arith, m))
+groups_differ star (g ∷ gs) a zero h l m e = absurd (omega (arith, l))
+groups_differ star (g ∷ gs) zero (suc b) h l m e = before_at g gs b (groups_parts star g gs h).before (omega (arith, m)) e
+groups_differ star (g ∷ gs) (suc a) (suc b) h l m e = groups_differ star gs a b (groups_parts star g gs h).rest (omega (arith, l)) (omega (arith, m)) e
 
-  -- a new row is neither the star's nor that of a group
-  pub new_is_other : (row : List ℕ) (v : List Entry) → IsRow row → pairs row ≡ v → is_new (vectors_in out) row → same_entries (f (0, 0)) v ≡ false
-  new_is_other row v is_row vector new = elim (cases_Bool (same_entries (f (0, 0)) v)) [
+pub vectors_differ : (fs : List Fragment) (a b : ℕ) → is_normal fs ≡ true → 0 < a → a < b → b < length fs → entries_at fs a ≡ entries_at fs b → ⊥
+vectors_differ [] a b h z l m e = absurd (omega (arith, m))
+vectors_differ (s ∷ gs) zero b h z l m e = absurd (omega (arith, z))
+vectors_differ (s ∷ gs) (suc a) zero h z l m e = absurd (omega (arith, l))
+vectors_differ (s ∷ gs) (suc a) (suc b) h z l m e = groups_differ s.entries gs a b (normal_parts s gs h).groups (omega (arith, l)) (omega (arith, m)) e
+
+-- No group has a vector that none of them has
+
+pub place_none : (gs : List Fragment) (v : List Entry) → ((k : ℕ) → k < length gs → entries_at gs k ≡ v → ⊥) → place gs v ≡ None
+place_none [] v h = refl
+place_none (g ∷ gs) v h = elim (cases_Bool (same_entries g.entries v)) [
+  | inl same ↦ absurd (h 0 (omega arith) ((entries_decide g.entries v).0 same))
+  | inr other ↦ place_later g gs v other ∙ ap after (place_none gs v (λ k l e. h (suc k) (omega (arith, l)) e))
+]
+
+-- Fragments of one picture each, whose vectors differ, are what is gathered
+
+abbrev pub Differ : List Fragment → Type 0
+Differ gs = (j k : ℕ) → j < k → k < length gs → entries_at gs j ≡ entries_at gs k → ⊥
+
+pub singles_same : (star : List Entry) (f : ℕ × ℕ → List Entry) (r : ℕ × (ℕ × ℕ)) (rs : List (ℕ × (ℕ × ℕ))) → same_entries star (f r.1) ≡ true → singles star f (r ∷ rs) ≡ singles star f rs
+singles_same star f r rs h = rw h refl
+
+pub singles_other : (star : List Entry) (f : ℕ × ℕ → List Entry) (r : ℕ × (ℕ × ℕ)) (rs : List (ℕ × (ℕ × ℕ))) → same_entries star (f r.1) ≡ false → singles star f (r ∷ rs) ≡ of_one r.0 (f r.1) ∷ singles star f rs
+singles_other star f r rs h = rw h refl
+
+seam_absent : (gs : List Fragment) (g : Fragment) (hs : List Fragment) → Differ (gs ++ g ∷ hs) → place gs g.entries ≡ None
+seam_absent gs g hs d = place_none gs g.entries (λ k l e.
+    let many = length-append gs (g ∷ hs) in
+    d k (length gs) l (omega (arith, many))
+    (ap (λ (x : Fragment). x.entries) (get_or-append gs (g ∷ hs) nothing k l) ∙ e ∙ ap (λ (x : Fragment). x.entries) (sym (get_or-append_seam gs g hs nothing))))
+
+module _ (star : List Entry) (f : ℕ × ℕ → List Entry) where
+  seam : (r : ℕ × (ℕ × ℕ)) (rs : List (ℕ × (ℕ × ℕ))) (gs : List Fragment) → same_entries star (f r.1) ≡ false → gs ++ singles star f (r ∷ rs) ≡ (gs ++ of_one r.0 (f r.1) ∷ []) ++ singles star f rs
+  seam r rs gs other = ap (λ hs. gs ++ hs) (singles_other star f r rs other) ∙ sym (append_assoc gs (of_one r.0 (f r.1) ∷ []) (singles star f rs))
+
+  absent_at : (r : ℕ × (ℕ × ℕ)) (rs : List (ℕ × (ℕ × ℕ))) (gs : List Fragment) → same_entries star (f r.1) ≡ false → Differ (gs ++ singles star f (r ∷ rs)) → place gs (f r.1) ≡ None
+  absent_at r rs gs other d = seam_absent gs (of_one r.0 (f r.1)) (singles star f rs) (subst (λ hs. Differ (gs ++ hs)) (singles_other star f r rs other) d)
+
+  pub gathered_singles : (rs : List (ℕ × (ℕ × ℕ))) (gs : List Fragment) → Differ (gs ++ singles star f rs) → gathered star f rs gs ≡ gs ++ singles star f rs
+  gathered_singles [] gs d = sym (append-nil gs)
+  gathered_singles (r ∷ rs) gs d = elim (cases_Bool (same_entries star (f r.1))) [
     | inl same ↦
-        let e : f (0, 0) ≡ pairs row = (entries_decide (f (0, 0)) v).0 same ∙ sym vector in
-        let counted = vectors_counted in
-        absurd (new 0 (omega (arith, counted)) (vector_is 0 (omega arith) ∙ ap flat e ∙ is_row))
-    | inr other ↦ other
+        ap (λ hs. gathered star f rs hs) (unless_same star r.0 (f r.1) gs same)
+        ∙ gathered_singles rs gs (subst (λ hs. Differ (gs ++ hs)) (singles_same star f r rs same) d)
+        ∙ ap (λ hs. gs ++ hs) (sym (singles_same star f r rs same))
+    | inr other ↦
+        ap (λ hs. gathered star f rs hs) (unless_other star r.0 (f r.1) gs other ∙ sym (add_absent r.0 (f r.1) gs (absent_at r rs gs other d)))
+        ∙ gathered_singles rs (gs ++ of_one r.0 (f r.1) ∷ []) (subst Differ (seam r rs gs other) d)
+        ∙ sym (seam r rs gs other)
   ]
 
-  pub new_has_no_place : (row : List ℕ) → IsRow row → is_new (vectors_in out) row → place (groups_in out) (pairs row) ≡ None
-  new_has_no_place row is_row new = place_none (groups_in out) (pairs row) (λ k l e.
-      let counted = vectors_counted in
-      new (suc k) (omega (arith, counted, l, h.counted)) (vector_is (suc k) (omega (arith, l)) ∙ ap flat e ∙ is_row))
+  pub indexed_singles : (rs : List (ℕ × (ℕ × ℕ))) (gs : List Fragment) → Differ (gs ++ singles star f rs) → indexed star f rs gs ≡ numbered (suc (length gs)) (singles star f rs)
+  indexed_singles [] gs d = refl
+  indexed_singles (r ∷ rs) gs d = elim (cases_Bool (same_entries star (f r.1))) [
+    | inl same ↦
+        indexed_same star f r rs gs same
+        ∙ indexed_singles rs gs (subst (λ hs. Differ (gs ++ hs)) (singles_same star f r rs same) d)
+        ∙ ap (λ hs. numbered (suc (length gs)) hs) (sym (singles_same star f r rs same))
+    | inr other ↦
+        let none = absent_at r rs gs other d in
+        let v = f r.1 in
+        let at : number (place (add r.0 v gs) v) ≡ suc (length gs) = ap number (place_of_added r.0 v gs none) in
+        let many : length (gs ++ of_one r.0 v ∷ []) ≡ suc (length gs) = length-append gs (of_one r.0 v ∷ []) ∙ (omega arith) in
+        let rest : indexed star f rs (add r.0 v gs) ≡ numbered (suc (suc (length gs))) (singles star f rs) =
+        ap (λ hs. indexed star f rs hs) (sym (add_absent r.0 v gs none))
+        ∙ indexed_singles rs (gs ++ of_one r.0 v ∷ []) (subst Differ (seam r rs gs other) d)
+        ∙ ap (λ n. numbered (suc n) (singles star f rs)) many in
+        indexed_other star f r rs gs other
+        ∙ (λ i. (r.0, at i) ∷ rest i)
+        ∙ ap (λ hs. numbered (suc (length gs)) hs) (sym (singles_other star f r rs other))
+  ]
+
+  -- their pictures differ
+  single_passes : (test : ℕ → Bool) (rs : List (ℕ × (ℕ × ℕ))) (k : ℕ) → keys_pass test rs ≡ true → k < length (singles star f rs) → test (first (get_or (singles star f rs) k nothing).pictures) ≡ true
+  single_passes test [] k h = λ l. absurd (omega (arith, l))
+  single_passes test (r ∷ rs) k h = elim (cases_Bool (same_entries star (f r.1))) [
+    | inl same ↦ subst (λ hs. k < length hs → test (first (get_or hs k nothing).pictures) ≡ true) (sym (singles_same star f r rs same)) (single_passes test rs k (and_parts (test r.0) (keys_pass test rs) h).1)
+    | inr other ↦ subst (λ hs. k < length hs → test (first (get_or hs k nothing).pictures) ≡ true) (sym (singles_other star f r rs other)) (here (single_passes test rs) k)
+  ]
+    where
+      here : ((j : ℕ) → keys_pass test rs ≡ true → j < length (singles star f rs) → test (first (get_or (singles star f rs) j nothing).pictures) ≡ true) → (j : ℕ) → j < length (of_one r.0 (f r.1) ∷ singles star f rs) → test (first (get_or (of_one r.0 (f r.1) ∷ singles star f rs) j nothing).pictures) ≡ true
+      here rest zero l = (and_parts (test r.0) (keys_pass test rs) h).0
+      here rest (suc j) l = rest j (and_parts (test r.0) (keys_pass test rs) h).1 (omega (arith, l))
+
+  pub pictures_differ : (rs : List (ℕ × (ℕ × ℕ))) (j k : ℕ) → in_order rs ≡ true → j < k → k < length (singles star f rs) → (get_or (singles star f rs) j nothing).pictures ≡ (get_or (singles star f rs) k nothing).pictures → ⊥
+  pictures_differ [] j k o l = λ m e. absurd (omega (arith, m))
+  pictures_differ (r ∷ rs) j k o l = elim (cases_Bool (same_entries star (f r.1))) [
+    | inl same ↦ subst (λ hs. k < length hs → (get_or hs j nothing).pictures ≡ (get_or hs k nothing).pictures → ⊥) (sym (singles_same star f r rs same)) (λ m e. pictures_differ rs j k parts.1 l m e)
+    | inr other ↦ subst (λ hs. k < length hs → (get_or hs j nothing).pictures ≡ (get_or hs k nothing).pictures → ⊥) (sym (singles_other star f r rs other)) (here (λ a b. pictures_differ rs a b parts.1) j k l)
+  ]
+    where
+      parts : (keys_pass (λ n. ltb r.0 n) rs ≡ true) × (in_order rs ≡ true)
+      parts = and_parts (keys_pass (λ n. ltb r.0 n) rs) (in_order rs) o
+
+      here : ((a b : ℕ) → a < b → b < length (singles star f rs) → (get_or (singles star f rs) a nothing).pictures ≡ (get_or (singles star f rs) b nothing).pictures → ⊥) → (a b : ℕ) → a < b → b < length (of_one r.0 (f r.1) ∷ singles star f rs) → (get_or (of_one r.0 (f r.1) ∷ singles star f rs) a nothing).pictures ≡ (get_or (of_one r.0 (f r.1) ∷ singles star f rs) b nothing).pictures → ⊥
+      here rest a zero z m e = absurd (omega (arith, z))
+      here rest zero (suc b) z m e =
+          let less = ltb-true r.0 (first (get_or (singles star f rs) b nothing).pictures) (single_passes (λ n. ltb r.0 n) rs b parts.0 (omega (arith, m))) in
+          let same : r.0 ≡ first (get_or (singles star f rs) b nothing).pictures = ap first e in
+          absurd (omega (arith, less, same))
+      here rest (suc a) (suc b) z m e = rest a b (omega (arith, z)) (omega (arith, m)) e
+
+-- Fragments with their index
+
+pub rows_snoc : (fs : List Fragment) (p : ℕ) (v : List Entry) → rows_of (fs ++ of_one p v ∷ []) ≡ (rows_of fs ++ (p ∷ []) ∷ []) ++ flat v ∷ []
+rows_snoc [] p v = refl
+rows_snoc (f ∷ fs) p v = ap (λ rs. f.pictures ∷ flat f.entries ∷ rs) (rows_snoc fs p v)
+
+pub numbered_snoc : (n : ℕ) (gs : List Fragment) (p : ℕ) (v : List Entry) → numbered n (gs ++ of_one p v ∷ []) ≡ numbered n gs ++ (p, n + length gs) ∷ []
+numbered_snoc n [] p v = let e : n ≡ n + 0 = omega arith in ap (λ m. (p, m) ∷ []) e
+numbered_snoc n (g ∷ gs) p v =
+    let e : suc n + length gs ≡ n + suc (length gs) = omega arith in
+    ap (λ ns. (first g.pictures, n) ∷ ns) (numbered_snoc (suc n) gs p v ∙ ap (λ m. numbered (suc n) gs ++ (p, m) ∷ []) e)
+
+pub numbered_length : (n : ℕ) (gs : List Fragment) → length (numbered n gs) ≡ length gs
+numbered_length n [] = refl
+numbered_length n (g ∷ gs) = ap suc (numbered_length (suc n) gs)
+
+numbered_at : (n : ℕ) (gs : List Fragment) (k : ℕ) → k < length gs → (get_or (numbered n gs) k (0, 0)).1 ≡ n + k
+numbered_at n [] k l = absurd (omega (arith, l))
+numbered_at n (g ∷ gs) zero l = omega arith
+numbered_at n (g ∷ gs) (suc k) l = let rest = numbered_at (suc n) gs k (omega (arith, l)) in omega (arith, rest)
+
+-- Vectors that were found to differ one after another
+
+listed_length : (listed : List (ℕ × ℕ)) → length (map (λ (x : ℕ × ℕ). x.1) listed) ≡ length listed
+listed_length [] = refl
+listed_length (x ∷ listed) = ap suc (listed_length listed)
+
+pub all_apart : (places : Places) (rows : List (List ℕ)) (listed : List (ℕ × ℕ)) (i : ℕ) → IsFound places rows → places.numbers.items ≡ map (λ (x : ℕ × ℕ). x.1) (take i listed) → length listed ≤ i → AreApart rows listed
+all_apart places rows listed i found noted over j k l m e =
+    found.placed.once j k l (let all_of = vectors_length rows places.numbers.items in let long = counted in omega (arith, all_of, long, m)) (sym (at j (omega (arith, l, m))) ∙ e ∙ at k m)
+  where
+    whole : places.numbers.items ≡ map (λ (x : ℕ × ℕ). x.1) listed
+    whole = noted ∙ ap (λ (xs : List (ℕ × ℕ)). map (λ (x : ℕ × ℕ). x.1) xs) (take_all i listed over)
+
+    counted : length places.numbers.items ≡ length listed
+    counted = ap (length {A = ℕ}) whole ∙ listed_length listed
+
+    at : (n : ℕ) → n < length listed → get_or rows (2 * (get_or listed n (0, 0)).1 + 1) [] ≡ get_or (vectors_at rows places.numbers.items) n []
+    at n b =
+        let long = counted in
+        vector_there rows places.numbers.items n (get_or listed n (0, 0)).1 (omega (arith, b, long))
+        (sym (ap (λ (ns : List ℕ). get_or ns n 0) whole ∙ get_or-map (λ (x : ℕ × ℕ). x.1) listed n (0, 0) 0 b))
+
+-- What is written, once its vectors are told apart
+
+module _ (left right : List (List ℕ)) (xs ys : List (ℕ × ℕ)) (words : List ℕ) (star : List Entry) (rows : List (List ℕ)) (index joined : List (ℕ × ℕ))
+    (normal : is_normal (fragments_of left) ≡ true) (left_side : IsSide (fragments_of left) xs) (right_side : IsSide (fragments_of right) ys) (seen : IsSeen words left)
+    (h : IsSpread left star (spread_of (fragments_of left) (fragments_of right) xs ys) rows index joined) where
+  abbrev all : List Fragment
+  all = spread_of (fragments_of left) (fragments_of right) xs ys
+
+  fragments : fragments_of rows ≡ star_first star all
+  fragments = ap fragments_of h.rows_are ∙ fragments_rows (star_first star all)
+
+  pub spread_rows : AreRows rows
+  spread_rows = subst AreRows (sym h.rows_are) (rows_rows (star_first star all))
+
+  pub there_index : AreThere rows index
+  there_index m l =
+      let long = ap (length {A = ℕ × ℕ}) h.index_is ∙ numbered_length 1 all in
+      let count = ap (length {A = Fragment}) fragments in
+      let at = ap (λ (ns : List (ℕ × ℕ)). (get_or ns m (0, 0)).1) h.index_is ∙ numbered_at 1 all m (omega (arith, long, l)) in
+      omega (arith, long, count, at, l)
+
+  pub there_joined : AreThere rows joined
+  there_joined m l =
+      let count = ap (length {A = Fragment}) fragments in
+      let below = h.there m l in
+      omega (arith, count, below)
+
+  vector : (k n : ℕ) → k < length all → n ≡ suc k → get_or rows (2 * n + 1) [] ≡ flat (entries_at all k)
+  vector k n l e =
+      ap (λ m. get_or rows (2 * m + 1) []) e
+      ∙ ap (λ rs. get_or rs (2 * suc k + 1) []) h.rows_are
+      ∙ entries_row (star_first star all) (suc k) (omega (arith, l))
+
+  vector_index : (k : ℕ) → k < length all → get_or rows (2 * (get_or index k (0, 0)).1 + 1) [] ≡ flat (entries_at all k)
+  vector_index k l = vector k (get_or index k (0, 0)).1 l (ap (λ (ns : List (ℕ × ℕ)). (get_or ns k (0, 0)).1) h.index_is ∙ numbered_at 1 all k l ∙ (omega arith))
+
+  of_index : AreApart rows index → Differ all
+  of_index apart j k l m e =
+      let long = ap (length {A = ℕ × ℕ}) h.index_is ∙ numbered_length 1 all in
+      apart j k l (omega (arith, long, m)) (vector_index j (omega (arith, l, m)) ∙ ap flat e ∙ sym (vector_index k m))
+
+  both_joined : AreApart rows joined → (j k : ℕ) → j < k → k < length all → entries_at all j ≡ entries_at all k → IsListed joined (suc j) → IsListed joined (suc k) → ⊥
+  both_joined apart j k l m e a b =
+      let same : get_or rows (2 * (get_or joined a.place (0, 0)).1 + 1) [] ≡ get_or rows (2 * (get_or joined b.place (0, 0)).1 + 1) [] = vector j _ (omega (arith, l, m)) a.is ∙ ap flat e ∙ sym (vector k _ m b.is) in
+      elim (cases_lt a.place b.place) [
+        | inl less ↦ apart a.place b.place less b.there same
+        | inr over ↦ elim (cases_eq a.place b.place) [
+          | inl one ↦ let number_is : suc j ≡ suc k = sym a.is ∙ ap (λ n. (get_or joined n (0, 0)).1) one ∙ b.is in absurd (omega (arith, number_is, l))
+          | inr two ↦ apart b.place a.place (omega (arith, over, two)) a.there (sym same)
+        ]
+      ]
+
+  joined_left : AreUnseen left words rows joined → (j : ℕ) (g : Fragment) → entries_at all j ≡ g.entries → IsListed joined (suc j) → FromLeft left g → ⊥
+  joined_left unseen j g e a b =
+      let there : entries_at (fragments_of rows) (get_or joined a.place (0, 0)).1 ≡ entries_at (fragments_of left) b.number =
+      (λ i. entries_at (fragments i) (a.is i)) ∙ e ∙ sym b.is in
+      unseen_nowhere words left b.number seen (entries_order (fragments_of left) xs b.number left_side b.there)
+      (ap (λ es. has_unseen words (entries_at (fragments_of left) 0) es) (sym there) ∙ unseen a.place a.there)
+
+  both_left : (g k : Fragment) → (g.pictures ≡ k.pictures → ⊥) → g.entries ≡ k.entries → FromLeft left g → FromLeft left k → ⊥
+  both_left g k other e a b = elim (cases_lt a.number b.number) [
+    | inl less ↦ vectors_differ (fragments_of left) a.number b.number normal a.beside less b.there (a.is ∙ e ∙ sym b.is)
+    | inr over ↦ elim (cases_eq a.number b.number) [
+      | inl one ↦ other (sym a.alone ∙ ap (λ n. get_or left (2 * n) []) one ∙ b.alone)
+      | inr two ↦ vectors_differ (fragments_of left) b.number a.number normal b.beside (omega (arith, over, two)) a.there (b.is ∙ sym e ∙ sym a.is)
+    ]
+  ]
+
+  of_joined : AreUnseen left words rows joined → AreApart rows joined → Differ all
+  of_joined unseen apart j k l m e = by (h.origins j (omega (arith, l, m))) (h.origins k m) where
+    by : IsListed joined (suc j) ⊎ FromLeft left (get_or all j nothing) → IsListed joined (suc k) ⊎ FromLeft left (get_or all k nothing) → ⊥
+    by (inl a) (inl b) = both_joined apart j k l m e a b
+    by (inl a) (inr b) = joined_left unseen j (get_or all k nothing) e a b
+    by (inr a) (inl b) = joined_left unseen k (get_or all j nothing) (sym e) b a
+    by (inr a) (inr b) = both_left (get_or all j nothing) (get_or all k nothing)
+        (pictures_differ (pair_vector (fragments_of left) (fragments_of right) (0, 0)) (pair_vector (fragments_of left) (fragments_of right)) (paired xs ys) j k (merge_order (λ a. (a, 0)) (λ a b. (a, b.1)) (λ b. (0, b)) xs ys right_side.order) l m) e a b
+
+  differ : AreTold left words rows index joined → Differ all
+  differ (inl apart) = of_index apart
+  differ (inr told) = of_joined told.0 told.1
+
+  pub told_rows : AreTold left words rows index joined → rows ≡ rows_of (star_first star (groups_of (fragments_of left) (fragments_of right) xs ys))
+  told_rows told = h.rows_are ∙ ap (λ gs. rows_of (star_first star gs)) (sym (gathered_singles (pair_vector (fragments_of left) (fragments_of right) (0, 0)) (pair_vector (fragments_of left) (fragments_of right)) (paired xs ys) [] (differ told)))
+
+  pub told_index : AreTold left words rows index joined → index ≡ index_of (fragments_of left) (fragments_of right) xs ys
+  told_index told = h.index_is ∙ sym (indexed_singles (pair_vector (fragments_of left) (fragments_of right) (0, 0)) (pair_vector (fragments_of left) (fragments_of right)) (paired xs ys) [] (differ told))

@@ -13,10 +13,10 @@ use Rattle.item_knowledge.proofs.AddLemmas.{add_here, add_later}
 use Rattle.item_knowledge.proofs.GatherLemmas.{unless_same, unless_other, row_vector, row_none}
 use Rattle.item_knowledge.proofs.PlaceLemmas.{place_below, place_grown, place_of_added, place_here, place_later, inner, some_inj}
 
-indexed_same : (star : List Entry) (f : ℕ × ℕ → List Entry) (r : ℕ × (ℕ × ℕ)) (rs : List (ℕ × (ℕ × ℕ))) (gs : List Fragment) → same_entries star (f r.1) ≡ true → indexed star f (r ∷ rs) gs ≡ indexed star f rs gs
+pub indexed_same : (star : List Entry) (f : ℕ × ℕ → List Entry) (r : ℕ × (ℕ × ℕ)) (rs : List (ℕ × (ℕ × ℕ))) (gs : List Fragment) → same_entries star (f r.1) ≡ true → indexed star f (r ∷ rs) gs ≡ indexed star f rs gs
 indexed_same star f r rs gs h = rw h refl
 
-indexed_other : (star : List Entry) (f : ℕ × ℕ → List Entry) (r : ℕ × (ℕ × ℕ)) (rs : List (ℕ × (ℕ × ℕ))) (gs : List Fragment) → same_entries star (f r.1) ≡ false → indexed star f (r ∷ rs) gs ≡ (r.0, number (place (add r.0 (f r.1) gs) (f r.1))) ∷ indexed star f rs (add r.0 (f r.1) gs)
+pub indexed_other : (star : List Entry) (f : ℕ × ℕ → List Entry) (r : ℕ × (ℕ × ℕ)) (rs : List (ℕ × (ℕ × ℕ))) (gs : List Fragment) → same_entries star (f r.1) ≡ false → indexed star f (r ∷ rs) gs ≡ (r.0, number (place (add r.0 (f r.1) gs) (f r.1))) ∷ indexed star f rs (add r.0 (f r.1) gs)
 indexed_other star f r rs gs h = rw h refl
 
 pub indexed_pass : (test : ℕ → Bool) (star : List Entry) (f : ℕ × ℕ → List Entry) (rs : List (ℕ × (ℕ × ℕ))) (gs : List Fragment) → keys_pass test rs ≡ true → keys_pass test (indexed star f rs gs) ≡ true

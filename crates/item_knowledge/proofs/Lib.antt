@@ -27,8 +27,6 @@ pub mod WaitingLemmas
 pub mod TopLemmas
 pub mod SeenLemmas
 pub mod NormalLemmas
-pub mod CarryLemmas
-pub mod AloneLemmas
 pub mod ApartLemmas
 pub mod SpanLemmas
 pub mod PairingLemmas

@@ -1,13 +1,16 @@
 -- The place of the group with a vector, as groups grow.
-use Rattle.std.proofs.Common.{◌≡◌, ℕ, zero, suc, ◌<◌, Bool, true, false, cond, List, [], ◌∷◌, ◌++◌, length, get_or, slice_set, refl, sym, subst, ap, ◌∙◌, inl, inr, arith, Option, None, Some, length-append}
+use Rattle.std.proofs.Common.{◌≡◌, ℕ, zero, suc, ◌+◌, ◌*◌, ◌<◌, Bool, true, false, cond, List, [], ◌∷◌, ◌++◌, length, get_or, set, slice_set, refl, sym, subst, ap, ◌∙◌, inl, inr, arith, Option, None, Some, length-append, append_assoc}
 use Rattle.std.proofs.Math.ListN.{get_or-append}
 use Rattle.std.proofs.Math.Seq.{get_or-append_seam}
+use Rattle.std.proofs.lemmas.List.{get_or-map}
 use Rattle.std.proofs.lemmas.Bool.{cases_Bool, cases_lt, false≢true}
 use Rattle.item_knowledge.specs.Entries.{Entry, same_entries}
 use Rattle.item_knowledge.specs.Fragments.{Fragment, nothing}
 use Rattle.item_knowledge.specs.Gathering.{add, place, after}
-use Rattle.item_knowledge.specs.Places.{is_new}
+use Rattle.item_knowledge.specs.declared.places.Places.{Places}
+use Rattle.item_knowledge.specs.Places.{bucket, is_new, vectors_at, IsPlaced, IsFound, CanPlace, Placed}
 use Rattle.item_knowledge.specs.Rows.{pairs, flat, IsRow, grouped, rows_of}
+use Rattle.item_knowledge.proofs.ChainLemmas.{pushed}
 use Rattle.item_knowledge.proofs.FragmentLemmas.{entries_decide}
 use Rattle.item_knowledge.proofs.AddLemmas.{with_one, add_here, add_later}
 
@@ -185,6 +188,84 @@ counted_more pictures rows pictures_new rows_new ps row l is also =
     let a = ap length is ∙ length-append pictures (ps ∷ []) in
     let b = ap length also ∙ length-append rows (row ∷ []) in
     omega arith
+
+-- Vectors of fragments by their numbers
+
+pub vectors_length : (rows : List (List ℕ)) (numbers : List ℕ) → length (vectors_at rows numbers) ≡ length numbers
+vectors_length rows [] = refl
+vectors_length rows (n ∷ numbers) = ap suc (vectors_length rows numbers)
+
+pub vector_there : (rows : List (List ℕ)) (numbers : List ℕ) (k n : ℕ) → k < length numbers → n ≡ get_or numbers k 0 → get_or rows (2 * n + 1) [] ≡ get_or (vectors_at rows numbers) k []
+vector_there rows numbers k n l e = ap (λ m. get_or rows (2 * m + 1) []) e ∙ sym (get_or-map (λ m. get_or rows (2 * m + 1) []) numbers k 0 [] l)
+
+pub vectors_push : (rows : List (List ℕ)) (numbers : List ℕ) (n : ℕ) → vectors_at rows (numbers ++ n ∷ []) ≡ vectors_at rows numbers ++ get_or rows (2 * n + 1) [] ∷ []
+vectors_push rows [] n = refl
+vectors_push rows (m ∷ numbers) n = ap (λ vs. get_or rows (2 * m + 1) [] ∷ vs) (vectors_push rows numbers n)
+
+-- more rows behind them change nothing
+pub vectors_grown : (rows more : List (List ℕ)) (numbers : List ℕ) → ((k : ℕ) → k < length numbers → 2 * get_or numbers k 0 + 1 < length rows) → vectors_at (rows ++ more) numbers ≡ vectors_at rows numbers
+vectors_grown rows more [] h = refl
+vectors_grown rows more (n ∷ numbers) h = λ i. get_or-append rows more [] (2 * n + 1) (h 0 (omega arith)) i ∷ vectors_grown rows more numbers (λ k l. h (suc k) (omega (arith, l))) i
+
+inside_push : (rows : List (List ℕ)) (numbers : List ℕ) (n : ℕ) → ((k : ℕ) → k < length numbers → 2 * get_or numbers k 0 + 1 < length rows) → 2 * n + 1 < length rows → (k : ℕ) → k < length (numbers ++ n ∷ []) → 2 * get_or (numbers ++ n ∷ []) k 0 + 1 < length rows
+inside_push rows [] n h z zero l = z
+inside_push rows [] n h z (suc k) l = absurd (omega (arith, l))
+inside_push rows (m ∷ numbers) n h z zero l = h 0 (omega arith)
+inside_push rows (m ∷ numbers) n h z (suc k) l = inside_push rows numbers n (λ j b. h (suc j) (omega (arith, b))) z k (omega (arith, l))
+
+pub none_placed : (places : Places) (rows pictures : List (List ℕ)) → ((rs : List (List ℕ)) → IsFound places rs) → places.numbers.items ≡ [] → rows ≡ [] → pictures ≡ [] → Placed places rows pictures
+none_placed places rows pictures found n r p =
+    let a = ap (length {A = List ℕ}) r in
+    let b = ap (length {A = ℕ}) n in
+    let d = ap (length {A = List ℕ}) p in
+    let e = vectors_length rows places.numbers.items in
+    record { found = found rows; even = omega (arith, a, b); counted = omega (arith, b, d, e); whole = λ k l. absurd (omega (arith, l, b, e)) }
+
+-- one fragment more is found
+pub placed_more : (places new : Places) (rows : List (List ℕ)) (b n : ℕ) → CanPlace places rows b n → b < length places.heads.items
+    → new.before.items ≡ places.before.items ++ get_or places.heads.items b 0 ∷ [] → new.numbers.items ≡ places.numbers.items ++ n ∷ [] → new.heads.items ≡ set places.heads.items b (length new.before.items) → IsFound new rows
+placed_more places new rows b n can l before numbers heads = record {
+  placed = pushed places.heads.items places.before.items new.heads.items new.before.items (vectors_at rows places.numbers.items) (vectors_at rows new.numbers.items) (get_or rows (2 * n + 1) []) b
+      can.found.placed can.new can.in_bucket l before (ap (vectors_at rows) numbers ∙ vectors_push rows places.numbers.items n) heads;
+  there = subst (λ ns. (k : ℕ) → k < length ns → 2 * get_or ns k 0 + 1 < length rows) (sym numbers) (inside_push rows places.numbers.items n can.found.there can.there);
+}
+
+-- the row of a group that comes behind the others
+module _ (places : Places) (rows new pictures : List (List ℕ)) (row : List ℕ) (n : ℕ) (h : Placed places rows pictures) (is : new ≡ (rows ++ [] ∷ []) ++ row ∷ []) (number : n ≡ length places.numbers.items) where
+  grown : new ≡ rows ++ [] ∷ row ∷ []
+  grown = is ∙ append_assoc rows ([] ∷ []) (row ∷ [])
+
+  pub grown_length : length new ≡ length rows + 2
+  grown_length = ap (length {A = List ℕ}) grown ∙ length-append rows ([] ∷ row ∷ [])
+
+  same : vectors_at new places.numbers.items ≡ vectors_at rows places.numbers.items
+  same = ap (λ rs. vectors_at rs places.numbers.items) grown ∙ vectors_grown rows ([] ∷ row ∷ []) places.numbers.items h.found.there
+
+  behind : (rs : List (List ℕ)) → get_or (rs ++ [] ∷ row ∷ []) (suc (length rs)) [] ≡ row
+  behind [] = refl
+  behind (r ∷ rs) = behind rs
+
+  at_end : get_or new (2 * n + 1) [] ≡ row
+  at_end =
+      let place : 2 * n + 1 ≡ suc (length rows) = omega (arith, number, h.even) in
+      (λ i. get_or (grown i) (place i) []) ∙ behind rows
+
+  pub can_place : (b : ℕ) → b ≡ bucket (length places.heads.items) row → is_new (vectors_at rows places.numbers.items) row → CanPlace places new b n
+  can_place b in_bucket fresh =
+      let long = grown_length in
+      record {
+        found = record {
+          placed = subst (λ vs. IsPlaced places.heads.items places.before.items vs) (sym same) h.found.placed;
+          there = λ k l. let inside = h.found.there k l in omega (arith, inside, long);
+        };
+        there = omega (arith, long, number, h.even);
+        in_bucket = in_bucket ∙ ap (bucket (length places.heads.items)) (sym at_end);
+        new = subst (λ ws. is_new (vectors_at new places.numbers.items) ws) (sym at_end) (subst (λ vs. is_new vs row) (sym same) fresh);
+      }
+
+  -- and the vectors then
+  pub vectors_more : (numbers : List ℕ) → numbers ≡ places.numbers.items ++ n ∷ [] → vectors_at new numbers ≡ vectors_at rows places.numbers.items ++ row ∷ []
+  vectors_more numbers more = ap (vectors_at new) more ∙ vectors_push new places.numbers.items n ∙ (λ i. same i ++ at_end i ∷ [])
 
 -- what stands in the rows of fragments
 

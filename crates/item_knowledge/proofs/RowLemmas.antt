@@ -6,7 +6,7 @@ use Rattle.std.proofs.lemmas.Bool.{and_parts, and_from, lt-ltb, cases_lt, eq-eqb
 use Rattle.item_knowledge.specs.Tables.{keys_pass, in_order}
 use Rattle.item_knowledge.specs.Entries.{Entry, same_entries, joined, bound, leq}
 use Rattle.item_knowledge.specs.Fragments.{Fragment, nothing, entries_at}
-use Rattle.item_knowledge.specs.Rows.{pairs, flat, IsRow, fragments_of, rows_of, vectors_in, AreRows}
+use Rattle.item_knowledge.specs.Rows.{pairs, flat, IsRow, fragments_of, rows_of, AreRows}
 use Rattle.item_knowledge.proofs.TableLemmas.{at_above, above_all, merge_left, merge_right, merge_both}
 use Rattle.item_knowledge.proofs.MergeLemmas.{drop_next}
 
@@ -43,40 +43,6 @@ pictures_row (f ∷ fs) zero l = refl
 pictures_row (f ∷ fs) (suc k) l =
     let e : 2 * suc k ≡ suc (suc (2 * k)) = omega arith in
     ap (λ n. get_or (rows_of (f ∷ fs)) n []) e ∙ pictures_row fs k (omega arith)
-
--- The rows of vectors
-
-pub vectors_row : (fs : List Fragment) (k : ℕ) → k < length fs → get_or (vectors_in (rows_of fs)) k [] ≡ flat (entries_at fs k)
-vectors_row [] k l = absurd (omega arith)
-vectors_row (f ∷ fs) zero l = refl
-vectors_row (f ∷ fs) (suc k) l = vectors_row fs k (omega arith)
-
-pub vectors_length : (fs : List Fragment) → length (vectors_in (rows_of fs)) ≡ length fs
-vectors_length [] = refl
-vectors_length (f ∷ fs) = ap suc (vectors_length fs)
-
-pub vector_at : (rows : List (List ℕ)) (k : ℕ) → k < length (vectors_in rows) → get_or rows (2 * k + 1) [] ≡ get_or (vectors_in rows) k []
-vector_at [] k l = absurd (omega (arith, l))
-vector_at (ps ∷ []) k l = absurd (omega (arith, l))
-vector_at (ps ∷ ws ∷ rows) zero l = refl
-vector_at (ps ∷ ws ∷ rows) (suc k) l =
-    let e : 2 * suc k + 1 ≡ suc (suc (2 * k + 1)) = omega arith in
-    ap (λ n. get_or (ps ∷ ws ∷ rows) n []) e ∙ vector_at rows k (omega (arith, l))
-
--- one fragment more behind whole ones
-pub vectors_more : (rows : List (List ℕ)) (ps row : List ℕ) → length rows ≡ 2 * length (vectors_in rows) → vectors_in ((rows ++ ps ∷ []) ++ row ∷ []) ≡ vectors_in rows ++ row ∷ []
-vectors_more [] ps row e = refl
-vectors_more (qs ∷ []) ps row e = absurd (omega (arith, e))
-vectors_more (qs ∷ ws ∷ rows) ps row e = ap (λ vs. ws ∷ vs) (vectors_more rows ps row (omega (arith, e)))
-
-pub length_more : (rows : List (List ℕ)) (ps row : List ℕ) (rows_new vectors_new : List (List ℕ)) → length rows ≡ 2 * length (vectors_in rows) → rows_new ≡ (rows ++ ps ∷ []) ++ row ∷ [] → vectors_new ≡ vectors_in rows ++ row ∷ [] → length rows_new ≡ 2 * length vectors_new
-length_more rows ps row rows_new vectors_new e r v =
-    let first = length-append rows (ps ∷ []) in
-    let second = length-append (rows ++ ps ∷ []) (row ∷ []) in
-    let third = length-append (vectors_in rows) (row ∷ []) in
-    let here = ap length r in
-    let there = ap length v in
-    omega (arith, e)
 
 -- a row read from rows of whole fragments
 

@@ -13,7 +13,7 @@ use Rattle.item_knowledge.specs.Fragments.{Fragment, first, find, or_star, known
 use Rattle.item_knowledge.specs.Gathering.{vector_of, IsSide, IsUnion}
 use Rattle.item_knowledge.specs.Raising.{all_raised, are_risen}
 use Rattle.item_knowledge.specs.Rows.{pairs, fragments_of, rows_of, AreRows}
-use Rattle.item_knowledge.specs.Seen.{bit_of, is_marked, HasMarks, AreMarked, IsSeen, is_unseen, has_unseen, AreNew}
+use Rattle.item_knowledge.specs.Seen.{bit_of, is_marked, HasMarks, AreMarked, IsSeen, is_unseen, has_unseen}
 use Rattle.item_knowledge.proofs.EntryLemmas.{one_vector}
 use Rattle.item_knowledge.proofs.FragmentLemmas.{groups_parts, normal_parts, find_here, find_later, later}
 use Rattle.item_knowledge.proofs.JoinLemmas.{joined_bound, joined_vector, joined_denotes}
@@ -192,27 +192,10 @@ some_unseen words star (e ∷ es) order h =
           (a, (subst (λ n. bound star a < n) (sym later) rest.1.0, ap (is_marked words a) later ∙ rest.1.1))
     ]
 
-pub unseen_differs : (words row : List ℕ) (rows : List (List ℕ)) (k : ℕ) → AreRows rows → IsSeen words rows → in_order (entries_at (fragments_of rows) k) ≡ true → k < length (fragments_of rows) → has_unseen words (entries_at (fragments_of rows) 0) (pairs row) ≡ true → row ≡ get_or rows (2 * k + 1) [] → ⊥
-unseen_differs words row rows k are h order l unseen is =
-    let fs = fragments_of rows in
-    let same : pairs row ≡ entries_at fs k = ap pairs (is ∙ entries_read rows k are l) ∙ pairs_flat (entries_at fs k) in
-    let some = some_unseen words (entries_at fs 0) (entries_at fs k) order (subst (λ es. has_unseen words (entries_at fs 0) es ≡ true) same unseen) in
+pub unseen_nowhere : (words : List ℕ) (rows : List (List ℕ)) (k : ℕ) → IsSeen words rows → in_order (entries_at (fragments_of rows) k) ≡ true → has_unseen words (entries_at (fragments_of rows) 0) (entries_at (fragments_of rows) k) ≡ true → ⊥
+unseen_nowhere words rows k h order unseen =
+    let some = some_unseen words (entries_at (fragments_of rows) 0) (entries_at (fragments_of rows) k) order unseen in
     false≢true (sym some.1.1 ∙ h k some.0 some.1.0)
-
-pub none_new : (rows changed : List (List ℕ)) → changed ≡ [] → AreNew rows changed
-none_new rows changed is a l k below same = let none : length changed ≡ 0 = ap (length {A = List ℕ}) is in absurd (omega arith)
-
-pub one_new : (rows changed new : List (List ℕ)) (row : List ℕ) → AreNew rows changed → ((k : ℕ) → k < length (fragments_of rows) → row ≡ get_or rows (2 * k + 1) [] → ⊥) → new ≡ changed ++ row ∷ [] → AreNew rows new
-one_new rows changed new row h other is a l k below same = elim (cases_lt k (length changed)) [
-  | inl earlier ↦ h a l k earlier (sym (get_or_append_left changed (row ∷ []) [] k earlier) ∙ (sym (ap (λ xs. get_or xs k []) is) ∙ same))
-  | inr last ↦
-      let long : length new ≡ length changed + 1 = ap (length {A = List ℕ}) is ∙ length_push changed row in
-      other a l (sym (get_or_push changed row [] k (omega arith)) ∙ (sym (ap (λ xs. get_or xs k []) is) ∙ same))
-]
-  where
-    length_push : (xs : List (List ℕ)) (x : List ℕ) → length (xs ++ x ∷ []) ≡ length xs + 1
-    length_push [] x = refl
-    length_push (y ∷ xs) x = let rest = length_push xs x in omega arith
 
 -- The marks of a union
 

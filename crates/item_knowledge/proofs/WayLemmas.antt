@@ -1,64 +1,190 @@
--- A union in which fragments of the left come as they stand, on the way along two indexes.
-use Rattle.std.proofs.Common.{◌≡◌, ℕ, ◌+◌, ◌*◌, ◌<◌, ◌≤◌, true, false, List, [], ◌∷◌, ◌++◌, length, refl}
+-- A union in which each picture has a fragment of its own, on the way along two indexes.
+use Rattle.std.proofs.Common.{◌≡◌, ℕ, suc, ◌+◌, ◌*◌, ◌<◌, ◌≤◌, Bool, true, false, not, ◌⊎◌, List, [], ◌∷◌, ◌++◌, length, get_or, drop, refl, sym, subst, ap, ◌∙◌, inl, inr, arith, append_assoc, append-nil, length-append}
+use Rattle.std.proofs.Math.ListN.{get_or-append}
+use Rattle.std.proofs.Math.Seq.{get_or-append_seam}
+use Rattle.std.proofs.lemmas.Bool.{cases_Bool, cases_lt, true≢false}
+use Rattle.std.proofs.lemmas.List.{drop_all}
 use Rattle.fragment_arena.specs.Arena.{run}
-use Rattle.item_knowledge.specs.Entries.{same_entries}
-use Rattle.item_knowledge.specs.Gathering.{IsSide, paired, pair_vector, groups_of, index_of, star_first}
+use Rattle.item_knowledge.specs.Apart.{singles, spread_of, FromLeft, IsListed, IsSpread, Stays}
+use Rattle.item_knowledge.specs.Entries.{Entry, same_entries}
+use Rattle.item_knowledge.specs.Fragments.{Fragment, nothing, entries_at}
+use Rattle.item_knowledge.specs.Gathering.{IsSide, paired, pair_vector, star_first}
 use Rattle.item_knowledge.specs.declared.pairing.Pairing.{Pairing}
 use Rattle.item_knowledge.specs.Pairing.{left_of}
-use Rattle.item_knowledge.specs.Rows.{pairs, IsRow, fragments_of, rows_of}
-use Rattle.item_knowledge.specs.Carrying.{HasCome, Stays}
-use Rattle.item_knowledge.proofs.OnTheWay.{CanCarry, IsOnTheWay}
+use Rattle.item_knowledge.specs.Rows.{pairs, flat, IsRow, fragments_of}
+use Rattle.item_knowledge.proofs.ApartLemmas.{singles_same, singles_other, rows_snoc, numbered_snoc, numbered_length}
+use Rattle.item_knowledge.proofs.FragmentLemmas.{entries_decide}
+use Rattle.item_knowledge.proofs.OnTheWay.{IsOnTheWay, IsPair}
 use Rattle.item_knowledge.proofs.PairingLemmas.{next_row, along_first, along_next, along_all, inside}
-use Rattle.item_knowledge.proofs.SpanLemmas.{none_under_way, star_under_way, stays_under_way, one_under_way, all_under_way}
+use Rattle.item_knowledge.proofs.PlaceLemmas.{of_one}
+use Rattle.item_knowledge.proofs.RowLemmas.{pairs_flat, flat_row, entries_read, rows_read}
+use Rattle.item_knowledge.proofs.SpanLemmas.{run_more, nothing_pending, star_differs, stays_joint}
 
-pub on_first : (left right : List (List ℕ)) (xs ys : List (ℕ × ℕ)) (star : List ℕ) (changed out : List (List ℕ)) (numbers : List (ℕ × ℕ)) (at : Pairing) → 0 < length (fragments_of left) → IsRow star → at.left ≡ 0 → at.right ≡ 0 → out ≡ [] ∷ star ∷ [] → numbers ≡ []
-    → IsOnTheWay left right xs ys star changed out numbers at 1 0 0
-on_first left right xs ys star changed out numbers at some s l r o n = record {
+-- What is listed, with one more
+
+module _ (joined after : List (ℕ × ℕ)) (x : ℕ × ℕ) (pushed : after ≡ joined ++ x ∷ []) where
+  at_before : (m : ℕ) → m < length joined → get_or after m (0, 0) ≡ get_or joined m (0, 0)
+  at_before m l = ap (λ (ns : List (ℕ × ℕ)). get_or ns m (0, 0)) pushed ∙ get_or-append joined (x ∷ []) (0, 0) m l
+
+  at_last : get_or after (length joined) (0, 0) ≡ x
+  at_last = ap (λ (ns : List (ℕ × ℕ)). get_or ns (length joined) (0, 0)) pushed ∙ get_or-append_seam joined x [] (0, 0)
+
+  counted : length after ≡ suc (length joined)
+  counted = ap (length {A = ℕ × ℕ}) pushed ∙ length-append joined (x ∷ []) ∙ (omega arith)
+
+  pub listed_wider : (n : ℕ) → IsListed joined n → IsListed after n
+  listed_wider n h = let more = counted in record { place = h.place; there = omega (arith, more, h.there); is = ap (λ (y : ℕ × ℕ). y.1) (at_before h.place h.there) ∙ h.is }
+
+  pub listed_last : IsListed after x.1
+  listed_last = let more = counted in record { place = length joined; there = omega (arith, more); is = ap (λ (y : ℕ × ℕ). y.1) at_last }
+
+  pub listed_below : (c : ℕ) → x.1 ≡ c → ((m : ℕ) → m < length joined → (get_or joined m (0, 0)).1 < c) → (m : ℕ) → m < length after → (get_or after m (0, 0)).1 < suc c
+  listed_below c e h m l = elim (cases_lt m (length joined)) [
+    | inl less ↦
+        let same = ap (λ (y : ℕ × ℕ). y.1) (at_before m less) in
+        let below = h m less in
+        omega (arith, same, below)
+    | inr over ↦
+        let more = counted in
+        let end : m ≡ length joined = omega (arith, over, l, more) in
+        let last : (get_or after m (0, 0)).1 ≡ x.1 = ap (λ n. (get_or after n (0, 0)).1) end ∙ ap (λ (y : ℕ × ℕ). y.1) at_last in
+        omega (arith, last, e)
+  ]
+
+-- What is written, with one fragment more
+
+spread_more : (left : List (List ℕ)) (star : List Entry) (gs : List Fragment) (rows new : List (List ℕ)) (index more joined after : List (ℕ × ℕ)) (p : ℕ) (row : List ℕ) (v : List Entry)
+    → IsSpread left star gs rows index joined → new ≡ (rows ++ (p ∷ []) ∷ []) ++ row ∷ [] → IsRow row → pairs row ≡ v → more ≡ index ++ (p, length index + 1) ∷ []
+    → ((n : ℕ) → IsListed joined n → IsListed after n) → IsListed after (suc (length gs)) ⊎ FromLeft left (of_one p v) → ((m : ℕ) → m < length after → (get_or after m (0, 0)).1 < suc (suc (length gs)))
+    → IsSpread left star (gs ++ of_one p v ∷ []) new more after
+spread_more left star gs rows new index more joined after p row v h written is_row vector pushed wider origin below =
+    let long : length index ≡ length gs = ap (length {A = ℕ × ℕ}) h.index_is ∙ numbered_length 1 gs in
+    let many : length (gs ++ of_one p v ∷ []) ≡ suc (length gs) = length-append gs (of_one p v ∷ []) ∙ (omega arith) in
+    let number : length index + 1 ≡ 1 + length gs = omega (arith, long) in
+    let row_is : row ≡ flat v = sym is_row ∙ ap flat vector in
+    record {
+      rows_are = written ∙ (λ j. (h.rows_are j ++ (p ∷ []) ∷ []) ++ row_is j ∷ []) ∙ sym (rows_snoc (star_first star gs) p v);
+      index_is = pushed ∙ (λ j. h.index_is j ++ (p, number j) ∷ []) ∙ sym (numbered_snoc 1 gs p v);
+      origins = λ k l. elim (cases_lt k (length gs)) [
+        | inl less ↦ widened k (sym (get_or-append gs (of_one p v ∷ []) nothing k less)) (h.origins k less)
+        | inr over ↦
+            let end : length gs ≡ k = omega (arith, over, l, many) in
+            subst (λ n. IsListed after (suc n) ⊎ FromLeft left (get_or (gs ++ of_one p v ∷ []) n nothing)) end
+            (subst (λ g. IsListed after (suc (length gs)) ⊎ FromLeft left g) (sym (get_or-append_seam gs (of_one p v) [] nothing)) origin)
+      ];
+      there = λ m l. subst (λ n. (get_or after m (0, 0)).1 < suc n) (sym many) (below m l);
+    }
+  where
+    widened : (k : ℕ) {g g' : Fragment} → g ≡ g' → IsListed joined (suc k) ⊎ FromLeft left g → IsListed after (suc k) ⊎ FromLeft left g'
+    widened k e (inl a) = inl (wider (suc k) a)
+    widened k e (inr b) = inr (subst (FromLeft left) e b)
+
+-- On the way
+
+pub not_raised : (b : Bool) → not b ≡ false → b ≡ true
+not_raised true h = refl
+not_raised false h = absurd (true≢false h)
+
+pub on_first : (left right : List (List ℕ)) (xs ys : List (ℕ × ℕ)) (star : List ℕ) (out : List (List ℕ)) (index joined : List (ℕ × ℕ)) (at : Pairing) → 0 < length (fragments_of left) → IsRow star → at.left ≡ 0 → at.right ≡ 0 → out ≡ [] ∷ star ∷ [] → index ≡ [] → joined ≡ []
+    → IsOnTheWay left right xs ys star out index joined at 1 1
+on_first left right xs ys star out index joined at some s l r o n j = record {
   place = 0;
   along = along_first xs ys at l r;
-  under_way = none_under_way left (pair_vector (fragments_of left) (fragments_of right)) star changed (paired xs ys) (paired xs ys) out numbers some s refl o n;
+  gs = [];
+  rest = refl;
+  spread = record {
+    rows_are = nothing_pending left out 2 ∙ o ∙ ap (λ row. [] ∷ row ∷ []) (sym s);
+    index_is = n;
+    origins = λ k l. absurd (omega (arith, l));
+    there = λ m l. let none = ap (length {A = ℕ × ℕ}) j in absurd (omega (arith, l, none));
+  };
+  order = omega arith;
+  there = some;
 }
 
--- the picture that comes next
+module _ (left right : List (List ℕ)) (xs ys : List (ℕ × ℕ)) (star : List ℕ) (out : List (List ℕ)) (index joined : List (ℕ × ℕ)) (at : Pairing) (from to : ℕ) (h : IsOnTheWay left right xs ys star out index joined at from to) where
+  abbrev pub f : ℕ × ℕ → List Entry
+  f = pair_vector (fragments_of left) (fragments_of right)
 
-module _ (left right : List (List ℕ)) (xs ys : List (ℕ × ℕ)) (star : List ℕ) (changed out : List (List ℕ)) (numbers : List (ℕ × ℕ)) (at : Pairing) (from last next : ℕ) (h : IsOnTheWay left right xs ys star changed out numbers at from last next) where
+  -- the picture that comes next
+
   pub row_inside : (then : Pairing) (r : ℕ × (ℕ × ℕ)) → IsSide (fragments_of left) xs → IsSide (fragments_of right) ys → left_of at xs ys ≡ r ∷ left_of then xs ys → (r.1.0 < length (fragments_of left)) × (r.1.1 < length (fragments_of right))
   row_inside then r left_side right_side step = inside (fragments_of left) (fragments_of right) xs ys at then h.place r left_side right_side h.along step
 
-  pub on_star : (then : Pairing) (r : ℕ × (ℕ × ℕ)) → left_of at xs ys ≡ r ∷ left_of then xs ys → same_entries (pair_vector (fragments_of left) (fragments_of right) (0, 0)) (pair_vector (fragments_of left) (fragments_of right) r.1) ≡ true
-      → IsOnTheWay left right xs ys star changed out numbers then from last next
+  pub on_star : (then : Pairing) (r : ℕ × (ℕ × ℕ)) → left_of at xs ys ≡ r ∷ left_of then xs ys → same_entries (f (0, 0)) (f r.1) ≡ true → IsOnTheWay left right xs ys star out index joined then from to
   on_star then r step same = record {
     place = h.place + 1;
     along = along_next xs ys at then h.place r h.along step;
-    under_way = star_under_way left (pair_vector (fragments_of left) (fragments_of right)) star changed (paired xs ys) out numbers h.place from last next (groups_of (fragments_of left) (fragments_of right) xs ys) (index_of (fragments_of left) (fragments_of right) xs ys) r
-        (next_row xs ys at then h.place r h.along step) same h.under_way;
+    gs = h.gs;
+    rest = ap (λ hs. h.gs ++ hs) (sym (ap (singles (f (0, 0)) f) (next_row xs ys at then h.place r h.along step) ∙ singles_same (f (0, 0)) f r (drop (h.place + 1) (paired xs ys)) same)) ∙ h.rest;
+    spread = h.spread;
+    order = h.order;
+    there = h.there;
   }
 
-  pub on_stays : (then : Pairing) (r : ℕ × (ℕ × ℕ)) (new : List (List ℕ)) (more : List (ℕ × ℕ)) (start : ℕ) → CanCarry left right xs ys star changed → left_of at xs ys ≡ r ∷ left_of then xs ys → Stays left right changed last r.0 r.1.0 r.1.1
-      → start ≤ r.1.0 → new ++ run left (2 * start) (2 * r.1.0) ≡ out ++ run left (2 * from) (2 * (last + 1)) → more ≡ numbers ++ (r.0, length numbers + 1) ∷ []
-      → IsOnTheWay left right xs ys star changed new more then start r.1.0 next
-  on_stays then r new more start can step stays begins written pushed =
-      let there = row_inside then r can.left_side can.right_side step in
-      record {
-        place = h.place + 1;
-        along = along_next xs ys at then h.place r h.along step;
-        under_way = stays_under_way left right xs ys star changed (paired xs ys) out new numbers more h.place from start last next (groups_of (fragments_of left) (fragments_of right) xs ys) (index_of (fragments_of left) (fragments_of right) xs ys) r
-            can.left_rows can.left_side can.right_side can.normal can.joint can.same can.once (next_row xs ys at then h.place r h.along step) stays there.0 there.1 begins written pushed h.under_way;
-      }
-
-  pub on_one : (then : Pairing) (r : ℕ × (ℕ × ℕ)) (new : List (List ℕ)) (more : List (ℕ × ℕ)) (row : List ℕ) (last_then next_then : ℕ) → CanCarry left right xs ys star changed → left_of at xs ys ≡ r ∷ left_of then xs ys
-      → IsRow row → pairs row ≡ pair_vector (fragments_of left) (fragments_of right) r.1 → same_entries (pair_vector (fragments_of left) (fragments_of right) (0, 0)) (pair_vector (fragments_of left) (fragments_of right) r.1) ≡ false
-      → HasCome (fragments_of left) changed row last next last_then next_then
-      → new ≡ ((out ++ run left (2 * from) (2 * (last + 1))) ++ (r.0 ∷ []) ∷ []) ++ row ∷ [] → more ≡ numbers ++ (r.0, length numbers + 1) ∷ []
-      → IsOnTheWay left right xs ys star changed new more then (last_then + 1) last_then next_then
-  on_one then r new more row last_then next_then can step is_row vector other come placed pushed = record {
+  -- one more
+  on_more : (then : Pairing) (r : ℕ × (ℕ × ℕ)) (new : List (List ℕ)) (more after : List (ℕ × ℕ)) (start end : ℕ) → left_of at xs ys ≡ r ∷ left_of then xs ys → same_entries (f (0, 0)) (f r.1) ≡ false
+      → IsSpread left (pairs star) (h.gs ++ of_one r.0 (f r.1) ∷ []) (new ++ run left (2 * start) (2 * end)) more after → start ≤ end → end ≤ length (fragments_of left) → IsOnTheWay left right xs ys star new more after then start end
+  on_more then r new more after start end step other spread order there = record {
     place = h.place + 1;
     along = along_next xs ys at then h.place r h.along step;
-    under_way = one_under_way left (pair_vector (fragments_of left) (fragments_of right)) star changed (paired xs ys) out new numbers more h.place from last next last_then next_then
-        (groups_of (fragments_of left) (fragments_of right) xs ys) (index_of (fragments_of left) (fragments_of right) xs ys) r row can.normal can.once (next_row xs ys at then h.place r h.along step) is_row vector other come placed pushed h.under_way;
+    gs = h.gs ++ of_one r.0 (f r.1) ∷ [];
+    rest = append_assoc h.gs (of_one r.0 (f r.1) ∷ []) (singles (f (0, 0)) f (drop (h.place + 1) (paired xs ys)))
+        ∙ ap (λ hs. h.gs ++ hs) (sym (ap (singles (f (0, 0)) f) (next_row xs ys at then h.place r h.along step) ∙ singles_other (f (0, 0)) f r (drop (h.place + 1) (paired xs ys)) other)) ∙ h.rest;
+    spread = spread;
+    order = order;
+    there = there;
   }
 
-  pub on_all : (new : List (List ℕ)) → left_of at xs ys ≡ [] → new ≡ out ++ run left (2 * from) (2 * (last + 1))
-      → (new ≡ rows_of (star_first (pairs star) (groups_of (fragments_of left) (fragments_of right) xs ys))) × (numbers ≡ index_of (fragments_of left) (fragments_of right) xs ys)
-  on_all new none written = all_under_way left (pair_vector (fragments_of left) (fragments_of right)) star changed (paired xs ys) out new numbers h.place from last next
-      (groups_of (fragments_of left) (fragments_of right) xs ys) (index_of (fragments_of left) (fragments_of right) xs ys) (along_all xs ys at h.place h.along none) written h.under_way
+  pub on_joined : (then : Pairing) (r : ℕ × (ℕ × ℕ)) (new : List (List ℕ)) (more after : List (ℕ × ℕ)) (row : List ℕ) → left_of at xs ys ≡ r ∷ left_of then xs ys
+      → IsRow row → pairs row ≡ f r.1 → same_entries (f (0, 0)) (f r.1) ≡ false
+      → new ≡ ((out ++ run left (2 * from) (2 * to)) ++ (r.0 ∷ []) ∷ []) ++ row ∷ [] → more ≡ index ++ (r.0, length index + 1) ∷ [] → after ≡ joined ++ (r.0, length index + 1) ∷ []
+      → IsOnTheWay left right xs ys star new more after then to to
+  on_joined then r new more after row step is_row vector other placed pushed listed =
+      let long : length index + 1 ≡ suc (length h.gs) = let e = ap (length {A = ℕ × ℕ}) h.spread.index_is ∙ numbered_length 1 h.gs in omega (arith, e) in
+      on_more then r new more after to to step other
+      (spread_more left (pairs star) h.gs (out ++ run left (2 * from) (2 * to)) (new ++ run left (2 * to) (2 * to)) index more joined after r.0 row (f r.1) h.spread (nothing_pending left new (2 * to) ∙ placed) is_row vector pushed
+      (listed_wider joined after (r.0, length index + 1) listed)
+      (inl (subst (IsListed after) long (listed_last joined after (r.0, length index + 1) listed)))
+      (listed_below joined after (r.0, length index + 1) listed (suc (length h.gs)) long h.spread.there))
+      (omega arith) h.there
+
+  pub on_stays : (then : Pairing) (r : ℕ × (ℕ × ℕ)) (new : List (List ℕ)) (more : List (ℕ × ℕ)) (start : ℕ) (raised : Bool) → IsPair left right xs ys star → pairs star ≡ entries_at (fragments_of left) 0 → left_of at xs ys ≡ r ∷ left_of then xs ys → Stays left right raised r.0 r.1.0 r.1.1
+      → start ≤ r.1.0 → new ++ run left (2 * start) (2 * r.1.0) ≡ out ++ run left (2 * from) (2 * to) → more ≡ index ++ (r.0, length index + 1) ∷ []
+      → IsOnTheWay left right xs ys star new more joined then start (r.1.0 + 1)
+  on_stays then r new more start raised pair same step s begins written pushed =
+      let fs = fragments_of left in
+      let gs = fragments_of right in
+      let a = r.1.0 in
+      let there = row_inside then r pair.left_side pair.right_side step in
+      let row = get_or left (2 * a + 1) [] in
+      let is : row ≡ flat (entries_at fs a) = entries_read left a pair.left_rows there.0 in
+      let is_row : IsRow row = subst IsRow (sym is) (flat_row (entries_at fs a)) in
+      let entries : pairs row ≡ entries_at fs a = ap pairs is ∙ pairs_flat (entries_at fs a) in
+      let joint : f r.1 ≡ entries_at fs a = stays_joint fs gs xs ys (pairs star) a r.1.1 pair.left_side pair.right_side pair.joint same there.0 there.1 s.nothing in
+      let other : same_entries (f (0, 0)) (f r.1) ≡ false = (λ j. same_entries ((sym pair.joint ∙ same) j) (joint j)) ∙ differs a there.0 pair s.beside in
+      let inside : 2 * a + 1 < length left = omega (arith, rows_read left pair.left_rows, there.0) in
+      let placed : new ++ run left (2 * start) (2 * (a + 1)) ≡ ((out ++ run left (2 * from) (2 * to)) ++ (r.0 ∷ []) ∷ []) ++ row ∷ [] =
+      ap (λ rs. new ++ rs) (run_more left start a begins inside)
+      ∙ sym (append_assoc new (run left (2 * start) (2 * a) ++ get_or left (2 * a) [] ∷ []) (row ∷ []))
+      ∙ ap (λ rs. rs ++ row ∷ []) (sym (append_assoc new (run left (2 * start) (2 * a)) (get_or left (2 * a) [] ∷ [])))
+      ∙ (λ j. (written j ++ s.alone j ∷ []) ++ row ∷ []) in
+      on_more then r new more joined start (a + 1) step other
+      (spread_more left (pairs star) h.gs (out ++ run left (2 * from) (2 * to)) (new ++ run left (2 * start) (2 * (a + 1))) index more joined joined r.0 row (f r.1) h.spread placed is_row (entries ∙ sym joint) pushed
+      (λ n listed. listed)
+      (inr (record { number = a; beside = s.beside; there = there.0; alone = s.alone; is = sym joint }))
+      (λ m l. let below = h.spread.there m l in omega (arith, below)))
+      (omega (arith, begins)) (omega (arith, there.0))
+    where
+      differs : (a : ℕ) → a < length (fragments_of left) → IsPair left right xs ys star → 0 < a → same_entries (entries_at (fragments_of left) 0) (entries_at (fragments_of left) a) ≡ false
+      differs a l pair z = elim (cases_Bool (same_entries (entries_at (fragments_of left) 0) (entries_at (fragments_of left) a))) [
+        | inl e ↦ absurd (star_differs (fragments_of left) a pair.normal z l ((entries_decide (entries_at (fragments_of left) 0) (entries_at (fragments_of left) a)).0 e))
+        | inr e ↦ e
+      ]
+
+  pub on_all : (new : List (List ℕ)) → left_of at xs ys ≡ [] → new ≡ out ++ run left (2 * from) (2 * to) → IsSpread left (pairs star) (spread_of (fragments_of left) (fragments_of right) xs ys) new index joined
+  on_all new none written =
+      let whole : h.gs ≡ spread_of (fragments_of left) (fragments_of right) xs ys =
+      sym (append-nil h.gs) ∙ ap (λ rs. h.gs ++ singles (f (0, 0)) f rs) (sym (drop_all h.place (paired xs ys) (along_all xs ys at h.place h.along none))) ∙ h.rest in
+      subst (λ rs. IsSpread left (pairs star) (spread_of (fragments_of left) (fragments_of right) xs ys) rs index joined) (sym written)
+      (subst (λ gs. IsSpread left (pairs star) gs (out ++ run left (2 * from) (2 * to)) index joined) whole h.spread)

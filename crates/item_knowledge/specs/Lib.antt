@@ -16,4 +16,4 @@ pub mod TableRows
 pub mod Laws
 pub mod Examples
 pub mod Pairing
-pub mod Carrying
+pub mod Apart

@@ -1,7 +1,7 @@
 -- Machinery of the proofs: rows of words that are found by their hashes.
-use Rattle.std.specs.Prelude.{◌≡◌, ℕ, ◌<◌, ◌≤◌, ◌+◌, ◌-◌, ◌*◌, ◌/◌, ◌%◌, ◌^◌, List, [], ◌∷◌, length, get_or}
+use Rattle.std.specs.Prelude.{◌≡◌, ℕ, ◌<◌, ◌≤◌, ◌+◌, ◌-◌, ◌*◌, ◌/◌, ◌%◌, ◌^◌, List, [], ◌∷◌, length, get_or, map}
 use Rattle.item_knowledge.specs.declared.places.Places.{Places}
-use Rattle.item_knowledge.specs.Rows.{IsRow, vectors_in}
+use Rattle.item_knowledge.specs.Rows.{IsRow}
 
 -- sums and products of words
 unfoldable pub plus : ℕ → ℕ → ℕ
@@ -45,13 +45,25 @@ pub record IsPlaced (heads before : List ℕ) (rows : List (List ℕ)) : Type 0 
   pub earlier : (k : ℕ) → k < length rows → IsLast (length heads) (bucket (length heads) (get_or rows k [])) rows k (get_or before k 0)
   pub once : (j k : ℕ) → j < k → k < length rows → get_or rows j [] ≡ get_or rows k [] → ⊥
 
--- rows are found by the words of their vectors
-pub record IsFound (places : Places) : Type 0 where
-  pub placed : IsPlaced places.heads.items places.before.items (vectors_in places.rows)
-  pub even : length places.rows ≡ 2 * length (vectors_in places.rows)
+-- the vectors of the fragments of these numbers
+abbrev pub vectors_at : List (List ℕ) → List ℕ → List (List ℕ)
+vectors_at rows numbers = map (λ n. get_or rows (2 * n + 1) []) numbers
 
--- of each group the pictures stand beside its row
-pub record Placed (places : Places) (pictures : List (List ℕ)) : Type 0 where
-  pub found : IsFound places
-  pub counted : length pictures ≡ length (vectors_in places.rows)
-  pub whole : (k : ℕ) → k < length (vectors_in places.rows) → IsRow (get_or (vectors_in places.rows) k [])
+-- fragments of some rows are found by the words of their vectors
+pub record IsFound (places : Places) (rows : List (List ℕ)) : Type 0 where
+  pub placed : IsPlaced places.heads.items places.before.items (vectors_at rows places.numbers.items)
+  pub there : (k : ℕ) → k < length places.numbers.items → 2 * get_or places.numbers.items k 0 + 1 < length rows
+
+-- one fragment more may come, whose vector is new and in this bucket
+pub record CanPlace (places : Places) (rows : List (List ℕ)) (place number : ℕ) : Type 0 where
+  pub found : IsFound places rows
+  pub there : 2 * number + 1 < length rows
+  pub in_bucket : place ≡ bucket (length places.heads.items) (get_or rows (2 * number + 1) [])
+  pub new : is_new (vectors_at rows places.numbers.items) (get_or rows (2 * number + 1) [])
+
+-- of each group the pictures stand beside its vector
+pub record Placed (places : Places) (rows pictures : List (List ℕ)) : Type 0 where
+  pub found : IsFound places rows
+  pub even : length rows ≡ 2 * length places.numbers.items
+  pub counted : length pictures ≡ length (vectors_at rows places.numbers.items)
+  pub whole : (k : ℕ) → k < length (vectors_at rows places.numbers.items) → IsRow (get_or (vectors_at rows places.numbers.items) k [])

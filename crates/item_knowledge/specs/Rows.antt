@@ -26,12 +26,6 @@ abbrev pub rows_of : List Fragment → List (List ℕ)
 rows_of [] = []
 rows_of (f ∷ fs) = f.pictures ∷ flat f.entries ∷ rows_of fs
 
--- of each fragment the row of its entries
-abbrev pub vectors_in : List (List ℕ) → List (List ℕ)
-vectors_in [] = []
-vectors_in (ps ∷ []) = []
-vectors_in (ps ∷ ws ∷ rows) = ws ∷ vectors_in rows
-
 -- fragments by their pictures and their rows
 abbrev pub grouped : List (List ℕ) → List (List ℕ) → List Fragment
 grouped [] rows = []

@@ -4,7 +4,6 @@ use Rattle.std.specs.Int.{bit_at}
 use Rattle.std.specs.List.{list_any}
 use Rattle.item_knowledge.specs.Entries.{Entry, bound}
 use Rattle.item_knowledge.specs.Fragments.{entries_at}
-use Rattle.item_knowledge.specs.Places.{is_new}
 use Rattle.item_knowledge.specs.Rows.{fragments_of}
 use Rattle.item_knowledge.specs.Tops.{IsTop}
 
@@ -34,10 +33,6 @@ is_unseen words star e = nat_lt (bound star e.0) e.1 && not (is_marked words e.0
 
 abbrev pub has_unseen : List ℕ → List Entry → List Entry → Bool
 has_unseen words star es = list_any (λ e. is_unseen words star e) es
-
--- no changed row is that of a fragment of the left
-abbrev pub AreNew : List (List ℕ) → List (List ℕ) → Type 0
-AreNew rows changed = (a : ℕ) → a < length (fragments_of rows) → is_new changed (get_or rows (2 * a + 1) [])
 
 -- what stands beside rows
 pub record IsTopped (top words : List ℕ) (rows : List (List ℕ)) : Type 0 where

@@ -1,85 +1,248 @@
-// A union in which no two pictures that are listed have the same vector: each row is written once, where it stays.
-ghost use Rattle.std.specs.Prelude.{◌≡◌, [], ◌∷◌, true, IfOk, IfSome, OnOk};
+// A union in which no two pictures that are listed have the same vector: each fragment is written once, where it stays, and
+// neighbours of the left that stay as they are come in one run. Whether the vectors differ is asked of what stands there then.
+ghost use Rattle.std.specs.Prelude.{◌≡◌, ◌+◌, ◌*◌, ◌<◌, ◌≤◌, [], ◌∷◌, ◌++◌, true, length, get_or, IfOk, IfSome, OnOk};
+ghost use Rattle.fragment_arena.specs.Arena.{run};
+ghost use Rattle.item_knowledge.specs.Apart.{AddsNothing, Stays, AreThere, AreApart, AreUnseen, AreTold, IsSpread, spread_of};
+ghost use Rattle.item_knowledge.specs.Entries.{is_vector};
+ghost use Rattle.item_knowledge.specs.Fragments.{is_normal, entries_at};
 ghost use Rattle.item_knowledge.specs.Gathering.{IsSide, pair_vector, groups_of, index_of, star_first};
-ghost use Rattle.item_knowledge.specs.Places.{IsFound};
 ghost use Rattle.item_knowledge.specs.Rows.{pairs, IsRow, AreRows, fragments_of, rows_of};
+ghost use Rattle.item_knowledge.specs.Tables.{in_order};
+ghost use Rattle.item_knowledge.specs.Seen.{IsSeen};
 
+use crate::gather::same_row;
 use crate::index::{IndexEntry, to_u32};
 use crate::pairing::{Pairing, pictures_together};
 use crate::places::Places;
 use crate::rows::Rows;
-use crate::union::pair;
+use crate::search::is_leq;
+use crate::seen::Seen;
+use crate::union::{begin, entries, pair};
 use std::alloc::{AllocError, Global};
-use std::mem::{replace, swap};
 
-// The star alone, in place of the rows that were there, with room for so many fragments of so many words together.
-fn star_placed(
-    alloc: Global,
-    star: &[u64],
-    count: usize,
-    words: usize,
-    out: &mut Rows,
-) -> Result<Places, AllocError>
-    ensures found { IfOk result (λ places. IsFound places) }
-    ensures rows { IfOk result (λ places. places.rows ≡ [] ∷ star.now ∷ []) }
+// Whether the right's fragment `b` has nothing beyond the left's `a`, where the right's star has nothing beyond the left's.
+#[inline(always)]
+fn adds_nothing(left: &Rows, right: &Rows, a: usize, b: usize) -> bool
+    requires left_rows { AreRows left.now }
+    requires right_rows { AreRows right.now }
+    requires a { a < length (fragments_of left.now) }
+    requires b { b < length (fragments_of right.now) }
+    requires order { in_order (entries_at (fragments_of left.now) a) ≡ true }
+    requires vector { is_vector (entries_at (fragments_of right.now) b) ≡ true }
+    ensures { result ≡ true → AddsNothing (fragments_of left.now) (fragments_of right.now) a b }
 {
-    let mut rows = replace(out, Rows::new(alloc));
-    rows.clear();
-    rows.reserve(
-        count.saturating_mul(2).saturating_add(2),
-        words.saturating_add(star.len()),
-    )?;
-    let vectors = count.saturating_add(1);
-    // Most of them differ, so half of the buckets at least are to be free.
-    let mut places = Places::new(alloc, rows, vectors, vectors.saturating_mul(2))?;
-    let bucket = places.bucket(star);
-    places.push(bucket, &[], star)?;
-    Ok(places)
+    if b == 0 {
+        return true;
+    }
+    is_leq(entries(right, b), entries(left, a))
 }
 
-// Writes the rows of the union behind its star, and its index, as long as each vector is the star's or a new one; whether that
-// was so to the end.
-fn place_apart(
+// Whether a picture is the only one of a fragment.
+fn is_alone(rows: &Rows, number: usize, picture: u32) -> bool
+    requires rows { AreRows rows.now }
+    requires number { number < length (fragments_of rows.now) }
+    ensures { result ≡ true → get_or rows.now (2 * number) [] ≡ picture ∷ [] }
+{
+    // For its fact alone: the rows are fewer than 2 ^ 63.
+    let _count = rows.rows();
+    let pictures = rows.row(2 * number);
+    if pictures.len() != 1 {
+        return false;
+    }
+    pictures[0] == u64::from(picture)
+}
+
+// Whether the left's fragment `a` comes as it stands for a picture: the star is the left's, the picture is alone in it, and the
+// right's `b` has nothing beyond it.
+#[inline(always)]
+fn stays(left: &Rows, right: &Rows, is_raised: bool, picture: u32, a: usize, b: usize) -> bool
+    requires left_rows { AreRows left.now }
+    requires right_rows { AreRows right.now }
+    requires a { a < length (fragments_of left.now) }
+    requires b { b < length (fragments_of right.now) }
+    requires order { in_order (entries_at (fragments_of left.now) a) ≡ true }
+    requires vector { is_vector (entries_at (fragments_of right.now) b) ≡ true }
+    ensures { result ≡ true → Stays left.now right.now is_raised picture a b }
+{
+    if is_raised {
+        return false;
+    }
+    if a == 0 {
+        return false;
+    }
+    if !is_alone(left, a, picture) {
+        return false;
+    }
+    adds_nothing(left, right, a, b)
+}
+
+// The left's fragment `a` comes behind a run of others from one number up to another, all of which are still to be
+// written. Where it doesn't follow the last of them the run is written. Gives where the run of `a` begins.
+fn run_to(
+    left: &Rows,
+    from: usize,
+    to: usize,
+    a: usize,
+    out: &mut Rows,
+) -> Result<usize, AllocError>
+    requires left { AreRows left.now }
+    requires order { from ≤ to }
+    requires end { to ≤ length (fragments_of left.now) }
+    requires there { a < length (fragments_of left.now) }
+    ensures order { IfOk result (λ start. start ≤ a) }
+    ensures run { IfOk result (λ start. out.new ++ run left.now (2 * start) (2 * a) ≡ out.old ++ run left.now (2 * from) (2 * to)) }
+{
+    if a == to {
+        return Ok(from);
+    }
+    // For its fact alone: the rows are fewer than 2 ^ 63.
+    let _count = left.rows();
+    out.place_run(left, 2 * from, 2 * to)?;
+    Ok(a)
+}
+
+// Writes a run of the left's fragments from one number up to another, and behind it a fragment of one picture.
+fn place_behind(
+    left: &Rows,
+    from: usize,
+    to: usize,
+    picture: u32,
+    row: &[u64],
+    out: &mut Rows,
+) -> Result<(), AllocError>
+    requires left { AreRows left.now }
+    requires order { from ≤ to }
+    requires there { to ≤ length (fragments_of left.now) }
+    ensures { OnOk result (out.new ≡ ((out.old ++ run left.now (2 * from) (2 * to)) ++ (picture ∷ []) ∷ []) ++ row.now ∷ []) }
+{
+    // For its fact alone: the rows are fewer than 2 ^ 63.
+    let _count = left.rows();
+    out.place_run(left, 2 * from, 2 * to)?;
+    out.place_fragment(&[u64::from(picture)], row)?;
+    Ok(())
+}
+
+// Writes the fragments of the pictures behind the star, each by itself, with their index; lists those that don't come from the
+// left as they stand.
+fn spread(
     left: &Rows,
     left_index: &[IndexEntry],
     right: &Rows,
     right_index: &[IndexEntry],
+    star: &[u64],
     room: &mut Vec<u64>,
     index: &mut Vec<IndexEntry>,
-    places: &mut Places,
-) -> Result<bool, AllocError>
+    joined: &mut Vec<IndexEntry>,
+    out: &mut Rows,
+) -> Result<(), AllocError>
     requires left_rows { AreRows left.now }
     requires right_rows { AreRows right.now }
     requires left { IsSide (fragments_of left.now) left_index.now }
     requires right { IsSide (fragments_of right.now) right_index.now }
+    requires normal { is_normal (fragments_of left.now) ≡ true }
+    requires star_row { IsRow star.now }
+    requires star { pairs star.now ≡ pair_vector (fragments_of left.now) (fragments_of right.now) (0, 0) }
     requires index { index.old.items ≡ [] }
-    requires found { IsFound places.old }
-    requires star { places.old.rows ≡ rows_of (star_first (pair_vector (fragments_of left.now) (fragments_of right.now) (0, 0)) []) }
-    ensures rows { IfOk result (λ whole. whole ≡ true → places.new.rows
-        ≡ rows_of (star_first (pair_vector (fragments_of left.now) (fragments_of right.now) (0, 0))
-        (groups_of (fragments_of left.now) (fragments_of right.now) left_index.now right_index.now))) }
-    ensures index { IfOk result (λ whole. whole ≡ true → index.new.items
-        ≡ index_of (fragments_of left.now) (fragments_of right.now) left_index.now right_index.now) }
+    requires joined { joined.old.items ≡ [] }
+    requires out { out.old ≡ [] ∷ star.now ∷ [] }
+    ensures { OnOk result (IsSpread left.now (pairs star.now)
+        (spread_of (fragments_of left.now) (fragments_of right.now) left_index.now right_index.now)
+        out.new index.new.items joined.new.items) }
 {
+    // For its fact alone: the rows are fewer than 2 ^ 63.
+    let _count = left.rows();
+    let is_raised = !same_row(star, entries(left, 0));
+    let mut from = 1;
+    let mut to = 1;
     let mut pairing = Pairing::new();
     while let Some((picture, (a, b))) = pairing.next(left_index, right_index) {
+        if stays(left, right, is_raised, picture, a, b) {
+            from = run_to(left, from, to, a, out)?;
+            to = a + 1;
+            let number = to_u32(index.len() + 1)?;
+            index.push((picture, number))?;
+            continue;
+        }
         let row = pair(left, left_index, right, right_index, a, b, room)?;
-        let bucket = places.bucket(row);
-        if let Some(k) = places.find(bucket, row) {
-            if k == 0 {
-                continue;
-            }
+        if same_row(star, row) {
+            continue;
+        }
+        place_behind(left, from, to, picture, row, out)?;
+        from = to;
+        let number = to_u32(index.len() + 1)?;
+        index.push((picture, number))?;
+        joined.push((picture, number))?;
+    }
+    out.place_run(left, 2 * from, 2 * to)?;
+    Ok(())
+}
+
+// Whether each of the fragments that are listed has a bound that stands in no fragment of the left, by its marks.
+fn are_unseen(left: &Rows, seen: &Seen, rows: &Rows, listed: &[IndexEntry]) -> bool
+    requires left { AreRows left.now }
+    requires some { 0 < length (fragments_of left.now) }
+    requires order { in_order (entries_at (fragments_of left.now) 0) ≡ true }
+    requires rows { AreRows rows.now }
+    requires there { AreThere rows.now listed.now }
+    ensures { result ≡ true → AreUnseen left.now seen.now.words.items rows.now listed.now }
+{
+    let star = entries(left, 0);
+    for i in 0..listed.len() {
+        let (_picture, number) = listed[i];
+        if !seen.lacks_one(entries(rows, number as usize), star) {
+            return false;
+        }
+    }
+    true
+}
+
+// Whether the fragments that are listed have different vectors.
+fn are_apart(alloc: Global, rows: &Rows, listed: &[IndexEntry]) -> Result<bool, AllocError>
+    requires rows { AreRows rows.now }
+    requires there { AreThere rows.now listed.now }
+    ensures { IfOk result (λ apart. apart ≡ true → AreApart rows.now listed.now) }
+{
+    // Most of them differ, so half of the buckets at least are to be free.
+    let buckets = listed.len().saturating_mul(2);
+    let mut places = Places::new(alloc, listed.len(), buckets)?;
+    for i in 0..listed.len() {
+        let (_picture, kept) = listed[i];
+        let number = kept as usize;
+        let (bucket, place) = places.find(rows, entries(rows, number));
+        if place.is_some() {
             return Ok(false);
         }
-        let number = places.push(bucket, &[u64::from(picture)], row)?;
-        let kept = to_u32(number)?;
-        index.push((picture, kept))?;
+        places.push(bucket, number)?;
     }
     Ok(true)
 }
 
+// Whether all fragments of an index have different vectors. Those that were joined are looked at alone where none of them can be
+// one of the left's, which differ.
+fn are_told_apart(
+    alloc: Global,
+    left: &Rows,
+    seen: &Seen,
+    rows: &Rows,
+    index: &[IndexEntry],
+    joined: &[IndexEntry],
+) -> Result<bool, AllocError>
+    requires left { AreRows left.now }
+    requires some { 0 < length (fragments_of left.now) }
+    requires order { in_order (entries_at (fragments_of left.now) 0) ≡ true }
+    requires rows { AreRows rows.now }
+    requires index { AreThere rows.now index.now }
+    requires joined { AreThere rows.now joined.now }
+    ensures { IfOk result (λ apart. apart ≡ true → AreTold left.now seen.now.words.items rows.now index.now joined.now) }
+{
+    if are_unseen(left, seen, rows, joined) {
+        return are_apart(alloc, rows, joined);
+    }
+    are_apart(alloc, rows, index)
+}
+
 /// Writes the normal form of what either side denotes, and gives its index, where no two pictures have the same vector but for
-/// those that have the star's. It gives none where that isn't so, and what was written is of no use.
+/// those that have the star's. It gives none where that isn't so, and what was written is of no use. The left's bounds have marks.
 pub(crate) fn apart(
     alloc: Global,
     left: &Rows,
@@ -87,12 +250,15 @@ pub(crate) fn apart(
     right: &Rows,
     right_index: &[IndexEntry],
     star: &[u64],
+    seen: &Seen,
     out: &mut Rows,
 ) -> Result<Option<Vec<IndexEntry>>, AllocError>
     requires left_rows { AreRows left.now }
     requires right_rows { AreRows right.now }
     requires left { IsSide (fragments_of left.now) left_index.now }
     requires right { IsSide (fragments_of right.now) right_index.now }
+    requires normal { is_normal (fragments_of left.now) ≡ true }
+    requires seen { IsSeen seen.now.words.items left.now }
     requires star_row { IsRow star.now }
     requires star { pairs star.now ≡ pair_vector (fragments_of left.now) (fragments_of right.now) (0, 0) }
     ensures rows { IfOk result (λ found. IfSome found (λ _. out.new
@@ -101,24 +267,30 @@ pub(crate) fn apart(
     ensures index { IfOk result (λ found. IfSome found (λ index. index.items
         ≡ index_of (fragments_of left.now) (fragments_of right.now) left_index.now right_index.now)) }
 {
+    // Where some fragment has several pictures two of them mostly have the same vector then too.
+    if left.rows() / 2 <= left_index.len() || right.rows() / 2 <= right_index.len() {
+        return Ok(None);
+    }
     let count = pictures_together(left_index, right_index);
     let mut index = Vec::with_capacity(alloc, count)?;
+    let mut joined = Vec::new(alloc);
     let words = left
         .words()
         .max(right.words())
         .saturating_add(count.saturating_mul(2));
-    let mut places = star_placed(alloc, star, count, words, out)?;
-    let whole = place_apart(
+    begin(star, count, words, out)?;
+    spread(
         left,
         left_index,
         right,
         right_index,
+        star,
         &mut Vec::new(alloc),
         &mut index,
-        &mut places,
+        &mut joined,
+        out,
     )?;
-    swap(out, &mut places.rows);
-    if whole {
+    if are_told_apart(alloc, left, seen, out, &index, &joined)? {
         return Ok(Some(index));
     }
     Ok(None)

@@ -2,11 +2,12 @@
 ghost use Rattle.std.specs.Prelude.{◌≡◌, ◌<◌, true, length, OnOk, IfOk, Some};
 ghost use Rattle.item_knowledge.specs.Entries.{same_entries};
 ghost use Rattle.item_knowledge.specs.Gathering as spec;
-ghost use Rattle.item_knowledge.specs.Places.{Placed};
-ghost use Rattle.item_knowledge.specs.Rows.{pairs, IsRow, grouped, vectors_in};
+ghost use Rattle.item_knowledge.specs.Places.{Placed, vectors_at};
+ghost use Rattle.item_knowledge.specs.Rows.{pairs, IsRow, grouped};
 
 use crate::group::Group;
 use crate::places::Places;
+use crate::rows::Rows;
 use std::alloc::{AllocError, Global};
 
 /// Whether two rows have the same entries.
@@ -18,28 +19,32 @@ pub(crate) fn same_row(xs: &[u64], ys: &[u64]) -> bool
     xs == ys
 }
 
-/// A picture comes to the group of its vector, or begins one at the end. Gives the group's place.
+/// A picture comes to the group of its vector, or begins one at the end. Gives the group's place. The vectors stand in rows.
 pub(crate) fn add(
     alloc: Global,
     groups: &mut Vec<Group>,
+    vectors: &mut Rows,
     places: &mut Places,
     picture: u32,
     row: &[u64],
 ) -> Result<usize, AllocError>
-    requires placed { Placed places.old groups.old.items }
+    requires placed { Placed places.old vectors.old groups.old.items }
     requires row { IsRow row.now }
-    ensures groups { OnOk result (grouped groups.new.items (vectors_in places.new.rows)
-        ≡ spec.add picture (pairs row.now) (grouped groups.old.items (vectors_in places.old.rows))) }
-    ensures placed { OnOk result (Placed places.new groups.new.items) }
+    ensures groups { OnOk result (grouped groups.new.items (vectors_at vectors.new places.new.numbers.items)
+        ≡ spec.add picture (pairs row.now) (grouped groups.old.items (vectors_at vectors.old places.old.numbers.items))) }
+    ensures placed { OnOk result (Placed places.new vectors.new groups.new.items) }
     ensures below { IfOk result (λ k. k < length groups.new.items) }
-    ensures place { IfOk result (λ k. spec.place (grouped groups.new.items (vectors_in places.new.rows)) (pairs row.now) ≡ Some k) }
+    ensures place { IfOk result (λ k. spec.place (grouped groups.new.items (vectors_at vectors.new places.new.numbers.items)) (pairs row.now)
+        ≡ Some k) }
 {
-    let bucket = places.bucket(row);
-    if let Some(k) = places.find(bucket, row) {
+    let (bucket, found) = places.find(vectors, row);
+    if let Some(k) = found {
         groups[k].push(u64::from(picture))?;
         return Ok(k);
     }
     groups.push(Group::new(alloc, u64::from(picture)))?;
-    let k = places.push(bucket, &[], row)?;
+    let k = places.len();
+    vectors.place_fragment(&[], row)?;
+    places.push(bucket, k)?;
     Ok(k)
 }

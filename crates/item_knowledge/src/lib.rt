@@ -2,7 +2,6 @@
 #![tactic(auto)]
 
 mod apart;
-mod carry;
 mod fragment;
 mod gather;
 mod group;

@@ -1,7 +1,6 @@
-// Groups, found by their vectors.
+// Fragments, found by their vectors.
 ghost use Rattle.std.specs.Prelude.{◌≡◌, ℕ, ◌<◌, ◌≤◌, ◌∷◌, ◌++◌, List, [], length, get_or, true, Some, None, IfOk, OnOk};
 ghost use Rattle.item_knowledge.specs.Places as spec;
-ghost use Rattle.item_knowledge.specs.Rows.{vectors_in};
 
 use crate::index::to_u32;
 use crate::rows::Rows;
@@ -16,15 +15,16 @@ const HALF: u64 = 4_294_967_296;
 // So many buckets at most: their number times half a hash is a word still.
 const MOST_BUCKETS: usize = 4_294_967_295;
 
-/// Rows of fragments, whose vectors differ, each found by the words of its vector: those of the same bucket are chained, the
-/// latest first.
+/// Fragments of some rows, whose vectors differ, each found by the words of its vector: those of the same bucket are chained, the
+/// latest first. The rows stand elsewhere.
 #[derive(Debug, Drop)]
 pub(crate) struct Places {
-    pub(crate) rows: Rows,
     /// Of each bucket one more than the place of its latest vector, 0 for none.
     pub(crate) heads: Vec<u32>,
     /// Beside each vector one more than the place of the one before it in its bucket, 0 for none.
     pub(crate) before: Vec<u32>,
+    /// Beside each vector the number of its fragment.
+    pub(crate) numbers: Vec<u32>,
 }
 
 // The sum of two words.
@@ -64,103 +64,77 @@ fn share(hash: u64, count: usize) -> usize
 }
 
 impl Places {
-    /// No rows yet in those that are given, which keep the room that they have; about so many vectors will come, into so many
-    /// buckets.
-    pub(crate) fn new(
-        alloc: Global,
-        rows: Rows,
-        count: usize,
-        buckets: usize,
-    ) -> Result<Places, AllocError>
-        requires { rows ≡ [] }
-        ensures rows { IfOk result (λ places. places.rows ≡ []) }
-        ensures found { IfOk result (λ places. spec.IsFound places) }
+    /// No fragments yet; about so many will come, into so many buckets.
+    pub(crate) fn new(alloc: Global, count: usize, buckets: usize) -> Result<Places, AllocError>
+        ensures none { IfOk result (λ places. places.numbers.items ≡ []) }
+        ensures found { IfOk result (λ places. (rows : List (List ℕ)) → spec.IsFound places rows) }
     {
         Ok(Places {
-            rows,
             heads: vec![in alloc; 0; buckets.max(1).min(MOST_BUCKETS)]?,
             before: Vec::with_capacity(alloc, count)?,
+            numbers: Vec::with_capacity(alloc, count)?,
         })
     }
 
     /// The number of vectors.
     pub(crate) fn len(&self) -> usize
-        requires { spec.IsFound self.now }
-        ensures { result ≡ length (vectors_in self.now.rows) }
+        ensures { result ≡ length self.now.numbers.items }
     {
-        self.before.len()
+        self.numbers.len()
     }
 
     /// The vector at a place.
-    pub(crate) fn vector(&self, k: usize) -> &[u64]
-        requires found { spec.IsFound self.now }
-        requires place { k < length (vectors_in self.now.rows) }
-        ensures { result.now ≡ get_or (vectors_in self.now.rows) k [] }
+    pub(crate) fn vector<'a>(&self, rows: &'a Rows, k: usize) -> &'a [u64]
+        requires found { spec.IsFound self.now rows.now }
+        requires place { k < length self.now.numbers.items }
+        ensures { result.now ≡ get_or (spec.vectors_at rows.now self.now.numbers.items) k [] }
     {
-        // For its fact alone: the rows are fewer than 2 ^ 63.
-        let _count = self.rows.rows();
-        self.rows.row(2 * k + 1)
+        let number = self.numbers[k] as usize;
+        rows.row(2 * number + 1)
     }
 
-    /// The bucket of a vector.
-    pub(crate) fn bucket(&self, row: &[u64]) -> usize
-        requires { spec.IsFound self.now }
+    // The bucket of a vector.
+    fn bucket(&self, row: &[u64]) -> usize
+        requires { length self.now.heads.items ≤ spec.most_buckets }
         ensures { result ≡ spec.bucket (length self.now.heads.items) row.now }
     {
         share(hash_of(row), self.heads.len())
     }
 
-    /// Whether no vector is in a bucket.
-    pub(crate) fn is_free(&self, bucket: usize) -> bool
-        requires found { spec.IsFound self.now }
-        requires bucket { bucket < length self.now.heads.items }
-        ensures { result ≡ true → (row : List ℕ) → bucket ≡ spec.bucket (length self.now.heads.items) row
-            → spec.is_new (vectors_in self.now.rows) row }
-    {
-        self.heads[bucket] == 0
-    }
-
-    /// The place of a vector, where it has one. It is looked for in its bucket.
+    /// The bucket of a vector, in which it is looked for, and its place, where it has one.
     #[inline(always)]
-    pub(crate) fn find(&self, bucket: usize, row: &[u64]) -> Option<usize>
-        requires found { spec.IsFound self.now }
-        requires bucket { bucket ≡ spec.bucket (length self.now.heads.items) row.now }
-        ensures below { (k : ℕ) → result ≡ Some k → k < length (vectors_in self.now.rows) }
-        ensures found { (k : ℕ) → result ≡ Some k → get_or (vectors_in self.now.rows) k [] ≡ row.now }
-        ensures absent { result ≡ None → spec.is_new (vectors_in self.now.rows) row.now }
+    pub(crate) fn find(&self, rows: &Rows, row: &[u64]) -> (usize, Option<usize>)
+        requires { spec.IsFound self.now rows.now }
+        ensures bucket { result.0 ≡ spec.bucket (length self.now.heads.items) row.now }
+        ensures inside { result.0 < length self.now.heads.items }
+        ensures below { (k : ℕ) → result.1 ≡ Some k → k < length self.now.numbers.items }
+        ensures found { (k : ℕ) → result.1 ≡ Some k → get_or (spec.vectors_at rows.now self.now.numbers.items) k [] ≡ row.now }
+        ensures absent { result.1 ≡ None → spec.is_new (spec.vectors_at rows.now self.now.numbers.items) row.now }
     {
+        let bucket = self.bucket(row);
         let mut place = self.heads[bucket] as usize;
         while place > 0 {
             let k = place - 1;
-            if self.vector(k) == row {
-                return Some(k);
+            if self.vector(rows, k) == row {
+                return (bucket, Some(k));
             }
             place = self.before[k] as usize;
         }
-        None
+        (bucket, None)
     }
 
-    /// One fragment more, at the end, whose vector is in its bucket; gives its place.
+    /// One fragment more, whose vector is in its bucket.
     #[inline(always)]
-    pub(crate) fn push(
-        &mut self,
-        bucket: usize,
-        pictures: &[u64],
-        row: &[u64],
-    ) -> Result<usize, AllocError>
-        requires found { spec.IsFound self.old }
-        requires bucket { bucket ≡ spec.bucket (length self.old.heads.items) row.now }
-        requires new { spec.is_new (vectors_in self.old.rows) row.now }
-        ensures rows { OnOk result (self.new.rows ≡ (self.old.rows ++ pictures.now ∷ []) ++ row.now ∷ []) }
-        ensures vectors { OnOk result (vectors_in self.new.rows ≡ vectors_in self.old.rows ++ row.now ∷ []) }
-        ensures found { OnOk result (spec.IsFound self.new) }
-        ensures place { IfOk result (λ place. place ≡ length (vectors_in self.old.rows)) }
+    pub(crate) fn push(&mut self, bucket: usize, number: usize) -> Result<(), AllocError>
+        requires { bucket < length self.old.heads.items }
+        ensures numbers { OnOk result (self.new.numbers.items ≡ self.old.numbers.items ++ number ∷ []) }
+        ensures found { OnOk result ((rows : List (List ℕ)) → spec.CanPlace self.old rows bucket number → spec.IsFound self.new rows) }
     {
-        let place = self.before.len();
-        let next = to_u32(place + 1)?;
+        let next = to_u32(self.before.len() + 1)?;
+        let kept = to_u32(number)?;
         self.before.push(self.heads[bucket])?;
-        self.rows.place_fragment(pictures, row)?;
+        self.numbers.push(kept)?;
         self.heads[bucket] = next;
-        Ok(place)
+        Ok(())
     }
 }

@@ -1,14 +1,13 @@
 // The union of two knowledges, as rows and an index.
-ghost use Rattle.std.specs.Prelude.{◌≡◌, ◌<◌, [], ◌∷◌, true, length, IfOk, OnOk};
+ghost use Rattle.std.specs.Prelude.{◌≡◌, ℕ, List, ◌+◌, ◌*◌, ◌<◌, [], ◌∷◌, true, length, get_or, IfOk, OnOk};
 ghost use Rattle.item_knowledge.specs.Fragments.{entries_at, is_normal};
 ghost use Rattle.item_knowledge.specs.Gathering.{IsSide, IsIndex, IsUnion, pair_vector, groups_of, index_of, star_first};
 ghost use Rattle.item_knowledge.specs.Kept.{is_side_within};
-ghost use Rattle.item_knowledge.specs.Places.{Placed};
-ghost use Rattle.item_knowledge.specs.Rows.{pairs, IsRow, AreRows, fragments_of, rows_of, grouped, vectors_in};
+ghost use Rattle.item_knowledge.specs.Places.{IsFound, Placed, vectors_at};
+ghost use Rattle.item_knowledge.specs.Rows.{pairs, IsRow, AreRows, fragments_of, rows_of, grouped};
 ghost use Rattle.item_knowledge.specs.Seen.{IsSeen};
 
 use crate::apart::apart;
-use crate::carry::carried;
 use crate::gather::{add, same_row};
 use crate::group::Group;
 use crate::index::{IndexEntry, to_u32};
@@ -25,6 +24,7 @@ use std::alloc::{AllocError, Global};
 pub(crate) fn entries(rows: &Rows, number: usize) -> &[u64]
     requires rows { AreRows rows.now }
     requires number { number < length (fragments_of rows.now) }
+    ensures words { result.now ≡ get_or rows.now (2 * number + 1) [] }
     ensures row { IsRow result.now }
     ensures entries { pairs result.now ≡ entries_at (fragments_of rows.now) number }
 {
@@ -87,40 +87,25 @@ fn write(
     star: &[u64],
     groups: &[Group],
     pictures: usize,
+    vectors: &Rows,
     places: &Places,
     out: &mut Rows,
 ) -> Result<(), AllocError>
     requires star { IsRow star.now }
-    requires placed { Placed places.now groups.now }
-    ensures { OnOk result (out.new ≡ rows_of (star_first (pairs star.now) (grouped groups.now (vectors_in places.now.rows)))) }
+    requires placed { Placed places.now vectors.now groups.now }
+    ensures { OnOk result (out.new ≡ rows_of (star_first (pairs star.now)
+        (grouped groups.now (vectors_at vectors.now places.now.numbers.items)))) }
 {
-    let words = pictures.saturating_add(places.rows.words());
+    let words = pictures.saturating_add(vectors.words());
     begin(star, groups.len(), words, out)?;
     for k in 0..groups.len() {
         groups[k].place(out)?;
-        out.place(places.vector(k))?;
+        out.place(places.vector(vectors, k))?;
     }
     Ok(())
 }
 
-// No groups yet and no index, with room for so many, whose rows have about so many words together.
-fn no_groups(
-    alloc: Global,
-    count: usize,
-    words: usize,
-) -> Result<(Vec<Group>, Places, Vec<IndexEntry>), AllocError>
-    ensures groups { IfOk result (λ all. all.0.items ≡ []) }
-    ensures placed { IfOk result (λ all. Placed all.1 all.0.items) }
-    ensures index { IfOk result (λ all. all.2.items ≡ []) }
-{
-    let rows = Rows::with_room(alloc, count.saturating_mul(2), words)?;
-    let places = Places::new(alloc, rows, count, count)?;
-    let groups = Vec::with_capacity(alloc, count)?;
-    let index = Vec::with_capacity(alloc, count)?;
-    Ok((groups, places, index))
-}
-
-// The groups of the union of two sides, whose star is given, and their index.
+// The groups of the union of two sides, whose star is given, found by their vectors, which stand in rows; and their index.
 fn groups(
     alloc: Global,
     left: &Rows,
@@ -128,25 +113,26 @@ fn groups(
     right: &Rows,
     right_index: &[IndexEntry],
     star: &[u64],
-) -> Result<(Vec<Group>, Places, Vec<IndexEntry>), AllocError>
+    vectors: &mut Rows,
+    places: &mut Places,
+) -> Result<(Vec<Group>, Vec<IndexEntry>), AllocError>
     requires left_rows { AreRows left.now }
     requires right_rows { AreRows right.now }
     requires left { IsSide (fragments_of left.now) left_index.now }
     requires right { IsSide (fragments_of right.now) right_index.now }
     requires star_row { IsRow star.now }
     requires star { pairs star.now ≡ pair_vector (fragments_of left.now) (fragments_of right.now) (0, 0) }
-    ensures placed { IfOk result (λ all. Placed all.1 all.0.items) }
-    ensures groups { IfOk result (λ all. grouped all.0.items (vectors_in all.1.rows)
+    requires empty { vectors.old ≡ [] }
+    requires none { places.old.numbers.items ≡ [] }
+    requires found { (rows : List (List ℕ)) → IsFound places.old rows }
+    ensures placed { IfOk result (λ all. Placed places.new vectors.new all.0.items) }
+    ensures groups { IfOk result (λ all. grouped all.0.items (vectors_at vectors.new places.new.numbers.items)
         ≡ groups_of (fragments_of left.now) (fragments_of right.now) left_index.now right_index.now) }
-    ensures index { IfOk result (λ all. all.2.items
+    ensures index { IfOk result (λ all. all.1.items
         ≡ index_of (fragments_of left.now) (fragments_of right.now) left_index.now right_index.now) }
 {
-    let count = pictures_together(left_index, right_index);
-    let words = left
-        .words()
-        .max(right.words())
-        .saturating_add(count.saturating_mul(2));
-    let (mut groups, mut places, mut index) = no_groups(alloc, count, words)?;
+    let mut groups = Vec::new(alloc);
+    let mut index = Vec::with_capacity(alloc, pictures_together(left_index, right_index))?;
     let mut room = Vec::new(alloc);
     let mut pairing = Pairing::new();
     while let Some((picture, (a, b))) = pairing.next(left_index, right_index) {
@@ -154,11 +140,11 @@ fn groups(
         if same_row(star, row) {
             continue;
         }
-        let k = add(alloc, &mut groups, &mut places, picture, row)?;
+        let k = add(alloc, &mut groups, vectors, places, picture, row)?;
         let number = to_u32(k + 1)?;
         index.push((picture, number))?;
     }
-    Ok((groups, places, index))
+    Ok((groups, index))
 }
 
 /// Writes the normal form of what either side denotes, and gives its index. The left's bounds have marks.
@@ -176,7 +162,6 @@ pub(crate) fn union(
     requires left { IsSide (fragments_of left.now) left_index.now }
     requires right { IsSide (fragments_of right.now) right_index.now }
     requires normal { is_normal (fragments_of left.now) ≡ true }
-    requires listed { IsIndex left_index.now (fragments_of left.now) }
     requires seen { IsSeen seen.now.words.items left.now }
     ensures rows { OnOk result (AreRows out.new) }
     ensures union { IfOk result (λ index. IsUnion (fragments_of left.now) left_index.now (fragments_of right.now) right_index.now
@@ -184,14 +169,23 @@ pub(crate) fn union(
 {
     let mut room = Vec::new(alloc);
     let star = pair(left, left_index, right, right_index, 0, 0, &mut room)?;
-    if let Some(index) = carried(alloc, left, left_index, right, right_index, star, seen, out)? {
+    if let Some(index) = apart(alloc, left, left_index, right, right_index, star, seen, out)? {
         return Ok(index);
     }
-    if let Some(index) = apart(alloc, left, left_index, right, right_index, star, out)? {
-        return Ok(index);
-    }
-    let (listed, places, index) = groups(alloc, left, left_index, right, right_index, star)?;
-    write(star, &listed, index.len(), &places, out)?;
+    let buckets = pictures_together(left_index, right_index);
+    let mut vectors = Rows::new(alloc);
+    let mut places = Places::new(alloc, 0, buckets)?;
+    let (listed, index) = groups(
+        alloc,
+        left,
+        left_index,
+        right,
+        right_index,
+        star,
+        &mut vectors,
+        &mut places,
+    )?;
+    write(star, &listed, index.len(), &vectors, &places, out)?;
     Ok(index)
 }
 

@@ -1,8 +1,8 @@
 use Rattle.std.proofs.Common.{ℕ}
 use Rattle.item_knowledge.specs.Gathering.{paired, pair_vector, groups_of, index_of}
 use Rattle.item_knowledge.specs.Pairing.{to_come, IsAlong}
-use Rattle.item_knowledge.specs.Places.{Placed}
-use Rattle.item_knowledge.specs.Rows.{fragments_of, grouped, vectors_in}
+use Rattle.item_knowledge.specs.Places.{Placed, vectors_at}
+use Rattle.item_knowledge.specs.Rows.{fragments_of, grouped}
 use Rattle.item_knowledge.proofs.OnTheWay.{IsGathered}
 use Rattle.item_knowledge.proofs.union.groups.Given as goal
 
@@ -10,9 +10,9 @@ abbrev pub invariant-loop-picture : goal.invariant-loop-picture
 invariant-loop-picture l = record {
   place : ℕ;
   along : IsAlong l.left_index l.right_index l.pairing place;
-  gathered : IsGathered (pair_vector (fragments_of l.left) (fragments_of l.right) (0, 0)) (pair_vector (fragments_of l.left) (fragments_of l.right)) (paired l.left_index l.right_index) (grouped l.groups.items (vectors_in l.places.rows)) l.index.items place
+  gathered : IsGathered (pair_vector (fragments_of l.left) (fragments_of l.right) (0, 0)) (pair_vector (fragments_of l.left) (fragments_of l.right)) (paired l.left_index l.right_index) (grouped l.groups.items (vectors_at l.vectors l.places.numbers.items)) l.index.items place
       (groups_of (fragments_of l.left) (fragments_of l.right) l.left_index l.right_index) (index_of (fragments_of l.left) (fragments_of l.right) l.left_index l.right_index);
-  placed : Placed l.places l.groups.items;
+  placed : Placed l.places l.vectors l.groups.items;
 }
 
 abbrev pub decreases-loop-picture : goal.decreases-loop-picture

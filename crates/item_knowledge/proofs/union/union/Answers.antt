@@ -1,53 +1,38 @@
 use Rattle.std.proofs.Common.{rules, ◌≡◌, ap, sym, subst, ◌∙◌}
 use Rattle.item_knowledge.specs.Gathering.{pair_vector, groups_of, index_of, star_first}
-use Rattle.item_knowledge.specs.Rows.{pairs, rows_of, fragments_of, AreRows, grouped, vectors_in}
+use Rattle.item_knowledge.specs.Rows.{pairs, rows_of, fragments_of, AreRows, grouped}
+use Rattle.item_knowledge.specs.Places.{vectors_at}
 use Rattle.item_knowledge.proofs.RowLemmas.{rows_rows, fragments_rows}
 use Rattle.item_knowledge.proofs.UnionLemmas.{union_made}
 use Rattle.item_knowledge.proofs.union.union.Goals as goal
 
 pub returns-clause-rows : goal.returns-clause-rows
 returns-clause-rows c =
-    let written : c.write.new.out ≡ rows_of (star_first (pairs c.in_ok-star.star.now) (grouped c.in_ok-listed.listed.items (vectors_in c.in_ok-listed.places.rows))) = search rules in
-    subst AreRows (sym written) (rows_rows (star_first (pairs c.in_ok-star.star.now) (grouped c.in_ok-listed.listed.items (vectors_in c.in_ok-listed.places.rows))))
+    let written : c.write.new.out ≡ rows_of (star_first (pairs c.in_ok-star.star.now) (grouped c.in_ok-listed.listed.items (vectors_at c.groups.new.vectors c.groups.new.places.numbers.items))) = search rules in
+    subst AreRows (sym written) (rows_rows (star_first (pairs c.in_ok-star.star.now) (grouped c.in_ok-listed.listed.items (vectors_at c.groups.new.vectors c.groups.new.places.numbers.items))))
 
 pub returns-clause-union : goal.returns-clause-union
 returns-clause-union c =
-    let written : c.write.new.out ≡ rows_of (star_first (pairs c.in_ok-star.star.now) (grouped c.in_ok-listed.listed.items (vectors_in c.in_ok-listed.places.rows))) = search rules in
+    let written : c.write.new.out ≡ rows_of (star_first (pairs c.in_ok-star.star.now) (grouped c.in_ok-listed.listed.items (vectors_at c.groups.new.vectors c.groups.new.places.numbers.items))) = search rules in
     let star : pairs c.in_ok-star.star.now ≡ pair_vector (fragments_of c.args.left.now) (fragments_of c.args.right.now) (0, 0) = search rules in
-    let groups : grouped c.in_ok-listed.listed.items (vectors_in c.in_ok-listed.places.rows) ≡ groups_of (fragments_of c.args.left.now) (fragments_of c.args.right.now) c.args.left_index.now c.args.right_index.now = search rules in
+    let groups : grouped c.in_ok-listed.listed.items (vectors_at c.groups.new.vectors c.groups.new.places.numbers.items) ≡ groups_of (fragments_of c.args.left.now) (fragments_of c.args.right.now) c.args.left_index.now c.args.right_index.now = search rules in
     let index : c.in_ok-listed.index.items ≡ index_of (fragments_of c.args.left.now) (fragments_of c.args.right.now) c.args.left_index.now c.args.right_index.now = search rules in
     union_made (fragments_of c.args.left.now) (fragments_of c.args.right.now) (fragments_of c.write.new.out) c.args.left_index.now c.args.right_index.now c.in_ok-listed.index.items
     c.requires.left c.requires.right
-    (ap fragments_of written ∙ (fragments_rows (star_first (pairs c.in_ok-star.star.now) (grouped c.in_ok-listed.listed.items (vectors_in c.in_ok-listed.places.rows))) ∙ (λ i. star_first (star i) (groups i)))) index
+    (ap fragments_of written ∙ (fragments_rows (star_first (pairs c.in_ok-star.star.now) (grouped c.in_ok-listed.listed.items (vectors_at c.groups.new.vectors c.groups.new.places.numbers.items))) ∙ (λ i. star_first (star i) (groups i)))) index
 
 pub returns-in-Some-clause-rows : goal.returns-in-Some-clause-rows
 returns-in-Some-clause-rows c =
     let fs = star_first (pairs c.in_ok-star.star.now) (groups_of (fragments_of c.args.left.now) (fragments_of c.args.right.now) c.args.left_index.now c.args.right_index.now) in
-    let written : c.carried.new.out ≡ rows_of fs = search rules in
+    let written : c.apart.new.out ≡ rows_of fs = search rules in
     subst AreRows (sym written) (rows_rows fs)
 
 pub returns-in-Some-clause-union : goal.returns-in-Some-clause-union
 returns-in-Some-clause-union c =
     let groups = groups_of (fragments_of c.args.left.now) (fragments_of c.args.right.now) c.args.left_index.now c.args.right_index.now in
-    let written : c.carried.new.out ≡ rows_of (star_first (pairs c.in_ok-star.star.now) groups) = search rules in
-    let star : pairs c.in_ok-star.star.now ≡ pair_vector (fragments_of c.args.left.now) (fragments_of c.args.right.now) (0, 0) = c.in_ok-star.ensures.entries in
-    let index : c.in-Some.index.items ≡ index_of (fragments_of c.args.left.now) (fragments_of c.args.right.now) c.args.left_index.now c.args.right_index.now = search rules in
-    union_made (fragments_of c.args.left.now) (fragments_of c.args.right.now) (fragments_of c.carried.new.out) c.args.left_index.now c.args.right_index.now c.in-Some.index.items
-    c.requires.left c.requires.right
-    (ap fragments_of written ∙ (fragments_rows (star_first (pairs c.in_ok-star.star.now) groups) ∙ (λ i. star_first (star i) groups))) index
-
-pub returns-in-Some-2-clause-rows : goal.returns-in-Some-2-clause-rows
-returns-in-Some-2-clause-rows c =
-    let fs = star_first (pairs c.in_ok-star.star.now) (groups_of (fragments_of c.args.left.now) (fragments_of c.args.right.now) c.args.left_index.now c.args.right_index.now) in
-    let written : c.apart.new.out ≡ rows_of fs = search rules in
-    subst AreRows (sym written) (rows_rows fs)
-
-pub returns-in-Some-2-clause-union : goal.returns-in-Some-2-clause-union
-returns-in-Some-2-clause-union c =
-    let groups = groups_of (fragments_of c.args.left.now) (fragments_of c.args.right.now) c.args.left_index.now c.args.right_index.now in
     let written : c.apart.new.out ≡ rows_of (star_first (pairs c.in_ok-star.star.now) groups) = search rules in
     let star : pairs c.in_ok-star.star.now ≡ pair_vector (fragments_of c.args.left.now) (fragments_of c.args.right.now) (0, 0) = c.in_ok-star.ensures.entries in
-    let index : c.in-Some-2.index.items ≡ index_of (fragments_of c.args.left.now) (fragments_of c.args.right.now) c.args.left_index.now c.args.right_index.now = search rules in
-    union_made (fragments_of c.args.left.now) (fragments_of c.args.right.now) (fragments_of c.apart.new.out) c.args.left_index.now c.args.right_index.now c.in-Some-2.index.items
+    let index : c.in-Some.index.items ≡ index_of (fragments_of c.args.left.now) (fragments_of c.args.right.now) c.args.left_index.now c.args.right_index.now = search rules in
+    union_made (fragments_of c.args.left.now) (fragments_of c.args.right.now) (fragments_of c.apart.new.out) c.args.left_index.now c.args.right_index.now c.in-Some.index.items
     c.requires.left c.requires.right
     (ap fragments_of written ∙ (fragments_rows (star_first (pairs c.in_ok-star.star.now) groups) ∙ (λ i. star_first (star i) groups))) index

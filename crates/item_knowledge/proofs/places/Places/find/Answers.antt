@@ -1,19 +1,25 @@
 use Rattle.std.proofs.Common.{◌≡◌, ◌<◌, length, get_or, sym, subst, ◌∙◌, arith}
 use Rattle.std.proofs.lemmas.Grind.{get_or_default_zero}
-use Rattle.item_knowledge.specs.Rows.{vectors_in}
+use Rattle.item_knowledge.specs.Places.{vectors_at}
 use Rattle.item_knowledge.proofs.ChainLemmas.{bucket_below, along_first}
 use Rattle.item_knowledge.proofs.places.Places.find.Goals as goal
 
 pub index-requires : goal.index-requires
 index-requires c =
-    let below : c.args.bucket < length c.args.self.now.heads.items = subst (λ b. b < length c.args.self.now.heads.items) (sym c.requires.bucket) (bucket_below c.args.self.now.heads.items c.args.self.now.before.items (vectors_in c.args.self.now.rows) c.args.row.now c.requires.found.placed) in
+    let below : c.bucket-bucket.result < length c.args.self.now.heads.items = subst (λ b. b < length c.args.self.now.heads.items) (sym c.bucket-bucket.ensures) (bucket_below c.args.self.now.heads.items c.args.self.now.before.items (vectors_at c.args.rows.now c.args.self.now.numbers.items) c.args.row.now c.requires.placed) in
     omega (arith, c.args.self.now.heads.ok)
 
 pub loop-place-init : goal.loop-place-init
 loop-place-init c =
-    let below : c.args.bucket < length c.args.self.now.heads.items = subst (λ b. b < length c.args.self.now.heads.items) (sym c.requires.bucket)
-    (bucket_below c.args.self.now.heads.items c.args.self.now.before.items (vectors_in c.args.self.now.rows) c.args.row.now c.requires.found.placed) in
-    let head : c.index.result.now ≡ get_or c.args.self.now.heads.items c.args.bucket 0 = c.index.ensures ∙ get_or_default_zero c.args.self.now.heads.items c.args.bucket c.index.result.now below in
+    let below : c.bucket-bucket.result < length c.args.self.now.heads.items = subst (λ b. b < length c.args.self.now.heads.items) (sym c.bucket-bucket.ensures)
+    (bucket_below c.args.self.now.heads.items c.args.self.now.before.items (vectors_at c.args.rows.now c.args.self.now.numbers.items) c.args.row.now c.requires.placed) in
+    let head : c.index.result.now ≡ get_or c.args.self.now.heads.items c.bucket-bucket.result 0 = c.index.ensures ∙ get_or_default_zero c.args.self.now.heads.items c.bucket-bucket.result c.index.result.now below in
     record {
-      along = along_first c.args.self.now.heads.items c.args.self.now.before.items (vectors_in c.args.self.now.rows) c.args.row.now c.args.bucket c.index.result.now c.requires.found.placed c.requires.bucket below head;
+      along = along_first c.args.self.now.heads.items c.args.self.now.before.items (vectors_at c.args.rows.now c.args.self.now.numbers.items) c.args.row.now c.bucket-bucket.result c.index.result.now c.requires.placed c.bucket-bucket.ensures below head;
     }
+
+pub returns-then-eq-clause-inside : goal.returns-then-eq-clause-inside
+returns-then-eq-clause-inside c = subst (λ b. b < length c.args.self.now.heads.items) (sym c.bucket-bucket.ensures) (bucket_below c.args.self.now.heads.items c.args.self.now.before.items (vectors_at c.args.rows.now c.args.self.now.numbers.items) c.args.row.now c.requires.placed)
+
+pub returns-clause-inside : goal.returns-clause-inside
+returns-clause-inside c = subst (λ b. b < length c.args.self.now.heads.items) (sym c.bucket-bucket.ensures) (bucket_below c.args.self.now.heads.items c.args.self.now.before.items (vectors_at c.args.rows.now c.args.self.now.numbers.items) c.args.row.now c.requires.placed)

@@ -1,6 +1,6 @@
 use Rattle.std.proofs.Common.{arith}
 use Rattle.item_knowledge.proofs.RowLemmas.{rows_read}
-use Rattle.item_knowledge.proofs.carry.run_to.Goals as goal
+use Rattle.item_knowledge.proofs.apart.run_to.Goals as goal
 
 pub overflow_mul-from : goal.overflow_mul-from
 overflow_mul-from c =

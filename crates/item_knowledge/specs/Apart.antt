@@ -1,0 +1,71 @@
+-- Machinery of the proofs: a union in which each picture that is listed has a fragment of its own.
+use Rattle.std.specs.Prelude.{◌≡◌, ℕ, suc, Bool, true, false, ◌+◌, ◌*◌, ◌<◌, ◌⊎◌, if◌then◌else◌, List, [], ◌∷◌, length, get_or}
+use Rattle.item_knowledge.specs.Entries.{Entry, leq, same_entries}
+use Rattle.item_knowledge.specs.Fragments.{Fragment, first, nothing, entries_at}
+use Rattle.item_knowledge.specs.Gathering.{paired, pair_vector, star_first}
+use Rattle.item_knowledge.specs.Rows.{fragments_of, rows_of}
+use Rattle.item_knowledge.specs.Seen.{has_unseen}
+
+-- the pictures of a table, each in a fragment of its own, but for those with the star's vector
+abbrev pub singles : List Entry → (ℕ × ℕ → List Entry) → List (ℕ × (ℕ × ℕ)) → List Fragment
+singles star vector [] = []
+singles star vector (r ∷ rs) =
+    if same_entries star (vector r.1) then singles star vector rs else record { pictures = r.0 ∷ []; entries = vector r.1 } ∷ singles star vector rs
+
+-- beside the first picture of each fragment its number
+abbrev pub numbered : ℕ → List Fragment → List (ℕ × ℕ)
+numbered n [] = []
+numbered n (g ∷ gs) = (first g.pictures, n) ∷ numbered (suc n) gs
+
+-- the union of two sides, written so
+abbrev pub spread_of : List Fragment → List Fragment → List (ℕ × ℕ) → List (ℕ × ℕ) → List Fragment
+spread_of fs gs xs ys = singles (pair_vector fs gs (0, 0)) (pair_vector fs gs) (paired xs ys)
+
+-- the right's fragment b is the star, or has nothing beyond the left's a
+abbrev pub AddsNothing : List Fragment → List Fragment → ℕ → ℕ → Type 0
+AddsNothing fs gs a b = (b ≡ 0) ⊎ (leq (entries_at gs b) (entries_at fs a) ≡ true)
+
+-- the left's fragment a comes as it stands: it has this picture alone, and the right has nothing more than it and the left's star
+pub record Stays (rows others : List (List ℕ)) (is_raised : Bool) (picture a b : ℕ) : Type 0 where
+  pub level : is_raised ≡ false
+  pub beside : 0 < a
+  pub alone : get_or rows (2 * a) [] ≡ picture ∷ []
+  pub nothing : AddsNothing (fragments_of rows) (fragments_of others) a b
+
+-- a fragment is one of the left's
+pub record FromLeft (left : List (List ℕ)) (g : Fragment) : Type 0 where
+  pub number : ℕ
+  pub beside : 0 < number
+  pub there : number < length (fragments_of left)
+  pub alone : get_or left (2 * number) [] ≡ g.pictures
+  pub is : entries_at (fragments_of left) number ≡ g.entries
+
+-- a number is listed
+pub record IsListed (listed : List (ℕ × ℕ)) (number : ℕ) : Type 0 where
+  pub place : ℕ
+  pub there : place < length listed
+  pub is : (get_or listed place (0, 0)).1 ≡ number
+
+-- what is listed are numbers of fragments
+abbrev pub AreThere : List (List ℕ) → List (ℕ × ℕ) → Type 0
+AreThere rows listed = (m : ℕ) → m < length listed → (get_or listed m (0, 0)).1 < length (fragments_of rows)
+
+-- the fragments that are listed have different vectors
+abbrev pub AreApart : List (List ℕ) → List (ℕ × ℕ) → Type 0
+AreApart rows listed = (j k : ℕ) → j < k → k < length listed
+    → get_or rows (2 * (get_or listed j (0, 0)).1 + 1) [] ≡ get_or rows (2 * (get_or listed k (0, 0)).1 + 1) [] → ⊥
+
+-- each fragment that is listed has a bound above the left's star without a mark
+abbrev pub AreUnseen : List (List ℕ) → List ℕ → List (List ℕ) → List (ℕ × ℕ) → Type 0
+AreUnseen left words rows listed = (m : ℕ) → m < length listed → has_unseen words (entries_at (fragments_of left) 0) (entries_at (fragments_of rows) (get_or listed m (0, 0)).1) ≡ true
+
+-- all fragments of an index have different vectors, or those that were joined have, and none of these is the left's
+abbrev pub AreTold : List (List ℕ) → List ℕ → List (List ℕ) → List (ℕ × ℕ) → List (ℕ × ℕ) → Type 0
+AreTold left words rows index joined = AreApart rows index ⊎ (AreUnseen left words rows joined × AreApart rows joined)
+
+-- rows of a star and of fragments with their index, of which each is listed as joined or is one of the left's
+pub record IsSpread (left : List (List ℕ)) (star : List Entry) (gs : List Fragment) (rows : List (List ℕ)) (index joined : List (ℕ × ℕ)) : Type 0 where
+  pub rows_are : rows ≡ rows_of (star_first star gs)
+  pub index_is : index ≡ numbered 1 gs
+  pub origins : (k : ℕ) → k < length gs → IsListed joined (suc k) ⊎ FromLeft left (get_or gs k nothing)
+  pub there : (m : ℕ) → m < length joined → (get_or joined m (0, 0)).1 < suc (length gs)
