@@ -1,20 +1,12 @@
 -- What is found of what a device holds shows an entry.
-use Rattle.std.proofs.Common.{◌≡◌, ℕ, Bool, true, false, not, cond, eqb, ◌&&◌, List, [], ◌∷◌, ◌++◌, refl, ap, ◌∙◌, inl, inr}
-use Rattle.std.specs.Prelude.{Some, None}
-use Rattle.std.specs.List.{find}
-use Rattle.std.specs.Option.{option_map, option_or}
-use Rattle.std.proofs.lemmas.Bool.{cases_Bool, and_from, eq-eqb}
-use Rattle.std.proofs.lemmas.List.Folds.{find-append}
-use Rattle.photo_record.specs.declared.record.Record.{Record}
-use Rattle.photo_filter_rules.specs.Matching.{matches}
-use Rattle.photo_version.specs.Version.{Version, same_version}
+use Rattle.std.proofs.Common.{◌≡◌, ℕ, true, false, cond, List, [], ◌∷◌, ◌++◌, refl, ap, ◌∙◌}
+use Rattle.std.specs.Prelude.{Some}
+use Rattle.std.specs.Option.{option_map}
+use Rattle.photo_version.specs.Version.{Version}
 use Rattle.photo_device.specs.declared.held.Held.{Held}
-use Rattle.photo_device.specs.Ordered.{put}
-use Rattle.photo_device.specs.Entry.{Entry, entry_before, others, put_entry, put_entry_if, find_entry}
+use Rattle.photo_device.specs.Entry.{find_entry}
 use Rattle.photo_device.specs.Held.{entry_of, entries_of, is_of, find_version_of}
-use Rattle.photo_device.specs.Device.{Kept, ModelDevice, Shows, holds, made, next_version, new_entry}
-use Rattle.photo_device.proofs.Counts.{same_version_self}
-use Rattle.photo_device.proofs.Inserting.{found_later}
+use Rattle.photo_device.specs.Device.{Kept, ModelDevice, Shows, holds}
 
 -- what is found shows the entry that is found
 

@@ -1,10 +1,7 @@
 -- What a set takes, and how it gives it back.
-use Rattle.std.proofs.Common.{◌≡◌, ℕ, ◌+◌, ◌≤◌, Bool, true, false, not, cond, ◌||◌, List, [], ◌∷◌, ◌++◌, length, get_or, drop, ◌<◌, refl, sym, ap, ◌∙◌, ◌⊎◌, subst, inl, inr, arith}
+use Rattle.std.proofs.Common.{◌≡◌, ◌+◌, ◌≤◌, Bool, true, false, not, cond, ◌||◌, List, [], ◌∷◌, ◌++◌, refl, sym, ap, ◌∙◌, ◌⊎◌, subst, inl, inr, arith}
 use Rattle.std.specs.Prelude.{filter, Some, None}
-use Rattle.std.specs.List.{AllByRecursion}
 use Rattle.std.specs.Cmp.{IsStrictWeakOrder}
-use Rattle.std.proofs.Math.Bool.{or-true}
-use Rattle.std.proofs.lemmas.List.{drop_more, drop_all}
 use Rattle.std.proofs.lemmas.Bool.{cases_Bool, false≢true}
 use Rattle.photo_filter_text.specs.Tree.{Tree}
 use Rattle.photo_version.specs.Version.{Version, same_version}
@@ -14,7 +11,7 @@ use Rattle.photo_device.specs.Held.{held_before, count_of, find_version, is_list
 use Rattle.photo_device.specs.Taking.{is_on_side, AreNewTo, with_side}
 use Rattle.photo_device.proofs.Counts.{one_of, count_of-cons, count_of-append, count_of-put, count_of-filter, same_version_is, same_version_self}
 use Rattle.photo_device.proofs.Lexical.{held_order, held_apart}
-use Rattle.photo_device.proofs.Putting.{follows, filter-put_out}
+use Rattle.photo_device.proofs.Putting.{follows}
 
 module _ {A : Type 0} {before : A → A → Bool} (order : IsStrictWeakOrder before) where
   put_past : (x z : A) (zs : List A) → before z x ≡ true → put before x (z ∷ zs) ≡ z ∷ put before x zs

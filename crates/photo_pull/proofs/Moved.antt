@@ -6,7 +6,7 @@ use Rattle.std.specs.List.Sorted.{IsPermutation}
 use Rattle.std.proofs.lemmas.List.Sorted.{list_any-IsPermutation}
 use Rattle.photo_version.specs.Version.{Version, Versions, same_version}
 use Rattle.photo_device.specs.Entry.{Entry, without, put_entries}
-use Rattle.photo_device.specs.Device.{ModelDevice, selects, changed, without_waiting}
+use Rattle.photo_device.specs.Device.{ModelDevice, selects, changed}
 
 without_moved : (vs ws : List Version) → IsPermutation vs ws → (es : List Entry) → without ws es ≡ without vs es
 without_moved vs ws moved es = λ i. filter (λ e. not (sym (list_any-IsPermutation (λ v. same_version v e.version) vs ws moved) i)) es

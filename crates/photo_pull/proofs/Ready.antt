@@ -1,5 +1,5 @@
 -- Two devices between which a pull may be: what they hold in common is of one picture.
-use Rattle.std.proofs.Common.{◌≡◌, Bool, true, eqb, ◌++◌, Some, refl, sym, subst}
+use Rattle.std.proofs.Common.{◌≡◌, true, eqb, ◌++◌, Some, refl, sym, subst}
 use Rattle.std.proofs.lemmas.Bool.{eqb-true, eq-eqb, and_parts, and_from}
 use Rattle.photo_version.specs.Author.{same_author}
 use Rattle.photo_version.specs.Version.{Version, same_version}
