@@ -1,6 +1,6 @@
 -- Searches along a list in order, from a place on.
-use Rattle.std.proofs.Common.{◌≡◌, ℕ, zero, suc, ◌<◌, ◌≤◌, true, false, ◌||◌, List, [], ◌∷◌, length, get_or, drop, refl, sym, ap, ◌∙◌, arith}
-use Rattle.std.proofs.lemmas.Bool.{ne_eqb}
+use Rattle.std.proofs.Common.{◌≡◌, ℕ, zero, suc, ◌<◌, ◌≤◌, true, false, eqb, ◌||◌, List, [], ◌∷◌, length, get_or, drop, refl, sym, ap, ◌∙◌, arith}
+use Rattle.std.proofs.lemmas.Bool.{ne_eqb, eqb-true}
 use Rattle.photo_device.specs.declared.held.Held.{Held}
 use Rattle.photo_device.specs.Held.{are_in_order}
 use Rattle.photo_device.proofs.Order.{rises}
@@ -42,3 +42,8 @@ greater_from xs k w h order within is greater = none_from xs k h
     let rise = rises xs order k i d g l in
     let first = same_picture xs k w d within is in
     omega arith)
+
+-- nothing in an empty list supersedes it
+pub none_above : (xs : List Held) (h : Held) → eqb (length xs) 0 ≡ true → has_above xs h ≡ false
+none_above [] h none = refl
+none_above (x ∷ xs) h none = let zero_length = eqb-true (length (x ∷ xs)) 0 none in absurd (omega arith)

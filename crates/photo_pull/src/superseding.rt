@@ -39,6 +39,10 @@ pub(crate) fn any_above(list: &[SharedHeld], held: &SharedHeld) -> bool
     requires { are_in_order list.now ≡ true }
     ensures { result ≡ has_above list.now held.now }
 {
+    // Most often nothing is new in one of a source's two sets.
+    if list.is_empty() {
+        return false;
+    }
     any_made_with(of_picture(list, held.picture()), held.version())
 }
 
