@@ -1,6 +1,6 @@
 -- What printed lines say one after another.
-use Rattle.std.proofs.Common.{◌≡◌, ◌≢◌, ℕ, suc, ◌+◌, ◌<◌, ◌≤◌, Bool, true, false, cond, eqb, List, [], ◌∷◌, ◌++◌, length, get_or, map, Option, Some, None, Result, Ok, Err, codes, refl, sym, ap, subst, ◌∙◌, append_assoc, length-append, zero-add, arith}
-use Rattle.std.specs.List.{All, AllByRecursion, flat_map, list_any}
+use Rattle.std.proofs.Common.{◌≡◌, ℕ, ◌+◌, ◌<◌, ◌≤◌, true, false, cond, eqb, List, [], ◌∷◌, ◌++◌, length, get_or, map, Option, Some, None, Result, Ok, Err, codes, refl, sym, ap, subst, ◌∙◌, append_assoc, length-append, zero-add, arith}
+use Rattle.std.specs.List.{AllByRecursion, list_any}
 use Rattle.std.specs.Option.{option_to_list}
 use Rattle.std.proofs.lemmas.Bool.{ne_eqb}
 use Rattle.std.proofs.lemmas.List.{append-nil, get_or_at, get_or_append_left}
@@ -10,7 +10,7 @@ use Rattle.std.proofs.lemmas.List.Folds.{list_any_none}
 use Rattle.std.proofs.lemmas.List.Sums.{sum_by-append}
 use Rattle.photo_filter_text.specs.Tree.{Tree}
 use Rattle.photo_filter_text.specs.Printed.{◌␣◌, text_of}
-use Rattle.photo_filter_rules.specs.Filters.{IsFilterOf, filter_of}
+use Rattle.photo_filter_rules.specs.Filters.{filter_of}
 use Rattle.photo_filter_rules.proofs.Found.{found}
 use Rattle.photo_script.specs.Contents.{Contents}
 use Rattle.photo_script.specs.Earlier.{Earlier, earlier, declared_by, filter_declared_by, made_by, is_command, names_of, filters_of, pictures_of, commands_of}
@@ -25,8 +25,8 @@ use Rattle.photo_script.specs.declared.fault.ScriptFault.{ScriptFault}
 use Rattle.script_text.specs.Texts.{line_of_command, line_of_device, lines_of_devices}
 use Rattle.script_text.specs.Printable.{FitsFilter, made_in, pictures_made, AllDiffer, IsShort}
 use Rattle.script_text.proofs.Bytes.{is_from, from-append}
-use Rattle.script_text.proofs.Cuts.{IsField, field-first, third-on}
-use Rattle.script_text.proofs.FilterBytes.{filter-plain, BeginsField, filter-begins}
+use Rattle.script_text.proofs.Cuts.{field-first, third-on}
+use Rattle.script_text.proofs.FilterBytes.{filter-plain, filter-begins}
 use Rattle.script_text.proofs.NameBytes.{name-field, unplaced}
 use Rattle.script_text.proofs.SaidKinds.{device-line}
 use Rattle.script_text.proofs.CommandLines.{IsBefore, IsLineOf, fields-said, field-plain, word}

@@ -1,11 +1,10 @@
 -- What the line of each kind of command says.
-use Rattle.std.proofs.Common.{◌≡◌, ◌≢◌, ℕ, ℤ, ◌+◌, ◌<◌, ◌≤◌, Bool, true, false, eqb, List, [], ◌∷◌, ◌++◌, length, get_or, Option, Some, Ok, codes, refl, sym, ap, subst, ◌∙◌, arith}
+use Rattle.std.proofs.Common.{◌≡◌, ◌≢◌, ℕ, ℤ, ◌<◌, ◌≤◌, true, false, List, [], ◌∷◌, length, Some, Ok, codes, refl, sym, ap, subst, ◌∙◌, arith}
 use Rattle.std.specs.Prelude.{IfSome}
 use Rattle.std.specs.Fmt.{decimal}
 use Rattle.std.specs.List.{AllByRecursion, join_with_byte}
 use Rattle.std.proofs.lemmas.Bool.{cond-false, le-ltb, ne_eqb}
 use Rattle.photo_record.specs.Limits.{IsPicNo, IsDay, max_rating}
-use Rattle.photo_record.specs.declared.record.Record.{Record}
 use Rattle.photo_record.specs.declared.record.Record.TheVariants as content
 use Rattle.photo_filter_text.specs.Tree.{Tree}
 use Rattle.photo_filter_text.specs.Printed.{◌␣◌, text_of, date_text}
@@ -21,13 +20,13 @@ use Rattle.photo_script.specs.Reports.{name_of, version_text, words_text}
 use Rattle.photo_script.specs.Saying.{said, fields_said, device_said}
 use Rattle.photo_script.specs.declared.command.Command.{Command}
 use Rattle.photo_script.specs.declared.command.Command.TheVariants as command
-use Rattle.script_text.specs.Texts.{record_text, line_of_command}
-use Rattle.script_text.specs.Printable.{FitsVersion, FitsRecord, FitsFilter, FitsCommand, made_in, AllDiffer, IsShort, AreWords, HasWords, HasValues}
+use Rattle.script_text.specs.Texts.{line_of_command}
+use Rattle.script_text.specs.Printable.{FitsVersion, FitsFilter, FitsCommand, made_in, AllDiffer, IsShort, AreWords, HasValues}
 use Rattle.script_text.proofs.Bytes.{is_from, from-append, from-weaker}
 use Rattle.script_text.proofs.Cuts.{IsField, fields-joined, joined-from, field-first, third-on}
 use Rattle.script_text.proofs.Digits.{decimal-field, number-back}
-use Rattle.script_text.proofs.FilterBytes.{date-field, filter-plain, BeginsField, filter-begins}
-use Rattle.script_text.proofs.SaidKinds.{device-line, new-line, edit-line, remove-line, pull-line, preview-line, narrow-line, refilter-line, list-line, conflicts-line, knowledge-line, knows-line}
+use Rattle.script_text.proofs.FilterBytes.{date-field, filter-plain, filter-begins}
+use Rattle.script_text.proofs.SaidKinds.{new-line, edit-line, remove-line, pull-line, preview-line, narrow-line, refilter-line, list-line, conflicts-line, knowledge-line, knows-line}
 use Rattle.script_text.proofs.NameBytes.{name-at, name-field}
 use Rattle.script_text.proofs.Saying.{are-spelt, record-said, picture-said, new_picture-said, device-said, version-said, version-field}
 use Rattle.script_text.proofs.Wording.{words-field}

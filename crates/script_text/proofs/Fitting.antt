@@ -1,5 +1,5 @@
 -- A script fits where its parts do.
-use Rattle.std.proofs.Common.{◌≡◌, ℕ, ◌≤◌, true, List, [], ◌∷◌, ◌++◌, length, map, Ok, IsUtf8, sym, ap, subst, ◌∙◌, arith}
+use Rattle.std.proofs.Common.{◌≡◌, ℕ, ◌≤◌, true, List, [], ◌∷◌, ◌++◌, length, map, Ok, IsUtf8, ap, subst, ◌∙◌, arith}
 use Rattle.std.specs.List.{AllByRecursion}
 use Rattle.photo_filter_text.specs.Tree.{Tree}
 use Rattle.photo_script.specs.Contents.{Contents, IsScript}

@@ -13,3 +13,4 @@ pub mod WordTurns
 pub mod LineTurns
 pub mod Differing
 pub mod Fitting
+pub mod WorkedExamples

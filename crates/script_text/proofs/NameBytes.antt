@@ -1,7 +1,7 @@
 -- The bytes of a name, and where it stands among others.
-use Rattle.std.proofs.Common.{◌≡◌, ◌≢◌, ℕ, suc, ◌+◌, ◌<◌, ◌≤◌, ◌⊎◌, inl, inr, Bool, true, false, cond, ◌&&◌, eqb, leb, ltb, List, [], ◌∷◌, ◌++◌, length, get_or, Option, Some, None, refl, sym, ap, ◌∙◌, arith}
+use Rattle.std.proofs.Common.{◌≡◌, ◌≢◌, ℕ, ◌<◌, ◌≤◌, inl, inr, true, false, cond, ◌&&◌, eqb, leb, ltb, List, [], ◌∷◌, ◌++◌, length, get_or, Some, None, refl, sym, ap, ◌∙◌, arith}
 use Rattle.std.specs.Char.{is_ascii_lowercase, is_ascii_digit}
-use Rattle.std.specs.List.{All, AllByRecursion, list_all, position_or_len}
+use Rattle.std.specs.List.{All, AllByRecursion, list_all}
 use Rattle.std.specs.Str.{bytes_eq}
 use Rattle.std.proofs.lemmas.Bool.{and_parts, or_cases, leb-true, ne_eqb, cond-true, cond-false, lt-ltb, le-ltb, false_from_ne_true}
 use Rattle.std.proofs.lemmas.List.{get_or_at, get_or_append_left, length-append}

@@ -1,5 +1,5 @@
 -- What the fields of a printed line say.
-use Rattle.std.proofs.Common.{◌≡◌, ◌≢◌, ℕ, ℤ, suc, ◌+◌, ◌<◌, ◌≤◌, Bool, true, false, cond, eqb, List, [], ◌∷◌, ◌++◌, length, get_or, Option, Some, None, Ok, codes, refl, sym, ap, subst, ◌∙◌, append_assoc, arith}
+use Rattle.std.proofs.Common.{◌≡◌, ◌≢◌, ℕ, ℤ, ◌<◌, ◌≤◌, Bool, true, false, eqb, List, [], ◌∷◌, ◌++◌, length, Some, None, Ok, codes, refl, sym, ap, subst, ◌∙◌, append_assoc, arith}
 use Rattle.std.specs.Fmt.{decimal}
 use Rattle.std.specs.List.{All, AllByRecursion, list_any, before_first, after_first}
 use Rattle.std.specs.Str.{IsUtf8}
@@ -8,7 +8,7 @@ use Rattle.std.proofs.lemmas.List.{append-nil}
 use Rattle.std.proofs.lemmas.List.Elements.{All-append, All-cons, All-nil, recursion_from_All}
 use Rattle.std.proofs.lemmas.List.Folds.{list_any_none}
 use Rattle.photo_record.specs.Limits.{max_rating, IsDay, IsPicNo}
-use Rattle.photo_record.specs.Word.{IsWord, IsWordSet}
+use Rattle.photo_record.specs.Word.{IsWord}
 use Rattle.photo_record.specs.declared.record.Record.TheVariants as content
 use Rattle.photo_filter_text.specs.Printed.{date_text}
 use Rattle.photo_filter_text.proofs.Digits.{date-read}
@@ -18,15 +18,15 @@ use Rattle.photo_version.proofs.AuthorLemmas.{parts_back}
 use Rattle.photo_script.specs.Contents.{Contents}
 use Rattle.photo_script.specs.Earlier.{Earlier}
 use Rattle.photo_script.specs.Limits.{max_version, max_epoch}
-use Rattle.photo_script.specs.Fields.{is_name, place_of, picture_of, is_colon, is_dot, cut_at, cut_at_colon, cut_at_dot, epoch_of, version_number_of}
+use Rattle.photo_script.specs.Fields.{is_name, place_of, is_colon, is_dot, cut_at_dot}
 use Rattle.photo_script.specs.Reports.{name_of, epoch_text, author_text, version_text, words_text}
 use Rattle.photo_script.specs.Saying.{or_fault, device_said, picture_said, new_picture_said, record_said, author_said, version_said}
 use Rattle.photo_script.specs.declared.fault.LineFault.TheVariants as fault
 use Rattle.script_text.specs.Printable.{AllDiffer, FitsVersion, AreWords}
-use Rattle.script_text.proofs.Bytes.{is_from, from-append, from-weaker, none-is, from-cons}
+use Rattle.script_text.proofs.Bytes.{is_from, from-append, none-is, from-cons}
 use Rattle.script_text.proofs.Cuts.{IsField, cut-there, some-append}
-use Rattle.script_text.proofs.Digits.{decimal-from, decimal-none, decimal-field, picture-read, epoch-read, version_number-read, rating-read}
-use Rattle.script_text.proofs.Wording.{IsSpelt, words-read, words-field}
+use Rattle.script_text.proofs.Digits.{decimal-none, decimal-field, picture-read, epoch-read, version_number-read, rating-read}
+use Rattle.script_text.proofs.Wording.{IsSpelt, words-read}
 use Rattle.script_text.proofs.NameBytes.{name-from, name-no_colon, name-field, placed}
 
 -- Records

@@ -1,6 +1,6 @@
 -- Words with commas between them, one more at a time.
-use Rattle.std.proofs.Common.{◌≡◌, ◌≢◌, ◌<◌, ◌≤◌, ◌+◌, ◌∷◌, ◌++◌, ℕ, List, [], length, take, get_or, slice_get, Some, refl, sym, ap, subst, ◌∙◌, append_assoc, IsUtf8, codes, arith}
-use Rattle.std.specs.List.{All, AllByRecursion, join_with_byte}
+use Rattle.std.proofs.Common.{◌≡◌, ◌≢◌, ◌<◌, ◌≤◌, ◌+◌, ◌∷◌, ◌++◌, ℕ, List, [], length, take, slice_get, Some, refl, sym, ap, subst, ◌∙◌, append_assoc, IsUtf8, codes, arith}
+use Rattle.std.specs.List.{All, join_with_byte}
 use Rattle.std.proofs.lemmas.List.{take_more, length-take-le, take_all}
 use Rattle.std.proofs.lemmas.List.Elements.{All-push, All-nil, recursion_from_All}
 use Rattle.std.proofs.lemmas.Option.{get_or_from_slice_get, slice_get_within}

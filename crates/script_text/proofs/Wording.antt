@@ -1,20 +1,20 @@
 -- Sets of words as they are written, and read back.
-use Rattle.std.proofs.Common.{◌≡◌, ◌≢◌, ℕ, zero, suc, ◌+◌, ◌<◌, ◌≤◌, Bool, true, false, cond, not, ◌||◌, eqb, leb, ltb, List, [], ◌∷◌, ◌++◌, length, get_or, chars, IsUtf8, encode_utf8_all, codes, Result, Ok, Err, refl, sym, ap, subst, ◌∙◌, append_assoc, arith, inl, inr}
+use Rattle.std.proofs.Common.{◌≡◌, ◌≢◌, ℕ, suc, ◌+◌, ◌<◌, ◌≤◌, Bool, true, false, cond, not, eqb, leb, ltb, List, [], ◌∷◌, ◌++◌, length, get_or, chars, IsUtf8, encode_utf8_all, codes, Ok, Err, refl, sym, ap, ◌∙◌, append_assoc, arith, inl, inr}
 use Rattle.std.specs.Cmp.{IsTotalOrder}
 use Rattle.std.specs.Cmp.Lexicographic.{slice_cmp, texts_ties}
 use Rattle.std.specs.declared.cmp.Ordering.{Ordering}
 use Rattle.std.specs.declared.cmp.Ordering.TheVariants.{Less, Equal, Greater}
-use Rattle.std.specs.List.{All, AllByRecursion, list_any, join_with_byte, slice_split}
+use Rattle.std.specs.List.{All, AllByRecursion, list_any, join_with_byte}
 use Rattle.std.specs.Ordering.{nat_cmp, is_lt, is_eq, ordering_reverse}
 use Rattle.std.specs.Str.{NonePass, NoCharPasses, bytes_eq}
-use Rattle.std.proofs.lemmas.Bool.{cases_lt, or_parts, or_from, and_parts, false≢true, lt-leb, leb-true, leb-false, false_from_ne_true, cond-false, ne_eqb}
+use Rattle.std.proofs.lemmas.Bool.{cases_lt, or_parts, or_from, and_parts, false≢true, leb-false, false_from_ne_true, cond-false, ne_eqb}
 use Rattle.std.proofs.lemmas.Cmp.{nat_list_cmp_total}
-use Rattle.std.proofs.lemmas.List.{append-nil, length-append}
-use Rattle.std.proofs.lemmas.List.Elements.{All-from_recursion, All-from_get_or}
+use Rattle.std.proofs.lemmas.List.{length-append}
+use Rattle.std.proofs.lemmas.List.Elements.{All-from_get_or}
 use Rattle.std.proofs.lemmas.List.Splits.{slice_split_at, slice_split_none}
 use Rattle.std.proofs.lemmas.Slice.Eq.{bytes_eq-Decides}
 use Rattle.std.proofs.lemmas.Str.{NoCharPasses-byte, encodes-chars}
-use Rattle.photo_record.specs.Word.{IsWord, IsWordSet, is_bad_character, word_before, is_rising, has_word, put_word}
+use Rattle.photo_record.specs.Word.{IsWord, is_bad_character, word_before, is_rising, has_word, put_word}
 use Rattle.photo_record.specs.Reading.{word_of_text, words_of_text, with_piece, with_pieces, pieces_of, is_dash, ◌>>=◌}
 use Rattle.photo_record.specs.declared.fault.WordFault.TheVariants.{Empty, BadCharacter, TooLong}
 use Rattle.unicode_normalization.specs.Forms.{nfc}
@@ -22,7 +22,7 @@ use Rattle.photo_record.proofs.ReadLemmas.{word_itself}
 use Rattle.photo_record.proofs.SetLemmas.{with_piece-absent, words_of_text-dash, words_of_text-pieces, rising_tail}
 use Rattle.photo_script.specs.Lines.{is_not_empty}
 use Rattle.photo_script.specs.Reports.{words_text}
-use Rattle.script_text.proofs.Bytes.{is_from, from-places, from-append, none-is}
+use Rattle.script_text.proofs.Bytes.{is_from, from-places, from-append}
 use Rattle.script_text.proofs.Cuts.{IsField}
 
 -- Bytes of a word

@@ -1,5 +1,5 @@
 -- Machinery of the proofs, which only contracts of private functions cite: what fits of the parts of a script's text.
-use Rattle.std.specs.Prelude.{◌≡◌, ℕ, List, [], ◌∷◌}
+use Rattle.std.specs.Prelude.{ℕ, List, [], ◌∷◌}
 use Rattle.photo_filter_text.specs.Tree.{Tree}
 use Rattle.photo_filter_rules.specs.Filters.{IsFilterOf}
 use Rattle.photo_script.specs.Contents.{Contents}

@@ -17,7 +17,7 @@ use Rattle.photo_script.specs.Limits.{max_text_bytes, max_line_bytes, max_versio
 use Rattle.photo_script.specs.Reports.{IsOfScript}
 use Rattle.photo_script.specs.declared.command.Command.{Command}
 use Rattle.photo_script.specs.declared.command.Command.TheVariants as command
-use Rattle.script_text.specs.Texts.{line_of_command, line_of_device, lines_of_script, text_of_script}
+use Rattle.script_text.specs.Texts.{lines_of_script, text_of_script}
 
 -- a version that a line can name: of a device of the script, and with no great number or epoch
 pub record FitsVersion (s : Contents) (v : Version) : Type 0 where

@@ -12,11 +12,7 @@ use photo_version::Version;
 use std::alloc::{AllocError, Global};
 
 /// Whether a line can say the command. Its only error is want of memory.
-pub fn fits_command(
-    alloc: Global,
-    script: &Script,
-    command: &Command,
-) -> Result<bool, AllocError>
+pub fn fits_command(alloc: Global, script: &Script, command: &Command) -> Result<bool, AllocError>
     ensures { IfOk result (λ fits. IsTrue fits ↔ FitsCommand script.now command.now) }
 {
     match command {

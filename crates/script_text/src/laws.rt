@@ -1,7 +1,19 @@
 //! Laws of the text of a script. Each function's contract is a law, and its body does nothing.
-ghost use Rattle.script_text.specs.Laws.{PrintedIsRead};
+ghost use Rattle.script_text.specs.Laws.{PrintedIsRead, ShortFilterFits};
+ghost use Rattle.script_text.specs.Examples.{EachKind, NotAgain};
 
 /// The text of a script within the limits is read as that script.
 pub fn printed_is_read()
     ensures { PrintedIsRead }
+{}
+
+/// The text of a filter is that filter where its tokens are at most 256, its height is at most 32 and it is not too wide.
+pub fn short_filter_fits()
+    ensures { ShortFilterFits }
+{}
+
+/// The definitions at some scripts: a line of each kind, printed and read; and scripts that are not read again.
+pub fn examples()
+    ensures each_kind { EachKind }
+    ensures not_again { NotAgain }
 {}

@@ -9,6 +9,8 @@ mod limits;
 mod line;
 mod made;
 mod name;
+#[cfg(test)]
+mod tests;
 mod text;
 
 pub use line::command_text;

@@ -18,11 +18,7 @@ use std::alloc::{AllocError, Global};
 /// The line of a command, without its end, by the names of the script's devices; a device that isn't there has no name.
 /// Whether such a line is read as that command `script_text` tells of all commands of a script. Its only error is want of
 /// memory.
-pub fn command_text(
-    alloc: Global,
-    script: &Script,
-    command: &Command,
-) -> Result<String, AllocError>
+pub fn command_text(alloc: Global, script: &Script, command: &Command) -> Result<String, AllocError>
     ensures text { IfOk result (λ text. string_bytes text ≡ line_of_command script.now command.now) }
     ensures values { IfOk result (λ text. HasValues command.now) }
 {
@@ -42,17 +38,26 @@ fn push_command(
     ensures values { OnOk result (HasValues command.now) }
 {
     match command {
-        Command::New { device, picture, record } => {
-            push_edition(text, "new", name_of(script, *device), *picture, record)
-        }
-        Command::Edit { device, picture, record } => {
-            push_edition(text, "edit", name_of(script, *device), *picture, record)
-        }
+        Command::New {
+            device,
+            picture,
+            record,
+        } => { push_edition(text, "new", name_of(script, *device), *picture, record) }
+        Command::Edit {
+            device,
+            picture,
+            record,
+        } => { push_edition(text, "edit", name_of(script, *device), *picture, record) }
         Command::Remove { device, picture } => {
             push_picture(text, "remove", name_of(script, *device), *picture)
         }
         Command::Pull { target, source } => {
-            push_names(text, "pull", name_of(script, *target), name_of(script, *source))
+            push_names(
+                text,
+                "pull",
+                name_of(script, *target),
+                name_of(script, *source),
+            )
         }
         Command::Narrow { device, filter } => {
             push_filter(alloc, text, "narrow", name_of(script, *device), filter)
@@ -61,14 +66,21 @@ fn push_command(
             push_filter(alloc, text, "refilter", name_of(script, *device), filter)
         }
         Command::Preview { target, source } => {
-            push_names(text, "preview", name_of(script, *target), name_of(script, *source))
+            push_names(
+                text,
+                "preview",
+                name_of(script, *target),
+                name_of(script, *source),
+            )
         }
         Command::List { device } => push_name(text, "list", name_of(script, *device)),
         Command::Conflicts { device } => push_name(text, "conflicts", name_of(script, *device)),
         Command::Knowledge { device } => push_name(text, "knowledge", name_of(script, *device)),
-        Command::Knows { device, picture, version } => {
-            push_question(text, script, *device, *picture, *version)
-        }
+        Command::Knows {
+            device,
+            picture,
+            version,
+        } => { push_question(text, script, *device, *picture, *version) }
     }
 }
 

@@ -1,4 +1,4 @@
-use Rattle.std.proofs.Common.{◌≡◌, Some, slice_get, string_bytes, ◌++◌, codes, IsUtf8, ap, subst, sym, ◌∙◌, arith}
+use Rattle.std.proofs.Common.{◌≡◌, Some, slice_get, string_bytes, ◌++◌, ap, sym, ◌∙◌, arith}
 use Rattle.script_text.proofs.WordTurns.{written-more, words-all}
 use Rattle.script_text.proofs.field.push_words.Goals as goal
 

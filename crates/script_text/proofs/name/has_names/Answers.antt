@@ -1,4 +1,4 @@
-use Rattle.std.proofs.Common.{◌≡◌, true, false, sym, ◌∙◌, arith}
+use Rattle.std.proofs.Common.{sym, arith}
 use Rattle.script_text.proofs.Differing.{name-more, name-again, names-named, names-apart}
 use Rattle.script_text.proofs.name.has_names.Goals as goal
 

@@ -1,4 +1,4 @@
-use Rattle.std.proofs.Common.{◌≡◌, true, false, string_bytes, sym, ◌∙◌, arith}
+use Rattle.std.proofs.Common.{string_bytes, sym, ◌∙◌}
 use Rattle.std.proofs.lemmas.Bool.{false≢true}
 use Rattle.script_text.specs.Parts.{FitsDevice}
 use Rattle.script_text.proofs.LineTurns.{device-put, device-refused}
