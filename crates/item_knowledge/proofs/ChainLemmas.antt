@@ -53,10 +53,6 @@ along_first heads before rows row b place h is l at =
       others = λ k f t e. last.none_later k f t (ap (bucket (length heads)) e ∙ sym is);
     })
 
--- a bucket without a latest row has none
-pub none_in : (heads before : List ℕ) (rows : List (List ℕ)) (row : List ℕ) (b : ℕ) → IsPlaced heads before rows → b ≡ bucket (length heads) row → b < length heads → get_or heads b 0 ≡ 0 → is_new rows row
-none_in heads before rows row b h is l none k m e = (h.latest b l).none_later k (omega (arith, none)) m (ap (bucket (length heads)) e ∙ sym is)
-
 -- One row more
 
 last_more : (n b : ℕ) (rows : List (List ℕ)) (row : List ℕ) (first place : ℕ) → first ≤ length rows → IsLast n b rows first place → IsLast n b (rows ++ row ∷ []) first place

@@ -1,10 +1,10 @@
 -- Marks of the bounds that stand in rows.
-use Rattle.std.proofs.Common.{◌≡◌, ℕ, zero, suc, ◌+◌, ◌*◌, ◌/◌, ◌%◌, ◌^◌, ◌<◌, ◌≤◌, true, false, not, ltb, eqb, max, List, [], ◌∷◌, ◌++◌, length, get_or, set, replicate, refl, sym, subst, ap, ◌∙◌, inl, inr, arith, Some}
+use Rattle.std.proofs.Common.{◌≡◌, ℕ, zero, suc, ◌+◌, ◌*◌, ◌%◌, ◌^◌, ◌<◌, ◌≤◌, true, false, not, ltb, eqb, max, List, [], ◌∷◌, ◌++◌, length, get_or, set, replicate, refl, sym, subst, ap, ◌∙◌, inl, inr, arith, Some}
 use Rattle.std.specs.Int.{bit_at}
 use Rattle.std.specs.Int.Bits.{bit_or}
 use Rattle.std.proofs.Math.Nat.{max-zero, zero-max}
 use Rattle.std.proofs.lemmas.Bool.{and_parts, ltb-true, not-true, cases_Bool, cases_lt, cases_eq, eq-eqb, eqb-true, ne_eqb, false≢true}
-use Rattle.std.proofs.lemmas.List.{get_or_past, get_or_push, get_or_append_left, get_or-set_same, get_or-set_other, length-set}
+use Rattle.std.proofs.lemmas.List.{get_or_past, get_or_append_left, get_or-set_same, get_or-set_other, length-set}
 use Rattle.std.proofs.lemmas.Nat.{one_shl}
 use Rattle.std.proofs.lemmas.Nat.Bits.{bit_at_or, bit_at-zero, bit_at-lt, bit_at-pow_same}
 use Rattle.item_knowledge.specs.Tables.{at, keys_pass, in_order}
@@ -12,7 +12,7 @@ use Rattle.item_knowledge.specs.Entries.{Entry, is_vector, bound, joined}
 use Rattle.item_knowledge.specs.Fragments.{Fragment, first, find, or_star, known, entries_at, is_normal, are_groups}
 use Rattle.item_knowledge.specs.Gathering.{vector_of, IsSide, IsUnion}
 use Rattle.item_knowledge.specs.Raising.{all_raised, are_risen}
-use Rattle.item_knowledge.specs.Rows.{pairs, fragments_of, rows_of, AreRows}
+use Rattle.item_knowledge.specs.Rows.{fragments_of, rows_of}
 use Rattle.item_knowledge.specs.Seen.{bit_of, is_marked, HasMarks, AreMarked, IsSeen, is_unseen, has_unseen}
 use Rattle.item_knowledge.proofs.EntryLemmas.{one_vector}
 use Rattle.item_knowledge.proofs.FragmentLemmas.{groups_parts, normal_parts, find_here, find_later, later}
@@ -20,7 +20,7 @@ use Rattle.item_knowledge.proofs.JoinLemmas.{joined_bound, joined_vector, joined
 use Rattle.item_knowledge.proofs.PictureLemmas.{listed, first_listed}
 use Rattle.item_knowledge.proofs.PutLemmas.{risen_at}
 use Rattle.item_knowledge.proofs.RaiseLemmas.{length_raised, entries_raised}
-use Rattle.item_knowledge.proofs.RowLemmas.{pairs_flat, entries_read, fragments_rows}
+use Rattle.item_knowledge.proofs.RowLemmas.{fragments_rows}
 use Rattle.item_knowledge.proofs.TableLemmas.{merge_at}
 use Rattle.item_knowledge.proofs.TopLemmas.{none_past}
 use Rattle.item_knowledge.proofs.UnionLemmas.{side_vector, normal_side, knows_vector}

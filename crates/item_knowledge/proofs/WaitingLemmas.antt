@@ -2,25 +2,24 @@
 use Rattle.std.proofs.Common.{◌≡◌, ℕ, zero, suc, ◌<◌, ◌≤◌, Bool, true, false, leb, ltb, ◌||◌, List, [], ◌∷◌, length, Option, None, Some, refl, sym, subst, ap, ◌∙◌, inl, inr, arith}
 use Rattle.std.specs.List.{list_all}
 use Rattle.std.proofs.lemmas.Bool.{and_parts, and_from, leb-true, cases_Bool, false≢true}
-use Rattle.std.proofs.lemmas.Option.{none-some}
 use Rattle.photo_version.specs.Author.{author_of_word}
 use Rattle.photo_version.specs.Version.{version}
 use Rattle.item_knowledge.specs.Tables.{at, in_order}
 use Rattle.item_knowledge.specs.Entries.{Entry, denotes, is_entry, is_vector, bound, joined}
-use Rattle.item_knowledge.specs.Fragments.{Fragment, lists, knows, is_normal, find, or_star, known, entries_at}
-use Rattle.item_knowledge.specs.Gathering.{vector_of, IsSide, IsIndex, IsUnion}
+use Rattle.item_knowledge.specs.Fragments.{Fragment, knows, is_normal, known, entries_at}
+use Rattle.item_knowledge.specs.Gathering.{vector_of, IsSide, IsUnion}
 use Rattle.item_knowledge.specs.Late.{shown, IsWaiting, IsLate, AreUntouching}
 use Rattle.item_knowledge.specs.Raising.{are_level, all_raised}
 use Rattle.item_knowledge.specs.Rows.{AreRows, fragments_of, rows_of}
 use Rattle.item_knowledge.proofs.EntryLemmas.{denotes-bound}
-use Rattle.item_knowledge.proofs.FragmentLemmas.{leq_at, find_here, find_later, found_group, normal_parts, known_vector}
+use Rattle.item_knowledge.proofs.FragmentLemmas.{normal_parts}
 use Rattle.item_knowledge.proofs.JoinLemmas.{joined_bound, joined_denotes, leq_self}
 use Rattle.item_knowledge.proofs.KeptLemmas.{star_vector}
 use Rattle.item_knowledge.proofs.NextLemmas.{level_known, risen_all}
 use Rattle.item_knowledge.proofs.PutLemmas.{risen_at}
-use Rattle.item_knowledge.proofs.RaiseLemmas.{IsNext, apart, entry_vector, length_raised, entries_raised, raised_normal, raised_known, raised_index}
+use Rattle.item_knowledge.proofs.RaiseLemmas.{IsNext, entry_vector, length_raised, entries_raised, raised_normal, raised_known, raised_index}
 use Rattle.item_knowledge.proofs.RowLemmas.{fragments_rows, rows_rows}
-use Rattle.item_knowledge.proofs.UnionLemmas.{above, groups_above, at_number, normal_side, side_vector, knows_vector}
+use Rattle.item_knowledge.proofs.UnionLemmas.{groups_above, at_number, normal_side, side_vector, knows_vector}
 
 waiting_next : (e : Entry) (fs : List Fragment) → IsWaiting e fs → IsNext e fs
 waiting_next e fs h = record { entry = h.entry; level = h.level }
@@ -31,32 +30,6 @@ pub level_at : (fs : List Fragment) (k a b : ℕ) → are_level fs a b ≡ true 
 level_at [] k a b h l = absurd (omega arith)
 level_at (f ∷ fs) zero a b h l = leb-true (bound f.entries a) b (and_parts (leb (bound f.entries a) b) (are_level fs a b) h).0
 level_at (f ∷ fs) (suc k) a b h l = level_at fs k a b (and_parts (leb (bound f.entries a) b) (are_level fs a b) h).1 (omega arith)
-
-found_level : (gs : List Fragment) (p a b : ℕ) (es : List Entry) → are_level gs a b ≡ true → find gs p ≡ Some es → bound es a ≤ b
-found_level [] p a b es h is = absurd (none-some es is)
-found_level (g ∷ gs) p a b es h is =
-    let parts = and_parts (leb (bound g.entries a) b) (are_level gs a b) h in
-    elim (cases_Bool (lists g.pictures p)) [
-      | inl here ↦
-          let same = some_inj g.entries es (sym (find_here g gs p here) ∙ is) in
-          subst (λ xs. bound xs a ≤ b) same (leb-true (bound g.entries a) b parts.0)
-      | inr other ↦ found_level gs p a b es parts.1 (sym (find_later g gs p other) ∙ is)
-    ]
-  where
-    some_inj : (x y : List Entry) → Some x ≡ Some y → x ≡ y
-    some_inj x y h = cc
-
--- what is known of a picture has as much of the author as the star
-known_level : (s : Fragment) (gs : List Fragment) (p a : ℕ) → is_normal (s ∷ gs) ≡ true → are_level (s ∷ gs) a (bound s.entries a) ≡ true → bound (known (s ∷ gs) p) a ≡ bound s.entries a
-known_level s gs p a h level = by (find gs p) refl
-  where
-    by : (o : Option (List Entry)) → find gs p ≡ o → bound (or_star s.entries o) a ≡ bound s.entries a
-    by None is = refl
-    by (Some es) is =
-        let most = found_level gs p a (bound s.entries a) es (and_parts (leb (bound s.entries a) (bound s.entries a)) (are_level gs a (bound s.entries a)) level).1 is in
-        let group = found_group s.entries gs p es (normal_parts s gs h).groups is in
-        let least = subst (λ xs. bound s.entries a ≤ bound xs a) group.2 (leq_at s.entries group.0.entries a group.1.above) in
-        omega arith
 
 -- The rows beside which a bound waits are a side as those are that are shown
 
@@ -70,25 +43,6 @@ raw_side e (s ∷ gs) xs h side =
       order = side.order;
       positive = side.positive;
       range = subst (λ n. list_all (λ r. ltb r.1 n) xs ≡ true) (length_raised e (s ∷ gs)) side.range;
-    }
-
-pub raw_index : (e : Entry) (fs : List Fragment) (xs : List (ℕ × ℕ)) → IsWaiting e fs → IsIndex xs (all_raised e fs) → IsIndex xs fs
-raw_index e [] xs h index = absurd (false≢true h.normal)
-raw_index e (s ∷ gs) xs h index =
-    let fs = s ∷ gs in
-    let side = raw_side e fs xs h (normal_side (all_raised e fs) xs (raised_normal e fs h.normal (waiting_next e fs h)) index) in
-    record {
-      order = index.order;
-      positive = index.positive;
-      range = side.range;
-      vectors = λ p.
-          let there = at_number xs (length fs) p side.star side.range in
-          let here = above fs xs (at 0 xs p) side there in
-          let least = leq_at s.entries (entries_at fs (at 0 xs p)) e.0 here.above in
-          let most = level_at fs (at 0 xs p) e.0 (bound s.entries e.0) h.level there in
-          let known_of = known_level s gs p e.0 h.normal h.level in
-          apart (entries_at fs (at 0 xs p)) (known fs p) e here.vector (known_vector s gs p (normal_parts s gs h.normal)) h.entry (omega arith)
-          (sym (entries_raised e fs (at 0 xs p) there) ∙ (index.vectors p ∙ raised_known e fs p h.normal));
     }
 
 -- The bound may wait beside the union
@@ -168,11 +122,6 @@ pub late_side : (late : Option Entry) (rows now : List (List ℕ)) (xs : List (�
 late_side None rows now xs h is side = subst (λ rs. IsSide (fragments_of rs) xs) (sym is) side
 late_side (Some e) rows now xs h is side =
     raw_side e (fragments_of rows) xs h.1 (subst (λ fs. IsSide fs xs) (ap fragments_of (sym is) ∙ fragments_rows (all_raised e (fragments_of rows))) side)
-
-pub late_index : (late : Option Entry) (rows now : List (List ℕ)) (xs : List (ℕ × ℕ)) → IsLate late rows → shown late rows ≡ now → IsIndex xs (fragments_of now) → IsIndex xs (fragments_of rows)
-late_index None rows now xs h is index = subst (λ rs. IsIndex xs (fragments_of rs)) (sym is) index
-late_index (Some e) rows now xs h is index =
-    raw_index e (fragments_of rows) xs h.1 (subst (IsIndex xs) (ap fragments_of (sym is) ∙ fragments_rows (all_raised e (fragments_of rows))) index)
 
 pub late_normal : (late : Option Entry) (rows now : List (List ℕ)) → IsLate late rows → shown late rows ≡ now → is_normal (fragments_of now) ≡ true → is_normal (fragments_of rows) ≡ true
 late_normal None rows now h is normal = subst (λ rs. is_normal (fragments_of rs) ≡ true) (sym is) normal

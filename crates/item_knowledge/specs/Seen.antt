@@ -1,5 +1,5 @@
 -- Machinery of the proofs: marks of the bounds that stand in rows, so that a row with a bound that has no mark is none of them.
-use Rattle.std.specs.Prelude.{◌≡◌, ℕ, ◌<◌, Bool, true, not, ◌&&◌, ◌==◌, ◌*◌, ◌+◌, ◌/◌, ◌%◌, nat_lt, List, [], length, get_or}
+use Rattle.std.specs.Prelude.{◌≡◌, ℕ, ◌<◌, Bool, true, not, ◌&&◌, ◌==◌, ◌+◌, ◌/◌, ◌%◌, nat_lt, List, length, get_or}
 use Rattle.std.specs.Int.{bit_at}
 use Rattle.std.specs.List.{list_any}
 use Rattle.item_knowledge.specs.Entries.{Entry, bound}

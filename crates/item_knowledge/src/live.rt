@@ -43,7 +43,7 @@ impl LiveRows {
     ghost use Rattle.item_knowledge.specs.Tables.{in_order};
     ghost use Rattle.item_knowledge.specs.Entries.{bound, leq, is_vector};
     ghost use Rattle.item_knowledge.specs.Fragments.{entries_at, nothing, is_normal};
-    ghost use Rattle.item_knowledge.specs.Gathering.{IsSide, IsIndex, IsUnion};
+    ghost use Rattle.item_knowledge.specs.Gathering.{IsSide, IsUnion};
     ghost use Rattle.item_knowledge.specs.Late.{IsWaiting};
     ghost use Rattle.item_knowledge.specs.Raising.{all_raised};
     ghost use Rattle.item_knowledge.specs.Rows.{AreRows, fragments_of, rows_of};
@@ -189,7 +189,6 @@ impl LiveRows {
         requires left { IsSide (fragments_of self.old) index.now }
         requires right { IsSide (fragments_of others.now) others_index.now }
         requires normal { is_normal (fragments_of self.old) ≡ true }
-        requires listed { IsIndex index.now (fragments_of self.old) }
         ensures same { self.new ≡ self.old }
         ensures rows { OnOk result (AreRows out.new) }
         ensures union { IfOk result (λ written. IsUnion (fragments_of self.old) index.now (fragments_of others.now) others_index.now

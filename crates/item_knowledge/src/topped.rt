@@ -3,7 +3,7 @@ ghost use Rattle.std.specs.Prelude.{◌≡◌, true, IfOk, OnOk};
 ghost use Rattle.std.specs.List.{list_all};
 ghost use Rattle.item_knowledge.specs.Entries.{is_vector};
 ghost use Rattle.item_knowledge.specs.Fragments.{is_normal};
-ghost use Rattle.item_knowledge.specs.Gathering.{IsSide, IsIndex, IsUnion};
+ghost use Rattle.item_knowledge.specs.Gathering.{IsSide, IsUnion};
 ghost use Rattle.item_knowledge.specs.Rows.{AreRows, fragments_of};
 ghost use Rattle.item_knowledge.specs.Tops.{IsTop};
 
@@ -184,7 +184,6 @@ pub(crate) fn topped_union(
     requires left { IsSide (fragments_of left.now) left_index.now }
     requires right { IsSide (fragments_of right.now) right_index.now }
     requires normal { is_normal (fragments_of left.now) ≡ true }
-    requires listed { IsIndex left_index.now (fragments_of left.now) }
     ensures rows { OnOk result (AreRows out.new) }
     ensures union { IfOk result (λ index. IsUnion (fragments_of left.now) left_index.now (fragments_of right.now) right_index.now
         (fragments_of out.new) index.items) }

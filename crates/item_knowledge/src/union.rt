@@ -1,7 +1,7 @@
 // The union of two knowledges, as rows and an index.
 ghost use Rattle.std.specs.Prelude.{◌≡◌, ℕ, List, ◌+◌, ◌*◌, ◌<◌, [], ◌∷◌, true, length, get_or, IfOk, OnOk};
 ghost use Rattle.item_knowledge.specs.Fragments.{entries_at, is_normal};
-ghost use Rattle.item_knowledge.specs.Gathering.{IsSide, IsIndex, IsUnion, pair_vector, groups_of, index_of, star_first};
+ghost use Rattle.item_knowledge.specs.Gathering.{IsSide, IsUnion, pair_vector, groups_of, index_of, star_first};
 ghost use Rattle.item_knowledge.specs.Kept.{is_side_within};
 ghost use Rattle.item_knowledge.specs.Places.{IsFound, Placed, vectors_at};
 ghost use Rattle.item_knowledge.specs.Rows.{pairs, IsRow, AreRows, fragments_of, rows_of, grouped};

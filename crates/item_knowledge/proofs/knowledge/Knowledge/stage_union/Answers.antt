@@ -4,16 +4,13 @@ use Rattle.item_knowledge.specs.Kept.{star_bound}
 use Rattle.item_knowledge.specs.Entries.{denotes, bound}
 use Rattle.item_knowledge.specs.Fragments.{knows, entries_at}
 use Rattle.item_knowledge.specs.Rows.{fragments_of}
-use Rattle.item_knowledge.specs.Gathering.{IsSide, IsIndex, IsUnion, vector_of}
+use Rattle.item_knowledge.specs.Gathering.{IsSide, IsUnion, vector_of}
 use Rattle.item_knowledge.proofs.KeptLemmas.{kept_side, learned}
 use Rattle.item_knowledge.proofs.StagedLemmas.{known_of}
 use Rattle.item_knowledge.proofs.knowledge.Knowledge.stage_union.Goals as goal
 
 pub union-requires-clause-left : goal.union-requires-clause-left
 union-requires-clause-left c = subst (IsSide (fragments_of c.self.inside.live)) (sym c.deref.ensures.value) (kept_side c.self.inside.live c.self.inside.index.items c.self.invariant.kept)
-
-pub union-requires-clause-listed : goal.union-requires-clause-listed
-union-requires-clause-listed c = subst (λ xs. IsIndex xs (fragments_of c.self.inside.live)) (sym c.deref.ensures.value) c.self.invariant.kept.index
 
 pub returns-clause-star : goal.returns-clause-star
 returns-clause-star c a =

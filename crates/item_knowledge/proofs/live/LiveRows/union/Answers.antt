@@ -1,7 +1,7 @@
 use Rattle.std.proofs.Common.{◌∙◌}
 use Rattle.item_knowledge.specs.Rows.{fragments_of}
 use Rattle.item_knowledge.proofs.UnionLemmas.{entries_order}
-use Rattle.item_knowledge.proofs.WaitingLemmas.{late_side, late_index, late_normal, waits}
+use Rattle.item_knowledge.proofs.WaitingLemmas.{late_side, late_normal, waits}
 use Rattle.item_knowledge.proofs.live.LiveRows.union.Goals as goal
 
 pub settle_for-requires-clause-star : goal.settle_for-requires-clause-star
@@ -12,9 +12,6 @@ topped_union-requires-clause-left c = late_side c.settle_for.new.late c.settle_f
 
 pub topped_union-requires-clause-normal : goal.topped_union-requires-clause-normal
 topped_union-requires-clause-normal c = late_normal c.settle_for.new.late c.settle_for.new.rows c.args.self.now c.settle_for.ensures.late (c.settle_for.ensures.shown ∙ c.self.view_is) c.requires.normal
-
-pub topped_union-requires-clause-listed : goal.topped_union-requires-clause-listed
-topped_union-requires-clause-listed c = late_index c.settle_for.new.late c.settle_for.new.rows c.args.self.now c.args.index.now c.settle_for.ensures.late (c.settle_for.ensures.shown ∙ c.self.view_is) c.requires.listed
 
 pub invariant_of-out-2 : goal.invariant_of-out-2
 invariant_of-out-2 c =
