@@ -102,6 +102,7 @@ fn run_to(
 }
 
 // Writes a run of the left's fragments from one number up to another, and behind it a fragment of one picture.
+#[inline(always)]
 fn place_behind(
     left: &Rows,
     from: usize,
@@ -235,6 +236,9 @@ fn are_told_apart(
     requires joined { AreThere rows.now joined.now }
     ensures { IfOk result (λ apart. apart ≡ true → AreTold left.now seen.now.words.items rows.now index.now joined.now) }
 {
+    if joined.len() == index.len() {
+        return are_apart(alloc, rows, index);
+    }
     if are_unseen(left, seen, rows, joined) {
         return are_apart(alloc, rows, joined);
     }

@@ -116,6 +116,7 @@ impl Rows {
     }
 
     /// The rows of another list from one place up to another, at the end.
+    #[inline(always)]
     pub(crate) fn place_run(
         &mut self,
         other: &Rows,
