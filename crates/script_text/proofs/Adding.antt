@@ -22,6 +22,7 @@ use Rattle.photo_script.specs.Saying.{said, fields_said}
 use Rattle.photo_script.specs.declared.command.Command.{Command}
 use Rattle.photo_script.specs.declared.fault.LineFault.{LineFault}
 use Rattle.photo_script.specs.declared.fault.ScriptFault.{ScriptFault}
+use Rattle.script_text.specs.Laws.{IsBefore}
 use Rattle.script_text.specs.Texts.{line_of_command, line_of_device, lines_of_devices}
 use Rattle.script_text.specs.Printable.{FitsFilter, made_in, pictures_made, AllDiffer, IsShort}
 use Rattle.script_text.proofs.Bytes.{is_from, from-append}
@@ -29,7 +30,7 @@ use Rattle.script_text.proofs.Cuts.{field-first, third-on}
 use Rattle.script_text.proofs.FilterBytes.{filter-plain, filter-begins}
 use Rattle.script_text.proofs.NameBytes.{name-field, unplaced}
 use Rattle.script_text.proofs.SaidKinds.{device-line}
-use Rattle.script_text.proofs.CommandLines.{IsBefore, IsLineOf, fields-said, field-plain, word}
+use Rattle.script_text.proofs.CommandLines.{IsLineOf, fields-said, field-plain, word}
 
 -- One line more
 

@@ -20,6 +20,7 @@ use Rattle.photo_script.specs.Reports.{name_of, version_text, words_text}
 use Rattle.photo_script.specs.Saying.{said, fields_said, device_said}
 use Rattle.photo_script.specs.declared.command.Command.{Command}
 use Rattle.photo_script.specs.declared.command.Command.TheVariants as command
+use Rattle.script_text.specs.Laws.{IsBefore}
 use Rattle.script_text.specs.Texts.{line_of_command}
 use Rattle.script_text.specs.Printable.{FitsVersion, FitsFilter, FitsCommand, made_in, AllDiffer, IsShort, AreWords, HasValues}
 use Rattle.script_text.proofs.Bytes.{is_from, from-append, from-weaker}
@@ -30,12 +31,6 @@ use Rattle.script_text.proofs.SaidKinds.{new-line, edit-line, remove-line, pull-
 use Rattle.script_text.proofs.NameBytes.{name-at, name-field}
 use Rattle.script_text.proofs.Saying.{are-spelt, record-said, picture-said, new_picture-said, device-said, version-said, version-field}
 use Rattle.script_text.proofs.Wording.{words-field}
-
--- the earlier lines of a command: those of all devices, with room for it, and its picture isn't made
-pub record IsBefore (s : Contents) (x : Command) (before : Earlier) : Type 0 where
-  pub names : before.names ≡ s.names
-  pub room : before.commands < max_commands
-  pub fresh : (p : ℕ) → made_in x ≡ p ∷ [] → before.makes p ≡ false
 
 -- what a line says, and what it tells about later ones
 pub record IsLineOf (s : Contents) (x : Command) (line : List ℕ) : Type 0 where

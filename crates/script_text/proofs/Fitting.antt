@@ -62,15 +62,20 @@ pub record PartsFit (s : Contents) : Type 0 where
   pub commands : AllByRecursion (FitsLine s) s.commands
   pub values : AllByRecursion HasValues s.commands
 
+pub printable : (s : Contents) → IsScript s → PartsFit s → length (text_of_script s) ≤ max_text_bytes → IsPrintable s
+printable s script fit small = record {
+  named = fit.named;
+  apart = fit.apart;
+  filters = filters-fit s.names s.filters script.filtered fit.devices;
+  commands = commands-fit s s.commands fit.commands;
+  made_once = fit.made_once;
+  lines = short-both (lines_of_devices s.names s.filters) (map (line_of_command s) s.commands) (devices-short s.names s.filters fit.devices) (commands-short s s.commands fit.commands);
+  small = small;
+}
+
+pub whole-printable : (s : Contents) (text : List ℕ) → IsScript s → PartsFit s → text ≡ text_of_script s → length text ≤ max_text_bytes → IsPrintable s
+whole-printable s text script fit is small = printable s script fit (subst (λ t. length t ≤ max_text_bytes) is small)
+
 pub read-whole : (s : Contents) (text : List ℕ) → IsScript s → PartsFit s → text ≡ text_of_script s → IsUtf8 text → length text ≤ max_text_bytes → script_of text ≡ Ok s
 read-whole s text script fit is utf8 small =
-    ap script_of is
-    ∙ printed-is-read s script (record { commands = fit.values; utf8 = subst IsUtf8 is utf8 }) (record {
-      named = fit.named;
-      apart = fit.apart;
-      filters = filters-fit s.names s.filters script.filtered fit.devices;
-      commands = commands-fit s s.commands fit.commands;
-      made_once = fit.made_once;
-      lines = short-both (lines_of_devices s.names s.filters) (map (line_of_command s) s.commands) (devices-short s.names s.filters fit.devices) (commands-short s s.commands fit.commands);
-      small = subst (λ t. length t ≤ max_text_bytes) is small;
-    })
+    ap script_of is ∙ printed-is-read s script (record { commands = fit.values; utf8 = subst IsUtf8 is utf8 }) (whole-printable s text script fit is small)

@@ -1,19 +1,46 @@
 -- What is read of the text of a script.
-use Rattle.std.specs.Prelude.{◌≡◌, false, ◌≤◌, length, Ok}
+use Rattle.std.specs.Prelude.{◌≡◌, ℕ, true, false, ◌<◌, ◌≤◌, [], ◌∷◌, length, Some, IfSome, Ok}
+use Rattle.std.specs.List.{AllByRecursion}
 use Rattle.photo_filter_text.specs.Limits.{max_tokens, max_height}
 use Rattle.photo_filter_text.specs.Printed.{text_of, IsSound}
 use Rattle.photo_filter_text.specs.Tokens.{tokens_of}
 use Rattle.photo_filter_text.specs.Tree.{Tree, height}
 use Rattle.photo_filter_rules.specs.Alternatives.{is_too_wide}
 use Rattle.photo_filter_rules.specs.declared.polarity.Polarity.TheVariants.{Plain}
-use Rattle.photo_script.specs.Contents.{Contents, IsScript}
+use Rattle.photo_filter_rules.specs.Matching.{IsInRange}
+use Rattle.photo_script.specs.Contents.{Contents, IsScript, IsWithin, record_of}
+use Rattle.photo_script.specs.Earlier.{Earlier}
+use Rattle.photo_script.specs.Fields.{is_name}
+use Rattle.photo_script.specs.Limits.{max_commands}
 use Rattle.photo_script.specs.Reading.{script_of}
-use Rattle.script_text.specs.Texts.{text_of_script}
-use Rattle.script_text.specs.Printable.{FitsFilter, IsPrintable, IsOfValues}
+use Rattle.photo_script.specs.Saying.{said}
+use Rattle.photo_script.specs.declared.command.Command.{Command}
+use Rattle.script_text.specs.Texts.{line_of_command, text_of_script}
+use Rattle.script_text.specs.Printable.{FitsFilter, FitsCommand, IsShort, made_in, AllDiffer, HasValues, IsPrintable, IsOfValues}
 
 -- the text of a script within the limits is read as that script
 abbrev pub PrintedIsRead : Type 0
 PrintedIsRead = (s : Contents) → IsScript s → IsOfValues s → IsPrintable s → script_of (text_of_script s) ≡ Ok s
+
+-- a command that a line can say by the names of the script's devices
+pub record CanBeSaid (s : Contents) (x : Command) : Type 0 where
+  pub named : AllByRecursion (λ name. is_name name ≡ true) s.names
+  pub apart : AllDiffer s.names
+  pub within : IsWithin (length s.names) x
+  pub in_range : IfSome (record_of x) IsInRange
+  pub fits : FitsCommand s x
+  pub values : HasValues x
+  pub short : IsShort (line_of_command s x)
+
+-- the earlier lines of a command: those of all devices, with room for it, and its picture isn't made
+pub record IsBefore (s : Contents) (x : Command) (before : Earlier) : Type 0 where
+  pub names : before.names ≡ s.names
+  pub room : before.commands < max_commands
+  pub fresh : (p : ℕ) → made_in x ≡ p ∷ [] → before.makes p ≡ false
+
+-- its line says that command
+abbrev pub LineIsRead : Type 0
+LineIsRead = (s : Contents) (x : Command) (before : Earlier) → CanBeSaid s x → IsBefore s x before → said before (line_of_command s x) ≡ Ok (Some x)
 
 -- the text of a filter is that filter, within its limits
 abbrev pub ShortFilterFits : Type 0

@@ -25,6 +25,7 @@ use std::alloc::{AllocError, Global};
 pub fn script_text(alloc: Global, script: &Script) -> Result<Option<String>, AllocError>
     ensures text { IfOk result (λ answer. IfSome answer (λ text. string_bytes text ≡ text_of_script script.now)) }
     ensures read { IfOk result (λ answer. IfSome answer (λ text. script_of (string_bytes text) ≡ Ok script.now)) }
+    ensures within { IfOk result (λ answer. IfSome answer (λ text. IsPrintable script.now)) }
     ensures none { result ≡ Ok None → IsPrintable script.now → ⊥ }
 {
     // For their facts alone: what is true of every script.
