@@ -1,5 +1,5 @@
 -- What the line of each kind of command says.
-use Rattle.std.proofs.Common.{◌≡◌, ◌≢◌, ℕ, ℤ, ◌<◌, ◌≤◌, true, false, List, [], ◌∷◌, length, Some, Ok, codes, refl, sym, ap, subst, ◌∙◌, arith}
+use Rattle.std.proofs.Common.{◌≡◌, ◌≢◌, ℕ, ℤ, ◌<◌, ◌≤◌, true, List, [], ◌∷◌, length, Some, Ok, codes, refl, sym, ap, subst, ◌∙◌, arith}
 use Rattle.std.specs.Prelude.{IfSome}
 use Rattle.std.specs.Fmt.{decimal}
 use Rattle.std.specs.List.{AllByRecursion, join_with_byte}
@@ -14,7 +14,7 @@ use Rattle.photo_version.specs.Version.{Version}
 use Rattle.photo_script.specs.Contents.{Contents, IsWithin, record_of}
 use Rattle.photo_script.specs.Earlier.{Earlier, declared_by, filter_declared_by, made_by, is_command}
 use Rattle.photo_script.specs.Fields.{is_name}
-use Rattle.photo_script.specs.Limits.{max_line_bytes, max_commands}
+use Rattle.photo_script.specs.Limits.{max_line_bytes}
 use Rattle.photo_script.specs.Lines.{fields_of, third_field_on, is_not_empty}
 use Rattle.photo_script.specs.Reports.{name_of, version_text, words_text}
 use Rattle.photo_script.specs.Saying.{said, fields_said, device_said}

@@ -1,5 +1,5 @@
 //! The text of a script, with the law that reading it gives that script again: so what was done by hand can be saved, and
-//! loaded by running it.
+//! loaded by running it. A text that is given is read as the script that it is of.
 #![tactic(auto)]
 
 mod field;
