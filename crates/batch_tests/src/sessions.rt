@@ -56,7 +56,13 @@ fn rated(alloc: Global, rating: u8) -> Option<Record> {
     })
 }
 
-fn makes(alloc: Global, session: &mut Session, device: u16, picture: u32, rating: u8) -> Option<()> {
+fn makes(
+    alloc: Global,
+    session: &mut Session,
+    device: u16,
+    picture: u32,
+    rating: u8,
+) -> Option<()> {
     let record = rated(alloc, rating)?;
     session.make(device, PicNo::new(picture)?, &record).ok()?;
     Some(())
@@ -161,7 +167,8 @@ fn are_refused(alloc: Global, session: &mut Session) -> Option<bool> {
     Some(unmade && same && far && unseen && session.device(2).is_none())
 }
 
-const SCRIPT: &str = "device a all\ndevice b rating >= 4\nnew a 1 5 2024-01-01 -\npull b a\nlist b\n";
+const SCRIPT: &str =
+    "device a all\ndevice b rating >= 4\nnew a 1 5 2024-01-01 -\npull b a\nlist b\n";
 
 const TEXTS: [&str; 3] = [
     "1 made a:1 store\n",

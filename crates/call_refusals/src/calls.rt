@@ -1,7 +1,5 @@
 //! Calls by their names.
-use crate::{
-    devices, fleets, gates, plans, pulls, questions, runs, scripts, sessions, streams,
-};
+use crate::{devices, fleets, gates, plans, pulls, questions, runs, scripts, sessions, streams};
 use std::alloc::Global;
 use std::sync::Wait;
 use std::thread::Threads;

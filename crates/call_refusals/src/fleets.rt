@@ -280,7 +280,10 @@ fn of_script(alloc: Global) -> Option<Verdict> {
     let fleet = Fleet::of_script(alloc, &script);
     mark(alloc);
     Some(match fleet {
-        Ok(fleet) => judged(Some(fleet.devices().len() == 4 && fleet.commands() == 0), true),
+        Ok(fleet) => judged(
+            Some(fleet.devices().len() == 4 && fleet.commands() == 0),
+            true,
+        ),
         Err(_) => judged(None, is_four(&script)),
     })
 }

@@ -41,7 +41,10 @@ fn new(alloc: Global) -> Option<Verdict> {
     mark(alloc);
     Some(match session {
         Ok(session) => judged(Some(session.fleet().devices().len() == 2), true),
-        Err(fault) => judged(None, fault == FleetFault::NoMemory && filters[1].alternatives() == 1),
+        Err(fault) => judged(
+            None,
+            fault == FleetFault::NoMemory && filters[1].alternatives() == 1,
+        ),
     })
 }
 

@@ -71,9 +71,7 @@ fn has(set: &HeldSet, picture: PicNo) -> bool
 fn is_among(helds: &[SharedHeld], picture: PicNo) -> bool
     ensures { result ≡ has picture helds.now }
 {
-    helds
-        .iter()
-        .any(|held| held.picture() == picture && is_picture(held.content()))
+    helds.iter().any(|held| held.picture() == picture && is_picture(held.content()))
 }
 
 fn is_picture(record: &Record) -> bool

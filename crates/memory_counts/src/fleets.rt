@@ -39,7 +39,9 @@ pub fn answer_session(alloc: Global, times: u32) -> Option<bool> {
     let mut fleet = Fleet::new(alloc, &filters).ok()?;
     for _ in 0..times {
         let session = Session::of_fleet(fleet);
-        let is_right = is_fresh(session.fleet()) && session.device(0).is_some() && session.device(1).is_none();
+        let is_right = is_fresh(session.fleet())
+            && session.device(0).is_some()
+            && session.device(1).is_none();
         fleet = session.into_fleet();
         if !is_right {
             return Some(false);

@@ -1,4 +1,4 @@
-//! Two devices edit one picture, and the first learns of the second's edit: an example of docs/LIBRARY.md.
+//! Two devices edit one picture, and the first takes the second's edit: an example of docs/LIBRARY.md.
 #![tactic(auto)]
 
 use fleet_session::Session;
@@ -8,16 +8,15 @@ use photo_record::{Day, PicNo, Rating, Record, Words};
 use std::alloc::Global;
 use std::io;
 
-fn sunset(alloc: Global) -> Option<Record> {
-    let (rating, day) = (Rating::new(4)?, Day::read("2024-05-01")?);
-    let words = Words::read(alloc, "sea,sunset").ok()?;
-    Some(Record::Picture { rating, day, words })
+fn two_devices(alloc: Global) -> Option<Session> {
+    let all = Filter::build(alloc, FilterTree::All).ok()?;
+    Session::new(alloc, &[all.try_clone().ok()?, all]).ok()
 }
 
-fn both_edit(alloc: Global) -> Option<u64> {
-    let all = Filter::build(alloc, FilterTree::All).ok()?;
-    let mut fleet = Session::new(alloc, &[all.try_clone().ok()?, all]).ok()?;
-    let (picture, record) = (PicNo::new(7)?, sunset(alloc)?);
+fn both_edit(alloc: Global, fleet: &mut Session) -> Option<u64> {
+    let (rating, day) = (Rating::new(4)?, Day::read("2024-05-01")?);
+    let words = Words::read(alloc, "sea,sunset").ok()?;
+    let (picture, record) = (PicNo::new(7)?, Record::Picture { rating, day, words });
     fleet.make(0, picture, &record).ok()?;
     fleet.pull(1, 0).ok()?;
     fleet.edit(0, picture, &record).ok()?;
@@ -26,8 +25,9 @@ fn both_edit(alloc: Global) -> Option<u64> {
 }
 
 fn main(rt: HostRuntime) -> io::Result<()> {
-    match both_edit(rt.alloc()) {
-        Some(taken) => println!(rt; "the first device took {taken} version"),
-        None => println!(rt; "memory was refused"),
-    }
+    let Some(mut fleet) = two_devices(rt.alloc()) else {
+        return println!(rt; "memory was refused");
+    };
+    let taken = both_edit(rt.alloc(), &mut fleet).unwrap_or(0);
+    println!(rt; "the first device took {taken} version")
 }
