@@ -34,10 +34,10 @@ use Rattle.script_text.proofs.CommandLines.{IsLineOf, fields-said, field-plain, 
 
 -- One line more
 
-names-more : (lines : List (List ℕ)) (line : List ℕ) → names_of (lines ++ line ∷ []) ≡ names_of lines ++ declared_by (fields_of line)
+pub names-more : (lines : List (List ℕ)) (line : List ℕ) → names_of (lines ++ line ∷ []) ≡ names_of lines ++ declared_by (fields_of line)
 names-more lines line = flat_map-append (λ l. declared_by (fields_of l)) lines (line ∷ []) ∙ ap (λ n. names_of lines ++ n) (append-nil (declared_by (fields_of line)))
 
-pictures-more : (lines : List (List ℕ)) (line : List ℕ) → pictures_of (lines ++ line ∷ []) ≡ pictures_of lines ++ made_by (fields_of line)
+pub pictures-more : (lines : List (List ℕ)) (line : List ℕ) → pictures_of (lines ++ line ∷ []) ≡ pictures_of lines ++ made_by (fields_of line)
 pictures-more lines line = flat_map-append (λ l. made_by (fields_of l)) lines (line ∷ []) ∙ ap (λ n. pictures_of lines ++ n) (append-nil (made_by (fields_of line)))
 
 commands-more : (lines : List (List ℕ)) (line : List ℕ) → commands_of (lines ++ line ∷ []) ≡ commands_of lines + cond (is_command (fields_of line)) 1 0

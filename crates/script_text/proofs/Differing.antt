@@ -27,7 +27,7 @@ module _ {X : Type 0} where
       sym (take-append-drop i xs)
       ∙ ap (λ ys. take i xs ++ ys) (drop_more xs i x (slice_get_within xs i x at) ∙ ap (λ y. y ∷ drop (i + 1) xs) (get_or_from_slice_get xs i x x at))
 
-  differ-more : (xs : List X) (y : X) → AllDiffer xs → ((k : ℕ) (d : X) → k < length xs → get_or xs k d ≢ y) → AllDiffer (xs ++ y ∷ [])
+  pub differ-more : (xs : List X) (y : X) → AllDiffer xs → ((k : ℕ) (d : X) → k < length xs → get_or xs k d ≢ y) → AllDiffer (xs ++ y ∷ [])
   differ-more xs y apart other i j d lt within =
       let size : length (xs ++ y ∷ []) ≡ length xs + 1 = length-append xs (y ∷ []) in
       elim (cases_lt j (length xs)) [
@@ -54,7 +54,7 @@ none-before front name rest apart =
     list_any_none (bytes_eq name) front (λ k d lt.
     differ name (get_or front k d) (λ e. apart k (length front) d lt within (get_or_append_left front (name ∷ rest) d k lt ∙ e ∙ sym (get_or_at front name rest d (length front) refl))))
 
-each-other : (front : List (List ℕ)) (name : List ℕ) → list_any (bytes_eq name) front ≡ false → (k : ℕ) (d : List ℕ) → k < length front → get_or front k d ≢ name
+pub each-other : (front : List (List ℕ)) (name : List ℕ) → list_any (bytes_eq name) front ≡ false → (k : ℕ) (d : List ℕ) → k < length front → get_or front k d ≢ name
 each-other front name none k d lt e = false≢true (sym none ∙ list_any_at (bytes_eq name) front k d lt ((bytes_eq-Decides name (get_or front k d)).1 (sym e)))
 
 module _ (names : List (List ℕ)) (i : ℕ) (name : List ℕ) (at : slice_get names i ≡ Some name) where
@@ -87,7 +87,7 @@ pub record AreMadeOnce (commands : List Command) (made : BTreeSet ℕ) (i : ℕ)
 pub made-none : (commands : List Command) (made : BTreeSet ℕ) → ((p : ℕ) → contains nat_cmp made p ≡ false) → AreMadeOnce commands made 0
 made-none commands made none = record { has = none; apart = λ i j d lt within. absurd (omega arith) }
 
-each-picture : (front : List ℕ) (p : ℕ) → list_any (λ q. eqb q p) front ≡ false → (k : ℕ) (d : ℕ) → k < length front → get_or front k d ≢ p
+pub each-picture : (front : List ℕ) (p : ℕ) → list_any (λ q. eqb q p) front ≡ false → (k : ℕ) (d : ℕ) → k < length front → get_or front k d ≢ p
 each-picture front p none k d lt e = false≢true (sym none ∙ list_any_at (λ q. eqb q p) front k d lt (eq-eqb (get_or front k d) p e))
 
 is-equal : (a b : ℕ) → is_eq (nat_cmp a b) ≡ eqb a b

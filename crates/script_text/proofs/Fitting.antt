@@ -23,12 +23,12 @@ devices-from [] filters fit short = tt
 devices-from (name ∷ names) [] fit short = tt
 devices-from (name ∷ names) (filter ∷ filters) fit short = ((fit.0, short.0), devices-from names filters fit.1 short.1)
 
-filters-fit : (names : List (List ℕ)) (filters : List Tree) → length filters ≡ length names → FitDevices names filters → AllByRecursion FitsFilter filters
+pub filters-fit : (names : List (List ℕ)) (filters : List Tree) → length filters ≡ length names → FitDevices names filters → AllByRecursion FitsFilter filters
 filters-fit names [] same h = tt
 filters-fit [] (filter ∷ filters) same h = absurd (omega arith)
 filters-fit (name ∷ names) (filter ∷ filters) same h = (h.0.0, filters-fit names filters (omega arith) h.1)
 
-devices-short : (names : List (List ℕ)) (filters : List Tree) → FitDevices names filters → AllByRecursion IsShort (lines_of_devices names filters)
+pub devices-short : (names : List (List ℕ)) (filters : List Tree) → FitDevices names filters → AllByRecursion IsShort (lines_of_devices names filters)
 devices-short [] filters h = tt
 devices-short (name ∷ names) [] h = tt
 devices-short (name ∷ names) (filter ∷ filters) h = (h.0.1, devices-short names filters h.1)

@@ -14,3 +14,6 @@ pub mod LineTurns
 pub mod Differing
 pub mod Fitting
 pub mod WorkedExamples
+pub mod Accepting
+pub mod LineNeeds
+pub mod Needed

@@ -29,7 +29,7 @@ pub short-rest : (xs ys : List (List ℕ)) → AllByRecursion IsShort (xs ++ ys)
 short-rest [] ys h = h
 short-rest (x ∷ xs) ys h = short-rest xs ys h.1
 
-device-lines : (names : List (List ℕ)) (filters : List Tree) → length filters ≡ length names → AllByRecursion (λ name. is_name name ≡ true) names → AllByRecursion FitsFilter filters → AllByRecursion IsShort (lines_of_devices names filters) → AreDeviceLines names filters
+pub device-lines : (names : List (List ℕ)) (filters : List Tree) → length filters ≡ length names → AllByRecursion (λ name. is_name name ≡ true) names → AllByRecursion FitsFilter filters → AllByRecursion IsShort (lines_of_devices names filters) → AreDeviceLines names filters
 device-lines [] filters same named fit short = tt
 device-lines (name ∷ names) [] same named fit short = absurd (omega arith)
 device-lines (name ∷ names) (filter ∷ filters) same named fit short = (device-said name filter named.0 fit.0 short.0, device-lines names filters (omega arith) named.1 fit.1 short.1)
@@ -49,7 +49,7 @@ plain-commands : (s : Contents) (commands : List Command) → AreCommandLines s 
 plain-commands s [] lines = tt
 plain-commands s (x ∷ xs) lines = (lines.0.plain, plain-commands s xs lines.1)
 
-plain-both : (xs ys : List (List ℕ)) → AllByRecursion (λ l. is_from 32 l ≡ true) xs → AllByRecursion (λ l. is_from 32 l ≡ true) ys → AllByRecursion (λ l. is_from 32 l ≡ true) (xs ++ ys)
+pub plain-both : (xs ys : List (List ℕ)) → AllByRecursion (λ l. is_from 32 l ≡ true) xs → AllByRecursion (λ l. is_from 32 l ≡ true) ys → AllByRecursion (λ l. is_from 32 l ≡ true) (xs ++ ys)
 plain-both [] ys h g = g
 plain-both (x ∷ xs) ys h g = (h.0, plain-both xs ys h.1 g)
 

@@ -15,6 +15,7 @@ use Rattle.photo_script.specs.Limits.{max_commands}
 use Rattle.photo_script.specs.Reading.{script_of}
 use Rattle.photo_script.specs.Saying.{said}
 use Rattle.photo_script.specs.declared.command.Command.{Command}
+use Rattle.photo_script.specs.declared.command.Command.TheVariants as command
 use Rattle.script_text.specs.Texts.{line_of_command, text_of_script}
 use Rattle.script_text.specs.Printable.{FitsFilter, FitsCommand, IsShort, made_in, AllDiffer, HasValues, IsPrintable, IsOfValues}
 
@@ -45,3 +46,25 @@ LineIsRead = (s : Contents) (x : Command) (before : Earlier) → CanBeSaid s x �
 -- the text of a filter is that filter, within its limits
 abbrev pub ShortFilterFits : Type 0
 ShortFilterFits = (tree : Tree) → IsSound tree → length (tokens_of (text_of tree)) ≤ max_tokens → height tree ≤ max_height → is_too_wide tree Plain ≡ false → FitsFilter tree
+
+-- what the types of values say further: of filters, and of the numbers of versions
+abbrev pub HasTyped : Command → Type 0
+HasTyped (command.New device picture record_) = Unit {0}
+HasTyped (command.Edit device picture record_) = Unit {0}
+HasTyped (command.Remove device picture) = Unit {0}
+HasTyped (command.Pull target source) = Unit {0}
+HasTyped (command.Narrow device filter) = IsSound filter
+HasTyped (command.Refilter device filter) = IsSound filter
+HasTyped (command.Preview target source) = Unit {0}
+HasTyped (command.List device) = Unit {0}
+HasTyped (command.Conflicts device) = Unit {0}
+HasTyped (command.Knowledge device) = Unit {0}
+HasTyped (command.Knows device picture v) = v.number < 4_294_967_296
+
+pub record IsTyped (s : Contents) : Type 0 where
+  pub filters : AllByRecursion IsSound s.filters
+  pub commands : AllByRecursion HasTyped s.commands
+
+-- only the text of a script within the limits is read as that script
+abbrev pub ReadIsPrintable : Type 0
+ReadIsPrintable = (s : Contents) → IsScript s → IsOfValues s → IsTyped s → script_of (text_of_script s) ≡ Ok s → IsPrintable s

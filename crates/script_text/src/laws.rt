@@ -1,5 +1,5 @@
 //! Laws of the text of a script. Each function's contract is a law, and its body does nothing.
-ghost use Rattle.script_text.specs.Laws.{PrintedIsRead, LineIsRead, ShortFilterFits};
+ghost use Rattle.script_text.specs.Laws.{PrintedIsRead, LineIsRead, ReadIsPrintable, ShortFilterFits};
 ghost use Rattle.script_text.specs.Examples.{EachKind, NotAgain};
 
 /// The text of a script within the limits is read as that script.
@@ -21,4 +21,9 @@ pub fn short_filter_fits()
 pub fn examples()
     ensures each_kind { EachKind }
     ensures not_again { NotAgain }
+{}
+
+/// Only the text of a script within the limits is read as that script.
+pub fn read_is_printable()
+    ensures { ReadIsPrintable }
 {}
