@@ -1,5 +1,7 @@
 //! Calls by their names.
-use crate::{devices, fleets, gates, plans, pulls, questions, runs, scripts, sessions, streams};
+use crate::{
+    devices, fleets, gates, plans, pulls, questions, runs, scripts, sessions, streams, texts,
+};
 use std::alloc::Global;
 use std::sync::Wait;
 use std::thread::Threads;
@@ -30,6 +32,7 @@ fn of_scripts(alloc: Global, library: &str, call: &str) -> Option<Verdict> {
         "photo_pull" if call == "pull" => pulls::verdict(alloc, pulls::Call::Pull),
         "photo_pull" if call == "preview" => pulls::verdict(alloc, pulls::Call::Preview),
         "photo_script" => scripts::verdict(alloc, call),
+        "script_text" => texts::verdict(alloc, call),
         "photo_batcher" => plans::verdict(alloc, call),
         "photo_device" => devices::verdict(alloc, call),
         _ => verdict_on(alloc, library, call),

@@ -14,6 +14,7 @@ mod runs;
 mod scripts;
 mod sessions;
 mod streams;
+mod texts;
 
 use std::io;
 use value_refusals::word_of;

@@ -1,5 +1,7 @@
-//! The tests of scripts and of the texts of their reports, over the public calls.
+//! The tests of scripts, of the texts of their reports and of their own texts, over the public calls.
 #![tactic(auto)]
 
 #[cfg(test)]
 mod scripts;
+#[cfg(test)]
+mod texts;

@@ -9,8 +9,6 @@ mod limits;
 mod line;
 mod made;
 mod name;
-#[cfg(test)]
-mod tests;
 mod text;
 
 pub use line::command_text;

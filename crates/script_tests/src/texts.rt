@@ -1,6 +1,6 @@
 // Scripts and the texts that are printed of them.
-use crate::{command_text, script_text};
 use photo_script::read_script;
+use script_text::{command_text, script_text};
 use std::alloc::{AllocError, Global};
 
 // Whether the script of a text is printed so.
