@@ -234,17 +234,17 @@ fn lists(set: &Words, words: &[&str]) -> bool {
 
 // Whether those are the words over which one goes, in that order.
 fn goes_over(set: &Words, words: &[&str]) -> bool {
-    let mut rest = words;
+    let mut place = 0;
     for word in set {
-        let Some((next, others)) = rest.split_first() else {
-            return false;
-        };
-        if word.text() != *next {
+        if place >= words.len() {
             return false;
         }
-        rest = others;
+        if word.text() != words[place] {
+            return false;
+        }
+        place += 1;
     }
-    rest.is_empty()
+    place == words.len()
 }
 
 fn has_all(alloc: Global, set: &Words, words: &[&str]) -> bool {
