@@ -112,6 +112,26 @@ impl Device {
         }
     }
 
+    /// The same device with nothing staged, which goes its own way from then on. The held versions are shared. Its only error
+    /// is want of memory.
+    pub fn try_clone(&self) -> Result<Device, AllocError>
+        ensures { IfOk result (λ copy. copy ≡ unstaged self.now) }
+    {
+        let filter = self.filter.try_clone()?;
+        let store = self.store.try_clone()?;
+        let out = self.out.try_clone()?;
+        let knowledge = self.knowledge.as_knowledge().try_clone()?;
+        Ok(Device {
+            author: self.author,
+            filter,
+            counter: self.counter,
+            knowledge: NotedKnowledge::new(store.alloc(), knowledge),
+            store,
+            out,
+            prepared: None,
+        })
+    }
+
     /// Makes the device's next version of a picture, in the place of all that it held of that picture. Its history is
     /// what the device knew of the picture, and from then on the device knows it of every picture.
     ///

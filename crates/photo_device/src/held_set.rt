@@ -1,5 +1,5 @@
 // Sets of held versions, in the order of their pictures.
-ghost use Rattle.std.specs.Prelude.{◌≡◌, true};
+ghost use Rattle.std.specs.Prelude.{◌≡◌, ◌++◌, ◌∷◌, [], true, IfOk, OnOk};
 ghost use Rattle.std.specs.Option.{option_copied};
 ghost use Rattle.photo_device.specs.Held.{are_in_order, find_version, IsRangeOf};
 
@@ -178,6 +178,14 @@ impl HeldSet {
         Ok(SharedList::new(items))
     }
 
+    /// The same set, which shares what it has. Its only error is want of memory.
+    pub(crate) fn try_clone(&self) -> Result<HeldSet, AllocError>
+        ensures { IfOk result (λ copy. copy ≡ self.now) }
+    {
+        let items = copied(&self.items, self.alloc)?;
+        Ok(HeldSet::of_list(items, self.alloc))
+    }
+
     /// The one of that version, if it has it. It looks through all of them, since they are in the order of their pictures.
     pub fn find(&self, version: Version) -> Option<&Held>
         ensures { option_copied result ≡ find_version version self.now }
@@ -280,6 +288,25 @@ impl HeldSet {
             None => false,
         }
     }
+}
+
+// The same list, which shares what it has. Its only error is want of memory.
+fn copied(items: &BlockList<SharedHeld>, alloc: Global) -> Result<BlockList<SharedHeld>, AllocError>
+    ensures { IfOk result (λ copy. copy ≡ items.now) }
+{
+    let mut copy = BlockList::new(alloc);
+    for held in items {
+        push(&mut copy, held.try_clone()?)?;
+    }
+    Ok(copy)
+}
+
+// Puts a held version behind all others, at a cost that hardly grows with their number.
+fn push(items: &mut BlockList<SharedHeld>, held: SharedHeld) -> Result<(), AllocError>
+    ensures { OnOk result (items.new ≡ items.old ++ held ∷ []) }
+{
+    items.replace_between(|_| true, |_| true, held)?;
+    Ok(())
 }
 
 // The one of that version in a part of a set.
