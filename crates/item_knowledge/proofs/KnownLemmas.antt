@@ -86,12 +86,3 @@ row_had fs table i t got known rest p v h =
 
 pub table_had : (fs : List Fragment) (table : List (ℕ × List Bound)) (i : ℕ) → length table ≤ i → HasTable fs (drop i table)
 table_had fs table i l p v h = absurd (false≢true (sym (ap (λ ts. vectors.denotes (at [] ts p) v) (drop_all i table l)) ∙ h))
-
--- what is known already adds nothing
-pub had_adds_nothing : (fs : List Fragment) (table : List (ℕ × List Bound)) (p : ℕ) (v : Version) → HasTable fs table → knows fs p v ≡ (knows fs p v || vectors.denotes (at [] table p) v)
-had_adds_nothing fs table p v h = by (knows fs p v) (vectors.denotes (at [] table p) v) (h p v)
-  where
-    by : (a b : Bool) → (b ≡ true → a ≡ true) → a ≡ (a || b)
-    by true b f = refl
-    by false true f = f refl
-    by false false f = refl

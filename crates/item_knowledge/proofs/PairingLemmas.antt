@@ -1,7 +1,7 @@
 -- Two indexes that are gone along together: what comes next.
 use Rattle.std.proofs.Common.{◌≡◌, ℕ, zero, suc, ◌+◌, ◌<◌, ◌≤◌, true, ltb, List, [], ◌∷◌, length, get_or, drop, refl, sym, subst, ap, ◌∙◌, inl, inr, arith, add-one}
 use Rattle.std.proofs.lemmas.List.{drop_all}
-use Rattle.std.proofs.lemmas.Bool.{and_parts, and_from, lt-ltb, cases_lt}
+use Rattle.std.proofs.lemmas.Bool.{and_from, lt-ltb, cases_lt}
 use Rattle.item_knowledge.specs.Tables.{keys_pass, in_order}
 use Rattle.item_knowledge.specs.Fragments.{Fragment}
 use Rattle.item_knowledge.specs.Gathering.{IsSide, paired}
@@ -9,18 +9,8 @@ use Rattle.item_knowledge.specs.declared.pairing.Pairing.{Pairing}
 use Rattle.item_knowledge.specs.Pairing.{left_of, IsAlong}
 use Rattle.item_knowledge.proofs.TableLemmas.{above_all, merge_left, merge_right, merge_both}
 use Rattle.item_knowledge.proofs.MergeLemmas.{drop_next}
+use Rattle.item_knowledge.proofs.SearchLemmas.{above_next}
 use Rattle.item_knowledge.proofs.UnionLemmas.{row_range}
-
-order_rest : (xs : List (ℕ × ℕ)) (i : ℕ) → in_order xs ≡ true → in_order (drop i xs) ≡ true
-order_rest xs zero h = h
-order_rest [] (suc i) h = refl
-order_rest (x ∷ xs) (suc i) h = order_rest xs i (and_parts (keys_pass (λ k. ltb x.0 k) xs) (in_order xs) h).1
-
--- behind the next one all are greater
-above_next : (xs : List (ℕ × ℕ)) (i : ℕ) (d : ℕ × ℕ) → in_order xs ≡ true → i < length xs → keys_pass (λ k. ltb (get_or xs i d).0 k) (drop (i + 1) xs) ≡ true
-above_next xs i d h l =
-    let order = subst (λ zs. in_order zs ≡ true) (drop_next xs i d l) (order_rest xs i h) in
-    (and_parts (keys_pass (λ k. ltb (get_or xs i d).0 k) (drop (i + 1) xs)) (in_order (drop (i + 1) xs)) order).0
 
 -- where the next one is greater than a number all are
 above_from : (n : ℕ) (xs : List (ℕ × ℕ)) (i : ℕ) (d : ℕ × ℕ) → in_order xs ≡ true → (i < length xs → n < (get_or xs i d).0) → keys_pass (λ k. ltb n k) (drop i xs) ≡ true
@@ -49,9 +39,6 @@ pub next_both : (xs ys : List (ℕ × ℕ)) (i j : ℕ) (d e : ℕ × ℕ) → i
 next_both xs ys i j d e h g l m same =
     (λ k. paired (drop_next xs i d l k) (drop_next ys j e m k))
     ∙ merge_both (λ a. (a, 0)) (λ a b. (a, b.1)) (λ b. (0, b)) (get_or xs i d) (drop (i + 1) xs) (get_or ys j e) (drop (j + 1) ys) same (above_next xs i d h l)
-
-pub next_none : (xs ys : List (ℕ × ℕ)) (i j : ℕ) → length xs ≤ i → length ys ≤ j → paired (drop i xs) (drop j ys) ≡ []
-next_none xs ys i j l m = λ k. paired (drop_all i xs l k) (drop_all j ys m k)
 
 -- Passing one picture
 

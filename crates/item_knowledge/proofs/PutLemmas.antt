@@ -1,23 +1,15 @@
 -- A word is put in place into a row of a fragment.
-use Rattle.std.proofs.Common.{◌≡◌, ℕ, zero, suc, ◌+◌, ◌*◌, ◌<◌, ◌≤◌, true, leb, ltb, max, ◌&&◌, List, [], ◌∷◌, length, get_or, set, drop, refl, sym, subst, ap, ◌∙◌, arith}
-use Rattle.std.proofs.lemmas.List.{drop_all}
+use Rattle.std.proofs.Common.{◌≡◌, ℕ, zero, suc, ◌+◌, ◌*◌, ◌<◌, ◌≤◌, true, leb, ltb, max, ◌&&◌, List, [], ◌∷◌, length, get_or, set, refl, sym, subst, ap, ◌∙◌, arith}
 use Rattle.std.proofs.lemmas.Bool.{and_parts, and_from, lt-ltb, ltb-true, leb-true, eq-eqb, ne_eqb}
 use Rattle.item_knowledge.specs.Tables.{keys_pass, in_order}
 use Rattle.item_knowledge.specs.Entries.{Entry, bound, joined}
 use Rattle.item_knowledge.specs.Fragments.{Fragment, entries_at}
-use Rattle.item_knowledge.specs.Rows.{pairs, flat, AreRows, fragments_of, rows_of}
+use Rattle.item_knowledge.specs.Rows.{pairs, flat, AreRows, IsAt, fragments_of, rows_of}
 use Rattle.item_knowledge.specs.Raising.{raised, all_raised, is_risen, are_risen}
-use Rattle.item_knowledge.proofs.MergeLemmas.{drop_next}
-use Rattle.item_knowledge.proofs.RowLemmas.{fragments_rows, rows_rows, rows_length, entries_row}
+use Rattle.item_knowledge.proofs.RowLemmas.{fragments_rows, rows_rows, rows_length, entries_row, flat_length}
 use Rattle.item_knowledge.proofs.TableLemmas.{merge_left, merge_both}
 
 -- The entry of an author who has one
-
-pub bound_passed : (es : List Entry) (i a : ℕ) → i < length es → ((get_or es i (0, 0)).0 ≡ a → ⊥) → bound (drop i es) a ≡ bound (drop (i + 1) es) a
-bound_passed es i a l n = ap (λ ds. bound ds a) (drop_next es i (0, 0) l) ∙ rw (ne_eqb (get_or es i (0, 0)).0 a n) refl
-
-pub bound_none : (es : List Entry) (i a : ℕ) → length es ≤ i → bound (drop i es) a ≡ 0
-bound_none es i a l = ap (λ ds. bound ds a) (drop_all i es l)
 
 -- A bound that is raised in place is the join with the one entry
 
@@ -135,34 +127,27 @@ so_far e k fs rows is =
       row = λ l. entries_row gs k (omega arith) ∙ ap flat at;
     })
 
--- the place of the author's entry in a row
-pub record IsEntry (row : List ℕ) (es : List Entry) (place a : ℕ) : Type 0 where
-  pub entries : pairs row ≡ es
-  pub inside : place < length (pairs row)
-  pub author : (get_or (pairs row) place (0, 0)).0 ≡ a
+-- the word to be put is in its row, and with it the next fragment is raised
+pub record Puts (e : Entry) (k : ℕ) (fs : List Fragment) (rows : List (List ℕ)) (place : ℕ) : Type 0 where
+  pub row : 2 * k + 1 < length rows
+  pub inside : 2 * place + 1 < length (get_or rows (2 * k + 1) [])
+  pub put : (new : List (List ℕ)) → new ≡ set rows (2 * k + 1) (set (get_or rows (2 * k + 1) []) (2 * place + 1) e.1) → new ≡ rows_of (raised_to e (k + 1) fs)
 
--- the word to be put is in its row
-pub word_inside : (e : Entry) (k : ℕ) (fs : List Fragment) (rows : List (List ℕ)) (row : List ℕ) (place : ℕ) → RaisedTo e k fs rows → k < length fs → IsEntry row (entries_at fs k) place e.0 → 2 * place + 1 < length (get_or rows (2 * k + 1) [])
-word_inside e k fs rows row place r l f =
-    let is = ap length (r.row l) in
-    let size = flat_size (entries_at fs k) in
-    let same = ap length f.entries in
-    let less = f.inside in
-    omega arith
-  where
-    flat_size : (es : List Entry) → length (flat es) ≡ 2 * length es
-    flat_size [] = refl
-    flat_size (x ∷ es) = let rest = flat_size es in omega arith
-
-pub raised_next : (e : Entry) (k : ℕ) (fs : List Fragment) (rows new : List (List ℕ)) (row : List ℕ) (place : ℕ) → are_risen e fs ≡ true → rows ≡ rows_of (raised_to e k fs) → k < length fs → IsEntry row (entries_at fs k) place e.0 → new ≡ set rows (2 * k + 1) (set (get_or rows (2 * k + 1) []) (2 * place + 1) e.1) → new ≡ rows_of (raised_to e (k + 1) fs)
-raised_next e k fs rows new row place risen is l f put =
+pub puts : (e : Entry) (k : ℕ) (fs : List Fragment) (rows : List (List ℕ)) (row : List ℕ) (n place : ℕ) → are_risen e fs ≡ true → rows ≡ rows_of (raised_to e k fs) → k < length fs
+    → pairs row ≡ entries_at (fragments_of rows) k → n ≡ bound (pairs row) e.0 → (0 < n → IsAt (pairs row) place e.0) → Puts e k fs rows place
+puts e k fs rows row n place risen is l entries bounds there =
     let r = so_far e k fs rows is in
     let p = risen_at e fs k risen l in
     let es = entries_at fs k in
-    let here : place < length (entries_at fs k) = subst (λ (ds : List Entry). place < length ds) f.entries f.inside in
-    let author : (get_or (entries_at fs k) place (0, 0)).0 ≡ e.0 = subst (λ (ds : List Entry). (get_or ds place (0, 0)).0 ≡ e.0) f.entries f.author in
-    let made : set (get_or rows (2 * k + 1) []) (2 * place + 1) e.1 ≡ flat (joined es (e ∷ [])) = ap (λ ws. set ws (2 * place + 1) e.1) (r.row l) ∙ row_put es place e.0 e.1 p.order here author p.most in
+    let same : pairs row ≡ es = entries ∙ r.entries in
+    let at : IsAt es place e.0 = subst (λ (ds : List Entry). IsAt ds place e.0) same (there (subst (λ m. 0 < m) (sym (bounds ∙ ap (λ (ds : List Entry). bound ds e.0) same)) p.some)) in
+    let inside = at.inside in
+    let long = ap length (r.row l) ∙ flat_length es in
+    let size = r.size in
+    let made : set (get_or rows (2 * k + 1) []) (2 * place + 1) e.1 ≡ flat (joined es (e ∷ [])) = ap (λ ws. set ws (2 * place + 1) e.1) (r.row l) ∙ row_put es place e.0 e.1 p.order inside at.author_is p.most in
     let one : suc k ≡ k + 1 = omega arith in
-    put
-    ∙ ((λ j. set (is j) (2 * k + 1) (made j))
-    ∙ (raised_row e k fs l ∙ ap (λ m. rows_of (raised_to e m fs)) one))
+    record {
+      row = omega arith;
+      inside = omega arith;
+      put = λ new put. put ∙ ((λ j. set (is j) (2 * k + 1) (made j)) ∙ (raised_row e k fs l ∙ ap (λ m. rows_of (raised_to e m fs)) one));
+    }

@@ -1,10 +1,10 @@
 -- Where no fragment has an author above the star, raising the author's bound in each of them keeps the normal form.
-use Rattle.std.proofs.Common.{◌≡◌, ℕ, zero, suc, ◌+◌, ◌-◌, ◌<◌, Bool, true, false, not, leb, ltb, cond, ◌&&◌, List, [], ◌∷◌, length, drop, refl, sym, subst, ap, ◌∙◌, inl, inr, arith, Option, None, Some}
+use Rattle.std.proofs.Common.{◌≡◌, ℕ, zero, suc, ◌+◌, ◌-◌, ◌<◌, Bool, true, false, not, leb, ltb, cond, ◌&&◌, List, [], ◌∷◌, length, refl, sym, subst, ap, ◌∙◌, inl, inr, arith, Option, None, Some}
 use Rattle.std.specs.List.{list_all}
 use Rattle.std.proofs.lemmas.Bool.{and_parts, and_from, leb-true, ne_eqb, cases_Bool, cases_eq, false≢true}
 use Rattle.item_knowledge.specs.Tables.{at}
 use Rattle.item_knowledge.specs.Entries.{Entry, denotes, is_entry, is_vector, bound, same_entries, joined}
-use Rattle.item_knowledge.specs.Fragments.{Fragment, lists, is_group, goes_before, are_groups, is_normal, find, or_star, known, nothing, entries_at}
+use Rattle.item_knowledge.specs.Fragments.{Fragment, lists, is_group, goes_before, are_groups, is_normal, find, or_star, known, entries_at}
 use Rattle.item_knowledge.specs.Rows.{rows_of, fragments_of}
 use Rattle.item_knowledge.specs.Gathering.{vector_of, IsIndex, IsUnion}
 use Rattle.item_knowledge.specs.Kept.{IsKept}
@@ -12,7 +12,6 @@ use Rattle.item_knowledge.specs.Raising.{are_level, raised, all_raised, star_of_
 use Rattle.item_knowledge.proofs.EntryLemmas.{one_by_bounds}
 use Rattle.item_knowledge.proofs.FragmentLemmas.{entries_decide, GroupParts, groups_parts, before_parts, normal_parts, leq_at}
 use Rattle.item_knowledge.proofs.JoinLemmas.{joined_bound, joined_vector, joined_leq, joined_denotes, leq_self}
-use Rattle.item_knowledge.proofs.MergeLemmas.{drop_next}
 use Rattle.item_knowledge.proofs.RowLemmas.{fragments_rows, rows_rows}
 use Rattle.item_knowledge.proofs.UnionLemmas.{at_number, knows_vector, normal_side, side_vector}
 
@@ -166,9 +165,6 @@ raised_union e fs xs h i n =
     }
 
 -- Whether all are level, one after another
-
-pub level_step : (fs : List Fragment) (k a b : ℕ) → k < length fs → are_level (drop k fs) a b ≡ (leb (bound (entries_at fs k) a) b && are_level (drop (k + 1) fs) a b)
-level_step fs k a b l = ap (λ gs. are_level gs a b) (drop_next fs k nothing l)
 
 -- what is kept once it was raised
 pub record Raised (e : Entry) (rows : List (List ℕ)) (xs : List (ℕ × ℕ)) (out : List (List ℕ)) : Type 0 where

@@ -1,13 +1,13 @@
 -- Rows of words.
-use Rattle.std.proofs.Common.{◌≡◌, ℕ, zero, suc, ◌+◌, ◌*◌, ◌<◌, ◌≤◌, Bool, true, false, leb, ltb, eqb, ◌&&◌, max, List, [], ◌∷◌, ◌++◌, length, get_or, drop, refl, sym, subst, ap, ◌∙◌, inl, inr, arith, append_assoc}
+use Rattle.std.proofs.Common.{◌≡◌, ℕ, zero, suc, ◌+◌, ◌*◌, ◌<◌, ◌≤◌, Bool, true, false, ltb, eqb, ◌&&◌, max, List, [], ◌∷◌, ◌++◌, length, get_or, drop, refl, sym, subst, ap, ◌∙◌, inl, inr, arith, append_assoc}
 use Rattle.std.proofs.lemmas.List.{drop_all}
 use Rattle.std.specs.Cmp.Lexicographic.{pointwise}
-use Rattle.std.proofs.lemmas.Bool.{and_parts, and_from, lt-ltb, cases_lt, eq-eqb, ne_eqb, le-leb, lt-leb, eqb-true}
+use Rattle.std.proofs.lemmas.Bool.{and_parts, and_from, lt-ltb, cases_lt, eqb-true}
 use Rattle.item_knowledge.specs.Tables.{keys_pass, in_order}
-use Rattle.item_knowledge.specs.Entries.{Entry, same_entries, joined, bound, leq}
+use Rattle.item_knowledge.specs.Entries.{Entry, same_entries, joined}
 use Rattle.item_knowledge.specs.Fragments.{Fragment, nothing, entries_at}
 use Rattle.item_knowledge.specs.Rows.{pairs, flat, IsRow, fragments_of, rows_of, AreRows}
-use Rattle.item_knowledge.proofs.TableLemmas.{at_above, above_all, merge_left, merge_right, merge_both}
+use Rattle.item_knowledge.proofs.TableLemmas.{above_all, merge_left, merge_right, merge_both}
 use Rattle.item_knowledge.proofs.MergeLemmas.{drop_next}
 
 -- Rows and what they are of
@@ -228,37 +228,9 @@ entry_step xs i l h =
       rest = subst (λ n. IsRow (drop n xs)) two s.rest;
     }
 
-pub bound_here : (xs : List ℕ) (i a : ℕ) → i < length xs → IsRow (drop i xs) → get_or xs i 0 ≡ a → bound (pairs (drop i xs)) a ≡ get_or xs (i + 1) 0
-bound_here xs i a l h e = ap (λ es. bound es a) (entry_step xs i l h).entries ∙ rw (eq-eqb (get_or xs i 0) a e) refl
-
-pub bound_later : (xs : List ℕ) (i a : ℕ) → i < length xs → IsRow (drop i xs) → (get_or xs i 0 ≡ a → ⊥) → bound (pairs (drop i xs)) a ≡ bound (pairs (drop (i + 2) xs)) a
-bound_later xs i a l h n = ap (λ es. bound es a) (entry_step xs i l h).entries ∙ rw (ne_eqb (get_or xs i 0) a n) refl
-
-order_parts : (xs : List ℕ) (i : ℕ) → i < length xs → IsRow (drop i xs) → in_order (pairs (drop i xs)) ≡ true → (keys_pass (λ k. ltb (get_or xs i 0) k) (pairs (drop (i + 2) xs)) ≡ true) × (in_order (pairs (drop (i + 2) xs)) ≡ true)
-order_parts xs i l h o =
-    and_parts (keys_pass (λ k. ltb (get_or xs i 0) k) (pairs (drop (i + 2) xs))) (in_order (pairs (drop (i + 2) xs))) (subst (λ es. in_order es ≡ true) (entry_step xs i l h).entries o)
-
-pub order_later : (xs : List ℕ) (i : ℕ) → i < length xs → IsRow (drop i xs) → in_order (pairs (drop i xs)) ≡ true → in_order (pairs (drop (i + 2) xs)) ≡ true
-order_later xs i l h o = (order_parts xs i l h o).1
-
--- above an author stands nothing of it
-pub bound_above : (xs : List ℕ) (i a : ℕ) → i < length xs → IsRow (drop i xs) → in_order (pairs (drop i xs)) ≡ true → a < get_or xs i 0 → bound (pairs (drop i xs)) a ≡ 0
-bound_above xs i a l h o less =
-    ap (λ es. bound es a) (entry_step xs i l h).entries
-    ∙ at_above 0 (entry_at xs i ∷ pairs (drop (i + 2) xs)) a (and_from _ _ (lt-ltb a (get_or xs i 0) less) (above_all a (get_or xs i 0) (pairs (drop (i + 2) xs)) (omega arith) (order_parts xs i l h o).0))
-
-pub leq_step : (xs : List ℕ) (i : ℕ) (es : List Entry) → i < length xs → IsRow (drop i xs) → leq (pairs (drop i xs)) es ≡ (leb (get_or xs (i + 1) 0) (bound es (get_or xs i 0)) && leq (pairs (drop (i + 2) xs)) es)
-leq_step xs i es l h = ap (λ ds. leq ds es) (entry_step xs i l h).entries
-
-pub leq_more : (xs : List ℕ) (i : ℕ) (es : List Entry) → i < length xs → IsRow (drop i xs) → get_or xs (i + 1) 0 ≤ bound es (get_or xs i 0) → leq (pairs (drop i xs)) es ≡ leq (pairs (drop (i + 2) xs)) es
-leq_more xs i es l h le = leq_step xs i es l h ∙ rw (le-leb _ _ le) refl
-
-pub leq_none : (xs : List ℕ) (i : ℕ) (es : List Entry) → i < length xs → IsRow (drop i xs) → bound es (get_or xs i 0) < get_or xs (i + 1) 0 → leq (pairs (drop i xs)) es ≡ false
-leq_none xs i es l h less = leq_step xs i es l h ∙ rw (lt-leb _ _ less) refl
-
 -- The entries of a row by their places
 
-flat_length : (es : List Entry) → length (flat es) ≡ 2 * length es
+pub flat_length : (es : List Entry) → length (flat es) ≡ 2 * length es
 flat_length [] = refl
 flat_length (e ∷ es) = let rest = flat_length es in omega arith
 

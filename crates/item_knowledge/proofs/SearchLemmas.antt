@@ -1,8 +1,9 @@
 -- Searches in tables.
-use Rattle.std.proofs.Common.{rules, ◌≡◌, ℕ, zero, suc, ◌<◌, ◌≤◌, true, false, ltb, List, [], ◌∷◌, length, get_or, refl, arith}
+use Rattle.std.proofs.Common.{rules, ◌≡◌, ℕ, zero, suc, ◌+◌, ◌<◌, ◌≤◌, true, false, ltb, List, [], ◌∷◌, length, get_or, drop, refl, sym, subst, ap, ◌∙◌, arith, add-one}
 use Rattle.std.specs.List.Sorted.{IsNonDecreasingBy, IsPartitionPoint}
-use Rattle.std.proofs.lemmas.Bool.{and_parts, ltb-true, ltb-false, eq-eqb, ne_eqb}
+use Rattle.std.proofs.lemmas.Bool.{and_parts, and_from, lt-ltb, ltb-true, ltb-false, eq-eqb, ne_eqb}
 use Rattle.item_knowledge.specs.Tables.{keys_pass, in_order, at}
+use Rattle.item_knowledge.proofs.MergeLemmas.{drop_next}
 use Rattle.item_knowledge.proofs.TableLemmas.{at_above, above_all}
 
 -- along a table in order the numbers don't fall
@@ -57,3 +58,37 @@ is_place p xs i h = record {
   below = λ k d l. ltb-true (get_or xs k d).0 p (search (rules, h.0));
   from = λ k d l m. ltb-false (get_or xs k d).0 p (search (rules, h.1));
 }
+
+-- A table, from a place on
+
+order_from : (xs : List (ℕ × ℕ)) (i : ℕ) → in_order xs ≡ true → in_order (drop i xs) ≡ true
+order_from xs zero h = h
+order_from [] (suc i) h = refl
+order_from (x ∷ xs) (suc i) h = order_from xs i (and_parts (keys_pass (λ k. ltb x.0 k) xs) (in_order xs) h).1
+
+-- behind a place all are greater
+pub above_next : (xs : List (ℕ × ℕ)) (i : ℕ) (d : ℕ × ℕ) → in_order xs ≡ true → i < length xs → keys_pass (λ k. ltb (get_or xs i d).0 k) (drop (i + 1) xs) ≡ true
+above_next xs i d h l =
+    let order = subst (λ zs. in_order zs ≡ true) (drop_next xs i d l) (order_from xs i h) in
+    (and_parts (keys_pass (λ k. ltb (get_or xs i d).0 k) (drop (i + 1) xs)) (in_order (drop (i + 1) xs)) order).0
+
+pub none_from : (xs : List (ℕ × ℕ)) (i p : ℕ) (d : ℕ × ℕ) → in_order xs ≡ true → i < length xs → p < (get_or xs i d).0 → at 0 (drop i xs) p ≡ 0
+none_from xs i p d h l less =
+    ap (λ zs. at 0 zs p) (drop_next xs i d l)
+    ∙ at_above 0 (get_or xs i d ∷ drop (i + 1) xs) p (and_from _ _ (lt-ltb p (get_or xs i d).0 less) (above_all p (get_or xs i d).0 (drop (i + 1) xs) (omega arith) (above_next xs i d h l)))
+
+-- where a place has no greater number, nothing before it counts
+pub at_from : (xs : List (ℕ × ℕ)) (i q : ℕ) (d : ℕ × ℕ) → in_order xs ≡ true → i < length xs → (get_or xs i d).0 ≤ q → at 0 (drop i xs) q ≡ at 0 xs q
+at_from xs zero q d h l le = refl
+at_from [] (suc i) q d h l le = absurd (omega arith)
+at_from (x ∷ xs) (suc i) q d h l le =
+    let a = and_parts (keys_pass (λ k. ltb x.0 k) xs) (in_order xs) h in
+    let less = first_below x.0 xs i d a.0 (omega arith) in
+    at_from xs i q d a.1 (omega arith) le ∙ sym (rw (ne_eqb x.0 q (λ s. absurd (omega arith))) refl)
+
+pub passed_from : (xs : List (ℕ × ℕ)) (i q : ℕ) (d : ℕ × ℕ) → i < length xs → ((get_or xs i d).0 ≡ q → ⊥) → at 0 (drop i xs) q ≡ at 0 (drop (i + 1) xs) q
+passed_from xs i q d l n = ap (λ zs. at 0 zs q) (drop_next xs i d l) ∙ rw (ne_eqb (get_or xs i d).0 q n) refl
+
+-- where a place has a smaller number, nothing up to it counts
+pub behind_from : (xs : List (ℕ × ℕ)) (i q : ℕ) (d : ℕ × ℕ) → in_order xs ≡ true → i < length xs → (get_or xs i d).0 < q → at 0 (drop (suc i) xs) q ≡ at 0 xs q
+behind_from xs i q d h l less = rw (← add-one) (sym (passed_from xs i q d l (λ s. absurd (omega arith))) ∙ at_from xs i q d h l (omega arith))

@@ -70,9 +70,6 @@ set_marks words new a n m l one is =
     let set_now : bit_at (bit_or w m) i ≡ 1 = omega arith in
     eq-eqb (bit_at (get_or new (n % 8192) 0) i) 1 (ap (λ x. bit_at x i) now ∙ set_now)
 
-pub keeps_all : (words new : List ℕ) → new ≡ words → HasMarks words new
-keeps_all words new is a n h = subst (λ xs. is_marked xs a n ≡ true) (sym is) h
-
 -- the bit of an author
 pub bit_set : (a : ℕ) → bit_at (1 * 2 ^ (bit_of a) % 2 ^ 64) (bit_of a) ≡ 1
 bit_set a = ap (λ w. bit_at w (bit_of a)) (one_shl (bit_of a) 64 (omega arith)) ∙ bit_at-pow_same (bit_of a)
@@ -83,13 +80,6 @@ pub record IsAdded (one other words : List ℕ) (i : ℕ) : Type 0 where
   pub size : length words ≡ length one
   pub kept : HasMarks one words
   pub come : (a n : ℕ) → n % 8192 < i → is_marked other a n ≡ true → is_marked words a n ≡ true
-
-pub none_added : (one other words : List ℕ) → words ≡ one → IsAdded one other words 0
-none_added one other words is = record {
-  size = ap (length {A = ℕ}) is;
-  kept = λ a n h. subst (λ xs. is_marked xs a n ≡ true) (sym is) h;
-  come = λ a n l h. absurd (omega arith);
-}
 
 pub one_added : (one other words new : List ℕ) (i : ℕ) → IsAdded one other words i → i < length words → new ≡ set words i (bit_or (get_or words i 0) (get_or other i 0)) → IsAdded one other new (i + 1)
 one_added one other words new i h l is =
@@ -106,16 +96,6 @@ one_added one other words new i h l is =
         | inr before ↦ keeps a n (h.come a n (omega arith) m)
       ];
     }
-
-pub all_added : (one other words : List ℕ) (i : ℕ) → IsAdded one other words i → length other ≤ i → HasMarks other words
-all_added one other words i h l a n m = elim (cases_lt (n % 8192) i) [
-  | inl there ↦ h.come a n there m
-  | inr past ↦
-      let none : get_or other (n % 8192) 0 ≡ 0 = get_or_past other (n % 8192) 0 (omega arith) in
-      let bits : bit_at (get_or other (n % 8192) 0) (bit_of a) ≡ 0 = ap (λ x. bit_at x (bit_of a)) none ∙ bit_at-zero (bit_of a) in
-      let one_bit = eqb-true (bit_at (get_or other (n % 8192) 0) (bit_of a)) 1 m in
-      absurd (omega arith)
-]
 
 -- Rows that are marked
 
@@ -156,10 +136,6 @@ marked_entries words new es i h more last j l = elim (cases_lt j i) [
       let same : i ≡ j = omega arith in
       subst (λ k. is_marked new (get_or es k (0, 0)).0 (get_or es k (0, 0)).1 ≡ true) same last
 ]
-
-pub star_seen : (words : List ℕ) (rows : List (List ℕ)) → length (fragments_of rows) ≤ 1 → IsSeen words rows
-star_seen words rows few zero a more = absurd (omega arith)
-star_seen words rows few (suc k) a more = let none = none_past (fragments_of rows) (suc k) a (omega arith) in absurd (omega arith)
 
 -- A row with a bound that has no mark is none of those
 

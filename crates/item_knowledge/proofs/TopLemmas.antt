@@ -37,16 +37,6 @@ top_order top rows h = vector_order (pairs top) h.vector
 pub none_past : (fs : List Fragment) (k a : ℕ) → length fs ≤ k → bound (entries_at fs k) a ≡ 0
 none_past fs k a l = ap (λ f. bound f.entries a) (get_or_past fs k nothing l)
 
-pub none_top : (top : List ℕ) → IsRow top → is_vector (pairs top) ≡ true → IsTop top []
-none_top top row vector = record { row = row; vector = vector; most = λ k a. let none = none_past [] k a (omega arith) in omega arith }
-
-pub star_top : (rows : List (List ℕ)) → length (fragments_of rows) ≤ 1 → IsTop [] rows
-star_top rows few = record { row = refl; vector = refl; most = by }
-  where
-    by : (k : ℕ) (a : ℕ) → bound (entries_at (fragments_of rows) k) a ≤ max (bound (pairs []) a) (bound (entries_at (fragments_of rows) 0) a)
-    by zero a = omega arith
-    by (suc k) a = let none = none_past (fragments_of rows) (suc k) a (omega arith) in omega arith
-
 -- the same of the first rows
 pub record IsTopTo (top : List ℕ) (rows : List (List ℕ)) (k : ℕ) : Type 0 where
   pub row : IsRow top

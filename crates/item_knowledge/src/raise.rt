@@ -8,7 +8,7 @@ ghost use Rattle.item_knowledge.specs.Rows.{AreRows, fragments_of, rows_of};
 
 use crate::live::LiveRows;
 use crate::rows::Rows;
-use crate::search::place_near;
+use crate::search::bound_near;
 use crate::union::entries;
 
 /// Whether no fragment has a version of the author above the bound. Takes no memory.
@@ -36,7 +36,7 @@ pub(crate) fn raise(rows: &mut Rows, author: u64, n: u64)
         let row = entries(rows, k);
         // For its fact alone: how long the row is.
         let _count = row.len();
-        let place = place_near(row, near, author);
+        let (_bound, place) = bound_near(row, near, author);
         rows.put(2 * k + 1, 2 * place + 1, n);
         near = place;
     }

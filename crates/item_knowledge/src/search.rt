@@ -1,8 +1,8 @@
 // Searches for a picture in an index, and for an author in a row.
-ghost use Rattle.std.specs.Prelude.{◌≡◌, ℕ, ◌<◌, ◌≤◌, true, length, get_or, drop, IfSome};
+ghost use Rattle.std.specs.Prelude.{◌≡◌, ◌<◌, true, length, get_or, drop, IfSome};
 ghost use Rattle.item_knowledge.specs.Tables.{in_order, at};
-ghost use Rattle.item_knowledge.specs.Entries.{bound, leq, is_vector};
-ghost use Rattle.item_knowledge.specs.Rows.{pairs, IsRow};
+ghost use Rattle.item_knowledge.specs.Entries.{bound, leq};
+ghost use Rattle.item_knowledge.specs.Rows.{pairs, IsRow, IsAt};
 
 use crate::index::IndexEntry;
 
@@ -64,6 +64,26 @@ fn number_there(index: &[IndexEntry], place: usize, picture: u32) -> Option<usiz
     Some(row.1 as usize)
 }
 
+// The number of the fragment to which an index leads from a picture, 0 for the star, where it is looked for from a place on;
+// and the place at which the picture stands or would stand.
+fn number_from(index: &[IndexEntry], from: usize, picture: u32) -> (usize, usize)
+    requires { in_order index.now ≡ true }
+    ensures { result.0 ≡ at 0 (drop from index.now) picture }
+{
+    let mut place = from;
+    while place < index.len() {
+        let row = index[place];
+        if picture < row.0 {
+            return (0, place);
+        }
+        if row.0 == picture {
+            return (row.1 as usize, place);
+        }
+        place += 1;
+    }
+    (0, place)
+}
+
 /// The number of the fragment to which an index leads from a picture, 0 for the star, and a hint for a later picture. The
 /// work is small where the hint is that of an earlier picture close by; the number is right with any hint.
 #[inline(always)]
@@ -86,6 +106,14 @@ pub(crate) fn number_near(index: &[IndexEntry], hint: usize, picture: u32) -> (u
     number_at(index, picture)
 }
 
+/// The number of entries of a row.
+pub(crate) fn entry_count(row: &[u64]) -> usize
+    requires { IsRow row.now }
+    ensures { result ≡ length (pairs row.now) }
+{
+    row.len() / 2
+}
+
 /// The entry at place `i` of a row: the author's word, and the bound.
 pub(crate) fn entry_at(row: &[u64], i: usize) -> (u64, u64)
     requires row { IsRow row.now }
@@ -97,120 +125,71 @@ pub(crate) fn entry_at(row: &[u64], i: usize) -> (u64, u64)
     (row[2 * i], row[2 * i + 1])
 }
 
-// The bound of an author in a row, where the author's entry stands at that place.
-fn bound_there(row: &[u64], place: usize, author: u64) -> Option<u64>
+// The bound of an author in a row, and its place, where no entry before that place is the author's.
+#[inline(always)]
+fn bound_from(row: &[u64], from: usize, author: u64) -> (u64, usize)
     requires row { IsRow row.now }
     requires order { in_order (pairs row.now) ≡ true }
-    ensures { IfSome result (λ n. n ≡ bound (pairs row.now) author) }
-{
-    if place >= row.len() / 2 || row[2 * place] != author {
-        return None;
-    }
-    Some(row[2 * place + 1])
-}
-
-/// The bound of an author in a row of entries in order, 0 where it has none.
-#[tactic(auto, using(crate::proofs::RowLemmas::row_step))]
-pub(crate) fn bound_at(row: &[u64], author: u64) -> u64
-    requires row { IsRow row.now }
-    requires order { in_order (pairs row.now) ≡ true }
-    ensures { result ≡ bound (pairs row.now) author }
-{
-    // Where each device before it has one entry, an author's stands at its device's number.
-    if let Some(n) = bound_there(row, (author / EPOCHS) as usize, author) {
-        return n;
-    }
-    let mut i = 0;
-    while i < row.len() && row[i] < author {
-        i += 2;
-    }
-    if i >= row.len() {
-        return 0;
-    }
-    if row[i] != author {
-        return 0;
-    }
-    row[i + 1]
-}
-
-/// Whether each bound of the one row is at most the other's.
-#[tactic(auto, using(crate::proofs::RowLemmas::row_step))]
-pub(crate) fn is_leq(row: &[u64], other: &[u64]) -> bool
-    requires left_row { IsRow row.now }
-    requires right_row { IsRow other.now }
-    requires left { is_vector (pairs row.now) ≡ true }
-    requires right { in_order (pairs other.now) ≡ true }
-    ensures { result ≡ leq (pairs row.now) (pairs other.now) }
-{
-    let mut i = 0;
-    let mut j = 0;
-    while i < row.len() {
-        if j >= other.len() {
-            return false;
-        }
-        let a = row[i];
-        let b = other[j];
-        if a < b {
-            return false;
-        }
-        if b < a {
-            j += 2;
-            continue;
-        }
-        if other[j + 1] < row[i + 1] {
-            return false;
-        }
-        i += 2;
-        j += 2;
-    }
-    true
-}
-
-/// The number of the fragment to which an index leads from a picture, 0 for the star, where it is looked for from a
-/// place on; and the place from which one looks for a later picture.
-pub(crate) fn number_from(index: &[IndexEntry], from: usize, picture: u32) -> (usize, usize)
-    requires { in_order index.now ≡ true }
-    ensures number { result.0 ≡ at 0 (drop from index.now) picture }
-    ensures rest { (q : ℕ) → picture ≤ q → at 0 (drop result.1 index.now) q ≡ at 0 (drop from index.now) q }
+    requires from { bound (drop from (pairs row.now)) author ≡ bound (pairs row.now) author }
+    ensures bound { result.0 ≡ bound (pairs row.now) author }
+    ensures there { 0 < result.0 → IsAt (pairs row.now) result.1 author }
 {
     let mut place = from;
-    while place < index.len() {
-        let row = index[place];
-        if picture < row.0 {
-            return (0, place);
+    while place < entry_count(row) {
+        let (word, n) = entry_at(row, place);
+        if word == author {
+            return (n, place);
         }
-        if row.0 == picture {
-            return (row.1 as usize, place);
+        if author < word {
+            return (0, place);
         }
         place += 1;
     }
     (0, place)
 }
 
-/// The place of an author's entry in a row that has one.
-pub(crate) fn place_of(row: &[u64], author: u64) -> usize
+/// The bound of an author in a row of entries in order, 0 where it has none, and the place of its entry. The work is small
+/// where the hint is that place or one close before it; any hint will do.
+#[inline(always)]
+pub(crate) fn bound_near(row: &[u64], hint: usize, author: u64) -> (u64, usize)
     requires row { IsRow row.now }
-    requires author { 0 < bound (pairs row.now) author }
-    ensures place { result < length (pairs row.now) }
-    ensures author { (get_or (pairs row.now) result (0, 0)).0 ≡ author }
+    requires order { in_order (pairs row.now) ≡ true }
+    ensures bound { result.0 ≡ bound (pairs row.now) author }
+    ensures there { 0 < result.0 → IsAt (pairs row.now) result.1 author }
 {
-    for i in 0..row.len() / 2 {
-        if row[2 * i] == author {
-            return i;
+    if hint < entry_count(row) {
+        if entry_at(row, hint).0 <= author {
+            return bound_from(row, hint, author);
         }
     }
-    0
+    bound_from(row, 0, author)
 }
 
-/// The same, looked for at a place first.
-pub(crate) fn place_near(row: &[u64], near: usize, author: u64) -> usize
+/// The bound of an author in a row of entries in order, 0 where it has none.
+pub(crate) fn bound_at(row: &[u64], author: u64) -> u64
     requires row { IsRow row.now }
-    requires author { 0 < bound (pairs row.now) author }
-    ensures place { result < length (pairs row.now) }
-    ensures author { (get_or (pairs row.now) result (0, 0)).0 ≡ author }
+    requires order { in_order (pairs row.now) ≡ true }
+    ensures { result ≡ bound (pairs row.now) author }
 {
-    if near < row.len() / 2 && row[2 * near] == author {
-        return near;
+    // Where each device before it has one entry, an author's stands at its device's number.
+    bound_near(row, (author / EPOCHS) as usize, author).0
+}
+
+/// Whether each bound of the one row is at most the other's.
+pub(crate) fn is_leq(row: &[u64], other: &[u64]) -> bool
+    requires left_row { IsRow row.now }
+    requires right_row { IsRow other.now }
+    requires right { in_order (pairs other.now) ≡ true }
+    ensures { result ≡ leq (pairs row.now) (pairs other.now) }
+{
+    let mut hint: usize = 0;
+    for i in 0..entry_count(row) {
+        let (author, n) = entry_at(row, i);
+        let (most, place) = bound_near(other, hint, author);
+        if most < n {
+            return false;
+        }
+        hint = place.saturating_add(1);
     }
-    place_of(row, author)
+    true
 }

@@ -16,7 +16,7 @@ use crate::live::LiveRows;
 use crate::pairing::{Pairing, pictures_together};
 use crate::places::Places;
 use crate::rows::Rows;
-use crate::search::number_from;
+use crate::search::number_near;
 use crate::seen::Seen;
 use std::alloc::{AllocError, Global};
 
@@ -205,12 +205,12 @@ pub(crate) fn is_within(
     if !rows.is_leq(0, others, 0) {
         return false;
     }
-    let mut j = 0;
+    let mut hint = 0;
     for i in 0..index.len() {
         let (picture, own) = index[i];
         let number = own as usize;
-        let (other, next) = number_from(others_index, j, picture);
-        j = next;
+        let (other, next) = number_near(others_index, hint, picture);
+        hint = next;
         if !rows.is_leq(number, others, other) {
             return false;
         }

@@ -1,8 +1,8 @@
-use Rattle.std.proofs.Common.{◌<◌, length, sym, subst, ap, ◌∙◌, arith}
-use Rattle.item_knowledge.specs.Entries.{bound}
+use Rattle.std.proofs.Common.{◌≡◌, ◌<◌, true, length, sym, subst, ap, ◌∙◌, arith}
 use Rattle.item_knowledge.specs.Rows.{fragments_of, rows_of}
-use Rattle.item_knowledge.proofs.PutLemmas.{so_far, risen_at, raised_next, raised_end, word_inside}
-use Rattle.item_knowledge.proofs.RowLemmas.{rows_read, row_length}
+use Rattle.item_knowledge.specs.Tables.{in_order}
+use Rattle.item_knowledge.proofs.PutLemmas.{so_far, risen_at, puts, raised_end}
+use Rattle.item_knowledge.proofs.RowLemmas.{rows_read}
 use Rattle.item_knowledge.proofs.raise.raise.Goals as goal
 
 pub entries-row-requires-clause-rows : goal.entries-row-requires-clause-rows
@@ -14,21 +14,29 @@ entries-row-requires-clause-number c =
     let count = (so_far (c.args.author, c.args.n) c.loop-k.k (fragments_of c.args.rows.now) c.loop-k.rows c.loop-k.invariant.rows).count in
     omega arith
 
-pub place_near-place-requires-clause-author : goal.place_near-place-requires-clause-author
-place_near-place-requires-clause-author c =
+pub bound_near-bound-requires-clause-order : goal.bound_near-bound-requires-clause-order
+bound_near-bound-requires-clause-order c =
     let rows = rows_read c.args.rows.now c.requires.rows in
     let less : c.loop-k.k < length (fragments_of c.args.rows.now) = omega arith in
     let r = so_far (c.args.author, c.args.n) c.loop-k.k (fragments_of c.args.rows.now) c.loop-k.rows c.loop-k.invariant.rows in
-    subst (λ es. 0 < bound es c.args.author) (sym (c.entries-row.ensures.entries ∙ r.entries)) (risen_at (c.args.author, c.args.n) (fragments_of c.args.rows.now) c.loop-k.k c.requires.risen less).some
+    subst (λ es. in_order es ≡ true) (sym (c.entries-row.ensures.entries ∙ r.entries)) (risen_at (c.args.author, c.args.n) (fragments_of c.args.rows.now) c.loop-k.k c.requires.risen less).order
 
 pub overflow_mul-place : goal.overflow_mul-place
 overflow_mul-place c =
-    let size = row_length c.entries-row.result.now c.entries-row.ensures.row in
+    let rows = rows_read c.args.rows.now c.requires.rows in
+    let put = puts (c.args.author, c.args.n) c.loop-k.k (fragments_of c.args.rows.now) c.loop-k.rows c.entries-row.result.now c.bound_near-bound.result.0 c.bound_near-bound.result.1 c.requires.risen c.loop-k.invariant.rows (omega arith)
+    c.entries-row.ensures.entries c.bound_near-bound.ensures.bound c.bound_near-bound.ensures.there in
+    let inside = put.inside in
+    let row = ap length c.entries-row.ensures.words in
     omega arith
 
 pub overflow_add-place : goal.overflow_add-place
 overflow_add-place c =
-    let size = row_length c.entries-row.result.now c.entries-row.ensures.row in
+    let rows = rows_read c.args.rows.now c.requires.rows in
+    let put = puts (c.args.author, c.args.n) c.loop-k.k (fragments_of c.args.rows.now) c.loop-k.rows c.entries-row.result.now c.bound_near-bound.result.0 c.bound_near-bound.result.1 c.requires.risen c.loop-k.invariant.rows (omega arith)
+    c.entries-row.ensures.entries c.bound_near-bound.ensures.bound c.bound_near-bound.ensures.there in
+    let inside = put.inside in
+    let row = ap length c.entries-row.ensures.words in
     omega arith
 
 pub put-requires-clause-row : goal.put-requires-clause-row
@@ -40,20 +48,15 @@ put-requires-clause-row c =
 pub put-requires-clause-inside : goal.put-requires-clause-inside
 put-requires-clause-inside c =
     let rows = rows_read c.args.rows.now c.requires.rows in
-    let less : c.loop-k.k < length (fragments_of c.args.rows.now) = omega arith in
-    let r = so_far (c.args.author, c.args.n) c.loop-k.k (fragments_of c.args.rows.now) c.loop-k.rows c.loop-k.invariant.rows in
-    word_inside (c.args.author, c.args.n) c.loop-k.k (fragments_of c.args.rows.now) c.loop-k.rows c.entries-row.result.now c.place_near-place.result r less
-    (record { entries = c.entries-row.ensures.entries ∙ r.entries; inside = c.place_near-place.ensures.place; author = c.place_near-place.ensures.author })
+    (puts (c.args.author, c.args.n) c.loop-k.k (fragments_of c.args.rows.now) c.loop-k.rows c.entries-row.result.now c.bound_near-bound.result.0 c.bound_near-bound.result.1 c.requires.risen c.loop-k.invariant.rows (omega arith)
+    c.entries-row.ensures.entries c.bound_near-bound.ensures.bound c.bound_near-bound.ensures.there).inside
 
 pub loop-k-preserved : goal.loop-k-preserved
 loop-k-preserved c =
     let rows = rows_read c.args.rows.now c.requires.rows in
-    let less : c.loop-k.k < length (fragments_of c.args.rows.now) = omega arith in
-    let r = so_far (c.args.author, c.args.n) c.loop-k.k (fragments_of c.args.rows.now) c.loop-k.rows c.loop-k.invariant.rows in
     record {
-      rows = raised_next (c.args.author, c.args.n) c.loop-k.k (fragments_of c.args.rows.now) c.loop-k.rows c.put.new.self c.entries-row.result.now c.place_near-place.result c.requires.risen c.loop-k.invariant.rows less
-          (record { entries = c.entries-row.ensures.entries ∙ r.entries; inside = c.place_near-place.ensures.place; author = c.place_near-place.ensures.author })
-          c.put.ensures;
+      rows = (puts (c.args.author, c.args.n) c.loop-k.k (fragments_of c.args.rows.now) c.loop-k.rows c.entries-row.result.now c.bound_near-bound.result.0 c.bound_near-bound.result.1 c.requires.risen c.loop-k.invariant.rows (omega arith)
+          c.entries-row.ensures.entries c.bound_near-bound.ensures.bound c.bound_near-bound.ensures.there).put c.put.new.self c.put.ensures;
     }
 
 pub returns : goal.returns

@@ -1,7 +1,7 @@
 use Rattle.std.proofs.Common.{◌≡◌, ◌<◌, ◌-◌, suc, length, get_or, drop, subst, arith}
 use Rattle.std.proofs.lemmas.Bool.{ltb-true}
 use Rattle.item_knowledge.specs.Tables.{at}
-use Rattle.item_knowledge.proofs.AlongLemmas.{behind_from}
+use Rattle.item_knowledge.proofs.SearchLemmas.{behind_from}
 use Rattle.item_knowledge.proofs.search.is_behind.Goals as goal
 
 pub returns : goal.returns

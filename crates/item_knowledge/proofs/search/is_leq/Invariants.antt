@@ -1,9 +1,7 @@
-use Rattle.std.proofs.Common.{◌+◌, ◌-◌, length}
-use Rattle.item_knowledge.proofs.AlongLemmas.{Along}
+use Rattle.std.proofs.Common.{◌≡◌, drop}
+use Rattle.item_knowledge.specs.Entries.{leq}
+use Rattle.item_knowledge.specs.Rows.{pairs}
 use Rattle.item_knowledge.proofs.search.is_leq.Given as goal
 
 abbrev pub invariant-loop-i : goal.invariant-loop-i
-invariant-loop-i l = record { along : Along l.row l.other l.i l.j }
-
-abbrev pub decreases-loop-i : goal.decreases-loop-i
-decreases-loop-i l = (length l.row - l.i) + (length l.other - l.j)
+invariant-loop-i l = record { rest : leq (drop l.i (pairs l.row)) (pairs l.other) ≡ leq (pairs l.row) (pairs l.other) }

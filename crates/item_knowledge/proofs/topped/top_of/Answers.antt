@@ -1,5 +1,5 @@
 use Rattle.std.proofs.Common.{rules, ◌≡◌, ◌<◌, ◌≤◌, true, length, sym, subst, ◌∙◌, arith}
-use Rattle.item_knowledge.specs.Entries.{is_vector, leq}
+use Rattle.item_knowledge.specs.Entries.{leq}
 use Rattle.item_knowledge.specs.Fragments.{entries_at}
 use Rattle.item_knowledge.specs.Rows.{pairs, fragments_of}
 use Rattle.item_knowledge.specs.Tables.{in_order}
@@ -14,12 +14,6 @@ pub entries-row-requires-clause-number : goal.entries-row-requires-clause-number
 entries-row-requires-clause-number c =
     let rows = rows_read c.args.rows.now c.requires.rows in
     omega (arith, rows, c.rows-k-end.ensures)
-
-pub is_leq-requires-clause-left : goal.is_leq-requires-clause-left
-is_leq-requires-clause-left c =
-    let rows = rows_read c.args.rows.now c.requires.rows in
-    let there : c.loop-k.k < length (fragments_of c.args.rows.now) = omega (arith, rows, c.rows-k-end.ensures) in
-    subst (λ es. is_vector es ≡ true) (sym c.entries-row.ensures.entries) (vector_at (fragments_of c.args.rows.now) c.loop-k.k c.requires.vectors there)
 
 pub is_leq-requires-clause-right : goal.is_leq-requires-clause-right
 is_leq-requires-clause-right c = subst (λ ws. in_order (pairs ws) ≡ true) (sym c.deref.ensures.value) (vector_order (pairs c.loop-k.top.items) c.loop-k.invariant.top.vector)
