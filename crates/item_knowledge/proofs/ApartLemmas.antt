@@ -17,6 +17,7 @@ use Rattle.item_knowledge.specs.Apart.{singles, numbered, spread_of, FromLeft, I
 use Rattle.item_knowledge.proofs.FragmentLemmas.{entries_decide, before_parts, groups_parts, normal_parts}
 use Rattle.item_knowledge.proofs.GatherLemmas.{unless_same, unless_other}
 use Rattle.item_knowledge.proofs.IndexLemmas.{indexed_same, indexed_other}
+use Rattle.item_knowledge.proofs.MergeLemmas.{all_at}
 use Rattle.item_knowledge.proofs.PlaceLemmas.{of_one, add_absent, place_of_added, place_later, vectors_length, vector_there}
 use Rattle.item_knowledge.proofs.RowLemmas.{entries_row, fragments_rows, rows_rows}
 use Rattle.item_knowledge.proofs.SeenLemmas.{unseen_nowhere}
@@ -26,9 +27,7 @@ use Rattle.item_knowledge.proofs.UnionLemmas.{entries_order}
 -- Vectors of a normal form differ
 
 before_at : (g : Fragment) (gs : List Fragment) (b : ℕ) → list_all (λ (h : Fragment). goes_before g h) gs ≡ true → b < length gs → g.entries ≡ entries_at gs b → ⊥
-before_at g [] b h l = absurd (omega (arith, l))
-before_at g (x ∷ gs) zero h l = (before_parts g x (and_parts (goes_before g x) (list_all (λ (y : Fragment). goes_before g y) gs) h).0).other
-before_at g (x ∷ gs) (suc b) h l = before_at g gs b (and_parts (goes_before g x) (list_all (λ (y : Fragment). goes_before g y) gs) h).1 (omega (arith, l))
+before_at g gs b h l = (before_parts g (get_or gs b nothing) (all_at (λ (x : Fragment). goes_before g x) gs b nothing h l)).other
 
 groups_differ : (star : List Entry) (gs : List Fragment) (a b : ℕ) → are_groups star gs ≡ true → a < b → b < length gs → entries_at gs a ≡ entries_at gs b → ⊥
 groups_differ star [] a b h l m e = absurd (omega (arith, m))

@@ -34,6 +34,15 @@ kept_bound rows xs p v h z =
     positive : (n b : ℕ) → 0 < n → (leb 1 n && leb n b) ≡ leb n b
     positive n b z = grind (arith, nat_tests)
 
+-- the same, of what is known and by the number that was found
+pub number_known : (rows : List (List ℕ)) (xs : List (ℕ × ℕ)) (now : List Fragment) (p n : ℕ) → IsKept rows xs → fragments_of rows ≡ now → n ≡ at 0 xs p → n < length now
+number_known rows xs now p n h is e = subst (λ fs. n < length fs) is (subst (λ m. m < length (fragments_of rows)) (sym e) (number_below (fragments_of rows) xs p (kept_side rows xs h)))
+
+pub has_known : (rows : List (List ℕ)) (xs : List (ℕ × ℕ)) (now : List Fragment) (p n : ℕ) (v : Version) → IsKept rows xs → fragments_of rows ≡ now → n ≡ at 0 xs p → 0 < v.number → leb v.number (bound (entries_at now n) (author_word v.author)) ≡ knows now p v
+has_known rows xs now p n v h is e z =
+    (λ i. leb v.number (bound (entries_at (sym is i) (e i)) (author_word v.author)))
+    ∙ (sym (kept_bound rows xs p v h z) ∙ ap (λ fs. knows fs p v) is)
+
 -- the vector of a fragment
 pub kept_vector : (rows : List (List ℕ)) (xs : List (ℕ × ℕ)) (k : ℕ) → IsKept rows xs → k < length (fragments_of rows) → is_vector (entries_at (fragments_of rows) k) ≡ true
 kept_vector rows xs k h l = (above (fragments_of rows) xs k (kept_side rows xs h) l).vector
@@ -92,11 +101,11 @@ star_vector [] h = absurd (false≢true h)
 star_vector (s ∷ gs) h = (normal_parts s gs h).vector
 
 -- what the star has is known of every picture
-pub star_has : (rows : List (List ℕ)) (xs : List (ℕ × ℕ)) (p : ℕ) (v : Version) → IsKept rows xs → 0 < v.number → 0 < p → leb v.number (bound (entries_at (fragments_of rows) 0) (author_word v.author)) ≡ true → knows (fragments_of rows) p v ≡ true
-star_has rows xs p v h above z l =
-    let fs = fragments_of rows in
-    (star_of_every fs h.normal v).0
-    (denotes-bound (entries_at fs 0) v (star_vector fs h.normal) ∙ and_from _ _ (le-leb 1 v.number (omega arith)) l) p z
+pub star_has : (rows : List (List ℕ)) (xs : List (ℕ × ℕ)) (now : List Fragment) (p : ℕ) (v : Version) → IsKept rows xs → fragments_of rows ≡ now → 0 < v.number → 0 < p → leb v.number (bound (entries_at now 0) (author_word v.author)) ≡ true → knows now p v ≡ true
+star_has rows xs now p v h is above z l =
+    let normal = subst (λ fs. is_normal fs ≡ true) is h.normal in
+    (star_of_every now normal v).0
+    (denotes-bound (entries_at now 0) v (star_vector now normal) ∙ and_from _ _ (le-leb 1 v.number (omega arith)) l) p z
 
 -- an author's versions up to the next one are those that the star has, and the next one
 pub next_known : (fs : List Fragment) (w : Version) (p : ℕ) (v : Version) → is_normal fs ≡ true → 0 < p → w.number ≡ star_bound fs w.author + 1 → (knows fs p v || denotes ((author_word w.author, w.number) ∷ []) v) ≡ (knows fs p v || same_version w v)

@@ -1,7 +1,7 @@
 -- Rows in which an author's bound is still to be raised, as they are shown.
-use Rattle.std.proofs.Common.{◌≡◌, ℕ, zero, suc, ◌*◌, ◌<◌, ◌≤◌, Bool, true, false, leb, ltb, eqb, cond, max, List, [], ◌∷◌, length, get_or, Option, None, Some, refl, sym, subst, ap, ◌∙◌, inl, inr, arith}
+use Rattle.std.proofs.Common.{◌≡◌, ℕ, zero, suc, ◌*◌, ◌<◌, ◌≤◌, Bool, true, false, ltb, eqb, cond, max, List, [], ◌∷◌, length, get_or, Option, None, Some, refl, sym, subst, ap, ◌∙◌, inl, inr, arith}
 use Rattle.std.specs.Option.{is_some, unwrap_or}
-use Rattle.std.proofs.lemmas.Bool.{and_parts, and_from, lt-ltb, false≢true, ltb-true, le-leb, lt-leb, eq-eqb, eqb-true, ne_eqb, cases_eq}
+use Rattle.std.proofs.lemmas.Bool.{and_parts, and_from, lt-ltb, false≢true, ltb-true, le-leb, eq-eqb, eqb-true, ne_eqb, cases_eq}
 use Rattle.std.proofs.lemmas.Option.{none-some, cond_some}
 use Rattle.std.proofs.Math.Nat.{max-zero, zero-max}
 use Rattle.item_knowledge.specs.Tables.{keys_pass, in_order}
@@ -13,9 +13,9 @@ use Rattle.item_knowledge.specs.Rows.{AreRows, fragments_of, rows_of}
 use Rattle.item_knowledge.proofs.EntryLemmas.{entry_of, EntryParts}
 use Rattle.item_knowledge.proofs.FragmentLemmas.{leq_at}
 use Rattle.item_knowledge.proofs.JoinLemmas.{leq_from}
-use Rattle.item_knowledge.proofs.PutLemmas.{joined_none, risen_at}
+use Rattle.item_knowledge.proofs.PutLemmas.{risen_at}
 use Rattle.item_knowledge.proofs.RaiseLemmas.{length_raised, entries_raised}
-use Rattle.item_knowledge.proofs.RowLemmas.{fragments_rows, rows_read}
+use Rattle.item_knowledge.proofs.RowLemmas.{fragments_rows, rows_read, joined_none}
 use Rattle.item_knowledge.proofs.TableLemmas.{merge_left, merge_both, merge_at}
 
 -- An entry in place of the author's
@@ -139,18 +139,6 @@ leq_late late xs es vector h less = leq_from xs (late_entries late es) vector (�
     let raw = leq_at xs es a less in
     let above = late_above late es a h in
     omega arith)
-
--- whether a bound reaches a number that the star's doesn't
-pub bound_beyond : (late : Option Entry) (star es : List Entry) (a n : ℕ) → IsRisenAt late star → IsRisenAt late es → bound (late_entries late star) a < n → leb n (bound (late_entries late es) a) ≡ leb n (bound es a)
-bound_beyond late star es a n hs h less = by (late_of late a) refl
-  where
-    by : (o : Option ℕ) → late_of late a ≡ o → leb n (bound (late_entries late es) a) ≡ leb n (bound es a)
-    by None is = ap (leb n) (bound_stays late es a h is)
-    by (Some m) is =
-        let top = bound_late late star a m hs is in
-        let here = bound_late late es a m h is in
-        let low = raw_below late es a m h is in
-        ap (leb n) here ∙ (lt-leb n m (omega arith) ∙ sym (lt-leb n (bound es a) (omega arith)))
 
 -- Rows as they are shown
 

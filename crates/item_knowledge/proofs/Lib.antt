@@ -14,7 +14,6 @@ pub mod IndexLemmas
 pub mod UnionLemmas
 pub mod RaiseLemmas
 pub mod SearchLemmas
-pub mod AlongLemmas
 pub mod KeptLemmas
 pub mod StagedLemmas
 pub mod WithinLemmas

@@ -1,36 +1,17 @@
 -- A word is put in place into a row of a fragment.
 use Rattle.std.proofs.Common.{◌≡◌, ℕ, zero, suc, ◌+◌, ◌*◌, ◌<◌, ◌≤◌, true, leb, ltb, max, ◌&&◌, List, [], ◌∷◌, length, get_or, set, refl, sym, subst, ap, ◌∙◌, arith}
-use Rattle.std.proofs.lemmas.Bool.{and_parts, and_from, lt-ltb, ltb-true, leb-true, eq-eqb, ne_eqb}
+use Rattle.std.proofs.lemmas.Bool.{and_parts, and_from, lt-ltb, ltb-true, leb-true}
 use Rattle.item_knowledge.specs.Tables.{keys_pass, in_order}
 use Rattle.item_knowledge.specs.Entries.{Entry, bound, joined}
-use Rattle.item_knowledge.specs.Fragments.{Fragment, entries_at}
+use Rattle.item_knowledge.specs.Fragments.{Fragment, nothing, entries_at}
 use Rattle.item_knowledge.specs.Rows.{pairs, flat, AreRows, IsAt, fragments_of, rows_of}
 use Rattle.item_knowledge.specs.Raising.{raised, all_raised, is_risen, are_risen}
-use Rattle.item_knowledge.proofs.RowLemmas.{fragments_rows, rows_rows, rows_length, entries_row, flat_length}
+use Rattle.item_knowledge.proofs.MergeLemmas.{all_at}
+use Rattle.item_knowledge.proofs.RowLemmas.{fragments_rows, rows_rows, rows_length, entries_row, flat_length, joined_none}
+use Rattle.item_knowledge.proofs.SearchLemmas.{first_below, found_there}
 use Rattle.item_knowledge.proofs.TableLemmas.{merge_left, merge_both}
 
--- The entry of an author who has one
-
 -- A bound that is raised in place is the join with the one entry
-
-pub joined_none : (es : List Entry) → in_order es ≡ true → joined es [] ≡ es
-joined_none [] h = refl
-joined_none (e ∷ es) h =
-    let a = and_parts (keys_pass (λ k. ltb e.0 k) es) (in_order es) h in
-    merge_left (λ n. n) (λ n m. max n m) (λ m. m) e es [] a.0 refl ∙ ap (λ ds. e ∷ ds) (joined_none es a.1)
-
-pub above_at : (k : ℕ) (es : List Entry) (i : ℕ) → keys_pass (λ n. ltb k n) es ≡ true → i < length es → k < (get_or es i (0, 0)).0
-above_at k [] i h l = absurd (omega arith)
-above_at k (e ∷ es) zero h l = ltb-true k e.0 (and_parts (ltb k e.0) (keys_pass (λ n. ltb k n) es) h).0
-above_at k (e ∷ es) (suc i) h l = above_at k es i (and_parts (ltb k e.0) (keys_pass (λ n. ltb k n) es) h).1 (omega arith)
-
-pub entry_bound : (es : List Entry) (i a : ℕ) → in_order es ≡ true → i < length es → (get_or es i (0, 0)).0 ≡ a → bound es a ≡ (get_or es i (0, 0)).1
-entry_bound [] i a h l e = absurd (omega arith)
-entry_bound (x ∷ es) zero a h l e = rw (eq-eqb x.0 a e) refl
-entry_bound (x ∷ es) (suc i) a h l e =
-    let p = and_parts (keys_pass (λ k. ltb x.0 k) es) (in_order es) h in
-    let less = above_at x.0 es i p.0 (omega arith) in
-    rw (ne_eqb x.0 a (λ s. absurd (omega arith))) (entry_bound es i a p.1 (omega arith) e)
 
 entry_joined : (es : List Entry) (i a n : ℕ) → in_order es ≡ true → i < length es → (get_or es i (0, 0)).0 ≡ a → (get_or es i (0, 0)).1 ≤ n → joined es ((a, n) ∷ []) ≡ set es i (a, n)
 entry_joined [] i a n h l e m = absurd (omega arith)
@@ -40,7 +21,7 @@ entry_joined (x ∷ es) zero a n h l e m =
     merge_both (λ k. k) (λ k j. max k j) (λ j. j) x es (a, n) [] e p.0 ∙ (λ z. (e z, most z) ∷ joined_none es p.1 z)
 entry_joined (x ∷ es) (suc i) a n h l e m =
     let p = and_parts (keys_pass (λ k. ltb x.0 k) es) (in_order es) h in
-    let less = above_at x.0 es i p.0 (omega arith) in
+    let less = first_below x.0 es i (0, 0) p.0 (omega arith) in
     merge_left (λ k. k) (λ k j. max k j) (λ j. j) x es ((a, n) ∷ []) p.0 (and_from _ _ (lt-ltb x.0 a (omega arith)) refl)
     ∙ ap (λ ds. x ∷ ds) (entry_joined es i a n p.1 (omega arith) e m)
 
@@ -54,7 +35,7 @@ flat_put (x ∷ es) (suc i) a n l e =
 -- a row whose author's bound is raised in place
 row_put : (es : List Entry) (i a n : ℕ) → in_order es ≡ true → i < length es → (get_or es i (0, 0)).0 ≡ a → bound es a ≤ n → set (flat es) (2 * i + 1) n ≡ flat (joined es ((a, n) ∷ []))
 row_put es i a n h l e m =
-    let is = entry_bound es i a h l e in
+    let is = found_there es a i (0, 0) h l e in
     flat_put es i a n l e ∙ ap flat (sym (entry_joined es i a n h l e (omega arith)))
 
 -- The fragments up to a place are raised
@@ -95,15 +76,11 @@ pub record RisenParts (e : Entry) (fs : List Fragment) (k : ℕ) : Type 0 where
   pub most : bound (entries_at fs k) e.0 ≤ e.1
 
 pub risen_at : (e : Entry) (fs : List Fragment) (k : ℕ) → are_risen e fs ≡ true → k < length fs → RisenParts e fs k
-risen_at e [] k h l = absurd (omega arith)
-risen_at e (f ∷ fs) zero h l =
-    let a = and_parts (is_risen e f) (are_risen e fs) h in
-    let b = and_parts (in_order f.entries) (ltb 0 (bound f.entries e.0) && leb (bound f.entries e.0) e.1) a.0 in
+risen_at e fs k h l =
+    let f = get_or fs k nothing in
+    let b = and_parts (in_order f.entries) (ltb 0 (bound f.entries e.0) && leb (bound f.entries e.0) e.1) (all_at (λ (g : Fragment). is_risen e g) fs k nothing h l) in
     let c = and_parts (ltb 0 (bound f.entries e.0)) (leb (bound f.entries e.0) e.1) b.1 in
     record { order = b.0; some = ltb-true 0 (bound f.entries e.0) c.0; most = leb-true (bound f.entries e.0) e.1 c.1 }
-risen_at e (f ∷ fs) (suc k) h l =
-    let rest = risen_at e fs k (and_parts (is_risen e f) (are_risen e fs) h).1 (omega arith) in
-    record { order = rest.order; some = rest.some; most = rest.most }
 
 -- what rows are whose fragments up to the kth are raised
 pub record RaisedTo (e : Entry) (k : ℕ) (fs : List Fragment) (rows : List (List ℕ)) : Type 0 where

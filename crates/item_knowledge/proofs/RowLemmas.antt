@@ -169,30 +169,30 @@ word_both xs ys out i j n m l k e is =
       right_row = t.rest;
     }
 
-joined_none : (ys : List Entry) → joined [] ys ≡ ys
-joined_none [] = refl
-joined_none (y ∷ ys) = ap (λ zs. y ∷ zs) (joined_none ys)
+none_joined : (ys : List Entry) → joined [] ys ≡ ys
+none_joined [] = refl
+none_joined (y ∷ ys) = ap (λ zs. y ∷ zs) (none_joined ys)
 
-joined_with_none : (xs : List Entry) → in_order xs ≡ true → joined xs [] ≡ xs
-joined_with_none [] h = refl
-joined_with_none (x ∷ xs) h =
+pub joined_none : (xs : List Entry) → in_order xs ≡ true → joined xs [] ≡ xs
+joined_none [] h = refl
+joined_none (x ∷ xs) h =
     let a = and_parts (keys_pass (λ k. ltb x.0 k) xs) (in_order xs) h in
-    merge_left (λ a. a) (λ a b. max a b) (λ b. b) x xs [] a.0 refl ∙ ap (λ zs. x ∷ zs) (joined_with_none xs a.1)
+    merge_left (λ a. a) (λ a b. max a b) (λ b. b) x xs [] a.0 refl ∙ ap (λ zs. x ∷ zs) (joined_none xs a.1)
 
 pub joined_empty : (es : List Entry) (ws : List ℕ) → in_order es ≡ true → eqb (length ws) 0 ≡ true → joined es (pairs ws) ≡ es
-joined_empty es [] o h = joined_with_none es o
+joined_empty es [] o h = joined_none es o
 joined_empty es (w ∷ ws) o h = absurd (omega (arith, eqb-true (length (w ∷ ws)) 0 h))
 
 -- the rest of the row that is left
 
 pub left_merged : (xs ys out new : List ℕ) (i j : ℕ) → Rows xs ys out i j → length ys ≤ j → new ≡ out ++ drop i xs → new ≡ flat (joined (pairs xs) (pairs ys))
 left_merged xs ys out new i j m over is =
-    let left : joined (pairs (drop i xs)) (pairs (drop j ys)) ≡ pairs (drop i xs) = ap (λ ws. joined (pairs (drop i xs)) (pairs ws)) (drop_all j ys over) ∙ joined_with_none (pairs (drop i xs)) m.left in
+    let left : joined (pairs (drop i xs)) (pairs (drop j ys)) ≡ pairs (drop i xs) = ap (λ ws. joined (pairs (drop i xs)) (pairs ws)) (drop_all j ys over) ∙ joined_none (pairs (drop i xs)) m.left in
     is ∙ (ap (λ ws. out ++ ws) (sym (ap flat left ∙ m.left_row)) ∙ m.done)
 
 pub right_merged : (xs ys out new : List ℕ) (i j : ℕ) → Rows xs ys out i j → length xs ≤ i → new ≡ out ++ drop j ys → new ≡ flat (joined (pairs xs) (pairs ys))
 right_merged xs ys out new i j m over is =
-    let right : joined (pairs (drop i xs)) (pairs (drop j ys)) ≡ pairs (drop j ys) = ap (λ ws. joined (pairs ws) (pairs (drop j ys))) (drop_all i xs over) ∙ joined_none (pairs (drop j ys)) in
+    let right : joined (pairs (drop i xs)) (pairs (drop j ys)) ≡ pairs (drop j ys) = ap (λ ws. joined (pairs ws) (pairs (drop j ys))) (drop_all i xs over) ∙ none_joined (pairs (drop j ys)) in
     is ∙ (ap (λ ws. out ++ ws) (sym (ap flat right ∙ m.right_row)) ∙ m.done)
 
 -- the same, at what the code holds after the step

@@ -3,15 +3,13 @@ use Rattle.std.proofs.Common.{rules, ◌≡◌, ℕ, zero, suc, ◌+◌, ◌<◌
 use Rattle.std.specs.List.Sorted.{IsNonDecreasingBy, IsPartitionPoint}
 use Rattle.std.proofs.lemmas.Bool.{and_parts, and_from, lt-ltb, ltb-true, ltb-false, eq-eqb, ne_eqb}
 use Rattle.item_knowledge.specs.Tables.{keys_pass, in_order, at}
-use Rattle.item_knowledge.proofs.MergeLemmas.{drop_next}
+use Rattle.item_knowledge.proofs.MergeLemmas.{drop_next, all_at}
 use Rattle.item_knowledge.proofs.TableLemmas.{at_above, above_all}
 
 -- along a table in order the numbers don't fall
 
-first_below : (k : ℕ) (xs : List (ℕ × ℕ)) (j : ℕ) (d : ℕ × ℕ) → keys_pass (λ n. ltb k n) xs ≡ true → j < length xs → k < (get_or xs j d).0
-first_below k [] j d h l = absurd (omega arith)
-first_below k (x ∷ xs) zero d h l = ltb-true k x.0 (and_parts (ltb k x.0) (keys_pass (λ n. ltb k n) xs) h).0
-first_below k (x ∷ xs) (suc j) d h l = first_below k xs j d (and_parts (ltb k x.0) (keys_pass (λ n. ltb k n) xs) h).1 (omega arith)
+pub first_below : (k : ℕ) (xs : List (ℕ × ℕ)) (j : ℕ) (d : ℕ × ℕ) → keys_pass (λ n. ltb k n) xs ≡ true → j < length xs → k < (get_or xs j d).0
+first_below k xs j d h l = ltb-true k (get_or xs j d).0 (all_at (λ (x : ℕ × ℕ). ltb k x.0) xs j d h l)
 
 pub no_fall : (xs : List (ℕ × ℕ)) → in_order xs ≡ true → IsNonDecreasingBy (λ r. r.0) xs
 no_fall [] h i j d le l = absurd (omega arith)
@@ -27,13 +25,6 @@ pub record IsPlace (p : ℕ) (xs : List (ℕ × ℕ)) (i : ℕ) : Type 0 where
   pub below : (k : ℕ) (d : ℕ × ℕ) → k < i → (get_or xs k d).0 < p
   pub from : (k : ℕ) (d : ℕ × ℕ) → i ≤ k → k < length xs → p ≤ (get_or xs k d).0
 
-pub found_at : (xs : List (ℕ × ℕ)) (p i : ℕ) (e : ℕ × ℕ) → IsPlace p xs i → i < length xs → (get_or xs i e).0 ≡ p → at 0 xs p ≡ (get_or xs i e).1
-found_at [] p i e h l s = absurd (omega arith)
-found_at (x ∷ xs) p zero e h l s = rw (eq-eqb x.0 p s) refl
-found_at (x ∷ xs) p (suc i) e h l s =
-    let less = h.below 0 e (omega arith) in
-    rw (ne_eqb x.0 p (λ same. absurd (omega arith))) (found_at xs p i e (record { below = λ k d g. h.below (suc k) d (omega arith); from = λ k d g m. h.from (suc k) d (omega arith) (omega arith) }) (omega arith) s)
-
 pub absent_at : (xs : List (ℕ × ℕ)) (p i : ℕ) (e : ℕ × ℕ) → in_order xs ≡ true → IsPlace p xs i → (i < length xs → (get_or xs i e).0 ≡ p → ⊥) → at 0 xs p ≡ 0
 absent_at [] p i e o h n = refl
 absent_at (x ∷ xs) p zero e o h n =
@@ -44,14 +35,6 @@ absent_at (x ∷ xs) p (suc i) e o h n =
     let a = and_parts (keys_pass (λ k. ltb x.0 k) xs) (in_order xs) o in
     let less = h.below 0 e (omega arith) in
     rw (ne_eqb x.0 p (λ same. absurd (omega arith))) (absent_at xs p i e a.1 (record { below = λ k d g. h.below (suc k) d (omega arith); from = λ k d g m. h.from (suc k) d (omega arith) (omega arith) }) (λ l. n (omega arith)))
-
-pub found_there : (xs : List (ℕ × ℕ)) (p i : ℕ) (e : ℕ × ℕ) → in_order xs ≡ true → i < length xs → (get_or xs i e).0 ≡ p → (get_or xs i e).1 ≡ at 0 xs p
-found_there [] p i e o l s = absurd (omega arith)
-found_there (x ∷ xs) p zero e o l s = rw (eq-eqb x.0 p s) refl
-found_there (x ∷ xs) p (suc i) e o l s =
-    let a = and_parts (keys_pass (λ k. ltb x.0 k) xs) (in_order xs) o in
-    let less = first_below x.0 xs i e a.0 (omega arith) in
-    rw (ne_eqb x.0 p (λ same. absurd (omega arith))) (found_there xs p i e a.1 (omega arith) s)
 
 pub is_place : (p : ℕ) (xs : List (ℕ × ℕ)) (i : ℕ) → IsPartitionPoint (λ r. ltb r.0 p ≡ true) (λ r. ltb r.0 p ≡ false) xs i → IsPlace p xs i
 is_place p xs i h = record {
@@ -88,6 +71,9 @@ at_from (x ∷ xs) (suc i) q d h l le =
 
 pub passed_from : (xs : List (ℕ × ℕ)) (i q : ℕ) (d : ℕ × ℕ) → i < length xs → ((get_or xs i d).0 ≡ q → ⊥) → at 0 (drop i xs) q ≡ at 0 (drop (i + 1) xs) q
 passed_from xs i q d l n = ap (λ zs. at 0 zs q) (drop_next xs i d l) ∙ rw (ne_eqb (get_or xs i d).0 q n) refl
+
+pub found_there : (xs : List (ℕ × ℕ)) (p i : ℕ) (d : ℕ × ℕ) → in_order xs ≡ true → i < length xs → (get_or xs i d).0 ≡ p → (get_or xs i d).1 ≡ at 0 xs p
+found_there xs p i d h l s = sym (sym (at_from xs i p d h l (omega arith)) ∙ (ap (λ zs. at 0 zs p) (drop_next xs i d l) ∙ rw (eq-eqb (get_or xs i d).0 p s) refl))
 
 -- where a place has a smaller number, nothing up to it counts
 pub behind_from : (xs : List (ℕ × ℕ)) (i q : ℕ) (d : ℕ × ℕ) → in_order xs ≡ true → i < length xs → (get_or xs i d).0 < q → at 0 (drop (suc i) xs) q ≡ at 0 xs q

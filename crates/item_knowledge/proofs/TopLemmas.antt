@@ -1,5 +1,5 @@
 -- How far each author's bounds go in rows.
-use Rattle.std.proofs.Common.{◌≡◌, ℕ, zero, suc, ◌+◌, ◌<◌, ◌≤◌, true, leb, ◌||◌, max, List, [], ◌∷◌, length, map, refl, sym, subst, ap, ◌∙◌, inl, inr, arith}
+use Rattle.std.proofs.Common.{◌≡◌, ℕ, suc, ◌+◌, ◌<◌, ◌≤◌, true, leb, ◌||◌, max, List, [], ◌∷◌, length, map, refl, sym, subst, ap, ◌∙◌, inl, inr, arith}
 use Rattle.std.specs.List.{list_all}
 use Rattle.std.proofs.Math.Nat.{max-zero, zero-max}
 use Rattle.std.proofs.lemmas.Bool.{and_parts, and_from, leb-true, le-leb, cases_Bool, cases_lt}
@@ -18,6 +18,7 @@ use Rattle.item_knowledge.specs.Tops.{IsTop}
 use Rattle.item_knowledge.proofs.EntryLemmas.{denotes-bound}
 use Rattle.item_knowledge.proofs.FragmentLemmas.{leq_at}
 use Rattle.item_knowledge.proofs.JoinLemmas.{joined_bound, joined_vector}
+use Rattle.item_knowledge.proofs.MergeLemmas.{all_at}
 use Rattle.item_knowledge.proofs.NextLemmas.{level_known}
 use Rattle.item_knowledge.proofs.PutLemmas.{risen_at}
 use Rattle.item_knowledge.proofs.RaiseLemmas.{length_raised, entries_raised}
@@ -89,9 +90,7 @@ top_whole top rows k h l = record {
 }
 
 pub vector_at : (fs : List Fragment) (k : ℕ) → list_all (λ (f : Fragment). is_vector f.entries) fs ≡ true → k < length fs → is_vector (entries_at fs k) ≡ true
-vector_at [] k h l = absurd (omega arith)
-vector_at (f ∷ fs) zero h l = (and_parts (is_vector f.entries) (list_all (λ (g : Fragment). is_vector g.entries) fs) h).0
-vector_at (f ∷ fs) (suc k) h l = vector_at fs k (and_parts (is_vector f.entries) (list_all (λ (g : Fragment). is_vector g.entries) fs) h).1 (omega arith)
+vector_at fs k h l = all_at (λ (f : Fragment). is_vector f.entries) fs k nothing h l
 
 -- The top of a union
 

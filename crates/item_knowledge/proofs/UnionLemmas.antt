@@ -1,12 +1,13 @@
 -- What is gathered from the merged tables of two sides is their union.
-use Rattle.std.proofs.Common.{◌≡◌, ℕ, zero, suc, ◌<◌, Bool, true, false, ltb, eqb, cond, ◌&&◌, List, [], ◌∷◌, length, get_or, refl, sym, subst, ap, ◌∙◌, inl, inr, arith}
+use Rattle.std.proofs.Common.{◌≡◌, ℕ, ◌<◌, Bool, true, false, ltb, eqb, cond, ◌&&◌, List, [], ◌∷◌, length, get_or, refl, sym, subst, ap, ◌∙◌, inl, inr, arith}
 use Rattle.std.specs.List.{list_all}
 use Rattle.std.proofs.lemmas.Bool.{and_parts, and_from, lt-ltb, ltb-true, eq-eqb, ne_eqb, cases_eq, false≢true}
 use Rattle.photo_version.specs.Version.{Version}
 use Rattle.item_knowledge.specs.Tables.{keys_pass, in_order, at, put}
 use Rattle.item_knowledge.specs.Entries.{Entry, denotes, is_entry, is_vector, leq, joined}
-use Rattle.item_knowledge.specs.Fragments.{Fragment, knows, are_groups, is_normal, known, entries_at}
+use Rattle.item_knowledge.specs.Fragments.{Fragment, knows, are_groups, is_normal, known, nothing, entries_at}
 use Rattle.item_knowledge.specs.Gathering.{vector_of, is_above, IsSide, IsIndex, paired, pair_vector, gathered, star_first, index_of, IsUnion}
+use Rattle.item_knowledge.proofs.MergeLemmas.{all_at}
 use Rattle.item_knowledge.proofs.TableLemmas.{merge_at, merge_order, merge_pass}
 use Rattle.item_knowledge.proofs.JoinLemmas.{joined_bound, joined_vector, joined_leq, joined_denotes, leq_self}
 use Rattle.item_knowledge.proofs.FragmentLemmas.{normal_parts, knows_known, groups_parts}
@@ -25,11 +26,7 @@ pub record Above (fs : List Fragment) (k : ℕ) : Type 0 where
   pub above : leq (star_of fs) (entries_at fs k) ≡ true
 
 above_at : (star : List Entry) (fs : List Fragment) (k : ℕ) → list_all (λ (f : Fragment). is_above star f) fs ≡ true → k < length fs → (is_vector (entries_at fs k) ≡ true) × (leq star (entries_at fs k) ≡ true)
-above_at star [] k h l = absurd (omega arith)
-above_at star (f ∷ fs) zero h l =
-    let a = and_parts (is_above star f) (list_all (λ (g : Fragment). is_above star g) fs) h in
-    and_parts (is_vector f.entries) (leq star f.entries) a.0
-above_at star (f ∷ fs) (suc k) h l = above_at star fs k (and_parts (is_above star f) (list_all (λ (g : Fragment). is_above star g) fs) h).1 (omega arith)
+above_at star fs k h l = and_parts (is_vector (entries_at fs k)) (leq star (entries_at fs k)) (all_at (λ (f : Fragment). is_above star f) fs k nothing h l)
 
 pub above : (fs : List Fragment) (xs : List (ℕ × ℕ)) (k : ℕ) → IsSide fs xs → k < length fs → Above fs k
 above fs xs k h l =
@@ -164,15 +161,10 @@ is_union fs gs xs ys h g = record {
 
 -- what a loop over the table meets at a row
 
-row_at : (n m : ℕ) (rs : List (ℕ × (ℕ × ℕ))) (i : ℕ) (r : ℕ × (ℕ × ℕ)) → list_all (λ x. in_range n m x) rs ≡ true → i < length rs → r ≡ get_or rs i r → in_range n m r ≡ true
-row_at n m [] i r h l e = absurd (omega arith)
-row_at n m (x ∷ rs) zero r h l e = rw e (and_parts (in_range n m x) (list_all (λ y. in_range n m y) rs) h).0
-row_at n m (x ∷ rs) (suc i) r h l e = row_at n m rs i r (and_parts (in_range n m x) (list_all (λ y. in_range n m y) rs) h).1 (omega arith) e
-
 pub row_range : (fs gs : List Fragment) (xs ys : List (ℕ × ℕ)) (rows : List (ℕ × (ℕ × ℕ))) (i : ℕ) (r : ℕ × (ℕ × ℕ)) → IsSide fs xs → IsSide gs ys → rows ≡ paired xs ys → i < length rows → r ≡ get_or rows i r → (r.1.0 < length fs) × (r.1.1 < length gs)
 row_range fs gs xs ys rows i r h g is l e =
     let all = paired_range (length fs) (length gs) xs ys h.star g.star h.range g.range in
-    let here = row_at (length fs) (length gs) rows i r (subst (λ zs. list_all (λ z. in_range (length fs) (length gs) z) zs ≡ true) (sym is) all) l e in
+    let here = subst (λ y. in_range (length fs) (length gs) y ≡ true) (sym e) (all_at (λ z. in_range (length fs) (length gs) z) rows i r (subst (λ zs. list_all (λ z. in_range (length fs) (length gs) z) zs ≡ true) (sym is) all) l) in
     let parts = and_parts (ltb r.1.0 (length fs)) (ltb r.1.1 (length gs)) here in
     (ltb-true r.1.0 (length fs) parts.0, ltb-true r.1.1 (length gs) parts.1)
 
@@ -188,3 +180,7 @@ one_star a n e =
 
 pub union_made : (fs gs us : List Fragment) (xs ys index : List (ℕ × ℕ)) → IsSide fs xs → IsSide gs ys → us ≡ union_of fs gs xs ys → index ≡ index_of fs gs xs ys → IsUnion fs xs gs ys us index
 union_made fs gs us xs ys index h g u i = subst (λ zs. IsUnion fs xs gs ys us zs) (sym i) (subst (λ ws. IsUnion fs xs gs ys ws (index_of fs gs xs ys)) (sym u) (is_union fs gs xs ys h g))
+
+-- the numbers of an index are those of fragments
+pub side_at : (fs : List Fragment) (xs : List (ℕ × ℕ)) (i : ℕ) → IsSide fs xs → i < length xs → (get_or xs i (0, 0)).1 < length fs
+side_at fs xs i h l = ltb-true (get_or xs i (0, 0)).1 (length fs) (all_at (λ (r : ℕ × ℕ). ltb r.1 (length fs)) xs i (0, 0) h.range l)

@@ -1,12 +1,12 @@
 -- A bound that waits beside rows may wait beside those of a union too, where the other side has no more of its author.
-use Rattle.std.proofs.Common.{◌≡◌, ℕ, zero, suc, ◌<◌, ◌≤◌, Bool, true, false, leb, ltb, ◌||◌, List, [], ◌∷◌, length, Option, None, Some, refl, sym, subst, ap, ◌∙◌, inl, inr, arith}
+use Rattle.std.proofs.Common.{◌≡◌, ℕ, ◌<◌, ◌≤◌, Bool, true, false, leb, ltb, ◌||◌, List, [], ◌∷◌, length, Option, None, Some, refl, sym, subst, ap, ◌∙◌, inl, inr, arith}
 use Rattle.std.specs.List.{list_all}
 use Rattle.std.proofs.lemmas.Bool.{and_parts, and_from, leb-true, cases_Bool, false≢true}
 use Rattle.photo_version.specs.Author.{author_of_word}
 use Rattle.photo_version.specs.Version.{version}
 use Rattle.item_knowledge.specs.Tables.{at, in_order}
 use Rattle.item_knowledge.specs.Entries.{Entry, denotes, is_entry, is_vector, bound, joined}
-use Rattle.item_knowledge.specs.Fragments.{Fragment, knows, is_normal, known, entries_at}
+use Rattle.item_knowledge.specs.Fragments.{Fragment, knows, is_normal, known, nothing, entries_at}
 use Rattle.item_knowledge.specs.Gathering.{vector_of, IsSide, IsUnion}
 use Rattle.item_knowledge.specs.Late.{shown, IsWaiting, IsLate, AreUntouching}
 use Rattle.item_knowledge.specs.Raising.{are_level, all_raised}
@@ -15,6 +15,7 @@ use Rattle.item_knowledge.proofs.EntryLemmas.{denotes-bound}
 use Rattle.item_knowledge.proofs.FragmentLemmas.{normal_parts}
 use Rattle.item_knowledge.proofs.JoinLemmas.{joined_bound, joined_denotes, leq_self}
 use Rattle.item_knowledge.proofs.KeptLemmas.{star_vector}
+use Rattle.item_knowledge.proofs.MergeLemmas.{all_at}
 use Rattle.item_knowledge.proofs.NextLemmas.{level_known, risen_all}
 use Rattle.item_knowledge.proofs.PutLemmas.{risen_at}
 use Rattle.item_knowledge.proofs.RaiseLemmas.{IsNext, entry_vector, length_raised, entries_raised, raised_normal, raised_known, raised_index}
@@ -27,9 +28,7 @@ waiting_next e fs h = record { entry = h.entry; level = h.level }
 -- What is level
 
 pub level_at : (fs : List Fragment) (k a b : ℕ) → are_level fs a b ≡ true → k < length fs → bound (entries_at fs k) a ≤ b
-level_at [] k a b h l = absurd (omega arith)
-level_at (f ∷ fs) zero a b h l = leb-true (bound f.entries a) b (and_parts (leb (bound f.entries a) b) (are_level fs a b) h).0
-level_at (f ∷ fs) (suc k) a b h l = level_at fs k a b (and_parts (leb (bound f.entries a) b) (are_level fs a b) h).1 (omega arith)
+level_at fs k a b h l = leb-true (bound (entries_at fs k) a) b (all_at (λ (f : Fragment). leb (bound f.entries a) b) fs k nothing h l)
 
 -- The rows beside which a bound waits are a side as those are that are shown
 

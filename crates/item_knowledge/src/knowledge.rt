@@ -91,12 +91,13 @@ impl Knowledge {
     pub fn knows(&self, picture: PicNo, version: Version) -> bool
         ensures { result ≡ spec.knows self.now.known picture version }
     {
-        if self.has_of_every(version) {
+        // For its fact alone: there is a star.
+        let _index = &self.index;
+        if self.has_at(0, version) {
             return true;
         }
         let (number, _place) = number_at(&self.index, picture.value());
-        self.live
-            .has_beyond(number, version.author().word(), u64::from(version.n()))
+        self.has_at(number, version)
     }
 
     /// Whether of the picture the version is known, and a hint for the next question. Takes no memory. Any hint will do;
@@ -106,16 +107,16 @@ impl Knowledge {
         ensures { result.0 ≡ spec.knows self.now.known picture version }
     {
         let (number, next) = number_near(&self.index, hint, picture.value());
-        let bound = self.live.bound(number, version.author().word());
-        (u64::from(version.n()) <= bound, next)
+        (self.has_at(number, version), next)
     }
 
-    // Whether the star has a version, which is then known of every picture.
-    fn has_of_every(&self, version: Version) -> bool
-        ensures star { result ≡ nat_le version.number (star_bound self.now.known version.author) }
-        ensures every { result ≡ true → (p : ℕ) → 0 < p → spec.knows self.now.known p version ≡ true }
+    // Whether the fragment of a number has a version. What the star has is known of every picture.
+    #[inline(always)]
+    fn has_at(&self, number: usize, version: Version) -> bool
+        requires { number < length self.now.known }
+        ensures { result ≡ nat_le version.number (bound (spec.entries_at self.now.known number) (author_word version.author)) }
     {
-        u64::from(version.n()) <= self.live.bound(0, version.author().word())
+        u64::from(version.n()) <= self.live.bound(number, version.author().word())
     }
 
     /// The number of fragments, the star among them.

@@ -39,7 +39,7 @@ impl Model for LiveRows {
 }
 
 impl LiveRows {
-    ghost use Rattle.std.specs.Prelude.{◌≡◌, ◌<◌, true, nat_le, [], length, get_or, IfOk, OnOk, IfSome};
+    ghost use Rattle.std.specs.Prelude.{◌≡◌, ◌<◌, true, [], length, get_or, IfOk, OnOk, IfSome};
     ghost use Rattle.item_knowledge.specs.Tables.{in_order};
     ghost use Rattle.item_knowledge.specs.Entries.{bound, leq, is_vector};
     ghost use Rattle.item_knowledge.specs.Fragments.{entries_at, nothing, is_normal};
@@ -75,18 +75,6 @@ impl LiveRows {
             return n;
         }
         bound_at(self.rows.entries(k), author)
-    }
-
-    /// Whether the fragment of a number has an author's bound of `n` at least, where the star's is smaller.
-    pub(crate) fn has_beyond(&self, k: usize, author: u64, n: u64) -> bool
-        requires rows { AreRows self.now }
-        requires number { k < length (fragments_of self.now) }
-        requires order { in_order (entries_at (fragments_of self.now) k) ≡ true }
-        requires star { bound (entries_at (fragments_of self.now) 0) author < n }
-        ensures { result ≡ nat_le n (bound (entries_at (fragments_of self.now) k) author) }
-    {
-        // A bound that is still to be raised is the star's too.
-        n <= bound_at(self.rows.entries(k), author)
     }
 
     /// The fragment of a number. It is lent, and copies nothing.

@@ -7,7 +7,7 @@ ghost use Rattle.item_knowledge.specs.Seen as spec;
 ghost use Rattle.item_knowledge.specs.Tables.{in_order};
 
 use crate::rows::Rows;
-use crate::search::{EPOCHS, bound_at, entry_at};
+use crate::search::{EPOCHS, bound_at, entry_at, entry_count};
 use crate::union::entries;
 use std::alloc::{AllocError, Global};
 
@@ -87,7 +87,7 @@ impl Seen {
         ensures marked { OnOk result (spec.AreMarked self.new.words.items (pairs row.now)) }
         ensures kept { OnOk result (spec.HasMarks self.old.words.items self.new.words.items) }
     {
-        for i in 0..row.len() / 2 {
+        for i in 0..entry_count(row) {
             let (author, n) = entry_at(row, i);
             self.mark(author, n)?;
         }
@@ -113,7 +113,7 @@ impl Seen {
         requires order { in_order (pairs star.now) ≡ true }
         ensures { result ≡ spec.has_unseen self.now.words.items (pairs star.now) (pairs row.now) }
     {
-        for i in 0..row.len() / 2 {
+        for i in 0..entry_count(row) {
             if self.lacks(row, i, star) {
                 return true;
             }

@@ -1,7 +1,6 @@
 use Rattle.std.proofs.Common.{ℕ, ◌<◌, length, sym, ap, ◌∙◌, arith}
 use Rattle.item_knowledge.specs.Rows.{pairs}
-use Rattle.item_knowledge.proofs.PutLemmas.{entry_bound}
-use Rattle.item_knowledge.proofs.SearchLemmas.{none_from, passed_from}
+use Rattle.item_knowledge.proofs.SearchLemmas.{found_there, none_from, passed_from}
 use Rattle.item_knowledge.proofs.search.bound_from.Goals as goal
 
 pub returns-then-word-author : goal.returns-then-word-author
@@ -9,7 +8,7 @@ returns-then-word-author c =
     let there : c.loop-place.place < length (pairs c.args.row.now) = omega arith in
     let author = sym (ap (λ (e : ℕ × ℕ). e.0) c.entry_at-word.ensures) ∙ c.if-word-author.true in
     record {
-      bound = ap (λ (e : ℕ × ℕ). e.1) c.entry_at-word.ensures ∙ sym (entry_bound (pairs c.args.row.now) c.loop-place.place c.args.author c.requires.order there author);
+      bound = ap (λ (e : ℕ × ℕ). e.1) c.entry_at-word.ensures ∙ found_there (pairs c.args.row.now) c.args.author c.loop-place.place (0, 0) c.requires.order there author;
       there = λ _. record { inside = there; author_is = author };
     }
 

@@ -1,8 +1,7 @@
 use Rattle.std.proofs.Common.{◌<◌, length, get_or, sym, subst, arith}
 use Rattle.item_knowledge.specs.Rows.{fragments_of}
 use Rattle.item_knowledge.proofs.KeptLemmas.{number_below}
-use Rattle.item_knowledge.proofs.UnionLemmas.{above, entries_order}
-use Rattle.item_knowledge.proofs.AlongLemmas.{side_at}
+use Rattle.item_knowledge.proofs.UnionLemmas.{above, entries_order, side_at}
 use Rattle.item_knowledge.proofs.union.is_within.Goals as goal
 
 pub is_leq-requires-clause-vector : goal.is_leq-requires-clause-vector

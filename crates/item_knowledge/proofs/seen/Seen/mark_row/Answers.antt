@@ -1,14 +1,8 @@
-use Rattle.std.proofs.Common.{◌≡◌, true, subst, arith}
+use Rattle.std.proofs.Common.{◌≡◌, true, subst}
 use Rattle.item_knowledge.specs.Rows.{pairs}
 use Rattle.item_knowledge.specs.Seen.{is_marked}
-use Rattle.item_knowledge.proofs.RowLemmas.{row_length}
 use Rattle.item_knowledge.proofs.SeenLemmas.{marked_entries}
 use Rattle.item_knowledge.proofs.seen.Seen.mark_row.Goals as goal
-
-pub entry_at-author-requires-clause-place : goal.entry_at-author-requires-clause-place
-entry_at-author-requires-clause-place c =
-    let long = row_length c.args.row.now c.requires in
-    omega arith
 
 pub loop-i-preserved : goal.loop-i-preserved
 loop-i-preserved c = record {
@@ -16,8 +10,3 @@ loop-i-preserved c = record {
       (subst (λ e. is_marked c.mark.new.self.words.items e.0 e.1 ≡ true) c.entry_at-author.ensures c.in_ok-mark.ensures.marked);
   kept = λ a n h. c.in_ok-mark.ensures.kept a n (c.loop-i.invariant.kept a n h);
 }
-
-pub returns-clause-marked : goal.returns-clause-marked
-returns-clause-marked c = λ i l.
-    let long = row_length c.args.row.now c.requires in
-    c.loop-i.invariant.marked i (omega arith)
