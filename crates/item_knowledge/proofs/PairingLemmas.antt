@@ -1,44 +1,10 @@
 -- Two indexes that are gone along together: what comes next.
-use Rattle.std.proofs.Common.{◌≡◌, ℕ, zero, suc, ◌+◌, ◌<◌, ◌≤◌, true, ltb, List, [], ◌∷◌, length, get_or, drop, refl, sym, subst, ap, ◌∙◌, inl, inr, arith, add-one}
-use Rattle.std.proofs.lemmas.List.{drop_all}
-use Rattle.std.proofs.lemmas.Bool.{and_from, lt-ltb, cases_lt}
-use Rattle.item_knowledge.specs.Tables.{keys_pass, in_order}
+use Rattle.std.proofs.Common.{◌≡◌, ℕ, zero, suc, ◌+◌, ◌<◌, ◌≤◌, List, [], ◌∷◌, length, get_or, drop, refl, sym, ap, ◌∙◌, arith, add-one}
 use Rattle.item_knowledge.specs.Fragments.{Fragment}
 use Rattle.item_knowledge.specs.Gathering.{IsSide, paired}
 use Rattle.item_knowledge.specs.declared.pairing.Pairing.{Pairing}
 use Rattle.item_knowledge.specs.Pairing.{left_of, IsAlong}
-use Rattle.item_knowledge.proofs.TableLemmas.{above_all, merge_left, merge_right, merge_both}
-use Rattle.item_knowledge.proofs.MergeLemmas.{drop_next}
-use Rattle.item_knowledge.proofs.SearchLemmas.{above_next}
 use Rattle.item_knowledge.proofs.UnionLemmas.{row_range}
-
--- where the next one is greater than a number all are
-above_from : (n : ℕ) (xs : List (ℕ × ℕ)) (i : ℕ) (d : ℕ × ℕ) → in_order xs ≡ true → (i < length xs → n < (get_or xs i d).0) → keys_pass (λ k. ltb n k) (drop i xs) ≡ true
-above_from n xs i d h f = elim (cases_lt i (length xs)) [
-  | inl more ↦
-      let less = f more in
-      subst (λ zs. keys_pass (λ k. ltb n k) zs ≡ true) (sym (drop_next xs i d more))
-      (and_from _ _ (lt-ltb n (get_or xs i d).0 less) (above_all n (get_or xs i d).0 (drop (i + 1) xs) (omega (arith, less)) (above_next xs i d h more)))
-  | inr over ↦ subst (λ zs. keys_pass (λ k. ltb n k) zs ≡ true) (sym (drop_all i xs over)) refl
-]
-
-pub next_left : (xs ys : List (ℕ × ℕ)) (i j : ℕ) (d e : ℕ × ℕ) → in_order xs ≡ true → in_order ys ≡ true → i < length xs → (j < length ys → (get_or xs i d).0 < (get_or ys j e).0)
-    → paired (drop i xs) (drop j ys) ≡ ((get_or xs i d).0, ((get_or xs i d).1, 0)) ∷ paired (drop (i + 1) xs) (drop j ys)
-next_left xs ys i j d e h g l f =
-    ap (λ zs. paired zs (drop j ys)) (drop_next xs i d l)
-    ∙ merge_left (λ a. (a, 0)) (λ a b. (a, b.1)) (λ b. (0, b)) (get_or xs i d) (drop (i + 1) xs) (drop j ys) (above_next xs i d h l) (above_from (get_or xs i d).0 ys j e g f)
-
-pub next_right : (xs ys : List (ℕ × ℕ)) (i j : ℕ) (d e : ℕ × ℕ) → in_order xs ≡ true → in_order ys ≡ true → j < length ys → (i < length xs → (get_or ys j e).0 < (get_or xs i d).0)
-    → paired (drop i xs) (drop j ys) ≡ ((get_or ys j e).0, (0, (get_or ys j e).1)) ∷ paired (drop i xs) (drop (j + 1) ys)
-next_right xs ys i j d e h g l f =
-    ap (λ zs. paired (drop i xs) zs) (drop_next ys j e l)
-    ∙ merge_right (λ a. (a, 0)) (λ a b. (a, b.1)) (λ b. (0, b)) (drop i xs) (get_or ys j e) (drop (j + 1) ys) (above_from (get_or ys j e).0 xs i d h f)
-
-pub next_both : (xs ys : List (ℕ × ℕ)) (i j : ℕ) (d e : ℕ × ℕ) → in_order xs ≡ true → in_order ys ≡ true → i < length xs → j < length ys → (get_or xs i d).0 ≡ (get_or ys j e).0
-    → paired (drop i xs) (drop j ys) ≡ ((get_or xs i d).0, ((get_or xs i d).1, (get_or ys j e).1)) ∷ paired (drop (i + 1) xs) (drop (j + 1) ys)
-next_both xs ys i j d e h g l m same =
-    (λ k. paired (drop_next xs i d l k) (drop_next ys j e m k))
-    ∙ merge_both (λ a. (a, 0)) (λ a b. (a, b.1)) (λ b. (0, b)) (get_or xs i d) (drop (i + 1) xs) (get_or ys j e) (drop (j + 1) ys) same (above_next xs i d h l)
 
 -- Passing one picture
 

@@ -1,14 +1,14 @@
 -- Rows of words.
-use Rattle.std.proofs.Common.{◌≡◌, ℕ, zero, suc, ◌+◌, ◌*◌, ◌<◌, ◌≤◌, Bool, true, false, ltb, eqb, ◌&&◌, max, List, [], ◌∷◌, ◌++◌, length, get_or, drop, refl, sym, subst, ap, ◌∙◌, inl, inr, arith, append_assoc}
+use Rattle.std.proofs.Common.{◌≡◌, ℕ, zero, suc, ◌+◌, ◌*◌, ◌<◌, ◌≤◌, Bool, true, false, ltb, eqb, ◌&&◌, max, List, [], ◌∷◌, ◌++◌, length, get_or, drop, refl, sym, ap, ◌∙◌, arith, append_assoc}
 use Rattle.std.proofs.lemmas.List.{drop_all}
 use Rattle.std.specs.Cmp.Lexicographic.{pointwise}
-use Rattle.std.proofs.lemmas.Bool.{and_parts, and_from, lt-ltb, cases_lt, eqb-true}
+use Rattle.std.proofs.lemmas.Bool.{and_parts, eqb-true}
 use Rattle.item_knowledge.specs.Tables.{keys_pass, in_order}
 use Rattle.item_knowledge.specs.Entries.{Entry, same_entries, joined}
 use Rattle.item_knowledge.specs.Fragments.{Fragment, nothing, entries_at}
 use Rattle.item_knowledge.specs.Rows.{pairs, flat, IsRow, fragments_of, rows_of, AreRows}
-use Rattle.item_knowledge.proofs.TableLemmas.{above_all, merge_left, merge_right, merge_both}
-use Rattle.item_knowledge.proofs.MergeLemmas.{drop_next}
+use Rattle.item_knowledge.proofs.TableLemmas.{merge_left}
+use Rattle.item_knowledge.proofs.SearchLemmas.{order_from}
 
 -- Rows and what they are of
 
@@ -78,96 +78,22 @@ same_rows (a ∷ n ∷ xs) (b ∷ m ∷ ys) h g =
     and_assoc true y z = refl
     and_assoc false y z = refl
 
--- A merge of rows
+-- A join of rows
 
-pub record RowStep (xs : List ℕ) (i : ℕ) : Type 0 where
-  pub more : i + 1 < length xs
-  pub words : drop i xs ≡ get_or xs i 0 ∷ get_or xs (i + 1) 0 ∷ drop (i + 1 + 1) xs
-  pub rest : IsRow (drop (i + 1 + 1) xs)
+pub row_from : (xs : List ℕ) (i : ℕ) → IsRow xs → drop (2 * i) xs ≡ flat (drop i (pairs xs))
+row_from xs zero h = sym h
+row_from [] (suc i) h = let e : 2 * suc i ≡ suc (2 * i + 1) = omega arith in ap (λ k. drop k []) e
+row_from (a ∷ []) (suc i) h = absurd (odd a h)
+row_from (a ∷ n ∷ ws) (suc i) h =
+    let e : 2 * suc i ≡ suc (suc (2 * i)) = omega arith in
+    ap (λ k. drop k (a ∷ n ∷ ws)) e ∙ row_from ws i (rest_row a n ws h)
 
-pub row_step : (xs : List ℕ) (i : ℕ) → i < length xs → IsRow (drop i xs) → RowStep xs i
-row_step xs i l h =
-    let first : drop i xs ≡ get_or xs i 0 ∷ drop (i + 1) xs = drop_next xs i 0 l in
-    elim (cases_lt (i + 1) (length xs)) [
-      | inl more ↦
-          let words : drop i xs ≡ get_or xs i 0 ∷ get_or xs (i + 1) 0 ∷ drop (i + 1 + 1) xs = first ∙ ap (λ ws. get_or xs i 0 ∷ ws) (drop_next xs (i + 1) 0 more) in
-          record { more = more; words = words; rest = rest_row (get_or xs i 0) (get_or xs (i + 1) 0) (drop (i + 1 + 1) xs) (subst IsRow words h) }
-      | inr over ↦ absurd (odd (get_or xs i 0) (subst IsRow (first ∙ ap (λ ws. get_or xs i 0 ∷ ws) (drop_all (i + 1) xs over)) h))
-    ]
-
-pub record Rows (xs ys out : List ℕ) (i j : ℕ) : Type 0 where
-  pub done : out ++ flat (joined (pairs (drop i xs)) (pairs (drop j ys))) ≡ flat (joined (pairs xs) (pairs ys))
-  pub left : in_order (pairs (drop i xs)) ≡ true
-  pub right : in_order (pairs (drop j ys)) ≡ true
-  pub left_row : IsRow (drop i xs)
-  pub right_row : IsRow (drop j ys)
-
-abbrev entry_at : List ℕ → ℕ → Entry
-entry_at xs i = (get_or xs i 0, get_or xs (i + 1) 0)
-
-step_pairs : (xs : List ℕ) (i : ℕ) → RowStep xs i → pairs (drop i xs) ≡ entry_at xs i ∷ pairs (drop (i + 1 + 1) xs)
-step_pairs xs i s = ap pairs s.words
-
-step_order : (xs : List ℕ) (i : ℕ) → RowStep xs i → in_order (pairs (drop i xs)) ≡ true → (keys_pass (λ k. ltb (get_or xs i 0) k) (pairs (drop (i + 1 + 1) xs)) ≡ true) × (in_order (pairs (drop (i + 1 + 1) xs)) ≡ true)
-step_order xs i s o = and_parts (keys_pass (λ k. ltb (get_or xs i 0) k) (pairs (drop (i + 1 + 1) xs))) (in_order (pairs (drop (i + 1 + 1) xs))) (subst (λ es. in_order es ≡ true) (step_pairs xs i s) o)
-
-above_row : (k : ℕ) (xs : List ℕ) (i : ℕ) → in_order (pairs (drop i xs)) ≡ true → IsRow (drop i xs) → (i < length xs → k < get_or xs i 0) → keys_pass (λ n. ltb k n) (pairs (drop i xs)) ≡ true
-above_row k xs i o r f = elim (cases_lt i (length xs)) [
-  | inl more ↦
-      let s = row_step xs i more r in
-      let less = f more in
-      let parts = step_order xs i s o in
-      subst (λ es. keys_pass (λ n. ltb k n) es ≡ true) (sym (step_pairs xs i s)) (and_from _ _ (lt-ltb k (get_or xs i 0) less) (above_all k (get_or xs i 0) (pairs (drop (i + 1 + 1) xs)) (omega arith) parts.0))
-  | inr over ↦ subst (λ ws. keys_pass (λ n. ltb k n) (pairs ws) ≡ true) (sym (drop_all i xs over)) refl
-]
-
-two_more : (out : List ℕ) (a n : ℕ) (rest whole : List ℕ) → out ++ a ∷ n ∷ rest ≡ whole → ((out ++ a ∷ []) ++ n ∷ []) ++ rest ≡ whole
-two_more out a n rest whole h = append_assoc (out ++ a ∷ []) (n ∷ []) rest ∙ (append_assoc out (a ∷ []) (n ∷ rest) ∙ h)
-
-pub word_left : (xs ys out : List ℕ) (i j : ℕ) → Rows xs ys out i j → i < length xs → (j < length ys → get_or xs i 0 < get_or ys j 0) → Rows xs ys ((out ++ get_or xs i 0 ∷ []) ++ get_or xs (i + 1) 0 ∷ []) (i + 1 + 1) j
-word_left xs ys out i j m l f =
-    let s = row_step xs i l m.left_row in
-    let parts = step_order xs i s m.left in
-    let step = merge_left (λ a. a) (λ a b. max a b) (λ b. b) (entry_at xs i) (pairs (drop (i + 1 + 1) xs)) (pairs (drop j ys)) parts.0 (above_row (get_or xs i 0) ys j m.right m.right_row f) in
-    let at = ap (λ es. joined es (pairs (drop j ys))) (step_pairs xs i s) in
-    record {
-      done = two_more out (get_or xs i 0) (get_or xs (i + 1) 0) (flat (joined (pairs (drop (i + 1 + 1) xs)) (pairs (drop j ys)))) (flat (joined (pairs xs) (pairs ys))) (ap (λ es. out ++ flat es) (sym (at ∙ step)) ∙ m.done);
-      left = parts.1;
-      right = m.right;
-      left_row = s.rest;
-      right_row = m.right_row;
-    }
-
-pub word_right : (xs ys out : List ℕ) (i j : ℕ) → Rows xs ys out i j → j < length ys → (i < length xs → get_or ys j 0 < get_or xs i 0) → Rows xs ys ((out ++ get_or ys j 0 ∷ []) ++ get_or ys (j + 1) 0 ∷ []) i (j + 1 + 1)
-word_right xs ys out i j m l f =
-    let s = row_step ys j l m.right_row in
-    let parts = step_order ys j s m.right in
-    let step = merge_right (λ a. a) (λ a b. max a b) (λ b. b) (pairs (drop i xs)) (entry_at ys j) (pairs (drop (j + 1 + 1) ys)) (above_row (get_or ys j 0) xs i m.left m.left_row f) in
-    let at = ap (λ es. joined (pairs (drop i xs)) es) (step_pairs ys j s) in
-    record {
-      done = two_more out (get_or ys j 0) (get_or ys (j + 1) 0) (flat (joined (pairs (drop i xs)) (pairs (drop (j + 1 + 1) ys)))) (flat (joined (pairs xs) (pairs ys))) (ap (λ es. out ++ flat es) (sym (at ∙ step)) ∙ m.done);
-      left = m.left;
-      right = parts.1;
-      left_row = m.left_row;
-      right_row = s.rest;
-    }
-
-pub word_both : (xs ys out : List ℕ) (i j n : ℕ) → Rows xs ys out i j → i < length xs → j < length ys → get_or xs i 0 ≡ get_or ys j 0 → n ≡ max (get_or xs (i + 1) 0) (get_or ys (j + 1) 0) → Rows xs ys ((out ++ get_or xs i 0 ∷ []) ++ n ∷ []) (i + 1 + 1) (j + 1 + 1)
-word_both xs ys out i j n m l k e is =
-    let s = row_step xs i l m.left_row in
-    let t = row_step ys j k m.right_row in
-    let p = step_order xs i s m.left in
-    let q = step_order ys j t m.right in
-    let step = merge_both (λ a. a) (λ a b. max a b) (λ b. b) (entry_at xs i) (pairs (drop (i + 1 + 1) xs)) (entry_at ys j) (pairs (drop (j + 1 + 1) ys)) e p.0 in
-    let at : joined (pairs (drop i xs)) (pairs (drop j ys)) ≡ joined (entry_at xs i ∷ pairs (drop (i + 1 + 1) xs)) (entry_at ys j ∷ pairs (drop (j + 1 + 1) ys)) = (λ z. joined (step_pairs xs i s z) (step_pairs ys j t z)) in
-    let rest : List ℕ = flat (joined (pairs (drop (i + 1 + 1) xs)) (pairs (drop (j + 1 + 1) ys))) in
-    record {
-      done = two_more out (get_or xs i 0) n rest (flat (joined (pairs xs) (pairs ys))) (ap (λ w. out ++ get_or xs i 0 ∷ w ∷ rest) is ∙ (ap (λ es. out ++ flat es) (sym (at ∙ step)) ∙ m.done));
-      left = p.1;
-      right = q.1;
-      left_row = s.rest;
-      right_row = t.rest;
-    }
+-- one entry more
+pub joined_more : (out new : List ℕ) (e : Entry) (rest now all : List Entry) → new ≡ (out ++ e.0 ∷ []) ++ e.1 ∷ [] → now ≡ e ∷ rest → out ++ flat now ≡ flat all → new ++ flat rest ≡ flat all
+joined_more out new e rest now all is step done =
+    ap (λ ws. ws ++ flat rest) is
+    ∙ (append_assoc (out ++ e.0 ∷ []) (e.1 ∷ []) (flat rest)
+    ∙ (append_assoc out (e.0 ∷ []) (e.1 ∷ flat rest) ∙ (ap (λ es. out ++ flat es) (sym step) ∙ done)))
 
 none_joined : (ys : List Entry) → joined [] ys ≡ ys
 none_joined [] = refl
@@ -185,48 +111,15 @@ joined_empty es (w ∷ ws) o h = absurd (omega (arith, eqb-true (length (w ∷ w
 
 -- the rest of the row that is left
 
-pub left_merged : (xs ys out new : List ℕ) (i j : ℕ) → Rows xs ys out i j → length ys ≤ j → new ≡ out ++ drop i xs → new ≡ flat (joined (pairs xs) (pairs ys))
-left_merged xs ys out new i j m over is =
-    let left : joined (pairs (drop i xs)) (pairs (drop j ys)) ≡ pairs (drop i xs) = ap (λ ws. joined (pairs (drop i xs)) (pairs ws)) (drop_all j ys over) ∙ joined_none (pairs (drop i xs)) m.left in
-    is ∙ (ap (λ ws. out ++ ws) (sym (ap flat left ∙ m.left_row)) ∙ m.done)
+pub left_merged : (xs ys out new : List ℕ) (all : List Entry) (i j : ℕ) → in_order (pairs xs) ≡ true → length (pairs ys) ≤ j → new ≡ out ++ flat (drop i (pairs xs)) → out ++ flat (joined (drop i (pairs xs)) (drop j (pairs ys))) ≡ flat all → new ≡ flat all
+left_merged xs ys out new all i j o over is done =
+    let rest : joined (drop i (pairs xs)) (drop j (pairs ys)) ≡ drop i (pairs xs) = ap (joined (drop i (pairs xs))) (drop_all j (pairs ys) over) ∙ joined_none (drop i (pairs xs)) (order_from (pairs xs) i o) in
+    is ∙ (ap (λ es. out ++ flat es) (sym rest) ∙ done)
 
-pub right_merged : (xs ys out new : List ℕ) (i j : ℕ) → Rows xs ys out i j → length xs ≤ i → new ≡ out ++ drop j ys → new ≡ flat (joined (pairs xs) (pairs ys))
-right_merged xs ys out new i j m over is =
-    let right : joined (pairs (drop i xs)) (pairs (drop j ys)) ≡ pairs (drop j ys) = ap (λ ws. joined (pairs ws) (pairs (drop j ys))) (drop_all i xs over) ∙ none_joined (pairs (drop j ys)) in
-    is ∙ (ap (λ ws. out ++ ws) (sym (ap flat right ∙ m.right_row)) ∙ m.done)
-
--- the same, at what the code holds after the step
-
-pub left_taken : (xs ys out new : List ℕ) (i j : ℕ) → Rows xs ys out i j → i < length xs → (j < length ys → get_or xs i 0 < get_or ys j 0) → new ≡ (out ++ get_or xs i 0 ∷ []) ++ get_or xs (i + 1) 0 ∷ [] → Rows xs ys new (i + 2) j
-left_taken xs ys out new i j m l f is =
-    let two : i + 1 + 1 ≡ i + 2 = omega arith in
-    subst (λ k. Rows xs ys new k j) two (subst (λ ws. Rows xs ys ws (i + 1 + 1) j) (sym is) (word_left xs ys out i j m l f))
-
-pub right_taken : (xs ys out new : List ℕ) (i j : ℕ) → Rows xs ys out i j → j < length ys → (i < length xs → get_or ys j 0 < get_or xs i 0) → new ≡ (out ++ get_or ys j 0 ∷ []) ++ get_or ys (j + 1) 0 ∷ [] → Rows xs ys new i (j + 2)
-right_taken xs ys out new i j m l f is =
-    let two : j + 1 + 1 ≡ j + 2 = omega arith in
-    subst (λ k. Rows xs ys new i k) two (subst (λ ws. Rows xs ys ws i (j + 1 + 1)) (sym is) (word_right xs ys out i j m l f))
-
-pub both_taken : (xs ys out new : List ℕ) (i j n : ℕ) → Rows xs ys out i j → i < length xs → j < length ys → get_or xs i 0 ≡ get_or ys j 0 → n ≡ max (get_or xs (i + 1) 0) (get_or ys (j + 1) 0) → new ≡ (out ++ get_or xs i 0 ∷ []) ++ n ∷ [] → Rows xs ys new (i + 2) (j + 2)
-both_taken xs ys out new i j n m l k e greater is =
-    let two : i + 1 + 1 ≡ i + 2 = omega arith in
-    let also : j + 1 + 1 ≡ j + 2 = omega arith in
-    subst (λ h. Rows xs ys new h (j + 2)) two (subst (λ h. Rows xs ys new (i + 1 + 1) h) also (subst (λ ws. Rows xs ys ws (i + 1 + 1) (j + 1 + 1)) (sym is) (word_both xs ys out i j n m l k e greater)))
-
--- A search along a row
-
-pub record EntryStep (xs : List ℕ) (i : ℕ) : Type 0 where
-  pub entries : pairs (drop i xs) ≡ (get_or xs i 0, get_or xs (i + 1) 0) ∷ pairs (drop (i + 2) xs)
-  pub rest : IsRow (drop (i + 2) xs)
-
-pub entry_step : (xs : List ℕ) (i : ℕ) → i < length xs → IsRow (drop i xs) → EntryStep xs i
-entry_step xs i l h =
-    let s = row_step xs i l h in
-    let two : i + 1 + 1 ≡ i + 2 = omega arith in
-    record {
-      entries = subst (λ n. pairs (drop i xs) ≡ (get_or xs i 0, get_or xs (i + 1) 0) ∷ pairs (drop n xs)) two (step_pairs xs i s);
-      rest = subst (λ n. IsRow (drop n xs)) two s.rest;
-    }
+pub right_merged : (xs ys out new : List ℕ) (all : List Entry) (i j : ℕ) → length (pairs xs) ≤ i → new ≡ out ++ flat (drop j (pairs ys)) → out ++ flat (joined (drop i (pairs xs)) (drop j (pairs ys))) ≡ flat all → new ≡ flat all
+right_merged xs ys out new all i j over is done =
+    let rest : joined (drop i (pairs xs)) (drop j (pairs ys)) ≡ drop j (pairs ys) = ap (λ es. joined es (drop j (pairs ys))) (drop_all i (pairs xs) over) ∙ none_joined (drop j (pairs ys)) in
+    is ∙ (ap (λ es. out ++ flat es) (sym rest) ∙ done)
 
 -- The entries of a row by their places
 

@@ -1,10 +1,11 @@
 -- Searches in tables.
-use Rattle.std.proofs.Common.{rules, ◌≡◌, ℕ, zero, suc, ◌+◌, ◌<◌, ◌≤◌, true, false, ltb, List, [], ◌∷◌, length, get_or, drop, refl, sym, subst, ap, ◌∙◌, arith, add-one}
+use Rattle.std.proofs.Common.{rules, ◌≡◌, ℕ, zero, suc, ◌+◌, ◌<◌, ◌≤◌, true, false, ltb, List, [], ◌∷◌, length, get_or, drop, refl, sym, subst, ap, ◌∙◌, inl, inr, arith, add-one}
 use Rattle.std.specs.List.Sorted.{IsNonDecreasingBy, IsPartitionPoint}
-use Rattle.std.proofs.lemmas.Bool.{and_parts, and_from, lt-ltb, ltb-true, ltb-false, eq-eqb, ne_eqb}
-use Rattle.item_knowledge.specs.Tables.{keys_pass, in_order, at}
+use Rattle.std.proofs.lemmas.Bool.{and_parts, and_from, lt-ltb, ltb-true, ltb-false, eq-eqb, ne_eqb, cases_lt}
+use Rattle.std.proofs.lemmas.List.{drop_all}
+use Rattle.item_knowledge.specs.Tables.{keys_pass, in_order, at, merge}
 use Rattle.item_knowledge.proofs.MergeLemmas.{drop_next, all_at}
-use Rattle.item_knowledge.proofs.TableLemmas.{at_above, above_all}
+use Rattle.item_knowledge.proofs.TableLemmas.{at_above, above_all, merge_left, merge_right, merge_both}
 
 -- along a table in order the numbers don't fall
 
@@ -44,7 +45,7 @@ is_place p xs i h = record {
 
 -- A table, from a place on
 
-order_from : (xs : List (ℕ × ℕ)) (i : ℕ) → in_order xs ≡ true → in_order (drop i xs) ≡ true
+pub order_from : (xs : List (ℕ × ℕ)) (i : ℕ) → in_order xs ≡ true → in_order (drop i xs) ≡ true
 order_from xs zero h = h
 order_from [] (suc i) h = refl
 order_from (x ∷ xs) (suc i) h = order_from xs i (and_parts (keys_pass (λ k. ltb x.0 k) xs) (in_order xs) h).1
@@ -78,3 +79,34 @@ found_there xs p i d h l s = sym (sym (at_from xs i p d h l (omega arith)) ∙ (
 -- where a place has a smaller number, nothing up to it counts
 pub behind_from : (xs : List (ℕ × ℕ)) (i q : ℕ) (d : ℕ × ℕ) → in_order xs ≡ true → i < length xs → (get_or xs i d).0 < q → at 0 (drop (suc i) xs) q ≡ at 0 xs q
 behind_from xs i q d h l less = rw (← add-one) (sym (passed_from xs i q d l (λ s. absurd (omega arith))) ∙ at_from xs i q d h l (omega arith))
+
+-- What comes next of two tables that are gone along together
+
+-- where the next one is greater than a number all are
+above_from : (n : ℕ) (xs : List (ℕ × ℕ)) (i : ℕ) (d : ℕ × ℕ) → in_order xs ≡ true → (i < length xs → n < (get_or xs i d).0) → keys_pass (λ k. ltb n k) (drop i xs) ≡ true
+above_from n xs i d h f = elim (cases_lt i (length xs)) [
+  | inl more ↦
+      let less = f more in
+      subst (λ zs. keys_pass (λ k. ltb n k) zs ≡ true) (sym (drop_next xs i d more))
+      (and_from _ _ (lt-ltb n (get_or xs i d).0 less) (above_all n (get_or xs i d).0 (drop (i + 1) xs) (omega (arith, less)) (above_next xs i d h more)))
+  | inr over ↦ subst (λ zs. keys_pass (λ k. ltb n k) zs ≡ true) (sym (drop_all i xs over)) refl
+]
+
+module _ {C : Type 0} (alone : ℕ → C) (both : ℕ → C → C) (other : ℕ → C) (xs ys : List (ℕ × ℕ)) (i j : ℕ) (d e : ℕ × ℕ) (h : in_order xs ≡ true) (g : in_order ys ≡ true) where
+  pub next_left : i < length xs → (j < length ys → (get_or xs i d).0 < (get_or ys j e).0)
+      → merge alone both other (drop i xs) (drop j ys) ≡ ((get_or xs i d).0, alone (get_or xs i d).1) ∷ merge alone both other (drop (i + 1) xs) (drop j ys)
+  next_left l f =
+      ap (λ zs. merge alone both other zs (drop j ys)) (drop_next xs i d l)
+      ∙ merge_left alone both other (get_or xs i d) (drop (i + 1) xs) (drop j ys) (above_next xs i d h l) (above_from (get_or xs i d).0 ys j e g f)
+
+  pub next_right : j < length ys → (i < length xs → (get_or ys j e).0 < (get_or xs i d).0)
+      → merge alone both other (drop i xs) (drop j ys) ≡ ((get_or ys j e).0, other (get_or ys j e).1) ∷ merge alone both other (drop i xs) (drop (j + 1) ys)
+  next_right l f =
+      ap (λ zs. merge alone both other (drop i xs) zs) (drop_next ys j e l)
+      ∙ merge_right alone both other (drop i xs) (get_or ys j e) (drop (j + 1) ys) (above_from (get_or ys j e).0 xs i d h f)
+
+  pub next_both : i < length xs → j < length ys → (get_or xs i d).0 ≡ (get_or ys j e).0
+      → merge alone both other (drop i xs) (drop j ys) ≡ ((get_or xs i d).0, both (get_or xs i d).1 (other (get_or ys j e).1)) ∷ merge alone both other (drop (i + 1) xs) (drop (j + 1) ys)
+  next_both l m same =
+      (λ k. merge alone both other (drop_next xs i d l k) (drop_next ys j e m k))
+      ∙ merge_both alone both other (get_or xs i d) (drop (i + 1) xs) (get_or ys j e) (drop (j + 1) ys) same (above_next xs i d h l)

@@ -38,6 +38,7 @@ fn adds_nothing(left: &Rows, right: &Rows, a: usize, b: usize) -> bool
 }
 
 // Whether a picture is the only one of a fragment.
+#[tactic(auto, using(crate::proofs::RowLemmas::rows_read))]
 fn is_alone(rows: &Rows, number: usize, picture: u32) -> bool
     requires rows { AreRows rows.now }
     requires number { number < length (fragments_of rows.now) }
@@ -78,6 +79,7 @@ fn stays(left: &Rows, right: &Rows, is_raised: bool, picture: u32, a: usize, b: 
 
 // The left's fragment `a` comes behind a run of others from one number up to another, all of which are still to be
 // written. Where it doesn't follow the last of them the run is written. Gives where the run of `a` begins.
+#[tactic(auto, using(crate::proofs::RowLemmas::rows_read))]
 fn run_to(
     left: &Rows,
     from: usize,
@@ -102,6 +104,7 @@ fn run_to(
 }
 
 // Writes a run of the left's fragments from one number up to another, and behind it a fragment of one picture.
+#[tactic(auto, using(crate::proofs::RowLemmas::rows_read))]
 #[inline(always)]
 fn place_behind(
     left: &Rows,

@@ -4,10 +4,10 @@ ghost use Rattle.item_knowledge.specs.Tables.{in_order};
 ghost use Rattle.item_knowledge.specs.Entries as spec;
 ghost use Rattle.item_knowledge.specs.Rows.{pairs, IsRow};
 
+use crate::search::{entries_from, entry_at, entry_count};
 use std::alloc::AllocError;
 
 /// Writes the row of the join of two vectors, in place of what was there: of each author the greater bound.
-#[tactic(auto, using(crate::proofs::RowLemmas::row_step))]
 #[inline(always)]
 pub(crate) fn join(xs: &[u64], ys: &[u64], out: &mut Vec<u64>) -> Result<(), AllocError>
     requires left_row { IsRow xs.now }
@@ -19,35 +19,34 @@ pub(crate) fn join(xs: &[u64], ys: &[u64], out: &mut Vec<u64>) -> Result<(), All
 {
     out.clear();
     out.reserve(xs.len().saturating_add(ys.len()))?;
+    let (left, right) = (entry_count(xs), entry_count(ys));
     let mut i = 0;
     let mut j = 0;
-    while i < xs.len() && j < ys.len() {
-        let a = xs[i];
-        let b = ys[j];
+    while i < left && j < right {
+        let (a, m) = entry_at(xs, i);
+        let (b, n) = entry_at(ys, j);
         if a < b {
             out.push_reserved(a);
-            out.push_reserved(xs[i + 1]);
-            i += 2;
+            out.push_reserved(m);
+            i += 1;
             continue;
         }
         if b < a {
             out.push_reserved(b);
-            out.push_reserved(ys[j + 1]);
-            j += 2;
+            out.push_reserved(n);
+            j += 1;
             continue;
         }
-        let n = xs[i + 1].max(ys[j + 1]);
+        let most = m.max(n);
         out.push_reserved(a);
-        out.push_reserved(n);
-        i += 2;
-        j += 2;
+        out.push_reserved(most);
+        i += 1;
+        j += 1;
     }
-    if i < xs.len() {
-        out.extend_from_slice(&xs[i..])?;
+    if i < left {
+        out.extend_from_slice(entries_from(xs, i))?;
         return Ok(());
     }
-    if j < ys.len() {
-        out.extend_from_slice(&ys[j..])?;
-    }
+    out.extend_from_slice(entries_from(ys, j))?;
     Ok(())
 }

@@ -1,8 +1,8 @@
 // Searches for a picture in an index, and for an author in a row.
-ghost use Rattle.std.specs.Prelude.{◌≡◌, ◌<◌, true, length, get_or, drop, IfSome};
+ghost use Rattle.std.specs.Prelude.{◌≡◌, ◌<◌, ◌≤◌, true, length, get_or, drop, IfSome};
 ghost use Rattle.item_knowledge.specs.Tables.{in_order, at};
 ghost use Rattle.item_knowledge.specs.Entries.{bound, leq};
-ghost use Rattle.item_knowledge.specs.Rows.{pairs, IsRow, IsAt};
+ghost use Rattle.item_knowledge.specs.Rows.{pairs, flat, IsRow, IsAt};
 
 use crate::index::IndexEntry;
 
@@ -107,6 +107,7 @@ pub(crate) fn number_near(index: &[IndexEntry], hint: usize, picture: u32) -> (u
 }
 
 /// The number of entries of a row.
+#[tactic(auto, using(crate::proofs::RowLemmas::row_length))]
 pub(crate) fn entry_count(row: &[u64]) -> usize
     requires { IsRow row.now }
     ensures { result ≡ length (pairs row.now) }
@@ -115,6 +116,7 @@ pub(crate) fn entry_count(row: &[u64]) -> usize
 }
 
 /// The entry at place `i` of a row: the author's word, and the bound.
+#[tactic(auto, using(crate::proofs::RowLemmas::row_length))]
 pub(crate) fn entry_at(row: &[u64], i: usize) -> (u64, u64)
     requires row { IsRow row.now }
     requires place { i < length (pairs row.now) }
@@ -123,6 +125,18 @@ pub(crate) fn entry_at(row: &[u64], i: usize) -> (u64, u64)
     // For its fact alone: how long the row is.
     let _count = row.len();
     (row[2 * i], row[2 * i + 1])
+}
+
+/// The words of the entries of a row from a place on.
+#[tactic(auto, using(crate::proofs::RowLemmas::row_length))]
+pub(crate) fn entries_from(row: &[u64], place: usize) -> &[u64]
+    requires row { IsRow row.now }
+    requires place { place ≤ length (pairs row.now) }
+    ensures { result.now ≡ flat (drop place (pairs row.now)) }
+{
+    // For its fact alone: how long the row is.
+    let _count = row.len();
+    &row[2 * place..]
 }
 
 // The bound of an author in a row, and its place, where no entry before that place is the author's.
