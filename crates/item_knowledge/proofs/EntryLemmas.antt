@@ -51,6 +51,10 @@ denotes-bound (e ∷ es) v h =
 abbrev pub version_at : ℕ → ℕ → Version
 version_at a n = record { author = author_of_word a; number = n }
 
+-- a version that a vector denotes is up to its author's bound
+pub most_of : (es : List Entry) (a n : ℕ) → is_vector es ≡ true → denotes es (version_at a n) ≡ true → n ≤ bound es a
+most_of es a n vector d = leb-true n (bound es a) (and_parts (leb 1 n) (leb n (bound es a)) (sym (denotes-bound es (version_at a n) vector) ∙ d)).1
+
 -- the bounds are determined by what a vector denotes
 bounds_le : (xs ys : List Entry) → is_vector xs ≡ true → is_vector ys ≡ true → ((v : Version) → denotes xs v ≡ denotes ys v) → (a : ℕ) → bound xs a ≤ bound ys a
 bounds_le xs ys hx hy h a =

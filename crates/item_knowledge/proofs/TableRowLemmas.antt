@@ -3,6 +3,7 @@ use Rattle.std.proofs.Common.{◌≡◌, ℕ, zero, suc, ◌+◌, ◌<◌, ◌�
 use Rattle.std.proofs.lemmas.List.{drop_all, append-nil}
 use Rattle.std.specs.List.{list_all, slice_get}
 use Rattle.std.specs.Result.{IfOk}
+use Rattle.std.proofs.lemmas.Option.{slice_get_within, get_or_from_slice_get}
 use Rattle.std.proofs.Math.ListN.{get_or-append}
 use Rattle.std.proofs.Math.Seq.{get_or-append_seam}
 use Rattle.std.proofs.lemmas.Bool.{and_parts, and_from, lt-ltb, le-leb, ltb-true, eq-eqb, ne_eqb, cases_eq}
@@ -22,15 +23,8 @@ use Rattle.item_knowledge.proofs.EntryLemmas.{vector_parts}
 some_same : {X : Type 0} (y z : X) → Some y ≡ Some z → y ≡ z
 some_same y z e = cc
 
-drop_got : {X : Type 0} (xs : List X) (i : ℕ) (x : X) → slice_get xs i ≡ Some x → drop i xs ≡ x ∷ drop (suc i) xs
-drop_got [] i x h = absurd (cc)
-drop_got (y ∷ ys) zero x h = ap (λ z. z ∷ ys) (some_same y x h)
-drop_got (y ∷ ys) (suc i) x h = drop_got ys i x h
-
 pub got_drop : {X : Type 0} (xs : List X) (i : ℕ) (x : X) → slice_get xs i ≡ Some x → drop i xs ≡ x ∷ drop (i + 1) xs
-got_drop xs i x h =
-    let one : suc i ≡ i + 1 = omega arith in
-    drop_got xs i x h ∙ ap (λ n. x ∷ drop n xs) one
+got_drop xs i x h = drop_next xs i x (slice_get_within xs i x h) ∙ ap (λ y. y ∷ drop (i + 1) xs) (get_or_from_slice_get xs i x x h)
 
 -- A vector's bounds
 

@@ -1,8 +1,8 @@
 -- How far each author's bounds go in rows.
-use Rattle.std.proofs.Common.{◌≡◌, ℕ, suc, ◌+◌, ◌<◌, ◌≤◌, true, leb, ◌||◌, max, List, [], ◌∷◌, length, map, refl, sym, subst, ap, ◌∙◌, inl, inr, arith}
+use Rattle.std.proofs.Common.{◌≡◌, ℕ, suc, ◌+◌, ◌<◌, ◌≤◌, true, ◌||◌, max, List, [], ◌∷◌, length, map, refl, sym, subst, ap, ◌∙◌, inl, inr, arith}
 use Rattle.std.specs.List.{list_all}
 use Rattle.std.proofs.Math.Nat.{max-zero, zero-max}
-use Rattle.std.proofs.lemmas.Bool.{and_parts, and_from, leb-true, le-leb, cases_Bool, cases_lt}
+use Rattle.std.proofs.lemmas.Bool.{and_parts, and_from, le-leb, cases_Bool, cases_lt}
 use Rattle.std.proofs.lemmas.List.{get_or_past}
 use Rattle.photo_version.specs.Author.{author_of_word}
 use Rattle.photo_version.specs.Vector.{Bound}
@@ -15,7 +15,7 @@ use Rattle.item_knowledge.specs.Raising.{are_level, all_raised, are_risen}
 use Rattle.item_knowledge.specs.Rows.{pairs, IsRow, fragments_of, rows_of, AreRows}
 use Rattle.item_knowledge.specs.TableRows.{entries_of, told_one, told}
 use Rattle.item_knowledge.specs.Tops.{IsTop}
-use Rattle.item_knowledge.proofs.EntryLemmas.{denotes-bound}
+use Rattle.item_knowledge.proofs.EntryLemmas.{most_of}
 use Rattle.item_knowledge.proofs.FragmentLemmas.{leq_at}
 use Rattle.item_knowledge.proofs.JoinLemmas.{joined_bound, joined_vector}
 use Rattle.item_knowledge.proofs.MergeLemmas.{all_at}
@@ -93,11 +93,6 @@ pub vector_at : (fs : List Fragment) (k : ℕ) → list_all (λ (f : Fragment). 
 vector_at fs k h l = all_at (λ (f : Fragment). is_vector f.entries) fs k nothing h l
 
 -- The top of a union
-
-most_of : (es : List Entry) (a n : ℕ) → is_vector es ≡ true → denotes es (version (author_of_word a) n) ≡ true → n ≤ bound es a
-most_of es a n vector d =
-    let both = and_parts (leb 1 n) (leb n (bound es a)) (sym (denotes-bound es (version (author_of_word a) n) vector) ∙ d) in
-    leb-true n (bound es a) both.1
 
 pub union_top : (one other top : List ℕ) (left right out : List (List ℕ)) (xs ys zs : List (ℕ × ℕ)) → IsTop one left → IsTop other right → IsRow top → pairs top ≡ joined (pairs one) (pairs other) → IsSide (fragments_of left) xs → IsSide (fragments_of right) ys → IsUnion (fragments_of left) xs (fragments_of right) ys (fragments_of out) zs → IsTop top out
 union_top one other top left right out xs ys zs h g row is f side u = record {

@@ -5,13 +5,13 @@ use Rattle.std.proofs.lemmas.Bool.{and_parts, and_from, leb-true, cases_Bool, fa
 use Rattle.photo_version.specs.Author.{author_of_word}
 use Rattle.photo_version.specs.Version.{version}
 use Rattle.item_knowledge.specs.Tables.{at, in_order}
-use Rattle.item_knowledge.specs.Entries.{Entry, denotes, is_entry, is_vector, bound, joined}
+use Rattle.item_knowledge.specs.Entries.{Entry, denotes, is_entry, bound, joined}
 use Rattle.item_knowledge.specs.Fragments.{Fragment, knows, is_normal, known, nothing, entries_at}
 use Rattle.item_knowledge.specs.Gathering.{vector_of, IsSide, IsUnion}
 use Rattle.item_knowledge.specs.Late.{shown, IsWaiting, IsLate, AreUntouching}
 use Rattle.item_knowledge.specs.Raising.{are_level, all_raised}
 use Rattle.item_knowledge.specs.Rows.{AreRows, fragments_of, rows_of}
-use Rattle.item_knowledge.proofs.EntryLemmas.{denotes-bound}
+use Rattle.item_knowledge.proofs.EntryLemmas.{most_of}
 use Rattle.item_knowledge.proofs.FragmentLemmas.{normal_parts}
 use Rattle.item_knowledge.proofs.JoinLemmas.{joined_bound, joined_denotes, leq_self}
 use Rattle.item_knowledge.proofs.KeptLemmas.{star_vector}
@@ -62,12 +62,6 @@ union_waits e fs gs us xs ys zs h f g untouching u =
       risen = risen_all e (entries_at us 0) b us (normal_side us zs u.normal u.index).above (omega arith) level most;
     }
   where
-    most_of : (es : List Entry) (n b : ℕ) → is_vector es ≡ true → bound es e.0 ≤ b → denotes es (version (author_of_word e.0) n) ≡ true → n ≤ b
-    most_of es n b vector below d =
-        let both = and_parts (leb 1 n) (leb n (bound es e.0)) (sym (denotes-bound es (version (author_of_word e.0) n) vector) ∙ d) in
-        let low = leb-true n (bound es e.0) both.1 in
-        omega arith
-
     within : (p n : ℕ) → 0 < p → knows us p (version (author_of_word e.0) n) ≡ true → n ≤ bound (entries_at fs 0) e.0
     within p n z k =
         let v = version (author_of_word e.0) n in
@@ -75,8 +69,8 @@ union_waits e fs gs us xs ys zs h f g untouching u =
         let left = level_at fs (at 0 xs p) e.0 (bound (entries_at fs 0) e.0) h.level (at_number xs (length fs) p f.star f.range) in
         let right = level_at gs (at 0 ys p) e.0 (bound (entries_at fs 0) e.0) untouching (at_number ys (length gs) p g.star g.range) in
         elim (cases_Bool (denotes (vector_of fs xs p) v)) [
-          | inl here ↦ most_of (vector_of fs xs p) n (bound (entries_at fs 0) e.0) (side_vector fs xs p f) left here
-          | inr other ↦ most_of (vector_of gs ys p) n (bound (entries_at fs 0) e.0) (side_vector gs ys p g) right (rw other at either)
+          | inl here ↦ let most = most_of (vector_of fs xs p) e.0 n (side_vector fs xs p f) here in omega arith
+          | inr other ↦ let most = most_of (vector_of gs ys p) e.0 n (side_vector gs ys p g) (rw other at either) in omega arith
         ]
 
 -- and with it the union is that of what is shown

@@ -1,7 +1,7 @@
 -- One side's vectors are at most the other's exactly where its pairs are among the other's.
 use Rattle.std.proofs.Common.{◌≡◌, ℕ, ◌<◌, ◌≤◌, Bool, true, false, leb, ltb, ◌&&◌, ◌||◌, ◌↔◌, List, [], ◌∷◌, refl, sym, subst, ap, ◌∙◌, inl, inr, arith}
 use Rattle.std.specs.List.{list_all}
-use Rattle.std.proofs.lemmas.Bool.{and_parts, and_from, ltb-true, le-leb, leb-true, eq-eqb, ne_eqb, cases_eq}
+use Rattle.std.proofs.lemmas.Bool.{and_parts, and_from, ltb-true, le-leb, eq-eqb, ne_eqb, cases_eq}
 use Rattle.photo_version.specs.Version.{Version}
 use Rattle.item_knowledge.specs.Tables.{keys_pass, in_order, at}
 use Rattle.item_knowledge.specs.Entries.{Entry, denotes, is_vector, bound, leq}
@@ -9,7 +9,7 @@ use Rattle.item_knowledge.specs.Fragments.{knows, entries_at}
 use Rattle.item_knowledge.specs.Rows.{fragments_of}
 use Rattle.item_knowledge.specs.Gathering.{vector_of}
 use Rattle.item_knowledge.specs.Kept.{IsKept, is_side_within}
-use Rattle.item_knowledge.proofs.EntryLemmas.{denotes-bound, version_at}
+use Rattle.item_knowledge.proofs.EntryLemmas.{denotes-bound, version_at, most_of}
 use Rattle.item_knowledge.proofs.FragmentLemmas.{star_of_every}
 use Rattle.item_knowledge.proofs.JoinLemmas.{leq_from}
 use Rattle.item_knowledge.proofs.UnionLemmas.{side_vector}
@@ -20,8 +20,7 @@ bound_by xs ys hx hy h a = elim (cases_eq (bound xs a) 0) [
   | inl none ↦ omega arith
   | inr some ↦
       let here : (leb 1 (bound xs a) && leb (bound xs a) (bound xs a)) ≡ true = and_from _ _ (le-leb 1 (bound xs a) (omega arith)) (le-leb (bound xs a) (bound xs a) (omega arith)) in
-      let there : (leb 1 (bound xs a) && leb (bound xs a) (bound ys a)) ≡ true = sym (denotes-bound ys (version_at a (bound xs a)) hy) ∙ h (version_at a (bound xs a)) (denotes-bound xs (version_at a (bound xs a)) hx ∙ here) in
-      leb-true (bound xs a) (bound ys a) (and_parts (leb 1 (bound xs a)) (leb (bound xs a) (bound ys a)) there).1
+      most_of ys a (bound xs a) hy (h (version_at a (bound xs a)) (denotes-bound xs (version_at a (bound xs a)) hx ∙ here))
 ]
 
 -- a vector is at most another that denotes all that it denotes

@@ -21,6 +21,7 @@ use crate::seen::Seen;
 use std::alloc::{AllocError, Global};
 
 /// The entries of the fragment of a number, as a row of words.
+#[tactic(auto, using(crate::proofs::RowLemmas::rows_read))]
 pub(crate) fn entries(rows: &Rows, number: usize) -> &[u64]
     requires rows { AreRows rows.now }
     requires number { number < length (fragments_of rows.now) }

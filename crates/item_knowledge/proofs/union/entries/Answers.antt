@@ -1,23 +1,8 @@
-use Rattle.std.proofs.Common.{rules, ◌≡◌, ◌+◌, ◌*◌, ◌∙◌, [], arith, get_or, sym, subst, ap}
+use Rattle.std.proofs.Common.{rules, ◌≡◌, ◌+◌, ◌*◌, ◌∙◌, [], get_or, sym, subst, ap}
 use Rattle.item_knowledge.specs.Fragments.{entries_at}
 use Rattle.item_knowledge.specs.Rows.{pairs, IsRow, fragments_of}
-use Rattle.item_knowledge.proofs.RowLemmas.{rows_read, entries_read, flat_row, pairs_flat}
+use Rattle.item_knowledge.proofs.RowLemmas.{entries_read, flat_row, pairs_flat}
 use Rattle.item_knowledge.proofs.union.entries.Goals as goal
-
-pub overflow_mul-number : goal.overflow_mul-number
-overflow_mul-number c =
-    let rows = rows_read c.args.rows.now c.requires.rows in
-    omega arith
-
-pub overflow_add-number : goal.overflow_add-number
-overflow_add-number c =
-    let rows = rows_read c.args.rows.now c.requires.rows in
-    omega arith
-
-pub row-requires : goal.row-requires
-row-requires c =
-    let rows = rows_read c.args.rows.now c.requires.rows in
-    omega arith
 
 pub returns-clause-row : goal.returns-clause-row
 returns-clause-row c =
