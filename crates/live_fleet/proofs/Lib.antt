@@ -2,5 +2,6 @@ pub mod Histories
 mod Entries
 mod WorkedExamples
 mod Joining
+mod Unstaged
 mod Named
 mod AlongScripts

@@ -1,6 +1,7 @@
 // The fleet: what it is seen as, and its calls.
 use crate::answer::{made_in, narrowed_in, pulled_in, refiltered_in};
 use crate::asking::preview_between;
+use crate::copying::{devices_copied, log_copied};
 use crate::opening::{devices_of_script, opening_devices};
 use crate::ranges::command_in_range;
 use crate::step::run_and_keep;
@@ -78,6 +79,21 @@ impl Fleet {
             log: Vec::new(alloc),
             commands: 0,
             alloc,
+        })
+    }
+
+    /// The same fleet, which goes its own way from then on: whatever is tried on it, this one stays as it is. Versions that are
+    /// held are shared, so it takes room for the lists and for what is known. Its only error is want of memory.
+    pub fn try_clone(&self) -> Result<Fleet, AllocError>
+        ensures { IfOk result (λ copy. copy ≡ self.now) }
+    {
+        let devices = devices_copied(self.alloc, self.devices.as_slice())?;
+        let log = log_copied(self.alloc, self.log.as_slice())?;
+        Ok(Fleet {
+            devices,
+            log,
+            commands: self.commands,
+            alloc: self.alloc,
         })
     }
 

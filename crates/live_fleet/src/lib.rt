@@ -3,6 +3,7 @@
 
 mod answer;
 mod asking;
+mod copying;
 mod entry;
 mod fleet;
 pub mod laws;
