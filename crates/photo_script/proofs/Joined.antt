@@ -4,9 +4,10 @@ use Rattle.std.specs.List.{join_with_byte}
 use Rattle.std.proofs.lemmas.List.{take_more, length-take-le, take_all, map-append}
 use Rattle.std.proofs.lemmas.Option.{get_or_from_slice_get, slice_get_within}
 use Rattle.std.specs.Fmt.{decimal}
+use Rattle.photo_record.specs.Showing.{words_text}
 use Rattle.item_knowledge.specs.Entries.{Entry}
 use Rattle.photo_script.specs.Contents.{Contents}
-use Rattle.photo_script.specs.Reports.{words_text, pictures_text, bound_text, bounds_text}
+use Rattle.photo_script.specs.Reports.{pictures_text, bound_text, bounds_text}
 use Rattle.photo_script.proofs.Places.{length-map}
 
 join-push : (c : ℕ) (xs : List (List ℕ)) (y : List ℕ) → 1 ≤ length xs → join_with_byte c (xs ++ y ∷ []) ≡ join_with_byte c xs ++ (c ∷ y)

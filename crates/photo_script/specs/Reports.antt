@@ -1,13 +1,12 @@
 -- Reports, and their texts.
-use Rattle.std.specs.Prelude.{◌≡◌, ℕ, ◌+◌, ◌-◌, ◌<◌, Bool, true, ◌==◌, if◌then◌else◌, ℤ, List, [], ◌∷◌, ◌++◌, length, map, codes, replicate, slice_index_or}
+use Rattle.std.specs.Prelude.{◌≡◌, ℕ, ◌+◌, ◌<◌, Bool, true, if◌then◌else◌, List, [], ◌∷◌, ◌++◌, length, map, codes, slice_index_or}
 use Rattle.std.specs.Fmt.{decimal}
 use Rattle.std.specs.List.{AllByRecursion, flat_map, join_with_byte}
-use Rattle.photo_record.specs.Calendar.{date_of}
-use Rattle.photo_record.specs.declared.record.Record.{Record}
-use Rattle.photo_record.specs.declared.record.Record.TheVariants as content
+use Rattle.photo_record.specs.Showing.{record_text}
 use Rattle.photo_device.specs.Entry.{Entry}
 use Rattle.photo_device.specs.Held.{entries_of}
 use Rattle.photo_version.specs.Author.{Author, device_of_author, epoch_of_author, author_of_word}
+use Rattle.photo_version.specs.Showing.{epoch_text}
 use Rattle.photo_version.specs.Version.{Version, Versions, version}
 use Rattle.item_knowledge.specs.Entries as knowledge
 use Rattle.item_knowledge.specs.Fragments.{Fragment, knows, is_normal}
@@ -102,10 +101,6 @@ IsAbout script (Knows known) = Unit {0}
 abbrev pub name_of : Contents → ℕ → List ℕ
 name_of script device = slice_index_or script.names device []
 
--- a later epoch than the first, with a dot in front
-abbrev pub epoch_text : ℕ → List ℕ
-epoch_text epoch = if epoch == 0 then [] else codes "." ++ decimal epoch
-
 -- the name of the device, and the epoch where it isn't the first
 abbrev pub author_text : Contents → Author → List ℕ
 author_text script a = name_of script (device_of_author a) ++ epoch_text (epoch_of_author a)
@@ -117,26 +112,6 @@ version_text script v = author_text script v.author ++ codes ":" ++ decimal v.nu
 abbrev pub place_text : Place → List ℕ
 place_text place.Store = codes "store"
 place_text place.Out = codes "out"
-
--- decimal, with zeros in front up to the width
-abbrev pub padded_decimal : ℕ → ℕ → List ℕ
-padded_decimal width n = replicate (width - length (decimal n)) 48 ++ decimal n
-
--- year, month and day
-abbrev pub day_text : ℤ → List ℕ
-day_text day =
-    let date = date_of day in
-    padded_decimal 4 date.year ++ codes "-" ++ padded_decimal 2 date.month ++ codes "-" ++ padded_decimal 2 date.day
-
--- the words with commas between them
-abbrev pub words_text : List (List ℕ) → List ℕ
-words_text [] = codes "-"
-words_text (word ∷ words) = join_with_byte 44 (word ∷ words)
-
-abbrev pub record_text : Record → List ℕ
-record_text (content.Picture rating day words) =
-    codes "rating " ++ decimal rating ++ codes " day " ++ day_text day ++ codes " words " ++ words_text words
-record_text content.Removed = codes "removed"
 
 -- the line of a version that is held
 abbrev pub entry_text : Contents → Place → Entry → List ℕ

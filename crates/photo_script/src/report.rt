@@ -62,11 +62,13 @@ pub enum Report {
 
 ghost use Rattle.photo_device.specs.Held.{entry_of, entries_of};
 ghost use Rattle.std.specs.Fmt.{decimal};
+ghost use Rattle.photo_record.specs.Showing.{padded_decimal, day_text, words_text, record_text};
 ghost use Rattle.photo_version.specs.Author.{device_of_author};
+ghost use Rattle.photo_version.specs.Showing.{epoch_text};
 ghost use Rattle.photo_version.specs.Version.{version};
 ghost use Rattle.photo_script.specs.Reports.{IsAbout, IsOfScript, AreOfScript, answer_of, text_of};
 ghost use Rattle.photo_script.specs.Reports.{made_text, not_held_text, heading_text, counted_heading_text, listed_text};
-ghost use Rattle.photo_script.specs.Reports.{author_text, epoch_text, version_text, place_text, padded_decimal, day_text, words_text, record_text};
+ghost use Rattle.photo_script.specs.Reports.{author_text, version_text, place_text};
 ghost use Rattle.photo_script.specs.Reports.{entry_text, entries_text, yes_or_no, knows_text};
 
 /// The text of a report on the command of that number: a line, and for a list a line more for each held version, and

@@ -16,7 +16,8 @@ use Rattle.photo_script.specs.Earlier.{Earlier, declared_by, filter_declared_by,
 use Rattle.photo_script.specs.Fields.{is_name}
 use Rattle.photo_script.specs.Limits.{max_line_bytes}
 use Rattle.photo_script.specs.Lines.{fields_of, third_field_on, is_not_empty}
-use Rattle.photo_script.specs.Reports.{name_of, version_text, words_text}
+use Rattle.photo_record.specs.Showing.{words_text}
+use Rattle.photo_script.specs.Reports.{name_of, version_text}
 use Rattle.photo_script.specs.Saying.{said, fields_said, device_said}
 use Rattle.photo_script.specs.declared.command.Command.{Command}
 use Rattle.photo_script.specs.declared.command.Command.TheVariants as command

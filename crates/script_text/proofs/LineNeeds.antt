@@ -27,7 +27,9 @@ use Rattle.photo_script.specs.Earlier.{Earlier}
 use Rattle.photo_script.specs.Fields.{is_name, place_of, is_decimal, number_of, cut_at_colon, cut_at_dot, epoch_of, is_epoch, version_number_of, is_version_number}
 use Rattle.photo_script.specs.Limits.{max_devices, max_commands, max_epoch, max_version}
 use Rattle.photo_script.specs.Lines.{fields_of, third_field_on, is_not_empty}
-use Rattle.photo_script.specs.Reports.{name_of, epoch_text, version_text, words_text}
+use Rattle.photo_record.specs.Showing.{words_text}
+use Rattle.photo_version.specs.Showing.{epoch_text}
+use Rattle.photo_script.specs.Reports.{name_of, version_text}
 use Rattle.photo_script.specs.Saying.{or_fault, device_said, picture_said, new_picture_said, record_said, filter_said, declaration_said, device_line_said, command_said, creation_said, new_line_said, edition_said, edit_line_said, filtering_said, device_and_filter_said, narrow_line_said, refilter_line_said, author_said, version_said, question_said, knows_line_said, question_line_said, command_line_said, fields_said, said}
 use Rattle.photo_script.specs.declared.command.Command.{Command}
 use Rattle.photo_script.specs.declared.command.Command.TheVariants as command

@@ -19,7 +19,9 @@ use Rattle.photo_script.specs.Contents.{Contents}
 use Rattle.photo_script.specs.Earlier.{Earlier}
 use Rattle.photo_script.specs.Limits.{max_version, max_epoch}
 use Rattle.photo_script.specs.Fields.{is_name, place_of, is_colon, is_dot, cut_at_dot}
-use Rattle.photo_script.specs.Reports.{name_of, epoch_text, author_text, version_text, words_text}
+use Rattle.photo_record.specs.Showing.{words_text}
+use Rattle.photo_version.specs.Showing.{epoch_text}
+use Rattle.photo_script.specs.Reports.{name_of, author_text, version_text}
 use Rattle.photo_script.specs.Saying.{or_fault, device_said, picture_said, new_picture_said, record_said, author_said, version_said}
 use Rattle.photo_script.specs.declared.fault.LineFault.TheVariants as fault
 use Rattle.script_text.specs.Printable.{AllDiffer, FitsVersion, AreWords}

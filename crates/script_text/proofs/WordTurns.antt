@@ -5,7 +5,7 @@ use Rattle.std.proofs.lemmas.List.{take_more, length-take-le, take_all}
 use Rattle.std.proofs.lemmas.List.Elements.{All-push, All-nil, recursion_from_All}
 use Rattle.std.proofs.lemmas.Option.{get_or_from_slice_get, slice_get_within}
 use Rattle.photo_record.specs.Word.{IsWordSet}
-use Rattle.photo_script.specs.Reports.{words_text}
+use Rattle.photo_record.specs.Showing.{words_text}
 use Rattle.script_text.specs.Printable.{AreWords}
 
 join-push : (c : ℕ) (xs : List (List ℕ)) (y : List ℕ) → 1 ≤ length xs → join_with_byte c (xs ++ y ∷ []) ≡ join_with_byte c xs ++ (c ∷ y)

@@ -7,7 +7,8 @@ use Rattle.photo_record.specs.declared.record.Record.TheVariants as content
 use Rattle.photo_filter_text.specs.Tree.{Tree}
 use Rattle.photo_filter_text.specs.Printed.{◌␣◌, text_of, date_text}
 use Rattle.photo_script.specs.Contents.{Contents}
-use Rattle.photo_script.specs.Reports.{name_of, version_text, words_text}
+use Rattle.photo_record.specs.Showing.{words_text}
+use Rattle.photo_script.specs.Reports.{name_of, version_text}
 use Rattle.photo_script.specs.declared.command.Command.{Command}
 use Rattle.photo_script.specs.declared.command.Command.TheVariants as command
 

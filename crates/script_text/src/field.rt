@@ -2,8 +2,10 @@
 ghost use Rattle.std.specs.Prelude.{◌≡◌, ◌<◌, ◌++◌, ◌∷◌, [], string_bytes, OnOk};
 ghost use Rattle.std.specs.Fmt.{decimal};
 ghost use Rattle.photo_record.specs.Limits.{IsDay};
+ghost use Rattle.photo_record.specs.Showing.{words_text};
 ghost use Rattle.photo_filter_text.specs.Printed.{date_text, digit, two_digits};
-ghost use Rattle.photo_script.specs.Reports.{name_of, epoch_text, version_text, words_text};
+ghost use Rattle.photo_version.specs.Showing.{epoch_text};
+ghost use Rattle.photo_script.specs.Reports.{name_of, version_text};
 ghost use Rattle.script_text.specs.Texts.{record_text};
 ghost use Rattle.script_text.specs.Printable.{AreWords, HasWords};
 
