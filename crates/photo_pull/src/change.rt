@@ -17,46 +17,19 @@ use photo_record::PicNo;
 use photo_version::{Vector, Version};
 use std::alloc::{AllocError, Global};
 
-// A version that goes is looked for by its picture where at least so many are held for each that goes: then the searches
-// cost less than it does to go along all that is held.
-const HELD_BY_DROP: usize = 64;
-
-// Puts the pictures of those of a list behind others, as long as there is memory for that.
-fn push_pictures(pictures: &mut Vec<PicNo>, list: &[SharedHeld]) {
-    for held in list {
-        let Ok(()) = pictures.push(held.picture()) else {
-            return;
-        };
-    }
-}
-
-// Whether so many versions are few of those that a device holds.
-fn are_few(count: usize, device: &Device) -> bool {
-    let held = device.store().len().saturating_add(device.out().len());
-    count <= held / HELD_BY_DROP
-}
-
-// The versions of what a device drops. Where these are few, the picture of each comes with them, by which it is found;
-// otherwise they are in order, since all that the device holds is gone along for them.
+// The versions of what a device drops, in order, since all that it holds is gone along for them.
 fn drops_of(
     alloc: Global,
-    device: &Device,
     stored: &[SharedHeld],
     waiting: &[SharedHeld],
-) -> Result<(VersionList, Vec<PicNo>), AllocError>
-    ensures { IfOk result (λ all. IsPermutation (versions stored.now ++ versions waiting.now) all.0) }
+) -> Result<VersionList, AllocError>
+    ensures { IfOk result (λ all. IsPermutation (versions stored.now ++ versions waiting.now) all) }
 {
     let mut drops = Vec::new(alloc);
     push_versions(&mut drops, stored)?;
     push_versions(&mut drops, waiting)?;
-    let mut pictures = Vec::new(alloc);
-    if are_few(drops.len(), device) {
-        push_pictures(&mut pictures, stored);
-        push_pictures(&mut pictures, waiting);
-        return Ok((VersionList::new(drops), pictures));
-    }
     drops.sort_unstable();
-    Ok((VersionList::new(drops), pictures))
+    Ok(VersionList::new(drops))
 }
 
 /// The versions that the source hands over, in the order of its out, and an empty list with room for them.
@@ -77,7 +50,6 @@ pub(crate) fn handed_of(
 // Stages a change by which the target learns all that the source knows. The source lends it, so it isn't copied.
 fn stage_taught(
     drops: VersionList,
-    pictures: Vec<PicNo>,
     takes: SharedList,
     target: &mut Device,
     source: &mut Device,
@@ -90,13 +62,7 @@ fn stage_taught(
     ensures source { source.new ≡ source.old }
 {
     source.settle_bounds();
-    if let Err((_, _, refused)) = target.stage_lent(
-        drops,
-        pictures,
-        takes,
-        source.knowledge(),
-        room,
-    ) {
+    if let Err((_, _, refused)) = target.stage_lent(drops, takes, source.knowledge(), room) {
         return Err(refused);
     }
     Ok(())
@@ -106,7 +72,6 @@ fn stage_taught(
 fn stage_told(
     alloc: Global,
     drops: VersionList,
-    pictures: Vec<PicNo>,
     takes: SharedList,
     told: &[(PicNo, Vector)],
     target: &mut Device,
@@ -120,7 +85,7 @@ fn stage_told(
     ensures unstaged { OnErr result (target.new.staged ≡ None) }
 {
     let gain = gain_of(alloc, told)?;
-    if let Err((_, _, refused)) = target.stage_lent(drops, pictures, takes, &gain, room) {
+    if let Err((_, _, refused)) = target.stage_lent(drops, takes, &gain, room) {
         return Err(refused);
     }
     Ok(())
@@ -145,16 +110,11 @@ pub(crate) fn stage_found(
     ensures unstaged { OnErr result (target.new.staged ≡ None) }
     ensures source { source.new ≡ source.old }
 {
-    let (drops, pictures) = drops_of(
-        alloc,
-        target,
-        &hearing.dropped.stored,
-        &hearing.dropped.waiting,
-    )?;
+    let drops = drops_of(alloc, &hearing.dropped.stored, &hearing.dropped.waiting)?;
     let Hearing { learned, heard, .. } = hearing;
     let takes = SharedList::new(taken_of(target.filter(), heard));
     if learned {
-        return stage_taught(drops, pictures, takes, target, source, room);
+        return stage_taught(drops, takes, target, source, room);
     }
-    stage_told(alloc, drops, pictures, takes, told, target, room)
+    stage_told(alloc, drops, takes, told, target, room)
 }
