@@ -67,15 +67,6 @@ pub record IsMerging (xs ys done : List (ℕ × Version)) (i j : ℕ) : Type 0 w
   pub left_within : i ≤ length xs
   pub right_within : j ≤ length ys
 
-pub merging : (xs ys done : List (ℕ × Version)) → done ≡ [] → in_order entry_before (as_entries xs) ≡ true → in_order entry_before (as_entries ys) ≡ true → IsMerging xs ys done 0 0
-merging xs ys done e h g = record {
-  all = ap (λ l. as_entries l ++ put_entries (as_entries xs) (as_entries ys)) e;
-  left = h;
-  right = g;
-  left_within = omega arith;
-  right_within = omega arith;
-}
-
 entries-append : (xs ys : List (ℕ × Version)) → as_entries (xs ++ ys) ≡ as_entries xs ++ as_entries ys
 entries-append [] ys = refl
 entries-append (x ∷ xs) ys = ap (λ l. as_entry x ∷ l) (entries-append xs ys)

@@ -1,15 +1,13 @@
 -- Tables of what is told of pictures.
 use Rattle.std.proofs.Common.{◌≡◌, ℕ, zero, suc, ◌+◌, ◌<◌, ◌≤◌, Bool, true, false, cond, eqb, ltb, leb, ◌&&◌, ◌||◌, List, [], ◌∷◌, ◌++◌, length, get_or, take, refl, sym, ap, ◌∙◌, subst, inl, inr, arith}
 use Rattle.std.proofs.Math.Bool.{or-false}
-use Rattle.std.proofs.lemmas.Bool.{and_parts, and_from, eqb-true, eqb-false, eq-eqb, ne_eqb, lt-ltb, le-ltb, le-leb, leb-true, ltb-true, cases_Bool, cases_eq, cases_lt, lt-leb}
+use Rattle.std.proofs.lemmas.Bool.{and_parts, and_from, eqb-true, eqb-false, eq-eqb, ne_eqb, lt-ltb, le-leb, leb-true, ltb-true, cases_eq}
 use Rattle.std.proofs.lemmas.List.Folds.{list_any_more}
-use Rattle.photo_version.specs.Author.{same_author}
-use Rattle.photo_version.specs.Version.{Version, version, same_version}
+use Rattle.photo_version.specs.Version.{Version}
 use Rattle.photo_version.specs.Vector.{Bound, denotes}
 use Rattle.item_knowledge.specs.Tables.{in_order, keys_pass, at}
 use Rattle.photo_device.specs.declared.held.Held.{Held}
 use Rattle.photo_device.specs.Held.{are_in_order}
-use Rattle.photo_device.specs.Own.{HasEarlier}
 use Rattle.photo_device.specs.Telling.{tells}
 use Rattle.photo_device.proofs.Order.{rises}
 use Rattle.photo_device.proofs.TellingLemmas.{one}
@@ -81,38 +79,6 @@ table_more table new hs i ws j w l is ordered least order last more so_far = rec
 
 pub first_last : (table : Table) (hs : List Held) (i : ℕ) (ws : List Held) (j : ℕ) (w : Held) → i < length hs → w ≡ get_or hs i w → IsTableOf table hs i ws j → keys_pass (λ k. leb k w.picture) table ≡ true
 first_last table hs i ws j w l is so_far = subst (λ (x : Held). keys_pass (λ k. leb k x.picture) table ≡ true) (sym is) (so_far.first w l)
-
--- a version with its history, by one bound more
-
-pub with_itself : (h : Held) → HasEarlier h → 0 < h.version.number → (v : Version) → (denotes ((h.version.author, h.version.number) ∷ []) v || denotes h.made_with v) ≡ (denotes h.made_with v || same_version h.version v)
-with_itself h earlier above v = elim (cases_Bool (same_author h.version.author v.author)) [
-  | inl same ↦
-      let device = eqb-true h.version.author.word v.author.word same in
-      let author : h.version.author ≡ v.author = λ i. record { word = device i } in
-      let history : denotes h.made_with v ≡ (leb 1 v.number && ltb v.number h.version.number) = sym (ap (λ a. denotes h.made_with (version a v.number)) author) ∙ earlier.own v.number in
-      (λ i. (((same i && (leb 1 v.number && leb v.number h.version.number)) || false) || history i))
-      ∙ numbers v.number h.version.number above
-      ∙ sym (λ i. history i || (same i && eqb h.version.number v.number))
-  | inr apart ↦
-      (λ i. ((apart i && (leb 1 v.number && leb v.number h.version.number)) || false) || denotes h.made_with v)
-      ∙ sym (or-false (denotes h.made_with v))
-      ∙ sym (λ i. denotes h.made_with v || (apart i && eqb h.version.number v.number))
-]
-  where
-    first : (k n : ℕ) → k < 1 → 0 < n → (((leb 1 k && leb k n) || false) || (leb 1 k && ltb k n)) ≡ ((leb 1 k && ltb k n) || eqb n k)
-    first k n none above = rw (lt-leb 1 k none, ne_eqb n k (λ e. absurd (omega arith))) refl
-
-    numbers : (k n : ℕ) → 0 < n → (((leb 1 k && leb k n) || false) || (leb 1 k && ltb k n)) ≡ ((leb 1 k && ltb k n) || eqb n k)
-    numbers k n some = elim (cases_lt k 1) [
-      | inl none ↦ first k n none some
-      | inr some_k ↦ elim (cases_lt n k) [
-        | inl beyond ↦ rw (le-leb 1 k some_k, lt-leb k n beyond, le-ltb k n (omega arith), ne_eqb n k (λ e. absurd (omega arith))) refl
-        | inr within ↦ elim (cases_eq n k) [
-          | inl e ↦ rw (le-leb 1 k some_k, le-leb k n within, le-ltb k n (omega arith), eq-eqb n k e) refl
-          | inr ne ↦ rw (le-leb 1 k some_k, le-leb k n within, lt-ltb k n (omega arith)) refl
-        ]
-      ]
-    ]
 
 -- rows at the end of a table
 

@@ -1,5 +1,5 @@
 -- Searches along a list in order, from a place on.
-use Rattle.std.proofs.Common.{◌≡◌, ℕ, zero, suc, ◌+◌, ◌<◌, ◌≤◌, true, false, ◌||◌, List, [], ◌∷◌, length, get_or, drop, refl, sym, ap, ◌∙◌, arith, add-one}
+use Rattle.std.proofs.Common.{◌≡◌, ℕ, zero, suc, ◌+◌, ◌<◌, ◌≤◌, true, false, ◌||◌, List, [], ◌∷◌, length, get_or, drop, refl, sym, ap, ◌∙◌, arith}
 use Rattle.std.proofs.lemmas.Bool.{ne_eqb}
 use Rattle.photo_device.specs.declared.held.Held.{Held}
 use Rattle.photo_device.specs.Held.{are_in_order}
@@ -42,11 +42,3 @@ greater_from xs k w h order within is greater = none_from xs k h
     let rise = rises xs order k i d g l in
     let first = same_picture xs k w d within is in
     omega arith)
-
-pub one_from : (xs : List Held) (k : ℕ) (w h : Held) → k < length xs → w ≡ get_or xs k w → has_above (drop k xs) h ≡ (is_above w h || has_above (drop (k + 1) xs) h)
-one_from xs k w h l is = rw add-one (at_place xs k l is)
-  where
-    at_place : (xs : List Held) (k : ℕ) → k < length xs → w ≡ get_or xs k w → has_above (drop k xs) h ≡ (is_above w h || has_above (drop (suc k) xs) h)
-    at_place [] k l is = absurd (omega arith)
-    at_place (x ∷ xs) zero l is = ap (λ y. is_above y h || has_above xs h) (sym is)
-    at_place (x ∷ xs) (suc k) l is = at_place xs k (omega arith) is

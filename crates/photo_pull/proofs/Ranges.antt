@@ -7,7 +7,7 @@ use Rattle.std.proofs.lemmas.Bool.{eq-eqb, ne_eqb, ltb-true, ltb-false, leb-true
 use Rattle.photo_version.specs.Vector.{denotes}
 use Rattle.photo_device.specs.declared.held.Held.{Held}
 use Rattle.photo_device.proofs.Order.{Parts}
-use Rattle.photo_pull.specs.OnHeld.{is_above, has_above, has_below}
+use Rattle.photo_pull.specs.OnHeld.{is_above, has_below}
 use Rattle.photo_pull.proofs.Members.{any_filter, any_same}
 
 abbrev pub is_of : ℕ → Held → Bool
@@ -77,9 +77,6 @@ module _ (p : ℕ) (xs : List Held) (from to : ℕ) (f : from ≤ length xs) (t 
             omega arith;
         above = λ k d h g. leb-false _ _ (most.1 k d (omega arith) g);
       })
-
-pub above_of : (xs : List Held) (h : Held) → list_any (λ w. denotes w.made_with h.version) (filter (is_of h.picture) xs) ≡ has_above xs h
-above_of xs h = any_filter (λ w. denotes w.made_with h.version) (is_of h.picture) xs
 
 pub below_of : (xs : List Held) (w : Held) → list_any (λ (h : Held). denotes w.made_with h.version) (filter (is_of w.picture) xs) ≡ has_below xs w
 below_of xs w = any_filter (λ (h : Held). denotes w.made_with h.version) (is_of w.picture) xs ∙ any_same (λ h. is_of w.picture h && denotes w.made_with h.version) (λ h. is_above w h) xs (λ h _. ap (λ b. b && denotes w.made_with h.version) (turned h.picture w.picture))
