@@ -1,11 +1,13 @@
 -- Tables of what is told of pictures.
-use Rattle.std.proofs.Common.{◌≡◌, ℕ, zero, suc, ◌+◌, ◌<◌, ◌≤◌, Bool, true, false, cond, eqb, ltb, leb, ◌&&◌, ◌||◌, List, [], ◌∷◌, ◌++◌, length, get_or, take, refl, sym, ap, ◌∙◌, subst, inl, inr, arith}
+use Rattle.std.proofs.Common.{◌≡◌, ℕ, ◌+◌, ◌<◌, ◌≤◌, Bool, true, false, cond, eqb, ltb, leb, ◌&&◌, ◌||◌, List, [], ◌∷◌, ◌++◌, length, get_or, take, refl, sym, ap, ◌∙◌, subst, inl, inr, arith}
 use Rattle.std.proofs.Math.Bool.{or-false}
 use Rattle.std.proofs.lemmas.Bool.{and_parts, and_from, eqb-true, eqb-false, eq-eqb, ne_eqb, lt-ltb, le-leb, leb-true, ltb-true, cases_eq}
+use Rattle.std.proofs.lemmas.List.{get_or_default}
 use Rattle.std.proofs.lemmas.List.Folds.{list_any_more}
 use Rattle.photo_version.specs.Version.{Version}
 use Rattle.photo_version.specs.Vector.{Bound, denotes}
 use Rattle.item_knowledge.specs.Tables.{in_order, keys_pass, at}
+use Rattle.item_knowledge.proofs.TableLemmas.{keys_pass-weaker}
 use Rattle.photo_device.specs.declared.held.Held.{Held}
 use Rattle.photo_device.specs.Held.{are_in_order}
 use Rattle.photo_device.specs.Telling.{tells}
@@ -15,70 +17,28 @@ use Rattle.photo_device.proofs.TellingLemmas.{one}
 abbrev pub Table : Type 0
 Table = List (ℕ × List Bound)
 
--- a table tells what so many of two lists tell, and its pictures are none greater than those that follow
-pub record IsTableOf (table : Table) (hs : List Held) (i : ℕ) (ws : List Held) (j : ℕ) : Type 0 where
+-- a table tells what so many of a list tell, and its pictures are none greater than the one that follows
+pub record IsTableOf (table : Table) (hs : List Held) (i : ℕ) : Type 0 where
   pub order : in_order table ≡ true
-  pub first : (d : Held) → i < length hs → keys_pass (λ k. leb k (get_or hs i d).picture) table ≡ true
-  pub second : (d : Held) → j < length ws → keys_pass (λ k. leb k (get_or ws j d).picture) table ≡ true
-  pub told : (p : ℕ) (v : Version) → denotes (at [] table p) v ≡ (tells (take i hs) p v || tells (take j ws) p v)
+  pub below : (d : Held) → i < length hs → keys_pass (λ k. leb k (get_or hs i d).picture) table ≡ true
+  pub told : (p : ℕ) (v : Version) → denotes (at [] table p) v ≡ tells (take i hs) p v
 
-pass_weaker : (f g : ℕ → Bool) (table : Table) → ((k : ℕ) → f k ≡ true → g k ≡ true) → keys_pass f table ≡ true → keys_pass g table ≡ true
-pass_weaker f g [] h all = refl
-pass_weaker f g (r ∷ table) h all = let parts = and_parts (f r.0) (keys_pass f table) all in and_from (g r.0) (keys_pass g table) (h r.0 parts.0) (pass_weaker f g table h parts.1)
-
-or_turned : (a b : Bool) → (a || b) ≡ (b || a)
-or_turned true true = refl
-or_turned true false = refl
-or_turned false true = refl
-or_turned false false = refl
-
--- the two lists are alike
-pub turned : (table : Table) (hs : List Held) (i : ℕ) (ws : List Held) (j : ℕ) → IsTableOf table hs i ws j → IsTableOf table ws j hs i
-turned table hs i ws j so_far = record {
-  order = so_far.order;
-  first = so_far.second;
-  second = so_far.first;
-  told = λ p v. so_far.told p v ∙ or_turned (tells (take i hs) p v) (tells (take j ws) p v);
-}
-
--- one more of the first list, of the smaller picture
-pub table_more : (table new : Table) (hs : List Held) (i : ℕ) (ws : List Held) (j : ℕ) (w : Held) → i < length hs → w ≡ get_or hs i w → are_in_order hs ≡ true
-    → ((a b : Held) → j < length ws → (get_or hs i a).picture ≤ (get_or ws j b).picture)
+-- one more
+pub table_more : (table new : Table) (hs : List Held) (i : ℕ) (w : Held) → i < length hs → w ≡ get_or hs i w → are_in_order hs ≡ true
     → in_order new ≡ true → keys_pass (λ k. leb k w.picture) new ≡ true
     → ((p : ℕ) (v : Version) → denotes (at [] new p) v ≡ (denotes (at [] table p) v || one p v w))
-    → IsTableOf table hs i ws j → IsTableOf new hs (i + 1) ws j
-table_more table new hs i ws j w l is ordered least order last more so_far = record {
+    → IsTableOf table hs i → IsTableOf new hs (i + 1)
+table_more table new hs i w l is ordered order last more so_far = record {
   order = order;
-  first = λ d further.
+  below = λ d further.
       let here : (get_or hs i d).picture ≡ w.picture = ap (λ (x : Held). x.picture) (get_or_default hs i d w l ∙ sym is) in
       let rise = rises hs ordered i (i + 1) d (omega arith) further in
-      at_most (get_or hs (i + 1) d).picture (omega arith);
-  second = λ d behind.
-      let here : (get_or hs i w).picture ≡ w.picture = ap (λ (x : Held). x.picture) (sym is) in
-      let less = least w d behind in
-      at_most (get_or ws j d).picture (omega arith);
-  told = λ p v.
-      more p v
-      ∙ (λ k. so_far.told p v k || one p v w)
-      ∙ swapped (tells (take i hs) p v) (tells (take j ws) p v) (one p v w)
-      ∙ (λ k. (tells (take i hs) p v || one p v (is k)) || tells (take j ws) p v)
-      ∙ (λ k. sym (list_any_more (one p v) hs i w l) k || tells (take j ws) p v);
+      keys_pass-weaker (λ k. leb k w.picture) (λ k. leb k (get_or hs (i + 1) d).picture) (λ k h. let below = leb-true k w.picture h in le-leb k (get_or hs (i + 1) d).picture (omega arith)) new last;
+  told = λ p v. more p v ∙ (λ k. so_far.told p v k || one p v (is k)) ∙ sym (list_any_more (one p v) hs i w l);
 }
-  where
-    at_most : (q : ℕ) → w.picture ≤ q → keys_pass (λ k. leb k q) new ≡ true
-    at_most q above = pass_weaker (λ k. leb k w.picture) (λ k. leb k q) new (λ k h. let below = leb-true k w.picture h in le-leb k q (omega arith)) last
 
-    get_or_default : (xs : List Held) (n : ℕ) (d e : Held) → n < length xs → get_or xs n d ≡ get_or xs n e
-    get_or_default [] n d e h = absurd (omega arith)
-    get_or_default (x ∷ xs) zero d e h = refl
-    get_or_default (x ∷ xs) (suc n) d e h = get_or_default xs n d e (omega arith)
-
-    swapped : (a b c : Bool) → ((a || b) || c) ≡ ((a || c) || b)
-    swapped true b c = refl
-    swapped false b c = or_turned b c
-
-pub first_last : (table : Table) (hs : List Held) (i : ℕ) (ws : List Held) (j : ℕ) (w : Held) → i < length hs → w ≡ get_or hs i w → IsTableOf table hs i ws j → keys_pass (λ k. leb k w.picture) table ≡ true
-first_last table hs i ws j w l is so_far = subst (λ (x : Held). keys_pass (λ k. leb k x.picture) table ≡ true) (sym is) (so_far.first w l)
+pub before_next : (table : Table) (hs : List Held) (i : ℕ) (w : Held) → i < length hs → w ≡ get_or hs i w → IsTableOf table hs i → keys_pass (λ k. leb k w.picture) table ≡ true
+before_next table hs i w l is so_far = subst (λ (x : Held). keys_pass (λ k. leb k x.picture) table ≡ true) (sym is) (so_far.below w l)
 
 -- rows at the end of a table
 
@@ -134,7 +94,7 @@ pub record IsAdded (table new : Table) (picture : ℕ) (vector : List Bound) : T
   pub told : (p : ℕ) (v : Version) → denotes (at [] new p) v ≡ (denotes (at [] table p) v || ((eqb picture p) && denotes vector v))
 
 below_le : (q : ℕ) (table : Table) → keys_pass (λ k. ltb k q) table ≡ true → keys_pass (λ k. leb k q) table ≡ true
-below_le q table all = pass_weaker (λ k. ltb k q) (λ k. leb k q) table (λ k h. let less = ltb-true k q h in le-leb k q (omega arith)) all
+below_le q table all = keys_pass-weaker (λ k. ltb k q) (λ k. leb k q) (λ k h. let less = ltb-true k q h in le-leb k q (omega arith)) table all
 
 pub added_row : (table : Table) (picture : ℕ) (vector : List Bound) → in_order table ≡ true → keys_pass (λ k. ltb k picture) table ≡ true → IsAdded table (table ++ (picture, vector) ∷ []) picture vector
 added_row table picture vector order all = record {
@@ -165,7 +125,7 @@ below_all front q x picture order all ne =
     let parts = front_order front q x order in
     let last = leb-true q picture (last_pass front all) in
     pass_end (λ k. ltb k picture) front q x
-    (pass_weaker (λ k. ltb k q) (λ k. ltb k picture) front (λ k h. let less = ltb-true k q h in lt-ltb k picture (omega arith)) parts.1)
+    (keys_pass-weaker (λ k. ltb k q) (λ k. ltb k picture) (λ k h. let less = ltb-true k q h in lt-ltb k picture (omega arith)) front parts.1)
     (lt-ltb q picture (omega arith))
   where
     last_pass : (xs : Table) → keys_pass (λ k. leb k picture) (xs ++ (q, x) ∷ []) ≡ true → leb q picture ≡ true

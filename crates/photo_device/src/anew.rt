@@ -11,7 +11,7 @@ ghost use Rattle.photo_device.specs.Own.{HasEarlier};
 ghost use Rattle.photo_device.specs.Taking.{with_side, AreNewTo};
 ghost use Rattle.photo_device.specs.Telling.{tells};
 
-use crate::table::{gain_of, table_of};
+use crate::table::gain_of;
 use crate::takes::sort_in;
 use crate::{HeldSet, SharedHeld, SharedList};
 use item_knowledge::Knowledge;
@@ -39,25 +39,6 @@ fn listed(set: &HeldSet) -> Result<SharedList, AllocError>
     set.to_list()
 }
 
-// What two lists tell of their pictures, and no more.
-fn told_of(
-    alloc: Global,
-    stored: &[SharedHeld],
-    waiting: &[SharedHeld],
-) -> Result<Knowledge, AllocError>
-    requires stored_order { are_in_order stored.now ≡ true }
-    requires waiting_order { are_in_order waiting.now ≡ true }
-    requires stored { AllByRecursion HasEarlier stored.now }
-    requires waiting { AllByRecursion HasEarlier waiting.now }
-    ensures pairs { IfOk result (λ told. (p : ℕ) (v : Version) → 0 < p → knows told.known p v ≡ (tells stored.now p v || tells waiting.now p v)) }
-    ensures star { IfOk result (λ told. (a : Author) → star_bound told.known a ≡ 0) }
-    ensures staged { IfOk result (λ told. told.staged ≡ None) }
-{
-    let table = table_of(alloc, stored, waiting)?;
-    let told = gain_of(alloc, &table)?;
-    Ok(told)
-}
-
 /// What two sets hold, sorted anew by a filter, and what it tells. Its only error is want of memory.
 pub(crate) fn held_anew(wanted: &Filter, store: &HeldSet, out: &HeldSet) -> Result<Anew, AllocError>
     requires once { AreNewTo out.now store.now }
@@ -72,7 +53,7 @@ pub(crate) fn held_anew(wanted: &Filter, store: &HeldSet, out: &HeldSet) -> Resu
     let alloc = store.alloc();
     let stored = listed(store)?;
     let waiting = listed(out)?;
-    let told = told_of(alloc, stored.as_slice(), waiting.as_slice())?;
+    let told = gain_of(alloc, stored.as_slice(), waiting.as_slice())?;
     let mut store = HeldSet::new(alloc);
     let mut out = HeldSet::new(alloc);
     sort_in(

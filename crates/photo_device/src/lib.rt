@@ -34,7 +34,7 @@ pub use item_list::ItemList;
 use photo_version::Version;
 pub use place::Place;
 pub use shared_held::SharedHeld;
-pub use table::{gain_of, table_of};
+pub use table::gain_of;
 
 /// Held versions that are shared, in an order.
 pub type SharedList = ItemList<SharedHeld>;

@@ -1,5 +1,5 @@
-// What held versions tell of their pictures, as a table of pictures with vectors.
-ghost use Rattle.std.specs.Prelude.{◌≡◌, ℕ, ◌<◌, ◌≤◌, ◌&&◌, ◌||◌, ◌==◌, nat_le, true, false, [], length, get_or, None, IfOk, OnOk};
+// What held versions tell of their pictures.
+ghost use Rattle.std.specs.Prelude.{◌≡◌, ℕ, ◌<◌, ◌&&◌, ◌||◌, ◌==◌, nat_le, true, [], None, IfOk, OnOk};
 ghost use Rattle.std.specs.List.{AllByRecursion};
 ghost use Rattle.photo_version.specs.Author.{Author};
 ghost use Rattle.photo_version.specs.Version as versions;
@@ -7,7 +7,6 @@ ghost use Rattle.photo_version.specs.Vector.{denotes};
 ghost use Rattle.item_knowledge.specs.Fragments.{knows};
 ghost use Rattle.item_knowledge.specs.Kept.{star_bound};
 ghost use Rattle.item_knowledge.specs.Tables.{in_order, keys_pass, at};
-ghost use Rattle.photo_device.specs.declared.held.Held as spec;
 ghost use Rattle.photo_device.specs.Held.{are_in_order};
 ghost use Rattle.photo_device.specs.Own.{HasEarlier};
 ghost use Rattle.photo_device.specs.Telling.{tells};
@@ -72,61 +71,39 @@ fn add_told(table: &mut Vec<(PicNo, Vector)>, held: &SharedHeld) -> Result<(), A
     Ok(())
 }
 
-// Whether the first of two lists gives the next one, that of the smaller picture, where one stands at a place in each.
-fn is_first(heard: &[SharedHeld], i: usize, handed: &[SharedHeld], j: usize) -> bool
-    ensures first { result ≡ true → i < length heard.now }
-    ensures first_least { (a b : spec.Held) → result ≡ true → j < length handed.now
-        → (get_or heard.now i a).picture ≤ (get_or handed.now j b).picture }
-    ensures second { result ≡ false → i < length heard.now → j < length handed.now }
-    ensures second_least { (a b : spec.Held) → result ≡ false → i < length heard.now
-        → (get_or handed.now j b).picture ≤ (get_or heard.now i a).picture }
-{
-    if i >= heard.len() {
-        return false;
-    }
-    if j >= handed.len() {
-        return true;
-    }
-    heard[i].picture() <= handed[j].picture()
-}
-
-/// What both tell, all those of one picture in one row.
-pub fn table_of(
-    alloc: Global,
-    heard: &[SharedHeld],
-    handed: &[SharedHeld],
-) -> Result<Vec<(PicNo, Vector)>, AllocError>
-    requires heard_order { are_in_order heard.now ≡ true }
-    requires handed_order { are_in_order handed.now ≡ true }
-    requires heard { AllByRecursion HasEarlier heard.now }
-    requires handed { AllByRecursion HasEarlier handed.now }
+// What versions tell, all those of one picture in one row.
+fn table_of(alloc: Global, list: &[SharedHeld]) -> Result<Vec<(PicNo, Vector)>, AllocError>
+    requires order { are_in_order list.now ≡ true }
+    requires earlier { AllByRecursion HasEarlier list.now }
     ensures order { IfOk result (λ table. in_order table.items ≡ true) }
-    ensures told { IfOk result (λ table. (p : ℕ) (v : versions.Version)
-        → denotes (at [] table.items p) v ≡ (tells heard.now p v || tells handed.now p v)) }
+    ensures told { IfOk result (λ table. (p : ℕ) (v : versions.Version) → denotes (at [] table.items p) v ≡ tells list.now p v) }
 {
     let mut table = Vec::new(alloc);
-    let mut i = 0;
-    let mut j = 0;
-    while i < heard.len() || j < handed.len() {
-        if is_first(heard, i, handed, j) {
-            add_told(&mut table, &heard[i])?;
-            i += 1;
-            continue;
-        }
-        add_told(&mut table, &handed[j])?;
-        j += 1;
+    for held in list {
+        add_told(&mut table, held)?;
     }
     Ok(table)
 }
 
-/// What a table says, as a knowledge that has it of single pictures alone. Its only error is want of memory.
-pub fn gain_of(alloc: Global, told: &[(PicNo, Vector)]) -> Result<Knowledge, AllocError>
-    requires { in_order told.now ≡ true }
-    ensures pairs { IfOk result (λ gain. (p : ℕ) (v : versions.Version) → 0 < p → knows gain.known p v ≡ denotes (at [] told.now p) v) }
+/// What both lists tell, as a knowledge that has it of single pictures alone. Its only error is want of memory.
+pub fn gain_of(
+    alloc: Global,
+    heard: &[SharedHeld],
+    handed: &[SharedHeld],
+) -> Result<Knowledge, AllocError>
+    requires heard_order { are_in_order heard.now ≡ true }
+    requires handed_order { are_in_order handed.now ≡ true }
+    requires heard { AllByRecursion HasEarlier heard.now }
+    requires handed { AllByRecursion HasEarlier handed.now }
+    ensures pairs { IfOk result (λ gain. (p : ℕ) (v : versions.Version) → 0 < p
+        → knows gain.known p v ≡ (tells heard.now p v || tells handed.now p v)) }
     ensures star { IfOk result (λ gain. (a : Author) → star_bound gain.known a ≡ 0) }
     ensures staged { IfOk result (λ gain. gain.staged ≡ None) }
 {
     let mut gain = Knowledge::new(alloc)?;
-    gain.learn_table(told)?;
+    let told = table_of(alloc, heard)?;
+    gain.learn_table(&told)?;
+    let told = table_of(alloc, handed)?;
+    gain.learn_table(&told)?;
     Ok(gain)
 }

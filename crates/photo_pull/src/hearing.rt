@@ -8,10 +8,8 @@ use crate::PullCounts;
 use crate::filtered::{count_of, dropped_of, heard_of};
 use crate::part::Part;
 use item_knowledge::Knowledge;
-use photo_device::{Device, SharedHeld, table_of};
+use photo_device::{Device, SharedHeld};
 use photo_filter_rules::{Filter, covers};
-use photo_record::PicNo;
-use photo_version::Vector;
 use std::alloc::{AllocError, Global};
 
 /// What a target hears of from a source, of which it takes what its filter matches and only notices the rest.
@@ -73,28 +71,10 @@ pub(crate) fn heard_between(
 }
 
 impl Hearing {
-    ghost use Rattle.std.specs.Prelude.{◌≡◌, ℕ, ◌+◌, ◌<◌, ◌&&◌, ◌==◌, true, [], length, filter, IfOk};
-    ghost use Rattle.std.specs.List.{AllByRecursion};
+    ghost use Rattle.std.specs.Prelude.{◌≡◌, ℕ, ◌+◌, ◌<◌, ◌&&◌, ◌==◌, true, [], length, filter};
     ghost use Rattle.photo_version.specs.Version.{Version};
     ghost use Rattle.item_knowledge.specs.Fragments.{knows};
-    ghost use Rattle.photo_device.specs.Held.{are_in_order};
-    ghost use Rattle.photo_device.specs.Own.{HasEarlier};
     ghost use Rattle.photo_pull.specs.OnHeld.{is_selected};
-    ghost use Rattle.photo_pull.specs.Findings.{IsTold};
-
-    /// What it tells of the pictures, or nothing where the target learns all anyhow. Its only error is want of memory.
-    pub fn told(&self, alloc: Global) -> Result<Vec<(PicNo, Vector)>, AllocError>
-        requires heard_order { are_in_order self.now.heard.items ≡ true }
-        requires handed_order { are_in_order self.now.handed.items ≡ true }
-        requires heard { AllByRecursion HasEarlier self.now.heard.items }
-        requires handed { AllByRecursion HasEarlier self.now.handed.items }
-        ensures { IfOk result (λ told. IsTold self.now.learned self.now.heard.items self.now.handed.items told.items) }
-    {
-        if self.learned {
-            return Ok(Vec::new(alloc));
-        }
-        table_of(alloc, &self.heard, &self.handed)
-    }
 
     /// What the pull moves and tells, where the filter is the target's.
     pub fn counts(&self, wanted: &Filter) -> PullCounts

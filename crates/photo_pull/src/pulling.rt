@@ -59,13 +59,12 @@ fn pull_news(
     ensures source_still { source.new.staged ≡ None }
 {
     let hearing = heard_between(alloc, news, target, source)?;
-    let told = hearing.told(alloc)?;
     let counts = hearing.counts(target.filter());
     if hearing.is_nothing(target.knowledge(), source.knowledge()) {
         return Ok(counts);
     }
     let (asked, mut handed) = handed_of(alloc, &hearing)?;
-    stage_found(alloc, hearing, &told, target, source, asked.len())?;
+    stage_found(alloc, hearing, target, source, asked.len())?;
     source.hand_over(&asked, &mut handed);
     target.commit(handed);
     Ok(counts)

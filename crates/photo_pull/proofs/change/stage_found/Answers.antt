@@ -1,23 +1,45 @@
-use Rattle.std.proofs.Common.{◌++◌, sym, ap, ◌∙◌, subst}
+use Rattle.std.proofs.Common.{◌++◌, ◌||◌, sym, ap, ◌∙◌, subst}
+use Rattle.std.proofs.lemmas.Result.{on_ok_weaker}
 use Rattle.std.specs.List.Sorted.{IsPermutation}
-use Rattle.photo_device.specs.Staging.{MayStage}
+use Rattle.photo_device.specs.Device.{Kept}
+use Rattle.photo_device.specs.Telling.{tells}
 use Rattle.photo_pull.specs.OnHeld.{versions}
-use Rattle.photo_pull.specs.Findings.{drops_found, takes_found}
-use Rattle.photo_pull.proofs.StagedFound.{gain_taught, gain_told}
+use Rattle.photo_pull.proofs.Ready.{AreReady}
+use Rattle.photo_pull.proofs.StagedFound.{gained_all, gained_told, may_stage, has_staged}
 use Rattle.photo_pull.proofs.change.stage_found.Goals as goal
 
-pub stage_taught-requires : goal.stage_taught-requires
-stage_taught-requires c =
-    let permuted : IsPermutation (drops_found c.args.hearing) c.in_ok-drops.drops =
-    subst (λ l. IsPermutation l c.in_ok-drops.drops) (λ i. versions (c.deref.ensures.value i) ++ versions (c.deref-2.ensures.value i)) c.in_ok-drops.ensures in
-    record {
-      may = subst (λ l. MayStage c.in_ok-drops.drops l c.args.source.now.knowledge c.args.target.now) (sym (c.new-takes.ensures ∙ c.taken_of.ensures ∙ ap (λ tree. takes_found tree c.args.hearing) c.filter.ensures))
-          (c.requires.may c.in_ok-drops.drops c.args.source.now.knowledge permuted (gain_taught c.args.source.now c.args.hearing c.args.told.now c.if-learned.true));
-    }
+pub stage_heard-requires : goal.stage_heard-requires
+stage_heard-requires c =
+    let ready : AreReady c.args.target.now c.args.source.now = record { target = c.knowledge-target.ensures.device; source = c.knowledge-source.ensures.device; one = c.requires.may.one } in
+    let of_drops = subst (λ l. IsPermutation l c.in_ok-drops.drops) (λ i. versions (c.deref.ensures.value i) ++ versions (c.deref-2.ensures.value i)) c.in_ok-drops.ensures in
+    let known = c.knowledge.ensures.value ∙ ap (λ (d : Kept). d.knowledge) c.settle_bounds.ensures in
+    may_stage c.args.target.now c.args.source.now ready c.args.hearing c.requires.hearing c.in_ok-drops.drops of_drops _
+    (gained_all c.args.target.now c.args.source.now ready (sym c.requires.hearing.learned ∙ c.if-learned.true) _ known) c.requires.may.own
 
-pub stage_told-requires-clause-may : goal.stage_told-requires-clause-may
-stage_told-requires-clause-may c = λ gain is.
-    let permuted : IsPermutation (drops_found c.args.hearing) c.in_ok-drops.drops =
-    subst (λ l. IsPermutation l c.in_ok-drops.drops) (λ i. versions (c.deref.ensures.value i) ++ versions (c.deref-2.ensures.value i)) c.in_ok-drops.ensures in
-    subst (λ l. MayStage c.in_ok-drops.drops l gain c.args.target.now) (sym (c.new-takes.ensures ∙ c.taken_of.ensures ∙ ap (λ tree. takes_found tree c.args.hearing) c.filter.ensures))
-    (c.requires.may c.in_ok-drops.drops gain permuted (gain_told c.args.source.now c.args.hearing c.args.told.now c.if-learned.false gain is))
+pub returns-then-learned-clause-staged : goal.returns-then-learned-clause-staged
+returns-then-learned-clause-staged c =
+    let ready : AreReady c.args.target.now c.args.source.now = record { target = c.knowledge-target.ensures.device; source = c.knowledge-source.ensures.device; one = c.requires.may.one } in
+    let of_drops = subst (λ l. IsPermutation l c.in_ok-drops.drops) (λ i. versions (c.deref.ensures.value i) ++ versions (c.deref-2.ensures.value i)) c.in_ok-drops.ensures in
+    let known = c.knowledge.ensures.value ∙ ap (λ (d : Kept). d.knowledge) c.settle_bounds.ensures in
+    on_ok_weaker c.stage_heard.result
+    (has_staged c.args.target.now c.args.source.now ready c.args.hearing c.requires.hearing c.in_ok-drops.drops of_drops c.knowledge.result.now.known
+    (gained_all c.args.target.now c.args.source.now ready (sym c.requires.hearing.learned ∙ c.if-learned.true) c.knowledge.result.now.known known) c.args.room c.stage_heard.new.target)
+    c.stage_heard.ensures.staged
+
+pub stage_heard-requires-2 : goal.stage_heard-requires-2
+stage_heard-requires-2 c =
+    let ready : AreReady c.args.target.now c.args.source.now = record { target = c.knowledge-target.ensures.device; source = c.knowledge-source.ensures.device; one = c.requires.may.one } in
+    let of_drops = subst (λ l. IsPermutation l c.in_ok-drops.drops) (λ i. versions (c.deref.ensures.value i) ++ versions (c.deref-2.ensures.value i)) c.in_ok-drops.ensures in
+    may_stage c.args.target.now c.args.source.now ready c.args.hearing c.requires.hearing c.in_ok-drops.drops of_drops c.in_ok-gain.gain.known
+    (gained_told c.args.target.now c.args.source.now ready c.args.hearing c.requires.hearing (sym c.requires.hearing.learned ∙ c.if-learned.false) c.in_ok-gain.gain.known
+    (λ p v above. c.in_ok-gain.ensures.pairs p v above ∙ (λ i. tells (c.deref-3.ensures.value i) p v || tells (c.deref-4.ensures.value i) p v))) c.requires.may.own
+
+pub returns-clause-staged : goal.returns-clause-staged
+returns-clause-staged c =
+    let ready : AreReady c.args.target.now c.args.source.now = record { target = c.knowledge-target.ensures.device; source = c.knowledge-source.ensures.device; one = c.requires.may.one } in
+    let of_drops = subst (λ l. IsPermutation l c.in_ok-drops.drops) (λ i. versions (c.deref.ensures.value i) ++ versions (c.deref-2.ensures.value i)) c.in_ok-drops.ensures in
+    on_ok_weaker c.stage_heard-2.result
+    (has_staged c.args.target.now c.args.source.now ready c.args.hearing c.requires.hearing c.in_ok-drops.drops of_drops c.in_ok-gain.gain.known
+    (gained_told c.args.target.now c.args.source.now ready c.args.hearing c.requires.hearing (sym c.requires.hearing.learned ∙ c.if-learned.false) c.in_ok-gain.gain.known
+    (λ p v above. c.in_ok-gain.ensures.pairs p v above ∙ (λ i. tells (c.deref-3.ensures.value i) p v || tells (c.deref-4.ensures.value i) p v))) c.args.room c.stage_heard-2.new.target)
+    c.stage_heard-2.ensures.staged

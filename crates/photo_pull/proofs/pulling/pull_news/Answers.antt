@@ -1,16 +1,16 @@
 use Rattle.std.proofs.Common.{◌≡◌, ◌≤◌, ◌++◌, List, length, refl, sym, ap, ◌∙◌, subst, arith}
+use Rattle.std.specs.Prelude.{filter}
 use Rattle.std.proofs.lemmas.List.{length-map}
 use Rattle.item_knowledge.specs.Fragments.{Fragment, knows}
 use Rattle.photo_device.specs.declared.held.Held.{Held}
 use Rattle.photo_device.specs.Held.{times_in, helds_at}
 use Rattle.photo_device.specs.Device.{Kept, Shows, without_waiting}
-use Rattle.photo_pull.specs.OnHeld.{versions, gains, new_waiting}
-use Rattle.photo_pull.specs.Findings.{IsTold, takes_found}
+use Rattle.photo_pull.specs.OnHeld.{versions, gains, is_selected, new_waiting}
 use Rattle.photo_pull.proofs.Ready.{AreReady}
 use Rattle.photo_pull.proofs.Changes.{shows_unchanged, shows_pulled, shows_handed, shows_not_handed}
 use Rattle.photo_pull.proofs.Committed.{asked_once, handed_are, is_staged}
-use Rattle.photo_pull.proofs.Findings.{told_found, nothing_found, counts_found}
-use Rattle.photo_pull.proofs.StagedFound.{may_stage, may_hand_found, shows_found}
+use Rattle.photo_pull.proofs.Findings.{nothing_found, counts_found}
+use Rattle.photo_pull.proofs.StagedFound.{may_hand_found, shows_found}
 use Rattle.photo_pull.proofs.pulling.pull_news.Goals as goal
 
 pub returns-then-is_nothing-clause-done : goal.returns-then-is_nothing-clause-done
@@ -23,35 +23,27 @@ returns-then-is_nothing-clause-done c =
     record {
       target = λ t s shows_t shows_s. shows_pulled c.args.target.now c.args.source.now ready t s shows_t shows_s c.args.target.now (gains c.args.target.now c.args.source.now) (λ p v above. refl) (shows_unchanged c.args.target.now c.args.source.now ready nothing);
       source = λ t s shows_t shows_s. shows_not_handed c.args.target.now c.args.source.now ready t s shows_t shows_s (sym found.handed ∙ c.is_nothing.ensures.handed e);
-      counted = λ t s shows_t shows_s. counts_found c.args.target.now c.args.source.now c.in_ok-hearing.hearing found ready t s shows_t shows_s c.counts-counts.result (c.counts-counts.ensures.taken ∙ ap (λ tree. length (takes_found tree c.in_ok-hearing.hearing)) c.filter.ensures) c.counts-counts.ensures.handed c.counts-counts.ensures.notices c.counts-counts.ensures.dropped c.counts-counts.ensures.learned;
+      counted = λ t s shows_t shows_s. counts_found c.args.target.now c.args.source.now c.in_ok-hearing.hearing found ready t s shows_t shows_s c.counts-counts.result (c.counts-counts.ensures.taken ∙ ap (λ tree. length (filter (is_selected tree) c.in_ok-hearing.hearing.heard.items)) c.filter.ensures) c.counts-counts.ensures.handed c.counts-counts.ensures.notices c.counts-counts.ensures.dropped c.counts-counts.ensures.learned;
     }
-
-pub stage_found-requires-clause-may : goal.stage_found-requires-clause-may
-stage_found-requires-clause-may c =
-    let ready : AreReady c.args.target.now c.args.source.now = record { target = c.knowledge.ensures.device; source = c.knowledge-2.ensures.device; one = c.requires.may.one } in
-    let found = c.in_ok-hearing.ensures in
-    let told = told_found c.args.target.now c.args.source.now c.in_ok-hearing.hearing found c.deref.result.now (subst (IsTold c.in_ok-hearing.hearing.learned c.in_ok-hearing.hearing.heard.items c.in_ok-hearing.hearing.handed.items) (sym c.deref.ensures.value) c.in_ok-told.ensures) in
-    may_stage c.args.target.now c.args.source.now ready c.in_ok-hearing.hearing found c.deref.result.now told c.requires.may.own
 
 pub hand_over-requires-clause-distinct : goal.hand_over-requires-clause-distinct
 hand_over-requires-clause-distinct c = λ v.
     let ready : AreReady c.args.target.now c.args.source.now = record { target = c.knowledge.ensures.device; source = c.knowledge-2.ensures.device; one = c.requires.may.one } in
     let found = c.in_ok-hearing.ensures in
-    let asked : c.deref-2.result.now ≡ versions (new_waiting c.args.target.now c.args.source.now) = c.deref-2.ensures.value ∙ c.in_ok-asked.ensures.asked ∙ ap versions found.handed in
+    let asked : c.deref.result.now ≡ versions (new_waiting c.args.target.now c.args.source.now) = c.deref.ensures.value ∙ c.in_ok-asked.ensures.asked ∙ ap versions found.handed in
     subst (λ vs. times_in v vs ≤ 1) (sym asked) (asked_once c.args.target.now c.args.source.now ready v)
 
 pub commit-requires-clause-staged : goal.commit-requires-clause-staged
-commit-requires-clause-staged c = is_staged _ _ _ _ _ _ c.in_ok-stage_found.ensures.staged.change.staged
+commit-requires-clause-staged c = is_staged _ _ _ _ _ _ c.in_ok-stage_found.ensures.staged.staged
 
 pub commit-requires-clause-handed : goal.commit-requires-clause-handed
 commit-requires-clause-handed c =
     let ready : AreReady c.args.target.now c.args.source.now = record { target = c.knowledge.ensures.device; source = c.knowledge-2.ensures.device; one = c.requires.may.one } in
     let found = c.in_ok-hearing.ensures in
-    let asked : c.deref-2.result.now ≡ versions (new_waiting c.args.target.now c.args.source.now) = c.deref-2.ensures.value ∙ c.in_ok-asked.ensures.asked ∙ ap versions found.handed in
+    let asked : c.deref.result.now ≡ versions (new_waiting c.args.target.now c.args.source.now) = c.deref.ensures.value ∙ c.in_ok-asked.ensures.asked ∙ ap versions found.handed in
     let handed : c.hand_over.new.handed.items ≡ new_waiting c.args.target.now c.args.source.now =
     c.hand_over.ensures.handed ∙ (λ i. c.in_ok-asked.ensures.empty i ++ helds_at (asked i) (c.stage_found.ensures.source i).out) ∙ handed_are c.args.target.now c.args.source.now ready in
-    let told = told_found c.args.target.now c.args.source.now c.in_ok-hearing.hearing found c.deref.result.now (subst (IsTold c.in_ok-hearing.hearing.learned c.in_ok-hearing.hearing.heard.items c.in_ok-hearing.hearing.handed.items) (sym c.deref.ensures.value) c.in_ok-told.ensures) in
-    may_hand_found c.args.target.now c.args.source.now ready c.in_ok-hearing.hearing found c.deref.result.now told _ c.stage_found.new.target c.in_ok-stage_found.ensures.staged c.hand_over.new.handed.items handed
+    may_hand_found c.args.target.now c.args.source.now ready _ c.stage_found.new.target c.in_ok-stage_found.ensures.staged c.hand_over.new.handed.items handed
     (let long = ap (length {A = Held}) handed in let all = length-map (new_waiting c.args.target.now c.args.source.now) (λ (h : Held). h.version) in let counted = c.in_ok-asked.asked.ok.0 in let n = c.len.ensures in
     let asked_long = ap length (c.in_ok-asked.ensures.asked ∙ ap versions found.handed) in omega arith)
 
@@ -59,13 +51,12 @@ pub returns-clause-done : goal.returns-clause-done
 returns-clause-done c =
     let ready : AreReady c.args.target.now c.args.source.now = record { target = c.knowledge.ensures.device; source = c.knowledge-2.ensures.device; one = c.requires.may.one } in
     let found = c.in_ok-hearing.ensures in
-    let asked : c.deref-2.result.now ≡ versions (new_waiting c.args.target.now c.args.source.now) = c.deref-2.ensures.value ∙ c.in_ok-asked.ensures.asked ∙ ap versions found.handed in
+    let asked : c.deref.result.now ≡ versions (new_waiting c.args.target.now c.args.source.now) = c.deref.ensures.value ∙ c.in_ok-asked.ensures.asked ∙ ap versions found.handed in
     let handed : c.hand_over.new.handed.items ≡ new_waiting c.args.target.now c.args.source.now =
     c.hand_over.ensures.handed ∙ (λ i. c.in_ok-asked.ensures.empty i ++ helds_at (asked i) (c.stage_found.ensures.source i).out) ∙ handed_are c.args.target.now c.args.source.now ready in
-    let told = told_found c.args.target.now c.args.source.now c.in_ok-hearing.hearing found c.deref.result.now (subst (IsTold c.in_ok-hearing.hearing.learned c.in_ok-hearing.hearing.heard.items c.in_ok-hearing.hearing.handed.items) (sym c.deref.ensures.value) c.in_ok-told.ensures) in
     record {
-      target = shows_found c.args.target.now c.args.source.now ready c.in_ok-hearing.hearing found c.deref.result.now told _ c.stage_found.new.target c.in_ok-stage_found.ensures.staged c.hand_over.new.handed.items handed c.commit.new.self c.commit.ensures.shows;
+      target = shows_found c.args.target.now c.args.source.now ready _ c.stage_found.new.target c.in_ok-stage_found.ensures.staged c.hand_over.new.handed.items handed c.commit.new.self c.commit.ensures.shows;
       source = λ t s shows_t shows_s. shows_handed c.args.target.now c.args.source.now ready t s shows_t shows_s c.hand_over.new.self
           (λ m shows. subst (λ vs. Shows c.hand_over.new.self (without_waiting vs m)) asked (c.hand_over.ensures.shows m (subst (λ (d : Kept). Shows d m) (sym c.stage_found.ensures.source) shows)));
-      counted = λ t s shows_t shows_s. counts_found c.args.target.now c.args.source.now c.in_ok-hearing.hearing found ready t s shows_t shows_s c.counts-counts.result (c.counts-counts.ensures.taken ∙ ap (λ tree. length (takes_found tree c.in_ok-hearing.hearing)) c.filter.ensures) c.counts-counts.ensures.handed c.counts-counts.ensures.notices c.counts-counts.ensures.dropped c.counts-counts.ensures.learned;
+      counted = λ t s shows_t shows_s. counts_found c.args.target.now c.args.source.now c.in_ok-hearing.hearing found ready t s shows_t shows_s c.counts-counts.result (c.counts-counts.ensures.taken ∙ ap (λ tree. length (filter (is_selected tree) c.in_ok-hearing.hearing.heard.items)) c.filter.ensures) c.counts-counts.ensures.handed c.counts-counts.ensures.notices c.counts-counts.ensures.dropped c.counts-counts.ensures.learned;
     }
