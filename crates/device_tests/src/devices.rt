@@ -1,6 +1,7 @@
 // Tests of a device, and what they share.
 mod asking;
 mod changes;
+mod copying;
 mod each;
 mod knowing;
 mod narrowing;

@@ -12,8 +12,8 @@ use std::alloc::Global;
 
 const PICTURES: &[(u32, u8)] = &[(1, 5), (2, 5), (3, 5)];
 
-// Stages on a device that it gives up its version of that number, where it holds it.
-fn stages(alloc: Global, device: &mut Device, n: u32) -> bool {
+/// Stages on a device that it gives up its version of that number, where it holds it.
+pub fn stages(alloc: Global, device: &mut Device, n: u32) -> bool {
     stages_with_room(alloc, device, n, 0)
 }
 
