@@ -74,6 +74,14 @@ impl Session {
         Session { fleet }
     }
 
+    /// As [`Fleet::try_clone`]. Its only error is want of memory.
+    pub fn try_clone(&self) -> Result<Session, AllocError>
+        ensures { IfOk result (λ copy. copy ≡ self.now) }
+    {
+        let fleet = self.fleet.try_clone()?;
+        Ok(Session { fleet })
+    }
+
     /// The fleet, of which all that is asked without a condition can be asked.
     pub fn fleet(&self) -> &Fleet
         ensures { result.now ≡ self.now }
