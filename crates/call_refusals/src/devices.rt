@@ -26,6 +26,7 @@ pub fn verdict(alloc: Global, call: &str) -> Option<Verdict> {
         "Device::make" => on_device(alloc, 2, Call::Make),
         "Device::edit" => on_device(alloc, 2, Call::Edit),
         "Device::remove" => on_device(alloc, 2, Call::Remove),
+        "Device::try_clone" => on_device(alloc, 4, Call::Copy),
         _ => verdict_on_others(alloc, call),
     }
 }
@@ -49,6 +50,7 @@ fn verdict_on_others(alloc: Global, call: &str) -> Option<Verdict> {
 
 #[derive(Clone, Copy)]
 enum Call {
+    Copy,
     Make,
     Edit,
     Remove,
@@ -93,6 +95,7 @@ fn on_twins(alloc: Global, device: &mut Device, twin: &Device, call: Call) -> Op
 
 fn calls(alloc: Global, device: &mut Device, call: Call) -> Option<bool> {
     match call {
+        Call::Copy => copies(alloc, device),
         Call::Make => makes(alloc, device),
         Call::Edit => edits(alloc, device),
         Call::Remove => removes(alloc, device),
@@ -105,6 +108,13 @@ fn calls(alloc: Global, device: &mut Device, call: Call) -> Option<bool> {
         Call::Command => runs_command(alloc, device),
         _ => lists(alloc, device.store()),
     }
+}
+
+fn copies(alloc: Global, device: &Device) -> Option<bool> {
+    mark(alloc);
+    let copy = device.try_clone();
+    mark(alloc);
+    Some(same_device(&copy.ok()?, device))
 }
 
 fn same_held(one: &HeldSet, other: &HeldSet) -> bool {

@@ -41,6 +41,7 @@ fn verdict_on_devices(alloc: Global, call: &str) -> Option<Verdict> {
         "Fleet::add" => on_fleet(alloc, Call::Add),
         "Fleet::of_script" => of_script(alloc),
         "Fleet::run_number" => on_script(alloc),
+        "Fleet::try_clone" => on_fleet(alloc, Call::Copy),
         _ => None,
     }
 }
@@ -56,6 +57,7 @@ enum Call {
     Refilter,
     Preview,
     Add,
+    Copy,
 }
 
 fn new(alloc: Global) -> Option<Verdict> {
@@ -145,6 +147,7 @@ fn calls(alloc: Global, fleet: &mut Fleet, call: Call) -> Option<bool>
         Call::Refilter => refilters(alloc, fleet),
         Call::Preview => previews(alloc, fleet),
         Call::Add => adds(alloc, fleet),
+        Call::Copy => copies(alloc, fleet),
     }
 }
 
@@ -271,6 +274,13 @@ fn adds(alloc: Global, fleet: &mut Fleet) -> Option<bool>
     let number = fleet.add(&filter);
     mark(alloc);
     Some(number.ok()? == 2 && fleet.devices().len() == 3 && fleet.commands() == 4)
+}
+
+fn copies(alloc: Global, fleet: &Fleet) -> Option<bool> {
+    mark(alloc);
+    let copy = fleet.try_clone();
+    mark(alloc);
+    Some(same_fleet(&copy.ok()?, fleet))
 }
 
 // What came of the devices of a script.

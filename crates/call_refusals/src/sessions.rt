@@ -89,6 +89,7 @@ fn other_calls(alloc: Global, session: &mut Session, call: &str) -> Option<Optio
         "Session::preview" => Some(previews(alloc, session)),
         "Session::add" => Some(adds(alloc, session)),
         "Session::run_number" => Some(runs_number(alloc, session)),
+        "Session::try_clone" => Some(copies(alloc, session)),
         _ => None,
     }
 }
@@ -177,6 +178,13 @@ fn adds(alloc: Global, session: &mut Session) -> Option<bool> {
     let number = session.add(&filter);
     mark(alloc);
     Some(given(number)? && session.fleet().devices().len() == 3)
+}
+
+fn copies(alloc: Global, session: &Session) -> Option<bool> {
+    mark(alloc);
+    let copy = session.try_clone();
+    mark(alloc);
+    Some(same_fleet(copy.ok()?.fleet(), session.fleet()))
 }
 
 const TWO_DEVICES: &str = "device a all\ndevice b all\nnew b 1 5 2024-01-01 -\n";
