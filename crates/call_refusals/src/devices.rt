@@ -341,8 +341,9 @@ fn stages_gain(alloc: Global, device: &mut Device, gain: &Knowledge) -> Option<b
 {
     let drops = VersionList::new(Vec::new(alloc));
     let takes = SharedList::new(Vec::new(alloc));
+    let pictures = Vec::new(alloc);
     mark(alloc);
-    let done = device.stage_lent(drops, takes, gain, 2);
+    let done = device.stage_lent(drops, pictures, takes, gain, 2);
     mark(alloc);
     match done {
         Ok(()) => Some(device.staged()),

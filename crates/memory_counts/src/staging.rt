@@ -37,7 +37,8 @@ fn stages_gain(alloc: Global, device: &mut Device, gain: &Knowledge) -> bool
 {
     let drops = VersionList::new(Vec::new(alloc));
     let takes = SharedList::new(Vec::new(alloc));
-    device.stage_lent(drops, takes, gain, 0).is_ok()
+    let pictures = Vec::new(alloc);
+    device.stage_lent(drops, pictures, takes, gain, 0).is_ok()
 }
 
 // A device on which a knowledge is staged that is not its own.

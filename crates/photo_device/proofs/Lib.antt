@@ -24,6 +24,7 @@ pub mod Grouping
 pub mod Runs
 pub mod Merging
 pub mod Handed
+pub mod GivenUp
 pub mod NextEpoch
 pub mod TellingLemmas
 pub mod TableLemmas

@@ -308,6 +308,9 @@ committing prepared o p handed d now is same parts may = record {
   may = may_hand prepared o p handed d is (subst (λ (e : Kept). IfSome e.staged (λ s. MayHand handed s e)) (sym same) may);
 }
 
+pub held_once : (p : Prepared) (o : Option (List Fragment)) (handed : List Held) (d : Kept) → IsCommitting p o handed d → (v : Version) → count_of v d.store + count_of v d.out ≤ 1
+held_once p o handed d are v = let all = all_coming o p handed d are.prepared are.may v in omega arith
+
 -- either set may take what comes, once it has given up what goes
 fits_in : (p : Prepared) (o : Option (List Fragment)) (handed : List Held) (d : Kept) (drops : List Version) (helds : List Held) (room : Reserved) → IsCommitting p o handed d → ((v : Version) → count_of v handed + count_of v p.takes + count_of v helds ≤ 1)
     → length helds ≤ room.most → length p.takes + p.room ≤ room.more → MayTake (helds_without drops helds) handed p.takes room

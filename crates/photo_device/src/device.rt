@@ -5,6 +5,7 @@ ghost use Rattle.photo_device.specs.Device.{store_with, out_with};
 ghost use Rattle.photo_device.specs.Learning.{IsOwnLearned};
 
 use crate::anew::{Anew, held_anew, narrowed};
+use crate::drops::give_up;
 use crate::noted_knowledge::NotedKnowledge;
 use crate::prepared::Prepared;
 use crate::takes::{rooms, take_in};
@@ -375,19 +376,23 @@ impl Device {
         ensures returned { IfErr result (λ e. e.0 ≡ change) }
     {
         let Change { drops, takes, gain } = change;
-        if let Err((drops, takes, refused)) = self.stage_lent(drops, takes, &gain, room) {
+        let pictures = Vec::new(self.store.alloc());
+        if let Err((drops, takes, refused)) = self.stage_lent(drops, pictures, takes, &gain, room) {
             return Err((Change { drops, takes, gain }, refused));
         }
         Ok(())
     }
 
-    /// Prepares a change as `stage` does, where what is learned is lent, so that nobody has to copy it.
+    /// Prepares a change as `stage` does, where what is learned is lent, so that nobody has to copy it. The pictures of the
+    /// versions that are given up, in their order, are hints where to look for these at `commit`. Any will do; without them
+    /// it goes over all that is held.
     ///
     /// Its only error is want of memory (also for more versions than can be counted), which leaves nothing staged and gives
     /// both lists back.
     pub fn stage_lent(
         &mut self,
         drops: VersionList,
+        pictures: Vec<PicNo>,
         takes: SharedList,
         gain: &Knowledge,
         room: usize,
@@ -414,6 +419,7 @@ impl Device {
         }
         self.prepared = Some(Prepared {
             drops,
+            pictures,
             takes,
             room,
             in_store,
@@ -472,14 +478,13 @@ impl Device {
         };
         let Prepared {
             drops,
+            pictures,
             takes,
             room: _,
             in_store,
             in_out,
         } = prepared;
-        let gone = drops.as_slice();
-        self.store.drop_versions(gone);
-        self.out.drop_versions(gone);
+        give_up(drops.as_slice(), &pictures, &mut self.store, &mut self.out);
         take_in(
             &self.filter,
             handed,

@@ -224,6 +224,21 @@ impl HeldSet {
         self.items.retain(|held| !sought.has(held.version()));
     }
 
+    /// Gives up that version of that picture, if it has it; whether it had it. It is found by a search, which takes no memory.
+    pub(crate) fn drop_version_of(&mut self, picture: PicNo, version: Version) -> bool
+        requires { count_of version self.old ≤ 1 }
+        ensures had { result ≡ has_version_of picture version self.old }
+        ensures dropped { result ≡ true → self.new ≡ helds_without (version ∷ []) self.old }
+        ensures kept { result ≡ false → self.new ≡ self.old }
+    {
+        let (has, near) = self.has_near(Spot::start(), picture, version);
+        if !has {
+            return false;
+        }
+        self.take_version(near, version);
+        true
+    }
+
     /// Those of the versions that it has leave it, and come to the end of a list, in the order asked for. It takes no
     /// memory, and is quickest where they are asked for in the order of the set.
     pub(crate) fn hand_over(&mut self, versions: &[Version], handed: &mut Vec<SharedHeld>)

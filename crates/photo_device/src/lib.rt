@@ -6,6 +6,7 @@ mod change;
 mod conflict;
 mod conflicts;
 mod device;
+mod drops;
 mod each;
 mod fault;
 mod held;

@@ -11,22 +11,50 @@ use crate::filtered::{push_versions, taken_of};
 use crate::hearing::Hearing;
 use item_knowledge::Knowledge;
 use photo_device::{Device, SharedHeld, SharedList, VersionList, gain_of};
+use photo_record::PicNo;
 use photo_version::Version;
 use std::alloc::{AllocError, Global};
 
-// The versions of what a device drops, in order, since all that it holds is gone along for them.
+// A version that goes is looked for by its picture where at least so many are held for each that goes: then the searches
+// cost less than it does to go along all that is held.
+const HELD_BY_DROP: usize = 64;
+
+// Puts the pictures of those of a list behind others, as long as there is memory for that.
+fn push_pictures(pictures: &mut Vec<PicNo>, list: &[SharedHeld]) {
+    for held in list {
+        let Ok(()) = pictures.push(held.picture()) else {
+            return;
+        };
+    }
+}
+
+// Whether so many versions are few of those that a device holds.
+fn are_few(count: usize, device: &Device) -> bool {
+    let held = device.store().len().saturating_add(device.out().len());
+    count <= held / HELD_BY_DROP
+}
+
+// The versions of what a device drops. Where these are few, the picture of each comes with them, by which it is found;
+// otherwise they are in order, since all that the device holds is gone along for them.
 fn drops_of(
     alloc: Global,
+    device: &Device,
     stored: &[SharedHeld],
     waiting: &[SharedHeld],
-) -> Result<VersionList, AllocError>
-    ensures { IfOk result (λ all. IsPermutation (versions stored.now ++ versions waiting.now) all) }
+) -> Result<(VersionList, Vec<PicNo>), AllocError>
+    ensures { IfOk result (λ all. IsPermutation (versions stored.now ++ versions waiting.now) all.0) }
 {
     let mut drops = Vec::new(alloc);
     push_versions(&mut drops, stored)?;
     push_versions(&mut drops, waiting)?;
+    let mut pictures = Vec::new(alloc);
+    if are_few(drops.len(), device) {
+        push_pictures(&mut pictures, stored);
+        push_pictures(&mut pictures, waiting);
+        return Ok((VersionList::new(drops), pictures));
+    }
     drops.sort_unstable();
-    Ok(VersionList::new(drops))
+    Ok((VersionList::new(drops), pictures))
 }
 
 /// The versions that the source hands over, in the order of its out, and an empty list with room for them.
@@ -48,6 +76,7 @@ pub(crate) fn handed_of(
 // it is lent.
 fn stage_heard(
     drops: VersionList,
+    pictures: Vec<PicNo>,
     heard: Vec<SharedHeld>,
     gain: &Knowledge,
     target: &mut Device,
@@ -59,7 +88,7 @@ fn stage_heard(
     ensures unstaged { OnErr result (target.new.staged ≡ None) }
 {
     let takes = SharedList::new(taken_of(target.filter(), heard));
-    if let Err((_, _, refused)) = target.stage_lent(drops, takes, gain, room) {
+    if let Err((_, _, refused)) = target.stage_lent(drops, pictures, takes, gain, room) {
         return Err(refused);
     }
     Ok(())
@@ -91,11 +120,11 @@ pub(crate) fn stage_found(
         heard,
         handed,
     } = hearing;
-    let drops = drops_of(alloc, &dropped.stored, &dropped.waiting)?;
+    let (drops, pictures) = drops_of(alloc, target, &dropped.stored, &dropped.waiting)?;
     if learned {
         source.settle_bounds();
-        return stage_heard(drops, heard, source.knowledge(), target, room);
+        return stage_heard(drops, pictures, heard, source.knowledge(), target, room);
     }
     let gain = gain_of(alloc, &heard, &handed)?;
-    stage_heard(drops, heard, &gain, target, room)
+    stage_heard(drops, pictures, heard, &gain, target, room)
 }

@@ -7,6 +7,7 @@ use super::sets::version;
 use super::{filter_of, lists, made_all, on_device, opened};
 use item_knowledge::Knowledge;
 use photo_device::{Change, Device, SharedList, VersionList};
+use photo_record::PicNo;
 use photo_version::Version;
 use std::alloc::Global;
 
@@ -126,26 +127,27 @@ fn nothing_stays_staged_in_what_is_known(rt: HostRuntime) {
     assert!(rt; on_device(rt.alloc(), 0, "all", leaves_nothing_staged));
 }
 
-// Three numbers of versions, in an order.
-type Three = (u32, u32, u32);
+// Pictures as hints where what is given up is held.
+fn hinted(alloc: Global, numbers: &[u32]) -> Option<Vec<PicNo>> {
+    let mut pictures = Vec::new(alloc);
+    for number in numbers {
+        pictures.push(PicNo::new(*number)?).ok()?;
+    }
+    Some(pictures)
+}
 
-// Stages on device 0 that it gives up three of its versions, where it holds them.
-fn stages_three(alloc: Global, device: &mut Device, numbers: Three) -> bool {
-    match Knowledge::new(alloc) {
-        Ok(gain) => stages_drops(alloc, device, numbers, &gain),
-        Err(_) => false,
+// Stages on device 0 that it gives up its versions 3, 2 and 5, where it holds them.
+fn stages_three(alloc: Global, device: &mut Device, hints: &[u32]) -> bool {
+    match (hinted(alloc, hints), Knowledge::new(alloc)) {
+        (Some(pictures), Ok(gain)) => stages_drops(alloc, device, pictures, &gain),
+        _ => false,
     }
 }
 
-fn stages_drops(alloc: Global, device: &mut Device, numbers: Three, gain: &Knowledge) -> bool
+fn stages_drops(alloc: Global, device: &mut Device, pictures: Vec<PicNo>, gain: &Knowledge) -> bool
     requires { (p : ℕ) (v : versions.Version) → knows gain.now.known p v ≡ false }
 {
-    let (first, second, third) = numbers;
-    let (Some(one), Some(two), Some(three)) = (
-        version(0, first),
-        version(0, second),
-        version(0, third),
-    ) else {
+    let (Some(one), Some(two), Some(three)) = (version(0, 3), version(0, 2), version(0, 5)) else {
         return false;
     };
     if device.held(one).is_none() {
@@ -162,37 +164,45 @@ fn stages_drops(alloc: Global, device: &mut Device, numbers: Three, gain: &Knowl
     };
     let drops = VersionList::new(drops);
     let takes = SharedList::new(Vec::new(alloc));
-    device.stage_lent(drops, takes, gain, 0).is_ok()
+    device.stage_lent(drops, pictures, takes, gain, 0).is_ok()
 }
 
 // Each version is of the picture of its number: 1, 3 and 5 go to the store of a device that keeps what is rated 3 or more, and
 // 2 and 4 to its out.
 const FIVE_PICTURES: &[(u32, u8)] = &[(1, 5), (2, 1), (3, 4), (4, 2), (5, 5)];
 
-fn keeps_one_and_four(alloc: Global, device: &mut Device, numbers: Three) -> bool {
+fn keeps_one_and_four(alloc: Global, device: &mut Device, hints: &[u32]) -> bool {
     made_all(alloc, device, FIVE_PICTURES)
-        && stages_three(alloc, device, numbers)
+        && stages_three(alloc, device, hints)
         && commits(alloc, device)
         && lists(device.store(), &[(1, 1)])
         && lists(device.out(), &[(4, 4)])
 }
 
-fn gives_up(alloc: Global, numbers: Three) -> bool {
+fn gives_up_by(alloc: Global, hints: &[u32]) -> bool {
     match opened(alloc, 0, "rating >= 3") {
-        Some(mut device) => keeps_one_and_four(alloc, &mut device, numbers),
+        Some(mut device) => keeps_one_and_four(alloc, &mut device, hints),
         None => false,
     }
 }
 
-const ORDERS: &[(&str, Three)] = &[
-    ("rising", (2, 3, 5)),
-    ("falling", (5, 3, 2)),
-    ("neither", (3, 2, 5)),
+// The versions that go are of the pictures 3, 2 and 5.
+const HINTS: &[(&str, &[u32])] = &[
+    ("right", &[3, 2, 5]),
+    ("none", &[]),
+    ("one", &[3]),
+    ("two", &[3, 2]),
+    ("more", &[3, 2, 5, 1, 4]),
+    ("of no picture that is held", &[9, 9, 9]),
+    ("of each other", &[2, 5, 3]),
+    ("of what stays", &[1, 4, 1]),
+    ("wrong first", &[1, 2, 5]),
+    ("wrong last", &[3, 2, 4]),
 ];
 
 #[test]
-fn versions_are_given_up_in_whatever_order(rt: HostRuntime) {
-    for (name, numbers) in ORDERS {
-        assert!(rt; gives_up(rt.alloc(), *numbers), "{name}");
+fn hints_change_nothing_that_is_given_up(rt: HostRuntime) {
+    for (name, hints) in HINTS {
+        assert!(rt; gives_up_by(rt.alloc(), hints), "{name}");
     }
 }

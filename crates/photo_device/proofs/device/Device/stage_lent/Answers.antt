@@ -13,12 +13,12 @@ invariant_of-self-2 c =
     let may = subst (MayStage c.args.drops c.args.takes c.args.gain.now.known) (sym (c.self.view_is ∙ c.unstage.ensures)) still in
     let more : c.in-Some.more ≡ length c.args.takes + c.args.room = search rules in
     rw (c.in-Ok.ensures.store_kept, c.in-Ok.ensures.out_kept)
-    (stages c.stage.new.self (record { drops = c.args.drops; takes = c.args.takes; room = c.args.room; in_store = c.in-Ok.rooms.0; in_out = c.in-Ok.rooms.1 }) c.args.gain.now.known _ c.stage.ensures.known c.in_default-stage.ensures.staged c.fragments-fragments.ensures.normal may
+    (stages c.stage.new.self (record { drops = c.args.drops; pictures = c.args.pictures; takes = c.args.takes; room = c.args.room; in_store = c.in-Ok.rooms.0; in_out = c.in-Ok.rooms.1 }) c.args.gain.now.known _ c.stage.ensures.known c.in_default-stage.ensures.staged c.fragments-fragments.ensures.normal may
     c.in-Ok.ensures.store (c.in-Ok.ensures.store_more ∙ more) c.in-Ok.ensures.out (c.in-Ok.ensures.out_more ∙ more) c.self.invariant.device)
 
 pub returns-clause-staged : goal.returns-clause-staged
 returns-clause-staged c =
-    has_staged c.stage.new.self.staged (record { drops = c.args.drops; takes = c.args.takes; room = c.args.room; in_store = c.in-Ok.rooms.0; in_out = c.in-Ok.rooms.1 }) c.args.gain.now.known c.args.self.now _
+    has_staged c.stage.new.self.staged (record { drops = c.args.drops; pictures = c.args.pictures; takes = c.args.takes; room = c.args.room; in_store = c.in-Ok.rooms.0; in_out = c.in-Ok.rooms.1 }) c.args.gain.now.known c.args.self.now _
     (subst (λ (d : Kept). IsStagedUnion c.stage.new.self.staged d.knowledge c.args.gain.now.known) (c.self.view_is ∙ c.unstage.ensures) c.in_default-stage.ensures.staged) refl
     ((λ i. record {
       author = c.self.inside.author;
