@@ -17,6 +17,7 @@ use crate::places::Places;
 use crate::rows::Rows;
 use crate::search::is_leq;
 use crate::seen::Seen;
+use crate::side::Side;
 use crate::union::{begin, entries, pair};
 use std::alloc::{AllocError, Global};
 
@@ -129,55 +130,49 @@ fn place_behind(
 // Writes the fragments of the pictures behind the star, each by itself, with their index; lists those that don't come from the
 // left as they stand.
 fn spread(
-    left: &Rows,
-    left_index: &[IndexEntry],
-    right: &Rows,
-    right_index: &[IndexEntry],
+    left: Side<'_>,
+    right: Side<'_>,
     star: &[u64],
     room: &mut Vec<u64>,
     index: &mut Vec<IndexEntry>,
     joined: &mut Vec<IndexEntry>,
     out: &mut Rows,
 ) -> Result<(), AllocError>
-    requires left_rows { AreRows left.now }
-    requires right_rows { AreRows right.now }
-    requires left { IsSide (fragments_of left.now) left_index.now }
-    requires right { IsSide (fragments_of right.now) right_index.now }
-    requires normal { is_normal (fragments_of left.now) ≡ true }
+    requires normal { is_normal (fragments_of left.rows.now) ≡ true }
     requires star_row { IsRow star.now }
-    requires star { pairs star.now ≡ pair_vector (fragments_of left.now) (fragments_of right.now) (0, 0) }
+    requires star { pairs star.now ≡ pair_vector (fragments_of left.rows.now) (fragments_of right.rows.now) (0, 0) }
     requires index { index.old.items ≡ [] }
     requires joined { joined.old.items ≡ [] }
     requires out { out.old ≡ [] ∷ star.now ∷ [] }
-    ensures { OnOk result (IsSpread left.now (pairs star.now)
-        (spread_of (fragments_of left.now) (fragments_of right.now) left_index.now right_index.now)
+    ensures { OnOk result (IsSpread left.entry.rows.now (pairs star.now)
+        (spread_of (fragments_of left.entry.rows.now) (fragments_of right.entry.rows.now) left.entry.index.now right.entry.index.now)
         out.new index.new.items joined.new.items) }
 {
     // For its fact alone: the rows are fewer than 2 ^ 63.
-    let _count = left.rows();
-    let is_raised = !same_row(star, entries(left, 0));
+    let _count = left.rows.rows();
+    let is_raised = !same_row(star, entries(left.rows, 0));
     let mut from = 1;
     let mut to = 1;
     let mut pairing = Pairing::new();
-    while let Some((picture, (a, b))) = pairing.next(left_index, right_index) {
-        if stays(left, right, is_raised, picture, a, b) {
-            from = run_to(left, from, to, a, out)?;
+    while let Some((picture, (a, b))) = pairing.next(left.index, right.index) {
+        if stays(left.rows, right.rows, is_raised, picture, a, b) {
+            from = run_to(left.rows, from, to, a, out)?;
             to = a + 1;
             let number = to_u32(index.len() + 1)?;
             index.push((picture, number))?;
             continue;
         }
-        let row = pair(left, left_index, right, right_index, a, b, room)?;
+        let row = pair(left, right, a, b, room)?;
         if same_row(star, row) {
             continue;
         }
-        place_behind(left, from, to, picture, row, out)?;
+        place_behind(left.rows, from, to, picture, row, out)?;
         from = to;
         let number = to_u32(index.len() + 1)?;
         index.push((picture, number))?;
         joined.push((picture, number))?;
     }
-    out.place_run(left, 2 * from, 2 * to)?;
+    out.place_run(left.rows, 2 * from, 2 * to)?;
     Ok(())
 }
 
@@ -252,52 +247,45 @@ fn are_told_apart(
 /// those that have the star's. It gives none where that isn't so, and what was written is of no use. The left's bounds have marks.
 pub(crate) fn apart(
     alloc: Global,
-    left: &Rows,
-    left_index: &[IndexEntry],
-    right: &Rows,
-    right_index: &[IndexEntry],
+    left: Side<'_>,
+    right: Side<'_>,
     star: &[u64],
     seen: &Seen,
     out: &mut Rows,
 ) -> Result<Option<Vec<IndexEntry>>, AllocError>
-    requires left_rows { AreRows left.now }
-    requires right_rows { AreRows right.now }
-    requires left { IsSide (fragments_of left.now) left_index.now }
-    requires right { IsSide (fragments_of right.now) right_index.now }
-    requires normal { is_normal (fragments_of left.now) ≡ true }
-    requires seen { IsSeen seen.now.words.items left.now }
+    requires normal { is_normal (fragments_of left.rows.now) ≡ true }
+    requires seen { IsSeen seen.now.words.items left.rows.now }
     requires star_row { IsRow star.now }
-    requires star { pairs star.now ≡ pair_vector (fragments_of left.now) (fragments_of right.now) (0, 0) }
+    requires star { pairs star.now ≡ pair_vector (fragments_of left.rows.now) (fragments_of right.rows.now) (0, 0) }
     ensures rows { IfOk result (λ found. IfSome found (λ _. out.new
         ≡ rows_of (star_first (pairs star.now)
-        (groups_of (fragments_of left.now) (fragments_of right.now) left_index.now right_index.now)))) }
+        (groups_of (fragments_of left.entry.rows.now) (fragments_of right.entry.rows.now) left.entry.index.now right.entry.index.now)))) }
     ensures index { IfOk result (λ found. IfSome found (λ index. index.items
-        ≡ index_of (fragments_of left.now) (fragments_of right.now) left_index.now right_index.now)) }
+        ≡ index_of (fragments_of left.entry.rows.now) (fragments_of right.entry.rows.now) left.entry.index.now right.entry.index.now)) }
 {
     // Where some fragment has several pictures two of them mostly have the same vector then too.
-    if left.rows() / 2 <= left_index.len() || right.rows() / 2 <= right_index.len() {
+    if left.rows.rows() / 2 <= left.index.len() || right.rows.rows() / 2 <= right.index.len() {
         return Ok(None);
     }
-    let count = pictures_together(left_index, right_index);
+    let count = pictures_together(left.index, right.index);
     let mut index = Vec::with_capacity(alloc, count)?;
     let mut joined = Vec::new(alloc);
     let words = left
+        .rows
         .words()
-        .max(right.words())
+        .max(right.rows.words())
         .saturating_add(count.saturating_mul(2));
     begin(star, count, words, out)?;
     spread(
         left,
-        left_index,
         right,
-        right_index,
         star,
         &mut Vec::new(alloc),
         &mut index,
         &mut joined,
         out,
     )?;
-    if are_told_apart(alloc, left, seen, out, &index, &joined)? {
+    if are_told_apart(alloc, left.rows, seen, out, &index, &joined)? {
         return Ok(Some(index));
     }
     Ok(None)

@@ -17,6 +17,7 @@ mod raise;
 mod rows;
 mod search;
 mod seen;
+mod side;
 mod table_rows;
 mod topped;
 mod union;

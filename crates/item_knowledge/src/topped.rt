@@ -13,6 +13,7 @@ use crate::raise::raise;
 use crate::rows::Rows;
 use crate::search::{bound_at, is_leq};
 use crate::seen::{Seen, seen_of, seen_together};
+use crate::side::Side;
 use crate::union::{entries, union};
 use std::alloc::{AllocError, Global};
 use std::marker::Model;
@@ -191,15 +192,15 @@ pub(crate) fn topped_union(
     let mut top = Vec::new(alloc);
     join(&left.top, &right.top, &mut top)?;
     let seen = seen_together(alloc, &left.seen, &right.seen)?;
-    match union(
-        alloc,
-        &left.rows,
-        left_index,
-        &right.rows,
-        right_index,
-        &left.seen,
-        &mut out.rows,
-    ) {
+    let one = Side {
+        rows: &left.rows,
+        index: left_index,
+    };
+    let other = Side {
+        rows: &right.rows,
+        index: right_index,
+    };
+    match union(alloc, one, other, &left.seen, &mut out.rows) {
         Ok(index) => {
             out.top = top;
             out.seen = seen;

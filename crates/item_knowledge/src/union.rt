@@ -18,6 +18,7 @@ use crate::places::Places;
 use crate::rows::Rows;
 use crate::search::number_near;
 use crate::seen::Seen;
+use crate::side::Side;
 use std::alloc::{AllocError, Global};
 
 /// The entries of the fragment of a number, as a row of words.
@@ -38,25 +39,19 @@ pub(crate) fn entries(rows: &Rows, number: usize) -> &[u64]
 /// or else their join, which is written into `room`.
 #[inline(always)]
 pub(crate) fn pair<'a>(
-    left: &'a Rows,
-    left_index: &[IndexEntry],
-    right: &'a Rows,
-    right_index: &[IndexEntry],
+    left: Side<'a>,
+    right: Side<'a>,
     a: usize,
     b: usize,
     room: &'a mut Vec<u64>,
 ) -> Result<&'a [u64], AllocError>
-    requires left_rows { AreRows left.now }
-    requires right_rows { AreRows right.now }
-    requires left { IsSide (fragments_of left.now) left_index.now }
-    requires right { IsSide (fragments_of right.now) right_index.now }
-    requires a { a < length (fragments_of left.now) }
-    requires b { b < length (fragments_of right.now) }
+    requires a { a < length (fragments_of left.rows.now) }
+    requires b { b < length (fragments_of right.rows.now) }
     ensures row { IfOk result (λ row. IsRow row.now) }
-    ensures entries { IfOk result (λ row. pairs row.now ≡ pair_vector (fragments_of left.now) (fragments_of right.now) (a, b)) }
+    ensures entries { IfOk result (λ row. pairs row.now ≡ pair_vector (fragments_of left.entry.rows.now) (fragments_of right.entry.rows.now) (a, b)) }
 {
-    let one = entries(left, a);
-    let other = entries(right, b);
+    let one = entries(left.rows, a);
+    let other = entries(right.rows, b);
     if other.is_empty() {
         return Ok(one);
     }
@@ -109,35 +104,29 @@ fn write(
 // The groups of the union of two sides, whose star is given, found by their vectors, which stand in rows; and their index.
 fn groups(
     alloc: Global,
-    left: &Rows,
-    left_index: &[IndexEntry],
-    right: &Rows,
-    right_index: &[IndexEntry],
+    left: Side<'_>,
+    right: Side<'_>,
     star: &[u64],
     vectors: &mut Rows,
     places: &mut Places,
 ) -> Result<(Vec<Group>, Vec<IndexEntry>), AllocError>
-    requires left_rows { AreRows left.now }
-    requires right_rows { AreRows right.now }
-    requires left { IsSide (fragments_of left.now) left_index.now }
-    requires right { IsSide (fragments_of right.now) right_index.now }
     requires star_row { IsRow star.now }
-    requires star { pairs star.now ≡ pair_vector (fragments_of left.now) (fragments_of right.now) (0, 0) }
+    requires star { pairs star.now ≡ pair_vector (fragments_of left.rows.now) (fragments_of right.rows.now) (0, 0) }
     requires empty { vectors.old ≡ [] }
     requires none { places.old.numbers.items ≡ [] }
     requires found { (rows : List (List ℕ)) → IsFound places.old rows }
     ensures placed { IfOk result (λ all. Placed places.new vectors.new all.0.items) }
     ensures groups { IfOk result (λ all. grouped all.0.items (vectors_at vectors.new places.new.numbers.items)
-        ≡ groups_of (fragments_of left.now) (fragments_of right.now) left_index.now right_index.now) }
+        ≡ groups_of (fragments_of left.entry.rows.now) (fragments_of right.entry.rows.now) left.entry.index.now right.entry.index.now) }
     ensures index { IfOk result (λ all. all.1.items
-        ≡ index_of (fragments_of left.now) (fragments_of right.now) left_index.now right_index.now) }
+        ≡ index_of (fragments_of left.entry.rows.now) (fragments_of right.entry.rows.now) left.entry.index.now right.entry.index.now) }
 {
     let mut groups = Vec::new(alloc);
-    let mut index = Vec::with_capacity(alloc, pictures_together(left_index, right_index))?;
+    let mut index = Vec::with_capacity(alloc, pictures_together(left.index, right.index))?;
     let mut room = Vec::new(alloc);
     let mut pairing = Pairing::new();
-    while let Some((picture, (a, b))) = pairing.next(left_index, right_index) {
-        let row = pair(left, left_index, right, right_index, a, b, &mut room)?;
+    while let Some((picture, (a, b))) = pairing.next(left.index, right.index) {
+        let row = pair(left, right, a, b, &mut room)?;
         if same_row(star, row) {
             continue;
         }
@@ -151,41 +140,26 @@ fn groups(
 /// Writes the normal form of what either side denotes, and gives its index. The left's bounds have marks.
 pub(crate) fn union(
     alloc: Global,
-    left: &Rows,
-    left_index: &[IndexEntry],
-    right: &Rows,
-    right_index: &[IndexEntry],
+    left: Side<'_>,
+    right: Side<'_>,
     seen: &Seen,
     out: &mut Rows,
 ) -> Result<Vec<IndexEntry>, AllocError>
-    requires left_rows { AreRows left.now }
-    requires right_rows { AreRows right.now }
-    requires left { IsSide (fragments_of left.now) left_index.now }
-    requires right { IsSide (fragments_of right.now) right_index.now }
-    requires normal { is_normal (fragments_of left.now) ≡ true }
-    requires seen { IsSeen seen.now.words.items left.now }
+    requires normal { is_normal (fragments_of left.rows.now) ≡ true }
+    requires seen { IsSeen seen.now.words.items left.rows.now }
     ensures rows { OnOk result (AreRows out.new) }
-    ensures union { IfOk result (λ index. IsUnion (fragments_of left.now) left_index.now (fragments_of right.now) right_index.now
+    ensures union { IfOk result (λ index. IsUnion (fragments_of left.entry.rows.now) left.entry.index.now (fragments_of right.entry.rows.now) right.entry.index.now
         (fragments_of out.new) index.items) }
 {
     let mut room = Vec::new(alloc);
-    let star = pair(left, left_index, right, right_index, 0, 0, &mut room)?;
-    if let Some(index) = apart(alloc, left, left_index, right, right_index, star, seen, out)? {
+    let star = pair(left, right, 0, 0, &mut room)?;
+    if let Some(index) = apart(alloc, left, right, star, seen, out)? {
         return Ok(index);
     }
-    let buckets = pictures_together(left_index, right_index);
+    let buckets = pictures_together(left.index, right.index);
     let mut vectors = Rows::new(alloc);
     let mut places = Places::new(alloc, 0, buckets)?;
-    let (listed, index) = groups(
-        alloc,
-        left,
-        left_index,
-        right,
-        right_index,
-        star,
-        &mut vectors,
-        &mut places,
-    )?;
+    let (listed, index) = groups(alloc, left, right, star, &mut vectors, &mut places)?;
     write(star, &listed, index.len(), &vectors, &places, out)?;
     Ok(index)
 }

@@ -9,11 +9,11 @@ use Rattle.item_knowledge.proofs.union.groups.Given as goal
 abbrev pub invariant-loop-picture : goal.invariant-loop-picture
 invariant-loop-picture l = record {
   place : ℕ;
-  along : IsAlong l.left_index l.right_index l.pairing place;
-  gathered : IsGathered (pair_vector (fragments_of l.left) (fragments_of l.right) (0, 0)) (pair_vector (fragments_of l.left) (fragments_of l.right)) (paired l.left_index l.right_index) (grouped l.groups.items (vectors_at l.vectors l.places.numbers.items)) l.index.items place
-      (groups_of (fragments_of l.left) (fragments_of l.right) l.left_index l.right_index) (index_of (fragments_of l.left) (fragments_of l.right) l.left_index l.right_index);
+  along : IsAlong l.left.index.now l.right.index.now l.pairing place;
+  gathered : IsGathered (pair_vector (fragments_of l.left.rows.now) (fragments_of l.right.rows.now) (0, 0)) (pair_vector (fragments_of l.left.rows.now) (fragments_of l.right.rows.now)) (paired l.left.index.now l.right.index.now) (grouped l.groups.items (vectors_at l.vectors l.places.numbers.items)) l.index.items place
+      (groups_of (fragments_of l.left.rows.now) (fragments_of l.right.rows.now) l.left.index.now l.right.index.now) (index_of (fragments_of l.left.rows.now) (fragments_of l.right.rows.now) l.left.index.now l.right.index.now);
   placed : Placed l.places l.vectors l.groups.items;
 }
 
 abbrev pub decreases-loop-picture : goal.decreases-loop-picture
-decreases-loop-picture l = to_come l.pairing l.left_index l.right_index
+decreases-loop-picture l = to_come l.pairing l.left.index.now l.right.index.now

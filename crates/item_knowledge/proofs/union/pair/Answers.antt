@@ -9,13 +9,13 @@ use Rattle.item_knowledge.proofs.union.pair.Goals as goal
 
 pub returns-then-is_empty-clause-entries : goal.returns-then-is_empty-clause-entries
 returns-then-is_empty-clause-entries c =
-    let none = joined_empty (entries_at (fragments_of c.args.left.now) c.args.a) c.entries-other.result.now (entries_order (fragments_of c.args.left.now) c.args.left_index.now c.args.a c.requires.left c.requires.a) (sym c.is_empty.ensures ∙ search rules) in
-    c.entries-one.ensures.entries ∙ sym (ap (λ es. joined (entries_at (fragments_of c.args.left.now) c.args.a) es) (sym c.entries-other.ensures.entries) ∙ none)
+    let none = joined_empty (entries_at (fragments_of c.args.left.rows.now) c.args.a) c.entries-other.result.now (entries_order (fragments_of c.args.left.rows.now) c.args.left.index.now c.args.a c.args.left.side c.requires.a) (sym c.is_empty.ensures ∙ search rules) in
+    c.entries-one.ensures.entries ∙ sym (ap (λ es. joined (entries_at (fragments_of c.args.left.rows.now) c.args.a) es) (sym c.entries-other.ensures.entries) ∙ none)
 
 pub join-requires-clause-left : goal.join-requires-clause-left
 join-requires-clause-left c =
-    subst (λ es. in_order es ≡ true) (sym c.entries-one.ensures.entries) (entries_order (fragments_of c.args.left.now) c.args.left_index.now c.args.a c.requires.left c.requires.a)
+    subst (λ es. in_order es ≡ true) (sym c.entries-one.ensures.entries) (entries_order (fragments_of c.args.left.rows.now) c.args.left.index.now c.args.a c.args.left.side c.requires.a)
 
 pub join-requires-clause-right : goal.join-requires-clause-right
 join-requires-clause-right c =
-    subst (λ es. in_order es ≡ true) (sym c.entries-other.ensures.entries) (entries_order (fragments_of c.args.right.now) c.args.right_index.now c.args.b c.requires.right c.requires.b)
+    subst (λ es. in_order es ≡ true) (sym c.entries-other.ensures.entries) (entries_order (fragments_of c.args.right.rows.now) c.args.right.index.now c.args.b c.args.right.side c.requires.b)
