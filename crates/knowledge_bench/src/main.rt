@@ -10,9 +10,12 @@ use std::io;
 
 fn main(rt: HostRuntime) -> io::Result<()> {
     for line in rt.lines(rt.alloc()) {
-        let line = line?;
-        let done = work::of_line(rt.alloc(), line.as_str())?;
-        println!(rt; "{done}")?;
+        tell(rt, &line?)?;
     }
     Ok(())
+}
+
+fn tell(rt: HostRuntime, line: &str) -> io::Result<()> {
+    let done = work::of_line(rt.alloc(), line)?;
+    println!(rt; "{done}")
 }

@@ -24,9 +24,18 @@ struct Sides {
 impl Sides {
     fn new(alloc: Global, n: u32) -> Result<Sides, AllocError> {
         let left = of_table(alloc, 1, n)?;
-        let same = of_table(alloc, 1, n)?;
-        let right = of_table(alloc, 2, n)?;
-        Ok(Sides { left, same, right })
+        match pair(alloc, n) {
+            Ok((same, right)) => Ok(Sides { left, same, right }),
+            Err(error) => Err(error),
+        }
+    }
+}
+
+fn pair(alloc: Global, n: u32) -> Result<(Knowledge, Knowledge), AllocError> {
+    let same = of_table(alloc, 1, n)?;
+    match of_table(alloc, 2, n) {
+        Ok(right) => Ok((same, right)),
+        Err(error) => Err(error),
     }
 }
 
@@ -44,14 +53,15 @@ pub struct Workpiece {
 impl Workpiece {
     pub fn new(alloc: Global, n: u32) -> Result<Workpiece, AllocError> {
         let told = table(alloc, 1, n)?;
-        let sides = Sides::new(alloc, n)?;
-        let worked = Knowledge::new(alloc)?;
-        Ok(Workpiece {
-            alloc,
-            told,
-            sides,
-            worked,
-        })
+        match unworked(alloc, n) {
+            Ok((sides, worked)) => Ok(Workpiece {
+                alloc,
+                told,
+                sides,
+                worked,
+            }),
+            Err(error) => Err(error),
+        }
     }
 
     /// Does a kind of work once, and gives a number that depends on it.
@@ -83,6 +93,15 @@ impl Workpiece {
 
     fn learn_all_again(&mut self) -> Result<(), AllocError> {
         self.sides.left.learn_all(&self.sides.same)
+    }
+}
+
+// Knowledges to work with, and one to be put in the place of.
+fn unworked(alloc: Global, n: u32) -> Result<(Sides, Knowledge), AllocError> {
+    let sides = Sides::new(alloc, n)?;
+    match Knowledge::new(alloc) {
+        Ok(worked) => Ok((sides, worked)),
+        Err(error) => Err(error),
     }
 }
 

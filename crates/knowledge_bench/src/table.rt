@@ -37,7 +37,17 @@ pub fn table(alloc: Global, device: u16, n: u32) -> Result<Vec<(PicNo, Vector)>,
 pub fn of_table(alloc: Global, device: u16, n: u32) -> Result<Knowledge, AllocError>
     ensures { IfOk result (λ knowledge. (a : Author) → star_bound knowledge.known a ≡ 0) }
 {
+    let table = table(alloc, device, n)?;
+    told(alloc, &table)
+}
+
+fn told(alloc: Global, table: &[(PicNo, Vector)]) -> Result<Knowledge, AllocError>
+    requires { in_order table.now ≡ true }
+    ensures { IfOk result (λ knowledge. (a : Author) → star_bound knowledge.known a ≡ 0) }
+{
     let mut knowledge = Knowledge::new(alloc)?;
-    knowledge.learn_table(&table(alloc, device, n)?)?;
-    Ok(knowledge)
+    match knowledge.learn_table(table) {
+        Ok(()) => Ok(knowledge),
+        Err(error) => Err(error),
+    }
 }

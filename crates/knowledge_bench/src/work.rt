@@ -28,7 +28,7 @@ pub fn of_line(alloc: Global, line: &str) -> Result<u64, AllocError> {
         "learn_few" => learn_few(alloc, n, times),
         "learn_risen" => learn_risen(alloc, n, times),
         "knows" => knows(alloc, n, times),
-        "knows_in_order" => knows_in_order(&of_table(alloc, 1, n)?, n, times),
+        "knows_in_order" => knows_in_order(alloc, n, times),
         "knows_of_star" => knows_of_star(alloc, n, times),
         _ => rounds(alloc, kind, n, times),
     }
@@ -40,6 +40,10 @@ fn rounds(alloc: Global, kind: &str, n: u32, times: u32) -> Result<u64, AllocErr
     for _ in 0..PICTURES / n.max(1) {
         all.push(Workpiece::new(alloc, n)?)?;
     }
+    work_each(&mut all, kind, times)
+}
+
+fn work_each(all: &mut [Workpiece], kind: &str, times: u32) -> Result<u64, AllocError> {
     let mut sum = 0u64;
     for _ in 0..times {
         for k in 0..all.len() {
@@ -55,6 +59,10 @@ fn learn_own(alloc: Global, n: u32, times: u32) -> Result<u64, AllocError> {
     for _ in 0..PICTURES / n.max(1) {
         all.push(Growing::new(alloc, n)?)?;
     }
+    learn_own_each(&mut all, times)
+}
+
+fn learn_own_each(all: &mut [Growing], times: u32) -> Result<u64, AllocError> {
     for _ in 0..times {
         for k in 0..all.len() {
             all[k].learn_own()?;
@@ -101,8 +109,17 @@ fn learn(alloc: Global, n: u32, times: u32) -> Result<u64, AllocError> {
         return Ok(0);
     };
     let mut all = of_round(alloc, n)?;
+    learn_rounds(alloc, &mut all, picture, times)
+}
+
+fn learn_rounds(
+    alloc: Global,
+    all: &mut [Knowledge],
+    picture: PicNo,
+    times: u32,
+) -> Result<u64, AllocError> {
     for i in 0..times {
-        learn_each(&mut all, picture, &next(alloc, i)?)?;
+        learn_each(all, picture, &next(alloc, i)?)?;
     }
     Ok(all.len() as u64)
 }
@@ -112,11 +129,31 @@ fn learn_few(alloc: Global, n: u32, times: u32) -> Result<u64, AllocError> {
     let Some(picture) = PicNo::new(n / 2 + 1) else {
         return Ok(0);
     };
-    let mut other = of_table(alloc, 1, n)?;
     let mut all = of_round(alloc, n)?;
+    learn_few_each(alloc, &mut all, picture, n, times)
+}
+
+fn learn_few_each(
+    alloc: Global,
+    all: &mut [Knowledge],
+    picture: PicNo,
+    n: u32,
+    times: u32,
+) -> Result<u64, AllocError> {
+    let mut other = of_table(alloc, 1, n)?;
+    learn_few_of(alloc, all, &mut other, picture, times)
+}
+
+fn learn_few_of(
+    alloc: Global,
+    all: &mut [Knowledge],
+    other: &mut Knowledge,
+    picture: PicNo,
+    times: u32,
+) -> Result<u64, AllocError> {
     for i in 0..times {
         other.learn(picture, &next(alloc, i)?)?;
-        learn_all_of(&mut all, &other)?;
+        learn_all_of(all, other)?;
     }
     Ok(all.len() as u64)
 }
@@ -124,10 +161,23 @@ fn learn_few(alloc: Global, n: u32, times: u32) -> Result<u64, AllocError> {
 // The same, where the other one learns the next version of an author of every picture.
 fn learn_risen(alloc: Global, n: u32, times: u32) -> Result<u64, AllocError> {
     let mut other = Growing::new(alloc, n)?;
+    learn_risen_of(alloc, &mut other, n, times)
+}
+
+fn learn_risen_of(
+    alloc: Global,
+    other: &mut Growing,
+    n: u32,
+    times: u32,
+) -> Result<u64, AllocError> {
     let mut all = of_round(alloc, n)?;
+    rise_each(&mut all, other, times)
+}
+
+fn rise_each(all: &mut [Knowledge], other: &mut Growing, times: u32) -> Result<u64, AllocError> {
     for _ in 0..times {
         other.learn_own()?;
-        learn_all_of(&mut all, other.knowledge())?;
+        learn_all_of(all, other.knowledge())?;
     }
     Ok(all.len() as u64)
 }
@@ -135,6 +185,10 @@ fn learn_risen(alloc: Global, n: u32, times: u32) -> Result<u64, AllocError> {
 // Asks of all pictures in turn whether the last of their versions is known, or the one behind it.
 fn knows(alloc: Global, n: u32, times: u32) -> Result<u64, AllocError> {
     let knowledge = of_table(alloc, 1, n)?;
+    Ok(known_at_random(&knowledge, n, times))
+}
+
+fn known_at_random(knowledge: &Knowledge, n: u32, times: u32) -> u64 {
     let mut sum = 0u64;
     let mut seed = 1u32;
     for i in 0..times {
@@ -146,12 +200,17 @@ fn knows(alloc: Global, n: u32, times: u32) -> Result<u64, AllocError> {
             }
         }
     }
-    Ok(sum)
+    sum
 }
 
 // Asks of all pictures in rising order, again and again, whether the last of their versions is known, or the one behind
 // it, each time with the hint of the answer before.
-fn knows_in_order(knowledge: &Knowledge, n: u32, times: u32) -> Result<u64, AllocError> {
+fn knows_in_order(alloc: Global, n: u32, times: u32) -> Result<u64, AllocError> {
+    let knowledge = of_table(alloc, 1, n)?;
+    Ok(known_in_order(&knowledge, n, times))
+}
+
+fn known_in_order(knowledge: &Knowledge, n: u32, times: u32) -> u64 {
     let mut sum = 0u64;
     let mut hint = 0;
     for i in 0..times {
@@ -164,13 +223,17 @@ fn knows_in_order(knowledge: &Knowledge, n: u32, times: u32) -> Result<u64, Allo
             }
         }
     }
-    Ok(sum)
+    sum
 }
 
 // The same of a knowledge that has a version of every picture.
 fn knows_of_star(alloc: Global, n: u32, times: u32) -> Result<u64, AllocError> {
     let mut knowledge = Knowledge::new(alloc)?;
     knowledge.learn_own(version(1, 1))?;
+    Ok(known_of_star(&knowledge, n, times))
+}
+
+fn known_of_star(knowledge: &Knowledge, n: u32, times: u32) -> u64 {
     let mut sum = 0u64;
     let mut hint = 0;
     for i in 0..times {
@@ -182,5 +245,5 @@ fn knows_of_star(alloc: Global, n: u32, times: u32) -> Result<u64, AllocError> {
             }
         }
     }
-    Ok(sum)
+    sum
 }
