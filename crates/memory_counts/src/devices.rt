@@ -5,24 +5,43 @@ use photo_version::{Author, Version};
 use std::alloc::Global;
 use value_refusals::{filter_of, rated};
 
-// Makes a version of each of the pictures 1 to 300.
-fn make_all(device: &mut Device, content: &Record) -> Option<()> {
-    for n in 1..301u32 {
-        if device.counter() == u32::MAX {
-            return None;
-        }
-        device.make(PicNo::new(n)?, content).ok()?;
+/// A device that has made nothing, and keeps what has a rating of 3 or more.
+pub fn opened(alloc: Global, number: u16) -> Option<Device> {
+    Device::new(alloc, Author::new(number), filter_of(alloc, "rating >= 3")?).ok()
+}
+
+/// Whether a device made a version of each of the pictures 1 to so many, with that rating.
+pub fn has_made(alloc: Global, device: &mut Device, pictures: u32, rating: u8) -> bool {
+    match rated(alloc, rating) {
+        Some(content) => makes_all(device, pictures, &content),
+        None => false,
     }
-    Some(())
+}
+
+fn makes_all(device: &mut Device, pictures: u32, content: &Record) -> bool {
+    for n in 0..pictures {
+        if !makes(device, n + 1, content) {
+            return false;
+        }
+    }
+    true
+}
+
+fn makes(device: &mut Device, n: u32, content: &Record) -> bool {
+    match PicNo::new(n) {
+        Some(picture) if device.counter() < u32::MAX => device.make(picture, content).is_ok(),
+        _ => false,
+    }
 }
 
 /// A device that made and holds 300 versions.
 pub fn device(alloc: Global) -> Option<Device> {
-    let filter = filter_of(alloc, "rating >= 3")?;
-    let content = rated(alloc, 4)?;
-    let mut device = Device::new(alloc, Author::new(0), filter).ok()?;
-    make_all(&mut device, &content)?;
-    Some(device)
+    let mut device = opened(alloc, 0)?;
+    if has_made(alloc, &mut device, 300, 4) {
+        Some(device)
+    } else {
+        None
+    }
 }
 
 /// `held` and the readers of a device, and `settle_bounds`, which first finds a bound that waits.
@@ -60,31 +79,39 @@ fn has_last(device: &Device) -> bool {
 /// `unknown_of` for a set of which a device knows all.
 pub fn answer_asked(alloc: Global, times: u32) -> Option<bool> {
     let mut device = device(alloc)?;
-    match self::device(alloc) {
-        Some(twin) => Some(knows_all(alloc, &mut device, twin.store(), times)),
-        None => None,
-    }
+    knows_twin(alloc, &mut device, times)
 }
 
-fn knows_all(alloc: Global, device: &mut Device, set: &HeldSet, times: u32) -> bool {
+fn knows_twin(alloc: Global, device: &mut Device, times: u32) -> Option<bool> {
+    let twin = self::device(alloc)?;
+    Some(knows_each(alloc, device, &twin, times))
+}
+
+fn knows_each(alloc: Global, device: &mut Device, twin: &Device, times: u32) -> bool {
     for _ in 0..times {
-        match device.unknown_of(alloc, set) {
-            Ok(found) if found.is_empty() => {}
-            _ => return false,
+        if !knows_all(alloc, device, twin.store()) {
+            return false;
         }
     }
     true
 }
 
+fn knows_all(alloc: Global, device: &mut Device, set: &HeldSet) -> bool {
+    match device.unknown_of(alloc, set) {
+        Ok(found) => found.is_empty(),
+        Err(_) => false,
+    }
+}
+
 /// The readers of a set of held versions.
 pub fn answer_sets(alloc: Global, times: u32) -> Option<bool> {
     let device = device(alloc)?;
-    Some(answer_of_set(device.store(), times))
+    Some(answer_of_set(&device, times))
 }
 
-fn answer_of_set(set: &HeldSet, times: u32) -> bool {
+fn answer_of_set(device: &Device, times: u32) -> bool {
     for _ in 0..times {
-        if !has_hundredth(set) {
+        if !has_hundredth(device.store()) {
             return false;
         }
     }
@@ -114,9 +141,16 @@ pub fn answer_conflicts(alloc: Global, times: u32) -> Option<bool> {
 
 fn answer_of_conflicts(device: &Device, times: u32) -> bool {
     for _ in 0..times {
-        if !device.conflicts().is_ok_and(|list| list.is_empty()) {
+        if !has_no_conflicts(device) {
             return false;
         }
     }
     true
+}
+
+fn has_no_conflicts(device: &Device) -> bool {
+    match device.conflicts() {
+        Ok(list) => list.is_empty(),
+        Err(_) => false,
+    }
 }

@@ -8,10 +8,15 @@ use photo_script::{Command, Script};
 use std::alloc::Global;
 use value_refusals::filter_of;
 
+// A fleet of one device.
+fn one_device(alloc: Global) -> Option<Fleet> {
+    let filters = [filter_of(alloc, "rating >= 3")?];
+    Fleet::new(alloc, &filters).ok()
+}
+
 /// `takes` and the readers of a fleet of one device.
 pub fn answer(alloc: Global, times: u32) -> Option<bool> {
-    let filters = [filter_of(alloc, "rating >= 3")?];
-    let fleet = Fleet::new(alloc, &filters).ok()?;
+    let fleet = one_device(alloc)?;
     Some(answer_of(&fleet, times))
 }
 
@@ -35,26 +40,34 @@ fn is_fresh(fleet: &Fleet) -> bool {
 
 /// What passes a fleet on, and the readers of a session.
 pub fn answer_session(alloc: Global, times: u32) -> Option<bool> {
-    let filters = [filter_of(alloc, "rating >= 3")?];
-    let mut fleet = Fleet::new(alloc, &filters).ok()?;
+    let fleet = one_device(alloc)?;
+    Some(is_passed_on(fleet, times))
+}
+
+fn is_passed_on(fleet: Fleet, times: u32) -> bool {
+    let mut fleet = fleet;
+    let mut is_right = true;
     for _ in 0..times {
         let session = Session::of_fleet(fleet);
-        let is_right = is_fresh(session.fleet())
-            && session.device(0).is_some()
-            && session.device(1).is_none();
+        is_right = is_right && has_one_device(&session);
         fleet = session.into_fleet();
-        if !is_right {
-            return Some(false);
-        }
     }
-    Some(true)
+    is_right
+}
+
+fn has_one_device(session: &Session) -> bool {
+    is_fresh(session.fleet()) && session.device(0).is_some() && session.device(1).is_none()
 }
 
 /// `made_on` and the readers of a log.
 pub fn answer_log(alloc: Global, times: u32) -> Option<bool> {
     let script = small(alloc)?;
-    let outcome = run_plain(alloc, &script).ok()?;
-    Some(answer_of_log(&script, &outcome, times))
+    answer_of_run(alloc, &script, times)
+}
+
+fn answer_of_run(alloc: Global, script: &Script, times: u32) -> Option<bool> {
+    let outcome = run_plain(alloc, script).ok()?;
+    Some(answer_of_log(script, &outcome, times))
 }
 
 fn answer_of_log(script: &Script, outcome: &Outcome, times: u32) -> bool {

@@ -36,19 +36,30 @@ fn answer_of<B: Books, R: Wait>(rt: &R, alloc: Global, blanks: Blanks, times: u3
     requires tally { B.tally ≡ tally 100_000 100_000 0 }
 {
     let (ledger, mut share) = open::<B>(alloc, blanks, TALLY).ok()?;
+    let is_right = counts_each(rt, &*ledger, &mut share, times);
+    Some(closes(rt, &*ledger, share, times) && is_right)
+}
+
+fn counts_each<B: Books, R: Wait>(
+    rt: &R,
+    ledger: &Ledger<B>,
+    share: &mut Share<B>,
+    times: u32,
+) -> bool {
     for _ in 0..times {
-        if !counts(rt, &*ledger, &mut share) {
-            return Some(false);
+        if !counts(rt, ledger, share) {
+            return false;
         }
     }
-    if times == 0 {
-        return Some(true);
-    }
+    true
+}
+
+fn closes<B: Books, R: Wait>(rt: &R, ledger: &Ledger<B>, share: Share<B>, times: u32) -> bool {
     let counted = share.done();
-    if share.parts() != 1_000 {
-        return Some(false);
+    if times == 0 || share.parts() != 1_000 {
+        return times == 0;
     }
-    Some(ledger.close(rt, share) == counted && is_told(counted, times))
+    ledger.close(rt, share) == counted && is_told(counted, times)
 }
 
 // A share that is split off counts a pull, the rest a change, and both are one again.

@@ -2,21 +2,15 @@
 //! them, and prints whether each answered as it has to. `tools/count-allocations` runs it and counts its allocations.
 #![tactic(auto)]
 
-mod arenas;
 mod devices;
-mod epochs;
 mod filters;
 mod fleets;
 mod groups;
 mod held;
-mod knowledges;
 mod ledgers;
-mod lists;
-mod records;
 mod runs;
 mod scripts;
 mod staging;
-mod vectors;
 
 use std::io;
 

@@ -8,8 +8,12 @@ use std::alloc::Global;
 /// The readers of a plan, and the places of a command's devices.
 pub fn answer_plan(alloc: Global, times: u32) -> Option<bool> {
     let script = small(alloc)?;
-    let plan = plan(alloc, &script).ok()?;
-    Some(answer_of_plan(&script, &plan, times))
+    answer_of_script(alloc, &script, times)
+}
+
+fn answer_of_script(alloc: Global, script: &Script, times: u32) -> Option<bool> {
+    let plan = plan(alloc, script).ok()?;
+    Some(answer_of_plan(script, &plan, times))
 }
 
 fn answer_of_plan(script: &Script, plan: &Plan, times: u32) -> bool {
@@ -35,10 +39,15 @@ fn has_last(plan: &Plan) -> bool {
     plan.commands() == 4 && plan.batch_of(4) == 2 && plan.after(4) == Some(3)
 }
 
+// What comes of a script.
+fn outcome(alloc: Global) -> Option<Outcome> {
+    let script = small(alloc)?;
+    run_plain(alloc, &script).ok()
+}
+
 /// `audit`.
 pub fn answer_audit(alloc: Global, times: u32) -> Option<bool> {
-    let script = small(alloc)?;
-    let outcome = run_plain(alloc, &script).ok()?;
+    let outcome = outcome(alloc)?;
     Some(answer_of_audits(&outcome, times))
 }
 

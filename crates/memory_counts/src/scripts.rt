@@ -45,8 +45,7 @@ fn has_commands(script: &Script) -> bool {
 /// The reading of so many lines with equal words, which share them.
 pub fn answer_same_words(alloc: Global, times: u32) -> Option<bool> {
     let mut text = String::new(alloc);
-    push_edits(&mut text, times).ok()?;
-    Some(reads(alloc, &text, times))
+    Some(push_edits(&mut text, times).is_ok() && reads(alloc, &text, times))
 }
 
 fn push_edits(text: &mut String, times: u32) -> Result<(), AllocError> {

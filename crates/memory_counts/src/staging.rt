@@ -1,24 +1,19 @@
 //! What is staged on a device, what it hands over, and what it is given to know.
-ghost use Rattle.std.specs.Prelude.{◌≡◌, ◌<◌, ◌==◌, ◌&&◌, ℕ, [], ◌∷◌, if◌then◌else◌};
+ghost use Rattle.std.specs.Prelude.{◌≡◌, ◌<◌, ◌==◌, ◌&&◌, ℕ, [], ◌∷◌, length, if◌then◌else◌};
 ghost use Rattle.photo_version.specs.Author as authors;
 ghost use Rattle.photo_version.specs.Version as versions;
 ghost use Rattle.photo_version.specs.Vector.{denotes};
 ghost use Rattle.item_knowledge.specs.Fragments.{knows};
 ghost use Rattle.item_knowledge.specs.Kept.{star_bound};
 
-use crate::knowledges::first_known;
+use crate::devices::{has_made, opened};
 use item_knowledge::Knowledge;
 use photo_device::laws::with_knowledge;
 use photo_device::{Device, SharedHeld, SharedList, VersionList};
-use photo_record::{PicNo, Record};
 use photo_version::{Author, Version};
 use std::alloc::Global;
-use value_refusals::{filter_of, rated, told};
-
-// A device that has made nothing, and keeps what has a rating of 3 or more.
-fn opened(alloc: Global, number: u16) -> Option<Device> {
-    Device::new(alloc, Author::new(number), filter_of(alloc, "rating >= 3")?).ok()
-}
+use value_counts::first_known;
+use value_refusals::told;
 
 fn stages(alloc: Global, device: &mut Device, gain: &Knowledge) -> bool
     requires { (p : ℕ) (v : versions.Version) → 0 < p
@@ -44,42 +39,52 @@ fn stages_gain(alloc: Global, device: &mut Device, gain: &Knowledge) -> bool
 // A device on which a knowledge is staged that is not its own.
 fn staged(alloc: Global) -> Option<Device> {
     let mut device = opened(alloc, 0)?;
-    let Some(gain) = told(alloc, 7, 3) else {
-        return None;
-    };
-    if !stages(alloc, &mut device, &gain) {
-        return None;
+    if stages_another(alloc, &mut device) {
+        Some(device)
+    } else {
+        None
     }
-    Some(device)
+}
+
+fn stages_another(alloc: Global, device: &mut Device) -> bool {
+    match told(alloc, 7, 3) {
+        Some(gain) => stages(alloc, device, &gain),
+        None => false,
+    }
 }
 
 /// `staged`.
 pub fn answer(alloc: Global, times: u32) -> Option<bool> {
     let device = staged(alloc)?;
+    Some(is_staged(&device, times))
+}
+
+fn is_staged(device: &Device, times: u32) -> bool {
     for _ in 0..times {
         if !device.staged() {
-            return Some(false);
+            return false;
         }
     }
-    Some(true)
+    true
 }
 
 /// `unstage`: the first round drops what is staged.
 pub fn answer_unstage(alloc: Global, times: u32) -> Option<bool> {
     let mut device = staged(alloc)?;
+    Some(unstages(&mut device, times))
+}
+
+fn unstages(device: &mut Device, times: u32) -> bool {
     for _ in 0..times {
         device.unstage();
     }
-    Some(device.staged() == (times == 0))
+    device.staged() == (times == 0)
 }
 
 /// `commit`, once where any calls are asked for.
 pub fn answer_commit(alloc: Global, times: u32) -> Option<bool> {
     let mut device = staged(alloc)?;
-    if times == 0 {
-        return Some(true);
-    }
-    Some(commits(alloc, &mut device) && device.knowledge().fragments() == 2)
+    Some(times == 0 || commits(alloc, &mut device))
 }
 
 fn commits(alloc: Global, device: &mut Device) -> bool {
@@ -87,39 +92,38 @@ fn commits(alloc: Global, device: &mut Device) -> bool {
         return false;
     }
     device.commit(Vec::new(alloc));
-    !device.staged()
-}
-
-// Makes a version of each of the pictures 1 to 1000.
-fn make_all(device: &mut Device, content: &Record) -> Option<()> {
-    for n in 1..1_001u32 {
-        if device.counter() == u32::MAX {
-            return None;
-        }
-        device.make(PicNo::new(n)?, content).ok()?;
-    }
-    Some(())
+    !device.staged() && device.knowledge().fragments() == 2
 }
 
 /// `hand_over`: a round hands over one of a thousand versions in the out.
 pub fn answer_handing(alloc: Global, times: u32) -> Option<bool> {
     let mut device = opened(alloc, 0)?;
-    let content = rated(alloc, 2)?;
-    make_all(&mut device, &content)?;
-    let mut handed = Vec::with_capacity(alloc, 1_000).ok()?;
-    for n in 0..times {
-        let version = Version::new(Author::new(0), n.checked_add(1)?)?;
-        if !is_handed(&mut device, version, &mut handed) {
-            return Some(false);
-        }
-    }
-    Some(true)
+    Some(has_made(alloc, &mut device, 1_000, 2) && hands(alloc, &mut device, times))
 }
 
-fn is_handed(device: &mut Device, version: Version, handed: &mut Vec<SharedHeld>) -> bool {
+fn hands(alloc: Global, device: &mut Device, times: u32) -> bool {
+    match Vec::with_capacity(alloc, 1_000) {
+        Ok(mut handed) => hands_each(device, &mut handed, times),
+        Err(_) => false,
+    }
+}
+
+fn hands_each(device: &mut Device, handed: &mut Vec<SharedHeld>, times: u32) -> bool {
+    for n in 0..times {
+        if !is_handed(device, n + 1, handed) {
+            return false;
+        }
+    }
+    true
+}
+
+fn is_handed(device: &mut Device, n: u32, handed: &mut Vec<SharedHeld>) -> bool {
     if handed.len() >= handed.capacity() {
         return false;
     }
+    let Some(version) = Version::new(Author::new(0), n) else {
+        return false;
+    };
     let before = device.out().len();
     device.hand_over(&[version], handed);
     device.out().len() < before
@@ -128,26 +132,31 @@ fn is_handed(device: &mut Device, version: Version, handed: &mut Vec<SharedHeld>
 /// `with_knowledge`, once where any calls are asked for.
 pub fn answer_given(alloc: Global, times: u32) -> Option<bool> {
     let device = opened(alloc, 1)?;
+    if times == 0 {
+        return Some(true);
+    }
+    Some(is_given(alloc, device))
+}
+
+fn is_given(alloc: Global, device: Device) -> bool {
+    let is_first = device.author().value() == 0;
+    if is_first || device.counter() != 0 || !device.store().is_empty() || !device.out().is_empty() {
+        return false;
+    }
     match first_known(alloc) {
-        Some(knowledge) => answer_of_given(device, knowledge, times),
-        None => None,
+        Some(knowledge) => is_given_first(device, knowledge),
+        None => false,
     }
 }
 
-fn answer_of_given(device: Device, knowledge: Knowledge, times: u32) -> Option<bool>
+fn is_given_first(device: Device, knowledge: Knowledge) -> bool
+    requires other { 0 < authors.device_of_author device.author }
+    requires none { device.counter ≡ 0 }
+    requires store { length device.store ≡ 0 }
+    requires out { length device.out ≡ 0 }
     requires star { (a : authors.Author) → star_bound knowledge.known a ≡ (if authors.same_author (authors.author 0) a then 1 else 0) }
     requires known { (p : ℕ) (v : versions.Version) → 0 < p
         → knows knowledge.known p v ≡ versions.same_version (versions.version (authors.author 0) 1) v }
 {
-    if device.author().value() == 0 || device.counter() != 0 {
-        return None;
-    }
-    if !device.store().is_empty() || !device.out().is_empty() {
-        return None;
-    }
-    if times == 0 {
-        return Some(true);
-    }
-    let device = with_knowledge(device, knowledge);
-    Some(device.knowledge().fragments() == 1)
+    with_knowledge(device, knowledge).knowledge().fragments() == 1
 }

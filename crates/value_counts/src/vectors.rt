@@ -1,6 +1,6 @@
 //! The calls of authors, versions and vectors.
 use photo_version::{Author, Vector, Version};
-use std::alloc::Global;
+use std::alloc::{AllocError, Global};
 
 /// `Author::new`, `Author::of_word`, `Version::new`, and the readers of these.
 pub fn answer_versions(times: u32) -> bool {
@@ -66,10 +66,17 @@ fn shares(one: &Vector, other: &Vector) -> bool {
     let Some(version) = Version::new(Author::new(19), 3) else {
         return false;
     };
-    one.try_clone().is_ok_and(|copy| copy == *one)
-        && one.with(version).is_ok_and(|same| same == *one)
-        && one.join(other).is_ok_and(|both| both == *other)
-        && other.join(one).is_ok_and(|both| both == *other)
+    is_made(one.try_clone(), one)
+        && is_made(one.with(version), one)
+        && is_made(one.join(other), other)
+        && is_made(other.join(one), other)
+}
+
+fn is_made(made: Result<Vector, AllocError>, wanted: &Vector) -> bool {
+    match made {
+        Ok(vector) => vector == *wanted,
+        Err(_) => false,
+    }
 }
 
 /// `Vector::with`, which takes memory.

@@ -7,7 +7,7 @@ use Rattle.photo_version.specs.Version.{Version, version, same_version}
 use Rattle.item_knowledge.specs.Fragments.{Fragment, knows}
 use Rattle.item_knowledge.specs.Kept.{star_bound}
 use Rattle.photo_device.specs.Own.{KnowsItsOwn}
-use Rattle.memory_counts.proofs.staging.answer_of_given.Goals as goal
+use Rattle.memory_counts.proofs.staging.is_given_first.Goals as goal
 
 none_up_to : (n : ℕ) → false ≡ (leb 1 n && leb n 0)
 none_up_to n =
@@ -36,8 +36,6 @@ knows_none_of_its_own a counter knowledge other none star known = rw none record
         let less = ltb-true a.word v.author.word parts.1 in
         ne_eqb 0 v.author.word (λ e. absurd (omega arith))
 
-pub with_knowledge-device-requires-clause-own : goal.with_knowledge-device-requires-clause-own
-with_knowledge-device-requires-clause-own c =
-    let other : 0 < device_of_author c.args.device.author = search rules in
-    let none : c.args.device.counter ≡ 0 = search rules in
-    knows_none_of_its_own c.args.device.author c.args.device.counter c.args.knowledge.known other none c.requires.star c.requires.known
+pub with_knowledge-requires-clause-own : goal.with_knowledge-requires-clause-own
+with_knowledge-requires-clause-own c =
+    knows_none_of_its_own c.args.device.author c.args.device.counter c.args.knowledge.known c.requires.other c.requires.none c.requires.star c.requires.known

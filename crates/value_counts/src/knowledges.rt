@@ -11,28 +11,47 @@ use photo_record::PicNo;
 use photo_version::{Author, Vector, Version};
 use std::alloc::Global;
 
-// Tells of each of the pictures 1 to 20 as many versions of a device as its number.
-fn tell_twenty(alloc: Global, knowledge: &mut Knowledge, device: u16) -> Option<()> {
-    for n in 1..21u32 {
-        let version = Version::new(Author::new(device), n)?;
-        let vector = Vector::new(alloc).with(version).ok()?;
-        knowledge.learn(PicNo::new(n)?, &vector).ok()?;
+// Tells of a picture as many versions of a device as its number.
+fn is_told(alloc: Global, knowledge: &mut Knowledge, device: u16, n: u32) -> bool {
+    let (Some(picture), Some(version)) = (PicNo::new(n), Version::new(Author::new(device), n))
+    else {
+        return false;
+    };
+    match Vector::new(alloc).with(version) {
+        Ok(vector) => knowledge.learn(picture, &vector).is_ok(),
+        Err(_) => false,
     }
-    Some(())
 }
 
-/// A knowledge of twenty pictures.
-pub fn twenty(alloc: Global, device: u16) -> Option<Knowledge> {
+// Tells of each of the pictures 1 to 20.
+fn are_told(alloc: Global, knowledge: &mut Knowledge, device: u16) -> bool {
+    for n in 1..21u32 {
+        if !is_told(alloc, knowledge, device, n) {
+            return false;
+        }
+    }
+    true
+}
+
+// A knowledge of twenty pictures.
+fn twenty(alloc: Global, device: u16) -> Option<Knowledge> {
     let mut knowledge = Knowledge::new(alloc).ok()?;
-    tell_twenty(alloc, &mut knowledge, device)?;
-    Some(knowledge)
+    if are_told(alloc, &mut knowledge, device) {
+        Some(knowledge)
+    } else {
+        None
+    }
 }
 
 /// `knows`, `fragments`, `same` and what stands beside them.
 pub fn answer(alloc: Global, times: u32) -> Option<bool> {
     let one = twenty(alloc, 0)?;
+    answer_beside(alloc, &one, times)
+}
+
+fn answer_beside(alloc: Global, one: &Knowledge, times: u32) -> Option<bool> {
     let other = twenty(alloc, 1)?;
-    Some(answer_of(&one, &other, times))
+    Some(answer_of(one, &other, times))
 }
 
 fn answer_of(one: &Knowledge, other: &Knowledge, times: u32) -> bool {
@@ -59,9 +78,15 @@ fn knows_eleven(knowledge: &Knowledge) -> bool {
 /// `fragment`, and the readers of a fragment.
 pub fn answer_fragment(alloc: Global, times: u32) -> Option<bool> {
     let mut knowledge = twenty(alloc, 0)?;
-    let vector = vector_of(alloc, 3)?;
-    knowledge.learn(PicNo::new(11)?, &vector).ok()?;
-    Some(answer_of_fragments(&knowledge, times))
+    Some(is_told_twenty(alloc, &mut knowledge) && answer_of_fragments(&knowledge, times))
+}
+
+// Tells of the eleventh picture three versions of each of twenty devices.
+fn is_told_twenty(alloc: Global, knowledge: &mut Knowledge) -> bool {
+    match (PicNo::new(11), vector_of(alloc, 3)) {
+        (Some(picture), Some(vector)) => knowledge.learn(picture, &vector).is_ok(),
+        _ => false,
+    }
 }
 
 fn answer_of_fragments(knowledge: &Knowledge, times: u32) -> bool {
@@ -88,8 +113,12 @@ fn has_fragments(knowledge: &Knowledge) -> bool {
 /// `stage` of what is known already, `staged`, `commit`, `unstage` and `settle_bounds`.
 pub fn answer_staging(alloc: Global, times: u32) -> Option<bool> {
     let mut knowledge = twenty(alloc, 0)?;
+    answer_with_same(alloc, &mut knowledge, times)
+}
+
+fn answer_with_same(alloc: Global, knowledge: &mut Knowledge, times: u32) -> Option<bool> {
     let same = twenty(alloc, 0)?;
-    Some(answer_of_staging(&mut knowledge, &same, times))
+    Some(answer_of_staging(knowledge, &same, times))
 }
 
 fn answer_of_staging(knowledge: &mut Knowledge, same: &Knowledge, times: u32) -> bool {
@@ -121,13 +150,16 @@ fn stages_and_drops(knowledge: &mut Knowledge, same: &Knowledge) -> bool {
 /// `commit` of what was not known, once where any calls are asked for.
 pub fn answer_commit(alloc: Global, times: u32) -> Option<bool> {
     let mut knowledge = twenty(alloc, 0)?;
+    answer_with_other(alloc, &mut knowledge, times)
+}
+
+fn answer_with_other(alloc: Global, knowledge: &mut Knowledge, times: u32) -> Option<bool> {
     let other = twenty(alloc, 1)?;
-    knowledge.stage(&other).ok()?;
-    Some(answer_of_commit(&mut knowledge, &other, times))
+    Some(answer_of_commit(knowledge, &other, times))
 }
 
 fn answer_of_commit(knowledge: &mut Knowledge, other: &Knowledge, times: u32) -> bool {
-    if !knowledge.staged() || knowledge.has_all(other) {
+    if knowledge.stage(other).is_err() || !knowledge.staged() || knowledge.has_all(other) {
         return false;
     }
     if times == 0 {
@@ -159,15 +191,15 @@ pub fn first_known(alloc: Global) -> Option<Knowledge>
 /// `raise_own`, once where any calls are asked for.
 pub fn answer_raising(alloc: Global, times: u32) -> Option<bool> {
     match first_known(alloc) {
-        Some(knowledge) => answer_of_raising(knowledge, times),
+        Some(mut knowledge) => answer_of_raising(&mut knowledge, times),
         None => None,
     }
 }
 
-fn answer_of_raising(knowledge: Knowledge, times: u32) -> Option<bool>
-    requires star { (a : authors.Author) → star_bound knowledge.known a ≡ (if authors.same_author (authors.author 0) a then 1 else 0) }
+fn answer_of_raising(knowledge: &mut Knowledge, times: u32) -> Option<bool>
+    requires star { (a : authors.Author) → star_bound knowledge.old.known a ≡ (if authors.same_author (authors.author 0) a then 1 else 0) }
     requires known { (p : ℕ) (v : versions.Version) → 0 < p
-        → knows knowledge.known p v ≡ versions.same_version (versions.version (authors.author 0) 1) v }
+        → knows knowledge.old.known p v ≡ versions.same_version (versions.version (authors.author 0) 1) v }
 {
     let (Some(picture), Some(version)) = (PicNo::new(7), Version::new(Author::new(0), 2)) else {
         return None;
@@ -175,7 +207,6 @@ fn answer_of_raising(knowledge: Knowledge, times: u32) -> Option<bool>
     if times == 0 {
         return Some(true);
     }
-    let mut knowledge = knowledge;
     knowledge.raise_own(version);
     Some(knowledge.knows(picture, version))
 }
@@ -188,12 +219,16 @@ pub fn answer_copy(alloc: Global, times: u32) -> Option<bool> {
 
 fn answer_of_copies(knowledge: &Knowledge, times: u32) -> bool {
     for _ in 0..times {
-        if !knowledge
-            .try_clone()
-            .is_ok_and(|copy| copy.fragments() == 21)
-        {
+        if !is_copied(knowledge) {
             return false;
         }
     }
     true
+}
+
+fn is_copied(knowledge: &Knowledge) -> bool {
+    match knowledge.try_clone() {
+        Ok(copy) => copy.fragments() == 21,
+        Err(_) => false,
+    }
 }
