@@ -8,6 +8,7 @@ ghost use Rattle.item_knowledge.specs.Fragments.{knows};
 use crate::fleets::divided;
 use crate::runs::runs_command;
 use item_knowledge::Knowledge;
+use live_fleet::Fleet;
 use photo_device::{
     Change, ChangeFault, Device, Held, HeldSet, NarrowFault, Place, SharedHeld, SharedList,
     VersionList,
@@ -75,10 +76,12 @@ pub fn verdict_on_command(alloc: Global) -> Option<Verdict> {
 // What came of a call on a device that has made so many versions.
 fn on_device(alloc: Global, count: u8, call: Call) -> Option<Verdict> {
     let mut device = device(alloc, count)?;
-    match self::device(alloc, count) {
-        Some(twin) => on_twins(alloc, &mut device, &twin, call),
-        None => None,
-    }
+    beside_twin(alloc, &mut device, count, call)
+}
+
+fn beside_twin(alloc: Global, device: &mut Device, count: u8, call: Call) -> Option<Verdict> {
+    let twin = self::device(alloc, count)?;
+    on_twins(alloc, device, &twin, call)
 }
 
 fn on_twins(alloc: Global, device: &mut Device, twin: &Device, call: Call) -> Option<Verdict> {
@@ -417,15 +420,17 @@ fn is_five(alloc: Global, filter: &Filter) -> bool {
 
 fn conflicts(alloc: Global) -> Option<Verdict> {
     let fleet = divided(alloc)?;
-    match divided(alloc) {
-        Some(twin) => finds_or_leaves(alloc, fleet.devices(), twin.devices()),
-        None => None,
-    }
+    conflicts_beside_twin(alloc, &fleet)
 }
 
-fn finds_or_leaves(alloc: Global, devices: &[Device], twins: &[Device]) -> Option<Verdict> {
-    let right = finds_conflicts(alloc, devices.first()?);
-    Some(judged(right, same_devices(devices, twins)))
+fn conflicts_beside_twin(alloc: Global, fleet: &Fleet) -> Option<Verdict> {
+    let twin = divided(alloc)?;
+    finds_or_leaves(alloc, fleet, &twin)
+}
+
+fn finds_or_leaves(alloc: Global, fleet: &Fleet, twin: &Fleet) -> Option<Verdict> {
+    let right = finds_conflicts(alloc, fleet.devices().first()?);
+    Some(judged(right, same_devices(fleet.devices(), twin.devices())))
 }
 
 fn finds_conflicts(alloc: Global, device: &Device) -> Option<bool> {
@@ -491,11 +496,23 @@ fn lists(alloc: Global, set: &HeldSet) -> Option<bool> {
 
 // Asks a device for what it doesn't know of another one's store.
 fn asks(alloc: Global, device: &mut Device, call: Call) -> Option<bool> {
-    let mut other = Device::new(alloc, Author::new(1), filter_of(alloc, "all")?).ok()?;
-    make_all(alloc, &mut other, 2)?;
+    let other = other(alloc)?;
+    asks_for(alloc, device, &other, call)
+}
+
+fn asks_for(alloc: Global, device: &mut Device, other: &Device, call: Call) -> Option<bool> {
     match call {
         Call::Ask => asks_of(alloc, device, other.store()),
         _ => asks_lent(alloc, device, other.store()),
+    }
+}
+
+// Another device, which has made two versions.
+fn other(alloc: Global) -> Option<Device> {
+    let mut other = Device::new(alloc, Author::new(1), filter_of(alloc, "all")?).ok()?;
+    match make_all(alloc, &mut other, 2) {
+        Some(()) => Some(other),
+        None => None,
     }
 }
 

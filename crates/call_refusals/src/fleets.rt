@@ -120,10 +120,16 @@ pub fn divided(alloc: Global) -> Option<Fleet> {
 
 fn on_fleet(alloc: Global, call: Call) -> Option<Verdict> {
     let mut fleet = apart(alloc)?;
+    beside_twin(alloc, &mut fleet, call)
+}
+
+fn beside_twin(alloc: Global, fleet: &mut Fleet, call: Call) -> Option<Verdict>
+    requires devices { length fleet.old.devices ≡ 2 }
+    requires commands { fleet.old.commands ≤ 4 }
+{
     let twin = apart(alloc)?;
-    let right = calls(alloc, &mut fleet, call);
-    let unchanged = same_fleet(&fleet, &twin);
-    Some(judged(right, unchanged))
+    let right = calls(alloc, fleet, call);
+    Some(judged(right, same_fleet(fleet, &twin)))
 }
 
 /// Whether two fleets are the same, as far as public readers tell.
@@ -301,14 +307,21 @@ fn of_script(alloc: Global) -> Option<Verdict> {
 // What came of the first command of a script.
 fn on_script(alloc: Global) -> Option<Verdict> {
     let script = script_of(alloc, FOUR_DEVICES)?;
-    let mut fleet = Fleet::of_script(alloc, &script).ok()?;
-    match Fleet::of_script(alloc, &script) {
-        Ok(twin) => {
-            let right = runs_first(alloc, &mut fleet, &script);
-            Some(judged(right, same_fleet(&fleet, &twin)))
-        }
-        Err(_) => None,
-    }
+    on_its_fleet(alloc, &script)
+}
+
+fn on_its_fleet(alloc: Global, script: &Script) -> Option<Verdict> {
+    let mut fleet = Fleet::of_script(alloc, script).ok()?;
+    script_beside_twin(alloc, &mut fleet, script)
+}
+
+fn script_beside_twin(alloc: Global, fleet: &mut Fleet, script: &Script) -> Option<Verdict>
+    requires devices { length fleet.old.devices ≡ length script.now.names }
+    requires commands { fleet.old.commands ≡ 0 }
+{
+    let twin = Fleet::of_script(alloc, script).ok()?;
+    let right = runs_first(alloc, fleet, script);
+    Some(judged(right, same_fleet(fleet, &twin)))
 }
 
 fn runs_first(alloc: Global, fleet: &mut Fleet, script: &Script) -> Option<bool>
@@ -327,13 +340,16 @@ fn runs_first(alloc: Global, fleet: &mut Fleet, script: &Script) -> Option<bool>
 // What came of a fleet's first version, for which the log has no room yet.
 fn first_made(alloc: Global) -> Option<Verdict> {
     let mut fleet = two_devices(alloc)?;
-    match two_devices(alloc) {
-        Some(twin) => {
-            let right = makes_first(alloc, &mut fleet);
-            Some(judged(right, same_fleet(&fleet, &twin)))
-        }
-        None => None,
-    }
+    made_beside_twin(alloc, &mut fleet)
+}
+
+fn made_beside_twin(alloc: Global, fleet: &mut Fleet) -> Option<Verdict>
+    requires devices { length fleet.old.devices ≡ 2 }
+    requires commands { fleet.old.commands ≡ 0 }
+{
+    let twin = two_devices(alloc)?;
+    let right = makes_first(alloc, fleet);
+    Some(judged(right, same_fleet(fleet, &twin)))
 }
 
 fn makes_first(alloc: Global, fleet: &mut Fleet) -> Option<bool>
@@ -371,13 +387,16 @@ fn make_one(alloc: Global, fleet: &mut Fleet) -> Option<()>
 // What came of a pull into a device whose store has no room yet.
 fn first_pulled(alloc: Global) -> Option<Verdict> {
     let mut fleet = with_one(alloc)?;
-    match with_one(alloc) {
-        Some(twin) => {
-            let right = pulls_first(alloc, &mut fleet);
-            Some(judged(right, same_fleet(&fleet, &twin)))
-        }
-        None => None,
-    }
+    pulled_beside_twin(alloc, &mut fleet)
+}
+
+fn pulled_beside_twin(alloc: Global, fleet: &mut Fleet) -> Option<Verdict>
+    requires devices { length fleet.old.devices ≡ 2 }
+    requires commands { fleet.old.commands ≤ 4 }
+{
+    let twin = with_one(alloc)?;
+    let right = pulls_first(alloc, fleet);
+    Some(judged(right, same_fleet(fleet, &twin)))
 }
 
 fn pulls_first(alloc: Global, fleet: &mut Fleet) -> Option<bool>

@@ -15,10 +15,14 @@ use value_refusals::{Verdict, judged, mark};
 /// What came of a pull.
 pub fn verdict(alloc: Global, call: Call) -> Option<Verdict> {
     let mut devices = devices_before(alloc)?;
-    match devices_before(alloc) {
-        Some(twins) => Some(on_twins(alloc, devices.as_mut_slice(), twins.as_slice(), call)),
-        None => None,
-    }
+    beside_twins(alloc, devices.as_mut_slice(), call)
+}
+
+fn beside_twins(alloc: Global, devices: &mut [Device], call: Call) -> Option<Verdict>
+    requires ready { AreReady devices.old }
+{
+    let twins = devices_before(alloc)?;
+    Some(on_twins(alloc, devices, twins.as_slice(), call))
 }
 
 fn on_twins(alloc: Global, devices: &mut [Device], twins: &[Device], call: Call) -> Verdict

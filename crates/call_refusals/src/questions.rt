@@ -11,13 +11,13 @@ use value_refusals::{Verdict, filter_of, judged, mark};
 /// of them.
 pub fn verdict(alloc: Global, call: &str) -> Option<Verdict> {
     let fleet = divided(alloc)?;
-    match divided(alloc) {
-        Some(twin) => {
-            let right = asks(alloc, &fleet, call)?;
-            Some(judged(right, same_fleet(&fleet, &twin)))
-        }
-        None => None,
-    }
+    let right = asks(alloc, &fleet, call)?;
+    beside_twin(alloc, &fleet, right)
+}
+
+fn beside_twin(alloc: Global, fleet: &Fleet, right: Option<bool>) -> Option<Verdict> {
+    let twin = divided(alloc)?;
+    Some(judged(right, same_fleet(fleet, &twin)))
 }
 
 // Whether the answer is the right one: None where no call has the name, and within where memory was wanted.

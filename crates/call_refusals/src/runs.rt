@@ -63,12 +63,16 @@ pub fn runs_command(alloc: Global, device: &mut Device) -> Option<bool> {
 
 fn log(alloc: Global) -> Option<Verdict> {
     let device = device(alloc, 2)?;
+    log_of(alloc, &device)
+}
+
+fn log_of(alloc: Global, device: &Device) -> Option<Verdict> {
     let issued = device.store().to_list().ok()?.into_vec();
     mark(alloc);
     let log = IssueLog::new(alloc, issued);
     mark(alloc);
     Some(match log {
-        Ok(log) => judged(Some(has_two(&log, &device)), true),
+        Ok(log) => judged(Some(has_two(&log, device)), true),
         Err(_) => Verdict::Refused,
     })
 }
@@ -89,8 +93,12 @@ fn opens(alloc: Global, script: &Script) -> Option<bool> {
     let devices = opening_devices(alloc, script);
     mark(alloc);
     let devices = devices.ok()?;
+    are_opened(alloc, devices.as_slice(), script)
+}
+
+fn are_opened(alloc: Global, devices: &[Device], script: &Script) -> Option<bool> {
     let twins = opening_devices(alloc, script).ok()?;
-    Some(devices.len() == 4 && same_devices(devices.as_slice(), twins.as_slice()))
+    Some(devices.len() == 4 && same_devices(devices, twins.as_slice()))
 }
 
 fn opens_one(alloc: Global, script: &Script) -> Option<bool> {
@@ -101,8 +109,12 @@ fn opens_one(alloc: Global, script: &Script) -> Option<bool> {
     let device = opening_device(alloc, 3, script.filter(3));
     mark(alloc);
     let device = device.ok()?;
+    is_fourth(alloc, &device, script)
+}
+
+fn is_fourth(alloc: Global, device: &Device, script: &Script) -> Option<bool> {
     let devices = opening_devices(alloc, script).ok()?;
-    Some(devices.len() == 4 && same_device(&device, &devices[3]))
+    Some(devices.len() == 4 && same_device(device, &devices[3]))
 }
 
 fn makes_reports(alloc: Global) -> Option<bool> {

@@ -61,13 +61,17 @@ fn of_script(alloc: Global) -> Option<Verdict> {
 
 fn on_session(alloc: Global, call: &str) -> Option<Verdict> {
     let mut session = begun(alloc)?;
-    match begun(alloc) {
-        Some(twin) => {
-            let right = calls(alloc, &mut session, call)?;
-            Some(judged(right, same_fleet(session.fleet(), twin.fleet())))
-        }
-        None => None,
-    }
+    let right = calls(alloc, &mut session, call)?;
+    beside_twin(alloc, &session, right)
+}
+
+fn beside_twin(alloc: Global, session: &Session, right: Option<bool>) -> Option<Verdict> {
+    let twin = begun(alloc)?;
+    Some(judged(right, same_session(session, &twin)))
+}
+
+fn same_session(one: &Session, other: &Session) -> bool {
+    same_fleet(one.fleet(), other.fleet())
 }
 
 // Whether the answer is the right one: None where no call has the name, and within where memory was wanted.
