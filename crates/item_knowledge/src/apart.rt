@@ -3,9 +3,8 @@
 ghost use Rattle.std.specs.Prelude.{◌≡◌, ◌+◌, ◌*◌, ◌<◌, ◌≤◌, [], ◌∷◌, ◌++◌, true, length, get_or, IfOk, IfSome, OnOk};
 ghost use Rattle.fragment_arena.specs.Arena.{run};
 ghost use Rattle.item_knowledge.specs.Apart.{AddsNothing, Stays, AreThere, AreApart, AreUnseen, AreTold, IsSpread, spread_of};
-ghost use Rattle.item_knowledge.specs.Entries.{is_vector};
 ghost use Rattle.item_knowledge.specs.Fragments.{is_normal, entries_at};
-ghost use Rattle.item_knowledge.specs.Gathering.{IsSide, pair_vector, groups_of, index_of, star_first};
+ghost use Rattle.item_knowledge.specs.Gathering.{pair_vector, groups_of, index_of, star_first};
 ghost use Rattle.item_knowledge.specs.Rows.{pairs, IsRow, AreRows, fragments_of, rows_of};
 ghost use Rattle.item_knowledge.specs.Tables.{in_order};
 ghost use Rattle.item_knowledge.specs.Seen.{IsSeen};
@@ -23,19 +22,15 @@ use std::alloc::{AllocError, Global};
 
 // Whether the right's fragment `b` has nothing beyond the left's `a`, where the right's star has nothing beyond the left's.
 #[inline(always)]
-fn adds_nothing(left: &Rows, right: &Rows, a: usize, b: usize) -> bool
-    requires left_rows { AreRows left.now }
-    requires right_rows { AreRows right.now }
-    requires a { a < length (fragments_of left.now) }
-    requires b { b < length (fragments_of right.now) }
-    requires order { in_order (entries_at (fragments_of left.now) a) ≡ true }
-    requires vector { is_vector (entries_at (fragments_of right.now) b) ≡ true }
-    ensures { result ≡ true → AddsNothing (fragments_of left.now) (fragments_of right.now) a b }
+fn adds_nothing(left: Side<'_>, right: Side<'_>, a: usize, b: usize) -> bool
+    requires a { a < length (fragments_of left.rows.now) }
+    requires b { b < length (fragments_of right.rows.now) }
+    ensures { result ≡ true → AddsNothing (fragments_of left.entry.rows.now) (fragments_of right.entry.rows.now) a b }
 {
     if b == 0 {
         return true;
     }
-    is_leq(entries(right, b), entries(left, a))
+    is_leq(entries(right.rows, b), entries(left.rows, a))
 }
 
 // Whether a picture is the only one of a fragment.
@@ -57,14 +52,10 @@ fn is_alone(rows: &Rows, number: usize, picture: u32) -> bool
 // Whether the left's fragment `a` comes as it stands for a picture: the star is the left's, the picture is alone in it, and the
 // right's `b` has nothing beyond it.
 #[inline(always)]
-fn stays(left: &Rows, right: &Rows, is_raised: bool, picture: u32, a: usize, b: usize) -> bool
-    requires left_rows { AreRows left.now }
-    requires right_rows { AreRows right.now }
-    requires a { a < length (fragments_of left.now) }
-    requires b { b < length (fragments_of right.now) }
-    requires order { in_order (entries_at (fragments_of left.now) a) ≡ true }
-    requires vector { is_vector (entries_at (fragments_of right.now) b) ≡ true }
-    ensures { result ≡ true → Stays left.now right.now is_raised picture a b }
+fn stays(left: Side<'_>, right: Side<'_>, is_raised: bool, picture: u32, a: usize, b: usize) -> bool
+    requires a { a < length (fragments_of left.rows.now) }
+    requires b { b < length (fragments_of right.rows.now) }
+    ensures { result ≡ true → Stays left.entry.rows.now right.entry.rows.now is_raised picture a b }
 {
     if is_raised {
         return false;
@@ -72,7 +63,7 @@ fn stays(left: &Rows, right: &Rows, is_raised: bool, picture: u32, a: usize, b: 
     if a == 0 {
         return false;
     }
-    if !is_alone(left, a, picture) {
+    if !is_alone(left.rows, a, picture) {
         return false;
     }
     adds_nothing(left, right, a, b)
@@ -155,7 +146,7 @@ fn spread(
     let mut to = 1;
     let mut pairing = Pairing::new();
     while let Some((picture, (a, b))) = pairing.next(left.index, right.index) {
-        if stays(left.rows, right.rows, is_raised, picture, a, b) {
+        if stays(left, right, is_raised, picture, a, b) {
             from = run_to(left.rows, from, to, a, out)?;
             to = a + 1;
             let number = to_u32(index.len() + 1)?;

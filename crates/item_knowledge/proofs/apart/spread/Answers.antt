@@ -6,7 +6,6 @@ use Rattle.item_knowledge.specs.Rows.{pairs, fragments_of}
 use Rattle.item_knowledge.proofs.FragmentLemmas.{entries_decide}
 use Rattle.item_knowledge.proofs.OnTheWay.{IsPair}
 use Rattle.item_knowledge.proofs.RowLemmas.{rows_read}
-use Rattle.item_knowledge.proofs.UnionLemmas.{above, entries_order}
 use Rattle.item_knowledge.proofs.WayLemmas.{not_raised, on_first, row_inside, on_star, on_stays, on_joined, on_all}
 use Rattle.item_knowledge.proofs.apart.spread.Goals as goal
 
@@ -22,18 +21,6 @@ pub stays-requires-clause-b : goal.stays-requires-clause-b
 stays-requires-clause-b c =
     let r : ℕ × (ℕ × ℕ) = (c.in-Some.picture, (c.in-Some.a, c.in-Some.b)) in
     (row_inside c.args.left.rows.now c.args.right.rows.now c.args.left.index.now c.args.right.index.now c.args.star.now c.loop-picture.out c.loop-picture.index.items c.loop-picture.joined.items c.loop-picture.pairing c.loop-picture.from c.loop-picture.to c.loop-picture.invariant c.next.new.self r c.args.left.side c.args.right.side c.in-Some.ensures.next).1
-
-pub stays-requires-clause-order : goal.stays-requires-clause-order
-stays-requires-clause-order c =
-    let r : ℕ × (ℕ × ℕ) = (c.in-Some.picture, (c.in-Some.a, c.in-Some.b)) in
-    let there = row_inside c.args.left.rows.now c.args.right.rows.now c.args.left.index.now c.args.right.index.now c.args.star.now c.loop-picture.out c.loop-picture.index.items c.loop-picture.joined.items c.loop-picture.pairing c.loop-picture.from c.loop-picture.to c.loop-picture.invariant c.next.new.self r c.args.left.side c.args.right.side c.in-Some.ensures.next in
-    entries_order (fragments_of c.args.left.rows.now) c.args.left.index.now c.in-Some.a c.args.left.side there.0
-
-pub stays-requires-clause-vector : goal.stays-requires-clause-vector
-stays-requires-clause-vector c =
-    let r : ℕ × (ℕ × ℕ) = (c.in-Some.picture, (c.in-Some.a, c.in-Some.b)) in
-    let there = row_inside c.args.left.rows.now c.args.right.rows.now c.args.left.index.now c.args.right.index.now c.args.star.now c.loop-picture.out c.loop-picture.index.items c.loop-picture.joined.items c.loop-picture.pairing c.loop-picture.from c.loop-picture.to c.loop-picture.invariant c.next.new.self r c.args.left.side c.args.right.side c.in-Some.ensures.next in
-    (above (fragments_of c.args.right.rows.now) c.args.right.index.now c.in-Some.b c.args.right.side there.1).vector
 
 pub run_to-requires-clause-there : goal.run_to-requires-clause-there
 run_to-requires-clause-there c =
