@@ -17,3 +17,4 @@ pub mod Laws
 pub mod Examples
 pub mod Pairing
 pub mod Apart
+pub mod Sides

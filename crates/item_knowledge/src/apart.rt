@@ -8,6 +8,7 @@ ghost use Rattle.item_knowledge.specs.Gathering.{pair_vector, groups_of, index_o
 ghost use Rattle.item_knowledge.specs.Rows.{pairs, IsRow, AreRows, fragments_of, rows_of};
 ghost use Rattle.item_knowledge.specs.Tables.{in_order};
 ghost use Rattle.item_knowledge.specs.Seen.{IsSeen};
+ghost use Rattle.item_knowledge.specs.Sides.{fragments};
 
 use crate::gather::same_row;
 use crate::index::{IndexEntry, to_u32};
@@ -23,9 +24,9 @@ use std::alloc::{AllocError, Global};
 // Whether the right's fragment `b` has nothing beyond the left's `a`, where the right's star has nothing beyond the left's.
 #[inline(always)]
 fn adds_nothing(left: Side<'_>, right: Side<'_>, a: usize, b: usize) -> bool
-    requires a { a < length (fragments_of left.rows.now) }
-    requires b { b < length (fragments_of right.rows.now) }
-    ensures { result ≡ true → AddsNothing (fragments_of left.entry.rows.now) (fragments_of right.entry.rows.now) a b }
+    requires a { a < length (fragments left) }
+    requires b { b < length (fragments right) }
+    ensures { result ≡ true → AddsNothing (fragments left.entry) (fragments right.entry) a b }
 {
     if b == 0 {
         return true;
@@ -53,8 +54,8 @@ fn is_alone(rows: &Rows, number: usize, picture: u32) -> bool
 // right's `b` has nothing beyond it.
 #[inline(always)]
 fn stays(left: Side<'_>, right: Side<'_>, is_raised: bool, picture: u32, a: usize, b: usize) -> bool
-    requires a { a < length (fragments_of left.rows.now) }
-    requires b { b < length (fragments_of right.rows.now) }
+    requires a { a < length (fragments left) }
+    requires b { b < length (fragments right) }
     ensures { result ≡ true → Stays left.entry.rows.now right.entry.rows.now is_raised picture a b }
 {
     if is_raised {
@@ -129,14 +130,14 @@ fn spread(
     joined: &mut Vec<IndexEntry>,
     out: &mut Rows,
 ) -> Result<(), AllocError>
-    requires normal { is_normal (fragments_of left.rows.now) ≡ true }
+    requires normal { is_normal (fragments left) ≡ true }
     requires star_row { IsRow star.now }
-    requires star { pairs star.now ≡ pair_vector (fragments_of left.rows.now) (fragments_of right.rows.now) (0, 0) }
+    requires star { pairs star.now ≡ pair_vector (fragments left) (fragments right) (0, 0) }
     requires index { index.old.items ≡ [] }
     requires joined { joined.old.items ≡ [] }
     requires out { out.old ≡ [] ∷ star.now ∷ [] }
     ensures { OnOk result (IsSpread left.entry.rows.now (pairs star.now)
-        (spread_of (fragments_of left.entry.rows.now) (fragments_of right.entry.rows.now) left.entry.index.now right.entry.index.now)
+        (spread_of (fragments left.entry) (fragments right.entry) left.entry.index.now right.entry.index.now)
         out.new index.new.items joined.new.items) }
 {
     // For its fact alone: the rows are fewer than 2 ^ 63.
@@ -244,15 +245,15 @@ pub(crate) fn apart(
     seen: &Seen,
     out: &mut Rows,
 ) -> Result<Option<Vec<IndexEntry>>, AllocError>
-    requires normal { is_normal (fragments_of left.rows.now) ≡ true }
+    requires normal { is_normal (fragments left) ≡ true }
     requires seen { IsSeen seen.now.words.items left.rows.now }
     requires star_row { IsRow star.now }
-    requires star { pairs star.now ≡ pair_vector (fragments_of left.rows.now) (fragments_of right.rows.now) (0, 0) }
+    requires star { pairs star.now ≡ pair_vector (fragments left) (fragments right) (0, 0) }
     ensures rows { IfOk result (λ found. IfSome found (λ _. out.new
         ≡ rows_of (star_first (pairs star.now)
-        (groups_of (fragments_of left.entry.rows.now) (fragments_of right.entry.rows.now) left.entry.index.now right.entry.index.now)))) }
+        (groups_of (fragments left.entry) (fragments right.entry) left.entry.index.now right.entry.index.now)))) }
     ensures index { IfOk result (λ found. IfSome found (λ index. index.items
-        ≡ index_of (fragments_of left.entry.rows.now) (fragments_of right.entry.rows.now) left.entry.index.now right.entry.index.now)) }
+        ≡ index_of (fragments left.entry) (fragments right.entry) left.entry.index.now right.entry.index.now)) }
 {
     // Where some fragment has several pictures two of them mostly have the same vector then too.
     if left.rows.rows() / 2 <= left.index.len() || right.rows.rows() / 2 <= right.index.len() {

@@ -6,6 +6,7 @@ ghost use Rattle.item_knowledge.specs.Kept.{is_side_within};
 ghost use Rattle.item_knowledge.specs.Places.{IsFound, Placed, vectors_at};
 ghost use Rattle.item_knowledge.specs.Rows.{pairs, IsRow, AreRows, fragments_of, rows_of, grouped};
 ghost use Rattle.item_knowledge.specs.Seen.{IsSeen};
+ghost use Rattle.item_knowledge.specs.Sides.{fragments};
 
 use crate::apart::apart;
 use crate::gather::{add, same_row};
@@ -45,10 +46,10 @@ pub(crate) fn pair<'a>(
     b: usize,
     room: &'a mut Vec<u64>,
 ) -> Result<&'a [u64], AllocError>
-    requires a { a < length (fragments_of left.rows.now) }
-    requires b { b < length (fragments_of right.rows.now) }
+    requires a { a < length (fragments left) }
+    requires b { b < length (fragments right) }
     ensures row { IfOk result (λ row. IsRow row.now) }
-    ensures entries { IfOk result (λ row. pairs row.now ≡ pair_vector (fragments_of left.entry.rows.now) (fragments_of right.entry.rows.now) (a, b)) }
+    ensures entries { IfOk result (λ row. pairs row.now ≡ pair_vector (fragments left.entry) (fragments right.entry) (a, b)) }
 {
     let one = entries(left.rows, a);
     let other = entries(right.rows, b);
@@ -111,15 +112,15 @@ fn groups(
     places: &mut Places,
 ) -> Result<(Vec<Group>, Vec<IndexEntry>), AllocError>
     requires star_row { IsRow star.now }
-    requires star { pairs star.now ≡ pair_vector (fragments_of left.rows.now) (fragments_of right.rows.now) (0, 0) }
+    requires star { pairs star.now ≡ pair_vector (fragments left) (fragments right) (0, 0) }
     requires empty { vectors.old ≡ [] }
     requires none { places.old.numbers.items ≡ [] }
     requires found { (rows : List (List ℕ)) → IsFound places.old rows }
     ensures placed { IfOk result (λ all. Placed places.new vectors.new all.0.items) }
     ensures groups { IfOk result (λ all. grouped all.0.items (vectors_at vectors.new places.new.numbers.items)
-        ≡ groups_of (fragments_of left.entry.rows.now) (fragments_of right.entry.rows.now) left.entry.index.now right.entry.index.now) }
+        ≡ groups_of (fragments left.entry) (fragments right.entry) left.entry.index.now right.entry.index.now) }
     ensures index { IfOk result (λ all. all.1.items
-        ≡ index_of (fragments_of left.entry.rows.now) (fragments_of right.entry.rows.now) left.entry.index.now right.entry.index.now) }
+        ≡ index_of (fragments left.entry) (fragments right.entry) left.entry.index.now right.entry.index.now) }
 {
     let mut groups = Vec::new(alloc);
     let mut index = Vec::with_capacity(alloc, pictures_together(left.index, right.index))?;
@@ -145,11 +146,11 @@ pub(crate) fn union(
     seen: &Seen,
     out: &mut Rows,
 ) -> Result<Vec<IndexEntry>, AllocError>
-    requires normal { is_normal (fragments_of left.rows.now) ≡ true }
+    requires normal { is_normal (fragments left) ≡ true }
     requires seen { IsSeen seen.now.words.items left.rows.now }
     ensures rows { OnOk result (AreRows out.new) }
-    ensures union { IfOk result (λ index. IsUnion (fragments_of left.entry.rows.now) left.entry.index.now (fragments_of right.entry.rows.now) right.entry.index.now
-        (fragments_of out.new) index.items) }
+    ensures union { IfOk result (λ index. IsUnion (fragments left.entry) left.entry.index.now
+        (fragments right.entry) right.entry.index.now (fragments_of out.new) index.items) }
 {
     let mut room = Vec::new(alloc);
     let star = pair(left, right, 0, 0, &mut room)?;

@@ -2,7 +2,8 @@ use Rattle.std.proofs.Common.{rules, ◌≡◌, ℕ, ◌+◌, true, false, not, 
 use Rattle.item_knowledge.specs.Apart.{Stays}
 use Rattle.item_knowledge.specs.Entries.{same_entries}
 use Rattle.item_knowledge.specs.Gathering.{pair_vector}
-use Rattle.item_knowledge.specs.Rows.{pairs, fragments_of}
+use Rattle.item_knowledge.specs.Rows.{pairs}
+use Rattle.item_knowledge.specs.Sides.{fragments}
 use Rattle.item_knowledge.proofs.FragmentLemmas.{entries_decide}
 use Rattle.item_knowledge.proofs.OnTheWay.{IsPair}
 use Rattle.item_knowledge.proofs.RowLemmas.{rows_read}
@@ -57,14 +58,14 @@ pair-requires-clause-b c =
 pub loop-picture-preserved-then-same_row : goal.loop-picture-preserved-then-same_row
 loop-picture-preserved-then-same_row c =
     let r : ℕ × (ℕ × ℕ) = (c.in-Some.picture, (c.in-Some.a, c.in-Some.b)) in
-    let f = pair_vector (fragments_of c.args.left.rows.now) (fragments_of c.args.right.rows.now) in
+    let f = pair_vector (fragments c.args.left) (fragments c.args.right) in
     let same : same_entries (f (0, 0)) (f r.1) ≡ true = (λ j. same_entries (sym c.requires.star j) (sym c.in_ok-row.ensures.entries j)) ∙ (sym c.same_row.ensures ∙ search rules) in
     on_star c.args.left.rows.now c.args.right.rows.now c.args.left.index.now c.args.right.index.now c.args.star.now c.loop-picture.out c.loop-picture.index.items c.loop-picture.joined.items c.loop-picture.pairing c.loop-picture.from c.loop-picture.to c.loop-picture.invariant c.next.new.self r c.in-Some.ensures.next same
 
 pub loop-picture-preserved : goal.loop-picture-preserved
 loop-picture-preserved c =
     let r : ℕ × (ℕ × ℕ) = (c.in-Some.picture, (c.in-Some.a, c.in-Some.b)) in
-    let f = pair_vector (fragments_of c.args.left.rows.now) (fragments_of c.args.right.rows.now) in
+    let f = pair_vector (fragments c.args.left) (fragments c.args.right) in
     let other : same_entries (f (0, 0)) (f r.1) ≡ false = (λ j. same_entries (sym c.requires.star j) (sym c.in_ok-row.ensures.entries j)) ∙ (sym c.same_row.ensures ∙ search rules) in
     let number : c.in_ok-number-2.number ≡ length c.loop-picture.index.items + 1 = c.in_ok-number-2.ensures.value ∙ search rules in
     on_joined c.args.left.rows.now c.args.right.rows.now c.args.left.index.now c.args.right.index.now c.args.star.now c.loop-picture.out c.loop-picture.index.items c.loop-picture.joined.items c.loop-picture.pairing c.loop-picture.from c.loop-picture.to c.loop-picture.invariant c.next.new.self r c.place_behind.new.out c.push-in-Some.new.self.items c.push-in-Some-2.new.self.items c.in_ok-row.row.now c.in-Some.ensures.next c.in_ok-row.ensures.row c.in_ok-row.ensures.entries other (search rules)

@@ -2,7 +2,8 @@ use Rattle.std.proofs.Common.{ℕ}
 use Rattle.item_knowledge.specs.Gathering.{paired, pair_vector, groups_of, index_of}
 use Rattle.item_knowledge.specs.Pairing.{to_come, IsAlong}
 use Rattle.item_knowledge.specs.Places.{Placed, vectors_at}
-use Rattle.item_knowledge.specs.Rows.{fragments_of, grouped}
+use Rattle.item_knowledge.specs.Rows.{grouped}
+use Rattle.item_knowledge.specs.Sides.{fragments}
 use Rattle.item_knowledge.proofs.OnTheWay.{IsGathered}
 use Rattle.item_knowledge.proofs.union.groups.Given as goal
 
@@ -10,8 +11,8 @@ abbrev pub invariant-loop-picture : goal.invariant-loop-picture
 invariant-loop-picture l = record {
   place : ℕ;
   along : IsAlong l.left.index.now l.right.index.now l.pairing place;
-  gathered : IsGathered (pair_vector (fragments_of l.left.rows.now) (fragments_of l.right.rows.now) (0, 0)) (pair_vector (fragments_of l.left.rows.now) (fragments_of l.right.rows.now)) (paired l.left.index.now l.right.index.now) (grouped l.groups.items (vectors_at l.vectors l.places.numbers.items)) l.index.items place
-      (groups_of (fragments_of l.left.rows.now) (fragments_of l.right.rows.now) l.left.index.now l.right.index.now) (index_of (fragments_of l.left.rows.now) (fragments_of l.right.rows.now) l.left.index.now l.right.index.now);
+  gathered : IsGathered (pair_vector (fragments l.left) (fragments l.right) (0, 0)) (pair_vector (fragments l.left) (fragments l.right)) (paired l.left.index.now l.right.index.now) (grouped l.groups.items (vectors_at l.vectors l.places.numbers.items)) l.index.items place
+      (groups_of (fragments l.left) (fragments l.right) l.left.index.now l.right.index.now) (index_of (fragments l.left) (fragments l.right) l.left.index.now l.right.index.now);
   placed : Placed l.places l.vectors l.groups.items;
 }
 
