@@ -14,9 +14,8 @@ use Rattle.photo_device.specs.Device.{Kept, ModelDevice, Shows, holds, known, op
 use Rattle.photo_script.specs.Runs.{device_at}
 use Rattle.photo_pull.proofs.Members.{any_map}
 use Rattle.fleet_steps.specs.Members.{In, here, there}
-use Rattle.fleet_steps.specs.Between.{AreReady}
-use Rattle.fleet_steps.specs.Ready.{IsReady, IsKnownTo}
-use Rattle.fleet_steps.proofs.Members.{in_nothing, in_left, in_right, any_from, any_gives}
+use Rattle.fleet_steps.specs.Ready.{IsReady}
+use Rattle.fleet_steps.proofs.Members.{in_left, in_right, any_from, any_gives}
 use Rattle.fleet_steps.proofs.Zipped.{zip_at, zip_long}
 use Rattle.live_fleet.specs.Fleets.{KeptFleet, CameAbout, after_commands}
 use Rattle.live_fleet.proofs.Histories.{came_sound, ready_after}

@@ -7,7 +7,7 @@ use photo_device::{Device, Place};
 use photo_filter_rules::Filter;
 use photo_pull::PullCounts;
 use photo_record::{PicNo, Record};
-use photo_script::{Command, Report, Script, report_text};
+use photo_script::{Command, Report, Script};
 use photo_version::Version;
 use std::alloc::{AllocError, Global};
 use std::marker::Model;

@@ -1,22 +1,20 @@
 -- What commands lead to, command by command.
 use Rattle.std.proofs.Common.{◌≡◌, ℕ, zero, suc, ◌+◌, ◌<◌, ◌≤◌, List, [], ◌∷◌, ◌++◌, inl, inr, length, take, refl, sym, ap, ◌∙◌, subst, subst₂, add-one, le_refl, length-append, arith}
-use Rattle.std.specs.Prelude.{IfSome, fold}
+use Rattle.std.specs.Prelude.{fold}
 use Rattle.std.specs.List.{AllZip, AllByRecursion}
-use Rattle.std.specs.Option.{option_map}
 use Rattle.std.proofs.lemmas.List.{take_more, take_all}
 use Rattle.std.proofs.lemmas.List.Sums.{fold-append}
 use Rattle.std.proofs.lemmas.Option.{slice_get_cases}
 use Rattle.photo_record.specs.declared.record.Record.{Record}
-use Rattle.photo_filter_text.specs.Tree.{Tree, All}
+use Rattle.photo_filter_text.specs.Tree.{Tree}
 use Rattle.photo_filter_rules.specs.Matching.{IsInRange}
-use Rattle.photo_version.specs.Author.{author}
 use Rattle.photo_device.specs.declared.held.Held.{Held}
 use Rattle.photo_device.specs.Entry.{Entry}
 use Rattle.photo_device.specs.Held.{entries_of}
-use Rattle.photo_device.specs.Device.{Kept, ModelDevice, Shows, opening}
+use Rattle.photo_device.specs.Device.{Kept, ModelDevice, Shows}
 use Rattle.photo_script.specs.declared.command.Command.{Command}
-use Rattle.photo_script.specs.Contents.{Contents, contents, devices_of, IsWithin}
-use Rattle.photo_script.specs.Runs.{Fleet, device_at, opening_from, opening_fleet, after_command, step, run_in_order, numbers_to}
+use Rattle.photo_script.specs.Contents.{Contents, contents, IsWithin}
+use Rattle.photo_script.specs.Runs.{Fleet, opening_from, opening_fleet, after_command, step, run_in_order, numbers_to}
 use Rattle.fleet_steps.specs.Between.{AreReady, AreSettled, HaveRoom, effect_on, devices_after}
 use Rattle.fleet_steps.proofs.Zipped.{zip_long}
 use Rattle.fleet_steps.proofs.About.{all_push}

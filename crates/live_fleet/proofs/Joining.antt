@@ -1,5 +1,5 @@
 -- A device that comes later: the fleet is as if it had been there from the beginning, since nobody has named it.
-use Rattle.std.proofs.Common.{◌≡◌, ◌≢◌, ℕ, ◌+◌, ◌<◌, ◌≤◌, List, [], ◌∷◌, ◌++◌, length, set, refl, sym, ap, ◌∙◌, subst, arith, length-append}
+use Rattle.std.proofs.Common.{◌≡◌, ◌≢◌, ℕ, ◌+◌, ◌<◌, List, [], ◌∷◌, ◌++◌, length, set, refl, sym, ap, ◌∙◌, subst, arith, length-append}
 use Rattle.std.specs.Prelude.{Option, Some, None, IfSome, fold}
 use Rattle.std.specs.List.{AllZip, AllByRecursion}
 use Rattle.std.specs.Option.{option_map}
@@ -14,7 +14,7 @@ use Rattle.fleet_steps.proofs.Zipped.{zip_long, zip_push}
 use Rattle.fleet_steps.proofs.About.{all_are, all_push}
 use Rattle.fleet_steps.proofs.Runs.{long_after}
 use Rattle.fleet_steps.proofs.Shown.{opening_from-push}
-use Rattle.live_fleet.specs.Fleets.{KeptFleet, ShowsFleet, AreAlike, HasJoined, CameAbout, after_commands, with_device}
+use Rattle.live_fleet.specs.Fleets.{KeptFleet, AreAlike, HasJoined, CameAbout, after_commands}
 use Rattle.live_fleet.proofs.Histories.{alike_after, ran, opened, is_folded, within_opened, came_after}
 
 -- one device more behind those of a model fleet

@@ -1,11 +1,11 @@
 -- What a fleet answers speaks of its own devices alone.
-use Rattle.std.proofs.Common.{◌≡◌, ℕ, ◌+◌, ◌<◌, ◌≤◌, List, [], ◌∷◌, length, sym, ◌∙◌, subst, le_refl, arith}
+use Rattle.std.proofs.Common.{◌≡◌, ℕ, ◌+◌, ◌<◌, ◌≤◌, List, [], ◌∷◌, length, sym, subst, le_refl, arith}
 use Rattle.std.specs.Prelude.{IfSome, fold}
-use Rattle.std.specs.List.{AllZip, AllByRecursion}
+use Rattle.std.specs.List.{AllByRecursion}
 use Rattle.std.specs.Option.{option_map}
 use Rattle.photo_filter_text.specs.Tree.{Tree, All}
 use Rattle.photo_version.specs.Author.{author, epoch_of_author}
-use Rattle.photo_device.specs.Device.{Kept, ModelDevice, Shows, opening}
+use Rattle.photo_device.specs.Device.{ModelDevice, Shows, opening}
 use Rattle.photo_script.specs.declared.command.Command.{Command}
 use Rattle.photo_script.specs.Contents.{Contents, devices_of, IsWithin}
 use Rattle.photo_script.specs.Reports.{Answer, Tells}

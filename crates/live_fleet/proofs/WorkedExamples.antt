@@ -1,5 +1,5 @@
 -- The worked fleets: what computes does so by the definitions alone.
-use Rattle.std.proofs.Common.{◌≡◌, ℕ, ◌≤◌, Bool, true, false, eqb, leb, ◌&&◌, ◌||◌, List, [], ◌∷◌, refl, sym, ap, ◌∙◌, subst, arith}
+use Rattle.std.proofs.Common.{◌≤◌, eqb, List, [], ◌∷◌, refl, sym, subst, arith}
 use Rattle.std.specs.List.{AllZip}
 use Rattle.photo_filter_text.specs.Tree.{All}
 use Rattle.photo_device.proofs.OwnLemmas.{up_to_one}

@@ -13,10 +13,10 @@ ghost use Rattle.photo_device.specs.Telling.{tells};
 
 use crate::table::gain_of;
 use crate::takes::sort_in;
-use crate::{HeldSet, SharedHeld, SharedList};
+use crate::{HeldSet, SharedList};
 use item_knowledge::Knowledge;
 use photo_filter_rules::Filter;
-use std::alloc::{AllocError, Global};
+use std::alloc::AllocError;
 
 /// What two sets hold, sorted anew, and what it tells.
 #[derive(Debug, Drop)]

@@ -1,5 +1,5 @@
 -- Machinery of the proofs: what the code finds between two devices is what `OnHeld` says, and is staged on one of them.
-use Rattle.std.specs.Prelude.{◌≡◌, ℕ, ◌<◌, true, if◌then◌else◌, List, ◌++◌}
+use Rattle.std.specs.Prelude.{◌≡◌, ℕ, ◌<◌, true, List, ◌++◌}
 use Rattle.std.specs.List.{AllByRecursion}
 use Rattle.std.specs.List.Sorted.{IsPermutation}
 use Rattle.photo_version.specs.Version.{Version}

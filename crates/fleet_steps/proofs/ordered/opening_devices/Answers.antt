@@ -1,6 +1,4 @@
-use Rattle.std.proofs.Common.{◌≤◌, ◌≡◌, length, arith, subst, ◌∙◌}
-use Rattle.photo_version.specs.Author.{author}
-use Rattle.photo_device.specs.Device.{Shows, opening}
+use Rattle.std.proofs.Common.{◌≤◌, length, arith, ◌∙◌}
 use Rattle.fleet_steps.proofs.Shown.{opening_more, opening_all, opening_long}
 use Rattle.fleet_steps.proofs.ordered.opening_devices.Goals as goal
 

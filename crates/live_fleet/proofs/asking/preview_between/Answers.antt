@@ -1,4 +1,4 @@
-use Rattle.std.proofs.Common.{◌≡◌, ◌∙◌, get_or, sym, subst, subst₂}
+use Rattle.std.proofs.Common.{sym, subst, subst₂}
 use Rattle.photo_filter_text.specs.Tree.{All}
 use Rattle.photo_version.specs.Author.{author}
 use Rattle.photo_device.specs.Device.{Kept, Shows, opening}

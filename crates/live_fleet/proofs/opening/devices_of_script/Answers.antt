@@ -1,4 +1,4 @@
-use Rattle.std.proofs.Common.{◌≤◌, ◌≡◌, length, arith, subst, ◌∙◌}
+use Rattle.std.proofs.Common.{◌≤◌, ◌≡◌, length, arith, ◌∙◌}
 use Rattle.std.specs.Prelude.{None}
 use Rattle.photo_device.specs.Device.{Kept}
 use Rattle.fleet_steps.proofs.About.{all_push}

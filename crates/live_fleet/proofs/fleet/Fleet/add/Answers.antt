@@ -1,4 +1,4 @@
-use Rattle.std.proofs.Common.{◌≡◌, ◌∙◌, ◌++◌, ◌∷◌, [], List, ℕ, length, sym, ap, subst, rules}
+use Rattle.std.proofs.Common.{◌≡◌, ◌++◌, ◌∷◌, [], List, ℕ, length, sym, subst, rules}
 use Rattle.photo_version.specs.Author.{author}
 use Rattle.photo_device.specs.Device.{Kept, Shows, opening}
 use Rattle.live_fleet.specs.Fleets.{KeptFleet, CameAbout, HasJoined}
