@@ -28,6 +28,11 @@ fn the_commands_of_a_script_run_by_number(rt: HostRuntime) {
     assert!(rt; runs_script(rt.alloc()) == Some(true));
 }
 
+#[test]
+fn a_copy_goes_its_own_way(rt: HostRuntime) {
+    assert!(rt; on_session(rt.alloc(), tries_on_a_copy));
+}
+
 // Whether a session of two devices passes a test: one that keeps all, and one that keeps ratings of 4 and more.
 fn on_session<F: FnOnce(Global, &mut Session) -> bool>(alloc: Global, test: F) -> bool
     requires { F.IsAlwaysCallable test }
@@ -109,6 +114,36 @@ fn lacks(alloc: Global, session: &Session, picture: PicNo, right: &[u16]) -> Opt
 fn knows(alloc: Global, session: &Session, picture: PicNo, right: &[u16]) -> Option<bool> {
     let numbers = knowing(alloc, session.fleet(), picture).ok()?;
     Some(numbers.as_slice() == right)
+}
+
+// The first device makes pictures 7 and 9, which the second pulls in a copy alone.
+fn tries_on_a_copy(alloc: Global, session: &mut Session) -> bool {
+    makes(alloc, session, 0, 7, 5).is_some()
+        && makes(alloc, session, 0, 9, 4).is_some()
+        && pulls_in_copy(alloc, session) == Some(true)
+}
+
+fn pulls_in_copy(alloc: Global, session: &Session) -> Option<bool> {
+    let mut copy = session.try_clone().ok()?;
+    Some(is_same(&copy, session) && pulled_apart(alloc, &mut copy, session)?)
+}
+
+fn is_same(copy: &Session, session: &Session) -> bool {
+    let (one, other) = (copy.fleet(), session.fleet());
+    one.commands() == other.commands()
+        && one.log().len() == 2
+        && other.log().len() == 2
+        && one.devices().len() == other.devices().len()
+}
+
+fn pulled_apart(alloc: Global, copy: &mut Session, session: &Session) -> Option<bool> {
+    let counts = copy.pull(1, 0).ok()?;
+    let (seven, nine) = (PicNo::new(7)?, PicNo::new(9)?);
+    let moved = counts.taken == 2
+        && holds(alloc, copy, seven, &[0, 1])?
+        && holds(alloc, copy, nine, &[0, 1])?;
+    let stayed = holds(alloc, session, seven, &[0])? && holds(alloc, session, nine, &[0])?;
+    Some(moved && stayed && session.fleet().commands() == 2)
 }
 
 // The second device makes picture 9, which it keeps, and picture 7, which it is only to hand over.
