@@ -21,6 +21,14 @@ use crate::side::Side;
 use crate::union::{begin, entries, pair};
 use std::alloc::{AllocError, Global};
 
+// The pictures of the fragments that are written, with their numbers.
+#[derive(Drop)]
+struct Lists {
+    index: Vec<IndexEntry>,
+    // Those of them that don't come from the left as they stand.
+    joined: Vec<IndexEntry>,
+}
+
 // Whether the right's fragment `b` has nothing beyond the left's `a`, where the right's star has nothing beyond the left's.
 #[inline(always)]
 fn adds_nothing(left: Side<'_>, right: Side<'_>, a: usize, b: usize) -> bool
@@ -119,26 +127,24 @@ fn place_behind(
     Ok(())
 }
 
-// Writes the fragments of the pictures behind the star, each by itself, with their index; lists those that don't come from the
-// left as they stand.
+// Writes the fragments of the pictures behind the star, each by itself, and lists them.
 fn spread(
     left: Side<'_>,
     right: Side<'_>,
     star: &[u64],
     room: &mut Vec<u64>,
-    index: &mut Vec<IndexEntry>,
-    joined: &mut Vec<IndexEntry>,
+    lists: &mut Lists,
     out: &mut Rows,
 ) -> Result<(), AllocError>
     requires normal { is_normal (fragments left) ≡ true }
     requires star_row { IsRow star.now }
     requires star { pairs star.now ≡ pair_vector (fragments left) (fragments right) (0, 0) }
-    requires index { index.old.items ≡ [] }
-    requires joined { joined.old.items ≡ [] }
+    requires index { lists.old.index.items ≡ [] }
+    requires joined { lists.old.joined.items ≡ [] }
     requires out { out.old ≡ [] ∷ star.now ∷ [] }
     ensures { OnOk result (IsSpread left.entry.rows.now (pairs star.now)
         (spread_of (fragments left.entry) (fragments right.entry) left.entry.index.now right.entry.index.now)
-        out.new index.new.items joined.new.items) }
+        out.new lists.new.index.items lists.new.joined.items) }
 {
     // For its fact alone: the rows are fewer than 2 ^ 63.
     let _count = left.rows.rows();
@@ -150,8 +156,8 @@ fn spread(
         if stays(left, right, is_raised, picture, a, b) {
             from = run_to(left.rows, from, to, a, out)?;
             to = a + 1;
-            let number = to_u32(index.len() + 1)?;
-            index.push((picture, number))?;
+            let number = to_u32(lists.index.len() + 1)?;
+            lists.index.push((picture, number))?;
             continue;
         }
         let row = pair(left, right, a, b, room)?;
@@ -160,9 +166,9 @@ fn spread(
         }
         place_behind(left.rows, from, to, picture, row, out)?;
         from = to;
-        let number = to_u32(index.len() + 1)?;
-        index.push((picture, number))?;
-        joined.push((picture, number))?;
+        let number = to_u32(lists.index.len() + 1)?;
+        lists.index.push((picture, number))?;
+        lists.joined.push((picture, number))?;
     }
     out.place_run(left.rows, 2 * from, 2 * to)?;
     Ok(())
@@ -260,25 +266,19 @@ pub(crate) fn apart(
         return Ok(None);
     }
     let count = pictures_together(left.index, right.index);
-    let mut index = Vec::with_capacity(alloc, count)?;
-    let mut joined = Vec::new(alloc);
+    let mut lists = Lists {
+        index: Vec::with_capacity(alloc, count)?,
+        joined: Vec::new(alloc),
+    };
     let words = left
         .rows
         .words()
         .max(right.rows.words())
         .saturating_add(count.saturating_mul(2));
     begin(star, count, words, out)?;
-    spread(
-        left,
-        right,
-        star,
-        &mut Vec::new(alloc),
-        &mut index,
-        &mut joined,
-        out,
-    )?;
-    if are_told_apart(alloc, left.rows, seen, out, &index, &joined)? {
-        return Ok(Some(index));
+    spread(left, right, star, &mut Vec::new(alloc), &mut lists, out)?;
+    if are_told_apart(alloc, left.rows, seen, out, &lists.index, &lists.joined)? {
+        return Ok(Some(lists.index));
     }
     Ok(None)
 }

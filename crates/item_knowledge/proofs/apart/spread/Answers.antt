@@ -11,27 +11,27 @@ use Rattle.item_knowledge.proofs.WayLemmas.{not_raised, on_first, row_inside, on
 use Rattle.item_knowledge.proofs.apart.spread.Goals as goal
 
 pub loop-picture-init : goal.loop-picture-init
-loop-picture-init c = on_first c.args.left.rows.now c.args.right.rows.now c.args.left.index.now c.args.right.index.now c.args.star.now c.args.out.now c.args.index.now.items c.args.joined.now.items c.new-pairing.result c.args.left.side.star c.requires.star_row c.new-pairing.ensures.left c.new-pairing.ensures.right c.requires.out c.requires.index c.requires.joined
+loop-picture-init c = on_first c.args.left.rows.now c.args.right.rows.now c.args.left.index.now c.args.right.index.now c.args.star.now c.args.out.now c.args.lists.now.index.items c.args.lists.now.joined.items c.new-pairing.result c.args.left.side.star c.requires.star_row c.new-pairing.ensures.left c.new-pairing.ensures.right c.requires.out c.requires.index c.requires.joined
 
 pub stays-requires-clause-a : goal.stays-requires-clause-a
 stays-requires-clause-a c =
     let r : ℕ × (ℕ × ℕ) = (c.in-Some.picture, (c.in-Some.a, c.in-Some.b)) in
-    (row_inside c.args.left.rows.now c.args.right.rows.now c.args.left.index.now c.args.right.index.now c.args.star.now c.loop-picture.out c.loop-picture.index.items c.loop-picture.joined.items c.loop-picture.pairing c.loop-picture.from c.loop-picture.to c.loop-picture.invariant c.next.new.self r c.args.left.side c.args.right.side c.in-Some.ensures.next).0
+    (row_inside c.args.left.rows.now c.args.right.rows.now c.args.left.index.now c.args.right.index.now c.args.star.now c.loop-picture.out c.loop-picture.lists.index.items c.loop-picture.lists.joined.items c.loop-picture.pairing c.loop-picture.from c.loop-picture.to c.loop-picture.invariant c.next.new.self r c.args.left.side c.args.right.side c.in-Some.ensures.next).0
 
 pub stays-requires-clause-b : goal.stays-requires-clause-b
 stays-requires-clause-b c =
     let r : ℕ × (ℕ × ℕ) = (c.in-Some.picture, (c.in-Some.a, c.in-Some.b)) in
-    (row_inside c.args.left.rows.now c.args.right.rows.now c.args.left.index.now c.args.right.index.now c.args.star.now c.loop-picture.out c.loop-picture.index.items c.loop-picture.joined.items c.loop-picture.pairing c.loop-picture.from c.loop-picture.to c.loop-picture.invariant c.next.new.self r c.args.left.side c.args.right.side c.in-Some.ensures.next).1
+    (row_inside c.args.left.rows.now c.args.right.rows.now c.args.left.index.now c.args.right.index.now c.args.star.now c.loop-picture.out c.loop-picture.lists.index.items c.loop-picture.lists.joined.items c.loop-picture.pairing c.loop-picture.from c.loop-picture.to c.loop-picture.invariant c.next.new.self r c.args.left.side c.args.right.side c.in-Some.ensures.next).1
 
 pub run_to-requires-clause-there : goal.run_to-requires-clause-there
 run_to-requires-clause-there c =
     let r : ℕ × (ℕ × ℕ) = (c.in-Some.picture, (c.in-Some.a, c.in-Some.b)) in
-    (row_inside c.args.left.rows.now c.args.right.rows.now c.args.left.index.now c.args.right.index.now c.args.star.now c.loop-picture.out c.loop-picture.index.items c.loop-picture.joined.items c.loop-picture.pairing c.loop-picture.from c.loop-picture.to c.loop-picture.invariant c.next.new.self r c.args.left.side c.args.right.side c.in-Some.ensures.next).0
+    (row_inside c.args.left.rows.now c.args.right.rows.now c.args.left.index.now c.args.right.index.now c.args.star.now c.loop-picture.out c.loop-picture.lists.index.items c.loop-picture.lists.joined.items c.loop-picture.pairing c.loop-picture.from c.loop-picture.to c.loop-picture.invariant c.next.new.self r c.args.left.side c.args.right.side c.in-Some.ensures.next).0
 
 pub overflow_add-to : goal.overflow_add-to
 overflow_add-to c =
     let r : ℕ × (ℕ × ℕ) = (c.in-Some.picture, (c.in-Some.a, c.in-Some.b)) in
-    let there = row_inside c.args.left.rows.now c.args.right.rows.now c.args.left.index.now c.args.right.index.now c.args.star.now c.loop-picture.out c.loop-picture.index.items c.loop-picture.joined.items c.loop-picture.pairing c.loop-picture.from c.loop-picture.to c.loop-picture.invariant c.next.new.self r c.args.left.side c.args.right.side c.in-Some.ensures.next in
+    let there = row_inside c.args.left.rows.now c.args.right.rows.now c.args.left.index.now c.args.right.index.now c.args.star.now c.loop-picture.out c.loop-picture.lists.index.items c.loop-picture.lists.joined.items c.loop-picture.pairing c.loop-picture.from c.loop-picture.to c.loop-picture.invariant c.next.new.self r c.args.left.side c.args.right.side c.in-Some.ensures.next in
     let rows = rows_read c.args.left.rows.now c.args.left.whole in
     omega (arith, rows, there.0, c.rows-count.ensures, c.rows-count.type_inv)
 
@@ -41,35 +41,35 @@ loop-picture-preserved-then-stays c =
     let pair : IsPair c.args.left.rows.now c.args.right.rows.now c.args.left.index.now c.args.right.index.now c.args.star.now = record { left_rows = c.args.left.whole; left_side = c.args.left.side; right_side = c.args.right.side; normal = c.requires.normal; joint = c.requires.star } in
     let stays : Stays c.args.left.rows.now c.args.right.rows.now (not c.same_row-is_raised.result) r.0 r.1.0 r.1.1 = c.stays.ensures c.if-stays.true in
     let same : same_entries (pairs c.args.star.now) (pairs c.entries.result.now) ≡ true = sym c.same_row-is_raised.ensures ∙ not_raised c.same_row-is_raised.result stays.level in
-    on_stays c.args.left.rows.now c.args.right.rows.now c.args.left.index.now c.args.right.index.now c.args.star.now c.loop-picture.out c.loop-picture.index.items c.loop-picture.joined.items c.loop-picture.pairing c.loop-picture.from c.loop-picture.to c.loop-picture.invariant c.next.new.self r c.run_to.new.out c.push.new.self.items c.in_ok-from.from (not c.same_row-is_raised.result) pair
+    on_stays c.args.left.rows.now c.args.right.rows.now c.args.left.index.now c.args.right.index.now c.args.star.now c.loop-picture.out c.loop-picture.lists.index.items c.loop-picture.lists.joined.items c.loop-picture.pairing c.loop-picture.from c.loop-picture.to c.loop-picture.invariant c.next.new.self r c.run_to.new.out c.push.new.self.items c.in_ok-from.from (not c.same_row-is_raised.result) pair
     ((entries_decide (pairs c.args.star.now) (pairs c.entries.result.now)).0 same ∙ c.entries.ensures.entries) c.in-Some.ensures.next stays c.in_ok-from.ensures.order c.in_ok-from.ensures.run
-    (c.in_ok-push.ensures.items ∙ ap (λ n. c.loop-picture.index.items ++ (r.0, n) ∷ []) (c.in_ok-number.ensures.value ∙ search rules))
+    (c.in_ok-push.ensures.items ∙ ap (λ n. c.loop-picture.lists.index.items ++ (r.0, n) ∷ []) (c.in_ok-number.ensures.value ∙ search rules))
 
 pub pair-requires-clause-a : goal.pair-requires-clause-a
 pair-requires-clause-a c =
     let r : ℕ × (ℕ × ℕ) = (c.in-Some.picture, (c.in-Some.a, c.in-Some.b)) in
-    (row_inside c.args.left.rows.now c.args.right.rows.now c.args.left.index.now c.args.right.index.now c.args.star.now c.loop-picture.out c.loop-picture.index.items c.loop-picture.joined.items c.loop-picture.pairing c.loop-picture.from c.loop-picture.to c.loop-picture.invariant c.next.new.self r c.args.left.side c.args.right.side c.in-Some.ensures.next).0
+    (row_inside c.args.left.rows.now c.args.right.rows.now c.args.left.index.now c.args.right.index.now c.args.star.now c.loop-picture.out c.loop-picture.lists.index.items c.loop-picture.lists.joined.items c.loop-picture.pairing c.loop-picture.from c.loop-picture.to c.loop-picture.invariant c.next.new.self r c.args.left.side c.args.right.side c.in-Some.ensures.next).0
 
 pub pair-requires-clause-b : goal.pair-requires-clause-b
 pair-requires-clause-b c =
     let r : ℕ × (ℕ × ℕ) = (c.in-Some.picture, (c.in-Some.a, c.in-Some.b)) in
-    (row_inside c.args.left.rows.now c.args.right.rows.now c.args.left.index.now c.args.right.index.now c.args.star.now c.loop-picture.out c.loop-picture.index.items c.loop-picture.joined.items c.loop-picture.pairing c.loop-picture.from c.loop-picture.to c.loop-picture.invariant c.next.new.self r c.args.left.side c.args.right.side c.in-Some.ensures.next).1
+    (row_inside c.args.left.rows.now c.args.right.rows.now c.args.left.index.now c.args.right.index.now c.args.star.now c.loop-picture.out c.loop-picture.lists.index.items c.loop-picture.lists.joined.items c.loop-picture.pairing c.loop-picture.from c.loop-picture.to c.loop-picture.invariant c.next.new.self r c.args.left.side c.args.right.side c.in-Some.ensures.next).1
 
 pub loop-picture-preserved-then-same_row : goal.loop-picture-preserved-then-same_row
 loop-picture-preserved-then-same_row c =
     let r : ℕ × (ℕ × ℕ) = (c.in-Some.picture, (c.in-Some.a, c.in-Some.b)) in
     let f = pair_vector (fragments c.args.left) (fragments c.args.right) in
     let same : same_entries (f (0, 0)) (f r.1) ≡ true = (λ j. same_entries (sym c.requires.star j) (sym c.in_ok-row.ensures.entries j)) ∙ (sym c.same_row.ensures ∙ search rules) in
-    on_star c.args.left.rows.now c.args.right.rows.now c.args.left.index.now c.args.right.index.now c.args.star.now c.loop-picture.out c.loop-picture.index.items c.loop-picture.joined.items c.loop-picture.pairing c.loop-picture.from c.loop-picture.to c.loop-picture.invariant c.next.new.self r c.in-Some.ensures.next same
+    on_star c.args.left.rows.now c.args.right.rows.now c.args.left.index.now c.args.right.index.now c.args.star.now c.loop-picture.out c.loop-picture.lists.index.items c.loop-picture.lists.joined.items c.loop-picture.pairing c.loop-picture.from c.loop-picture.to c.loop-picture.invariant c.next.new.self r c.in-Some.ensures.next same
 
 pub loop-picture-preserved : goal.loop-picture-preserved
 loop-picture-preserved c =
     let r : ℕ × (ℕ × ℕ) = (c.in-Some.picture, (c.in-Some.a, c.in-Some.b)) in
     let f = pair_vector (fragments c.args.left) (fragments c.args.right) in
     let other : same_entries (f (0, 0)) (f r.1) ≡ false = (λ j. same_entries (sym c.requires.star j) (sym c.in_ok-row.ensures.entries j)) ∙ (sym c.same_row.ensures ∙ search rules) in
-    let number : c.in_ok-number-2.number ≡ length c.loop-picture.index.items + 1 = c.in_ok-number-2.ensures.value ∙ search rules in
-    on_joined c.args.left.rows.now c.args.right.rows.now c.args.left.index.now c.args.right.index.now c.args.star.now c.loop-picture.out c.loop-picture.index.items c.loop-picture.joined.items c.loop-picture.pairing c.loop-picture.from c.loop-picture.to c.loop-picture.invariant c.next.new.self r c.place_behind.new.out c.push-in-Some.new.self.items c.push-in-Some-2.new.self.items c.in_ok-row.row.now c.in-Some.ensures.next c.in_ok-row.ensures.row c.in_ok-row.ensures.entries other (search rules)
-    (c.in_ok-push-2.ensures.items ∙ ap (λ n. c.loop-picture.index.items ++ (r.0, n) ∷ []) number) (c.in_ok-push-3.ensures.items ∙ ap (λ n. c.loop-picture.joined.items ++ (r.0, n) ∷ []) number)
+    let number : c.in_ok-number-2.number ≡ length c.loop-picture.lists.index.items + 1 = c.in_ok-number-2.ensures.value ∙ search rules in
+    on_joined c.args.left.rows.now c.args.right.rows.now c.args.left.index.now c.args.right.index.now c.args.star.now c.loop-picture.out c.loop-picture.lists.index.items c.loop-picture.lists.joined.items c.loop-picture.pairing c.loop-picture.from c.loop-picture.to c.loop-picture.invariant c.next.new.self r c.place_behind.new.out c.push-in-Some.new.self.items c.push-in-Some-2.new.self.items c.in_ok-row.row.now c.in-Some.ensures.next c.in_ok-row.ensures.row c.in_ok-row.ensures.entries other (search rules)
+    (c.in_ok-push-2.ensures.items ∙ ap (λ n. c.loop-picture.lists.index.items ++ (r.0, n) ∷ []) number) (c.in_ok-push-3.ensures.items ∙ ap (λ n. c.loop-picture.lists.joined.items ++ (r.0, n) ∷ []) number)
 
 pub overflow_mul-from : goal.overflow_mul-from
 overflow_mul-from c =
@@ -90,4 +90,4 @@ place_run-requires-clause-there c =
     omega (arith, rows, on.there)
 
 pub returns : goal.returns
-returns c = on_all c.args.left.rows.now c.args.right.rows.now c.args.left.index.now c.args.right.index.now c.args.star.now c.loop-picture.out c.loop-picture.index.items c.loop-picture.joined.items c.loop-picture.pairing c.loop-picture.from c.loop-picture.to c.loop-picture.invariant c.place_run.new.self (c.next.ensures.none (search rules)) (search rules)
+returns c = on_all c.args.left.rows.now c.args.right.rows.now c.args.left.index.now c.args.right.index.now c.args.star.now c.loop-picture.out c.loop-picture.lists.index.items c.loop-picture.lists.joined.items c.loop-picture.pairing c.loop-picture.from c.loop-picture.to c.loop-picture.invariant c.place_run.new.self (c.next.ensures.none (search rules)) (search rules)
