@@ -104,30 +104,31 @@ counts_as (command.Conflicts k) d other a few told = asks_as a _ refl refl told
 counts_as (command.Knowledge k) d other a few told = as_question a (ap kind_told told.given) (ap moved_by told.given)
 counts_as (command.Knows k p v) d other a few told = asks_as a _ refl refl told
 
--- one command more is counted by a worker that has counted some
-pub counts_more : (script : Contents) (n : ℕ) (c : Command) (rest : List ℕ) (done : List Done) (d : Done) (share new : Stake) (all : Tally)
-    → command_of script n ≡ Some c → CountsAs (kind_of c) (answer_of d.report) → share.left ≡ tally_at script (n ∷ rest) → both share.done (worked (tally_at script (n ∷ rest)) 0) ≡ worked all (moved_in done)
-    → new ≡ counted (kind_told (answer_of d.report)) share
-    → (new.parts ≡ share.parts) × (new.left ≡ tally_at script rest) × (both new.done (worked (tally_at script rest) 0) ≡ worked all (moved_in (done ++ d ∷ [])))
-counts_more script n c rest done d share new all is counting left sum now =
-    let one = one_of (kind_of c) in
-    let t = tally_at script rest in
-    let a = answer_of d.report in
-    let cons : tally_at script (n ∷ rest) ≡ plus one t = tally-cons script n rest ∙ ap (λ (x : Tally). plus x t) (one_is script n c is) in
-    let new_is : new ≡ stake share.parts t (both share.done (worked one (moved_by a))) = now ∙ (λ i. counted (kind_told a) (stake share.parts ((left ∙ cons) i) share.done)) ∙ counting.by share.parts t share.done in
-    let before : both share.done (worked (plus one t) 0) ≡ worked all (moved_in done) = ap (λ (x : Tally). both share.done (worked x 0)) (sym cons) ∙ sum in
-    let e1 = ap (λ (x : Totals). x.changes) before in
-    let e2 = ap (λ (x : Totals). x.pulls) before in
-    let e3 = ap (λ (x : Totals). x.reports) before in
-    let e4 = ap (λ (x : Totals). x.moved) before in
-    let more = moved-append done (d ∷ []) in
-    let last = moved-one d in (
-      ap (λ (s : Stake). s.parts) new_is,
-      ap (λ (s : Stake). s.left) new_is,
-      ap (λ (s : Stake). both s.done (worked t 0)) new_is ∙ totals_same _ _ _ _ _ _ _ _ (omega (arith, e1)) (omega (arith, e2)) (omega (arith, e3)) (omega (arith, e4, more, last)),
-    )
+-- a command of its own
+one_command : (script : Contents) (n : ℕ) (c : Command) → command_of script n ≡ Some c → tally_at script (n ∷ []) ≡ one_of (kind_of c)
+one_command script n c is = tally-cons script n [] ∙ ap (λ (t : Tally). plus t none_left) (one_is script n c is) ∙ tally_same _ _ _ _ _ _ (omega arith) (omega arith) (omega arith)
 
-pub may_count : (script : Contents) (n : ℕ) (c : Command) (rest : List ℕ) (a : Answer) (left : Tally) → command_of script n ≡ Some c → CountsAs (kind_of c) a → left ≡ tally_at script (n ∷ rest) → CanCount (kind_told a) left
-may_count script n c rest a left is counting here =
-    let cons : tally_at script (n ∷ rest) ≡ plus (one_of (kind_of c)) (tally_at script rest) = tally-cons script n rest ∙ ap (λ (x : Tally). plus x (tally_at script rest)) (one_is script n c is) in
-    subst (CanCount (kind_told a)) (sym (here ∙ cons)) (counting.can (tally_at script rest))
+restored : (one left : Tally) → Within one left → plus one (less left one) ≡ left
+restored one left within = tally_same _ _ _ _ _ _ (omega (arith, within.0)) (omega (arith, within.1)) (omega (arith, within.2))
+
+-- a share that may count the command
+record MayCount (script : Contents) (n : ℕ) (c : Command) (left : Tally) : Type 0 where
+  one : tally_at script (n ∷ []) ≡ one_of (kind_of c)
+  all : plus (one_of (kind_of c)) (less left (one_of (kind_of c))) ≡ left
+
+may : (script : Contents) (n : ℕ) (c : Command) (left : Tally) → command_of script n ≡ Some c → Within (tally_at script (n ∷ [])) left → MayCount script n c left
+may script n c left is within =
+    let one = one_command script n c is in
+    record { one = one; all = restored (one_of (kind_of c)) left (subst (λ (t : Tally). Within t left) one within) }
+
+pub may_count : (script : Contents) (n : ℕ) (c : Command) (a : Answer) (left : Tally) → command_of script n ≡ Some c → CountsAs (kind_of c) a → Within (tally_at script (n ∷ [])) left → CanCount (kind_told a) left
+may_count script n c a left is counting within =
+    subst (CanCount (kind_told a)) (may script n c left is within).all (counting.can (less left (one_of (kind_of c))))
+
+pub has_counted : (script : Contents) (n : ℕ) (c : Command) (d : Done) (share new : Stake) → command_of script n ≡ Some c → CountsAs (kind_of c) (answer_of d.report) → Within (tally_at script (n ∷ [])) share.left → new ≡ counted (kind_told (answer_of d.report)) share
+    → new ≡ stake share.parts (less share.left (tally_at script (n ∷ []))) (both share.done (worked (tally_at script (n ∷ [])) (moved_in (d ∷ []))))
+has_counted script n c d share new is counting within now =
+    let m = may script n c share.left is within in
+    let a = answer_of d.report in
+    now ∙ (λ i. counted (kind_told a) (stake share.parts (sym m.all i) share.done)) ∙ counting.by share.parts (less share.left (one_of (kind_of c))) share.done
+    ∙ (λ i. stake share.parts (less share.left (sym m.one i)) (both share.done (worked (sym m.one i) (sym (moved-one d) i))))

@@ -6,6 +6,7 @@ use Rattle.std.proofs.lemmas.List.Sums.{count_by-le-length}
 use Rattle.photo_device.specs.declared.held.Held.{Held}
 use Rattle.photo_device.specs.Device.{Kept, Shows}
 use Rattle.photo_script.specs.Contents.{Contents, IsScript}
+use Rattle.photo_script.specs.Limits.{max_commands}
 use Rattle.photo_script.specs.declared.tally.Tally.{Tally}
 use Rattle.photo_script.specs.declared.tally.Totals.{Totals}
 use Rattle.photo_script.specs.declared.report.Report.{Report}
@@ -14,7 +15,6 @@ use Rattle.photo_script.specs.Reports.{Tells, IsAbout, answer_of}
 use Rattle.photo_device.specs.Held.{entries_of}
 use Rattle.photo_script.specs.Runs.{run, reports_of, opening_from}
 use Rattle.photo_script.specs.Tallies.{tally_of, kind_of, is_change, is_pull, is_question}
-use Rattle.photo_batcher.specs.Orders.{IsLawful}
 use Rattle.work_ledger.specs.Ledgers.{all_parts}
 use Rattle.work_ledger.specs.Stakes.{Stake, stake, less, totals, nothing_done, IsCountable}
 use Rattle.fleet_steps.specs.Outcomes.{IsOutcome}
@@ -24,7 +24,7 @@ use Rattle.fleet_steps.proofs.InOrder.{runs_none, long_slots}
 use Rattle.fleet_steps.proofs.SoundRuns.{stays_sound_and_kept}
 use Rattle.fleet_workers.specs.declared.slots.Slots.{Slots}
 use Rattle.fleet_workers.specs.Counting.{tally_at, worked}
-use Rattle.fleet_workers.specs.Progress.{HasRun}
+use Rattle.fleet_workers.specs.Progress.{HasRun, HasEnded}
 use Rattle.fleet_workers.proofs.Counting.{tally_same}
 use Rattle.fleet_workers.proofs.Planned.{has_replayed, totals_are}
 
@@ -82,29 +82,29 @@ same_items (x ∷ xs) (y ∷ ys) e =
     let rest = same_items xs ys tail in
     λ i. head i ∷ rest i
 
--- after all commands in a lawful order
-pub ended : (script : Contents) (order : List ℕ) (slots : Slots) (share : Stake) (o : Outcome) → IsScript script → IsLawful script order → HasRun script order slots share → slots.devices.items ≡ map Some o.devices.items → o.reports ≡ slots.reports → o.log ≡ slots.log.items → o.totals ≡ share.done → IsOutcome script o
-ended script order slots share o is lawful r devices reports log totals =
-    let h = has_replayed script order slots share is.commands lawful r in
+-- after all commands
+pub ended : (script : Contents) (slots : Slots) (share : Stake) (o : Outcome) → HasEnded script slots share → slots.devices.items ≡ map Some o.devices.items → o.reports ≡ slots.reports → o.log ≡ slots.log.items → o.totals ≡ share.done → IsOutcome script o
+ended script slots share o h devices reports log totals =
+    let r = h.run in
+    let few = h.is.commands in
+    let replayed = has_replayed script h.order slots share few h.lawful r in
     let same : o.devices.items ≡ r.devices = same_items o.devices.items r.devices (sym devices ∙ r.here) in
     let items : o.reports.items ≡ slots.reports.items = ap (λ v. v.items) reports in
-    let long = ap length items ∙ long_slots script order r.devices slots.reports.items slots.log.items r.to in
-    let few = is.commands in
+    let long = ap length items ∙ long_slots script h.order r.devices slots.reports.items slots.log.items r.to in
     record {
-      devices = subst (λ (l : List Kept). AllZip Shows l (run script).devices) (sym same) h.devices_are;
-      reports = subst (λ (l : List Report). AllZip Tells (map answer_of l) (reports_of (run script))) (sym items) h.right;
+      devices = subst (λ (l : List Kept). AllZip Shows l (run script).devices) (sym same) replayed.devices_are;
+      reports = subst (λ (l : List Report). AllZip Tells (map answer_of l) (reports_of (run script))) (sym items) replayed.right;
       each = long;
-      about = subst (λ (l : List Report). AllByRecursion (IsAbout script) (map answer_of l)) (sym items) h.about;
+      about = subst (λ (l : List Report). AllByRecursion (IsAbout script) (map answer_of l)) (sym items) replayed.about;
       few = omega (arith, long, few);
-      totals = totals ∙ totals_are script order slots share is.commands lawful r;
-      log = subst (λ (l : List Held). IsPermutation (run script).log (entries_of l)) (sym log) h.logged;
-      sound = λ n. stays_sound_and_kept script n is;
+      totals = totals ∙ totals_are script h.order slots share few h.lawful r;
+      log = subst (λ (l : List Held). IsPermutation (run script).log (entries_of l)) (sym log) replayed.logged;
+      sound = λ n. stays_sound_and_kept script n h.is;
     }
 
 -- the ledger can count a script's commands
-pub countable : (script : Contents) (t : Tally) → IsScript script → t ≡ tally_of script → IsCountable t
-countable script t is same =
-    let few = is.commands in
+pub countable : (script : Contents) (t : Tally) → length script.commands ≤ max_commands → t ≡ tally_of script → IsCountable t
+countable script t few same =
     let a = count_by-le-length (λ c. is_change (kind_of c)) script.commands in
     let b = count_by-le-length (λ c. is_pull (kind_of c)) script.commands in
     let d = count_by-le-length (λ c. is_question (kind_of c)) script.commands in

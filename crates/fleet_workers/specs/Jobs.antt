@@ -9,7 +9,7 @@ use Rattle.photo_script.specs.declared.command.Command.{Command}
 use Rattle.photo_script.specs.Contents.{Contents, command_of, devices_of}
 use Rattle.photo_script.specs.Reports.{Tells, answer_of}
 use Rattle.photo_script.specs.Runs.{Effect, effect}
-use Rattle.work_ledger.specs.Stakes.{Stake, stake, none_left, nothing_done}
+use Rattle.work_ledger.specs.Stakes.{Stake, stake, nothing_done, less, both, Within}
 use Rattle.fleet_steps.specs.Between.{MayPull}
 use Rattle.fleet_steps.specs.Moved.{MovesFew}
 use Rattle.fleet_workers.specs.declared.work.Job.{Job}
@@ -70,14 +70,19 @@ AreDoneJobs script jobs done = AllZip (IsDoneJob script) jobs done
 abbrev pub numbers_of : List Job → List ℕ
 numbers_of jobs = map (λ j. j.number) jobs
 
--- a worker may start: its jobs are ready, and its share may count just them
+-- a worker may start: its jobs are ready, and its share may count them
 abbrev pub MayStart : Contents → List Job → Stake → Type 0
-MayStart script jobs share = AreReadyJobs script jobs × (share ≡ stake 1 (tally_at script (numbers_of jobs)) nothing_done)
+MayStart script jobs share = AreReadyJobs script jobs × Within (tally_at script (numbers_of jobs)) share.left
 
 -- a worker has run its jobs, in order, and its share has counted each once
-abbrev pub HasWorked : Contents → List Job → List Done → Stake → Type 0
-HasWorked script jobs done share =
-    AreDoneJobs script jobs done × (share ≡ stake 1 none_left (worked (tally_at script (numbers_of jobs)) (moved_in done)))
+abbrev pub HasWorked : Contents → List Job → List Done → Stake → Stake → Type 0
+HasWorked script jobs done old new =
+    let all = tally_at script (numbers_of jobs) in
+    AreDoneJobs script jobs done × (new ≡ stake old.parts (less old.left all) (both old.done (worked all (moved_in done))))
+
+-- the share of a worker that is to count just these jobs
+abbrev pub share_for : Contents → List Job → Stake
+share_for script jobs = stake 1 (tally_at script (numbers_of jobs)) nothing_done
 
 -- the jobs of all groups, one group after another
 abbrev pub jobs_of : {Z : Type 0} → List (Vec Job Z) → List Job

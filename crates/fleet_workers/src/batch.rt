@@ -17,6 +17,7 @@ use crate::crew::run_crew;
 use crate::deal::deal;
 use crate::gate::Gate;
 use crate::parcel::Parcel;
+use crate::shared::Shared;
 use crate::slots::Slots;
 use crate::work::Done;
 use fleet_steps::RunError;
@@ -24,9 +25,9 @@ use photo_batcher::places_of;
 use photo_device::SharedHeld;
 use photo_script::{Report, Script};
 use std::alloc::{AllocError, Global};
-use std::sync::{Arc, Wait};
+use std::sync::Wait;
 use std::thread::Threads;
-use work_ledger::{Books, Ledger, Share};
+use work_ledger::{Books, Share};
 
 // Runs one batch, whose commands work on no common device, by as many workers as there are or as it has commands: the slots
 // are as after the run of its commands in some order, and the share has counted them.
@@ -37,32 +38,28 @@ pub(crate) fn run_batch<
 >(
     rt: R,
     alloc: Global,
-    script: &Arc<Script>,
-    ledger: &Arc<Ledger<B>>,
-    gate: &Arc<G>,
+    shared: &Shared<B, G>,
     share: &mut Share<B>,
     slots: Slots,
     members: &[u32],
-    workers: usize,
 ) -> Result<Slots, RunError>
-    requires script { IsScript (arc_value script.now) }
-    requires numbers { AllByRecursion (IsNumber (arc_value script.now)) members.now }
-    requires apart { AreApart (arc_value script.now) members.now }
-    requires workers { (0 < workers) × (workers < share.old.parts) }
-    requires left { Within (tally_at (arc_value script.now) members.now) share.old.left }
-    requires state { (front : List ℕ) × (length front ≤ max_commands) × HasRun (arc_value script.now) front slots share.old }
+    requires script { IsScript (arc_value shared.now.script) }
+    requires numbers { AllByRecursion (IsNumber (arc_value shared.now.script)) members.now }
+    requires apart { AreApart (arc_value shared.now.script) members.now }
+    requires left { Within (tally_at (arc_value shared.now.script) members.now) share.old.left }
+    requires state { (front : List ℕ) × (length front ≤ max_commands) × HasRun (arc_value shared.now.script) front slots share.old }
     ensures ok { IfOk result (λ new. (front : List ℕ) → length front ≤ max_commands
-        → HasRun (arc_value script.now) front slots share.old → (order : List ℕ) × IsPermutation members.now order
-        × HasRun (arc_value script.now) (front ++ order) new share.new) }
+        → HasRun (arc_value shared.now.script) front slots share.old → (order : List ℕ) × IsPermutation members.now order
+        × HasRun (arc_value shared.now.script) (front ++ order) new share.new) }
     ensures err { IfErr result (λ e. (e ≡ NoMemory) ⊎ (e ≡ NoWorker)) }
 {
     let mut slots = slots;
-    let count = workers.min(members.len());
-    let Ok(groups) = deal(alloc, &**script, &mut slots.devices, members, count) else {
+    let count = slots.workers.count().min(members.len());
+    let Ok(groups) = deal(alloc, shared.script(), &mut slots.devices, members, count) else {
         return Err(RunError::NoMemory);
     };
-    let done = run_crew(rt, alloc, script, ledger, gate, share, groups)?;
-    let Ok(()) = take_back(&**script, &mut slots, done) else {
+    let done = run_crew(rt, alloc, shared, share, groups)?;
+    let Ok(()) = take_back(shared.script(), &mut slots, done) else {
         return Err(RunError::NoMemory);
     };
     Ok(slots)

@@ -1,12 +1,13 @@
 // Workers in threads.
-ghost use Rattle.std.specs.Prelude.{◌≡◌, ◌⊎◌, ◌+◌, ◌++◌, ◌≤◌, IfOk, IfErr, vec_len};
+ghost use Rattle.std.specs.Prelude.{◌≡◌, ◌⊎◌, ◌+◌, ◌-◌, ◌++◌, ◌≤◌, IfOk, IfErr, OnOk, vec_len};
 ghost use Rattle.std.specs.Arc.{arc_value};
-ghost use Rattle.work_ledger.specs.Stakes.{stake, less, both, Within};
+ghost use Rattle.work_ledger.specs.Stakes.{stake, less, both, plus, given, IsCountable};
 ghost use Rattle.fleet_steps.specs.declared.fault.RunError.TheVariants.{NoMemory, NoWorker};
-ghost use Rattle.fleet_workers.specs.Counting.{tally_at, worked, moved_in};
-ghost use Rattle.fleet_workers.specs.Jobs.{AreReadyJobs, AreDoneJobs, MayStart, HasWorked, jobs_of, numbers_of};
+ghost use Rattle.fleet_workers.specs.Counting.{tally_at};
+ghost use Rattle.fleet_workers.specs.Jobs.{AreReadyJobs, MayStart, HasWorked, jobs_of, numbers_of, share_for};
 
 use crate::gate::Gate;
+use crate::shared::Shared;
 use crate::tally::tally;
 use crate::work::{Done, Finished, Job};
 use crate::worker::run_jobs;
@@ -14,10 +15,10 @@ use fleet_steps::RunError;
 use photo_script::Script;
 use std::alloc::{AllocError, Global};
 use std::snapshot::Snapshot;
-use std::sync::{Arc, Wait};
+use std::sync::Wait;
 use std::thread;
 use std::thread::{Promise, PromisedHandle, Threads};
-use work_ledger::{Books, Ledger, Share};
+use work_ledger::{Books, Share};
 
 // The promise of a worker: each of its jobs comes back with the effect of its command, and its share has counted them.
 #[derive(Drop)]
@@ -27,7 +28,8 @@ struct Worked {
 }
 
 impl<B: Books> Promise<Result<Finished<B>, AllocError>> for Worked {
-    ghost kept_by = { λ p r. IfOk r (λ f. HasWorked p.script.value p.jobs.value.items f.done.items f.share) };
+    ghost kept_by = { λ p r. IfOk r
+        (λ f. HasWorked p.script.value p.jobs.value.items f.done.items (share_for p.script.value p.jobs.value.items) f.share) };
 }
 
 // A worker that is still to be joined. It is not `Drop`, so each one is joined on every path.
@@ -37,8 +39,8 @@ struct Running<B: Books> {
 
 impl<B: Books> Running<B> {
     fn join<R: Threads>(self, rt: &R) -> Result<Finished<B>, RunError>
-        ensures ok { IfOk result
-            (λ f. HasWorked self.handle.promise.script.value self.handle.promise.jobs.value.items f.done.items f.share) }
+        ensures ok { let script = self.handle.promise.script.value in let jobs = self.handle.promise.jobs.value.items in
+            IfOk result (λ f. HasWorked script jobs f.done.items (share_for script jobs) f.share) }
         ensures err { IfErr result (λ e. e ≡ NoMemory) }
     {
         let Running { handle } = self;
@@ -49,7 +51,45 @@ impl<B: Books> Running<B> {
     }
 }
 
-// Starts one worker.
+// Runs the first group's jobs on the thread that it is on, and each other group's on a thread of its own, the last group's
+// started first; and joins all that were started.
+pub(crate) fn run_crew<
+    B: Books + Send + Sync + 'static,
+    G: Gate + 'static,
+    R: Threads + Wait + Copy + Send + 'static,
+>(
+    rt: R,
+    alloc: Global,
+    shared: &Shared<B, G>,
+    share: &mut Share<B>,
+    groups: Vec<Vec<Job>>,
+) -> Result<Vec<Done>, RunError>
+    requires start { MayStart (arc_value shared.now.script) (jobs_of groups.items) share.old }
+    requires parts { vec_len groups + 1 ≤ share.old.parts }
+    ensures ok { IfOk result (λ done. HasWorked (arc_value shared.now.script) (jobs_of groups.items) done.items share.old share.new) }
+    ensures err { IfErr result (λ e. (e ≡ NoMemory) ⊎ (e ≡ NoWorker)) }
+{
+    let mut groups = groups;
+    let Some(jobs) = groups.pop() else {
+        return Ok(Vec::new(alloc));
+    };
+    if groups.is_empty() {
+        let Ok(done) = run_jobs(&rt, alloc, shared, share, jobs) else {
+            return Err(RunError::NoMemory);
+        };
+        return Ok(done);
+    }
+    // For its fact alone: what the share may count can be counted.
+    let _left = share.left();
+    let running = start(rt, alloc, shared, share, jobs)?;
+    let others = run_crew(rt, alloc, shared, share, groups);
+    let finished = running.join(&rt);
+    let done = others?;
+    let finished = finished?;
+    gather(share, done, finished)
+}
+
+// Starts a worker, and splits its share off.
 fn start<
     B: Books + Send + Sync + 'static,
     G: Gate + 'static,
@@ -57,24 +97,70 @@ fn start<
 >(
     rt: R,
     alloc: Global,
-    script: Arc<Script>,
-    ledger: Arc<Ledger<B>>,
-    gate: Arc<G>,
+    shared: &Shared<B, G>,
+    share: &mut Share<B>,
+    jobs: Vec<Job>,
+) -> Result<Running<B>, RunError>
+    requires start { MayStart (arc_value shared.now.script) jobs.items share.old }
+    requires parts { 2 ≤ share.old.parts }
+    ensures ok { IfOk result
+        (λ r. (r.handle.promise.script.value ≡ arc_value shared.now.script) × (r.handle.promise.jobs.value ≡ jobs)) }
+    ensures share { OnOk result (share.new
+        ≡ stake (share.old.parts - 1) (less share.old.left (tally_at (arc_value shared.now.script) (numbers_of jobs.items))) share.old.done) }
+    ensures err { IfErr result (λ e. (e ≡ NoMemory) ⊎ (e ≡ NoWorker)) }
+{
+    let Ok(shared) = shared.try_clone() else {
+        return Err(RunError::NoMemory);
+    };
+    let share = share.split(tally(shared.script(), &jobs));
+    spawn(rt, alloc, shared, share, jobs)
+}
+
+// Starts a worker that has a share of its own.
+fn spawn<
+    B: Books + Send + Sync + 'static,
+    G: Gate + 'static,
+    R: Threads + Wait + Copy + Send + 'static,
+>(
+    rt: R,
+    alloc: Global,
+    shared: Shared<B, G>,
     share: Share<B>,
     jobs: Vec<Job>,
 ) -> Result<Running<B>, RunError>
-    requires { MayStart (arc_value script) jobs.items share }
-    ensures ok { IfOk result (λ h. (h.handle.promise.script.value ≡ arc_value script) × (h.handle.promise.jobs.value ≡ jobs)) }
-    ensures err { IfErr result (λ e. e ≡ NoWorker) }
+    requires ready { AreReadyJobs (arc_value shared.script) jobs.items }
+    requires share { share ≡ share_for (arc_value shared.script) jobs.items }
+    ensures ok { IfOk result
+        (λ r. (r.handle.promise.script.value ≡ arc_value shared.script) × (r.handle.promise.jobs.value ≡ jobs)) }
+    ensures err { IfErr result (λ e. (e ≡ NoMemory) ⊎ (e ≡ NoWorker)) }
 {
+    let Shared {
+        script,
+        ledger,
+        gate,
+    } = shared;
     let promise = Worked {
         script: Snapshot::of(&*script),
         jobs: Snapshot::of(&jobs),
     };
     let worker = move || -> Result<Finished<B>, AllocError>
-        requires { MayStart (arc_value script) jobs.items share }
-        ensures { IfOk result (λ f. HasWorked (arc_value script) jobs.items f.done.items f.share) }
-    { run_jobs(&rt, alloc, &*script, &*ledger, &*gate, share, jobs) };
+        requires ready { AreReadyJobs (arc_value script) jobs.items }
+        requires share { share ≡ share_for (arc_value script) jobs.items }
+        ensures { IfOk result (λ f. HasWorked (arc_value script) jobs.items f.done.items
+            (share_for (arc_value script) jobs.items) f.share) }
+    {
+        run_alone(
+            &rt,
+            alloc,
+            &Shared {
+                script,
+                ledger,
+                gate,
+            },
+            share,
+            jobs,
+        )
+    };
     match thread::spawn_with(&rt, promise, worker) {
         Ok(handle) => Ok(Running { handle }),
         Err(refused) => {
@@ -84,100 +170,41 @@ fn start<
     }
 }
 
-// Starts a worker for each group of jobs but the first, the last group's first; runs the first group's jobs on the thread
-// that it is on, and joins all that were started.
-pub(crate) fn run_crew<
-    B: Books + Send + Sync + 'static,
-    G: Gate + 'static,
-    R: Threads + Wait + Copy + Send + 'static,
->(
-    rt: R,
+// Runs the jobs of a worker that has a share of its own.
+fn run_alone<B: Books, G: Gate, R: Wait>(
+    rt: &R,
     alloc: Global,
-    script: &Arc<Script>,
-    ledger: &Arc<Ledger<B>>,
-    gate: &Arc<G>,
-    share: &mut Share<B>,
-    groups: Vec<Vec<Job>>,
-) -> Result<Vec<Done>, RunError>
-    requires ready { AreReadyJobs (arc_value script.now) (jobs_of groups.items) }
-    requires parts { vec_len groups + 1 ≤ share.old.parts }
-    requires left { Within (tally_at (arc_value script.now) (numbers_of (jobs_of groups.items))) share.old.left }
-    ensures done { IfOk result (λ done. AreDoneJobs (arc_value script.now) (jobs_of groups.items) done.items) }
-    ensures share { IfOk result (λ done. share.new
-        ≡ stake share.old.parts (less share.old.left (tally_at (arc_value script.now) (numbers_of (jobs_of groups.items))))
-        (both share.old.done (worked (tally_at (arc_value script.now) (numbers_of (jobs_of groups.items))) (moved_in done.items)))) }
-    ensures err { IfErr result (λ e. (e ≡ NoMemory) ⊎ (e ≡ NoWorker)) }
+    shared: &Shared<B, G>,
+    share: Share<B>,
+    jobs: Vec<Job>,
+) -> Result<Finished<B>, AllocError>
+    requires ready { AreReadyJobs (arc_value shared.now.script) jobs.items }
+    requires share { share ≡ share_for (arc_value shared.now.script) jobs.items }
+    ensures { IfOk result (λ f. HasWorked (arc_value shared.now.script) jobs.items f.done.items
+        (share_for (arc_value shared.now.script) jobs.items) f.share) }
 {
-    let mut groups = groups;
-    let Some(jobs) = groups.pop() else {
-        return Ok(Vec::new(alloc));
-    };
-    if groups.is_empty() {
-        return run_here(&rt, alloc, script, ledger, gate, share, jobs);
-    }
-    let Ok(script_copy) = Arc::try_clone(script) else {
-        return Err(RunError::NoMemory);
-    };
-    let Ok(ledger_copy) = Arc::try_clone(ledger) else {
-        return Err(RunError::NoMemory);
-    };
-    let Ok(gate_copy) = Arc::try_clone(gate) else {
-        return Err(RunError::NoMemory);
-    };
-    // For its fact alone: what the share may count can be counted.
-    let _left = share.left();
-    let mine = share.split(tally(&**script, &jobs));
-    let running = start(rt, alloc, script_copy, ledger_copy, gate_copy, mine, jobs)?;
-    let others = run_crew(rt, alloc, script, ledger, gate, share, groups);
-    let finished = running.join(&rt);
-    let done = others?;
+    let mut share = share;
+    let done = run_jobs(rt, alloc, shared, &mut share, jobs)?;
+    Ok(Finished { share, done })
+}
+
+// Takes a worker's share back, and puts its results behind those of the others.
+fn gather<B: Books>(
+    share: &mut Share<B>,
+    done: Vec<Done>,
+    finished: Finished<B>,
+) -> Result<Vec<Done>, RunError>
+    requires { IsCountable (plus (given share.old.left share.old.done) (given finished.share.left finished.share.done)) }
+    ensures done { IfOk result (λ all. all.items ≡ done.items ++ finished.done.items) }
+    ensures share { share.new ≡ stake (share.old.parts + finished.share.parts) (plus share.old.left finished.share.left)
+        (both share.old.done finished.share.done) }
+    ensures err { IfErr result (λ e. e ≡ NoMemory) }
+{
     let Finished {
         share: theirs,
         done: last,
-    } = finished?;
-    share.join(theirs);
-    let all = put_behind(done, last)?;
-    Ok(all)
-}
-
-// Runs the jobs of one worker on the thread that it is on.
-fn run_here<B: Books, G: Gate, R: Wait>(
-    rt: &R,
-    alloc: Global,
-    script: &Arc<Script>,
-    ledger: &Arc<Ledger<B>>,
-    gate: &Arc<G>,
-    share: &mut Share<B>,
-    jobs: Vec<Job>,
-) -> Result<Vec<Done>, RunError>
-    requires ready { AreReadyJobs (arc_value script.now) jobs.items }
-    requires parts { 2 ≤ share.old.parts }
-    requires left { Within (tally_at (arc_value script.now) (numbers_of jobs.items)) share.old.left }
-    ensures done { IfOk result (λ done. AreDoneJobs (arc_value script.now) jobs.items done.items) }
-    ensures share { IfOk result (λ done. share.new
-        ≡ stake share.old.parts (less share.old.left (tally_at (arc_value script.now) (numbers_of jobs.items)))
-        (both share.old.done (worked (tally_at (arc_value script.now) (numbers_of jobs.items)) (moved_in done.items)))) }
-    ensures err { IfErr result (λ e. e ≡ NoMemory) }
-{
-    // For its fact alone: what the share may count can be counted.
-    let _left = share.left();
-    let mine = share.split(tally(&**script, &jobs));
-    let Ok(finished) = run_jobs(rt, alloc, &**script, &**ledger, &**gate, mine, jobs) else {
-        return Err(RunError::NoMemory);
-    };
-    let Finished {
-        share: theirs,
-        done,
     } = finished;
     share.join(theirs);
-    Ok(done)
-}
-
-// The results of the others and then those of the last worker.
-fn put_behind(done: Vec<Done>, last: Vec<Done>) -> Result<Vec<Done>, RunError>
-    ensures ok { IfOk result (λ all. all.items ≡ done.items ++ last.items) }
-    ensures err { IfErr result (λ e. e ≡ NoMemory) }
-{
     let mut done = done;
     let mut last = last;
     match done.append(&mut last) {

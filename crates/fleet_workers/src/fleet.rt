@@ -1,22 +1,21 @@
 // All batches, one after another.
-ghost use Rattle.std.specs.Prelude.{◌≡◌, ◌⊎◌, ◌<◌, ◌≤◌, [], ℕ, List, length, map, Some, IfOk, IfErr};
+ghost use Rattle.std.specs.Prelude.{◌≡◌, ◌⊎◌, [], List, length, map, Some, IfOk, IfErr};
 ghost use Rattle.std.specs.Arc.{arc_value};
 ghost use Rattle.photo_device.specs.Device.{Kept};
 ghost use Rattle.photo_script.specs.Contents.{IsScript};
 ghost use Rattle.photo_script.specs.Tallies.{tally_of};
 ghost use Rattle.photo_batcher.specs.Plans.{IsPlan};
-ghost use Rattle.photo_batcher.specs.Batches.{InTurn};
 ghost use Rattle.work_ledger.specs.Ledgers.{all_parts};
 ghost use Rattle.work_ledger.specs.Stakes.{Stake, stake, nothing_done, IsCountable};
 ghost use Rattle.fleet_steps.specs.Outcomes.{IsOutcome};
 ghost use Rattle.fleet_steps.specs.declared.fault.RunError.TheVariants.{NoMemory, NoWorker};
-ghost use Rattle.fleet_workers.specs.Limits.{max_workers};
-ghost use Rattle.fleet_workers.specs.Progress.{HasRun};
+ghost use Rattle.fleet_workers.specs.Progress.{HasRun, HasEnded};
 
 use crate::batch::run_batch;
 use crate::gate::Gate;
 use crate::number::Workers;
 use crate::parcel::Parcel;
+use crate::shared::Shared;
 use crate::slots::Slots;
 use fleet_steps::{IssueLog, Outcome, RunError, no_reports, opening_devices};
 use photo_batcher::{Plan, plan};
@@ -26,7 +25,7 @@ use std::alloc::{AllocError, Global};
 use std::marker::Brand;
 use std::sync::{Arc, Wait};
 use std::thread::Threads;
-use work_ledger::{Blanks, Books, open};
+use work_ledger::{Blanks, Books, Share, open};
 
 /// Runs a script by several workers, each in a thread of its own, batch by batch: the first worker's thread is the one that
 /// calls, and the others' are started. The commands of a batch work on no common device. Of a batch of `m` commands the one
@@ -47,30 +46,19 @@ pub fn run_fleet<G: Gate + 'static, R: Threads + Wait + Copy + Send + 'static>(
     ensures ok { IfOk result (IsOutcome (arc_value script.now)) }
     ensures err { IfErr result (λ e. (e ≡ NoMemory) ⊎ (e ≡ NoWorker)) }
 {
-    let source = &**script;
-    let count = commands_of(source);
-    let tally = source.tally();
-    let Ok(plan) = plan(alloc, source) else {
-        return Err(RunError::NoMemory);
-    };
-    let Ok(slots) = opening_slots(alloc, source, count) else {
-        return Err(RunError::NoMemory);
-    };
-    let (slots, totals) = run_batches::<Brand, G, R>(
+    let (slots, totals) = run_counted::<Brand, G, R>(
         rt,
         alloc,
         Blanks::new(),
-        tally,
         script,
-        &gate,
-        &plan,
-        slots,
-        workers.count(),
+        gate,
+        workers,
     )?;
     let Slots {
         devices,
         reports,
         log,
+        ..
     } = slots;
     let Ok(devices) = devices_out_of(alloc, devices) else {
         return Err(RunError::NoMemory);
@@ -86,8 +74,8 @@ pub fn run_fleet<G: Gate + 'static, R: Threads + Wait + Copy + Send + 'static>(
     })
 }
 
-// Runs the batches of a plan, and counts in the ledgers of the blanks.
-fn run_batches<
+// Runs a script, and counts in the ledger of the blanks.
+fn run_counted<
     B: Books + Send + Sync + 'static,
     G: Gate + 'static,
     R: Threads + Wait + Copy + Send + 'static,
@@ -95,44 +83,91 @@ fn run_batches<
     rt: R,
     alloc: Global,
     blanks: Blanks,
-    tally: Tally,
     script: &Arc<Script>,
-    gate: &Arc<G>,
-    plan: &Plan,
-    slots: Slots,
-    workers: usize,
+    gate: Arc<G>,
+    workers: Workers,
 ) -> Result<(Slots, Totals), RunError>
     requires names { blanks ≡ B.names }
-    requires ledger { tally ≡ B.tally }
-    requires countable { IsCountable tally }
-    requires tally { tally ≡ tally_of (arc_value script.now) }
-    requires script { IsScript (arc_value script.now) }
-    requires plan { IsPlan (arc_value script.now) plan.now }
-    requires start { HasRun (arc_value script.now) [] slots (stake all_parts tally nothing_done) }
-    requires workers { (0 < workers) × (workers ≤ max_workers) }
-    ensures ok { IfOk result (λ r. (order : List ℕ) × (share : Stake) × InTurn plan.now.members order
-        × HasRun (arc_value script.now) order r.0 share × (r.1 ≡ share.done)) }
+    requires tally { tally_of (arc_value script.now) ≡ B.tally }
+    ensures ok { IfOk result (λ r. (share : Stake) × HasEnded (arc_value script.now) r.0 share × (r.1 ≡ share.done)) }
     ensures err { IfErr result (λ e. (e ≡ NoMemory) ⊎ (e ≡ NoWorker)) }
 {
-    let Ok((ledger, mut share)) = open::<B>(alloc, blanks, tally) else {
+    let Ok((ledger, share)) = open::<B>(alloc, blanks, tally_of(&**script)) else {
         return Err(RunError::NoMemory);
     };
+    let Ok(script) = Arc::try_clone(script) else {
+        return Err(RunError::NoMemory);
+    };
+    let shared = Shared {
+        script,
+        ledger,
+        gate,
+    };
+    let mut share = share;
+    let slots = run_planned(rt, alloc, &shared, &mut share, workers)?;
+    let totals = shared.ledger.close(&rt, share);
+    Ok((slots, totals))
+}
+
+// How many commands of each kind a script has: a ledger can count them.
+fn tally_of(script: &Script) -> Tally
+    ensures tally { result ≡ tally_of script.now }
+    ensures countable { IsCountable result }
+{
+    // For its fact alone: how many commands a script has at most.
+    let _commands = script.commands();
+    script.tally()
+}
+
+// Plans the script, and runs its batches with a share that may count all commands.
+fn run_planned<
+    B: Books + Send + Sync + 'static,
+    G: Gate + 'static,
+    R: Threads + Wait + Copy + Send + 'static,
+>(
+    rt: R,
+    alloc: Global,
+    shared: &Shared<B, G>,
+    share: &mut Share<B>,
+    workers: Workers,
+) -> Result<Slots, RunError>
+    requires { share.old ≡ stake all_parts (tally_of (arc_value shared.now.script)) nothing_done }
+    ensures ok { IfOk result (λ slots. HasEnded (arc_value shared.now.script) slots share.new) }
+    ensures err { IfErr result (λ e. (e ≡ NoMemory) ⊎ (e ≡ NoWorker)) }
+{
+    let Ok(plan) = plan(alloc, shared.script()) else {
+        return Err(RunError::NoMemory);
+    };
+    let Ok(slots) = opening_slots(alloc, shared.script(), workers) else {
+        return Err(RunError::NoMemory);
+    };
+    run_batches(rt, alloc, shared, share, &plan, slots)
+}
+
+// Runs the batches of a plan, one after another.
+fn run_batches<
+    B: Books + Send + Sync + 'static,
+    G: Gate + 'static,
+    R: Threads + Wait + Copy + Send + 'static,
+>(
+    rt: R,
+    alloc: Global,
+    shared: &Shared<B, G>,
+    share: &mut Share<B>,
+    plan: &Plan,
+    slots: Slots,
+) -> Result<Slots, RunError>
+    requires script { IsScript (arc_value shared.now.script) }
+    requires plan { IsPlan (arc_value shared.now.script) plan.now }
+    requires start { HasRun (arc_value shared.now.script) [] slots share.old }
+    ensures ok { IfOk result (λ slots. HasEnded (arc_value shared.now.script) slots share.new) }
+    ensures err { IfErr result (λ e. (e ≡ NoMemory) ⊎ (e ≡ NoWorker)) }
+{
     let mut slots = slots;
     for batch in 0..plan.batches() {
-        slots = run_batch(
-            rt,
-            alloc,
-            script,
-            &ledger,
-            gate,
-            &mut share,
-            slots,
-            plan.members(batch),
-            workers,
-        )?;
+        slots = run_batch(rt, alloc, shared, share, slots, plan.members(batch))?;
     }
-    let totals = ledger.close(&rt, share);
-    Ok((slots, totals))
+    Ok(slots)
 }
 
 // How many commands a script has. What is true of every script is true of it.
@@ -146,11 +181,11 @@ fn commands_of(script: &Script) -> usize
 }
 
 // The slots before any command.
-fn opening_slots(alloc: Global, script: &Script, commands: usize) -> Result<Slots, AllocError>
-    requires script { IsScript script.now }
-    requires commands { commands ≡ length script.now.commands }
-    ensures { IfOk result (λ slots. HasRun script.now [] slots (stake all_parts (tally_of script.now) nothing_done)) }
+fn opening_slots(alloc: Global, script: &Script, workers: Workers) -> Result<Slots, AllocError>
+    ensures script { IsScript script.now }
+    ensures slots { IfOk result (λ slots. HasRun script.now [] slots (stake all_parts (tally_of script.now) nothing_done)) }
 {
+    let commands = commands_of(script);
     let devices = opening_devices(alloc, script)?;
     let devices = slots_of(alloc, devices)?;
     let reports = no_reports(alloc, commands)?;
@@ -158,6 +193,7 @@ fn opening_slots(alloc: Global, script: &Script, commands: usize) -> Result<Slot
         devices,
         reports,
         log: Vec::new(alloc),
+        workers,
     })
 }
 

@@ -9,6 +9,7 @@ mod gate;
 mod number;
 mod one;
 mod parcel;
+mod shared;
 mod slots;
 mod tally;
 mod work;

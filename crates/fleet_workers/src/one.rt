@@ -1,8 +1,10 @@
 // One command on devices that are its own.
-ghost use Rattle.std.specs.Prelude.{◌≡◌, None, IfOk};
+ghost use Rattle.std.specs.Prelude.{◌≡◌, ◌<◌, None, IfOk, OnOk};
 ghost use Rattle.std.specs.Option.{option_to_list};
+ghost use Rattle.photo_version.specs.Author.{epoch_of_author};
 ghost use Rattle.photo_device.specs.Held.{entries_of};
 ghost use Rattle.photo_device.specs.Device.{ModelDevice, Shows};
+ghost use Rattle.photo_script.specs.Contents.{devices_of};
 ghost use Rattle.photo_script.specs.Reports.{Tells, answer_of};
 ghost use Rattle.photo_script.specs.Runs.{effect};
 ghost use Rattle.fleet_workers.specs.Jobs.{IsFor, IsDone};
@@ -27,8 +29,7 @@ pub(crate) fn run_one(alloc: Global, command: &Command, job: Job) -> Result<Done
     let Parcel { device: mut first } = first;
     match second {
         None => {
-            let report = run_command(alloc, command, &mut *first)?;
-            let entry = entry_made(command, &report, &*first)?;
+            let (report, entry) = run_single(alloc, command, &mut *first)?;
             Ok(Done {
                 number,
                 first: Parcel { device: first },
@@ -49,6 +50,26 @@ pub(crate) fn run_one(alloc: Global, command: &Command, job: Job) -> Result<Done
             })
         }
     }
+}
+
+// Runs a command that works on one device. Beside the report it gives what the log gains.
+fn run_single(
+    alloc: Global,
+    command: &Command,
+    device: &mut Device,
+) -> Result<(Report, Option<SharedHeld>), AllocError>
+    requires alone { (devices_of command.now).1 ≡ None }
+    requires room { device.old.counter < 4_294_967_295 }
+    requires epoch { epoch_of_author device.old.author < 4_294_967_295 }
+    ensures device { OnOk result ((m : ModelDevice) → Shows device.old m → Shows device.new (effect command.now m None).first) }
+    ensures report { IfOk result
+        (λ r. (m : ModelDevice) → Shows device.old m → Tells (answer_of r.0) (effect command.now m None).report) }
+    ensures entry { IfOk result
+        (λ r. (m : ModelDevice) → Shows device.old m → entries_of (option_to_list r.1) ≡ (effect command.now m None).entries) }
+{
+    let report = run_command(alloc, command, device)?;
+    let entry = entry_made(command, &report, device)?;
+    Ok((report, entry))
 }
 
 // What the device holds of the version that the command has just made on it, if it has made one.

@@ -1,42 +1,55 @@
 // What one worker does.
-ghost use Rattle.std.specs.Prelude.{◌≡◌, IfOk};
+ghost use Rattle.std.specs.Prelude.{◌≡◌, [], ◌∷◌, IfOk};
+ghost use Rattle.std.specs.Arc.{arc_value};
 ghost use Rattle.photo_script.specs.Reports.{answer_of};
 ghost use Rattle.fleet_workers.specs.Counting.{kind_told};
 ghost use Rattle.fleet_workers.specs.Jobs.{MayStart, HasWorked};
 
 use crate::gate::Gate;
 use crate::one::run_one;
-use crate::work::{Finished, Job};
-use photo_script::{Report, Script};
+use crate::shared::Shared;
+use crate::work::{Done, Job};
+use photo_script::Report;
 use std::alloc::{AllocError, Global};
 use std::sync::Wait;
-use work_ledger::{Books, Kind, Ledger, Share};
+use work_ledger::{Books, Kind, Share};
 
-// Runs the jobs one after another: calls the gate before each, runs it, counts it, and calls the gate with what a glance at
-// the ledger then gives. Its only error is want of memory.
+// Runs the jobs one after another, and counts them in the share. Its only error is want of memory.
 pub(crate) fn run_jobs<B: Books, G: Gate, R: Wait>(
     rt: &R,
     alloc: Global,
-    script: &Script,
-    ledger: &Ledger<B>,
-    gate: &G,
-    share: Share<B>,
+    shared: &Shared<B, G>,
+    share: &mut Share<B>,
     jobs: Vec<Job>,
-) -> Result<Finished<B>, AllocError>
-    requires { MayStart script.now jobs.items share }
-    ensures { IfOk result (λ f. HasWorked script.now jobs.items f.done.items f.share) }
+) -> Result<Vec<Done>, AllocError>
+    requires { MayStart (arc_value shared.now.script) jobs.items share.old }
+    ensures { IfOk result (λ done. HasWorked (arc_value shared.now.script) jobs.items done.items share.old share.new) }
 {
-    let mut share = share;
     let mut done = Vec::new(alloc);
     for job in jobs {
-        let number = job.number;
-        gate.before(number);
-        let it = run_one(alloc, script.command(number), job)?;
-        ledger.count(rt, &mut share, kind_of(&it.report));
-        gate.after(number, ledger.glance(rt, &mut share));
+        let it = run_job(rt, alloc, shared, share, job)?;
         done.push(it)?;
     }
-    Ok(Finished { share, done })
+    Ok(done)
+}
+
+// Calls the gate, runs the job, counts it, and calls the gate with what a glance at the ledger then gives.
+fn run_job<B: Books, G: Gate, R: Wait>(
+    rt: &R,
+    alloc: Global,
+    shared: &Shared<B, G>,
+    share: &mut Share<B>,
+    job: Job,
+) -> Result<Done, AllocError>
+    requires { MayStart (arc_value shared.now.script) (job ∷ []) share.old }
+    ensures { IfOk result (λ done. HasWorked (arc_value shared.now.script) (job ∷ []) (done ∷ []) share.old share.new) }
+{
+    let number = job.number;
+    shared.gate.before(number);
+    let done = run_one(alloc, shared.script().command(number), job)?;
+    shared.ledger.count(rt, share, kind_of(&done.report));
+    shared.gate.after(number, shared.ledger.glance(rt, share));
+    Ok(done)
 }
 
 // How a command counts, by the report on it.

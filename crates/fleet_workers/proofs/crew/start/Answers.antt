@@ -1,17 +1,27 @@
-use denote.Param.Send.{sendable}
-use Rattle.std.proofs.Crossing.{crosses}
-use Rattle.std.proofs.alloc.Global.TheSendSync as global
-use Rattle.std.proofs.boxed.Box.TheSendSync as box
-use Rattle.std.proofs.rt.Memory.TheSendSync as memory
-use Rattle.std.proofs.string.String.TheSendSync as string
-use Rattle.std.proofs.vec.Vec.TheSendSync as vec
-use Rattle.work_ledger.proofs.share.Share.TheSendSync as share
-use Rattle.work_ledger.proofs.ledger.Ledger.TheSendSync as ledger
-use Rattle.fleet_workers.proofs.Sent.{job_send, done_send, script_send, script_sync}
+use Rattle.std.proofs.Common.{◌≡◌, ◌∙◌, ◌-◌, ap, sym, subst}
+use Rattle.std.specs.Prelude.{IfOk}
+use Rattle.std.specs.Arc.{arc_value}
+use Rattle.photo_script.specs.Contents.{Contents}
+use Rattle.photo_script.specs.declared.tally.Tally.{Tally}
+use Rattle.work_ledger.specs.Stakes.{stake, less, nothing_done}
+use Rattle.fleet_workers.specs.Counting.{tally_at}
+use Rattle.fleet_workers.specs.Jobs.{AreReadyJobs, numbers_of}
+use Rattle.fleet_workers.proofs.Batched.{always}
 use Rattle.fleet_workers.proofs.crew.start.Goals as goal
 
-pub spawn_with-requires-send-F : goal.spawn_with-requires-send-F
-spawn_with-requires-send-F g c κs within = search (memory.the_field_send, memory.the_send, memory.the_field_sync, memory.the_sync, global.the_field_send, global.the_send, global.the_field_sync, global.the_sync, vec.the_send, vec.the_sync, string.the_field_send, string.the_send, string.the_field_sync, string.the_sync, box.the_send, box.the_sync, crosses, job_send, script_send, script_sync, share.the_send, ledger.the_send, ledger.the_sync, sendable) depth 60 fits 20000
+pub spawn-requires-clause-ready : goal.spawn-requires-clause-ready
+spawn-requires-clause-ready g c κs within = subst (λ (s : Contents). AreReadyJobs s c.args.jobs.items) (sym c.in-Ok.ensures) c.requires.start.0
 
-pub spawn_with-requires-send-T : goal.spawn_with-requires-send-T
-spawn_with-requires-send-T g c κs within = search (memory.the_field_send, memory.the_send, memory.the_field_sync, memory.the_sync, global.the_field_send, global.the_send, global.the_field_sync, global.the_sync, vec.the_send, vec.the_sync, string.the_field_send, string.the_send, string.the_field_sync, string.the_sync, box.the_send, box.the_sync, crosses, done_send, share.the_send, sendable) depth 60 fits 20000
+pub spawn-requires-clause-share : goal.spawn-requires-clause-share
+spawn-requires-clause-share g c κs within =
+    c.split-share.ensures.new ∙ ap (λ (x : Tally). stake 1 x nothing_done) (c.tally.ensures ∙ ap (λ (s : Contents). tally_at s (numbers_of c.args.jobs.items)) c.script.ensures)
+
+pub returns-clause-ok : goal.returns-clause-ok
+returns-clause-ok g c =
+    subst (λ (s : Contents). IfOk c.spawn.result (λ r. (r.handle.promise.script.value ≡ s) × (r.handle.promise.jobs.value ≡ c.args.jobs))) c.in-Ok.ensures c.spawn.ensures.ok
+
+pub returns-clause-share : goal.returns-clause-share
+returns-clause-share g c =
+    let share = c.args.share.now in
+    let of = c.tally.ensures ∙ ap (λ (s : Contents). tally_at s (numbers_of c.args.jobs.items)) (c.script.ensures ∙ c.in-Ok.ensures) in
+    always c.spawn.result _ (c.split-share.ensures.rest ∙ ap (λ (x : Tally). stake (share.parts - 1) (less share.left x) share.done) of)

@@ -6,4 +6,4 @@ use Rattle.fleet_workers.proofs.fleet.run_batches.Given as goal
 
 -- some batches have run
 abbrev pub invariant-loop-batch : goal.invariant-loop-batch
-invariant-loop-batch g l = (front : List ℕ) × InTurn (take l.batch l.plan.members) front × HasRun (arc_value l.script) front l.slots l.share
+invariant-loop-batch g l = (front : List ℕ) × InTurn (take l.batch l.plan.members) front × HasRun (arc_value l.shared.script) front l.slots l.share
