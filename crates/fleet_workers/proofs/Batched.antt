@@ -1,5 +1,5 @@
 -- A batch, put back one result after another.
-use Rattle.std.proofs.Common.{◌≡◌, ◌≢◌, ℕ, zero, suc, ◌+◌, ◌-◌, ◌<◌, ◌≤◌, ◌==◌, ◌⊎◌, inl, inr, cond, Bool, true, false, List, [], ◌∷◌, ◌++◌, length, get_or, set, map, refl, sym, ap, ap₂, ◌∙◌, subst, append_assoc, append-nil, length-set, arith}
+use Rattle.std.proofs.Common.{◌≡◌, ◌≢◌, ℕ, zero, suc, ◌+◌, ◌-◌, ◌<◌, ◌≤◌, ◌==◌, ◌⊎◌, inl, inr, cond, Bool, true, false, List, [], ◌∷◌, ◌++◌, length, get_or, set, map, refl, sym, ap, ◌∙◌, subst, append_assoc, append-nil, length-set, arith}
 use Rattle.std.specs.Prelude.{Option, Some, None, IfSome, is_some, slice_get, Result, Ok, Err, OnOk, IsPermutation}
 use Rattle.std.specs.List.{AllZip, AllByRecursion}
 use Rattle.std.specs.Option.{option_map, option_to_list}
@@ -16,23 +16,21 @@ use Rattle.photo_device.specs.Device.{Kept, ModelDevice, Shows, opening}
 use Rattle.photo_script.specs.declared.command.Command.{Command}
 use Rattle.photo_script.specs.declared.report.Report.{Report}
 use Rattle.photo_script.specs.Contents.{Contents, IsScript, command_of, devices_of, IsWithin}
-use Rattle.photo_script.specs.Reports.{Tells, answer_of}
 use Rattle.photo_script.specs.Runs.{effect, device_at, with_second, run_in_order}
-use Rattle.photo_batcher.specs.Related.{is_device, works_on, uses, AreRelated, IsNumber}
+use Rattle.photo_batcher.specs.Related.{is_device, works_on, uses, AreRelated}
 use Rattle.photo_batcher.proofs.Exchange.{used}
 use Rattle.photo_batcher.specs.Orders.{times}
 use Rattle.photo_batcher.proofs.Counting.{times_cons}
 use Rattle.photo_batcher.proofs.Turns.{all_by_times, by_all_times, self_counts}
-use Rattle.photo_batcher.proofs.Befores.{works_cases, no_device}
+use Rattle.photo_batcher.proofs.Befores.{works_cases}
 use Rattle.photo_batcher.proofs.Lasts.{works_first, works_second}
-use Rattle.fleet_steps.specs.Between.{MayPull, AreReady, effect_on, devices_after}
-use Rattle.photo_device.proofs.AllLemmas.{all_front, all_back}
-use Rattle.fleet_workers.specs.Jobs.{ShowsSecond, MayWork, IsFor, ShowsEffect, IsDone, IsReadyJob, IsDoneJob, AreReadyJobs, AreDoneJobs}
+use Rattle.fleet_steps.specs.Between.{MayPull, AreReady, effect_on}
+use Rattle.fleet_workers.specs.Jobs.{ShowsSecond, MayWork, ShowsEffect, IsDone, IsReadyJob, IsDoneJob, AreReadyJobs, AreDoneJobs}
 use Rattle.fleet_workers.specs.Batch.{IsSecondAt, IsJobAt, AreApart, AreOut, with_other, in_places, put_devices, all_devices, all_reports, all_logged, some_second, put_slots, all_slots, IsOfCommand}
-use Rattle.fleet_steps.specs.Running.{IsTold, RunsTo}
+use Rattle.fleet_steps.specs.Running.{RunsTo}
 use Rattle.fleet_workers.specs.declared.work.Job.{Job}
 use Rattle.fleet_workers.specs.declared.work.Done.{Done}
-use Rattle.fleet_steps.proofs.Zipped.{zip_at, zip_set, zip_long}
+use Rattle.fleet_steps.proofs.Zipped.{zip_at, zip_set}
 use Rattle.fleet_steps.proofs.Between.{may_pull}
 use Rattle.fleet_steps.proofs.About.{all_at}
 use Rattle.fleet_workers.proofs.Owned.{number_of}

@@ -1,25 +1,23 @@
 -- A command counts once.
-use Rattle.std.proofs.Common.{◌≡◌, ℕ, zero, suc, ◌+◌, ◌-◌, ◌<◌, ◌≤◌, Bool, true, false, cond, List, [], ◌∷◌, ◌++◌, map, refl, sym, ap, ◌∙◌, subst, arith}
+use Rattle.std.proofs.Common.{◌≡◌, ℕ, ◌+◌, ◌-◌, Bool, true, false, cond, List, [], ◌∷◌, ◌++◌, refl, sym, ap, ◌∙◌, subst, arith}
 use Rattle.std.specs.Prelude.{Option, Some, None, IsPermutation}
-use Rattle.std.specs.List.{sum_by}
 use Rattle.std.proofs.lemmas.List.Sums.{sum_by-append, sum_by-cons}
 use Rattle.std.proofs.lemmas.List.Sorted.{sum_by-IsPermutation}
 use Rattle.photo_device.specs.Device.{ModelDevice, is_held, narrowed, moved}
 use Rattle.photo_filter_rules.specs.Covers.{covers}
 use Rattle.photo_record.specs.declared.record.Record.TheVariants.{Removed}
-use Rattle.photo_script.specs.Limits.{max_commands}
 use Rattle.photo_script.specs.declared.tally.Tally.{Tally}
 use Rattle.photo_script.specs.declared.tally.Totals.{Totals}
 use Rattle.photo_script.specs.declared.command.Command.{Command}
 use Rattle.photo_script.specs.declared.command.Command.TheVariants as command
 use Rattle.photo_script.specs.Contents.{Contents, command_of}
-use Rattle.photo_script.specs.Reports.{Answer, ModelReport, Exactly, KnowledgeIs, NotHeld, NotNarrower, Narrowed, Pulled, KnowledgeOf, Tells, answer_of}
+use Rattle.photo_script.specs.Reports.{Answer, Exactly, NotHeld, NotNarrower, Narrowed, Pulled, Tells, answer_of}
 use Rattle.photo_script.specs.Runs.{Effect, effect, making, telling}
 use Rattle.photo_script.specs.Tallies.{kind_of, moved_by}
 use Rattle.photo_script.specs.Tallies as kind
 use Rattle.work_ledger.specs.declared.kind.Kind.{Kind}
 use Rattle.work_ledger.specs.declared.kind.Kind.TheVariants.{Change, Pull, Report}
-use Rattle.work_ledger.specs.Stakes.{Stake, stake, tally, totals, none_left, nothing_done, plus, less, both, kinds_of, given, Within, IsCountable}
+use Rattle.work_ledger.specs.Stakes.{Stake, stake, tally, totals, none_left, plus, less, both, given, Within}
 use Rattle.work_ledger.specs.Counting.{CanCount, counted}
 use Rattle.fleet_steps.specs.Moved.{MovesFew}
 use Rattle.fleet_workers.specs.Counting.{one_of, one_at, tally_at, kind_told, moved_in, worked}

@@ -1,5 +1,5 @@
 -- The jobs of one worker, and those of the others.
-use Rattle.std.proofs.Common.{◌≡◌, ℕ, zero, suc, length, get_or, take, ◌+◌, ◌-◌, ◌<◌, ◌≤◌, List, [], ◌∷◌, ◌++◌, map, refl, sym, ap, ◌∙◌, subst, arith}
+use Rattle.std.proofs.Common.{◌≡◌, ℕ, zero, suc, length, get_or, take, ◌+◌, ◌-◌, ◌<◌, List, [], ◌∷◌, ◌++◌, sym, ap, ◌∙◌, subst, arith}
 use Rattle.std.proofs.lemmas.List.{map-append, take_more}
 use Rattle.std.specs.Prelude.{Some, Vec, Result, Ok, Err, IfOk}
 use Rattle.photo_script.specs.declared.command.Command.{Command}
@@ -7,8 +7,7 @@ use Rattle.photo_script.specs.Tallies.{kind_of}
 use Rattle.photo_script.specs.Contents.{Contents, command_of}
 use Rattle.photo_script.specs.declared.tally.Tally.{Tally}
 use Rattle.photo_script.specs.declared.tally.Totals.{Totals}
-use Rattle.photo_script.specs.Limits.{max_commands}
-use Rattle.work_ledger.specs.Stakes.{Stake, stake, tally, totals, none_left, nothing_done, plus, less, both, given, Within, IsCountable}
+use Rattle.work_ledger.specs.Stakes.{Stake, stake, none_left, plus, less, both, given, Within, IsCountable}
 use Rattle.fleet_workers.specs.Counting.{one_of, tally_at, worked, moved_in}
 use Rattle.fleet_workers.specs.Jobs.{IsReadyJob, AreReadyJobs, AreDoneJobs, MayStart, HasWorked, numbers_of, share_for}
 use Rattle.fleet_workers.specs.declared.work.Job.{Job}

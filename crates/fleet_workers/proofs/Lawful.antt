@@ -1,16 +1,15 @@
 -- What is added up over the numbers of a lawful order.
-use Rattle.std.proofs.Common.{◌≡◌, ◌≢◌, ℕ, zero, suc, ◌+◌, ◌-◌, ◌<◌, ◌≤◌, Bool, true, false, cond, ◌==◌, List, [], ◌∷◌, ◌++◌, ◌⊎◌, inl, inr, length, get_or, set, map, take, replicate, refl, sym, ap, ◌∙◌, subst, arith, length-set}
-use Rattle.std.specs.Prelude.{Option, Some, None, slice_get}
-use Rattle.std.specs.List.{AllByRecursion, AllZip, sum_by, flat_map, count_by}
-use Rattle.std.specs.Option.{option_to_list}
+use Rattle.std.proofs.Common.{◌≡◌, ℕ, zero, suc, ◌+◌, ◌-◌, ◌<◌, ◌≤◌, Bool, cond, ◌==◌, List, [], ◌∷◌, ◌++◌, ◌⊎◌, inl, inr, length, get_or, set, map, take, replicate, refl, sym, ap, ◌∙◌, subst, arith, length-set}
+use Rattle.std.specs.Prelude.{Some, slice_get}
+use Rattle.std.specs.List.{AllByRecursion, AllZip, sum_by, count_by}
 use Rattle.std.proofs.lemmas.List.{get_or-set_other, length-replicate, take_all}
 use Rattle.std.proofs.lemmas.List.Sums.{sum_by-append, sum_by-cons, sum_by-set}
-use Rattle.std.proofs.lemmas.Option.{slice_get_cases, slice_get_within}
+use Rattle.std.proofs.lemmas.Option.{slice_get_cases}
 use Rattle.photo_script.specs.declared.command.Command.{Command}
 use Rattle.photo_script.specs.declared.tally.Tally.{Tally}
 use Rattle.photo_script.specs.declared.report.Report.{Report}
 use Rattle.photo_script.specs.declared.report.Report.TheVariants.{NotHeld}
-use Rattle.photo_script.specs.Contents.{Contents, command_of}
+use Rattle.photo_script.specs.Contents.{Contents}
 use Rattle.photo_script.specs.Reports.{Answer, ModelReport, Exactly, KnowledgeIs, Tells, answer_of}
 use Rattle.photo_script.specs.Runs.{numbers_to}
 use Rattle.photo_script.specs.Tallies.{tally_of, kind_of, is_change, is_pull, is_question, moved_by, moved_by_report}
@@ -19,7 +18,6 @@ use Rattle.photo_batcher.specs.Related.{IsNumber}
 use Rattle.photo_batcher.specs.Orders.{times, IsLawful}
 use Rattle.photo_batcher.proofs.Counting.{split, times_cons, times_append}
 use Rattle.photo_batcher.proofs.Turns.{self_counts, not_counts, all_by_times, by_all_times}
-use Rattle.photo_device.proofs.AllLemmas.{all_front, all_back, all_append}
 use Rattle.fleet_workers.specs.declared.work.Done.{Done}
 use Rattle.fleet_workers.specs.Batch.{all_reports}
 use Rattle.fleet_workers.specs.Counting.{one_of, one_at, tally_at, moved_in}

@@ -1,5 +1,5 @@
 -- Before the first batch, and after the last.
-use Rattle.std.proofs.Common.{◌≡◌, ◌∙◌, ℕ, ◌≤◌, List, [], ◌∷◌, ◌++◌, length, map, replicate, refl, sym, ap, subst, arith, append_assoc, append-nil}
+use Rattle.std.proofs.Common.{◌≡◌, ◌∙◌, ◌≤◌, List, [], ◌∷◌, ◌++◌, length, map, replicate, refl, sym, ap, subst, arith, append_assoc, append-nil}
 use Rattle.std.specs.Prelude.{Option, Some, None, IsPermutation}
 use Rattle.std.specs.List.{AllZip, AllByRecursion}
 use Rattle.std.proofs.lemmas.List.Sums.{count_by-le-length}
@@ -8,7 +8,6 @@ use Rattle.photo_device.specs.Device.{Kept, Shows}
 use Rattle.photo_script.specs.Contents.{Contents, IsScript}
 use Rattle.photo_script.specs.Limits.{max_commands}
 use Rattle.photo_script.specs.declared.tally.Tally.{Tally}
-use Rattle.photo_script.specs.declared.tally.Totals.{Totals}
 use Rattle.photo_script.specs.declared.report.Report.{Report}
 use Rattle.photo_script.specs.declared.report.Report.TheVariants.{NotHeld}
 use Rattle.photo_script.specs.Reports.{Tells, IsAbout, answer_of}
@@ -19,11 +18,10 @@ use Rattle.work_ledger.specs.Ledgers.{all_parts}
 use Rattle.work_ledger.specs.Stakes.{Stake, stake, less, totals, nothing_done, IsCountable}
 use Rattle.fleet_steps.specs.Outcomes.{IsOutcome}
 use Rattle.fleet_steps.specs.declared.outcome.Outcome.{Outcome}
-use Rattle.fleet_steps.specs.Running.{HasRun as HasReplayed}
 use Rattle.fleet_steps.proofs.InOrder.{runs_none, long_slots}
 use Rattle.fleet_steps.proofs.SoundRuns.{stays_sound_and_kept}
 use Rattle.fleet_workers.specs.declared.slots.Slots.{Slots}
-use Rattle.fleet_workers.specs.Counting.{tally_at, worked}
+use Rattle.fleet_workers.specs.Counting.{tally_at}
 use Rattle.fleet_workers.specs.Progress.{HasRun, HasEnded}
 use Rattle.fleet_workers.proofs.Counting.{tally_same}
 use Rattle.fleet_workers.proofs.Planned.{has_replayed, totals_are}

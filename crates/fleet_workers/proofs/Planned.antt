@@ -1,35 +1,31 @@
 -- The batches of a plan, one after another.
-use Rattle.std.proofs.Common.{◌≡◌, ◌≢◌, ℕ, zero, suc, ◌+◌, ◌-◌, ◌<◌, ◌≤◌, Bool, true, false, cond, ◌==◌, List, [], ◌∷◌, ◌++◌, length, map, take, drop, filter, replicate, refl, sym, ap, ◌∙◌, subst, arith, append_assoc, append-nil, length-append}
-use Rattle.std.specs.Prelude.{Option, Some, None, slice_get, IsPermutation}
-use Rattle.std.specs.List.{AllByRecursion, AllZip, flat_map}
+use Rattle.std.proofs.Common.{◌≡◌, ℕ, zero, suc, ◌+◌, ◌-◌, ◌≤◌, Bool, true, false, cond, ◌==◌, List, [], ◌∷◌, ◌++◌, length, take, drop, filter, refl, sym, ap, ◌∙◌, subst, arith, append_assoc, append-nil, length-append}
+use Rattle.std.specs.Prelude.{Some, slice_get, IsPermutation}
+use Rattle.std.specs.List.{AllByRecursion, flat_map}
 use Rattle.std.proofs.lemmas.Bool.{eqb-true}
 use Rattle.std.proofs.lemmas.List.Sorted.{IsPermutation-refl}
 use Rattle.photo_script.specs.Limits.{max_commands}
 use Rattle.photo_script.specs.declared.tally.Tally.{Tally}
-use Rattle.photo_script.specs.declared.tally.Totals.{Totals}
 use Rattle.photo_script.specs.Contents.{Contents, IsScript}
-use Rattle.photo_script.specs.Reports.{Tells, answer_of}
-use Rattle.photo_script.specs.Runs.{run, run_in_order, reports_of}
-use Rattle.photo_script.specs.Tallies.{tally_of, totals_of}
-use Rattle.photo_device.specs.Device.{Kept}
-use Rattle.photo_batcher.specs.Related.{IsNumber, AreRelated}
-use Rattle.photo_batcher.specs.Orders.{times, IsLawful, AreSameRuns}
+use Rattle.photo_script.specs.Runs.{run, reports_of}
+use Rattle.photo_script.specs.Tallies.{totals_of}
+use Rattle.photo_batcher.specs.Related.{IsNumber}
+use Rattle.photo_batcher.specs.Orders.{times, IsLawful}
 use Rattle.photo_batcher.specs.Batches.{members_of, batches_from, InTurn}
 use Rattle.photo_batcher.specs.Plans.{Planned, IsPlan, batch_in}
 use Rattle.photo_batcher.proofs.Counting.{times_append}
 use Rattle.photo_batcher.proofs.Turns.{by_all_times, plans_in_turn_are_lawful, batches_are_apart}
 use Rattle.photo_batcher.proofs.Checked.{lawful_long}
 use Rattle.photo_batcher.proofs.Reordered.{lawful_orders_are_the_run}
-use Rattle.work_ledger.specs.Ledgers.{all_parts}
-use Rattle.work_ledger.specs.Stakes.{Stake, stake, plus, less, Within, IsCountable}
+use Rattle.work_ledger.specs.Stakes.{Stake, plus, Within}
 use Rattle.fleet_steps.specs.Running.{HasRun as HasReplayed}
 use Rattle.fleet_steps.proofs.InOrder.{runs_all}
 use Rattle.photo_device.proofs.AllLemmas.{all_front, all_back}
 use Rattle.fleet_workers.specs.declared.slots.Slots.{Slots}
 use Rattle.fleet_workers.specs.Batch.{AreApart}
-use Rattle.fleet_workers.specs.Counting.{tally_at, worked, moved_in}
+use Rattle.fleet_workers.specs.Counting.{tally_at, worked}
 use Rattle.fleet_workers.specs.Progress.{HasRun}
-use Rattle.fleet_workers.proofs.Counting.{tally-append, totals_same}
+use Rattle.fleet_workers.proofs.Counting.{tally-append}
 use Rattle.fleet_workers.proofs.Lawful.{lawful_tally, lawful_moved}
 
 abbrev all_of : List (List ℕ) → List ℕ

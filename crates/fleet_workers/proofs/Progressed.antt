@@ -1,17 +1,14 @@
 -- One batch more has run.
 use Rattle.std.proofs.Common.{◌≡◌, ℕ, ◌+◌, ◌-◌, ◌≤◌, List, [], ◌∷◌, ◌++◌, length, map, replicate, refl, sym, ap, ◌∙◌, subst, arith}
 use Rattle.std.specs.Prelude.{Option, Some, IsPermutation, Vec}
-use Rattle.std.specs.List.{AllByRecursion}
 use Rattle.std.proofs.lemmas.List.{map-append, length-map}
-use Rattle.photo_device.specs.declared.held.Held.{Held}
 use Rattle.photo_device.specs.Device.{Kept}
 use Rattle.photo_script.specs.Limits.{max_commands}
 use Rattle.photo_script.specs.declared.tally.Tally.{Tally}
 use Rattle.photo_script.specs.declared.tally.Totals.{Totals}
-use Rattle.photo_script.specs.declared.command.Command.{Command}
 use Rattle.photo_script.specs.declared.report.Report.{Report}
 use Rattle.photo_script.specs.declared.report.Report.TheVariants.{NotHeld}
-use Rattle.photo_script.specs.Contents.{Contents, IsScript, command_of}
+use Rattle.photo_script.specs.Contents.{Contents, IsScript}
 use Rattle.photo_script.specs.Tallies.{tally_of}
 use Rattle.work_ledger.specs.Ledgers.{all_parts}
 use Rattle.work_ledger.specs.Stakes.{Stake, stake, plus, less, both}
@@ -21,11 +18,11 @@ use Rattle.fleet_workers.specs.declared.work.Job.{Job}
 use Rattle.fleet_workers.specs.declared.work.Done.{Done}
 use Rattle.fleet_workers.specs.declared.slots.Slots.{Slots}
 use Rattle.fleet_workers.specs.Jobs.{AreReadyJobs, AreDoneJobs, jobs_of, numbers_of}
-use Rattle.fleet_workers.specs.Batch.{IsJobAt, AreApart, all_slots, all_devices, all_reports, all_logged}
+use Rattle.fleet_workers.specs.Batch.{AreApart, all_slots, all_devices, all_reports, all_logged}
 use Rattle.fleet_workers.specs.Dealing.{IsDealt}
 use Rattle.fleet_workers.specs.Counting.{tally_at, worked, moved_in}
 use Rattle.fleet_workers.specs.Progress.{HasRun}
-use Rattle.fleet_workers.proofs.Counting.{tally_same, totals_same, tally-append, moved-append}
+use Rattle.fleet_workers.proofs.Counting.{tally_same, tally-append, moved-append}
 use Rattle.fleet_workers.proofs.Batched.{done_is, put_batch, all_back_in, out_permuted, ready_jobs}
 
 pub long_here : (script : Contents) (front : List ℕ) (slots : Slots) (share : Stake) → HasRun script front slots share → length slots.devices.items ≡ length script.names

@@ -1,5 +1,5 @@
 -- How a batch is dealt to workers.
-use Rattle.std.specs.Prelude.{◌≡◌, ℕ, ◌+◌, ◌<◌, ◌%◌, Bool, true, false, ◌==◌, if◌then◌else◌, List, [], ◌∷◌, ◌++◌, length, map, slice_index_or, slice_set, Vec, IsPermutation}
+use Rattle.std.specs.Prelude.{◌≡◌, ℕ, ◌+◌, ◌<◌, ◌%◌, Bool, ◌==◌, if◌then◌else◌, List, [], ◌∷◌, ◌++◌, length, map, slice_index_or, slice_set, Vec, IsPermutation}
 use Rattle.std.specs.List.{AllByRecursion}
 use Rattle.photo_device.specs.Device.{Kept}
 use Rattle.photo_script.specs.Contents.{Contents}

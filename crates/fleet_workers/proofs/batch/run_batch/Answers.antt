@@ -1,17 +1,13 @@
-use Rattle.std.proofs.Common.{◌≡◌, ◌∙◌, ◌<◌, ℕ, List, ap, sym, subst, length, arith, map}
-use Rattle.std.specs.Prelude.{Some, Option}
+use Rattle.std.proofs.Common.{◌≡◌, ◌∙◌, ap, sym, subst, length, arith}
 use Rattle.std.specs.Arc.{arc_value}
 use Rattle.std.specs.List.{AllByRecursion}
-use Rattle.photo_device.specs.Device.{Kept}
 use Rattle.photo_script.specs.declared.tally.Tally.{Tally}
 use Rattle.photo_script.specs.Contents.{Contents}
 use Rattle.photo_batcher.specs.Related.{IsNumber}
 use Rattle.work_ledger.specs.Stakes.{Stake, Within}
 use Rattle.fleet_workers.specs.Batch.{AreApart, IsOfCommand, all_slots}
-use Rattle.fleet_workers.specs.Counting.{tally_at}
 use Rattle.fleet_workers.specs.Dealing.{IsDealt}
 use Rattle.fleet_workers.specs.Jobs.{jobs_of, numbers_of}
-use Rattle.fleet_workers.specs.Progress.{HasRun}
 use Rattle.fleet_workers.proofs.Batched.{of_commands}
 use Rattle.fleet_workers.proofs.Counting.{tally-permuted}
 use Rattle.fleet_workers.proofs.Progressed.{long_here, long_reports, ready_groups, after_batch}

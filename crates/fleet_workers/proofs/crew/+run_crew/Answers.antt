@@ -1,9 +1,8 @@
-use Rattle.std.proofs.Common.{◌≡◌, ◌∙◌, ◌<◌, ◌++◌, List, ap, sym, subst, arith}
+use Rattle.std.proofs.Common.{◌∙◌, ap, arith}
 use Rattle.std.specs.Arc.{arc_value}
-use Rattle.fleet_workers.specs.declared.work.Job.{Job}
-use Rattle.fleet_workers.specs.Jobs.{MayStart, HasWorked, jobs_of}
+use Rattle.fleet_workers.specs.Jobs.{jobs_of}
 use Rattle.fleet_workers.proofs.Owned.{jobs_of-last}
-use Rattle.fleet_workers.proofs.Crewed.{HaveRun, may_last, may_others, promised, countable_joined, all_joined}
+use Rattle.fleet_workers.proofs.Crewed.{may_last, may_others, promised, countable_joined, all_joined}
 use Rattle.fleet_workers.proofs.crew.+run_crew.Goals as goal
 
 pub start-requires-clause-start : goal.start-requires-clause-start

@@ -1,4 +1,4 @@
-use Rattle.std.proofs.Common.{◌≡◌, ◌≤◌, sym, subst, arith}
+use Rattle.std.proofs.Common.{sym, subst, arith}
 use Rattle.std.specs.Arc.{arc_value}
 use Rattle.work_ledger.specs.Stakes.{Stake, Within}
 use Rattle.fleet_workers.specs.Counting.{tally_at}

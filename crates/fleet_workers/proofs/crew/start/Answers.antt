@@ -1,6 +1,5 @@
 use Rattle.std.proofs.Common.{◌≡◌, ◌∙◌, ◌-◌, ap, sym, subst}
 use Rattle.std.specs.Prelude.{IfOk}
-use Rattle.std.specs.Arc.{arc_value}
 use Rattle.photo_script.specs.Contents.{Contents}
 use Rattle.photo_script.specs.declared.tally.Tally.{Tally}
 use Rattle.work_ledger.specs.Stakes.{stake, less, nothing_done}

@@ -1,9 +1,6 @@
-use Rattle.std.proofs.Common.{◌≡◌, ◌<◌, ◌+◌, ◌∙◌, ◌%◌, ◌++◌, ◌∷◌, [], ap, sym, subst, length, take, get_or, map, rules, arith, List, ℕ}
-use Rattle.std.specs.Prelude.{Some}
+use Rattle.std.proofs.Common.{◌<◌, ◌∙◌, sym, subst, length, take, get_or, rules, arith, List, ℕ}
 use Rattle.std.proofs.lemmas.List.{length-take-le}
 use Rattle.std.proofs.Math.Nat.{mod-lt}
-use Rattle.photo_device.specs.Device.{Kept}
-use Rattle.photo_batcher.specs.Related.{IsNumber}
 use Rattle.photo_batcher.proofs.Lasts.{there}
 use Rattle.photo_batcher.proofs.Checked.{taken_more, taken_all}
 use Rattle.fleet_workers.specs.Dealing.{IsDealt}

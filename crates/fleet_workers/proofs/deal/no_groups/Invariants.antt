@@ -1,5 +1,4 @@
-use Rattle.std.specs.Prelude.{◌≡◌, map, replicate, [], List}
-use Rattle.fleet_workers.specs.declared.work.Job.{Job}
+use Rattle.std.specs.Prelude.{◌≡◌, map, replicate, []}
 use Rattle.fleet_workers.proofs.deal.no_groups.Given as goal
 
 abbrev pub invariant-loop : goal.invariant-loop

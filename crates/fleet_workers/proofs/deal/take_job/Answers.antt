@@ -1,5 +1,5 @@
-use Rattle.std.proofs.Common.{◌≡◌, ◌∙◌, List, refl, sym, subst}
-use Rattle.std.specs.Prelude.{Option, Some, IfSome, IsSome, slice_index_or}
+use Rattle.std.proofs.Common.{List, refl, sym, subst}
+use Rattle.std.specs.Prelude.{Option, IfSome, IsSome, slice_index_or}
 use Rattle.photo_device.specs.Device.{Kept}
 use Rattle.fleet_workers.specs.Batch.{IsTaken}
 use Rattle.fleet_workers.proofs.Owned.{number_of}

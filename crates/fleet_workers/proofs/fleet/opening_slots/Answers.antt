@@ -1,4 +1,4 @@
-use Rattle.std.proofs.Common.{◌≡◌, ◌∙◌, ap}
+use Rattle.std.proofs.Common.{◌∙◌, ap}
 use Rattle.std.specs.Prelude.{replicate}
 use Rattle.photo_script.specs.declared.report.Report.TheVariants.{NotHeld}
 use Rattle.fleet_workers.proofs.Opened.{opened}

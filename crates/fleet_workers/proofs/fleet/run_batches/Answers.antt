@@ -1,4 +1,4 @@
-use Rattle.std.proofs.Common.{◌≡◌, ◌++◌, [], ℕ, List, subst, refl, arith}
+use Rattle.std.proofs.Common.{◌++◌, [], ℕ, List, subst, refl, arith}
 use Rattle.std.specs.Arc.{arc_value}
 use Rattle.std.proofs.lemmas.List.{take_all}
 use Rattle.photo_batcher.specs.Batches.{InTurn}

@@ -1,9 +1,5 @@
-use Rattle.std.proofs.Common.{◌≡◌, ◌∙◌, ap, sym, subst}
-use Rattle.std.specs.Arc.{arc_value}
-use Rattle.photo_script.specs.Contents.{Contents}
+use Rattle.std.proofs.Common.{◌∙◌, ap}
 use Rattle.photo_script.specs.Tallies.{tally_of}
-use Rattle.work_ledger.specs.Ledgers.{all_parts}
-use Rattle.work_ledger.specs.Stakes.{Stake, stake, nothing_done}
 use Rattle.fleet_workers.proofs.fleet.run_counted.Goals as goal
 
 pub open-requires-clause-tally : goal.open-requires-clause-tally

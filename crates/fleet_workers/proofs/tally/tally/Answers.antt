@@ -1,4 +1,4 @@
-use Rattle.std.proofs.Common.{◌≡◌, ◌∙◌, ◌<◌, List, ap, refl, length, get_or, arith}
+use Rattle.std.proofs.Common.{◌∙◌, ◌<◌, List, ap, refl, length, get_or, arith}
 use Rattle.std.proofs.lemmas.Grind.{common_steps}
 use Rattle.fleet_workers.specs.declared.work.Job.{Job}
 use Rattle.fleet_workers.proofs.Owned.{numbered, within_script, number_of}
