@@ -1,5 +1,5 @@
 -- A knowledge of one device's first version alone, which says nothing of another device.
-use Rattle.std.proofs.Common.{rules, ◌≡◌, ℕ, ◌/◌, ◌<◌, true, false, ◌&&◌, List, if◌then◌else◌, refl, sym, ap, ◌∙◌, inl, inr, arith}
+use Rattle.std.proofs.Common.{rules, ◌≡◌, ℕ, ◌<◌, true, false, ◌&&◌, List, if◌then◌else◌, refl, ap, ◌∙◌, inl, inr, arith}
 use Rattle.std.proofs.lemmas.Bool.{and_parts, ne_eqb, ltb-true, cases_lt, lt-leb, le-leb}
 use Rattle.std.proofs.Math.Dec.{eqb, leb}
 use Rattle.photo_version.specs.Author.{Author, author, device_of_author, same_device, author_before, same_author, is_earlier_epoch}
