@@ -132,19 +132,16 @@ fn is_handed(device: &mut Device, n: u32, handed: &mut Vec<SharedHeld>) -> bool 
 /// `with_knowledge`, once where any calls are asked for.
 pub fn answer_given(alloc: Global, times: u32) -> Option<bool> {
     let device = opened(alloc, 1)?;
-    if times == 0 {
-        return Some(true);
-    }
-    Some(is_given(alloc, device))
+    Some(is_given(alloc, device, times))
 }
 
-fn is_given(alloc: Global, device: Device) -> bool {
+fn is_given(alloc: Global, device: Device, times: u32) -> bool {
     let is_first = device.author().value() == 0;
     if is_first || device.counter() != 0 || !device.store().is_empty() || !device.out().is_empty() {
         return false;
     }
     match first_known(alloc) {
-        Some(knowledge) => is_given_first(device, knowledge),
+        Some(knowledge) => times == 0 || is_given_first(device, knowledge),
         None => false,
     }
 }
