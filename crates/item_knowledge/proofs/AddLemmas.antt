@@ -1,6 +1,8 @@
 -- A picture comes to the group of its vector: the groups stay in normal form.
 use Rattle.std.proofs.Common.{◌≡◌, ℕ, ◌<◌, ◌≤◌, Bool, true, false, not, ltb, eqb, cond, ◌&&◌, ◌||◌, List, [], ◌∷◌, ◌++◌, refl, ap, ◌∙◌, inl, inr, arith, None, Some}
 use Rattle.std.specs.List.{list_all}
+use Rattle.std.proofs.Math.Bool.{or-false}
+use Rattle.std.proofs.lemmas.List.Folds.{list_any-append, list_all-append}
 use Rattle.std.proofs.lemmas.Bool.{and_parts, and_from, or_right, or_from, not_from_false, not-true, lt-ltb, ltb-true, eq-eqb, ne_eqb, cases_Bool, true≢false}
 use Rattle.item_knowledge.specs.Entries.{Entry, is_vector, leq, same_entries}
 use Rattle.item_knowledge.specs.Fragments.{Fragment, is_empty, first, lists, rises, is_group, goes_before, are_groups, find}
@@ -26,15 +28,7 @@ all_below p gs = list_all (λ g. below p g) gs
 -- lists of pictures with one more
 
 lists_one : (ps : List ℕ) (p q : ℕ) → lists (ps ++ p ∷ []) q ≡ (lists ps q || eqb p q)
-lists_one [] p q = or_false (eqb p q)
-  where
-    or_false : (b : Bool) → (b || false) ≡ b
-    or_false true = refl
-    or_false false = refl
-lists_one (x ∷ ps) p q = elim (cases_Bool (eqb x q)) [
-  | inl same ↦ rw same refl
-  | inr other ↦ rw other (lists_one ps p q)
-]
+lists_one ps p q = list_any-append (λ x. eqb x q) ps (p ∷ []) ∙ ap (λ b. lists ps q || b) (or-false (eqb p q))
 
 not_below : (ps : List ℕ) (p q : ℕ) → list_all (λ x. ltb x p) ps ≡ true → p ≤ q → lists ps q ≡ false
 not_below ps p q h l = elim (cases_Bool (lists ps q)) [
@@ -43,10 +37,7 @@ not_below ps p q h l = elim (cases_Bool (lists ps q)) [
 ]
 
 all_one : (test : ℕ → Bool) (ps : List ℕ) (p : ℕ) → list_all test ps ≡ true → test p ≡ true → list_all test (ps ++ p ∷ []) ≡ true
-all_one test [] p h t = and_from _ _ t refl
-all_one test (x ∷ ps) p h t =
-    let a = and_parts (test x) (list_all test ps) h in
-    and_from _ _ a.0 (all_one test ps p a.1 t)
+all_one test ps p h t = list_all-append test ps (p ∷ []) ∙ and_from _ _ h (and_from _ _ t refl)
 
 rises_one : (ps : List ℕ) (p : ℕ) → rises ps ≡ true → list_all (λ q. ltb q p) ps ≡ true → rises (ps ++ p ∷ []) ≡ true
 rises_one [] p r b = refl
@@ -126,15 +117,11 @@ find_others p q v [] n = find_later (record { pictures = p ∷ []; entries = v }
 find_others p q v (g ∷ gs) n = elim (cases_Bool (same_entries g.entries v)) [
   | inl same ↦
       ap (λ hs. find hs q) (add_here p v g gs same)
-      ∙ ap (λ b. cond b (Some g.entries) (find gs q)) (lists_one g.pictures p q ∙ (ap (λ b. lists g.pictures q || b) (ne_eqb p q n) ∙ or_false (lists g.pictures q)))
+      ∙ ap (λ b. cond b (Some g.entries) (find gs q)) (lists_one g.pictures p q ∙ (ap (λ b. lists g.pictures q || b) (ne_eqb p q n) ∙ or-false (lists g.pictures q)))
   | inr other ↦
       ap (λ hs. find hs q) (add_later p v g gs other)
       ∙ ap (λ o. cond (lists g.pictures q) (Some g.entries) o) (find_others p q v gs n)
 ]
-  where
-    or_false : (b : Bool) → (b || false) ≡ b
-    or_false true = refl
-    or_false false = refl
 
 -- the normal form is kept
 

@@ -3,12 +3,12 @@ use Rattle.std.proofs.Common.{◌≡◌, ℕ, zero, suc, ◌+◌, ◌*◌, ◌<�
 use Rattle.std.specs.List.{list_all}
 use Rattle.std.proofs.Math.ListN.{get_or-append}
 use Rattle.std.proofs.Math.Seq.{get_or-append_seam}
-use Rattle.std.proofs.lemmas.List.{get_or-map, take_all}
+use Rattle.std.proofs.lemmas.List.{get_or-map, take_all, length-map}
 use Rattle.std.proofs.lemmas.Bool.{and_parts, cases_Bool, cases_lt, cases_eq, ltb-true}
 use Rattle.item_knowledge.specs.Tables.{keys_pass, in_order}
 use Rattle.item_knowledge.specs.Entries.{Entry, same_entries}
 use Rattle.item_knowledge.specs.Fragments.{Fragment, are_groups, is_normal, goes_before, first, nothing, entries_at}
-use Rattle.item_knowledge.specs.Gathering.{IsSide, add, gathered, indexed, place, after, number, star_first, paired, pair_vector, groups_of, index_of}
+use Rattle.item_knowledge.specs.Gathering.{IsSide, add, gathered, indexed, place, after, number, star_first, paired, pair_vector, groups_of, IsWritten}
 use Rattle.item_knowledge.specs.declared.places.Places.{Places}
 use Rattle.item_knowledge.specs.Places.{vectors_at, IsFound}
 use Rattle.item_knowledge.specs.Rows.{flat, fragments_of, rows_of, AreRows}
@@ -35,11 +35,16 @@ groups_differ star (g ∷ gs) a zero h l m e = absurd (omega (arith, l))
 groups_differ star (g ∷ gs) zero (suc b) h l m e = before_at g gs b (groups_parts star g gs h).before (omega (arith, m)) e
 groups_differ star (g ∷ gs) (suc a) (suc b) h l m e = groups_differ star gs a b (groups_parts star g gs h).rest (omega (arith, l)) (omega (arith, m)) e
 
-pub vectors_differ : (fs : List Fragment) (a b : ℕ) → is_normal fs ≡ true → 0 < a → a < b → b < length fs → entries_at fs a ≡ entries_at fs b → ⊥
-vectors_differ [] a b h z l m e = absurd (omega (arith, m))
-vectors_differ (s ∷ gs) zero b h z l m e = absurd (omega (arith, z))
-vectors_differ (s ∷ gs) (suc a) zero h z l m e = absurd (omega (arith, l))
-vectors_differ (s ∷ gs) (suc a) (suc b) h z l m e = groups_differ s.entries gs a b (normal_parts s gs h).groups (omega (arith, l)) (omega (arith, m)) e
+star_differs : (star : List Entry) (gs : List Fragment) (b : ℕ) → are_groups star gs ≡ true → b < length gs → star ≡ entries_at gs b → ⊥
+star_differs star [] b h m e = absurd (omega (arith, m))
+star_differs star (g ∷ gs) zero h m e = (groups_parts star g gs h).group.other e
+star_differs star (g ∷ gs) (suc b) h m e = star_differs star gs b (groups_parts star g gs h).rest (omega (arith, m)) e
+
+pub vectors_differ : (fs : List Fragment) (a b : ℕ) → is_normal fs ≡ true → a < b → b < length fs → entries_at fs a ≡ entries_at fs b → ⊥
+vectors_differ [] a b h l m e = absurd (omega (arith, m))
+vectors_differ (s ∷ gs) a zero h l m e = absurd (omega (arith, l))
+vectors_differ (s ∷ gs) zero (suc b) h l m e = star_differs s.entries gs b (normal_parts s gs h).groups (omega (arith, m)) e
+vectors_differ (s ∷ gs) (suc a) (suc b) h l m e = groups_differ s.entries gs a b (normal_parts s gs h).groups (omega (arith, l)) (omega (arith, m)) e
 
 -- No group has a vector that none of them has
 
@@ -161,10 +166,6 @@ numbered_at n (g ∷ gs) (suc k) l = let rest = numbered_at (suc n) gs k (omega 
 
 -- Vectors that were found to differ one after another
 
-listed_length : (listed : List (ℕ × ℕ)) → length (map (λ (x : ℕ × ℕ). x.1) listed) ≡ length listed
-listed_length [] = refl
-listed_length (x ∷ listed) = ap suc (listed_length listed)
-
 pub all_apart : (places : Places) (rows : List (List ℕ)) (listed : List (ℕ × ℕ)) (i : ℕ) → IsFound places rows → places.numbers.items ≡ map (λ (x : ℕ × ℕ). x.1) (take i listed) → length listed ≤ i → AreApart rows listed
 all_apart places rows listed i found noted over j k l m e =
     found.placed.once j k l (let all_of = vectors_length rows places.numbers.items in let long = counted in omega (arith, all_of, long, m)) (sym (at j (omega (arith, l, m))) ∙ e ∙ at k m)
@@ -173,7 +174,7 @@ all_apart places rows listed i found noted over j k l m e =
     whole = noted ∙ ap (λ (xs : List (ℕ × ℕ)). map (λ (x : ℕ × ℕ). x.1) xs) (take_all i listed over)
 
     counted : length places.numbers.items ≡ length listed
-    counted = ap (length {A = ℕ}) whole ∙ listed_length listed
+    counted = ap (length {A = ℕ}) whole ∙ length-map listed (λ (x : ℕ × ℕ). x.1)
 
     at : (n : ℕ) → n < length listed → get_or rows (2 * (get_or listed n (0, 0)).1 + 1) [] ≡ get_or (vectors_at rows places.numbers.items) n []
     at n b =
@@ -242,10 +243,10 @@ module _ (left right : List (List ℕ)) (xs ys : List (ℕ × ℕ)) (words : Lis
 
   both_left : (g k : Fragment) → (g.pictures ≡ k.pictures → ⊥) → g.entries ≡ k.entries → FromLeft left g → FromLeft left k → ⊥
   both_left g k other e a b = elim (cases_lt a.number b.number) [
-    | inl less ↦ vectors_differ (fragments_of left) a.number b.number normal a.beside less b.there (a.is ∙ e ∙ sym b.is)
+    | inl less ↦ vectors_differ (fragments_of left) a.number b.number normal less b.there (a.is ∙ e ∙ sym b.is)
     | inr over ↦ elim (cases_eq a.number b.number) [
       | inl one ↦ other (sym a.alone ∙ ap (λ n. get_or left (2 * n) []) one ∙ b.alone)
-      | inr two ↦ vectors_differ (fragments_of left) b.number a.number normal b.beside (omega (arith, over, two)) a.there (b.is ∙ sym e ∙ sym a.is)
+      | inr two ↦ vectors_differ (fragments_of left) b.number a.number normal (omega (arith, over, two)) a.there (b.is ∙ sym e ∙ sym a.is)
     ]
   ]
 
@@ -262,8 +263,12 @@ module _ (left right : List (List ℕ)) (xs ys : List (ℕ × ℕ)) (words : Lis
   differ (inl apart) = of_index apart
   differ (inr told) = of_joined told.0 told.1
 
-  pub told_rows : AreTold left words rows index joined → rows ≡ rows_of (star_first star (groups_of (fragments_of left) (fragments_of right) xs ys))
-  told_rows told = h.rows_are ∙ ap (λ gs. rows_of (star_first star gs)) (sym (gathered_singles (pair_vector (fragments_of left) (fragments_of right) (0, 0)) (pair_vector (fragments_of left) (fragments_of right)) (paired xs ys) [] (differ told)))
-
-  pub told_index : AreTold left words rows index joined → index ≡ index_of (fragments_of left) (fragments_of right) xs ys
-  told_index told = h.index_is ∙ sym (indexed_singles (pair_vector (fragments_of left) (fragments_of right) (0, 0)) (pair_vector (fragments_of left) (fragments_of right)) (paired xs ys) [] (differ told))
+  pub told_written : star ≡ pair_vector (fragments_of left) (fragments_of right) (0, 0) → AreTold left words rows index joined → IsWritten (fragments_of left) xs (fragments_of right) ys rows index
+  told_written is told =
+      let f = pair_vector (fragments_of left) (fragments_of right) in
+      let apart = differ told in
+      let groups : all ≡ groups_of (fragments_of left) (fragments_of right) xs ys = sym (gathered_singles (f (0, 0)) f (paired xs ys) [] apart) in
+      record {
+        rows = h.rows_are ∙ (λ i. rows_of (star_first (is i) (groups i)));
+        numbers = h.index_is ∙ sym (indexed_singles (f (0, 0)) f (paired xs ys) [] apart);
+      }

@@ -1,7 +1,7 @@
 -- Vectors are determined by what they denote.
 use Rattle.std.proofs.Common.{◌≡◌, ℕ, zero, suc, ◌<◌, ◌≤◌, true, leb, ltb, ◌&&◌, List, [], ◌∷◌, length, get_or, refl, sym, ◌∙◌, inl, inr, arith}
 use Rattle.std.specs.List.{list_all}
-use Rattle.std.proofs.lemmas.Bool.{and_parts, and_from, ltb-true, leb-true, eq-eqb, ne_eqb, cases_eq, cases_lt, cases_order}
+use Rattle.std.proofs.lemmas.Bool.{and_parts, and_from, ltb-true, leb-true, le-leb, eq-eqb, ne_eqb, cases_eq, cases_lt, cases_order}
 use Rattle.std.proofs.lemmas.Bool.Decides.{nat_tests}
 use Rattle.item_knowledge.specs.Tables.{in_order}
 use Rattle.photo_version.specs.Author.{author_word, is_author_word, author_of_word}
@@ -56,16 +56,18 @@ pub most_of : (es : List Entry) (a n : ℕ) → is_vector es ≡ true → denote
 most_of es a n vector d = leb-true n (bound es a) (and_parts (leb 1 n) (leb n (bound es a)) (sym (denotes-bound es (version_at a n) vector) ∙ d)).1
 
 -- the bounds are determined by what a vector denotes
-bounds_le : (xs ys : List Entry) → is_vector xs ≡ true → is_vector ys ≡ true → ((v : Version) → denotes xs v ≡ denotes ys v) → (a : ℕ) → bound xs a ≤ bound ys a
-bounds_le xs ys hx hy h a =
-    let v = version_at a (bound xs a) in
-    let e = sym (denotes-bound xs v hx) ∙ (h v ∙ denotes-bound ys v hy) in
-    grind (arith, nat_tests, e)
+pub bound_by : (xs ys : List Entry) → is_vector xs ≡ true → is_vector ys ≡ true → ((v : Version) → denotes xs v ≡ true → denotes ys v ≡ true) → (a : ℕ) → bound xs a ≤ bound ys a
+bound_by xs ys hx hy h a = elim (cases_eq (bound xs a) 0) [
+  | inl none ↦ omega arith
+  | inr some ↦
+      let here : (leb 1 (bound xs a) && leb (bound xs a) (bound xs a)) ≡ true = and_from _ _ (le-leb 1 (bound xs a) (omega arith)) (le-leb (bound xs a) (bound xs a) (omega arith)) in
+      most_of ys a (bound xs a) hy (h (version_at a (bound xs a)) (denotes-bound xs (version_at a (bound xs a)) hx ∙ here))
+]
 
-pub same_bounds : (xs ys : List Entry) → is_vector xs ≡ true → is_vector ys ≡ true → ((v : Version) → denotes xs v ≡ denotes ys v) → (a : ℕ) → bound xs a ≡ bound ys a
+same_bounds : (xs ys : List Entry) → is_vector xs ≡ true → is_vector ys ≡ true → ((v : Version) → denotes xs v ≡ denotes ys v) → (a : ℕ) → bound xs a ≡ bound ys a
 same_bounds xs ys hx hy h a =
-    let le = bounds_le xs ys hx hy h a in
-    let ge = bounds_le ys xs hy hx (λ v. sym (h v)) a in
+    let le = bound_by xs ys hx hy (λ v d. sym (h v) ∙ d) a in
+    let ge = bound_by ys xs hy hx (λ v d. h v ∙ d) a in
     omega arith
 
 -- vectors with the same bounds are one

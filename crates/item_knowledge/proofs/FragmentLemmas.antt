@@ -2,6 +2,8 @@
 use Rattle.std.proofs.Common.{◌≡◌, ℕ, ◌+◌, ◌<◌, ◌≤◌, Bool, true, false, not, leb, ltb, ◌&&◌, ◌||◌, List, [], ◌∷◌, refl, sym, subst, ap, ◌∙◌, inl, inr, arith, Option, None, Some}
 use Rattle.std.specs.List.{list_all}
 use Rattle.std.specs.Bool.{Decides}
+use Rattle.std.proofs.Math.Bool.{or-false}
+use Rattle.std.specs.Cmp.{both_ways}
 use Rattle.std.proofs.lemmas.Bool.{and_parts, not-true, ltb-true, eq-eqb, ne_eqb, cases_Bool, cases_eq, false≢true, leb-true}
 use Rattle.std.proofs.lemmas.Bool.Decides.{nat_tests, Decides-and, Decides-eqb, Decides-like}
 use Rattle.std.proofs.lemmas.Slice.Eq.{slice_eq-Decides}
@@ -133,12 +135,6 @@ find_first star g gs a = find_here g gs (first g.pictures) (first_listed g.pictu
 same_lists : (star : List Entry) (g h : Fragment) (gs hs : List Fragment) → are_groups star (g ∷ gs) ≡ true → are_groups star (h ∷ hs) ≡ true → g.entries ≡ h.entries → ((p : ℕ) → find (g ∷ gs) p ≡ find (h ∷ hs) p) → (p : ℕ) → lists g.pictures p ≡ true → lists h.pictures p ≡ true
 same_lists star g h gs hs a b e f p l = lists_by_find star h hs p b (sym (f p) ∙ (find_here g gs p l ∙ ap (λ x. Some x) e))
 
-pub both_ways_lists : (x y : Bool) → (x ≡ true → y ≡ true) → (y ≡ true → x ≡ true) → x ≡ y
-both_ways_lists true true f g = refl
-both_ways_lists true false f g = sym (f refl)
-both_ways_lists false true f g = g refl
-both_ways_lists false false f g = refl
-
 pub one_grouping : (star : List Entry) (gs hs : List Fragment) → are_groups star gs ≡ true → are_groups star hs ≡ true → ((p : ℕ) → find gs p ≡ find hs p) → gs ≡ hs
 one_grouping star [] [] a b f = refl
 one_grouping star [] (h ∷ hs) a b f =
@@ -153,7 +149,7 @@ one_grouping star (g ∷ gs) (h ∷ hs) a b f =
     let at : first g.pictures ≡ first h.pictures = omega arith in
     let found : Some g.entries ≡ Some h.entries = sym (find_first star g gs a) ∙ (f (first g.pictures) ∙ (ap (find (h ∷ hs)) at ∙ find_first star h hs b)) in
     let entries : g.entries ≡ h.entries = cc in
-    let members : (p : ℕ) → lists g.pictures p ≡ lists h.pictures p = λ p. both_ways_lists _ _ (same_lists star g h gs hs a b entries f p) (same_lists star h g hs gs b a (sym entries) (λ q. sym (f q)) p) in
+    let members : (p : ℕ) → lists g.pictures p ≡ lists h.pictures p = λ p. both_ways _ _ (same_lists star g h gs hs a b entries f p) (same_lists star h g hs gs b a (sym entries) (λ q. sym (f q)) p) in
     let pictures = same_pictures g.pictures h.pictures x.group.rising y.group.rising members in
     let tails : (p : ℕ) → find gs p ≡ find hs p = λ p. elim (cases_Bool (lists g.pictures p)) [
       | inl l ↦ none_later star g gs p a l ∙ sym (none_later star h hs p b (sym (members p) ∙ l))
@@ -174,10 +170,6 @@ reaches_group g p h = rw h refl
 knows_cons : (g : Fragment) (gs : List Fragment) (p : ℕ) (v : Version) (b : Bool) → reaches g p ≡ b → knows (g ∷ gs) p v ≡ ((b && denotes g.entries v) || knows gs p v)
 knows_cons g gs p v b h = rw h refl
 
-or_false : (b : Bool) → (b || false) ≡ b
-or_false true = refl
-or_false false = refl
-
 pub knows_found : (star : List Entry) (gs : List Fragment) (p : ℕ) (v : Version) → are_groups star gs ≡ true → knows gs p v ≡ in_found (find gs p) v
 knows_found star [] p v a = refl
 knows_found star (g ∷ gs) p v a =
@@ -187,7 +179,7 @@ knows_found star (g ∷ gs) p v a =
       | inl l ↦
           knows_cons g gs p v true (reaches_group g p parts.group.some ∙ l)
           ∙ (ap (λ b. denotes g.entries v || b) (rest ∙ ap (λ o. in_found o v) (none_later star g gs p a l))
-          ∙ (or_false (denotes g.entries v) ∙ sym (ap (λ o. in_found o v) (find_here g gs p l))))
+          ∙ (or-false (denotes g.entries v) ∙ sym (ap (λ o. in_found o v) (find_here g gs p l))))
       | inr n ↦
           knows_cons g gs p v false (reaches_group g p parts.group.some ∙ n)
           ∙ (rest ∙ sym (ap (λ o. in_found o v) (find_later g gs p n)))
@@ -248,7 +240,7 @@ knows_known s gs p v k =
     ∙ (ap (λ b. denotes s.entries v || b) (knows_found s.entries gs p v k.groups) ∙ at_found (find gs p) refl)
   where
     at_found : (o : Option (List Entry)) → find gs p ≡ o → (denotes s.entries v || in_found o v) ≡ denotes (or_star s.entries o) v
-    at_found None f = or_false (denotes s.entries v)
+    at_found None f = or-false (denotes s.entries v)
     at_found (Some e) f =
         let x = found_group s.entries gs p e k.groups f in
         subst (λ es. (denotes s.entries v || denotes es v) ≡ denotes es v) x.2 (leq_denotes s.entries x.0.entries v k.vector x.1.vector x.1.above)

@@ -1,15 +1,17 @@
 -- The index that is made beside the groups.
-use Rattle.std.proofs.Common.{◌≡◌, ℕ, zero, suc, ◌+◌, ◌<◌, ◌≤◌, Bool, true, false, ltb, List, [], ◌∷◌, ◌++◌, length, drop, refl, sym, subst, ap, ◌∙◌, inl, inr, arith, append_assoc, Option, None, Some}
-use Rattle.std.proofs.lemmas.List.{drop_all, append-nil}
+use Rattle.std.proofs.Common.{◌≡◌, ℕ, zero, suc, ◌+◌, ◌<◌, Bool, true, false, ltb, List, [], ◌∷◌, ◌++◌, length, drop, refl, sym, subst, ap, ◌∙◌, inl, inr, arith, append_assoc, Option, None, Some}
+use Rattle.std.proofs.lemmas.List.{append-nil}
 use Rattle.std.specs.List.{list_all}
 use Rattle.std.proofs.lemmas.Bool.{and_parts, and_from, lt-ltb, eq-eqb, ne_eqb, cases_Bool, cases_eq}
 use Rattle.item_knowledge.specs.Tables.{keys_pass, in_order, at}
 use Rattle.item_knowledge.specs.Entries.{Entry, same_entries}
 use Rattle.item_knowledge.specs.Fragments.{Fragment, entries_at}
-use Rattle.item_knowledge.specs.Gathering.{add, add_unless, gathered, indexed, number, place}
+use Rattle.item_knowledge.specs.Gathering.{add, add_unless, gathered, indexed, number, place, paired}
+use Rattle.item_knowledge.specs.declared.pairing.Pairing.{Pairing}
+use Rattle.item_knowledge.specs.Pairing.{left_of}
 use Rattle.item_knowledge.proofs.OnTheWay.{IsGathered}
 use Rattle.item_knowledge.proofs.FragmentLemmas.{entries_decide}
-use Rattle.item_knowledge.proofs.AddLemmas.{add_here, add_later}
+use Rattle.item_knowledge.proofs.AddLemmas.{with_one, add_here, add_later}
 use Rattle.item_knowledge.proofs.GatherLemmas.{unless_same, unless_other, row_vector, row_none}
 use Rattle.item_knowledge.proofs.PlaceLemmas.{place_below, place_grown, place_of_added, place_here, place_later, inner, some_inj}
 
@@ -39,48 +41,36 @@ indexed_order star f (r ∷ rs) gs h =
 
 -- the vectors of groups stay at their places
 
-length_add : (p : ℕ) (v : List Entry) (gs : List Fragment) → length gs ≤ length (add p v gs)
-length_add p v [] = omega arith
-length_add p v (g ∷ gs) = elim (cases_Bool (same_entries g.entries v)) [
-  | inl same ↦ rw (add_here p v g gs same) (omega arith)
-  | inr other ↦ let rest = length_add p v gs in rw (add_later p v g gs other) (omega arith)
+abbrev Extends : List Fragment → List Fragment → Type 0
+Extends gs hs = (k : ℕ) → k < length gs → (k < length hs) × (entries_at hs k ≡ entries_at gs k)
+
+extends_rest : (g : Fragment) (gs hs : List Fragment) → Extends gs hs → Extends (g ∷ gs) (g ∷ hs)
+extends_rest g gs hs h zero l = (omega arith, refl)
+extends_rest g gs hs h (suc k) l = let rest = h k (omega arith) in let less = rest.0 in (omega arith, rest.1)
+
+extends_one : (g : Fragment) (gs : List Fragment) (p : ℕ) → Extends (g ∷ gs) (with_one g p ∷ gs)
+extends_one g gs p zero l = (l, refl)
+extends_one g gs p (suc k) l = (l, refl)
+
+extends_add : (p : ℕ) (v : List Entry) (gs : List Fragment) → Extends gs (add p v gs)
+extends_add p v [] = λ k l. absurd (omega arith)
+extends_add p v (g ∷ gs) = elim (cases_Bool (same_entries g.entries v)) [
+  | inl same ↦ subst (Extends (g ∷ gs)) (sym (add_here p v g gs same)) (extends_one g gs p)
+  | inr other ↦ subst (Extends (g ∷ gs)) (sym (add_later p v g gs other)) (extends_rest g gs (add p v gs) (extends_add p v gs))
 ]
 
-entries_add : (p : ℕ) (v : List Entry) (gs : List Fragment) (k : ℕ) → k < length gs → entries_at (add p v gs) k ≡ entries_at gs k
-entries_add p v [] k l = absurd (omega arith)
-entries_add p v (g ∷ gs) zero l = elim (cases_Bool (same_entries g.entries v)) [
-  | inl same ↦ ap (λ hs. entries_at hs 0) (add_here p v g gs same)
-  | inr other ↦ ap (λ hs. entries_at hs 0) (add_later p v g gs other)
-]
-entries_add p v (g ∷ gs) (suc k) l = elim (cases_Bool (same_entries g.entries v)) [
-  | inl same ↦ ap (λ hs. entries_at hs (suc k)) (add_here p v g gs same)
-  | inr other ↦ ap (λ hs. entries_at hs (suc k)) (add_later p v g gs other) ∙ entries_add p v gs k (omega arith)
-]
-
-length_unless : (star : List Entry) (p : ℕ) (v : List Entry) (gs : List Fragment) → length gs ≤ length (add_unless star p v gs)
-length_unless star p v gs = elim (cases_Bool (same_entries star v)) [
-  | inl same ↦ rw (unless_same star p v gs same) (omega arith)
-  | inr other ↦ let more = length_add p v gs in rw (unless_other star p v gs other) (omega arith)
-]
-
-entries_unless : (star : List Entry) (p : ℕ) (v : List Entry) (gs : List Fragment) (k : ℕ) → k < length gs → entries_at (add_unless star p v gs) k ≡ entries_at gs k
-entries_unless star p v gs k l = elim (cases_Bool (same_entries star v)) [
-  | inl same ↦ ap (λ hs. entries_at hs k) (unless_same star p v gs same)
-  | inr other ↦ ap (λ hs. entries_at hs k) (unless_other star p v gs other) ∙ entries_add p v gs k l
-]
-
-length_gathered : (star : List Entry) (f : ℕ × ℕ → List Entry) (rs : List (ℕ × (ℕ × ℕ))) (gs : List Fragment) → length gs ≤ length (gathered star f rs gs)
-length_gathered star f [] gs = omega arith
-length_gathered star f (r ∷ rs) gs =
-    let more = length_unless star r.0 (f r.1) gs in
-    let rest = length_gathered star f rs (add_unless star r.0 (f r.1) gs) in
-    omega arith
-
-entries_gathered : (star : List Entry) (f : ℕ × ℕ → List Entry) (rs : List (ℕ × (ℕ × ℕ))) (gs : List Fragment) (k : ℕ) → k < length gs → entries_at (gathered star f rs gs) k ≡ entries_at gs k
-entries_gathered star f [] gs k l = refl
-entries_gathered star f (r ∷ rs) gs k l =
-    let more = length_unless star r.0 (f r.1) gs in
-    entries_gathered star f rs (add_unless star r.0 (f r.1) gs) k (omega arith) ∙ entries_unless star r.0 (f r.1) gs k l
+extends_gathered : (star : List Entry) (f : ℕ × ℕ → List Entry) (rs : List (ℕ × (ℕ × ℕ))) (gs : List Fragment) → Extends gs (gathered star f rs gs)
+extends_gathered star f [] gs k l = (l, refl)
+extends_gathered star f (r ∷ rs) gs k l =
+    let one = unless k l in
+    let rest = extends_gathered star f rs (add_unless star r.0 (f r.1) gs) k one.0 in
+    (rest.0, rest.1 ∙ one.1)
+  where
+    unless : Extends gs (add_unless star r.0 (f r.1) gs)
+    unless = elim (cases_Bool (same_entries star (f r.1))) [
+      | inl same ↦ subst (Extends gs) (sym (unless_same star r.0 (f r.1) gs same)) (λ k l. (l, refl))
+      | inr other ↦ subst (Extends gs) (sym (unless_other star r.0 (f r.1) gs other)) (extends_add r.0 (f r.1) gs)
+    ]
 
 -- where a vector has its place
 
@@ -112,7 +102,7 @@ indexed_range star f (r ∷ rs) gs n l = elim (cases_Bool (same_entries star (f 
       let e = ap (λ hs. length (gathered star f rs hs)) (unless_other star r.0 (f r.1) gs other) in
       let here = has_place r.0 (f r.1) gs in
       let less = place_below (add r.0 (f r.1) gs) (f r.1) here.0 here.1 in
-      let more = length_gathered star f rs (add r.0 (f r.1) gs) in
+      let more = (extends_gathered star f rs (add r.0 (f r.1) gs) here.0 less).0 in
       let fits : ltb (number (place (add r.0 (f r.1) gs) (f r.1))) n ≡ true = rw here.1 (lt-ltb (suc here.0) n (omega arith)) in
       rw (indexed_other star f r rs gs other) (and_from _ _ fits (indexed_range star f rs (add r.0 (f r.1) gs) n (omega arith)))
 ]
@@ -141,43 +131,38 @@ indexed_vectors star f (r ∷ rs) gs q o =
           (λ i. entries_at (record { pictures = []; entries = star } ∷ end i) (at 0 (indexed_other star f r rs gs other i) q))
           ∙ elim (cases_eq r.0 q) [
             | inl here ↦
-                rw (eq-eqb r.0 q here, place_is.1) (entries_gathered star f rs new place_is.0 less ∙ place_entries new (f r.1) place_is.0 place_is.1)
+                rw (eq-eqb r.0 q here, place_is.1) ((extends_gathered star f rs new place_is.0 less).1 ∙ place_entries new (f r.1) place_is.0 place_is.1)
             | inr away ↦ rw (ne_eqb r.0 q away) (indexed_vectors star f rs new q a.1)
           ]
     ]
 
 -- A table on the way: the groups so far with their index, and the rows that are left
 
-pub none_gathered : (star : List Entry) (f : ℕ × ℕ → List Entry) (table rows : List (ℕ × (ℕ × ℕ))) (gs : List Fragment) (numbers : List (ℕ × ℕ)) → table ≡ rows → gs ≡ [] → numbers ≡ [] → IsGathered star f table gs numbers 0 (gathered star f rows []) (indexed star f rows [])
-none_gathered star f table rows gs numbers t g n = record {
-  rest = λ i. gathered star f (t i) (g i);
-  index = λ i. n i ++ indexed star f (t i) (g i);
+pub none_gathered : (star : List Entry) (f : ℕ × ℕ → List Entry) (xs ys : List (ℕ × ℕ)) (at : Pairing) (gs : List Fragment) (numbers : List (ℕ × ℕ)) → at.left ≡ 0 → at.right ≡ 0 → gs ≡ [] → numbers ≡ []
+    → IsGathered star f (left_of at xs ys) gs numbers (gathered star f (paired xs ys) []) (indexed star f (paired xs ys) [])
+none_gathered star f xs ys at gs numbers l r g n = record {
+  rest = λ i. gathered star f (paired (drop (l i) xs) (drop (r i) ys)) (g i);
+  index = λ i. n i ++ indexed star f (paired (drop (l i) xs) (drop (r i) ys)) (g i);
 }
 
-pub star_passed : (star : List Entry) (f : ℕ × ℕ → List Entry) (table : List (ℕ × (ℕ × ℕ))) (gs : List Fragment) (numbers : List (ℕ × ℕ)) (i : ℕ) (all : List Fragment) (every : List (ℕ × ℕ)) (r : ℕ × (ℕ × ℕ)) → drop i table ≡ r ∷ drop (i + 1) table → IsGathered star f table gs numbers i all every → same_entries star (f r.1) ≡ true → IsGathered star f table gs numbers (i + 1) all every
-star_passed star f table gs numbers i all every r d h same =
-    let rest : List (ℕ × (ℕ × ℕ)) = drop (i + 1) table in
-    record {
-      rest = ap (λ hs. gathered star f rest hs) (sym (unless_same star r.0 (f r.1) gs same)) ∙ (ap (λ rs. gathered star f rs gs) (sym d) ∙ h.rest);
-      index = ap (λ ns. numbers ++ ns) (sym (indexed_same star f r rest gs same)) ∙ (ap (λ rs. numbers ++ indexed star f rs gs) (sym d) ∙ h.index);
-    }
+module _ {star : List Entry} {f : ℕ × ℕ → List Entry} {rows : List (ℕ × (ℕ × ℕ))} {gs : List Fragment} {numbers : List (ℕ × ℕ)} {all : List Fragment} {every : List (ℕ × ℕ)} (h : IsGathered star f rows gs numbers all every) where
+  pub star_passed : (r : ℕ × (ℕ × ℕ)) (rest : List (ℕ × (ℕ × ℕ))) → rows ≡ r ∷ rest → same_entries star (f r.1) ≡ true → IsGathered star f rest gs numbers all every
+  star_passed r rest d same = record {
+    rest = ap (λ hs. gathered star f rest hs) (sym (unless_same star r.0 (f r.1) gs same)) ∙ (ap (λ rs. gathered star f rs gs) (sym d) ∙ h.rest);
+    index = ap (λ ns. numbers ++ ns) (sym (indexed_same star f r rest gs same)) ∙ (ap (λ rs. numbers ++ indexed star f rs gs) (sym d) ∙ h.index);
+  }
 
-pub one_gathered : (star : List Entry) (f : ℕ × ℕ → List Entry) (table : List (ℕ × (ℕ × ℕ))) (gs new : List Fragment) (numbers more : List (ℕ × ℕ)) (i k : ℕ) (all : List Fragment) (every : List (ℕ × ℕ)) (r : ℕ × (ℕ × ℕ)) → drop i table ≡ r ∷ drop (i + 1) table → IsGathered star f table gs numbers i all every → same_entries star (f r.1) ≡ false → new ≡ add r.0 (f r.1) gs → place new (f r.1) ≡ Some k → more ≡ numbers ++ (r.0, k + 1) ∷ [] → IsGathered star f table new more (i + 1) all every
-one_gathered star f table gs new numbers more i k all every r d h other g p m =
-    let rest : List (ℕ × (ℕ × ℕ)) = drop (i + 1) table in
-    let grown : List Fragment = add r.0 (f r.1) gs in
-    let next : k + 1 ≡ suc k = omega arith in
-    let found : number (place grown (f r.1)) ≡ suc k = ap number (ap (λ hs. place hs (f r.1)) (sym g) ∙ p) in
-    let pushed : more ≡ numbers ++ (r.0, number (place grown (f r.1))) ∷ [] = m ∙ ap (λ n. numbers ++ (r.0, n) ∷ []) (next ∙ sym found) in
-    record {
-      rest = ap (λ hs. gathered star f rest hs) (g ∙ sym (unless_other star r.0 (f r.1) gs other)) ∙ (ap (λ rs. gathered star f rs gs) (sym d) ∙ h.rest);
-      index = (λ j. pushed j ++ indexed star f rest (g j))
-          ∙ (append_assoc numbers ((r.0, number (place grown (f r.1))) ∷ []) (indexed star f rest grown)
-          ∙ (ap (λ ns. numbers ++ ns) (sym (indexed_other star f r rest gs other))
-          ∙ (ap (λ rs. numbers ++ indexed star f rs gs) (sym d) ∙ h.index)));
-    }
+  pub one_gathered : (r : ℕ × (ℕ × ℕ)) (rest : List (ℕ × (ℕ × ℕ))) (new : List Fragment) (more : List (ℕ × ℕ)) (k : ℕ) → rows ≡ r ∷ rest → same_entries star (f r.1) ≡ false → new ≡ add r.0 (f r.1) gs → place new (f r.1) ≡ Some k → more ≡ numbers ++ (r.0, k + 1) ∷ [] → IsGathered star f rest new more all every
+  one_gathered r rest new more k d other g p m =
+      let next : k + 1 ≡ suc k = omega arith in
+      let found : number (place (add r.0 (f r.1) gs) (f r.1)) ≡ suc k = ap number (ap (λ hs. place hs (f r.1)) (sym g) ∙ p) in
+      record {
+        rest = ap (λ hs. gathered star f rest hs) (g ∙ sym (unless_other star r.0 (f r.1) gs other)) ∙ (ap (λ rs. gathered star f rs gs) (sym d) ∙ h.rest);
+        index = (λ j. (m ∙ ap (λ n. numbers ++ (r.0, n) ∷ []) (next ∙ sym found)) j ++ indexed star f rest (g j))
+            ∙ (append_assoc numbers ((r.0, number (place (add r.0 (f r.1) gs) (f r.1))) ∷ []) (indexed star f rest (add r.0 (f r.1) gs))
+            ∙ (ap (λ ns. numbers ++ ns) (sym (indexed_other star f r rest gs other))
+            ∙ (ap (λ rs. numbers ++ indexed star f rs gs) (sym d) ∙ h.index)));
+      }
 
-pub all_gathered : (star : List Entry) (f : ℕ × ℕ → List Entry) (table : List (ℕ × (ℕ × ℕ))) (gs : List Fragment) (numbers : List (ℕ × ℕ)) (i : ℕ) (all : List Fragment) (every : List (ℕ × ℕ)) → length table ≤ i → IsGathered star f table gs numbers i all every → (gs ≡ all) × (numbers ≡ every)
-all_gathered star f table gs numbers i all every l h =
-    let none = drop_all i table l in
-    (ap (λ rs. gathered star f rs gs) (sym none) ∙ h.rest, sym (append-nil numbers) ∙ (ap (λ rs. numbers ++ indexed star f rs gs) (sym none) ∙ h.index))
+  pub all_gathered : rows ≡ [] → (gs ≡ all) × (numbers ≡ every)
+  all_gathered none = (ap (λ rs. gathered star f rs gs) (sym none) ∙ h.rest, sym (append-nil numbers) ∙ (ap (λ rs. numbers ++ indexed star f rs gs) (sym none) ∙ h.index))

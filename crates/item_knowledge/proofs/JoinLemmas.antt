@@ -1,62 +1,38 @@
 -- The join of two vectors.
-use Rattle.std.proofs.Common.{◌≡◌, ℕ, ◌<◌, ◌≤◌, Bool, true, false, leb, ltb, eqb, cond, max, ◌&&◌, ◌||◌, List, [], ◌∷◌, refl, sym, subst, ap, ◌∙◌, inl, inr, arith}
+use Rattle.std.proofs.Common.{◌≡◌, ℕ, ◌≤◌, Bool, true, leb, max, ◌&&◌, ◌||◌, List, [], ◌∷◌, refl, sym, subst, ap, ◌∙◌, inl, inr, arith}
 use Rattle.std.specs.List.{list_all}
-use Rattle.std.proofs.lemmas.Bool.{and_parts, and_from, lt-ltb, ltb-true, le-leb, leb-true, eq-eqb, ne_eqb, cases_eq}
+use Rattle.std.proofs.lemmas.Bool.{and_parts, and_from, lt-ltb, le-leb, eq-eqb, ne_eqb, cases_eq}
 use Rattle.std.proofs.lemmas.Bool.Decides.{nat_tests}
 use Rattle.std.proofs.Math.Nat.{max-zero, zero-max}
-use Rattle.photo_version.specs.Author.{author_word, is_author_word}
+use Rattle.photo_version.specs.Author.{author_word}
 use Rattle.photo_version.specs.Version.{Version}
-use Rattle.item_knowledge.specs.Tables.{in_order, put}
+use Rattle.item_knowledge.specs.Tables.{in_order}
 use Rattle.item_knowledge.specs.Entries.{Entry, denotes, is_entry, most_number, is_vector, bound, leq, joined}
-use Rattle.item_knowledge.proofs.TableLemmas.{merge_at, merge_order}
-use Rattle.item_knowledge.proofs.EntryLemmas.{vector_parts, bound_below, denotes-bound, one_by_bounds}
+use Rattle.item_knowledge.proofs.TableLemmas.{merge_at, merge_order, merge_all}
+use Rattle.item_knowledge.proofs.EntryLemmas.{entry_parts, vector_parts, bound_below, denotes-bound, one_by_bounds}
 use Rattle.item_knowledge.proofs.FragmentLemmas.{leq_at}
 
 abbrev all_entries : List Entry → Bool
 all_entries es = list_all (λ (e : Entry). is_entry e) es
 
+pub joined_at : (xs ys : List Entry) (a : ℕ) → in_order xs ≡ true → in_order ys ≡ true → bound (joined xs ys) a ≡ max (bound xs a) (bound ys a)
+joined_at xs ys a h g = merge_at (λ n. n) (λ n m. max n m) (λ m. m) 0 0 (λ n. sym (max-zero n)) (λ m. sym (zero-max m)) xs ys h g a
+
 pub joined_bound : (xs ys : List Entry) (a : ℕ) → is_vector xs ≡ true → is_vector ys ≡ true → bound (joined xs ys) a ≡ max (bound xs a) (bound ys a)
-joined_bound xs ys a h g =
-    merge_at (λ n. n) (λ n m. max n m) (λ m. m) 0 0 (λ n. sym (max-zero n)) (λ m. sym (zero-max m)) xs ys
-    (and_parts (in_order xs) (all_entries xs) h).0
-    (and_parts (in_order ys) (all_entries ys) g).0
-    a
+joined_bound xs ys a h g = joined_at xs ys a (and_parts (in_order xs) (all_entries xs) h).0 (and_parts (in_order ys) (all_entries ys) g).0
 
 -- the greater bound of two entries of an author
-greater_entry : (a n m : ℕ) → is_entry (a, n) ≡ true → is_author_word a ≡ true → (0 < m) × (m ≤ most_number) → is_entry (a, max n m) ≡ true
-greater_entry a n m h w b =
-    let p = and_parts (is_author_word a) (ltb 0 n && leb n most_number) h in
-    let q = and_parts (ltb 0 n) (leb n most_number) p.1 in
-    let low = ltb-true 0 n q.0 in
-    let high = leb-true n most_number q.1 in
-    and_from _ _ w (and_from _ _ (lt-ltb 0 (max n m) (omega arith)) (le-leb (max n m) most_number (omega arith)))
-
-entry_bounds : (e : Entry) → is_entry e ≡ true → (0 < e.1) × (e.1 ≤ most_number)
-entry_bounds e h =
-    let p = and_parts (is_author_word e.0) (ltb 0 e.1 && leb e.1 most_number) h in
-    let q = and_parts (ltb 0 e.1) (leb e.1 most_number) p.1 in
-    (ltb-true 0 e.1 q.0, leb-true e.1 most_number q.1)
-
-put_entry : (x : Entry) (ts : List Entry) → is_entry x ≡ true → all_entries ts ≡ true → all_entries (put (λ n. n) (λ n m. max n m) x ts) ≡ true
-put_entry x [] p h = and_from _ _ p refl
-put_entry x (t ∷ ts) p h =
-    let a = and_parts (is_entry t) (all_entries ts) h in
-    let word = (and_parts (is_author_word x.0) (ltb 0 x.1 && leb x.1 most_number) p).0 in
-    by (ltb x.0 t.0) (eqb x.0 t.0) _ _ _ (and_from _ _ p h) (and_from _ _ (greater_entry x.0 x.1 t.1 p word (entry_bounds t a.0)) a.1) (and_from _ _ a.0 (put_entry x ts p a.1))
-  where
-    by : (l e : Bool) (x y z : List Entry) → all_entries x ≡ true → all_entries y ≡ true → all_entries z ≡ true → all_entries (cond l x (cond e y z)) ≡ true
-    by true e x y z h g k = h
-    by false true x y z h g k = g
-    by false false x y z h g k = k
+greater_entry : (x t : Entry) → is_entry x ≡ true → is_entry t ≡ true → is_entry (x.0, max x.1 t.1) ≡ true
+greater_entry x t p q =
+    let a = entry_parts x p in
+    let b = entry_parts t q in
+    let low = a.positive in
+    let high = a.below in
+    let also = b.below in
+    and_from _ _ a.word (and_from _ _ (lt-ltb 0 (max x.1 t.1) (omega arith)) (le-leb (max x.1 t.1) most_number (omega arith)))
 
 joined_entries : (xs ys : List Entry) → all_entries xs ≡ true → all_entries ys ≡ true → all_entries (joined xs ys) ≡ true
-joined_entries [] [] h g = refl
-joined_entries [] (y ∷ ys) h g =
-    let a = and_parts (is_entry y) (all_entries ys) g in
-    and_from _ _ a.0 (joined_entries [] ys h a.1)
-joined_entries (x ∷ xs) ys h g =
-    let a = and_parts (is_entry x) (all_entries xs) h in
-    put_entry x (joined xs ys) a.0 (joined_entries xs ys a.1 g)
+joined_entries xs ys h g = merge_all (λ n. n) (λ n m. max n m) (λ m. m) (λ (e : Entry). is_entry e) (λ (e : Entry). is_entry e) (λ (e : Entry). is_entry e) (λ x e. e) greater_entry (λ y e. e) xs ys h g
 
 pub joined_vector : (xs ys : List Entry) → is_vector xs ≡ true → is_vector ys ≡ true → is_vector (joined xs ys) ≡ true
 joined_vector xs ys h g =

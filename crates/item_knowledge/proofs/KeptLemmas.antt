@@ -1,6 +1,7 @@
 -- What is kept denotes what is known.
 use Rattle.std.proofs.Common.{◌≡◌, ℕ, ◌+◌, ◌<◌, Bool, true, false, leb, eqb, max, cond, ◌&&◌, ◌||◌, List, [], ◌∷◌, length, refl, sym, subst, ap, ◌∙◌, inl, inr, arith}
 use Rattle.std.specs.List.{list_all}
+use Rattle.std.proofs.Math.Bool.{or_comm}
 use Rattle.std.proofs.lemmas.Bool.{and_parts, and_from, le-leb, eq-eqb, ne_eqb, cases_Bool, cases_eq, false≢true}
 use Rattle.std.proofs.lemmas.Bool.Decides.{nat_tests}
 use Rattle.photo_version.specs.Author.{Author, same_author, author_word}
@@ -10,6 +11,7 @@ use Rattle.item_knowledge.specs.Entries.{Entry, denotes, is_vector, bound, leq}
 use Rattle.item_knowledge.specs.Fragments.{Fragment, knows, is_normal, entries_at}
 use Rattle.item_knowledge.specs.Rows.{fragments_of}
 use Rattle.item_knowledge.specs.Gathering.{vector_of, IsSide, IsUnion}
+use Rattle.item_knowledge.specs.Spare.{IsJoined}
 use Rattle.item_knowledge.specs.Kept.{IsKept, is_side_within, star_bound}
 use Rattle.item_knowledge.proofs.EntryLemmas.{denotes-bound}
 use Rattle.item_knowledge.proofs.FragmentLemmas.{normal_parts, leq_at, leq_denotes, star_of_every}
@@ -43,13 +45,29 @@ has_known rows xs now p n v h is e z =
     (λ i. leb v.number (bound (entries_at (sym is i) (e i)) (author_word v.author)))
     ∙ (sym (kept_bound rows xs p v h z) ∙ ap (λ fs. knows fs p v) is)
 
+-- the fragment to which the index leads
+pub record IsOf (fs now : List Fragment) (p n : ℕ) : Type 0 where
+  pub there : n < length fs
+  pub vector : is_vector (entries_at fs n) ≡ true
+  pub known : (v : Version) → denotes (entries_at fs n) v ≡ knows now p v
+
+pub is_of : (rows : List (List ℕ)) (xs : List (ℕ × ℕ)) (now : List Fragment) (p n : ℕ) → IsKept rows xs → fragments_of rows ≡ now → n ≡ at 0 xs p → IsOf (fragments_of rows) now p n
+is_of rows xs now p n h is e = subst (IsOf (fragments_of rows) now p) (sym e) (record {
+  there = number_below (fragments_of rows) xs p (kept_side rows xs h);
+  vector = side_vector (fragments_of rows) xs p (kept_side rows xs h);
+  known = λ v. sym (kept_knows rows xs p v h) ∙ ap (λ fs. knows fs p v) is;
+})
+
 -- the vector of a fragment
 pub kept_vector : (rows : List (List ℕ)) (xs : List (ℕ × ℕ)) (k : ℕ) → IsKept rows xs → k < length (fragments_of rows) → is_vector (entries_at (fragments_of rows) k) ≡ true
 kept_vector rows xs k h l = (above (fragments_of rows) xs k (kept_side rows xs h) l).vector
 
 -- what is known after a union
-pub learned : (rows : List (List ℕ)) (xs : List (ℕ × ℕ)) (gs us : List Fragment) (ys zs : List (ℕ × ℕ)) → IsKept rows xs → IsUnion (fragments_of rows) xs gs ys us zs → (p : ℕ) (v : Version) → 0 < p → knows us p v ≡ (knows (fragments_of rows) p v || denotes (vector_of gs ys p) v)
-learned rows xs gs us ys zs h u p v z = u.pairs p v z ∙ ap (λ b. b || denotes (vector_of gs ys p) v) (sym (kept_knows rows xs p v h))
+pub joins : (rows : List (List ℕ)) (xs : List (ℕ × ℕ)) (now gs us : List Fragment) (ys zs : List (ℕ × ℕ)) → IsKept rows xs → fragments_of rows ≡ now → IsUnion (fragments_of rows) xs gs ys us zs → IsJoined now gs ys us
+joins rows xs now gs us ys zs h is u = subst (λ fs. IsJoined fs gs ys us) is (record {
+  star = λ a. u.star (author_word a);
+  pairs = λ p v z. u.pairs p v z ∙ ap (λ b. b || denotes (vector_of gs ys p) v) (sym (kept_knows rows xs p v h));
+})
 
 -- Inclusion
 
@@ -83,13 +101,7 @@ within_knows rows others xs ys h g w p v =
     let t = kept_side others ys g in
     let e = leq_denotes (vector_of gs ys p) (vector_of fs xs p) v (side_vector gs ys p t) (side_vector fs xs p s) (within_leq gs fs ys xs p t s w) in
     let both : (knows fs p v || knows gs p v) ≡ (denotes (vector_of fs xs p) v || denotes (vector_of gs ys p) v) = (λ i. kept_knows rows xs p v h i || kept_knows others ys p v g i) in
-    kept_knows rows xs p v h ∙ (sym e ∙ (or_swap (denotes (vector_of gs ys p) v) (denotes (vector_of fs xs p) v) ∙ sym both))
-  where
-    or_swap : (a b : Bool) → (a || b) ≡ (b || a)
-    or_swap true true = refl
-    or_swap true false = refl
-    or_swap false true = refl
-    or_swap false false = refl
+    kept_knows rows xs p v h ∙ (sym e ∙ (or_comm (denotes (vector_of gs ys p) v) (denotes (vector_of fs xs p) v) ∙ sym both))
 
 -- The star's next version
 

@@ -1,8 +1,8 @@
 -- All versions of vectors are known.
-use Rattle.std.proofs.Common.{◌≡◌, ℕ, ◌+◌, ◌≤◌, Bool, true, false, leb, eqb, ◌&&◌, ◌||◌, ◌⊎◌, List, [], ◌∷◌, length, drop, refl, sym, subst, ap, ◌∙◌, inl, inr, arith, Some}
+use Rattle.std.proofs.Common.{◌≡◌, ℕ, ◌+◌, ◌≤◌, true, leb, eqb, ◌&&◌, List, [], ◌∷◌, length, drop, sym, subst, ap, ◌∙◌, inl, inr, arith, Some}
 use Rattle.std.proofs.lemmas.List.{drop_all}
 use Rattle.std.specs.List.{slice_get}
-use Rattle.std.proofs.lemmas.Bool.{and_parts, and_from, eqb-true, le-leb, leb-true, eq-eqb, ne_eqb, cases_eq, false≢true}
+use Rattle.std.proofs.lemmas.Bool.{or_left, or_right, or_cases, and_parts, and_from, eqb-true, le-leb, leb-true, eq-eqb, ne_eqb, cases_eq, false≢true}
 use Rattle.photo_version.specs.Author.{author_word, same_author}
 use Rattle.photo_version.specs.Version.{Version, version}
 use Rattle.photo_version.specs.Vector as vectors
@@ -11,17 +11,6 @@ use Rattle.item_knowledge.specs.Tables.{at}
 use Rattle.item_knowledge.specs.Entries.{Entry, denotes, denotes_one}
 use Rattle.item_knowledge.specs.Fragments.{Fragment, knows, reaches}
 use Rattle.item_knowledge.proofs.TableRowLemmas.{got_drop}
-
-true_or : (a b : Bool) → a ≡ true → (a || b) ≡ true
-true_or a b h = rw h refl
-
-or_true : (a b : Bool) → b ≡ true → (a || b) ≡ true
-or_true true b h = refl
-or_true false b h = h
-
-either : (a b : Bool) → (a || b) ≡ true → (a ≡ true) ⊎ (b ≡ true)
-either true b h = inl refl
-either false b h = inr h
 
 -- with a version all earlier ones of its author are denoted
 
@@ -39,18 +28,18 @@ one_down e v w u h =
 
 denotes_down : (es : List Entry) (v w : Version) → is_up_to v w → denotes es w ≡ true → denotes es v ≡ true
 denotes_down [] v w u h = absurd (false≢true h)
-denotes_down (e ∷ es) v w u h = elim (either (denotes_one e w) (denotes es w) h) [
-  | inl here ↦ true_or (denotes_one e v) (denotes es v) (one_down e v w u here)
-  | inr later ↦ or_true (denotes_one e v) (denotes es v) (denotes_down es v w u later)
+denotes_down (e ∷ es) v w u h = elim (or_cases (denotes_one e w) (denotes es w) h) [
+  | inl here ↦ or_left (denotes_one e v) (denotes es v) (one_down e v w u here)
+  | inr later ↦ or_right (denotes_one e v) (denotes es v) (denotes_down es v w u later)
 ]
 
 knows_down : (fs : List Fragment) (p : ℕ) (v w : Version) → is_up_to v w → knows fs p w ≡ true → knows fs p v ≡ true
 knows_down [] p v w u h = absurd (false≢true h)
-knows_down (f ∷ fs) p v w u h = elim (either (reaches f p && denotes f.entries w) (knows fs p w) h) [
+knows_down (f ∷ fs) p v w u h = elim (or_cases (reaches f p && denotes f.entries w) (knows fs p w) h) [
   | inl here ↦
       let a = and_parts (reaches f p) (denotes f.entries w) here in
-      true_or (reaches f p && denotes f.entries v) (knows fs p v) (and_from _ _ a.0 (denotes_down f.entries v w u a.1))
-  | inr later ↦ or_true (reaches f p && denotes f.entries v) (knows fs p v) (knows_down fs p v w u later)
+      or_left (reaches f p && denotes f.entries v) (knows fs p v) (and_from _ _ a.0 (denotes_down f.entries v w u a.1))
+  | inr later ↦ or_right (reaches f p && denotes f.entries v) (knows fs p v) (knows_down fs p v w u later)
 ]
 
 -- Along a vector
@@ -60,7 +49,7 @@ HasAll fs p bounds = (v : Version) → vectors.denotes bounds v ≡ true → kno
 
 pub bound_had : (fs : List Fragment) (p : ℕ) (bounds : List Bound) (i : ℕ) (b : Bound) → slice_get bounds i ≡ Some b → knows fs p (version b.0 b.1) ≡ true → HasAll fs p (drop (i + 1) bounds) → HasAll fs p (drop i bounds)
 bound_had fs p bounds i b got known rest v h =
-    elim (either (vectors.reaches b v) (vectors.denotes (drop (i + 1) bounds) v) (sym (ap (λ bs. vectors.denotes bs v) (got_drop bounds i b got)) ∙ h)) [
+    elim (or_cases (vectors.reaches b v) (vectors.denotes (drop (i + 1) bounds) v) (sym (ap (λ bs. vectors.denotes bs v) (got_drop bounds i b got)) ∙ h)) [
       | inl here ↦
           let a = and_parts (same_author b.0 v.author) (leb 1 v.number && leb v.number b.1) here in
           let c = and_parts (leb 1 v.number) (leb v.number b.1) a.1 in

@@ -1,9 +1,9 @@
 -- Rows in which an author's bound is still to be raised, as they are shown.
-use Rattle.std.proofs.Common.{◌≡◌, ℕ, zero, suc, ◌*◌, ◌<◌, ◌≤◌, Bool, true, false, ltb, eqb, cond, max, List, [], ◌∷◌, length, get_or, Option, None, Some, refl, sym, subst, ap, ◌∙◌, inl, inr, arith}
+use Rattle.std.proofs.Common.{◌≡◌, ℕ, ◌*◌, ◌<◌, ◌≤◌, Bool, true, false, ltb, eqb, cond, max, List, [], ◌∷◌, length, get_or, Option, None, Some, refl, sym, subst, ap, ◌∙◌, inl, inr, arith}
 use Rattle.std.specs.Option.{is_some, unwrap_or}
+use Rattle.std.proofs.lemmas.List.{length-map, get_or-map}
 use Rattle.std.proofs.lemmas.Bool.{and_parts, and_from, lt-ltb, false≢true, ltb-true, le-leb, eq-eqb, eqb-true, ne_eqb, cases_eq}
 use Rattle.std.proofs.lemmas.Option.{none-some, cond_some}
-use Rattle.std.proofs.Math.Nat.{max-zero, zero-max}
 use Rattle.item_knowledge.specs.Tables.{keys_pass, in_order}
 use Rattle.item_knowledge.specs.Entries.{Entry, is_vector, bound, leq, joined}
 use Rattle.item_knowledge.specs.Fragments.{Fragment, entries_at, nothing}
@@ -12,11 +12,11 @@ use Rattle.item_knowledge.specs.Raising.{raised, all_raised, is_risen, are_risen
 use Rattle.item_knowledge.specs.Rows.{AreRows, fragments_of, rows_of}
 use Rattle.item_knowledge.proofs.EntryLemmas.{entry_of, EntryParts}
 use Rattle.item_knowledge.proofs.FragmentLemmas.{leq_at}
-use Rattle.item_knowledge.proofs.JoinLemmas.{leq_from}
-use Rattle.item_knowledge.proofs.PutLemmas.{risen_at}
+use Rattle.item_knowledge.proofs.JoinLemmas.{leq_from, joined_at}
+use Rattle.item_knowledge.proofs.PutLemmas.{IsRisen, risen_at}
 use Rattle.item_knowledge.proofs.RaiseLemmas.{length_raised, entries_raised}
 use Rattle.item_knowledge.proofs.RowLemmas.{fragments_rows, rows_read, joined_none}
-use Rattle.item_knowledge.proofs.TableLemmas.{merge_left, merge_both, merge_at}
+use Rattle.item_knowledge.proofs.TableLemmas.{merge_left, merge_both}
 
 -- An entry in place of the author's
 
@@ -31,12 +31,6 @@ none_late e (x ∷ es) h =
     let less = ltb-true e.0 x.0 p.0 in
     let stays : late_entry (Some e) x ≡ x = rw (ne_eqb e.0 x.0 (λ s. absurd (omega arith))) refl in
     λ i. sym stays i ∷ none_late e es p.1 i
-
--- what an entry and entries have where the author's bound rises
-pub record IsRisen (e : Entry) (es : List Entry) : Type 0 where
-  pub order : in_order es ≡ true
-  pub some : 0 < bound es e.0
-  pub most : bound es e.0 ≤ e.1
 
 -- the join with one entry of an author that has one already
 pub joined_late : (e : Entry) (es : List Entry) → IsRisen e es → joined es (e ∷ []) ≡ late_entries (Some e) es
@@ -78,13 +72,10 @@ same_entries_shown [] = refl
 same_entries_shown (x ∷ es) = λ i. x ∷ same_entries_shown es i
 
 pub late_length : (late : Option Entry) (es : List Entry) → length (late_entries late es) ≡ length es
-late_length late [] = refl
-late_length late (x ∷ es) = ap suc (late_length late es)
+late_length late es = length-map es (late_entry late)
 
 pub late_at : (late : Option Entry) (es : List Entry) (i : ℕ) → i < length es → get_or (late_entries late es) i (0, 0) ≡ late_entry late (get_or es i (0, 0))
-late_at late [] i l = absurd (omega arith)
-late_at late (x ∷ es) zero l = refl
-late_at late (x ∷ es) (suc i) l = late_at late es i (omega arith)
+late_at late es i l = get_or-map (late_entry late) es i (0, 0) (0, 0) l
 
 pub shown_parts : (late : Option Entry) (es : List Entry) (i : ℕ) (entry : Entry) (number : ℕ) → is_vector (late_entries late es) ≡ true → i < length (late_entries late es) → entry ≡ get_or es i (0, 0) → number ≡ unwrap_or (late_of late entry.0) entry.1 → EntryParts (entry.0, number)
 shown_parts late es i entry number h below is shows =
@@ -95,9 +86,7 @@ IsRisenAt None es = Unit {0}
 IsRisenAt (Some e) es = IsRisen e es
 
 raised_bound : (e : Entry) (es : List Entry) (a : ℕ) → IsRisen e es → bound (late_entries (Some e) es) a ≡ max (bound es a) (bound (e ∷ []) a)
-raised_bound e es a h =
-    ap (λ xs. bound xs a) (sym (joined_late e es h))
-    ∙ merge_at (λ n. n) (λ n m. max n m) (λ m. m) 0 0 (λ n. sym (max-zero n)) (λ m. sym (zero-max m)) es (e ∷ []) h.order refl a
+raised_bound e es a h = ap (λ xs. bound xs a) (sym (joined_late e es h)) ∙ joined_at es (e ∷ []) a h.order refl
 
 pub bound_late : (late : Option Entry) (es : List Entry) (a n : ℕ) → IsRisenAt late es → late_of late a ≡ Some n → bound (late_entries late es) a ≡ n
 bound_late None es a n h is = absurd (none-some n is)
@@ -151,14 +140,6 @@ pub record ShownAt (late : Option Entry) (rows now : List (List ℕ)) (k : ℕ) 
   pub entries : entries_at (fragments_of now) k ≡ late_entries late (entries_at (fragments_of rows) k)
   pub risen : IsRisenAt late (entries_at (fragments_of rows) k)
 
-pictures_raised : (e : Entry) (fs : List Fragment) (k : ℕ) → (get_or (all_raised e fs) k nothing).pictures ≡ (get_or fs k nothing).pictures
-pictures_raised e [] k = refl
-pictures_raised e (f ∷ fs) zero = refl
-pictures_raised e (f ∷ fs) (suc k) = pictures_raised e fs k
-
-risen_here : (e : Entry) (fs : List Fragment) (k : ℕ) → are_risen e fs ≡ true → k < length fs → IsRisen e (entries_at fs k)
-risen_here e fs k h l = let r = risen_at e fs k h l in record { order = r.order; some = r.some; most = r.most }
-
 shown_raised : (e : Entry) (rows : List (List ℕ)) (k : ℕ) → IsLate (Some e) rows → k < length (fragments_of rows) → ShownAt (Some e) rows (rows_of (all_raised e (fragments_of rows))) k
 shown_raised e rows k h l =
     let fs = fragments_of rows in
@@ -166,9 +147,9 @@ shown_raised e rows k h l =
       are_rows = h.0;
       there = l;
       size = rows_read rows h.0;
-      pictures = ap (λ gs. (get_or gs k nothing).pictures) (fragments_rows (all_raised e fs)) ∙ pictures_raised e fs k;
-      entries = ap (λ gs. entries_at gs k) (fragments_rows (all_raised e fs)) ∙ (entries_raised e fs k l ∙ joined_late e (entries_at fs k) (risen_here e fs k h.1.risen l));
-      risen = risen_here e fs k h.1.risen l;
+      pictures = ap (λ gs. (get_or gs k nothing).pictures) (fragments_rows (all_raised e fs)) ∙ ap (λ (f : Fragment). f.pictures) (get_or-map (λ f. raised e f) fs k nothing nothing l);
+      entries = ap (λ gs. entries_at gs k) (fragments_rows (all_raised e fs)) ∙ (entries_raised e fs k l ∙ joined_late e (entries_at fs k) (risen_at e fs k h.1.risen l));
+      risen = risen_at e fs k h.1.risen l;
     }
 
 pub count_shown : (late : Option Entry) (rows : List (List ℕ)) → length (fragments_of (shown late rows)) ≡ length (fragments_of rows)
@@ -201,7 +182,7 @@ order_shown (Some e) rows now k s o = s.risen.order
 -- A bound that is still to be raised rises again
 
 risen_one : (e : Entry) (f : Fragment) → is_risen e f ≡ true → IsRisen e f.entries
-risen_one e f h = risen_here e (f ∷ []) 0 (and_from _ _ h refl) (omega arith)
+risen_one e f h = risen_at e (f ∷ []) 0 (and_from _ _ h refl) (omega arith)
 
 one_risen : (e : Entry) (f : Fragment) → IsRisen e f.entries → is_risen e f ≡ true
 one_risen e f h = and_from _ _ h.order (and_from _ _ (lt-ltb 0 (bound f.entries e.0) h.some) (le-leb (bound f.entries e.0) e.1 h.most))

@@ -28,6 +28,5 @@ pub mod SeenLemmas
 pub mod NormalLemmas
 pub mod ApartLemmas
 pub mod SpanLemmas
-pub mod PairingLemmas
 pub mod WayLemmas
 pub mod StagedExamples

@@ -1,20 +1,21 @@
 -- An author's next version, raised in place.
-use Rattle.std.proofs.Common.{◌≡◌, ℕ, ◌+◌, ◌-◌, ◌<◌, ◌≤◌, true, leb, ltb, cond, ◌&&◌, ◌||◌, List, [], ◌∷◌, refl, sym, subst, ◌∙◌, inl, inr, arith}
+use Rattle.std.proofs.Common.{◌≡◌, ℕ, ◌+◌, ◌-◌, ◌<◌, ◌≤◌, true, leb, ltb, max, ◌&&◌, ◌||◌, List, [], ◌∷◌, refl, sym, subst, ◌∙◌, inl, inr, arith}
 use Rattle.std.specs.List.{list_all}
 use Rattle.std.proofs.lemmas.Bool.{and_parts, and_from, lt-ltb, ltb-true, le-leb, leb-true, cases_lt, false≢true, or_left, or_right}
-use Rattle.photo_version.specs.Author.{Author, author_word, is_author_word, same_author}
-use Rattle.photo_version.specs.Version.{Version, version, same_version}
+use Rattle.photo_version.specs.Author.{Author, author_word, is_author_word}
+use Rattle.photo_version.specs.Version.{Version, version}
 use Rattle.item_knowledge.specs.Tables.{in_order}
 use Rattle.item_knowledge.specs.Entries.{Entry, denotes, is_entry, most_number, is_vector, bound, leq}
 use Rattle.item_knowledge.specs.Fragments.{Fragment, is_empty, first, lists, reaches, knows, are_groups, is_normal, entries_at}
-use Rattle.item_knowledge.specs.Gathering.{is_above}
+use Rattle.item_knowledge.specs.Gathering.{is_above, vector_of}
 use Rattle.item_knowledge.specs.Kept.{IsKept, star_bound}
 use Rattle.item_knowledge.specs.Raising.{are_level, all_raised, are_risen, star_of_one}
+use Rattle.item_knowledge.specs.Spare.{IsJoined, HasNext}
 use Rattle.item_knowledge.specs.Late.{IsWaiting}
 use Rattle.item_knowledge.specs.Rows.{fragments_of, rows_of}
 use Rattle.item_knowledge.proofs.EntryLemmas.{denotes-bound}
 use Rattle.item_knowledge.proofs.FragmentLemmas.{groups_parts, normal_parts, leq_at}
-use Rattle.item_knowledge.proofs.KeptLemmas.{kept_side, learned, next_known, star_next}
+use Rattle.item_knowledge.proofs.KeptLemmas.{kept_side, joins, next_known, star_next}
 use Rattle.item_knowledge.proofs.PictureLemmas.{listed, first_listed}
 use Rattle.item_knowledge.proofs.RaiseLemmas.{raised_kept, is_next}
 
@@ -82,26 +83,36 @@ risen_all e star b (f ∷ fs) h z l m =
     (risen_all e star b fs p.1 z r.1 m)
 
 -- what a knowledge and an author's next version have
-pub record IsOwn (w : Version) (rows : List (List ℕ)) (xs : List (ℕ × ℕ)) : Type 0 where
-  pub kept : IsKept rows xs
-  pub entry : is_entry (author_word w.author, w.number) ≡ true
-  pub some : 0 < star_bound (fragments_of rows) w.author
-  pub next : w.number ≡ star_bound (fragments_of rows) w.author + 1
-  pub level : are_level (fragments_of rows) (author_word w.author) (w.number - 1) ≡ true
+record IsOwn (w : Version) (rows : List (List ℕ)) (xs : List (ℕ × ℕ)) : Type 0 where
+  kept : IsKept rows xs
+  entry : is_entry (author_word w.author, w.number) ≡ true
+  some : 0 < star_bound (fragments_of rows) w.author
+  next : w.number ≡ star_bound (fragments_of rows) w.author + 1
+  level : are_level (fragments_of rows) (author_word w.author) (w.number - 1) ≡ true
 
-pub own_from : (w : Version) (rows : List (List ℕ)) (xs : List (ℕ × ℕ)) (fs : List Fragment) (a n : ℕ) → IsKept rows xs → fragments_of rows ≡ fs → a ≡ author_word w.author → n ≡ w.number → is_author_word a ≡ true → 0 < n → n ≤ most_number → 0 < star_bound fs w.author → w.number ≡ star_bound fs w.author + 1 → are_level fs (author_word w.author) (w.number - 1) ≡ true → IsOwn w rows xs
-own_from w rows xs fs a n h same word number author above fits some next level = record {
-  kept = h;
-  entry = subst (λ m. is_entry (author_word w.author, m) ≡ true) number (subst (λ b. is_entry (b, n) ≡ true) word (and_from _ _ author (and_from _ _ (lt-ltb 0 n above) (le-leb n most_number fits))));
-  some = subst (λ gs. 0 < star_bound gs w.author) (sym same) some;
-  next = subst (λ gs. w.number ≡ star_bound gs w.author + 1) (sym same) next;
-  level = subst (λ gs. are_level gs (author_word w.author) (w.number - 1) ≡ true) (sym same) level;
+-- what a knowledge is that learned it
+pub record IsOwned (w : Version) (fs : List Fragment) (xs : List (ℕ × ℕ)) (out : List (List ℕ)) : Type 0 where
+  pub kept : IsKept out xs
+  pub next : HasNext w fs (fragments_of out)
+
+-- what is learned with the star of an author's next version
+pub next_joined : (w : Version) (before fs gs new : List Fragment) (ys : List (ℕ × ℕ)) → before ≡ fs → is_normal fs ≡ true → w.number ≡ star_bound fs w.author + 1 → gs ≡ star_of_one (author_word w.author, w.number) → ys ≡ [] → IsJoined before gs ys new → HasNext w fs new
+next_joined w before fs gs new ys known normal next is none j = record {
+  star = λ a. j.star a ∙ ((λ i. max (star_bound (known i) a) (star_bound (is i) a)) ∙ star_next fs w.author a w.number next);
+  learned = λ p v z. j.pairs p v z ∙ ((λ i. knows (known i) p v || denotes (vector_of (is i) (none i) p) v) ∙ next_known fs w p v normal z next);
 }
 
-pub own_risen : (w : Version) (rows : List (List ℕ)) (xs : List (ℕ × ℕ)) → IsOwn w rows xs → are_risen (author_word w.author, w.number) (fragments_of rows) ≡ true
-own_risen w rows xs h = risen_all (author_word w.author, w.number) (entries_at (fragments_of rows) 0) (w.number - 1) (fragments_of rows) (kept_side rows xs h.kept).above h.some h.level (omega arith)
+owned_by : (w : Version) (rows : List (List ℕ)) (xs : List (ℕ × ℕ)) (out : List (List ℕ)) → IsOwn w rows xs → out ≡ rows_of (all_raised (author_word w.author, w.number) (fragments_of rows)) → IsOwned w (fragments_of rows) xs out
+owned_by w rows xs out h is =
+    let fs = fragments_of rows in
+    let e : Entry = (author_word w.author, w.number) in
+    let made = raised_kept e rows xs out h.kept (is_next e fs fs refl h.entry h.next h.level) is in
+    record {
+      kept = made.kept;
+      next = next_joined w fs fs (star_of_one e) (fragments_of out) [] refl h.kept.normal h.next refl refl (joins rows xs fs (star_of_one e) (fragments_of out) [] xs h.kept refl made.union);
+    }
 
-pub own_waiting : (w : Version) (rows : List (List ℕ)) (xs : List (ℕ × ℕ)) → IsOwn w rows xs → IsWaiting (author_word w.author, w.number) (fragments_of rows)
+own_waiting : (w : Version) (rows : List (List ℕ)) (xs : List (ℕ × ℕ)) → IsOwn w rows xs → IsWaiting (author_word w.author, w.number) (fragments_of rows)
 own_waiting w rows xs h =
     let next = h.next in
     let before : w.number - 1 ≡ star_bound (fragments_of rows) w.author = omega arith in
@@ -109,21 +120,23 @@ own_waiting w rows xs h =
       normal = h.kept.normal;
       entry = h.entry;
       level = subst (λ b. are_level (fragments_of rows) (author_word w.author) b ≡ true) before h.level;
-      risen = own_risen w rows xs h;
+      risen = risen_all (author_word w.author, w.number) (entries_at (fragments_of rows) 0) (w.number - 1) (fragments_of rows) (kept_side rows xs h.kept).above h.some h.level (omega arith);
     }
 
--- what a knowledge is that learned it
-pub record IsOwned (w : Version) (rows : List (List ℕ)) (xs : List (ℕ × ℕ)) (out : List (List ℕ)) : Type 0 where
-  pub kept : IsKept out xs
-  pub star : (a : Author) → star_bound (fragments_of out) a ≡ cond (same_author w.author a) w.number (star_bound (fragments_of rows) a)
-  pub learned : (p : ℕ) (v : Version) → 0 < p → knows (fragments_of out) p v ≡ (knows (fragments_of rows) p v || same_version w v)
+-- the bound may be raised, and then the version is known
+pub record Owns (w : Version) (rows : List (List ℕ)) (xs : List (ℕ × ℕ)) (fs : List Fragment) (e : Entry) : Type 0 where
+  pub waiting : IsWaiting e (fragments_of rows)
+  pub owned : (out : List (List ℕ)) → out ≡ rows_of (all_raised e (fragments_of rows)) → IsOwned w fs xs out
 
-pub owned : (w : Version) (rows : List (List ℕ)) (xs : List (ℕ × ℕ)) (out : List (List ℕ)) → IsOwn w rows xs → out ≡ rows_of (all_raised (author_word w.author, w.number) (fragments_of rows)) → IsOwned w rows xs out
-owned w rows xs out h is =
-    let fs = fragments_of rows in
-    let made = raised_kept (author_word w.author, w.number) rows xs out h.kept (is_next (author_word w.author, w.number) fs fs refl h.entry h.next h.level) is in
-    record {
-      kept = made.kept;
-      star = λ a. made.union.star (author_word a) ∙ star_next fs w.author a w.number h.next;
-      learned = λ p v z. learned rows xs (star_of_one (author_word w.author, w.number)) (fragments_of out) [] xs h.kept made.union p v z ∙ next_known fs w p v h.kept.normal z h.next;
+pub owns : (w : Version) (rows : List (List ℕ)) (xs : List (ℕ × ℕ)) (fs : List Fragment) (a n : ℕ) → IsKept rows xs → fragments_of rows ≡ fs → a ≡ author_word w.author → n ≡ w.number → is_author_word a ≡ true → 0 < n → n ≤ most_number → 0 < star_bound fs w.author → w.number ≡ star_bound fs w.author + 1 → are_level fs (author_word w.author) (w.number - 1) ≡ true → Owns w rows xs fs (a, n)
+owns w rows xs fs a n h same word number author above fits some next level =
+    subst (Owns w rows xs fs) (λ j. (sym word j, sym number j)) (subst (λ gs. Owns w rows xs gs (author_word w.author, w.number)) same (record { waiting = own_waiting w rows xs own; owned = λ out is. owned_by w rows xs out own is }))
+  where
+    own : IsOwn w rows xs
+    own = record {
+      kept = h;
+      entry = subst (λ m. is_entry (author_word w.author, m) ≡ true) number (subst (λ b. is_entry (b, n) ≡ true) word (and_from _ _ author (and_from _ _ (lt-ltb 0 n above) (le-leb n most_number fits))));
+      some = subst (λ gs. 0 < star_bound gs w.author) (sym same) some;
+      next = subst (λ gs. w.number ≡ star_bound gs w.author + 1) (sym same) next;
+      level = subst (λ gs. are_level gs (author_word w.author) (w.number - 1) ≡ true) (sym same) level;
     }

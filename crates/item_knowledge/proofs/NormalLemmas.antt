@@ -1,6 +1,7 @@
 -- Whatever is known of every picture, and of some besides, has a normal form: it is the union of what is known of each.
-use Rattle.std.proofs.Common.{◌≡◌, ℕ, ◌<◌, Bool, true, false, ltb, eqb, ◌&&◌, ◌||◌, List, [], ◌∷◌, refl, sym, ap, ◌∙◌, inl, inr, arith}
+use Rattle.std.proofs.Common.{◌≡◌, ℕ, ◌<◌, Bool, true, ltb, eqb, ◌&&◌, ◌||◌, List, [], ◌∷◌, refl, sym, ap, ◌∙◌, inl, inr, arith}
 use Rattle.std.specs.List.{list_any, list_all}
+use Rattle.std.proofs.Math.Bool.{or-false, or_assoc, or_comm}
 use Rattle.std.proofs.lemmas.Bool.{and_parts, and_from, eq-eqb, ne_eqb, cases_eq}
 use Rattle.photo_version.specs.Version.{Version}
 use Rattle.item_knowledge.specs.Entries.{Entry, denotes, is_vector}
@@ -18,17 +19,13 @@ record IsMade (fs : List Fragment) (index : List (ℕ × ℕ)) (pairs : ℕ → 
 
 -- the star alone
 
-or_none : (b : Bool) → b ≡ (b || false)
-or_none true = refl
-or_none false = refl
-
 star_made : (every : List Entry) → is_vector every ≡ true → IsMade (star_first every []) [] (pairs_of every [])
 star_made every h =
     let normal : is_normal (star_first every []) ≡ true = and_from _ _ (and_from _ _ refl h) refl in
     record {
       normal = normal;
       indexed = record { order = refl; positive = refl; range = refl; vectors = λ p. refl };
-      denoted = λ p v z. knows_vector (star_first every []) p v normal ∙ or_none (denotes every v);
+      denoted = λ p v z. knows_vector (star_first every []) p v normal ∙ sym (or-false (denotes every v));
     }
 
 -- what is known of one picture
@@ -59,11 +56,7 @@ one_denoted t p v = elim (cases_eq t.0 p) [
 -- one picture more
 
 between : (a b c : Bool) → ((a || b) || c) ≡ (a || (c || b))
-between true b c = refl
-between false true true = refl
-between false true false = refl
-between false false true = refl
-between false false false = refl
+between a b c = or_assoc a b c ∙ ap (λ x. a || x) (or_comm b c)
 
 more_made : (every : List Entry) (t : ℕ × List Entry) (some : List (ℕ × List Entry)) (fs : List Fragment) (index : List (ℕ × ℕ)) → is_told t ≡ true → IsMade fs index (pairs_of every some)
     → IsMade (union_of fs (one t) index (one_index t)) (index_of fs (one t) index (one_index t)) (pairs_of every (t ∷ some))

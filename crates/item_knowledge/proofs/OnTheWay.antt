@@ -1,25 +1,23 @@
 -- What holds while a union is written: how far its table has come, and what stands there by then.
-use Rattle.std.specs.Prelude.{◌≡◌, ℕ, true, ◌*◌, ◌≤◌, List, ◌++◌, length, drop}
+use Rattle.std.specs.Prelude.{◌≡◌, ℕ, true, ◌*◌, ◌≤◌, List, ◌++◌, length}
 use Rattle.fragment_arena.specs.Arena.{run}
 use Rattle.item_knowledge.specs.Apart.{singles, spread_of, IsSpread}
 use Rattle.item_knowledge.specs.Entries.{Entry}
 use Rattle.item_knowledge.specs.Fragments.{Fragment, is_normal}
-use Rattle.item_knowledge.specs.Gathering.{IsSide, gathered, indexed, paired, pair_vector}
+use Rattle.item_knowledge.specs.Gathering.{IsSide, gathered, indexed, pair_vector}
 use Rattle.item_knowledge.specs.declared.pairing.Pairing.{Pairing}
-use Rattle.item_knowledge.specs.Pairing.{IsAlong}
+use Rattle.item_knowledge.specs.Pairing.{left_of}
 use Rattle.item_knowledge.specs.Rows.{pairs, AreRows, fragments_of}
 
 -- a table on the way: the groups so far with their index, and the rows that are left
-pub record IsGathered (star : List Entry) (f : ℕ × ℕ → List Entry) (table : List (ℕ × (ℕ × ℕ))) (gs : List Fragment) (numbers : List (ℕ × ℕ)) (i : ℕ) (all : List Fragment) (every : List (ℕ × ℕ)) : Type 0 where
-  pub rest : gathered star f (drop i table) gs ≡ all
-  pub index : numbers ++ indexed star f (drop i table) gs ≡ every
+pub record IsGathered (star : List Entry) (f : ℕ × ℕ → List Entry) (rows : List (ℕ × (ℕ × ℕ))) (gs : List Fragment) (numbers : List (ℕ × ℕ)) (all : List Fragment) (every : List (ℕ × ℕ)) : Type 0 where
+  pub rest : gathered star f rows gs ≡ all
+  pub index : numbers ++ indexed star f rows gs ≡ every
 
 -- a union on the way: what is written, with a run of the left's fragments that is still to be written, and the rows that are left
 pub record IsOnTheWay (left right : List (List ℕ)) (xs ys : List (ℕ × ℕ)) (star : List ℕ) (out : List (List ℕ)) (index joined : List (ℕ × ℕ)) (at : Pairing) (from to : ℕ) : Type 0 where
-  pub place : ℕ
-  pub along : IsAlong xs ys at place
   pub gs : List Fragment
-  pub rest : gs ++ singles (pair_vector (fragments_of left) (fragments_of right) (0, 0)) (pair_vector (fragments_of left) (fragments_of right)) (drop place (paired xs ys)) ≡ spread_of (fragments_of left) (fragments_of right) xs ys
+  pub rest : gs ++ singles (pair_vector (fragments_of left) (fragments_of right) (0, 0)) (pair_vector (fragments_of left) (fragments_of right)) (left_of at xs ys) ≡ spread_of (fragments_of left) (fragments_of right) xs ys
   pub spread : IsSpread left (pairs star) gs (out ++ run left (2 * from) (2 * to)) index joined
   pub order : from ≤ to
   pub there : to ≤ length (fragments_of left)

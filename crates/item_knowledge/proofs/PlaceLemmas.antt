@@ -1,8 +1,8 @@
 -- The place of the group with a vector, as groups grow.
-use Rattle.std.proofs.Common.{◌≡◌, ℕ, zero, suc, ◌+◌, ◌*◌, ◌<◌, Bool, true, false, cond, List, [], ◌∷◌, ◌++◌, length, get_or, set, slice_set, refl, sym, subst, ap, ◌∙◌, inl, inr, arith, Option, None, Some, length-append, append_assoc}
+use Rattle.std.proofs.Common.{◌≡◌, ℕ, zero, suc, ◌+◌, ◌*◌, ◌<◌, Bool, true, false, cond, List, [], ◌∷◌, ◌++◌, length, get_or, set, slice_set, refl, sym, subst, ap, ◌∙◌, inl, inr, arith, Option, None, Some, length-append, length-set, append_assoc}
 use Rattle.std.proofs.Math.ListN.{get_or-append}
 use Rattle.std.proofs.Math.Seq.{get_or-append_seam}
-use Rattle.std.proofs.lemmas.List.{get_or-map}
+use Rattle.std.proofs.lemmas.List.{get_or-map, length-map, map-append}
 use Rattle.std.proofs.lemmas.Bool.{cases_Bool, cases_lt, false≢true}
 use Rattle.item_knowledge.specs.Entries.{Entry, same_entries}
 use Rattle.item_knowledge.specs.Fragments.{Fragment, nothing}
@@ -20,20 +20,17 @@ place_here g gs v h = rw h refl
 pub place_later : (g : Fragment) (gs : List Fragment) (v : List Entry) → same_entries g.entries v ≡ false → place (g ∷ gs) v ≡ after (place gs v)
 place_later g gs v h = rw h refl
 
+pub some_inj : (x y : ℕ) → Some x ≡ Some y → x ≡ y
+some_inj x y e = cc
+
 -- the place in what follows
 pub inner : (o : Option ℕ) (k : ℕ) → after o ≡ Some k → (j : ℕ) × (o ≡ Some j) × (k ≡ suc j)
 inner None k h = absurd (cc)
 inner (Some j) k h = (j, refl, some_inj k (suc j) (sym h))
-  where
-    some_inj : (x y : ℕ) → Some x ≡ Some y → x ≡ y
-    some_inj x y e = cc
 
 inner_none : (o : Option ℕ) → after o ≡ None → o ≡ None
 inner_none None h = refl
 inner_none (Some j) h = absurd (cc)
-
-pub some_inj : (x y : ℕ) → Some x ≡ Some y → x ≡ y
-some_inj x y e = cc
 
 pub place_below : (gs : List Fragment) (v : List Entry) (k : ℕ) → place gs v ≡ Some k → k < length gs
 place_below [] v k h = absurd (cc)
@@ -192,15 +189,13 @@ counted_more pictures rows pictures_new rows_new ps row l is also =
 -- Vectors of fragments by their numbers
 
 pub vectors_length : (rows : List (List ℕ)) (numbers : List ℕ) → length (vectors_at rows numbers) ≡ length numbers
-vectors_length rows [] = refl
-vectors_length rows (n ∷ numbers) = ap suc (vectors_length rows numbers)
+vectors_length rows numbers = length-map numbers (λ n. get_or rows (2 * n + 1) [])
 
 pub vector_there : (rows : List (List ℕ)) (numbers : List ℕ) (k n : ℕ) → k < length numbers → n ≡ get_or numbers k 0 → get_or rows (2 * n + 1) [] ≡ get_or (vectors_at rows numbers) k []
 vector_there rows numbers k n l e = ap (λ m. get_or rows (2 * m + 1) []) e ∙ sym (get_or-map (λ m. get_or rows (2 * m + 1) []) numbers k 0 [] l)
 
 pub vectors_push : (rows : List (List ℕ)) (numbers : List ℕ) (n : ℕ) → vectors_at rows (numbers ++ n ∷ []) ≡ vectors_at rows numbers ++ get_or rows (2 * n + 1) [] ∷ []
-vectors_push rows [] n = refl
-vectors_push rows (m ∷ numbers) n = ap (λ vs. get_or rows (2 * m + 1) [] ∷ vs) (vectors_push rows numbers n)
+vectors_push rows numbers n = map-append (λ m. get_or rows (2 * m + 1) []) numbers (n ∷ [])
 
 -- more rows behind them change nothing
 pub vectors_grown : (rows more : List (List ℕ)) (numbers : List ℕ) → ((k : ℕ) → k < length numbers → 2 * get_or numbers k 0 + 1 < length rows) → vectors_at (rows ++ more) numbers ≡ vectors_at rows numbers
@@ -222,13 +217,19 @@ none_placed places rows pictures found n r p =
     record { found = found rows; even = omega (arith, a, b); counted = omega (arith, b, d, e); whole = λ k l. absurd (omega (arith, l, b, e)) }
 
 -- one fragment more is found
-pub placed_more : (places new : Places) (rows : List (List ℕ)) (b n : ℕ) → CanPlace places rows b n → b < length places.heads.items
+pub placed_more : (places new : Places) (rows : List (List ℕ)) (b n : ℕ) → CanPlace places rows b n → new.seed ≡ places.seed
     → new.before.items ≡ places.before.items ++ get_or places.heads.items b 0 ∷ [] → new.numbers.items ≡ places.numbers.items ++ n ∷ [] → new.heads.items ≡ set places.heads.items b (length new.before.items) → IsFound new rows
-placed_more places new rows b n can l before numbers heads = record {
-  placed = pushed places.heads.items places.before.items new.heads.items new.before.items (vectors_at rows places.numbers.items) (vectors_at rows new.numbers.items) (get_or rows (2 * n + 1) []) b
-      can.found.placed can.new can.in_bucket l before (ap (vectors_at rows) numbers ∙ vectors_push rows places.numbers.items n) heads;
-  there = subst (λ ns. (k : ℕ) → k < length ns → 2 * get_or ns k 0 + 1 < length rows) (sym numbers) (inside_push rows places.numbers.items n can.found.there can.there);
-}
+placed_more places new rows b n can seed before numbers heads =
+    let bucket_of = bucket places.seed (length places.heads.items) in
+    let row = get_or rows (2 * n + 1) [] in
+    let many : length new.heads.items ≡ length places.heads.items = ap length heads ∙ length-set places.heads.items b (length new.before.items) in
+    record {
+      placed = subst (λ f. IsPlaced f new.heads.items new.before.items (vectors_at rows new.numbers.items)) (λ i. bucket (sym seed i) (sym many i))
+          (pushed bucket_of (vectors_at rows places.numbers.items) row places.heads.items places.before.items can.found.placed (can.found.placed.below row) new.heads.items new.before.items (vectors_at rows new.numbers.items) can.new
+          (before ∙ ap (λ c. places.before.items ++ get_or places.heads.items c 0 ∷ []) can.in_bucket) (ap (vectors_at rows) numbers ∙ vectors_push rows places.numbers.items n)
+          (heads ∙ ap (λ c. set places.heads.items c (length new.before.items)) can.in_bucket));
+      there = subst (λ ns. (k : ℕ) → k < length ns → 2 * get_or ns k 0 + 1 < length rows) (sym numbers) (inside_push rows places.numbers.items n can.found.there can.there);
+    }
 
 -- the row of a group that comes behind the others
 module _ (places : Places) (rows new pictures : List (List ℕ)) (row : List ℕ) (n : ℕ) (h : Placed places rows pictures) (is : new ≡ (rows ++ [] ∷ []) ++ row ∷ []) (number : n ≡ length places.numbers.items) where
@@ -250,16 +251,16 @@ module _ (places : Places) (rows new pictures : List (List ℕ)) (row : List ℕ
       let place : 2 * n + 1 ≡ suc (length rows) = omega (arith, number, h.even) in
       (λ i. get_or (grown i) (place i) []) ∙ behind rows
 
-  pub can_place : (b : ℕ) → b ≡ bucket (length places.heads.items) row → is_new (vectors_at rows places.numbers.items) row → CanPlace places new b n
+  pub can_place : (b : ℕ) → b ≡ bucket places.seed (length places.heads.items) row → is_new (vectors_at rows places.numbers.items) row → CanPlace places new b n
   can_place b in_bucket fresh =
       let long = grown_length in
       record {
         found = record {
-          placed = subst (λ vs. IsPlaced places.heads.items places.before.items vs) (sym same) h.found.placed;
+          placed = subst (λ vs. IsPlaced (bucket places.seed (length places.heads.items)) places.heads.items places.before.items vs) (sym same) h.found.placed;
           there = λ k l. let inside = h.found.there k l in omega (arith, inside, long);
         };
         there = omega (arith, long, number, h.even);
-        in_bucket = in_bucket ∙ ap (bucket (length places.heads.items)) (sym at_end);
+        in_bucket = in_bucket ∙ ap (bucket places.seed (length places.heads.items)) (sym at_end);
         new = subst (λ ws. is_new (vectors_at new places.numbers.items) ws) (sym at_end) (subst (λ vs. is_new vs row) (sym same) fresh);
       }
 

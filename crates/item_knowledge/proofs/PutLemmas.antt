@@ -7,6 +7,8 @@ use Rattle.item_knowledge.specs.Fragments.{Fragment, nothing, entries_at}
 use Rattle.item_knowledge.specs.Rows.{pairs, flat, AreRows, IsAt, fragments_of, rows_of}
 use Rattle.item_knowledge.specs.Raising.{raised, all_raised, is_risen, are_risen}
 use Rattle.item_knowledge.proofs.MergeLemmas.{all_at}
+use Rattle.item_knowledge.proofs.JoinLemmas.{joined_at}
+use Rattle.item_knowledge.proofs.RaiseLemmas.{entries_raised}
 use Rattle.item_knowledge.proofs.RowLemmas.{fragments_rows, rows_rows, rows_length, entries_row, flat_length, joined_none}
 use Rattle.item_knowledge.proofs.SearchLemmas.{first_below, found_there}
 use Rattle.item_knowledge.proofs.TableLemmas.{merge_left, merge_both}
@@ -70,17 +72,21 @@ raised_row e (suc k) (f ∷ fs) l =
     ap (λ j. set (rows_of (raised_to e (suc k) (f ∷ fs))) j (flat (joined (entries_at fs k) (e ∷ [])))) two
     ∙ ap (λ rows. f.pictures ∷ flat (joined f.entries (e ∷ [])) ∷ rows) (raised_row e k fs (omega arith))
 
-pub record RisenParts (e : Entry) (fs : List Fragment) (k : ℕ) : Type 0 where
-  pub order : in_order (entries_at fs k) ≡ true
-  pub some : 0 < bound (entries_at fs k) e.0
-  pub most : bound (entries_at fs k) e.0 ≤ e.1
+-- what an entry and entries have where the author's bound rises
+pub record IsRisen (e : Entry) (es : List Entry) : Type 0 where
+  pub order : in_order es ≡ true
+  pub some : 0 < bound es e.0
+  pub most : bound es e.0 ≤ e.1
 
-pub risen_at : (e : Entry) (fs : List Fragment) (k : ℕ) → are_risen e fs ≡ true → k < length fs → RisenParts e fs k
+pub risen_at : (e : Entry) (fs : List Fragment) (k : ℕ) → are_risen e fs ≡ true → k < length fs → IsRisen e (entries_at fs k)
 risen_at e fs k h l =
     let f = get_or fs k nothing in
     let b = and_parts (in_order f.entries) (ltb 0 (bound f.entries e.0) && leb (bound f.entries e.0) e.1) (all_at (λ (g : Fragment). is_risen e g) fs k nothing h l) in
     let c = and_parts (ltb 0 (bound f.entries e.0)) (leb (bound f.entries e.0) e.1) b.1 in
     record { order = b.0; some = ltb-true 0 (bound f.entries e.0) c.0; most = leb-true (bound f.entries e.0) e.1 c.1 }
+
+pub raised_at_bound : (e : Entry) (fs : List Fragment) (k a : ℕ) → are_risen e fs ≡ true → k < length fs → bound (entries_at (all_raised e fs) k) a ≡ max (bound (entries_at fs k) a) (bound (e ∷ []) a)
+raised_at_bound e fs k a h l = ap (λ es. bound es a) (entries_raised e fs k l) ∙ joined_at (entries_at fs k) (e ∷ []) a (risen_at e fs k h l).order refl
 
 -- what rows are whose fragments up to the kth are raised
 pub record RaisedTo (e : Entry) (k : ℕ) (fs : List Fragment) (rows : List (List ℕ)) : Type 0 where

@@ -1,10 +1,11 @@
 -- Where no fragment has an author above the star, raising the author's bound in each of them keeps the normal form.
-use Rattle.std.proofs.Common.{◌≡◌, ℕ, zero, suc, ◌+◌, ◌-◌, ◌<◌, Bool, true, false, not, leb, ltb, cond, ◌&&◌, List, [], ◌∷◌, length, refl, sym, subst, ap, ◌∙◌, inl, inr, arith, Option, None, Some}
+use Rattle.std.proofs.Common.{◌≡◌, ℕ, ◌+◌, ◌-◌, ◌<◌, Bool, true, false, not, leb, ltb, cond, ◌&&◌, List, [], ◌∷◌, length, refl, sym, subst, ap, ◌∙◌, inl, inr, arith, Option, None, Some}
 use Rattle.std.specs.List.{list_all}
+use Rattle.std.proofs.lemmas.List.{length-map, get_or-map}
 use Rattle.std.proofs.lemmas.Bool.{and_parts, and_from, leb-true, ne_eqb, cases_Bool, cases_eq, false≢true}
 use Rattle.item_knowledge.specs.Tables.{at}
 use Rattle.item_knowledge.specs.Entries.{Entry, denotes, is_entry, is_vector, bound, same_entries, joined}
-use Rattle.item_knowledge.specs.Fragments.{Fragment, lists, is_group, goes_before, are_groups, is_normal, find, or_star, known, entries_at}
+use Rattle.item_knowledge.specs.Fragments.{Fragment, nothing, lists, is_group, goes_before, are_groups, is_normal, find, or_star, known, entries_at}
 use Rattle.item_knowledge.specs.Rows.{rows_of, fragments_of}
 use Rattle.item_knowledge.specs.Gathering.{vector_of, IsIndex, IsUnion}
 use Rattle.item_knowledge.specs.Kept.{IsKept}
@@ -94,13 +95,10 @@ groups_raised e star (g ∷ gs) m =
 -- what raised fragments show of a picture
 
 pub length_raised : (e : Entry) (fs : List Fragment) → length (all_raised e fs) ≡ length fs
-length_raised e [] = refl
-length_raised e (f ∷ fs) = ap suc (length_raised e fs)
+length_raised e fs = length-map fs (λ f. raised e f)
 
 pub entries_raised : (e : Entry) (fs : List Fragment) (k : ℕ) → k < length fs → entries_at (all_raised e fs) k ≡ joined (entries_at fs k) (e ∷ [])
-entries_raised e [] k l = absurd (omega arith)
-entries_raised e (f ∷ fs) zero l = refl
-entries_raised e (f ∷ fs) (suc k) l = entries_raised e fs k (omega arith)
+entries_raised e fs k l = ap (λ (f : Fragment). f.entries) (get_or-map (λ f. raised e f) fs k nothing nothing l)
 
 abbrev pub joined_in : Entry → Option (List Entry) → Option (List Entry)
 joined_in e None = None

@@ -1,7 +1,8 @@
 -- Rows of words.
-use Rattle.std.proofs.Common.{◌≡◌, ℕ, zero, suc, ◌+◌, ◌*◌, ◌<◌, ◌≤◌, Bool, true, false, ltb, eqb, ◌&&◌, max, List, [], ◌∷◌, ◌++◌, length, get_or, drop, refl, sym, ap, ◌∙◌, arith, append_assoc}
+use Rattle.std.proofs.Common.{◌≡◌, ℕ, zero, suc, ◌+◌, ◌*◌, ◌<◌, ◌≤◌, true, ltb, eqb, ◌&&◌, max, List, [], ◌∷◌, ◌++◌, length, get_or, drop, refl, sym, ap, ◌∙◌, arith, append_assoc}
 use Rattle.std.proofs.lemmas.List.{drop_all}
 use Rattle.std.specs.Cmp.Lexicographic.{pointwise}
+use Rattle.std.proofs.Math.Bool.{and_assoc}
 use Rattle.std.proofs.lemmas.Bool.{and_parts, eqb-true}
 use Rattle.item_knowledge.specs.Tables.{keys_pass, in_order}
 use Rattle.item_knowledge.specs.Entries.{Entry, same_entries, joined}
@@ -30,19 +31,18 @@ pub rows_length : (fs : List Fragment) → length (rows_of fs) ≡ 2 * length fs
 rows_length [] = refl
 rows_length (f ∷ fs) = let rest = rows_length fs in omega arith
 
-pub entries_row : (fs : List Fragment) (k : ℕ) → k < length fs → get_or (rows_of fs) (2 * k + 1) [] ≡ flat (entries_at fs k)
-entries_row [] k l = absurd (omega arith)
-entries_row (f ∷ fs) zero l = refl
-entries_row (f ∷ fs) (suc k) l =
-    let e : 2 * suc k + 1 ≡ suc (suc (2 * k + 1)) = omega arith in
-    ap (λ n. get_or (rows_of (f ∷ fs)) n []) e ∙ entries_row fs k (omega arith)
-
-pub pictures_row : (fs : List Fragment) (k : ℕ) → k < length fs → get_or (rows_of fs) (2 * k) [] ≡ (get_or fs k nothing).pictures
-pictures_row [] k l = absurd (omega arith)
-pictures_row (f ∷ fs) zero l = refl
-pictures_row (f ∷ fs) (suc k) l =
+-- the two rows of a fragment
+rows_at : (fs : List Fragment) (k : ℕ) → k < length fs → (get_or (rows_of fs) (2 * k) [] ≡ (get_or fs k nothing).pictures) × (get_or (rows_of fs) (2 * k + 1) [] ≡ flat (entries_at fs k))
+rows_at [] k l = absurd (omega arith)
+rows_at (f ∷ fs) zero l = (refl, refl)
+rows_at (f ∷ fs) (suc k) l =
+    let rest = rows_at fs k (omega arith) in
     let e : 2 * suc k ≡ suc (suc (2 * k)) = omega arith in
-    ap (λ n. get_or (rows_of (f ∷ fs)) n []) e ∙ pictures_row fs k (omega arith)
+    let o : 2 * suc k + 1 ≡ suc (suc (2 * k + 1)) = omega arith in
+    (ap (λ n. get_or (rows_of (f ∷ fs)) n []) e ∙ rest.0, ap (λ n. get_or (rows_of (f ∷ fs)) n []) o ∙ rest.1)
+
+pub entries_row : (fs : List Fragment) (k : ℕ) → k < length fs → get_or (rows_of fs) (2 * k + 1) [] ≡ flat (entries_at fs k)
+entries_row fs k l = (rows_at fs k l).1
 
 -- a row read from rows of whole fragments
 
@@ -50,7 +50,7 @@ pub entries_read : (rows : List (List ℕ)) (k : ℕ) → AreRows rows → k < l
 entries_read rows k h l = ap (λ rs. get_or rs (2 * k + 1) []) (sym h) ∙ entries_row (fragments_of rows) k l
 
 pub pictures_read : (rows : List (List ℕ)) (k : ℕ) → AreRows rows → k < length (fragments_of rows) → get_or rows (2 * k) [] ≡ (get_or (fragments_of rows) k nothing).pictures
-pictures_read rows k h l = ap (λ rs. get_or rs (2 * k) []) (sym h) ∙ pictures_row (fragments_of rows) k l
+pictures_read rows k h l = ap (λ rs. get_or rs (2 * k) []) (sym h) ∙ (rows_at (fragments_of rows) k l).0
 
 pub rows_read : (rows : List (List ℕ)) → AreRows rows → length rows ≡ 2 * length (fragments_of rows)
 rows_read rows h = ap length (sym h) ∙ rows_length (fragments_of rows)
@@ -73,10 +73,6 @@ same_rows (a ∷ n ∷ xs) [] h g = refl
 same_rows (a ∷ n ∷ xs) (b ∷ []) h g = absurd (odd b g)
 same_rows (a ∷ n ∷ xs) (b ∷ m ∷ ys) h g =
     ap (λ r. eqb a b && (eqb n m && r)) (same_rows xs ys (rest_row a n xs h) (rest_row b m ys g)) ∙ sym (and_assoc (eqb a b) (eqb n m) (same_entries (pairs xs) (pairs ys)))
-  where
-    and_assoc : (x y z : Bool) → ((x && y) && z) ≡ (x && (y && z))
-    and_assoc true y z = refl
-    and_assoc false y z = refl
 
 -- A join of rows
 
@@ -127,25 +123,21 @@ pub flat_length : (es : List Entry) → length (flat es) ≡ 2 * length es
 flat_length [] = refl
 flat_length (e ∷ es) = let rest = flat_length es in omega arith
 
-flat_word : (es : List Entry) (i : ℕ) → i < length es → get_or (flat es) (2 * i) 0 ≡ (get_or es i (0, 0)).0
-flat_word [] i l = absurd (omega arith)
-flat_word (e ∷ es) zero l = refl
-flat_word (e ∷ es) (suc i) l =
+-- the two words of an entry
+flat_at : (es : List Entry) (i : ℕ) → i < length es → (get_or (flat es) (2 * i) 0 ≡ (get_or es i (0, 0)).0) × (get_or (flat es) (2 * i + 1) 0 ≡ (get_or es i (0, 0)).1)
+flat_at [] i l = absurd (omega arith)
+flat_at (e ∷ es) zero l = (refl, refl)
+flat_at (e ∷ es) (suc i) l =
+    let rest = flat_at es i (omega arith) in
     let n : 2 * suc i ≡ suc (suc (2 * i)) = omega arith in
-    ap (λ k. get_or (flat (e ∷ es)) k 0) n ∙ flat_word es i (omega arith)
-
-flat_number : (es : List Entry) (i : ℕ) → i < length es → get_or (flat es) (2 * i + 1) 0 ≡ (get_or es i (0, 0)).1
-flat_number [] i l = absurd (omega arith)
-flat_number (e ∷ es) zero l = refl
-flat_number (e ∷ es) (suc i) l =
-    let n : 2 * suc i + 1 ≡ suc (suc (2 * i + 1)) = omega arith in
-    ap (λ k. get_or (flat (e ∷ es)) k 0) n ∙ flat_number es i (omega arith)
+    let o : 2 * suc i + 1 ≡ suc (suc (2 * i + 1)) = omega arith in
+    (ap (λ k. get_or (flat (e ∷ es)) k 0) n ∙ rest.0, ap (λ k. get_or (flat (e ∷ es)) k 0) o ∙ rest.1)
 
 pub row_length : (ws : List ℕ) → IsRow ws → length ws ≡ 2 * length (pairs ws)
 row_length ws h = ap length (sym h) ∙ flat_length (pairs ws)
 
 pub row_word : (ws : List ℕ) (i : ℕ) → IsRow ws → i < length (pairs ws) → get_or ws (2 * i) 0 ≡ (get_or (pairs ws) i (0, 0)).0
-row_word ws i h l = ap (λ us. get_or us (2 * i) 0) (sym h) ∙ flat_word (pairs ws) i l
+row_word ws i h l = ap (λ us. get_or us (2 * i) 0) (sym h) ∙ (flat_at (pairs ws) i l).0
 
 pub row_number : (ws : List ℕ) (i : ℕ) → IsRow ws → i < length (pairs ws) → get_or ws (2 * i + 1) 0 ≡ (get_or (pairs ws) i (0, 0)).1
-row_number ws i h l = ap (λ us. get_or us (2 * i + 1) 0) (sym h) ∙ flat_number (pairs ws) i l
+row_number ws i h l = ap (λ us. get_or us (2 * i + 1) 0) (sym h) ∙ (flat_at (pairs ws) i l).1

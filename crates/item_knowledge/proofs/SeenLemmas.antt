@@ -1,29 +1,25 @@
 -- Marks of the bounds that stand in rows.
-use Rattle.std.proofs.Common.{◌≡◌, ℕ, zero, suc, ◌+◌, ◌*◌, ◌%◌, ◌^◌, ◌<◌, ◌≤◌, true, false, not, ltb, eqb, max, List, [], ◌∷◌, ◌++◌, length, get_or, set, replicate, refl, sym, subst, ap, ◌∙◌, inl, inr, arith, Some}
+use Rattle.std.proofs.Common.{◌≡◌, ℕ, zero, suc, ◌+◌, ◌*◌, ◌%◌, ◌^◌, ◌<◌, ◌≤◌, true, false, not, ltb, eqb, max, List, [], ◌∷◌, ◌++◌, length, get_or, set, replicate, refl, sym, subst, ap, ◌∙◌, inl, inr, arith}
 use Rattle.std.specs.Int.{bit_at}
 use Rattle.std.specs.Int.Bits.{bit_or}
-use Rattle.std.proofs.Math.Nat.{max-zero, zero-max}
 use Rattle.std.proofs.lemmas.Bool.{and_parts, ltb-true, not-true, cases_Bool, cases_lt, cases_eq, eq-eqb, eqb-true, ne_eqb, false≢true}
 use Rattle.std.proofs.lemmas.List.{get_or_past, get_or_append_left, get_or-set_same, get_or-set_other, length-set}
 use Rattle.std.proofs.lemmas.Nat.{one_shl}
 use Rattle.std.proofs.lemmas.Nat.Bits.{bit_at_or, bit_at-zero, bit_at-lt, bit_at-pow_same}
 use Rattle.item_knowledge.specs.Tables.{at, keys_pass, in_order}
-use Rattle.item_knowledge.specs.Entries.{Entry, is_vector, bound, joined}
-use Rattle.item_knowledge.specs.Fragments.{Fragment, first, find, or_star, known, entries_at, is_normal, are_groups}
+use Rattle.item_knowledge.specs.Entries.{Entry, bound}
+use Rattle.item_knowledge.specs.Fragments.{Fragment, entries_at}
 use Rattle.item_knowledge.specs.Gathering.{vector_of, IsSide, IsUnion}
 use Rattle.item_knowledge.specs.Raising.{all_raised, are_risen}
 use Rattle.item_knowledge.specs.Rows.{fragments_of, rows_of}
 use Rattle.item_knowledge.specs.Seen.{bit_of, is_marked, HasMarks, AreMarked, IsSeen, is_unseen, has_unseen}
-use Rattle.item_knowledge.proofs.EntryLemmas.{one_vector}
-use Rattle.item_knowledge.proofs.FragmentLemmas.{groups_parts, normal_parts, find_here, find_later, later}
-use Rattle.item_knowledge.proofs.JoinLemmas.{joined_bound, joined_vector, joined_denotes}
-use Rattle.item_knowledge.proofs.PictureLemmas.{listed, first_listed}
-use Rattle.item_knowledge.proofs.PutLemmas.{risen_at}
-use Rattle.item_knowledge.proofs.RaiseLemmas.{length_raised, entries_raised}
+use Rattle.item_knowledge.proofs.EntryLemmas.{bound_below}
+use Rattle.item_knowledge.proofs.MergeLemmas.{next_too}
+use Rattle.item_knowledge.proofs.PutLemmas.{raised_at_bound}
+use Rattle.item_knowledge.proofs.RaiseLemmas.{length_raised}
 use Rattle.item_knowledge.proofs.RowLemmas.{fragments_rows}
-use Rattle.item_knowledge.proofs.TableLemmas.{merge_at}
 use Rattle.item_knowledge.proofs.TopLemmas.{none_past}
-use Rattle.item_knowledge.proofs.UnionLemmas.{side_vector, normal_side, knows_vector}
+use Rattle.item_knowledge.proofs.UnionLemmas.{union_at}
 
 -- Marks
 
@@ -121,31 +117,13 @@ pub marked_more : (words new : List ℕ) (es : List Entry) → HasMarks words ne
 marked_more words new es more h i l = more (get_or es i (0, 0)).0 (get_or es i (0, 0)).1 (h i l)
 
 pub marked_rows : (words new : List ℕ) (fs : List Fragment) (k : ℕ) → ((j : ℕ) → j < k → AreMarked words (entries_at fs j)) → HasMarks words new → AreMarked new (entries_at fs k) → (j : ℕ) → j < k + 1 → AreMarked new (entries_at fs j)
-marked_rows words new fs k h more last j l = elim (cases_lt j k) [
-  | inl before ↦ marked_more words new (entries_at fs j) more (h j before)
-  | inr here ↦
-      let same : k ≡ j = omega arith in
-      subst (λ i. AreMarked new (entries_at fs i)) same last
-]
+marked_rows words new fs k h more last = next_too (λ j. AreMarked new (entries_at fs j)) k (λ j l. marked_more words new (entries_at fs j) more (h j l)) last
 
 -- the same of the first entries of a row
 pub marked_entries : (words new : List ℕ) (es : List Entry) (i : ℕ) → ((j : ℕ) → j < i → is_marked words (get_or es j (0, 0)).0 (get_or es j (0, 0)).1 ≡ true) → HasMarks words new → is_marked new (get_or es i (0, 0)).0 (get_or es i (0, 0)).1 ≡ true → (j : ℕ) → j < i + 1 → is_marked new (get_or es j (0, 0)).0 (get_or es j (0, 0)).1 ≡ true
-marked_entries words new es i h more last j l = elim (cases_lt j i) [
-  | inl before ↦ more (get_or es j (0, 0)).0 (get_or es j (0, 0)).1 (h j before)
-  | inr here ↦
-      let same : i ≡ j = omega arith in
-      subst (λ k. is_marked new (get_or es k (0, 0)).0 (get_or es k (0, 0)).1 ≡ true) same last
-]
+marked_entries words new es i h more last = next_too (λ j. is_marked new (get_or es j (0, 0)).0 (get_or es j (0, 0)).1 ≡ true) i (λ j l. more (get_or es j (0, 0)).0 (get_or es j (0, 0)).1 (h j l)) last
 
 -- A row with a bound that has no mark is none of those
-
--- an author below all has no bound
-none_below : (es : List Entry) (a : ℕ) → keys_pass (λ k. ltb a k) es ≡ true → bound es a ≡ 0
-none_below [] a h = refl
-none_below (e ∷ es) a h =
-    let p = and_parts (ltb a e.0) (keys_pass (λ k. ltb a k) es) h in
-    let less = ltb-true a e.0 p.0 in
-    rw (ne_eqb e.0 a (λ s. absurd (omega arith))) (none_below es a p.1)
 
 some_unseen : (words : List ℕ) (star es : List Entry) → in_order es ≡ true → has_unseen words star es ≡ true → (a : ℕ) × ((bound star a < bound es a) × (is_marked words a (bound es a) ≡ false))
 some_unseen words star [] order h = absurd (false≢true h)
@@ -160,7 +138,7 @@ some_unseen words star (e ∷ es) order h =
           let rest = some_unseen words star es p.1 (rw not_here at h) in
           let a = rest.0 in
           let differs : e.0 ≡ a → ⊥ = λ s.
-          let none = none_below es e.0 p.0 in
+          let none = bound_below es e.0 e.0 (omega arith) p.0 in
           let some = rest.1.0 in
           let zero_here : bound es a ≡ 0 = subst (λ k. bound es k ≡ 0) s none in
           absurd (omega arith) in
@@ -175,77 +153,25 @@ unseen_nowhere words rows k h order unseen =
 
 -- The marks of a union
 
--- a group's vector is what is known of its first picture
-record KnownGroup (s : Fragment) (gs : List Fragment) (k : ℕ) : Type 0 where
-  picture : ℕ
-  positive : 0 < picture
-  found : find gs picture ≡ Some (entries_at gs k)
-
-found_group_at : (s : Fragment) (gs : List Fragment) (k : ℕ) → are_groups s.entries gs ≡ true → k < length gs → KnownGroup s gs k
-found_group_at s [] k h l = absurd (omega arith)
-found_group_at s (g ∷ gs) zero h l =
-    let parts = groups_parts s.entries g gs h in
-    let here = first_listed g.pictures parts.group.some in
-    record {
-      picture = first g.pictures;
-      positive = ltb-true 0 (first g.pictures) (listed (λ p. ltb 0 p) g.pictures (first g.pictures) parts.group.positive here);
-      found = find_here g gs (first g.pictures) here;
-    }
-found_group_at s (g ∷ gs) (suc k) h l =
-    let parts = groups_parts s.entries g gs h in
-    let rest = found_group_at s gs k parts.rest (omega arith) in
-    record {
-      picture = rest.picture;
-      positive = rest.positive;
-      found = find_later g gs rest.picture (later s.entries g gs rest.picture (entries_at gs k) parts.before parts.rest rest.found).apart ∙ rest.found;
-    }
-
--- a fragment's vector is what is known of some picture, or the star's
-record KnownAt (us : List Fragment) (k : ℕ) : Type 0 where
-  picture : ℕ
-  positive : 0 < picture
-  known_here : known us picture ≡ entries_at us k
-
-known_at : (us : List Fragment) (k : ℕ) → is_normal us ≡ true → 0 < k → k < length us → KnownAt us k
-known_at [] k normal z l = absurd (omega arith)
-known_at (s ∷ gs) zero normal z l = absurd (omega arith)
-known_at (s ∷ gs) (suc k) normal z l =
-    let g = found_group_at s gs k (normal_parts s gs normal).groups (omega arith) in
-    record { picture = g.picture; positive = g.positive; known_here = ap (or_star s.entries) g.found }
-
--- what is known of a picture by a union, of each author, is the greater of both bounds
-union_bound : (fs gs us : List Fragment) (xs ys zs : List (ℕ × ℕ)) (p a : ℕ) → IsSide fs xs → IsSide gs ys → IsUnion fs xs gs ys us zs → 0 < p → bound (known us p) a ≡ max (bound (vector_of fs xs p) a) (bound (vector_of gs ys p) a)
-union_bound fs gs us xs ys zs p a f g u z =
-    let one = side_vector fs xs p f in
-    let other = side_vector gs ys p g in
-    let vector : is_vector (known us p) ≡ true = subst (λ es. is_vector es ≡ true) (u.index.vectors p) (side_vector us zs p (normal_side us zs u.normal u.index)) in
-    let same : known us p ≡ joined (vector_of fs xs p) (vector_of gs ys p) =
-    one_vector (known us p) (joined (vector_of fs xs p) (vector_of gs ys p)) vector (joined_vector (vector_of fs xs p) (vector_of gs ys p) one other)
-    (λ v. sym (knows_vector us p v u.normal) ∙ (u.pairs p v z ∙ sym (joined_denotes (vector_of fs xs p) (vector_of gs ys p) v one other))) in
-    ap (λ es. bound es a) same ∙ joined_bound (vector_of fs xs p) (vector_of gs ys p) a one other
-
 pub union_seen : (one other words : List ℕ) (left right out : List (List ℕ)) (xs ys zs : List (ℕ × ℕ)) → IsSeen one left → IsSeen other right → HasMarks one words → HasMarks other words → IsSide (fragments_of left) xs → IsSide (fragments_of right) ys → IsUnion (fragments_of left) xs (fragments_of right) ys (fragments_of out) zs → IsSeen words out
 union_seen one other words left right out xs ys zs h g first_marks other_marks f side u zero a more = absurd (omega arith)
-union_seen one other words left right out xs ys zs h g first_marks other_marks f side u (suc k) a more = elim (cases_lt (suc k) (length us)) [
+union_seen one other words left right out xs ys zs h g first_marks other_marks f side u (suc k) a more = elim (cases_lt (suc k) (length (fragments_of out))) [
   | inl there ↦
-      let at_picture = known_at us (suc k) u.normal (omega arith) there in
-      let p = at_picture.picture in
-      let greater = union_bound (fragments_of left) (fragments_of right) us xs ys zs p a f side u at_picture.positive in
-      let here : bound (known us p) a ≡ bound (entries_at us (suc k)) a = ap (λ es. bound es a) at_picture.known_here in
+      let here = union_at (fragments_of left) (fragments_of right) (fragments_of out) xs ys zs (suc k) a f side u (omega arith) there in
+      let left_bound = bound (vector_of (fragments_of left) xs here.0) a in
+      let right_bound = bound (vector_of (fragments_of right) ys here.0) a in
+      let greater = here.1 in
       let star = u.star a in
-      elim (cases_lt (bound (vector_of (fragments_of left) xs p) a) (bound (vector_of (fragments_of right) ys p) a)) [
+      elim (cases_lt left_bound right_bound) [
         | inl less ↦
-            let is : bound (vector_of (fragments_of right) ys p) a ≡ bound (entries_at us (suc k)) a = omega arith in
-            subst (λ n. is_marked words a n ≡ true) is (other_marks a (bound (vector_of (fragments_of right) ys p) a) (g (at 0 ys p) a (omega arith)))
+            let is : right_bound ≡ bound (entries_at (fragments_of out) (suc k)) a = omega arith in
+            subst (λ n. is_marked words a n ≡ true) is (other_marks a right_bound (g (at 0 ys here.0) a (omega arith)))
         | inr most ↦
-            let is : bound (vector_of (fragments_of left) xs p) a ≡ bound (entries_at us (suc k)) a = omega arith in
-            subst (λ n. is_marked words a n ≡ true) is (first_marks a (bound (vector_of (fragments_of left) xs p) a) (h (at 0 xs p) a (omega arith)))
+            let is : left_bound ≡ bound (entries_at (fragments_of out) (suc k)) a = omega arith in
+            subst (λ n. is_marked words a n ≡ true) is (first_marks a left_bound (h (at 0 xs here.0) a (omega arith)))
       ]
-  | inr past ↦ let none = none_past us (suc k) a past in absurd (omega arith)
+  | inr past ↦ let none = none_past (fragments_of out) (suc k) a past in absurd (omega arith)
 ]
-  where
-    us : List Fragment
-    us = fragments_of out
 
 -- Marks where an author's bound rises
 
@@ -258,14 +184,11 @@ raised_seen words rows new e h risen is = subst (λ gs. Seen_of gs) (sym (ap fra
     Seen_of : List Fragment → Type 0
     Seen_of gs = (k a : ℕ) → bound (entries_at gs 0) a < bound (entries_at gs k) a → is_marked words a (bound (entries_at gs k) a) ≡ true
 
-    risen_bound : (k a : ℕ) → k < length fs → bound (entries_at (all_raised e fs) k) a ≡ max (bound (entries_at fs k) a) (bound (e ∷ []) a)
-    risen_bound k a l = ap (λ es. bound es a) (entries_raised e fs k l) ∙ merge_at (λ n. n) (λ n m. max n m) (λ m. m) 0 0 (λ n. sym (max-zero n)) (λ m. sym (zero-max m)) (entries_at fs k) (e ∷ []) (risen_at e fs k risen l).order refl a
-
     one : Seen_of (all_raised e fs)
     one k a more = elim (cases_lt k (length fs)) [
       | inl there ↦
-          let here = risen_bound k a there in
-          let star = risen_bound 0 a (omega arith) in
+          let here = raised_at_bound e fs k a risen there in
+          let star = raised_at_bound e fs 0 a risen (omega arith) in
           let same : bound (entries_at fs k) a ≡ bound (entries_at (all_raised e fs) k) a = omega arith in
           subst (λ n. is_marked words a n ≡ true) same (h k a (omega arith))
       | inr past ↦

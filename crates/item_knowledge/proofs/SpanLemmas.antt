@@ -1,11 +1,11 @@
 -- Runs of the left's fragments, and what the union has at a picture whose fragment stays.
-use Rattle.std.proofs.Common.{◌≡◌, ℕ, zero, suc, ◌+◌, ◌-◌, ◌*◌, ◌<◌, ◌≤◌, true, max, List, [], ◌∷◌, ◌++◌, length, get_or, take, drop, refl, sym, ap, ◌∙◌, inl, inr, arith, append-nil}
+use Rattle.std.proofs.Common.{◌≡◌, ℕ, zero, suc, ◌+◌, ◌-◌, ◌*◌, ◌<◌, ◌≤◌, max, List, [], ◌∷◌, ◌++◌, length, get_or, take, drop, refl, sym, ap, ◌∙◌, inl, inr, arith, append-nil}
 use Rattle.fragment_arena.specs.Arena.{run}
 use Rattle.item_knowledge.specs.Entries.{Entry, bound}
-use Rattle.item_knowledge.specs.Fragments.{Fragment, are_groups, is_normal, entries_at}
+use Rattle.item_knowledge.specs.Fragments.{Fragment, entries_at}
 use Rattle.item_knowledge.specs.Gathering.{IsSide, pair_vector}
 use Rattle.item_knowledge.specs.Apart.{AddsNothing}
-use Rattle.item_knowledge.proofs.FragmentLemmas.{groups_parts, normal_parts, leq_at}
+use Rattle.item_knowledge.proofs.FragmentLemmas.{leq_at}
 use Rattle.item_knowledge.proofs.JoinLemmas.{joined_bound, joined_left, leq_from}
 use Rattle.item_knowledge.proofs.UnionLemmas.{above}
 
@@ -37,16 +37,6 @@ pub nothing_pending : (left out : List (List ℕ)) (to : ℕ) → out ++ run lef
 nothing_pending left out to = ap (λ rs. out ++ rs) (run_empty left to) ∙ append-nil out
 
 -- What stays has the vector of the union
-
-group_differs : (star : List Entry) (gs : List Fragment) (a : ℕ) → are_groups star gs ≡ true → a < length gs → star ≡ entries_at gs a → ⊥
-group_differs star [] a h l e = absurd (omega (arith, l))
-group_differs star (g ∷ gs) zero h l e = (groups_parts star g gs h).group.other e
-group_differs star (g ∷ gs) (suc a) h l e = group_differs star gs a (groups_parts star g gs h).rest (omega (arith, l)) e
-
-pub star_differs : (fs : List Fragment) (a : ℕ) → is_normal fs ≡ true → 0 < a → a < length fs → entries_at fs 0 ≡ entries_at fs a → ⊥
-star_differs [] a h z l e = absurd (omega (arith, l))
-star_differs (s ∷ gs) zero h z l e = absurd (omega (arith, z))
-star_differs (s ∷ gs) (suc a) h z l e = group_differs s.entries gs a (normal_parts s gs h).groups (omega (arith, l)) e
 
 untold : (fs gs : List Fragment) (xs ys : List (ℕ × ℕ)) (star : List Entry) (a : ℕ) → IsSide fs xs → IsSide gs ys → star ≡ pair_vector fs gs (0, 0) → star ≡ entries_at fs 0 → a < length fs → pair_vector fs gs (a, 0) ≡ entries_at fs a
 untold fs gs xs ys star a left right joint same l =

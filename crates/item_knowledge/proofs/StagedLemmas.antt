@@ -1,14 +1,13 @@
 -- What is known and what is staged, as a knowledge keeps them.
-use Rattle.std.proofs.Common.{◌≡◌, ℕ, ◌<◌, true, ◌||◌, max, List, Option, None, Some, IfSome, refl, sym, subst, ap, ◌∙◌}
+use Rattle.std.proofs.Common.{◌≡◌, ℕ, true, ◌||◌, List, Option, None, Some, IfSome, refl, sym, subst, ap, ◌∙◌}
 use Rattle.std.specs.Option.{is_some}
 use Rattle.std.proofs.lemmas.Bool.{false≢true}
-use Rattle.photo_version.specs.Author.{Author}
-use Rattle.photo_version.specs.Version.{Version}
 use Rattle.item_knowledge.specs.Fragments.{Fragment, knows}
 use Rattle.item_knowledge.specs.Entries.{denotes}
 use Rattle.item_knowledge.specs.Gathering.{vector_of}
 use Rattle.item_knowledge.specs.Rows.{fragments_of}
-use Rattle.item_knowledge.specs.Kept.{IsKept, is_side_within, star_bound}
+use Rattle.item_knowledge.specs.Kept.{IsKept, is_side_within}
+use Rattle.item_knowledge.specs.Spare.{IsJoined}
 use Rattle.item_knowledge.specs.Staged.{Knowing, settled, IsStagedUnion}
 use Rattle.item_knowledge.proofs.KeptLemmas.{within_knows, star_within, kept_knows}
 
@@ -27,12 +26,12 @@ within_union rows others xs ys h g w = record {
 }
 
 -- the union with what another knowledge keeps, its star and its pictures one by one
-pub side_union : (staged : Option (List Fragment)) (left : List Fragment) (others : List (List ℕ)) (ys items : List (ℕ × ℕ)) → IsKept others ys → items ≡ ys → is_some staged ≡ true → IfSome staged (λ s. (a : Author) → star_bound s a ≡ max (star_bound left a) (star_bound (fragments_of others) a)) → IfSome staged (λ s. (p : ℕ) (v : Version) → 0 < p → knows s p v ≡ (knows left p v || denotes (vector_of (fragments_of others) items p) v)) → IsStagedUnion staged left (fragments_of others)
-side_union None left others ys items g e there star pairs = absurd (false≢true there)
-side_union (Some s) left others ys items g e there star pairs = record {
+pub side_union : (staged : Option (List Fragment)) (left : List Fragment) (others : List (List ℕ)) (ys items : List (ℕ × ℕ)) → IsKept others ys → items ≡ ys → is_some staged ≡ true → IfSome staged (λ s. IsJoined left (fragments_of others) items s) → IsStagedUnion staged left (fragments_of others)
+side_union None left others ys items g e there joined = absurd (false≢true there)
+side_union (Some s) left others ys items g e there joined = record {
   there = refl;
-  star = star;
-  pairs = λ p v z. pairs p v z ∙ ap (λ b. knows left p v || b) (ap (λ xs. denotes (vector_of (fragments_of others) xs p) v) e ∙ sym (kept_knows others ys p v g));
+  star = joined.star;
+  pairs = λ p v z. joined.pairs p v z ∙ ap (λ b. knows left p v || b) (ap (λ xs. denotes (vector_of (fragments_of others) xs p) v) e ∙ sym (kept_knows others ys p v g));
 }
 
 -- what holds of what is staged holds of it once it is known

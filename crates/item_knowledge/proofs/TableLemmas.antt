@@ -1,5 +1,6 @@
 -- The merge of two lists in order.
 use Rattle.std.proofs.Common.{◌≡◌, ℕ, ◌<◌, ◌≤◌, Bool, true, ltb, eqb, cond, List, [], ◌∷◌, refl, sym, subst, ap, ◌∙◌, inl, inr, arith}
+use Rattle.std.specs.List.{list_all}
 use Rattle.std.proofs.lemmas.Bool.{and_parts, and_from, lt-ltb, le-ltb, ltb-true, eq-eqb, ne_eqb, cases_eq, cases_order}
 use Rattle.item_knowledge.specs.Tables.{keys_pass, in_order, at, put, each, merge}
 
@@ -42,31 +43,35 @@ put_first : {A C : Type 0} (alone : A → C) (both : A → C → C) (x : ℕ × 
 put_first alone both x [] h = refl
 put_first alone both x (t ∷ ts) h = put_less alone both x t ts (ltb-true x.0 t.0 (and_parts (ltb x.0 t.0) (keys_pass (λ k. ltb x.0 k) ts) h).0)
 
--- what holds of all numbers of both holds of all of the merge
+-- what holds of all rows of both holds of all of the merge
 
-pub put_pass : {A C : Type 0} (alone : A → C) (both : A → C → C) (test : ℕ → Bool) (x : ℕ × A) (ts : List (ℕ × C)) → test x.0 ≡ true → keys_pass test ts ≡ true → keys_pass test (put alone both x ts) ≡ true
-put_pass alone both test x [] p h = and_from _ _ p refl
-put_pass alone both test x (t ∷ ts) p h =
-    let a = and_parts (test t.0) (keys_pass test ts) h in
+put_all : {A C : Type 0} (alone : A → C) (both : A → C → C) (test : ℕ × C → Bool) (x : ℕ × A) (ts : List (ℕ × C)) → test (x.0, alone x.1) ≡ true → ((t : ℕ × C) → test t ≡ true → test (x.0, both x.1 t.1) ≡ true) → list_all test ts ≡ true → list_all test (put alone both x ts) ≡ true
+put_all alone both test x [] p w h = and_from _ _ p refl
+put_all alone both test x (t ∷ ts) p w h =
+    let a = and_parts (test t) (list_all test ts) h in
     elim (cases_order x.0 t.0) [
-      | inl same ↦ rw (put_same alone both x t ts same) (and_from _ _ p a.1)
+      | inl same ↦ rw (put_same alone both x t ts same) (and_from _ _ (w t a.0) a.1)
       | inr side ↦ elim side [
         | inl less ↦ rw (put_less alone both x t ts less) (and_from _ _ p h)
-        | inr more ↦ rw (put_more alone both x t ts more) (and_from _ _ a.0 (put_pass alone both test x ts p a.1))
+        | inr more ↦ rw (put_more alone both x t ts more) (and_from _ _ a.0 (put_all alone both test x ts p w a.1))
       ]
     ]
 
-pub each_pass : {B C : Type 0} (other : B → C) (test : ℕ → Bool) (ys : List (ℕ × B)) → keys_pass test ys ≡ true → keys_pass test (each other ys) ≡ true
-each_pass other test [] h = refl
-each_pass other test (y ∷ ys) h =
-    let a = and_parts (test y.0) (keys_pass test ys) h in
-    and_from _ _ a.0 (each_pass other test ys a.1)
+each_all : {B C : Type 0} (other : B → C) (q : ℕ × B → Bool) (test : ℕ × C → Bool) → ((y : ℕ × B) → q y ≡ true → test (y.0, other y.1) ≡ true) → (ys : List (ℕ × B)) → list_all q ys ≡ true → list_all test (each other ys) ≡ true
+each_all other q test w [] h = refl
+each_all other q test w (y ∷ ys) h =
+    let a = and_parts (q y) (list_all q ys) h in
+    and_from _ _ (w y a.0) (each_all other q test w ys a.1)
+
+pub merge_all : {A B C : Type 0} (alone : A → C) (both : A → C → C) (other : B → C) (p : ℕ × A → Bool) (q : ℕ × B → Bool) (test : ℕ × C → Bool) → ((x : ℕ × A) → p x ≡ true → test (x.0, alone x.1) ≡ true) → ((x : ℕ × A) (t : ℕ × C) → p x ≡ true → test t ≡ true → test (x.0, both x.1 t.1) ≡ true) → ((y : ℕ × B) → q y ≡ true → test (y.0, other y.1) ≡ true)
+    → (xs : List (ℕ × A)) (ys : List (ℕ × B)) → list_all p xs ≡ true → list_all q ys ≡ true → list_all test (merge alone both other xs ys) ≡ true
+merge_all alone both other p q test f g w [] ys h k = each_all other q test w ys k
+merge_all alone both other p q test f g w (x ∷ xs) ys h k =
+    let a = and_parts (p x) (list_all p xs) h in
+    put_all alone both test x (merge alone both other xs ys) (f x a.0) (λ t. g x t a.0) (merge_all alone both other p q test f g w xs ys a.1 k)
 
 pub merge_pass : {A B C : Type 0} (alone : A → C) (both : A → C → C) (other : B → C) (test : ℕ → Bool) (xs : List (ℕ × A)) (ys : List (ℕ × B)) → keys_pass test xs ≡ true → keys_pass test ys ≡ true → keys_pass test (merge alone both other xs ys) ≡ true
-merge_pass alone both other test [] ys h g = each_pass other test ys g
-merge_pass alone both other test (x ∷ xs) ys h g =
-    let a = and_parts (test x.0) (keys_pass test xs) h in
-    put_pass alone both test x (merge alone both other xs ys) a.0 (merge_pass alone both other test xs ys a.1 g)
+merge_pass alone both other test xs ys h g = merge_all alone both other (λ x. test x.0) (λ y. test y.0) (λ t. test t.0) (λ x e. e) (λ x t e d. e) (λ y e. e) xs ys h g
 
 -- the steps of a loop
 
@@ -93,7 +98,7 @@ put_order alone both x (t ∷ ts) h =
       | inl same ↦ rw (put_same alone both x t ts same) (and_from _ _ (subst (λ n. keys_pass (λ k. ltb n k) ts ≡ true) (sym same) a.0) a.1)
       | inr side ↦ elim side [
         | inl less ↦ rw (put_less alone both x t ts less) (and_from _ _ (and_from _ _ (lt-ltb x.0 t.0 less) (above_all x.0 t.0 ts (omega arith) a.0)) h)
-        | inr more ↦ rw (put_more alone both x t ts more) (and_from _ _ (put_pass alone both (λ k. ltb t.0 k) x ts (lt-ltb t.0 x.0 more) a.0) (put_order alone both x ts a.1))
+        | inr more ↦ rw (put_more alone both x t ts more) (and_from _ _ (put_all alone both (λ u. ltb t.0 u.0) x ts (lt-ltb t.0 x.0 more) (λ u e. lt-ltb t.0 x.0 more) a.0) (put_order alone both x ts a.1))
       ]
     ]
 
@@ -101,7 +106,7 @@ each_order : {B C : Type 0} (other : B → C) (ys : List (ℕ × B)) → in_orde
 each_order other [] h = refl
 each_order other (y ∷ ys) h =
     let a = and_parts (keys_pass (λ k. ltb y.0 k) ys) (in_order ys) h in
-    and_from _ _ (each_pass other (λ k. ltb y.0 k) ys a.0) (each_order other ys a.1)
+    and_from _ _ (each_all other (λ z. ltb y.0 z.0) (λ u. ltb y.0 u.0) (λ z e. e) ys a.0) (each_order other ys a.1)
 
 pub merge_order : {A B C : Type 0} (alone : A → C) (both : A → C → C) (other : B → C) (xs : List (ℕ × A)) (ys : List (ℕ × B)) → in_order ys ≡ true → in_order (merge alone both other xs ys) ≡ true
 merge_order alone both other [] ys h = each_order other ys h

@@ -1,24 +1,27 @@
 -- What is told of pictures, as rows.
-use Rattle.std.proofs.Common.{◌≡◌, ℕ, zero, suc, ◌+◌, ◌<◌, ◌≤◌, Bool, true, false, ltb, eqb, cond, ◌&&◌, ◌||◌, List, [], ◌∷◌, ◌++◌, map, length, get_or, drop, refl, sym, subst, ap, ◌∙◌, inl, inr, arith, append_assoc, Some, Result, Ok, Err}
-use Rattle.std.proofs.lemmas.List.{drop_all, append-nil}
+use Rattle.std.proofs.Common.{◌≡◌, ℕ, zero, suc, ◌+◌, ◌<◌, ◌≤◌, Bool, true, false, ltb, cond, max, ◌&&◌, ◌||◌, List, [], ◌∷◌, ◌++◌, map, length, get_or, drop, refl, sym, subst, ap, ◌∙◌, inl, inr, arith, append_assoc, Some}
+use Rattle.std.proofs.lemmas.List.{drop_all, append-nil, length-append, length-map}
 use Rattle.std.specs.List.{list_all, slice_get}
-use Rattle.std.specs.Result.{IfOk}
 use Rattle.std.proofs.lemmas.Option.{slice_get_within, get_or_from_slice_get}
 use Rattle.std.proofs.Math.ListN.{get_or-append}
 use Rattle.std.proofs.Math.Seq.{get_or-append_seam}
+use Rattle.std.proofs.Math.Nat.{max-zero}
 use Rattle.std.proofs.lemmas.Bool.{and_parts, and_from, lt-ltb, le-leb, ltb-true, eq-eqb, ne_eqb, cases_eq}
-use Rattle.photo_version.specs.Author.{author_word, is_author_word, author_of_word, author_before}
+use Rattle.photo_version.specs.Author.{Author, author_word, is_author_word, author_of_word, author_before}
 use Rattle.photo_version.specs.Version.{Version}
 use Rattle.photo_version.specs.Vector as versions
 use Rattle.photo_version.specs.Vector.{Bound}
 use Rattle.item_knowledge.specs.Tables.{keys_pass, in_order, at}
 use Rattle.item_knowledge.specs.Entries.{Entry, denotes, is_entry, is_vector, most_number}
-use Rattle.item_knowledge.specs.Fragments.{Fragment, nothing, entries_at}
-use Rattle.item_knowledge.specs.Rows.{flat, rows_of}
+use Rattle.item_knowledge.specs.Fragments.{Fragment, knows, nothing, entries_at}
+use Rattle.item_knowledge.specs.Kept.{star_bound}
+use Rattle.item_knowledge.specs.Spare.{IsJoined}
+use Rattle.item_knowledge.specs.Rows.{flat, fragments_of, rows_of}
 use Rattle.item_knowledge.specs.Gathering.{is_above, vector_of, IsSide}
-use Rattle.item_knowledge.specs.TableRows.{entries_of, bounds_of, told_one, told, numbered}
+use Rattle.item_knowledge.specs.TableRows.{entries_of, bounds_of, told_one, told, numbered, IsTold}
 use Rattle.item_knowledge.proofs.MergeLemmas.{drop_next}
 use Rattle.item_knowledge.proofs.EntryLemmas.{vector_parts}
+use Rattle.item_knowledge.proofs.RowLemmas.{fragments_rows}
 
 some_same : {X : Type 0} (y z : X) → Some y ≡ Some z → y ≡ z
 some_same y z e = cc
@@ -68,10 +71,6 @@ bounds_vector [] h = refl
 bounds_vector (e ∷ es) h =
     let p = vector_parts e es h in
     and_from _ _ (lt-ltb 0 e.1 p.positive) (and_from _ _ (above_authors e es p.above) (bounds_vector es p.rest))
-
-pub if_ok : {A B : Type 0} (r : Result A B) (P Q : A → Type 0) → ((x : A) → P x → Q x) → IfOk r P → IfOk r Q
-if_ok (Ok a) P Q f h = f a h
-if_ok (Err e) P Q f h = tt
 
 pub bounds_denote : (es : List Entry) (v : Version) → versions.denotes (bounds_of es) v ≡ denotes es v
 bounds_denote [] v = refl
@@ -127,13 +126,9 @@ numbered_range : (n m : ℕ) (table : List (ℕ × List Bound)) → n + length t
 numbered_range n m [] l = refl
 numbered_range n m (t ∷ table) l = and_from _ _ (lt-ltb n m (omega arith)) (numbered_range (n + 1) m table (omega arith))
 
-told_length : (table : List (ℕ × List Bound)) → length (map (λ (t : ℕ × List Bound). told_one t) table) ≡ length table
-told_length [] = refl
-told_length (t ∷ table) = ap suc (told_length table)
-
-pub told_side : (table : List (ℕ × List Bound)) → in_order table ≡ true → keys_pass (λ p. ltb 0 p) table ≡ true → list_all (λ (t : ℕ × List Bound). is_vector (entries_of t.1)) table ≡ true → IsSide (told table) (numbered 1 table)
+told_side : (table : List (ℕ × List Bound)) → in_order table ≡ true → keys_pass (λ p. ltb 0 p) table ≡ true → list_all (λ (t : ℕ × List Bound). is_vector (entries_of t.1)) table ≡ true → IsSide (told table) (numbered 1 table)
 told_side table o p v =
-    let l = told_length table in
+    let l = length-map table (λ (t : ℕ × List Bound). told_one t) in
     record {
       star = omega arith;
       above = and_from _ _ refl (told_above table v);
@@ -144,10 +139,6 @@ told_side table o p v =
 
 -- the vector of a picture that is told, which has none where it isn't
 
-one_more : (hs : List Fragment) (f : Fragment) → length (hs ++ f ∷ []) ≡ length hs + 1
-one_more [] f = refl
-one_more (h ∷ hs) f = let r = one_more hs f in omega arith
-
 found_told : (gs : List Fragment) (n : ℕ) (table : List (ℕ × List Bound)) (p : ℕ) → n ≡ length gs → 0 < n → entries_at gs 0 ≡ [] → entries_at (gs ++ map (λ (t : ℕ × List Bound). told_one t) table) (at 0 (numbered n table) p) ≡ entries_of (at [] table p)
 found_told gs n [] p e z s = ap (λ hs. entries_at hs 0) (append-nil gs) ∙ s
 found_told gs n (t ∷ table) p e z s =
@@ -156,10 +147,10 @@ found_told gs n (t ∷ table) p e z s =
       | inl same ↦ rw (eq-eqb t.0 p same) (ap (λ k. entries_at (gs ++ told_one t ∷ rest) k) e ∙ ap (λ (f : Fragment). f.entries) (get_or-append_seam gs (told_one t) rest nothing))
       | inr other ↦ rw (ne_eqb t.0 p other)
           (ap (λ hs. entries_at hs (at 0 (numbered (n + 1) table) p)) (sym (append_assoc gs (told_one t ∷ []) rest))
-          ∙ found_told (gs ++ told_one t ∷ []) (n + 1) table p (ap (λ k. k + 1) e ∙ sym (one_more gs (told_one t))) (omega arith) (ap (λ (f : Fragment). f.entries) (get_or-append gs (told_one t ∷ []) nothing 0 (omega arith)) ∙ s))
+          ∙ found_told (gs ++ told_one t ∷ []) (n + 1) table p (ap (λ k. k + 1) e ∙ sym (length-append gs (told_one t ∷ []))) (omega arith) (ap (λ (f : Fragment). f.entries) (get_or-append gs (told_one t ∷ []) nothing 0 (omega arith)) ∙ s))
     ]
 
-pub told_vector : (table : List (ℕ × List Bound)) (p : ℕ) → vector_of (told table) (numbered 1 table) p ≡ entries_of (at [] table p)
+told_vector : (table : List (ℕ × List Bound)) (p : ℕ) → vector_of (told table) (numbered 1 table) p ≡ entries_of (at [] table p)
 told_vector table p = found_told (nothing ∷ []) 1 table p refl (omega arith) refl
 
 -- The bounds of all entries
@@ -177,19 +168,32 @@ bounds_more es i e out new b l at bound is h =
 
 -- What is learned of a table
 
-pub told_knows : (table : List (ℕ × List Bound)) (p : ℕ) (v : Version) → denotes (vector_of (told table) (numbered 1 table) p) v ≡ versions.denotes (at [] table p) v
-told_knows table p v = ap (λ es. denotes es v) (told_vector table p) ∙ entries_denote (at [] table p) v
+pub record IsLearned (table : List (ℕ × List Bound)) (known new : List Fragment) : Type 0 where
+  pub star : (a : Author) → star_bound new a ≡ star_bound known a
+  pub pairs : (p : ℕ) (v : Version) → 0 < p → knows new p v ≡ (knows known p v || versions.denotes (at [] table p) v)
+
+pub told_joined : (table : List (ℕ × List Bound)) (before known new : List Fragment) (rows : List (List ℕ)) (index : List (ℕ × ℕ)) → before ≡ known → rows ≡ rows_of (told table) → index ≡ numbered 1 table → IsJoined before (fragments_of rows) index new → IsLearned table known new
+told_joined table before known new rows index same is numbers j =
+    let made = ap fragments_of is ∙ fragments_rows (told table) in
+    record {
+      star = λ a. j.star a ∙ ((λ i. max (star_bound (same i) a) (star_bound (made i) a)) ∙ max-zero (star_bound known a));
+      pairs = λ p v z.
+          j.pairs p v z
+          ∙ ((λ i. knows (same i) p v || denotes (vector_of (made i) (numbers i) p) v)
+          ∙ ap (λ b. knows known p v || b) (ap (λ es. denotes es v) (told_vector table p) ∙ entries_denote (at [] table p) v));
+    }
+
+pub told_are_side : (table : List (ℕ × List Bound)) (rows : List (List ℕ)) (index : List (ℕ × ℕ)) → rows ≡ rows_of (told table) → index ≡ numbered 1 table → in_order table ≡ true → keys_pass (λ p. ltb 0 p) table ≡ true → list_all (λ (t : ℕ × List Bound). is_vector (entries_of t.1)) table ≡ true → IsSide (fragments_of rows) index
+told_are_side table rows index is numbers o p v =
+    subst (IsSide (fragments_of rows)) (sym numbers) (subst (λ fs. IsSide fs (numbered 1 table)) (sym (ap fragments_of is ∙ fragments_rows (told table))) (told_side table o p v))
 
 -- and of one picture
-pub one_knows : (q : ℕ) (bs : List Bound) (p : ℕ) (v : Version) → denotes (vector_of (told ((q, bs) ∷ [])) ((q, 1) ∷ []) p) v ≡ (eqb q p && versions.denotes bs v)
-one_knows q bs p v = by (eqb q p)
-  where
-    by : (b : Bool) → denotes (entries_at (told ((q, bs) ∷ [])) (cond b 1 0)) v ≡ (b && versions.denotes bs v)
-    by true = entries_denote bs v
-    by false = refl
+pub one_at : (b : Bool) (bs : List Bound) (v : Version) → versions.denotes (cond b bs []) v ≡ (b && versions.denotes bs v)
+one_at true bs v = refl
+one_at false bs v = refl
 
-pub one_side : (q : ℕ) (bs : List Bound) → 0 < q → is_vector (entries_of bs) ≡ true → IsSide (told ((q, bs) ∷ [])) ((q, 1) ∷ [])
-one_side q bs z v = told_side ((q, bs) ∷ []) refl (and_from _ _ (lt-ltb 0 q z) refl) (and_from _ _ v refl)
+pub one_side : (q : ℕ) (bs : List Bound) (rows : List (List ℕ)) → rows ≡ rows_of (told ((q, bs) ∷ [])) → 0 < q → is_vector (entries_of bs) ≡ true → IsSide (fragments_of rows) ((q, 1) ∷ [])
+one_side q bs rows is z v = told_are_side ((q, bs) ∷ []) rows ((q, 1) ∷ []) is refl refl (and_from _ _ (lt-ltb 0 q z) refl) (and_from _ _ v refl)
 
 -- A table on the way: what is told, and what is left
 
@@ -199,13 +203,13 @@ rows_told table = rows_of (map (λ (t : ℕ × List Bound). told_one t) table)
 abbrev are_vectors : List (ℕ × List Bound) → Bool
 are_vectors table = list_all (λ (t : ℕ × List Bound). is_vector (entries_of t.1)) table
 
-pub record IsTold (table : List (ℕ × List Bound)) (out : List (List ℕ)) (numbers : List (ℕ × ℕ)) (i : ℕ) : Type 0 where
+pub record IsTelling (table : List (ℕ × List Bound)) (out : List (List ℕ)) (numbers : List (ℕ × ℕ)) (i : ℕ) : Type 0 where
   pub rows : out ++ rows_told (drop i table) ≡ rows_of (told table)
   pub index : numbers ++ numbered (i + 1) (drop i table) ≡ numbered 1 table
   pub positive : keys_pass (λ p. ltb 0 p) (drop i table) ≡ keys_pass (λ p. ltb 0 p) table
   pub vectors : are_vectors (drop i table) ≡ are_vectors table
 
-pub none_told : (table : List (ℕ × List Bound)) (out : List (List ℕ)) (numbers : List (ℕ × ℕ)) → out ≡ [] ∷ [] ∷ [] → numbers ≡ [] → IsTold table out numbers 0
+pub none_told : (table : List (ℕ × List Bound)) (out : List (List ℕ)) (numbers : List (ℕ × ℕ)) → out ≡ [] ∷ [] ∷ [] → numbers ≡ [] → IsTelling table out numbers 0
 none_told table out numbers e n = record {
   rows = ap (λ rs. rs ++ rows_told table) e;
   index = ap (λ ns. ns ++ numbered 1 table) n;
@@ -213,7 +217,7 @@ none_told table out numbers e n = record {
   vectors = refl;
 }
 
-pub one_told : (table : List (ℕ × List Bound)) (i : ℕ) (t : ℕ × List Bound) (out new : List (List ℕ)) (numbers more : List (ℕ × ℕ)) → drop i table ≡ t ∷ drop (i + 1) table → IsTold table out numbers i → new ≡ out ++ (t.0 ∷ []) ∷ flat (entries_of t.1) ∷ [] → more ≡ numbers ++ (t.0, i + 1) ∷ [] → 0 < t.0 → is_vector (entries_of t.1) ≡ true → IsTold table new more (i + 1)
+pub one_told : (table : List (ℕ × List Bound)) (i : ℕ) (t : ℕ × List Bound) (out new : List (List ℕ)) (numbers more : List (ℕ × ℕ)) → drop i table ≡ t ∷ drop (i + 1) table → IsTelling table out numbers i → new ≡ out ++ (t.0 ∷ []) ∷ flat (entries_of t.1) ∷ [] → more ≡ numbers ++ (t.0, i + 1) ∷ [] → 0 < t.0 → is_vector (entries_of t.1) ≡ true → IsTelling table new more (i + 1)
 one_told table i t out new numbers more d h e n z v =
     let rest : List (ℕ × List Bound) = drop (i + 1) table in
     record {
@@ -227,18 +231,12 @@ one_told table i t out new numbers more d h e n z v =
       vectors = sym (ap (λ b. b && are_vectors rest) v) ∙ (ap (λ ts. are_vectors ts) (sym d) ∙ h.vectors);
     }
 
-pub record AllTold (table : List (ℕ × List Bound)) (out : List (List ℕ)) (numbers : List (ℕ × ℕ)) : Type 0 where
-  pub rows : out ≡ rows_of (told table)
-  pub index : numbers ≡ numbered 1 table
-  pub positive : keys_pass (λ p. ltb 0 p) table ≡ true
-  pub vectors : are_vectors table ≡ true
-
-pub all_told : (table : List (ℕ × List Bound)) (out : List (List ℕ)) (numbers : List (ℕ × ℕ)) (i : ℕ) → length table ≤ i → IsTold table out numbers i → AllTold table out numbers
+pub all_told : (table : List (ℕ × List Bound)) (out : List (List ℕ)) (numbers : List (ℕ × ℕ)) (i : ℕ) → length table ≤ i → IsTelling table out numbers i → IsTold table out numbers
 all_told table out numbers i l h =
     let none = drop_all i table l in
     record {
-      rows = sym (append-nil out) ∙ (ap (λ ts. out ++ rows_told ts) (sym none) ∙ h.rows);
-      index = sym (append-nil numbers) ∙ (ap (λ ts. numbers ++ numbered (i + 1) ts) (sym none) ∙ h.index);
+      rows_are = sym (append-nil out) ∙ (ap (λ ts. out ++ rows_told ts) (sym none) ∙ h.rows);
+      index_is = sym (append-nil numbers) ∙ (ap (λ ts. numbers ++ numbered (i + 1) ts) (sym none) ∙ h.index);
       positive = sym h.positive ∙ ap (λ ts. keys_pass (λ p. ltb 0 p) ts) none;
       vectors = sym h.vectors ∙ ap (λ ts. are_vectors ts) none;
     }

@@ -1,31 +1,25 @@
 -- How far each author's bounds go in rows.
-use Rattle.std.proofs.Common.{◌≡◌, ℕ, suc, ◌+◌, ◌<◌, ◌≤◌, true, ◌||◌, max, List, [], ◌∷◌, length, map, refl, sym, subst, ap, ◌∙◌, inl, inr, arith}
+use Rattle.std.proofs.Common.{◌≡◌, ℕ, zero, suc, ◌+◌, ◌<◌, ◌≤◌, true, max, List, [], ◌∷◌, length, map, refl, sym, subst, ap, ◌∙◌, inl, inr, arith}
 use Rattle.std.specs.List.{list_all}
-use Rattle.std.proofs.Math.Nat.{max-zero, zero-max}
-use Rattle.std.proofs.lemmas.Bool.{and_parts, and_from, le-leb, cases_Bool, cases_lt}
+use Rattle.std.proofs.lemmas.Bool.{and_parts, and_from, cases_lt}
 use Rattle.std.proofs.lemmas.List.{get_or_past}
-use Rattle.photo_version.specs.Author.{author_of_word}
 use Rattle.photo_version.specs.Vector.{Bound}
-use Rattle.photo_version.specs.Version.{version}
 use Rattle.item_knowledge.specs.Tables.{at, in_order}
-use Rattle.item_knowledge.specs.Entries.{Entry, is_entry, denotes, is_vector, bound, leq, joined}
-use Rattle.item_knowledge.specs.Fragments.{Fragment, nothing, knows, entries_at}
-use Rattle.item_knowledge.specs.Gathering.{vector_of, IsSide, IsUnion}
+use Rattle.item_knowledge.specs.Entries.{Entry, is_entry, is_vector, bound, leq, joined}
+use Rattle.item_knowledge.specs.Fragments.{Fragment, nothing, entries_at}
+use Rattle.item_knowledge.specs.Gathering.{IsSide, IsUnion}
 use Rattle.item_knowledge.specs.Raising.{are_level, all_raised, are_risen}
 use Rattle.item_knowledge.specs.Rows.{pairs, IsRow, fragments_of, rows_of, AreRows}
 use Rattle.item_knowledge.specs.TableRows.{entries_of, told_one, told}
 use Rattle.item_knowledge.specs.Tops.{IsTop}
-use Rattle.item_knowledge.proofs.EntryLemmas.{most_of}
 use Rattle.item_knowledge.proofs.FragmentLemmas.{leq_at}
 use Rattle.item_knowledge.proofs.JoinLemmas.{joined_bound, joined_vector}
-use Rattle.item_knowledge.proofs.MergeLemmas.{all_at}
-use Rattle.item_knowledge.proofs.NextLemmas.{level_known}
-use Rattle.item_knowledge.proofs.PutLemmas.{risen_at}
-use Rattle.item_knowledge.proofs.RaiseLemmas.{length_raised, entries_raised}
+use Rattle.item_knowledge.proofs.MergeLemmas.{all_at, next_too}
+use Rattle.item_knowledge.proofs.PutLemmas.{raised_at_bound}
+use Rattle.item_knowledge.proofs.RaiseLemmas.{length_raised}
 use Rattle.item_knowledge.proofs.RowLemmas.{fragments_rows, rows_rows}
-use Rattle.item_knowledge.proofs.TableLemmas.{merge_at}
-use Rattle.item_knowledge.proofs.UnionLemmas.{side_vector}
-use Rattle.item_knowledge.proofs.WaitingLemmas.{level_at}
+use Rattle.item_knowledge.proofs.UnionLemmas.{union_at}
+use Rattle.item_knowledge.proofs.WaitingLemmas.{level_from}
 
 -- The top of rows
 
@@ -55,12 +49,7 @@ pub top_within : (top : List ℕ) (rows : List (List ℕ)) (k : ℕ) → IsTopTo
 top_within top rows k h less = record {
   row = h.row;
   vector = h.vector;
-  most = λ j a l. elim (cases_lt j k) [
-    | inl earlier ↦ h.most j a earlier
-    | inr last ↦
-        let same : k ≡ j = omega arith in
-        subst (λ i. bound (entries_at (fragments_of rows) i) a ≤ bound (pairs top) a) same (leq_at (entries_at (fragments_of rows) k) (pairs top) a less)
-  ];
+  most = λ j a. next_too (λ i. bound (entries_at (fragments_of rows) i) a ≤ bound (pairs top) a) k (λ i l. h.most i a l) (leq_at (entries_at (fragments_of rows) k) (pairs top) a less) j;
 }
 
 pub top_joined : (top new : List ℕ) (rows : List (List ℕ)) (k : ℕ) → IsTopTo top rows k → is_vector (entries_at (fragments_of rows) k) ≡ true → IsRow new → pairs new ≡ joined (pairs top) (entries_at (fragments_of rows) k) → IsTopTo new rows (k + 1)
@@ -69,14 +58,9 @@ top_joined top new rows k h vector row is =
     record {
       row = row;
       vector = ap is_vector is ∙ joined_vector (pairs top) es h.vector vector;
-      most = λ j a l.
+      most = λ j a.
           let both = ap (λ xs. bound xs a) is ∙ joined_bound (pairs top) es a h.vector vector in
-          elim (cases_lt j k) [
-            | inl earlier ↦ let before = h.most j a earlier in omega arith
-            | inr last ↦
-                let same : k ≡ j = omega arith in
-                subst (λ i. bound (entries_at (fragments_of rows) i) a ≤ bound (pairs new) a) same (omega arith)
-          ];
+          next_too (λ i. bound (entries_at (fragments_of rows) i) a ≤ bound (pairs new) a) k (λ i l. let before = h.most i a l in omega arith) (omega arith) j;
     }
 
 pub top_whole : (top : List ℕ) (rows : List (List ℕ)) (k : ℕ) → IsTopTo top rows k → length (fragments_of rows) ≤ k → IsTop top rows
@@ -98,43 +82,29 @@ pub union_top : (one other top : List ℕ) (left right out : List (List ℕ)) (x
 union_top one other top left right out xs ys zs h g row is f side u = record {
   row = row;
   vector = ap is_vector is ∙ joined_vector (pairs one) (pairs other) h.vector g.vector;
-  most = λ k a. elim (cases_lt k (length us)) [
-    | inl there ↦ level_at us k a (most a) (level_known us (author_of_word a) (most a) u.normal (within a)) there
-    | inr past ↦ let none = none_past us k a (omega arith) in omega arith
-  ];
+  most = λ k a.
+      let both = ap (λ es. bound es a) is ∙ joined_bound (pairs one) (pairs other) a h.vector g.vector in
+      let star = u.star a in
+      by k a both star;
 }
   where
-    us : List Fragment
-    us = fragments_of out
-
-    most : ℕ → ℕ
-    most a = max (bound (pairs top) a) (bound (entries_at us 0) a)
-
-    within : (a p n : ℕ) → 0 < p → knows us p (version (author_of_word a) n) ≡ true → n ≤ most a
-    within a p n z k =
-        let v = version (author_of_word a) n in
-        let both = ap (λ es. bound es a) is ∙ joined_bound (pairs one) (pairs other) a h.vector g.vector in
-        let star = u.star a in
-        let either : (denotes (vector_of (fragments_of left) xs p) v || denotes (vector_of (fragments_of right) ys p) v) ≡ true = sym (u.pairs p v z) ∙ k in
-        elim (cases_Bool (denotes (vector_of (fragments_of left) xs p) v)) [
-          | inl here ↦
-              let n_most = most_of (vector_of (fragments_of left) xs p) a n (side_vector (fragments_of left) xs p f) here in
-              let below = h.most (at 0 xs p) a in
-              omega arith
-          | inr not_here ↦
-              let n_most = most_of (vector_of (fragments_of right) ys p) a n (side_vector (fragments_of right) ys p side) (rw not_here at either) in
-              let below = g.most (at 0 ys p) a in
-              omega arith
-        ]
+    by : (k a : ℕ) → bound (pairs top) a ≡ max (bound (pairs one) a) (bound (pairs other) a) → bound (entries_at (fragments_of out) 0) a ≡ max (bound (entries_at (fragments_of left) 0) a) (bound (entries_at (fragments_of right) 0) a)
+        → bound (entries_at (fragments_of out) k) a ≤ max (bound (pairs top) a) (bound (entries_at (fragments_of out) 0) a)
+    by zero a both star = omega arith
+    by (suc k) a both star = elim (cases_lt (suc k) (length (fragments_of out))) [
+      | inl there ↦
+          let here = union_at (fragments_of left) (fragments_of right) (fragments_of out) xs ys zs (suc k) a f side u (omega arith) there in
+          let greater = here.1 in
+          let left_most = h.most (at 0 xs here.0) a in
+          let right_most = g.most (at 0 ys here.0) a in
+          omega arith
+      | inr past ↦ let none = none_past (fragments_of out) (suc k) a past in omega arith
+    ]
 
 -- What is within a bound
 
 pub top_level : (top : List ℕ) (rows : List (List ℕ)) (a b : ℕ) → IsTop top rows → bound (pairs top) a ≤ b → bound (entries_at (fragments_of rows) 0) a ≤ b → are_level (fragments_of rows) a b ≡ true
-top_level top rows a b h one star = all (fragments_of rows) (λ k. let most = h.most k a in omega arith)
-  where
-    all : (fs : List Fragment) → ((k : ℕ) → bound (entries_at fs k) a ≤ b) → are_level fs a b ≡ true
-    all [] each = refl
-    all (f ∷ fs) each = and_from _ _ (le-leb (bound f.entries a) b (each 0)) (all fs (λ k. each (suc k)))
+top_level top rows a b h one star = level_from (fragments_of rows) a b (λ k l. let most = h.most k a in omega arith)
 
 -- The top where an author's bound rises
 
@@ -148,14 +118,11 @@ raised_top top rows new e h risen is = record {
     fs : List Fragment
     fs = fragments_of rows
 
-    risen_bound : (k a : ℕ) → k < length fs → bound (entries_at (all_raised e fs) k) a ≡ max (bound (entries_at fs k) a) (bound (e ∷ []) a)
-    risen_bound k a l = ap (λ es. bound es a) (entries_raised e fs k l) ∙ merge_at (λ n. n) (λ n m. max n m) (λ m. m) 0 0 (λ n. sym (max-zero n)) (λ m. sym (zero-max m)) (entries_at fs k) (e ∷ []) (risen_at e fs k risen l).order refl a
-
     one : (k a : ℕ) → bound (entries_at (all_raised e fs) k) a ≤ max (bound (pairs top) a) (bound (entries_at (all_raised e fs) 0) a)
     one k a = elim (cases_lt k (length fs)) [
       | inl there ↦
-          let here = risen_bound k a there in
-          let first = risen_bound 0 a (omega arith) in
+          let here = raised_at_bound e fs k a risen there in
+          let first = raised_at_bound e fs 0 a risen (omega arith) in
           let most = h.most k a in
           omega arith
       | inr past ↦

@@ -1,16 +1,20 @@
 -- What is gathered from the merged tables of two sides is their union.
-use Rattle.std.proofs.Common.{◌≡◌, ℕ, ◌<◌, Bool, true, false, ltb, eqb, cond, ◌&&◌, List, [], ◌∷◌, length, get_or, refl, sym, subst, ap, ◌∙◌, inl, inr, arith}
+use Rattle.std.proofs.Common.{◌≡◌, ℕ, zero, suc, ◌<◌, Bool, true, ltb, ◌&&◌, max, Some, List, [], ◌∷◌, length, get_or, refl, sym, subst, ap, ◌∙◌, inl, inr, arith}
 use Rattle.std.specs.List.{list_all}
 use Rattle.std.proofs.lemmas.Bool.{and_parts, and_from, lt-ltb, ltb-true, eq-eqb, ne_eqb, cases_eq, false≢true}
 use Rattle.photo_version.specs.Version.{Version}
-use Rattle.item_knowledge.specs.Tables.{keys_pass, in_order, at, put}
-use Rattle.item_knowledge.specs.Entries.{Entry, denotes, is_entry, is_vector, leq, joined}
-use Rattle.item_knowledge.specs.Fragments.{Fragment, knows, are_groups, is_normal, known, nothing, entries_at}
-use Rattle.item_knowledge.specs.Gathering.{vector_of, is_above, IsSide, IsIndex, paired, pair_vector, gathered, star_first, index_of, IsUnion}
+use Rattle.item_knowledge.specs.Tables.{keys_pass, in_order, at}
+use Rattle.item_knowledge.specs.Entries.{Entry, denotes, is_entry, is_vector, bound, leq, joined}
+use Rattle.item_knowledge.specs.Fragments.{Fragment, first, knows, are_groups, is_normal, find, or_star, known, nothing, entries_at}
+use Rattle.item_knowledge.specs.Gathering.{vector_of, is_above, IsSide, IsIndex, paired, pair_vector, gathered, star_first, index_of, IsUnion, IsWritten}
+use Rattle.item_knowledge.specs.Rows.{AreRows, fragments_of}
+use Rattle.item_knowledge.proofs.RowLemmas.{fragments_rows, rows_rows}
 use Rattle.item_knowledge.proofs.MergeLemmas.{all_at}
-use Rattle.item_knowledge.proofs.TableLemmas.{merge_at, merge_order, merge_pass}
+use Rattle.item_knowledge.proofs.TableLemmas.{merge_at, merge_order, merge_pass, merge_all}
 use Rattle.item_knowledge.proofs.JoinLemmas.{joined_bound, joined_vector, joined_leq, joined_denotes, leq_self}
-use Rattle.item_knowledge.proofs.FragmentLemmas.{normal_parts, knows_known, groups_parts}
+use Rattle.item_knowledge.proofs.FragmentLemmas.{normal_parts, knows_known, groups_parts, find_here, find_later, later}
+use Rattle.item_knowledge.proofs.EntryLemmas.{one_vector}
+use Rattle.item_knowledge.proofs.PictureLemmas.{listed, first_listed}
 use Rattle.item_knowledge.proofs.GatherLemmas.{good, Ready, gathered_groups, gathered_find, row_vector_at}
 use Rattle.item_knowledge.proofs.IndexLemmas.{indexed_pass, indexed_order, indexed_range, indexed_vectors}
 
@@ -57,26 +61,10 @@ normal_side (s ∷ gs) xs h i =
 abbrev pub in_range : ℕ → ℕ → ℕ × (ℕ × ℕ) → Bool
 in_range n m r = ltb r.1.0 n && ltb r.1.1 m
 
-put_range : (n m : ℕ) (x : ℕ × ℕ) (ts : List (ℕ × (ℕ × ℕ))) → 0 < m → ltb x.1 n ≡ true → list_all (λ r. in_range n m r) ts ≡ true → list_all (λ r. in_range n m r) (put (λ a. (a, 0)) (λ a b. (a, b.1)) x ts) ≡ true
-put_range n m x [] z p h = and_from _ _ (and_from _ _ p (lt-ltb 0 m z)) refl
-put_range n m x (t ∷ ts) z p h =
-    let a = and_parts (in_range n m t) (list_all (λ r. in_range n m r) ts) h in
-    let b = and_parts (ltb t.1.0 n) (ltb t.1.1 m) a.0 in
-    by (ltb x.0 t.0) (eqb x.0 t.0) _ _ _ (and_from _ _ (and_from _ _ p (lt-ltb 0 m z)) h) (and_from _ _ (and_from _ _ p b.1) a.1) (and_from _ _ a.0 (put_range n m x ts z p a.1))
-  where
-    by : (l e : Bool) (x y z : List (ℕ × (ℕ × ℕ))) → list_all (λ r. in_range n m r) x ≡ true → list_all (λ r. in_range n m r) y ≡ true → list_all (λ r. in_range n m r) z ≡ true → list_all (λ r. in_range n m r) (cond l x (cond e y z)) ≡ true
-    by true e x y z h g k = h
-    by false true x y z h g k = g
-    by false false x y z h g k = k
-
-pub paired_range : (n m : ℕ) (xs ys : List (ℕ × ℕ)) → 0 < n → 0 < m → list_all (λ r. ltb r.1 n) xs ≡ true → list_all (λ r. ltb r.1 m) ys ≡ true → list_all (λ r. in_range n m r) (paired xs ys) ≡ true
-paired_range n m [] [] z w h g = refl
-paired_range n m [] (y ∷ ys) z w h g =
-    let a = and_parts (ltb y.1 m) (list_all (λ r. ltb r.1 m) ys) g in
-    and_from _ _ (and_from _ _ (lt-ltb 0 n z) a.0) (paired_range n m [] ys z w h a.1)
-paired_range n m (x ∷ xs) ys z w h g =
-    let a = and_parts (ltb x.1 n) (list_all (λ r. ltb r.1 n) xs) h in
-    put_range n m x (paired xs ys) w a.0 (paired_range n m xs ys z w a.1 g)
+paired_range : (n m : ℕ) (xs ys : List (ℕ × ℕ)) → 0 < n → 0 < m → list_all (λ r. ltb r.1 n) xs ≡ true → list_all (λ r. ltb r.1 m) ys ≡ true → list_all (λ r. in_range n m r) (paired xs ys) ≡ true
+paired_range n m xs ys z w h g =
+    merge_all (λ a. (a, 0)) (λ a b. (a, b.1)) (λ b. (0, b)) (λ (x : ℕ × ℕ). ltb x.1 n) (λ (y : ℕ × ℕ). ltb y.1 m) (λ r. in_range n m r)
+    (λ x e. and_from _ _ e (lt-ltb 0 m w)) (λ x t e d. and_from _ _ e (and_parts (ltb t.1.0 n) (ltb t.1.1 m) d).1) (λ y e. and_from _ _ (lt-ltb 0 n z) e) xs ys h g
 
 -- The union
 
@@ -123,6 +111,39 @@ pub knows_vector : (fs : List Fragment) (p : ℕ) (v : Version) → is_normal fs
 knows_vector [] p v h = absurd (false≢true h)
 knows_vector (s ∷ gs) p v h = knows_known s gs p v (normal_parts s gs h)
 
+-- a group's vector is what is known of its first picture
+group_known : (star : List Entry) (gs : List Fragment) (k : ℕ) → are_groups star gs ≡ true → k < length gs → (0 < first (get_or gs k nothing).pictures) × (find gs (first (get_or gs k nothing).pictures) ≡ Some (entries_at gs k))
+group_known star [] k h l = absurd (omega arith)
+group_known star (g ∷ gs) zero h l =
+    let group = (groups_parts star g gs h).group in
+    let here = first_listed g.pictures group.some in
+    (ltb-true 0 (first g.pictures) (listed (λ p. ltb 0 p) g.pictures (first g.pictures) group.positive here), find_here g gs (first g.pictures) here)
+group_known star (g ∷ gs) (suc k) h l =
+    let parts = groups_parts star g gs h in
+    let rest = group_known star gs k parts.rest (omega arith) in
+    let p = first (get_or gs k nothing).pictures in
+    (rest.0, find_later g gs p (later star g gs p (entries_at gs k) parts.before parts.rest rest.1).apart ∙ rest.1)
+
+known_at : (us : List Fragment) (k : ℕ) → is_normal us ≡ true → 0 < k → k < length us → (p : ℕ) × (0 < p) × (known us p ≡ entries_at us k)
+known_at [] k normal z l = absurd (omega arith)
+known_at (s ∷ gs) zero normal z l = absurd (omega arith)
+known_at (s ∷ gs) (suc k) normal z l =
+    let g = group_known s.entries gs k (normal_parts s gs normal).groups (omega arith) in
+    (first (get_or gs k nothing).pictures, g.0, ap (or_star s.entries) g.1)
+
+-- in a union each vector beside the star's has, at some picture, of an author the greater bound of both sides
+pub union_at : (fs gs us : List Fragment) (xs ys zs : List (ℕ × ℕ)) (k a : ℕ) → IsSide fs xs → IsSide gs ys → IsUnion fs xs gs ys us zs → 0 < k → k < length us → (p : ℕ) × (bound (entries_at us k) a ≡ max (bound (vector_of fs xs p) a) (bound (vector_of gs ys p) a))
+union_at fs gs us xs ys zs k a f g u z l =
+    let at_picture = known_at us k u.normal z l in
+    let p = at_picture.0 in
+    let one = side_vector fs xs p f in
+    let other = side_vector gs ys p g in
+    let vector : is_vector (known us p) ≡ true = subst (λ es. is_vector es ≡ true) (u.index.vectors p) (side_vector us zs p (normal_side us zs u.normal u.index)) in
+    let same : known us p ≡ joined (vector_of fs xs p) (vector_of gs ys p) =
+    one_vector (known us p) (joined (vector_of fs xs p) (vector_of gs ys p)) vector (joined_vector (vector_of fs xs p) (vector_of gs ys p) one other)
+    (λ v. sym (knows_vector us p v u.normal) ∙ (u.pairs p v at_picture.1 ∙ sym (joined_denotes (vector_of fs xs p) (vector_of gs ys p) v one other))) in
+    (p, ap (λ es. bound es a) (sym at_picture.2 ∙ same) ∙ joined_bound (vector_of fs xs p) (vector_of gs ys p) a one other)
+
 known_union : (fs gs : List Fragment) (xs ys : List (ℕ × ℕ)) (p : ℕ) → IsSide fs xs → IsSide gs ys → known (union_of fs gs xs ys) p ≡ joined (vector_of fs xs p) (vector_of gs ys p)
 known_union fs gs xs ys p h g =
     let f = pair_vector fs gs in
@@ -159,27 +180,21 @@ is_union fs gs xs ys h g = record {
       ∙ joined_denotes (vector_of fs xs p) (vector_of gs ys p) v (side_vector fs xs p h) (side_vector gs ys p g));
 }
 
--- what a loop over the table meets at a row
-
-pub row_range : (fs gs : List Fragment) (xs ys : List (ℕ × ℕ)) (rows : List (ℕ × (ℕ × ℕ))) (i : ℕ) (r : ℕ × (ℕ × ℕ)) → IsSide fs xs → IsSide gs ys → rows ≡ paired xs ys → i < length rows → r ≡ get_or rows i r → (r.1.0 < length fs) × (r.1.1 < length gs)
-row_range fs gs xs ys rows i r h g is l e =
-    let all = paired_range (length fs) (length gs) xs ys h.star g.star h.range g.range in
-    let here = subst (λ y. in_range (length fs) (length gs) y ≡ true) (sym e) (all_at (λ z. in_range (length fs) (length gs) z) rows i r (subst (λ zs. list_all (λ z. in_range (length fs) (length gs) z) zs ≡ true) (sym is) all) l) in
-    let parts = and_parts (ltb r.1.0 (length fs)) (ltb r.1.1 (length gs)) here in
-    (ltb-true r.1.0 (length fs) parts.0, ltb-true r.1.1 (length gs) parts.1)
-
 pub entries_order : (fs : List Fragment) (xs : List (ℕ × ℕ)) (k : ℕ) → IsSide fs xs → k < length fs → in_order (entries_at fs k) ≡ true
 entries_order fs xs k h l = (and_parts (in_order (entries_at fs k)) (list_all (λ (e : Entry). is_entry e) (entries_at fs k)) (above fs xs k h l).vector).0
 
--- what is written is the union
 -- a star of one entry
 pub one_star : (a n : ℕ) → is_entry (a, n) ≡ true → IsSide (record { pictures = []; entries = (a, n) ∷ [] } ∷ []) []
 one_star a n e =
     let v : is_vector ((a, n) ∷ []) ≡ true = and_from _ _ refl (and_from _ _ e refl) in
     record { star = omega arith; above = and_from _ _ (and_from _ _ v (leq_self ((a, n) ∷ []) v)) refl; order = refl; positive = refl; range = refl }
 
-pub union_made : (fs gs us : List Fragment) (xs ys index : List (ℕ × ℕ)) → IsSide fs xs → IsSide gs ys → us ≡ union_of fs gs xs ys → index ≡ index_of fs gs xs ys → IsUnion fs xs gs ys us index
-union_made fs gs us xs ys index h g u i = subst (λ zs. IsUnion fs xs gs ys us zs) (sym i) (subst (λ ws. IsUnion fs xs gs ys ws (index_of fs gs xs ys)) (sym u) (is_union fs gs xs ys h g))
+pub rows_made : {fs gs : List Fragment} {xs ys : List (ℕ × ℕ)} {out : List (List ℕ)} {index : List (ℕ × ℕ)} → IsWritten fs xs gs ys out index → AreRows out
+rows_made {fs} {gs} {xs} {ys} w = subst AreRows (sym w.rows) (rows_rows (union_of fs gs xs ys))
+
+pub union_made : {fs gs : List Fragment} {xs ys : List (ℕ × ℕ)} {out : List (List ℕ)} {index : List (ℕ × ℕ)} → IsSide fs xs → IsSide gs ys → IsWritten fs xs gs ys out index → IsUnion fs xs gs ys (fragments_of out) index
+union_made {fs} {gs} {xs} {ys} {out} {index} h g w =
+    subst (λ zs. IsUnion fs xs gs ys (fragments_of out) zs) (sym w.numbers) (subst (λ ws. IsUnion fs xs gs ys ws (index_of fs gs xs ys)) (sym (ap fragments_of w.rows ∙ fragments_rows (union_of fs gs xs ys))) (is_union fs gs xs ys h g))
 
 -- the numbers of an index are those of fragments
 pub side_at : (fs : List Fragment) (xs : List (ℕ × ℕ)) (i : ℕ) → IsSide fs xs → i < length xs → (get_or xs i (0, 0)).1 < length fs

@@ -1,26 +1,24 @@
 -- A bound that waits beside rows may wait beside those of a union too, where the other side has no more of its author.
-use Rattle.std.proofs.Common.{◌≡◌, ℕ, ◌<◌, ◌≤◌, Bool, true, false, leb, ltb, ◌||◌, List, [], ◌∷◌, length, Option, None, Some, refl, sym, subst, ap, ◌∙◌, inl, inr, arith}
+use Rattle.std.proofs.Common.{◌≡◌, ℕ, zero, suc, ◌<◌, ◌≤◌, Bool, true, leb, ltb, ◌||◌, List, [], ◌∷◌, length, Option, None, Some, refl, sym, subst, ap, ◌∙◌, arith}
 use Rattle.std.specs.List.{list_all}
-use Rattle.std.proofs.lemmas.Bool.{and_parts, and_from, leb-true, cases_Bool, false≢true}
-use Rattle.photo_version.specs.Author.{author_of_word}
-use Rattle.photo_version.specs.Version.{version}
+use Rattle.std.proofs.Math.Bool.{or_assoc, or_comm}
+use Rattle.std.proofs.lemmas.Bool.{and_parts, and_from, leb-true, le-leb, false≢true}
 use Rattle.item_knowledge.specs.Tables.{at, in_order}
 use Rattle.item_knowledge.specs.Entries.{Entry, denotes, is_entry, bound, joined}
-use Rattle.item_knowledge.specs.Fragments.{Fragment, knows, is_normal, known, nothing, entries_at}
+use Rattle.item_knowledge.specs.Fragments.{Fragment, is_normal, known, nothing, entries_at}
 use Rattle.item_knowledge.specs.Gathering.{vector_of, IsSide, IsUnion}
 use Rattle.item_knowledge.specs.Late.{shown, IsWaiting, IsLate, AreUntouching}
 use Rattle.item_knowledge.specs.Raising.{are_level, all_raised}
 use Rattle.item_knowledge.specs.Rows.{AreRows, fragments_of, rows_of}
-use Rattle.item_knowledge.proofs.EntryLemmas.{most_of}
 use Rattle.item_knowledge.proofs.FragmentLemmas.{normal_parts}
 use Rattle.item_knowledge.proofs.JoinLemmas.{joined_bound, joined_denotes, leq_self}
 use Rattle.item_knowledge.proofs.KeptLemmas.{star_vector}
 use Rattle.item_knowledge.proofs.MergeLemmas.{all_at}
-use Rattle.item_knowledge.proofs.NextLemmas.{level_known, risen_all}
+use Rattle.item_knowledge.proofs.NextLemmas.{risen_all}
 use Rattle.item_knowledge.proofs.PutLemmas.{risen_at}
 use Rattle.item_knowledge.proofs.RaiseLemmas.{IsNext, entry_vector, length_raised, entries_raised, raised_normal, raised_known, raised_index}
 use Rattle.item_knowledge.proofs.RowLemmas.{fragments_rows, rows_rows}
-use Rattle.item_knowledge.proofs.UnionLemmas.{groups_above, at_number, normal_side, side_vector, knows_vector}
+use Rattle.item_knowledge.proofs.UnionLemmas.{groups_above, at_number, union_at, normal_side, side_vector, knows_vector}
 
 waiting_next : (e : Entry) (fs : List Fragment) → IsWaiting e fs → IsNext e fs
 waiting_next e fs h = record { entry = h.entry; level = h.level }
@@ -29,6 +27,10 @@ waiting_next e fs h = record { entry = h.entry; level = h.level }
 
 pub level_at : (fs : List Fragment) (k a b : ℕ) → are_level fs a b ≡ true → k < length fs → bound (entries_at fs k) a ≤ b
 level_at fs k a b h l = leb-true (bound (entries_at fs k) a) b (all_at (λ (f : Fragment). leb (bound f.entries a) b) fs k nothing h l)
+
+pub level_from : (fs : List Fragment) (a b : ℕ) → ((k : ℕ) → k < length fs → bound (entries_at fs k) a ≤ b) → are_level fs a b ≡ true
+level_from [] a b each = refl
+level_from (f ∷ fs) a b each = and_from _ _ (le-leb (bound f.entries a) b (each 0 (omega arith))) (level_from fs a b (λ k l. each (suc k) (omega arith)))
 
 -- The rows beside which a bound waits are a side as those are that are shown
 
@@ -54,7 +56,7 @@ union_waits e fs gs us xs ys zs h f g untouching u =
     let risen = risen_at e fs 0 h.risen f.star in
     let some = risen.some in
     let most = risen.most in
-    let level = level_known us (author_of_word e.0) b u.normal within in
+    let level = level_from us e.0 b (each star) in
     record {
       normal = u.normal;
       entry = h.entry;
@@ -62,16 +64,14 @@ union_waits e fs gs us xs ys zs h f g untouching u =
       risen = risen_all e (entries_at us 0) b us (normal_side us zs u.normal u.index).above (omega arith) level most;
     }
   where
-    within : (p n : ℕ) → 0 < p → knows us p (version (author_of_word e.0) n) ≡ true → n ≤ bound (entries_at fs 0) e.0
-    within p n z k =
-        let v = version (author_of_word e.0) n in
-        let either : (denotes (vector_of fs xs p) v || denotes (vector_of gs ys p) v) ≡ true = sym (u.pairs p v z) ∙ k in
-        let left = level_at fs (at 0 xs p) e.0 (bound (entries_at fs 0) e.0) h.level (at_number xs (length fs) p f.star f.range) in
-        let right = level_at gs (at 0 ys p) e.0 (bound (entries_at fs 0) e.0) untouching (at_number ys (length gs) p g.star g.range) in
-        elim (cases_Bool (denotes (vector_of fs xs p) v)) [
-          | inl here ↦ let most = most_of (vector_of fs xs p) e.0 n (side_vector fs xs p f) here in omega arith
-          | inr other ↦ let most = most_of (vector_of gs ys p) e.0 n (side_vector gs ys p g) (rw other at either) in omega arith
-        ]
+    each : bound (entries_at us 0) e.0 ≡ bound (entries_at fs 0) e.0 → (k : ℕ) → k < length us → bound (entries_at us k) e.0 ≤ bound (entries_at fs 0) e.0
+    each star zero l = omega arith
+    each star (suc k) l =
+        let here = union_at fs gs us xs ys zs (suc k) e.0 f g u (omega arith) l in
+        let greater = here.1 in
+        let left = level_at fs (at 0 xs here.0) e.0 (bound (entries_at fs 0) e.0) h.level (at_number xs (length fs) here.0 f.star f.range) in
+        let right = level_at gs (at 0 ys here.0) e.0 (bound (entries_at fs 0) e.0) untouching (at_number ys (length gs) here.0 g.star g.range) in
+        omega arith
 
 -- and with it the union is that of what is shown
 pub union_raised : (e : Entry) (fs gs us : List Fragment) (xs ys zs : List (ℕ × ℕ)) → IsWaiting e fs → IsWaiting e us → IsSide fs xs → IsUnion fs xs gs ys us zs → IsUnion (all_raised e fs) xs gs ys (all_raised e us) zs
@@ -103,11 +103,7 @@ union_raised e fs gs us xs ys zs h w f u =
     }
   where
     turn : (a b c : Bool) → ((a || b) || c) ≡ ((a || c) || b)
-    turn true b c = refl
-    turn false true true = refl
-    turn false true false = refl
-    turn false false true = refl
-    turn false false false = refl
+    turn a b c = or_assoc a b c ∙ (ap (λ x. a || x) (or_comm b c) ∙ sym (or_assoc a c b))
 
 -- The same of rows
 

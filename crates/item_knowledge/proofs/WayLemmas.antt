@@ -3,22 +3,20 @@ use Rattle.std.proofs.Common.{◌≡◌, ℕ, suc, ◌+◌, ◌*◌, ◌<◌, �
 use Rattle.std.proofs.Math.ListN.{get_or-append}
 use Rattle.std.proofs.Math.Seq.{get_or-append_seam}
 use Rattle.std.proofs.lemmas.Bool.{cases_Bool, cases_lt, true≢false}
-use Rattle.std.proofs.lemmas.List.{drop_all}
 use Rattle.fragment_arena.specs.Arena.{run}
 use Rattle.item_knowledge.specs.Apart.{singles, spread_of, FromLeft, IsListed, IsSpread, Stays}
 use Rattle.item_knowledge.specs.Entries.{Entry, same_entries}
 use Rattle.item_knowledge.specs.Fragments.{Fragment, nothing, entries_at}
-use Rattle.item_knowledge.specs.Gathering.{IsSide, paired, pair_vector, star_first}
+use Rattle.item_knowledge.specs.Gathering.{paired, pair_vector, star_first}
 use Rattle.item_knowledge.specs.declared.pairing.Pairing.{Pairing}
 use Rattle.item_knowledge.specs.Pairing.{left_of}
 use Rattle.item_knowledge.specs.Rows.{pairs, flat, IsRow, fragments_of}
-use Rattle.item_knowledge.proofs.ApartLemmas.{singles_same, singles_other, rows_snoc, numbered_snoc, numbered_length}
+use Rattle.item_knowledge.proofs.ApartLemmas.{vectors_differ, singles_same, singles_other, rows_snoc, numbered_snoc, numbered_length}
 use Rattle.item_knowledge.proofs.FragmentLemmas.{entries_decide}
 use Rattle.item_knowledge.proofs.OnTheWay.{IsOnTheWay, IsPair}
-use Rattle.item_knowledge.proofs.PairingLemmas.{next_row, along_first, along_next, along_all, inside}
 use Rattle.item_knowledge.proofs.PlaceLemmas.{of_one}
 use Rattle.item_knowledge.proofs.RowLemmas.{pairs_flat, flat_row, entries_read, rows_read}
-use Rattle.item_knowledge.proofs.SpanLemmas.{run_more, nothing_pending, star_differs, stays_joint}
+use Rattle.item_knowledge.proofs.SpanLemmas.{run_more, nothing_pending, stays_joint}
 
 -- What is listed, with one more
 
@@ -88,10 +86,8 @@ not_raised false h = absurd (true≢false h)
 pub on_first : (left right : List (List ℕ)) (xs ys : List (ℕ × ℕ)) (star : List ℕ) (out : List (List ℕ)) (index joined : List (ℕ × ℕ)) (at : Pairing) → 0 < length (fragments_of left) → IsRow star → at.left ≡ 0 → at.right ≡ 0 → out ≡ [] ∷ star ∷ [] → index ≡ [] → joined ≡ []
     → IsOnTheWay left right xs ys star out index joined at 1 1
 on_first left right xs ys star out index joined at some s l r o n j = record {
-  place = 0;
-  along = along_first xs ys at l r;
   gs = [];
-  rest = refl;
+  rest = λ i. singles (pair_vector (fragments_of left) (fragments_of right) (0, 0)) (pair_vector (fragments_of left) (fragments_of right)) (paired (drop (l i) xs) (drop (r i) ys));
   spread = record {
     rows_are = nothing_pending left out 2 ∙ o ∙ ap (λ row. [] ∷ row ∷ []) (sym s);
     index_is = n;
@@ -106,17 +102,10 @@ module _ (left right : List (List ℕ)) (xs ys : List (ℕ × ℕ)) (star : List
   abbrev pub f : ℕ × ℕ → List Entry
   f = pair_vector (fragments_of left) (fragments_of right)
 
-  -- the picture that comes next
-
-  pub row_inside : (then : Pairing) (r : ℕ × (ℕ × ℕ)) → IsSide (fragments_of left) xs → IsSide (fragments_of right) ys → left_of at xs ys ≡ r ∷ left_of then xs ys → (r.1.0 < length (fragments_of left)) × (r.1.1 < length (fragments_of right))
-  row_inside then r left_side right_side step = inside (fragments_of left) (fragments_of right) xs ys at then h.place r left_side right_side h.along step
-
   pub on_star : (then : Pairing) (r : ℕ × (ℕ × ℕ)) → left_of at xs ys ≡ r ∷ left_of then xs ys → same_entries (f (0, 0)) (f r.1) ≡ true → IsOnTheWay left right xs ys star out index joined then from to
   on_star then r step same = record {
-    place = h.place + 1;
-    along = along_next xs ys at then h.place r h.along step;
     gs = h.gs;
-    rest = ap (λ hs. h.gs ++ hs) (sym (ap (singles (f (0, 0)) f) (next_row xs ys at then h.place r h.along step) ∙ singles_same (f (0, 0)) f r (drop (h.place + 1) (paired xs ys)) same)) ∙ h.rest;
+    rest = ap (λ hs. h.gs ++ hs) (sym (ap (singles (f (0, 0)) f) step ∙ singles_same (f (0, 0)) f r (left_of then xs ys) same)) ∙ h.rest;
     spread = h.spread;
     order = h.order;
     there = h.there;
@@ -126,11 +115,9 @@ module _ (left right : List (List ℕ)) (xs ys : List (ℕ × ℕ)) (star : List
   on_more : (then : Pairing) (r : ℕ × (ℕ × ℕ)) (new : List (List ℕ)) (more after : List (ℕ × ℕ)) (start end : ℕ) → left_of at xs ys ≡ r ∷ left_of then xs ys → same_entries (f (0, 0)) (f r.1) ≡ false
       → IsSpread left (pairs star) (h.gs ++ of_one r.0 (f r.1) ∷ []) (new ++ run left (2 * start) (2 * end)) more after → start ≤ end → end ≤ length (fragments_of left) → IsOnTheWay left right xs ys star new more after then start end
   on_more then r new more after start end step other spread order there = record {
-    place = h.place + 1;
-    along = along_next xs ys at then h.place r h.along step;
     gs = h.gs ++ of_one r.0 (f r.1) ∷ [];
-    rest = append_assoc h.gs (of_one r.0 (f r.1) ∷ []) (singles (f (0, 0)) f (drop (h.place + 1) (paired xs ys)))
-        ∙ ap (λ hs. h.gs ++ hs) (sym (ap (singles (f (0, 0)) f) (next_row xs ys at then h.place r h.along step) ∙ singles_other (f (0, 0)) f r (drop (h.place + 1) (paired xs ys)) other)) ∙ h.rest;
+    rest = append_assoc h.gs (of_one r.0 (f r.1) ∷ []) (singles (f (0, 0)) f (left_of then xs ys))
+        ∙ ap (λ hs. h.gs ++ hs) (sym (ap (singles (f (0, 0)) f) step ∙ singles_other (f (0, 0)) f r (left_of then xs ys) other)) ∙ h.rest;
     spread = spread;
     order = order;
     there = there;
@@ -149,21 +136,20 @@ module _ (left right : List (List ℕ)) (xs ys : List (ℕ × ℕ)) (star : List
       (listed_below joined after (r.0, length index + 1) listed (suc (length h.gs)) long h.spread.there))
       (omega arith) h.there
 
-  pub on_stays : (then : Pairing) (r : ℕ × (ℕ × ℕ)) (new : List (List ℕ)) (more : List (ℕ × ℕ)) (start : ℕ) (raised : Bool) → IsPair left right xs ys star → pairs star ≡ entries_at (fragments_of left) 0 → left_of at xs ys ≡ r ∷ left_of then xs ys → Stays left right raised r.0 r.1.0 r.1.1
+  pub on_stays : (then : Pairing) (r : ℕ × (ℕ × ℕ)) (new : List (List ℕ)) (more : List (ℕ × ℕ)) (start : ℕ) (raised : Bool) → IsPair left right xs ys star → pairs star ≡ entries_at (fragments_of left) 0 → left_of at xs ys ≡ r ∷ left_of then xs ys → Stays left right raised r.0 r.1.0 r.1.1 → r.1.0 < length (fragments_of left) → r.1.1 < length (fragments_of right)
       → start ≤ r.1.0 → new ++ run left (2 * start) (2 * r.1.0) ≡ out ++ run left (2 * from) (2 * to) → more ≡ index ++ (r.0, length index + 1) ∷ []
       → IsOnTheWay left right xs ys star new more joined then start (r.1.0 + 1)
-  on_stays then r new more start raised pair same step s begins written pushed =
+  on_stays then r new more start raised pair same step s there_a there_b begins written pushed =
       let fs = fragments_of left in
       let gs = fragments_of right in
       let a = r.1.0 in
-      let there = row_inside then r pair.left_side pair.right_side step in
       let row = get_or left (2 * a + 1) [] in
-      let is : row ≡ flat (entries_at fs a) = entries_read left a pair.left_rows there.0 in
+      let is : row ≡ flat (entries_at fs a) = entries_read left a pair.left_rows there_a in
       let is_row : IsRow row = subst IsRow (sym is) (flat_row (entries_at fs a)) in
       let entries : pairs row ≡ entries_at fs a = ap pairs is ∙ pairs_flat (entries_at fs a) in
-      let joint : f r.1 ≡ entries_at fs a = stays_joint fs gs xs ys (pairs star) a r.1.1 pair.left_side pair.right_side pair.joint same there.0 there.1 s.nothing in
-      let other : same_entries (f (0, 0)) (f r.1) ≡ false = (λ j. same_entries ((sym pair.joint ∙ same) j) (joint j)) ∙ differs a there.0 pair s.beside in
-      let inside : 2 * a + 1 < length left = omega (arith, rows_read left pair.left_rows, there.0) in
+      let joint : f r.1 ≡ entries_at fs a = stays_joint fs gs xs ys (pairs star) a r.1.1 pair.left_side pair.right_side pair.joint same there_a there_b s.nothing in
+      let other : same_entries (f (0, 0)) (f r.1) ≡ false = (λ j. same_entries ((sym pair.joint ∙ same) j) (joint j)) ∙ differs a there_a pair s.beside in
+      let inside : 2 * a + 1 < length left = omega (arith, rows_read left pair.left_rows, there_a) in
       let placed : new ++ run left (2 * start) (2 * (a + 1)) ≡ ((out ++ run left (2 * from) (2 * to)) ++ (r.0 ∷ []) ∷ []) ++ row ∷ [] =
       ap (λ rs. new ++ rs) (run_more left start a begins inside)
       ∙ sym (append_assoc new (run left (2 * start) (2 * a) ++ get_or left (2 * a) [] ∷ []) (row ∷ []))
@@ -172,19 +158,19 @@ module _ (left right : List (List ℕ)) (xs ys : List (ℕ × ℕ)) (star : List
       on_more then r new more joined start (a + 1) step other
       (spread_more left (pairs star) h.gs (out ++ run left (2 * from) (2 * to)) (new ++ run left (2 * start) (2 * (a + 1))) index more joined joined r.0 row (f r.1) h.spread placed is_row (entries ∙ sym joint) pushed
       (λ n listed. listed)
-      (inr (record { number = a; beside = s.beside; there = there.0; alone = s.alone; is = sym joint }))
+      (inr (record { number = a; there = there_a; alone = s.alone; is = sym joint }))
       (λ m l. let below = h.spread.there m l in omega (arith, below)))
-      (omega (arith, begins)) (omega (arith, there.0))
+      (omega (arith, begins)) (omega (arith, there_a))
     where
       differs : (a : ℕ) → a < length (fragments_of left) → IsPair left right xs ys star → 0 < a → same_entries (entries_at (fragments_of left) 0) (entries_at (fragments_of left) a) ≡ false
       differs a l pair z = elim (cases_Bool (same_entries (entries_at (fragments_of left) 0) (entries_at (fragments_of left) a))) [
-        | inl e ↦ absurd (star_differs (fragments_of left) a pair.normal z l ((entries_decide (entries_at (fragments_of left) 0) (entries_at (fragments_of left) a)).0 e))
+        | inl e ↦ absurd (vectors_differ (fragments_of left) 0 a pair.normal z l ((entries_decide (entries_at (fragments_of left) 0) (entries_at (fragments_of left) a)).0 e))
         | inr e ↦ e
       ]
 
   pub on_all : (new : List (List ℕ)) → left_of at xs ys ≡ [] → new ≡ out ++ run left (2 * from) (2 * to) → IsSpread left (pairs star) (spread_of (fragments_of left) (fragments_of right) xs ys) new index joined
   on_all new none written =
       let whole : h.gs ≡ spread_of (fragments_of left) (fragments_of right) xs ys =
-      sym (append-nil h.gs) ∙ ap (λ rs. h.gs ++ singles (f (0, 0)) f rs) (sym (drop_all h.place (paired xs ys) (along_all xs ys at h.place h.along none))) ∙ h.rest in
+      sym (append-nil h.gs) ∙ ap (λ rs. h.gs ++ singles (f (0, 0)) f rs) (sym none) ∙ h.rest in
       subst (λ rs. IsSpread left (pairs star) (spread_of (fragments_of left) (fragments_of right) xs ys) rs index joined) (sym written)
       (subst (λ gs. IsSpread left (pairs star) gs (out ++ run left (2 * from) (2 * to)) index joined) whole h.spread)

@@ -1,27 +1,20 @@
 -- One side's vectors are at most the other's exactly where its pairs are among the other's.
-use Rattle.std.proofs.Common.{◌≡◌, ℕ, ◌<◌, ◌≤◌, Bool, true, false, leb, ltb, ◌&&◌, ◌||◌, ◌↔◌, List, [], ◌∷◌, refl, sym, subst, ap, ◌∙◌, inl, inr, arith}
+use Rattle.std.proofs.Common.{◌≡◌, ℕ, ◌<◌, Bool, true, ltb, ◌||◌, ◌↔◌, List, [], ◌∷◌, refl, sym, subst, ap, ◌∙◌, arith}
 use Rattle.std.specs.List.{list_all}
-use Rattle.std.proofs.lemmas.Bool.{and_parts, and_from, ltb-true, le-leb, eq-eqb, ne_eqb, cases_eq}
+use Rattle.std.proofs.Math.Bool.{or-true}
+use Rattle.std.proofs.lemmas.Bool.{and_parts, and_from, ltb-true, eq-eqb, ne_eqb}
 use Rattle.photo_version.specs.Version.{Version}
 use Rattle.item_knowledge.specs.Tables.{keys_pass, in_order, at}
-use Rattle.item_knowledge.specs.Entries.{Entry, denotes, is_vector, bound, leq}
+use Rattle.item_knowledge.specs.Entries.{Entry, denotes, is_vector, leq}
 use Rattle.item_knowledge.specs.Fragments.{knows, entries_at}
 use Rattle.item_knowledge.specs.Rows.{fragments_of}
 use Rattle.item_knowledge.specs.Gathering.{vector_of}
 use Rattle.item_knowledge.specs.Kept.{IsKept, is_side_within}
-use Rattle.item_knowledge.proofs.EntryLemmas.{denotes-bound, version_at, most_of}
+use Rattle.item_knowledge.proofs.EntryLemmas.{bound_by}
 use Rattle.item_knowledge.proofs.FragmentLemmas.{star_of_every}
 use Rattle.item_knowledge.proofs.JoinLemmas.{leq_from}
 use Rattle.item_knowledge.proofs.UnionLemmas.{side_vector}
 use Rattle.item_knowledge.proofs.KeptLemmas.{kept_side, kept_knows, star_vector, within_knows}
-
-bound_by : (xs ys : List Entry) → is_vector xs ≡ true → is_vector ys ≡ true → ((v : Version) → denotes xs v ≡ true → denotes ys v ≡ true) → (a : ℕ) → bound xs a ≤ bound ys a
-bound_by xs ys hx hy h a = elim (cases_eq (bound xs a) 0) [
-  | inl none ↦ omega arith
-  | inr some ↦
-      let here : (leb 1 (bound xs a) && leb (bound xs a) (bound xs a)) ≡ true = and_from _ _ (le-leb 1 (bound xs a) (omega arith)) (le-leb (bound xs a) (bound xs a) (omega arith)) in
-      most_of ys a (bound xs a) hy (h (version_at a (bound xs a)) (denotes-bound xs (version_at a (bound xs a)) hx ∙ here))
-]
 
 -- a vector is at most another that denotes all that it denotes
 pub leq_by : (xs ys : List Entry) → is_vector xs ≡ true → is_vector ys ≡ true → ((v : Version) → denotes xs v ≡ true → denotes ys v ≡ true) → leq xs ys ≡ true
@@ -50,10 +43,6 @@ within_from rows others xs ys h g all =
 
 pub within_pairs : (rows others : List (List ℕ)) (xs ys : List (ℕ × ℕ)) → IsKept rows xs → IsKept others ys → (is_side_within (fragments_of others) ys (fragments_of rows) xs ≡ true) ↔ ((p : ℕ) (v : Version) → 0 < p → knows (fragments_of others) p v ≡ true → knows (fragments_of rows) p v ≡ true)
 within_pairs rows others xs ys h g = (
-  λ w p v z k. within_knows rows others xs ys h g w p v ∙ (ap (λ b. knows (fragments_of rows) p v || b) k ∙ or_true (knows (fragments_of rows) p v)),
+  λ w p v z k. within_knows rows others xs ys h g w p v ∙ (ap (λ b. knows (fragments_of rows) p v || b) k ∙ or-true (knows (fragments_of rows) p v)),
   λ all. within_from rows others xs ys h g all,
 )
-  where
-    or_true : (b : Bool) → (b || true) ≡ true
-    or_true true = refl
-    or_true false = refl

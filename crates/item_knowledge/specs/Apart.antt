@@ -35,7 +35,6 @@ pub record Stays (rows others : List (List ℕ)) (is_raised : Bool) (picture a b
 -- a fragment is one of the left's
 pub record FromLeft (left : List (List ℕ)) (g : Fragment) : Type 0 where
   pub number : ℕ
-  pub beside : 0 < number
   pub there : number < length (fragments_of left)
   pub alone : get_or left (2 * number) [] ≡ g.pictures
   pub is : entries_at (fragments_of left) number ≡ g.entries

@@ -1,5 +1,5 @@
 -- Machinery of the proofs: two indexes that are gone along together.
-use Rattle.std.specs.Prelude.{◌≡◌, ℕ, ◌+◌, ◌-◌, List, length, drop}
+use Rattle.std.specs.Prelude.{ℕ, ◌+◌, ◌-◌, List, length, drop}
 use Rattle.item_knowledge.specs.declared.pairing.Pairing.{Pairing}
 use Rattle.item_knowledge.specs.Gathering.{paired}
 
@@ -10,7 +10,3 @@ left_of at xs ys = paired (drop at.left xs) (drop at.right ys)
 -- how many entries of both are still to come
 abbrev pub to_come : Pairing → List (ℕ × ℕ) → List (ℕ × ℕ) → ℕ
 to_come at xs ys = (length xs - at.left) + (length ys - at.right)
-
--- so many pictures came
-pub record IsAlong (xs ys : List (ℕ × ℕ)) (at : Pairing) (place : ℕ) : Type 0 where
-  pub rest : left_of at xs ys ≡ drop place (paired xs ys)

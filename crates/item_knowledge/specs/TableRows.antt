@@ -1,9 +1,12 @@
 -- Machinery of the proofs: what is told of pictures, with their vectors as those of versions have them.
-use Rattle.std.specs.Prelude.{ℕ, ◌+◌, List, [], ◌∷◌, map}
+use Rattle.std.specs.Prelude.{◌≡◌, ℕ, ◌+◌, true, nat_lt, List, [], ◌∷◌, map}
+use Rattle.std.specs.List.{list_all}
 use Rattle.photo_version.specs.Author.{author_word, author_of_word}
 use Rattle.photo_version.specs.Vector.{Bound}
-use Rattle.item_knowledge.specs.Entries.{Entry}
+use Rattle.item_knowledge.specs.Entries.{Entry, is_vector}
 use Rattle.item_knowledge.specs.Fragments.{Fragment, nothing}
+use Rattle.item_knowledge.specs.Rows.{rows_of}
+use Rattle.item_knowledge.specs.Tables.{keys_pass}
 
 -- authors as words
 abbrev pub entries_of : List Bound → List Entry
@@ -23,3 +26,10 @@ told table = nothing ∷ map (λ t. told_one t) table
 abbrev pub numbered : ℕ → List (ℕ × List Bound) → List (ℕ × ℕ)
 numbered n [] = []
 numbered n (t ∷ table) = (t.0, n) ∷ numbered (n + 1) table
+
+-- rows and an index are those of what is told
+pub record IsTold (table : List (ℕ × List Bound)) (rows : List (List ℕ)) (numbers : List (ℕ × ℕ)) : Type 0 where
+  pub rows_are : rows ≡ rows_of (told table)
+  pub index_is : numbers ≡ numbered 1 table
+  pub positive : keys_pass (λ p. nat_lt 0 p) table ≡ true
+  pub vectors : list_all (λ t. is_vector (entries_of t.1)) table ≡ true

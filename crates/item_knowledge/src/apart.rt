@@ -4,8 +4,8 @@ ghost use Rattle.std.specs.Prelude.{◌≡◌, ◌+◌, ◌*◌, ◌<◌, ◌≤
 ghost use Rattle.fragment_arena.specs.Arena.{run};
 ghost use Rattle.item_knowledge.specs.Apart.{AddsNothing, Stays, AreThere, AreApart, AreUnseen, AreTold, IsSpread, spread_of};
 ghost use Rattle.item_knowledge.specs.Fragments.{is_normal, entries_at};
-ghost use Rattle.item_knowledge.specs.Gathering.{pair_vector, groups_of, index_of, star_first};
-ghost use Rattle.item_knowledge.specs.Rows.{pairs, IsRow, AreRows, fragments_of, rows_of};
+ghost use Rattle.item_knowledge.specs.Gathering.{pair_vector, IsWritten};
+ghost use Rattle.item_knowledge.specs.Rows.{pairs, IsRow, AreRows, fragments_of};
 ghost use Rattle.item_knowledge.specs.Tables.{in_order};
 ghost use Rattle.item_knowledge.specs.Seen.{IsSeen};
 ghost use Rattle.item_knowledge.specs.Sides.{fragments};
@@ -152,7 +152,7 @@ fn spread(
     let mut from = 1;
     let mut to = 1;
     let mut pairing = Pairing::new();
-    while let Some((picture, (a, b))) = pairing.next(left.index, right.index) {
+    while let Some((picture, (a, b))) = pairing.next(left, right) {
         if stays(left, right, is_raised, picture, a, b) {
             from = run_to(left.rows, from, to, a, out)?;
             to = a + 1;
@@ -201,7 +201,7 @@ fn are_apart(alloc: Global, rows: &Rows, listed: &[IndexEntry]) -> Result<bool, 
 {
     // Most of them differ, so half of the buckets at least are to be free.
     let buckets = listed.len().saturating_mul(2);
-    let mut places = Places::new(alloc, listed.len(), buckets)?;
+    let mut places = Places::new(alloc, listed.len(), buckets, rows.seed())?;
     for i in 0..listed.len() {
         let (_picture, kept) = listed[i];
         let number = kept as usize;
@@ -255,11 +255,8 @@ pub(crate) fn apart(
     requires seen { IsSeen seen.now.words.items left.rows.now }
     requires star_row { IsRow star.now }
     requires star { pairs star.now ≡ pair_vector (fragments left) (fragments right) (0, 0) }
-    ensures rows { IfOk result (λ found. IfSome found (λ _. out.new
-        ≡ rows_of (star_first (pairs star.now)
-        (groups_of (fragments left.entry) (fragments right.entry) left.entry.index.now right.entry.index.now)))) }
-    ensures index { IfOk result (λ found. IfSome found (λ index. index.items
-        ≡ index_of (fragments left.entry) (fragments right.entry) left.entry.index.now right.entry.index.now)) }
+    ensures { IfOk result (λ found. IfSome found (λ index. IsWritten (fragments left.entry) left.entry.index.now
+        (fragments right.entry) right.entry.index.now out.new index.items)) }
 {
     // Where some fragment has several pictures two of them mostly have the same vector then too.
     if left.rows.rows() / 2 <= left.index.len() || right.rows.rows() / 2 <= right.index.len() {

@@ -1,5 +1,5 @@
 // Pictures that come to the group of their vector.
-ghost use Rattle.std.specs.Prelude.{◌≡◌, ◌<◌, true, length, OnOk, IfOk, Some};
+ghost use Rattle.std.specs.Prelude.{◌≡◌, ◌<◌, length, OnOk, IfOk, Some};
 ghost use Rattle.item_knowledge.specs.Entries.{same_entries};
 ghost use Rattle.item_knowledge.specs.Gathering as spec;
 ghost use Rattle.item_knowledge.specs.Places.{Placed, vectors_at};

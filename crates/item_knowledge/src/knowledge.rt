@@ -58,18 +58,19 @@ impl Model for Knowledge {
 
 impl Knowledge {
     ghost use Rattle.std.specs.Prelude.{◌≡◌, ◌↔◌, ℕ, ◌<◌, ◌≤◌, ◌+◌, ◌||◌, ◌&&◌, ◌==◌, ◌-◌, max, if◌then◌else◌, []};
-    ghost use Rattle.std.specs.Prelude.{◌∷◌, true, false, nat_le, IsTrue, length, get_or, None, IfOk, IfSome, OnOk, OnErr};
+    ghost use Rattle.std.specs.Prelude.{true, false, nat_le, IsTrue, length, get_or, None, IfOk, IfSome, OnOk, OnErr};
     ghost use Rattle.std.specs.Option.{is_some};
     ghost use Rattle.photo_version.specs.Author.{Author, same_author, author_word};
     ghost use Rattle.photo_version.specs.Version as versions;
     ghost use Rattle.photo_version.specs.Vector as vectors;
     ghost use Rattle.item_knowledge.specs.Tables.{in_order, at};
-    ghost use Rattle.item_knowledge.specs.Entries.{denotes, bound};
+    ghost use Rattle.item_knowledge.specs.Entries.{bound};
     ghost use Rattle.item_knowledge.specs.Raising.{are_level};
     ghost use Rattle.item_knowledge.specs.Fragments as spec;
     ghost use Rattle.item_knowledge.specs.Rows.{AreRows, fragments_of};
-    ghost use Rattle.item_knowledge.specs.Gathering.{IsSide, vector_of};
+    ghost use Rattle.item_knowledge.specs.Gathering.{IsSide};
     ghost use Rattle.item_knowledge.specs.Kept.{nothing_known, star_bound};
+    ghost use Rattle.item_knowledge.specs.Spare.{IsJoined, HasNext};
     ghost use Rattle.item_knowledge.specs.Staged.{settled, IsStagedUnion};
 
     /// Nothing is known. Its only error is want of memory.
@@ -169,10 +170,7 @@ impl Knowledge {
         requires side { IsSide (fragments_of rows.now) index.now }
         ensures known { self.new.known ≡ self.old.known }
         ensures there { OnOk result (is_some self.new.staged ≡ true) }
-        ensures star { OnOk result (IfSome self.new.staged (λ s. (a : Author) → star_bound s a
-            ≡ max (star_bound self.old.known a) (bound (spec.entries_at (fragments_of rows.now) 0) (author_word a)))) }
-        ensures pairs { OnOk result (IfSome self.new.staged (λ s. (p : ℕ) (v : versions.Version) → 0 < p → spec.knows s p v
-            ≡ (spec.knows self.old.known p v || denotes (vector_of (fragments_of rows.now) index.now p) v))) }
+        ensures joined { OnOk result (IfSome self.new.staged (λ s. IsJoined self.old.known (fragments_of rows.now) index.now s)) }
         ensures refused { OnErr result (self.new.staged ≡ None) }
     {
         self.staged = Staged::Nothing;
@@ -252,10 +250,7 @@ impl Knowledge {
     fn take_union(&mut self, rows: &ToppedRows, index: &[IndexEntry]) -> Result<(), AllocError>
         requires rows { AreRows rows.now }
         requires side { IsSide (fragments_of rows.now) index.now }
-        ensures star { OnOk result ((a : Author) → star_bound self.new.known a
-            ≡ max (star_bound self.old.known a) (bound (spec.entries_at (fragments_of rows.now) 0) (author_word a))) }
-        ensures learned { OnOk result ((p : ℕ) (v : versions.Version) → 0 < p → spec.knows self.new.known p v
-            ≡ (spec.knows self.old.known p v || denotes (vector_of (fragments_of rows.now) index.now p) v)) }
+        ensures joined { OnOk result (IsJoined self.old.known (fragments_of rows.now) index.now self.new.known) }
         ensures staged { self.new.staged ≡ None }
         ensures refused { OnErr result (self.new.known ≡ self.old.known) }
     {
@@ -269,10 +264,7 @@ impl Knowledge {
         requires first { 0 < star_bound self.old.known version.author }
         requires next { version.number ≡ star_bound self.old.known version.author + 1 }
         requires level { are_level self.old.known (author_word version.author) (version.number - 1) ≡ true }
-        ensures star { (a : Author) → star_bound self.new.known a
-            ≡ (if same_author version.author a then version.number else star_bound self.old.known a) }
-        ensures learned { (p : ℕ) (v : versions.Version) → 0 < p → spec.knows self.new.known p v
-            ≡ (spec.knows self.old.known p v || versions.same_version version v) }
+        ensures next { HasNext version self.old.known self.new.known }
         ensures staged { self.new.staged ≡ None }
     {
         self.staged = Staged::Nothing;

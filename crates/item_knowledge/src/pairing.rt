@@ -2,6 +2,7 @@
 ghost use Rattle.item_knowledge.specs.Pairing as spec;
 
 use crate::index::IndexEntry;
+use crate::side::Side;
 
 /// About how many pictures two indexes name together, for room that is taken ahead: mostly the shorter has few of its own.
 pub(crate) fn pictures_together(xs: &[IndexEntry], ys: &[IndexEntry]) -> usize {
@@ -18,8 +19,8 @@ pub(crate) struct Pairing {
 }
 
 impl Pairing {
-    ghost use Rattle.std.specs.Prelude.{◌≡◌, ◌<◌, ◌∷◌, [], true, None, IfSome};
-    ghost use Rattle.item_knowledge.specs.Tables.{in_order};
+    ghost use Rattle.std.specs.Prelude.{◌≡◌, ◌<◌, ◌∷◌, [], None, IfSome, length};
+    ghost use Rattle.item_knowledge.specs.Sides.{fragments};
 
     /// At the first pictures of both.
     pub(crate) fn new() -> Pairing
@@ -29,18 +30,20 @@ impl Pairing {
         Pairing { left: 0, right: 0 }
     }
 
-    /// The next picture that either index names, and beside it the numbers of its fragments on both sides, 0 for the star.
-    pub(crate) fn next(
-        &mut self,
-        xs: &[IndexEntry],
-        ys: &[IndexEntry],
-    ) -> Option<(u32, (usize, usize))>
-        requires left { in_order xs.now ≡ true }
-        requires right { in_order ys.now ≡ true }
-        ensures next { IfSome result (λ r. spec.left_of self.old xs.now ys.now ≡ r ∷ spec.left_of self.new xs.now ys.now) }
-        ensures further { IfSome result (λ _. spec.to_come self.new xs.now ys.now < spec.to_come self.old xs.now ys.now) }
-        ensures none { result ≡ None → spec.left_of self.old xs.now ys.now ≡ [] }
+    /// The next picture that the index of either side names, and beside it the numbers of its fragments on both, 0 for the star.
+    #[tactic(auto, using(crate::proofs::UnionLemmas::side_at))]
+    #[inline(always)]
+    pub(crate) fn next(&mut self, left: Side<'_>, right: Side<'_>) -> Option<(u32, (usize, usize))>
+        ensures next { IfSome result (λ r. spec.left_of self.old left.entry.index.now right.entry.index.now
+            ≡ r ∷ spec.left_of self.new left.entry.index.now right.entry.index.now) }
+        ensures left { IfSome result (λ r. r.1.0 < length (fragments left.entry)) }
+        ensures right { IfSome result (λ r. r.1.1 < length (fragments right.entry)) }
+        ensures further { IfSome result (λ _. spec.to_come self.new left.entry.index.now right.entry.index.now
+            < spec.to_come self.old left.entry.index.now right.entry.index.now) }
+        ensures none { result ≡ None → spec.left_of self.old left.entry.index.now right.entry.index.now ≡ [] }
     {
+        let xs = left.index;
+        let ys = right.index;
         if self.left >= xs.len() {
             if self.right >= ys.len() {
                 return None;

@@ -1,24 +1,23 @@
 // Fragments, found by their vectors.
-ghost use Rattle.std.specs.Prelude.{◌≡◌, ℕ, ◌<◌, ◌≤◌, ◌∷◌, ◌++◌, List, [], length, get_or, true, Some, None, IfOk, OnOk};
+ghost use Rattle.std.specs.Prelude.{◌≡◌, ℕ, ◌<◌, ◌∷◌, ◌++◌, List, [], length, get_or, Some, None, IfOk, OnOk};
 ghost use Rattle.item_knowledge.specs.Places as spec;
 
 use crate::index::to_u32;
 use crate::rows::Rows;
 use std::alloc::{AllocError, Global};
 
-// Spreads what it is multiplied by over all bits.
+// What a hash is multiplied by after each word: it spreads the word over the bits above.
 const MULTIPLIER: u64 = 11_400_714_819_323_198_485;
 
-// A hash divided by this is its high half, to which all words came.
-const HALF: u64 = 4_294_967_296;
-
-// So many buckets at most: their number times half a hash is a word still.
-const MOST_BUCKETS: usize = 4_294_967_295;
+// So far a hash is turned before each word, which brings its high bits below the others.
+const TURN: u32 = 23;
 
 /// Fragments of some rows, whose vectors differ, each found by the words of its vector: those of the same bucket are chained, the
 /// latest first. The rows stand elsewhere.
 #[derive(Debug, Drop)]
 pub(crate) struct Places {
+    /// What each hash begins with. The buckets alone depend on it.
+    pub(crate) seed: u64,
     /// Of each bucket one more than the place of its latest vector, 0 for none.
     pub(crate) heads: Vec<u32>,
     /// Beside each vector one more than the place of the one before it in its bucket, 0 for none.
@@ -27,50 +26,45 @@ pub(crate) struct Places {
     pub(crate) numbers: Vec<u32>,
 }
 
-// The sum of two words.
-fn plus(a: u64, b: u64) -> u64
-    ensures { result ≡ spec.plus a b }
+// A hash and one word more.
+fn mixed(hash: u64, word: u64) -> u64
+    ensures { result ≡ spec.mixed hash word }
 {
-    a.wrapping_add(b)
+    (hash.rotate_left(TURN) ^ word).wrapping_mul(MULTIPLIER)
 }
 
-// A sum, so that the high half depends on all of it.
-fn spread(sum: u64) -> u64
-    ensures { result ≡ spec.spread sum }
+// The hash of a row, where it begins with a seed.
+fn hash_of(seed: u64, row: &[u64]) -> u64
+    ensures { result ≡ spec.hashed (spec.mixed seed 0) row.now }
 {
-    sum.wrapping_mul(MULTIPLIER)
-}
-
-// The hash of a row, by the sum of its words and one in which each counts once more for each that follows, so that no step
-// waits for a product.
-fn hash_of(row: &[u64]) -> u64
-    ensures { result ≡ spec.hashed 0 0 row.now }
-{
-    let mut words = 0;
-    let mut sums = 0;
+    let mut hash = mixed(seed, 0);
     for word in row {
-        words = plus(words, *word);
-        sums = plus(sums, words);
+        hash = mixed(hash, *word);
     }
-    spread(plus(spread(sums), words))
+    hash
 }
 
 // The share of so many buckets that is as large as a hash is of all hashes.
 fn share(hash: u64, count: usize) -> usize
-    requires { count ≤ spec.most_buckets }
     ensures { result ≡ spec.share count hash }
 {
-    (hash / HALF * count as u64 / HALF) as usize
+    ((hash as u128 * count as u128) >> 64) as usize
 }
 
 impl Places {
     /// No fragments yet; about so many will come, into so many buckets.
-    pub(crate) fn new(alloc: Global, count: usize, buckets: usize) -> Result<Places, AllocError>
+    pub(crate) fn new(
+        alloc: Global,
+        count: usize,
+        buckets: usize,
+        seed: u64,
+    ) -> Result<Places, AllocError>
         ensures none { IfOk result (λ places. places.numbers.items ≡ []) }
         ensures found { IfOk result (λ places. (rows : List (List ℕ)) → spec.IsFound places rows) }
     {
         Ok(Places {
-            heads: vec![in alloc; 0; buckets.max(1).min(MOST_BUCKETS)]?,
+            seed,
+            heads: vec![in alloc; 0; buckets.max(1)]?,
             before: Vec::with_capacity(alloc, count)?,
             numbers: Vec::with_capacity(alloc, count)?,
         })
@@ -95,17 +89,16 @@ impl Places {
 
     // The bucket of a vector.
     fn bucket(&self, row: &[u64]) -> usize
-        requires { length self.now.heads.items ≤ spec.most_buckets }
-        ensures { result ≡ spec.bucket (length self.now.heads.items) row.now }
+        ensures { result ≡ spec.bucket self.now.seed (length self.now.heads.items) row.now }
     {
-        share(hash_of(row), self.heads.len())
+        share(hash_of(self.seed, row), self.heads.len())
     }
 
     /// The bucket of a vector, in which it is looked for, and its place, where it has one.
     #[inline(always)]
     pub(crate) fn find(&self, rows: &Rows, row: &[u64]) -> (usize, Option<usize>)
         requires { spec.IsFound self.now rows.now }
-        ensures bucket { result.0 ≡ spec.bucket (length self.now.heads.items) row.now }
+        ensures bucket { result.0 ≡ spec.bucket self.now.seed (length self.now.heads.items) row.now }
         ensures inside { result.0 < length self.now.heads.items }
         ensures below { (k : ℕ) → result.1 ≡ Some k → k < length self.now.numbers.items }
         ensures found { (k : ℕ) → result.1 ≡ Some k → get_or (spec.vectors_at rows.now self.now.numbers.items) k [] ≡ row.now }

@@ -6,6 +6,9 @@ use std::marker::Model;
 // So many words at most are reserved ahead (2 GiB); rows beyond them find room as they come.
 const MOST_AHEAD: usize = 0x1000_0000;
 
+// How far a seed is moved on: an odd number, so that it comes round only after 2^64 times.
+const SEED_STEP: u64 = 11_400_714_819_323_198_485;
+
 /// Rows of words, each at its place from 0, in an arena.
 #[derive(Debug, Drop)]
 pub(crate) struct Rows {
@@ -13,6 +16,9 @@ pub(crate) struct Rows {
     arena: FragmentArena,
     // How many words all rows have together, which only a guess at what has to be reserved goes by.
     words: usize,
+    // What hashes of these rows begin with. Each union clears the rows that it writes, and that moves the seed on, so that rows
+    // whose hashes are alike in one union mostly differ in another.
+    seed: u64,
 }
 
 impl Model for Rows {
@@ -38,20 +44,8 @@ impl Rows {
             alloc,
             arena: FragmentArena::new(alloc),
             words: 0,
+            seed: 0,
         }
-    }
-
-    /// No rows, and room for so many, which have so many words together.
-    pub(crate) fn with_room(alloc: Global, count: usize, words: usize) -> Result<Rows, AllocError>
-        ensures { IfOk result (λ rows. rows ≡ []) }
-    {
-        let mut arena = FragmentArena::new(alloc);
-        arena.reserve(words.min(MOST_AHEAD), count)?;
-        Ok(Rows {
-            alloc,
-            arena,
-            words: 0,
-        })
     }
 
     /// Makes room for so many rows more, which have so many words together.
@@ -65,6 +59,11 @@ impl Rows {
     /// How many words all rows have together, or some more.
     pub(crate) fn words(&self) -> usize {
         self.words
+    }
+
+    /// What hashes of these rows begin with. Nothing but time depends on it.
+    pub(crate) fn seed(&self) -> u64 {
+        self.seed
     }
 
     /// One row more, at the end; gives its place. A refusal changes nothing.
@@ -170,6 +169,7 @@ impl Rows {
     {
         self.arena.clear();
         self.words = 0;
+        self.seed = self.seed.wrapping_add(SEED_STEP);
     }
 
     /// An equal list of rows.
@@ -181,6 +181,7 @@ impl Rows {
             alloc: self.alloc,
             arena,
             words: self.words,
+            seed: self.seed,
         })
     }
 }

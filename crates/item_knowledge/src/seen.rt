@@ -1,8 +1,6 @@
 // Marks of the bounds that stand in rows.
 ghost use Rattle.std.specs.Prelude.{◌≡◌, ◌<◌, ◌≤◌, true, length, IfOk, OnOk};
-ghost use Rattle.std.specs.List.{list_all};
-ghost use Rattle.item_knowledge.specs.Entries.{is_vector};
-ghost use Rattle.item_knowledge.specs.Rows.{pairs, IsRow, AreRows, fragments_of};
+ghost use Rattle.item_knowledge.specs.Rows.{pairs, IsRow, AreRows};
 ghost use Rattle.item_knowledge.specs.Seen as spec;
 ghost use Rattle.item_knowledge.specs.Tables.{in_order};
 

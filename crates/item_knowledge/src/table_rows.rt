@@ -1,9 +1,7 @@
 // The rows of a star, of one picture, and of a table of pictures.
-ghost use Rattle.std.specs.Prelude.{◌≡◌, [], ◌∷◌, ◌++◌, true, nat_lt, IfOk, OnOk};
-ghost use Rattle.std.specs.List.{list_all};
-ghost use Rattle.item_knowledge.specs.Tables.{keys_pass};
+ghost use Rattle.std.specs.Prelude.{◌≡◌, [], ◌∷◌, ◌++◌, true, IfOk, OnOk};
 ghost use Rattle.item_knowledge.specs.Entries.{is_vector};
-ghost use Rattle.item_knowledge.specs.Rows.{pairs, flat, IsRow, rows_of};
+ghost use Rattle.item_knowledge.specs.Rows.{pairs, flat, IsRow};
 ghost use Rattle.item_knowledge.specs.TableRows as spec;
 
 use crate::Fragment;
@@ -60,7 +58,8 @@ fn place_told(
 fn star_first(alloc: Global, star: &[u64], count: usize) -> Result<Rows, AllocError>
     ensures { IfOk result (λ rows. rows ≡ [] ∷ star.now ∷ []) }
 {
-    let mut rows = Rows::with_room(alloc, count, count.saturating_mul(2))?;
+    let mut rows = Rows::new(alloc);
+    rows.reserve(count, count.saturating_mul(2))?;
     rows.place(&[])?;
     rows.place(star)?;
     Ok(rows)
@@ -93,10 +92,7 @@ pub(crate) fn told(
     alloc: Global,
     table: &[(PicNo, Vector)],
 ) -> Result<(ToppedRows, Vec<IndexEntry>), AllocError>
-    ensures rows { IfOk result (λ all. all.0 ≡ rows_of (spec.told table.now)) }
-    ensures index { IfOk result (λ all. all.1.items ≡ spec.numbered 1 table.now) }
-    ensures positive { IfOk result (λ all. keys_pass (λ p. nat_lt 0 p) table.now ≡ true) }
-    ensures vectors { IfOk result (λ all. list_all (λ t. is_vector (spec.entries_of t.1)) table.now ≡ true) }
+    ensures { IfOk result (λ all. spec.IsTold table.now all.0 all.1.items) }
 {
     let count = table.len().saturating_mul(2).saturating_add(2);
     let mut rows = star_first(alloc, &[], count)?;

@@ -1,7 +1,7 @@
 // The union of two knowledges, as rows and an index.
 ghost use Rattle.std.specs.Prelude.{◌≡◌, ℕ, List, ◌+◌, ◌*◌, ◌<◌, [], ◌∷◌, true, length, get_or, IfOk, OnOk};
 ghost use Rattle.item_knowledge.specs.Fragments.{entries_at, is_normal};
-ghost use Rattle.item_knowledge.specs.Gathering.{IsSide, IsUnion, pair_vector, groups_of, index_of, star_first};
+ghost use Rattle.item_knowledge.specs.Gathering.{IsSide, IsUnion, IsWritten, pair_vector, groups_of, index_of, star_first};
 ghost use Rattle.item_knowledge.specs.Kept.{is_side_within};
 ghost use Rattle.item_knowledge.specs.Places.{IsFound, Placed, vectors_at};
 ghost use Rattle.item_knowledge.specs.Rows.{pairs, IsRow, AreRows, fragments_of, rows_of, grouped};
@@ -126,7 +126,7 @@ fn groups(
     let mut index = Vec::with_capacity(alloc, pictures_together(left.index, right.index))?;
     let mut room = Vec::new(alloc);
     let mut pairing = Pairing::new();
-    while let Some((picture, (a, b))) = pairing.next(left.index, right.index) {
+    while let Some((picture, (a, b))) = pairing.next(left, right) {
         let row = pair(left, right, a, b, &mut room)?;
         if same_row(star, row) {
             continue;
@@ -136,6 +136,27 @@ fn groups(
         index.push((picture, number))?;
     }
     Ok((groups, index))
+}
+
+// Writes the union of two sides, whose star is given, in groups, and gives its index.
+fn gathered(
+    alloc: Global,
+    left: Side<'_>,
+    right: Side<'_>,
+    star: &[u64],
+    out: &mut Rows,
+) -> Result<Vec<IndexEntry>, AllocError>
+    requires star_row { IsRow star.now }
+    requires star { pairs star.now ≡ pair_vector (fragments left) (fragments right) (0, 0) }
+    ensures { IfOk result (λ index. IsWritten (fragments left.entry) left.entry.index.now (fragments right.entry) right.entry.index.now
+        out.new index.items) }
+{
+    let buckets = pictures_together(left.index, right.index);
+    let mut vectors = Rows::new(alloc);
+    let mut places = Places::new(alloc, 0, buckets, out.seed())?;
+    let (listed, index) = groups(alloc, left, right, star, &mut vectors, &mut places)?;
+    write(star, &listed, index.len(), &vectors, &places, out)?;
+    Ok(index)
 }
 
 /// Writes the normal form of what either side denotes, and gives its index. The left's bounds have marks.
@@ -157,12 +178,7 @@ pub(crate) fn union(
     if let Some(index) = apart(alloc, left, right, star, seen, out)? {
         return Ok(index);
     }
-    let buckets = pictures_together(left.index, right.index);
-    let mut vectors = Rows::new(alloc);
-    let mut places = Places::new(alloc, 0, buckets)?;
-    let (listed, index) = groups(alloc, left, right, star, &mut vectors, &mut places)?;
-    write(star, &listed, index.len(), &vectors, &places, out)?;
-    Ok(index)
+    gathered(alloc, left, right, star, out)
 }
 
 /// Whether each vector of the one side is at most the other's at the same picture. Takes no memory.

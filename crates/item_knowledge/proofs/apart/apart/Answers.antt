@@ -1,7 +1,7 @@
 use Rattle.std.proofs.Common.{sym, subst}
 use Rattle.item_knowledge.specs.Apart.{AreThere, AreTold}
 use Rattle.item_knowledge.specs.Rows.{pairs}
-use Rattle.item_knowledge.proofs.ApartLemmas.{spread_rows, there_index, there_joined, told_rows, told_index}
+use Rattle.item_knowledge.proofs.ApartLemmas.{spread_rows, there_index, there_joined, told_written}
 use Rattle.item_knowledge.proofs.apart.apart.Goals as goal
 
 pub are_told_apart-requires-clause-rows : goal.are_told_apart-requires-clause-rows
@@ -13,16 +13,9 @@ are_told_apart-requires-clause-index c = subst (λ ns. AreThere c.spread.new.out
 pub are_told_apart-requires-clause-joined : goal.are_told_apart-requires-clause-joined
 are_told_apart-requires-clause-joined c = subst (λ ns. AreThere c.spread.new.out ns) (sym c.deref-2.ensures.value) (there_joined c.args.left.rows.now c.args.right.rows.now c.args.left.index.now c.args.right.index.now c.args.seen.now.words.items (pairs c.args.star.now) c.spread.new.out c.spread.new.lists.index.items c.spread.new.lists.joined.items c.requires.normal c.args.left.side c.args.right.side c.requires.seen c.in_ok-spread.ensures)
 
-pub returns-then-branch-clause-rows : goal.returns-then-branch-clause-rows
-returns-then-branch-clause-rows c =
+pub returns-then-branch : goal.returns-then-branch
+returns-then-branch c =
     let told : AreTold c.args.left.rows.now c.args.seen.now.words.items c.spread.new.out c.deref.result.now c.deref-2.result.now = c.in_ok-are_told_apart.ensures c.if-branch.true in
     let told_of : AreTold c.args.left.rows.now c.args.seen.now.words.items c.spread.new.out c.spread.new.lists.index.items c.spread.new.lists.joined.items =
     subst (λ ns. AreTold c.args.left.rows.now c.args.seen.now.words.items c.spread.new.out ns c.spread.new.lists.joined.items) c.deref.ensures.value (subst (λ ms. AreTold c.args.left.rows.now c.args.seen.now.words.items c.spread.new.out c.deref.result.now ms) c.deref-2.ensures.value told) in
-    told_rows c.args.left.rows.now c.args.right.rows.now c.args.left.index.now c.args.right.index.now c.args.seen.now.words.items (pairs c.args.star.now) c.spread.new.out c.spread.new.lists.index.items c.spread.new.lists.joined.items c.requires.normal c.args.left.side c.args.right.side c.requires.seen c.in_ok-spread.ensures told_of
-
-pub returns-then-branch-clause-index : goal.returns-then-branch-clause-index
-returns-then-branch-clause-index c =
-    let told : AreTold c.args.left.rows.now c.args.seen.now.words.items c.spread.new.out c.deref.result.now c.deref-2.result.now = c.in_ok-are_told_apart.ensures c.if-branch.true in
-    let told_of : AreTold c.args.left.rows.now c.args.seen.now.words.items c.spread.new.out c.spread.new.lists.index.items c.spread.new.lists.joined.items =
-    subst (λ ns. AreTold c.args.left.rows.now c.args.seen.now.words.items c.spread.new.out ns c.spread.new.lists.joined.items) c.deref.ensures.value (subst (λ ms. AreTold c.args.left.rows.now c.args.seen.now.words.items c.spread.new.out c.deref.result.now ms) c.deref-2.ensures.value told) in
-    told_index c.args.left.rows.now c.args.right.rows.now c.args.left.index.now c.args.right.index.now c.args.seen.now.words.items (pairs c.args.star.now) c.spread.new.out c.spread.new.lists.index.items c.spread.new.lists.joined.items c.requires.normal c.args.left.side c.args.right.side c.requires.seen c.in_ok-spread.ensures told_of
+    told_written c.args.left.rows.now c.args.right.rows.now c.args.left.index.now c.args.right.index.now c.args.seen.now.words.items (pairs c.args.star.now) c.spread.new.out c.spread.new.lists.index.items c.spread.new.lists.joined.items c.requires.normal c.args.left.side c.args.right.side c.requires.seen c.in_ok-spread.ensures c.requires.star told_of

@@ -14,7 +14,7 @@ loop-i-preserved c =
     let can : CanPlace c.loop-i.places c.args.rows.now c.find-bucket.result.0 (get_or c.args.listed.now c.loop-i.i (0, 0)).1 = record {
       found = c.loop-i.invariant.found;
       there = omega (arith, rows, there);
-      in_bucket = c.find-bucket.ensures.bucket ∙ ap (bucket (length c.loop-i.places.heads.items)) c.entries.ensures.words;
+      in_bucket = c.find-bucket.ensures.bucket ∙ ap (bucket c.loop-i.places.seed (length c.loop-i.places.heads.items)) c.entries.ensures.words;
       new = subst (λ ws. is_new (vectors_at c.args.rows.now c.loop-i.places.numbers.items) ws) c.entries.ensures.words (c.find-bucket.ensures.absent none);
     } in
     record {

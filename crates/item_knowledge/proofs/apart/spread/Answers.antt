@@ -7,33 +7,16 @@ use Rattle.item_knowledge.specs.Sides.{fragments}
 use Rattle.item_knowledge.proofs.FragmentLemmas.{entries_decide}
 use Rattle.item_knowledge.proofs.OnTheWay.{IsPair}
 use Rattle.item_knowledge.proofs.RowLemmas.{rows_read}
-use Rattle.item_knowledge.proofs.WayLemmas.{not_raised, on_first, row_inside, on_star, on_stays, on_joined, on_all}
+use Rattle.item_knowledge.proofs.WayLemmas.{not_raised, on_first, on_star, on_stays, on_joined, on_all}
 use Rattle.item_knowledge.proofs.apart.spread.Goals as goal
 
 pub loop-picture-init : goal.loop-picture-init
 loop-picture-init c = on_first c.args.left.rows.now c.args.right.rows.now c.args.left.index.now c.args.right.index.now c.args.star.now c.args.out.now c.args.lists.now.index.items c.args.lists.now.joined.items c.new-pairing.result c.args.left.side.star c.requires.star_row c.new-pairing.ensures.left c.new-pairing.ensures.right c.requires.out c.requires.index c.requires.joined
 
-pub stays-requires-clause-a : goal.stays-requires-clause-a
-stays-requires-clause-a c =
-    let r : ℕ × (ℕ × ℕ) = (c.in-Some.picture, (c.in-Some.a, c.in-Some.b)) in
-    (row_inside c.args.left.rows.now c.args.right.rows.now c.args.left.index.now c.args.right.index.now c.args.star.now c.loop-picture.out c.loop-picture.lists.index.items c.loop-picture.lists.joined.items c.loop-picture.pairing c.loop-picture.from c.loop-picture.to c.loop-picture.invariant c.next.new.self r c.args.left.side c.args.right.side c.in-Some.ensures.next).0
-
-pub stays-requires-clause-b : goal.stays-requires-clause-b
-stays-requires-clause-b c =
-    let r : ℕ × (ℕ × ℕ) = (c.in-Some.picture, (c.in-Some.a, c.in-Some.b)) in
-    (row_inside c.args.left.rows.now c.args.right.rows.now c.args.left.index.now c.args.right.index.now c.args.star.now c.loop-picture.out c.loop-picture.lists.index.items c.loop-picture.lists.joined.items c.loop-picture.pairing c.loop-picture.from c.loop-picture.to c.loop-picture.invariant c.next.new.self r c.args.left.side c.args.right.side c.in-Some.ensures.next).1
-
-pub run_to-requires-clause-there : goal.run_to-requires-clause-there
-run_to-requires-clause-there c =
-    let r : ℕ × (ℕ × ℕ) = (c.in-Some.picture, (c.in-Some.a, c.in-Some.b)) in
-    (row_inside c.args.left.rows.now c.args.right.rows.now c.args.left.index.now c.args.right.index.now c.args.star.now c.loop-picture.out c.loop-picture.lists.index.items c.loop-picture.lists.joined.items c.loop-picture.pairing c.loop-picture.from c.loop-picture.to c.loop-picture.invariant c.next.new.self r c.args.left.side c.args.right.side c.in-Some.ensures.next).0
-
 pub overflow_add-to : goal.overflow_add-to
 overflow_add-to c =
-    let r : ℕ × (ℕ × ℕ) = (c.in-Some.picture, (c.in-Some.a, c.in-Some.b)) in
-    let there = row_inside c.args.left.rows.now c.args.right.rows.now c.args.left.index.now c.args.right.index.now c.args.star.now c.loop-picture.out c.loop-picture.lists.index.items c.loop-picture.lists.joined.items c.loop-picture.pairing c.loop-picture.from c.loop-picture.to c.loop-picture.invariant c.next.new.self r c.args.left.side c.args.right.side c.in-Some.ensures.next in
     let rows = rows_read c.args.left.rows.now c.args.left.whole in
-    omega (arith, rows, there.0, c.rows-count.ensures, c.rows-count.type_inv)
+    omega (arith, rows, c.in-Some.ensures.left, c.rows-count.ensures, c.rows-count.type_inv)
 
 pub loop-picture-preserved-then-stays : goal.loop-picture-preserved-then-stays
 loop-picture-preserved-then-stays c =
@@ -42,18 +25,8 @@ loop-picture-preserved-then-stays c =
     let stays : Stays c.args.left.rows.now c.args.right.rows.now (not c.same_row-is_raised.result) r.0 r.1.0 r.1.1 = c.stays.ensures c.if-stays.true in
     let same : same_entries (pairs c.args.star.now) (pairs c.entries.result.now) ≡ true = sym c.same_row-is_raised.ensures ∙ not_raised c.same_row-is_raised.result stays.level in
     on_stays c.args.left.rows.now c.args.right.rows.now c.args.left.index.now c.args.right.index.now c.args.star.now c.loop-picture.out c.loop-picture.lists.index.items c.loop-picture.lists.joined.items c.loop-picture.pairing c.loop-picture.from c.loop-picture.to c.loop-picture.invariant c.next.new.self r c.run_to.new.out c.push.new.self.items c.in_ok-from.from (not c.same_row-is_raised.result) pair
-    ((entries_decide (pairs c.args.star.now) (pairs c.entries.result.now)).0 same ∙ c.entries.ensures.entries) c.in-Some.ensures.next stays c.in_ok-from.ensures.order c.in_ok-from.ensures.run
+    ((entries_decide (pairs c.args.star.now) (pairs c.entries.result.now)).0 same ∙ c.entries.ensures.entries) c.in-Some.ensures.next stays c.in-Some.ensures.left c.in-Some.ensures.right c.in_ok-from.ensures.order c.in_ok-from.ensures.run
     (c.in_ok-push.ensures.items ∙ ap (λ n. c.loop-picture.lists.index.items ++ (r.0, n) ∷ []) (c.in_ok-number.ensures.value ∙ search rules))
-
-pub pair-requires-clause-a : goal.pair-requires-clause-a
-pair-requires-clause-a c =
-    let r : ℕ × (ℕ × ℕ) = (c.in-Some.picture, (c.in-Some.a, c.in-Some.b)) in
-    (row_inside c.args.left.rows.now c.args.right.rows.now c.args.left.index.now c.args.right.index.now c.args.star.now c.loop-picture.out c.loop-picture.lists.index.items c.loop-picture.lists.joined.items c.loop-picture.pairing c.loop-picture.from c.loop-picture.to c.loop-picture.invariant c.next.new.self r c.args.left.side c.args.right.side c.in-Some.ensures.next).0
-
-pub pair-requires-clause-b : goal.pair-requires-clause-b
-pair-requires-clause-b c =
-    let r : ℕ × (ℕ × ℕ) = (c.in-Some.picture, (c.in-Some.a, c.in-Some.b)) in
-    (row_inside c.args.left.rows.now c.args.right.rows.now c.args.left.index.now c.args.right.index.now c.args.star.now c.loop-picture.out c.loop-picture.lists.index.items c.loop-picture.lists.joined.items c.loop-picture.pairing c.loop-picture.from c.loop-picture.to c.loop-picture.invariant c.next.new.self r c.args.left.side c.args.right.side c.in-Some.ensures.next).1
 
 pub loop-picture-preserved-then-same_row : goal.loop-picture-preserved-then-same_row
 loop-picture-preserved-then-same_row c =

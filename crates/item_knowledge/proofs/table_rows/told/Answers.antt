@@ -25,22 +25,15 @@ loop-i-preserved c =
           (rows ∙ ap (λ n. c.loop-i.rows ++ (n ∷ []) ∷ flat (entries_of t.1) ∷ []) number) (index ∙ ap (λ n. c.loop-i.index.items ++ (n, c.loop-i.i + 1) ∷ []) number) (subst (λ n. 0 < n) number above) c.in_ok-place_told.ensures.vector;
     }
 
-pub returns-clause-rows : goal.returns-clause-rows
-returns-clause-rows c = c.in_ok-topped.ensures ∙ (all_told c.args.table.now c.loop-i.rows c.loop-i.index.items c.loop-i.i (omega arith) c.loop-i.invariant.told).rows
-
-pub returns-clause-index : goal.returns-clause-index
-returns-clause-index c = (all_told c.args.table.now c.loop-i.rows c.loop-i.index.items c.loop-i.i (omega arith) c.loop-i.invariant.told).index
-
-pub returns-clause-positive : goal.returns-clause-positive
-returns-clause-positive c = (all_told c.args.table.now c.loop-i.rows c.loop-i.index.items c.loop-i.i (omega arith) c.loop-i.invariant.told).positive
-
-pub returns-clause-vectors : goal.returns-clause-vectors
-returns-clause-vectors c = (all_told c.args.table.now c.loop-i.rows c.loop-i.index.items c.loop-i.i (omega arith) c.loop-i.invariant.told).vectors
+pub returns : goal.returns
+returns c =
+    let all = all_told c.args.table.now c.loop-i.rows c.loop-i.index.items c.loop-i.i (omega arith) c.loop-i.invariant.told in
+    record { rows_are = c.in_ok-topped.ensures ∙ all.rows_are; index_is = all.index_is; positive = all.positive; vectors = all.vectors }
 
 pub of_rows-requires-clause-rows : goal.of_rows-requires-clause-rows
-of_rows-requires-clause-rows c = told_are_rows c.args.table.now c.loop-i.rows (all_told c.args.table.now c.loop-i.rows c.loop-i.index.items c.loop-i.i (omega arith) c.loop-i.invariant.told).rows
+of_rows-requires-clause-rows c = told_are_rows c.args.table.now c.loop-i.rows (all_told c.args.table.now c.loop-i.rows c.loop-i.index.items c.loop-i.i (omega arith) c.loop-i.invariant.told).rows_are
 
 pub of_rows-requires-clause-vectors : goal.of_rows-requires-clause-vectors
 of_rows-requires-clause-vectors c =
     let all = all_told c.args.table.now c.loop-i.rows c.loop-i.index.items c.loop-i.i (omega arith) c.loop-i.invariant.told in
-    told_are_vectors c.args.table.now c.loop-i.rows all.rows all.vectors
+    told_are_vectors c.args.table.now c.loop-i.rows all.rows_are all.vectors

@@ -1,12 +1,11 @@
-use Rattle.std.proofs.Common.{rules, ◌≡◌, ◌<◌, ◌||◌, max, ◌+◌, [], ◌∷◌, refl, sym, subst, ap, ◌∙◌, arith}
+use Rattle.std.proofs.Common.{rules, ◌≡◌, ◌<◌, true, [], ◌∷◌, refl, sym, subst, ap, ◌∙◌, arith}
 use Rattle.photo_version.specs.Author.{author_word}
-use Rattle.photo_version.specs.Version.{same_version}
-use Rattle.item_knowledge.specs.Entries.{denotes, bound}
-use Rattle.item_knowledge.specs.Fragments.{knows, entries_at}
+use Rattle.item_knowledge.specs.Fragments.{is_normal}
 use Rattle.item_knowledge.specs.Rows.{fragments_of, AreRows}
-use Rattle.item_knowledge.specs.Gathering.{vector_of, IsSide}
-use Rattle.item_knowledge.specs.Kept.{star_bound}
-use Rattle.item_knowledge.proofs.KeptLemmas.{kept_side, next_known, star_next}
+use Rattle.item_knowledge.specs.Gathering.{IsSide}
+use Rattle.item_knowledge.specs.Raising.{star_of_one}
+use Rattle.item_knowledge.proofs.KeptLemmas.{kept_side}
+use Rattle.item_knowledge.proofs.NextLemmas.{next_joined}
 use Rattle.item_knowledge.proofs.TableRowLemmas.{got_entry}
 use Rattle.item_knowledge.proofs.UnionLemmas.{entries_order, one_star}
 use Rattle.item_knowledge.proofs.StagedLemmas.{known_of}
@@ -28,28 +27,15 @@ take_union-requires-clause-side c =
     subst (λ rs. IsSide (fragments_of rs) []) (sym rows) (one_star c.word-author.result c.from-n.result (got_entry c.word-author.result c.from-n.result c.word-author.ensures.of_author above below))
 
 pub returns-clause-learned : goal.returns-clause-learned
-returns-clause-learned c p v z =
-    let w = c.args.version in
-    let known : fragments_of c.self-2.inside.live ≡ c.args.self.now.known = known_of c.self-2.view_is ∙ known_of c.unstage.ensures in
-    let e : w.number ≡ star_bound (fragments_of c.self-2.inside.live) w.author + 1 = subst (λ fs. w.number ≡ star_bound fs w.author + 1) (sym known) c.requires in
-    let l : knows c.take_union.new.self.known p v ≡ (knows c.unstage.new.self.known p v || denotes (vector_of (fragments_of c.in_ok-rows.rows) [] p) v) = c.in_ok-take_union.ensures.learned p v z in
-    let word : c.word-author.result ≡ author_word w.author = search rules in
-    let n : c.from-n.result ≡ w.number = search rules in
-    let rows : c.in_ok-rows.rows ≡ [] ∷ (c.word-author.result ∷ c.from-n.result ∷ []) ∷ [] = c.in_ok-rows.ensures in
-    l
-    ∙ (ap (λ rs. knows c.unstage.new.self.known p v || denotes (vector_of (fragments_of rs) [] p) v) rows
-    ∙ ((λ i. knows (sym (known_of c.self-2.view_is) i) p v || denotes ((word i, n i) ∷ []) v)
-    ∙ (next_known (fragments_of c.self-2.inside.live) w p v c.self-2.invariant.kept.normal z e
-    ∙ ap (λ fs. knows fs p v || same_version w v) known)))
+returns-clause-learned c =
+    let word : c.word-author.result ≡ author_word c.args.version.author = search rules in
+    let n : c.from-n.result ≡ c.args.version.number = search rules in
+    (next_joined c.args.version c.unstage.new.self.known c.args.self.now.known (fragments_of c.in_ok-rows.rows) c.take_union.new.self.known [] (known_of c.unstage.ensures)
+    (subst (λ fs. is_normal fs ≡ true) (known_of c.self-2.view_is ∙ known_of c.unstage.ensures) c.self-2.invariant.kept.normal) c.requires (ap fragments_of c.in_ok-rows.ensures ∙ (λ i. star_of_one (word i, n i))) refl c.in_ok-take_union.ensures.joined).learned
 
 pub returns-clause-star : goal.returns-clause-star
-returns-clause-star c a =
-    let w = c.args.version in
-    let word : c.word-author.result ≡ author_word w.author = search rules in
-    let n : c.from-n.result ≡ w.number = search rules in
-    let rows : c.in_ok-rows.rows ≡ [] ∷ (c.word-author.result ∷ c.from-n.result ∷ []) ∷ [] = c.in_ok-rows.ensures in
-    let l : star_bound c.take_union.new.self.known a ≡ max (star_bound c.unstage.new.self.known a) (bound (entries_at (fragments_of c.in_ok-rows.rows) 0) (author_word a)) = c.in_ok-take_union.ensures.star a in
-    l
-    ∙ (ap (λ rs. max (star_bound c.unstage.new.self.known a) (bound (entries_at (fragments_of rs) 0) (author_word a))) rows
-    ∙ ((λ i. max (star_bound (known_of c.unstage.ensures i) a) (bound ((word i, n i) ∷ []) (author_word a)))
-    ∙ star_next c.args.self.now.known w.author a w.number c.requires))
+returns-clause-star c =
+    let word : c.word-author.result ≡ author_word c.args.version.author = search rules in
+    let n : c.from-n.result ≡ c.args.version.number = search rules in
+    (next_joined c.args.version c.unstage.new.self.known c.args.self.now.known (fragments_of c.in_ok-rows.rows) c.take_union.new.self.known [] (known_of c.unstage.ensures)
+    (subst (λ fs. is_normal fs ≡ true) (known_of c.self-2.view_is ∙ known_of c.unstage.ensures) c.self-2.invariant.kept.normal) c.requires (ap fragments_of c.in_ok-rows.ensures ∙ (λ i. star_of_one (word i, n i))) refl c.in_ok-take_union.ensures.joined).star

@@ -35,7 +35,7 @@ returns-in-Some-clause-staged c =
     subst (λ fs. IsStagedUnion c.stage_union.new.self.staged fs c.args.other.now.known) (known_of c.self.view_is)
     (subst (λ fs. IsStagedUnion c.stage_union.new.self.staged (fragments_of c.self.inside.live) fs) (ap fragments_of rows ∙ known_of c.other.view_is)
     (side_union c.stage_union.new.self.staged (fragments_of c.self.inside.live) c.in-Some.rows.now c.other.inside.index.items c.deref-in-Some.result.now
-    (subst (λ rs. IsKept rs c.other.inside.index.items) (sym rows) c.other.invariant.kept) c.deref-in-Some.ensures.value said.there said.star said.pairs))
+    (subst (λ rs. IsKept rs c.other.inside.index.items) (sym rows) c.other.invariant.kept) c.deref-in-Some.ensures.value said.there said.joined))
 
 pub stage_union-requires-2-clause-side : goal.stage_union-requires-2-clause-side
 stage_union-requires-2-clause-side c =
@@ -49,4 +49,4 @@ returns-clause-staged c =
     subst (λ fs. IsStagedUnion c.stage_union-2.new.self.staged fs c.args.other.now.known) (known_of c.self.view_is)
     (subst (λ fs. IsStagedUnion c.stage_union-2.new.self.staged (fragments_of c.self.inside.live) fs) (ap fragments_of rows ∙ known_of c.other.view_is)
     (side_union c.stage_union-2.new.self.staged (fragments_of c.self.inside.live) c.in_ok-rows.rows c.other.inside.index.items c.deref-3.result.now
-    (subst (λ rs. IsKept rs c.other.inside.index.items) (sym rows) c.other.invariant.kept) c.deref-3.ensures.value said.there said.star said.pairs))
+    (subst (λ rs. IsKept rs c.other.inside.index.items) (sym rows) c.other.invariant.kept) c.deref-3.ensures.value said.there said.joined))

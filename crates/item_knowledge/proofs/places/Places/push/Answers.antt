@@ -1,4 +1,4 @@
-use Rattle.std.proofs.Common.{rules, ◌≡◌, ◌++◌, ◌∷◌, [], length, get_or, set, ap, ◌∙◌}
+use Rattle.std.proofs.Common.{rules, refl, ◌≡◌, ◌++◌, ◌∷◌, [], length, get_or, set, ap, ◌∙◌}
 use Rattle.std.proofs.lemmas.Grind.{get_or_default_zero}
 use Rattle.item_knowledge.proofs.PlaceLemmas.{placed_more}
 use Rattle.item_knowledge.proofs.places.Places.push.Goals as goal
@@ -9,4 +9,4 @@ returns-clause-found c rows can =
     let before : c.push.new.self.items ≡ c.args.self.now.before.items ++ get_or c.args.self.now.heads.items c.args.bucket 0 ∷ [] = c.in_ok-push.ensures.items ∙ ap (λ n. c.args.self.now.before.items ++ n ∷ []) head in
     let number : c.in_ok-next.next ≡ length c.push.new.self.items = search rules in
     let numbers : c.push-2.new.self.items ≡ c.args.self.now.numbers.items ++ c.args.number ∷ [] = search rules in
-    placed_more c.args.self.now _ rows c.args.bucket c.args.number can c.requires before numbers (ap (set c.args.self.now.heads.items c.args.bucket) number)
+    placed_more c.args.self.now _ rows c.args.bucket c.args.number can refl before numbers (ap (set c.args.self.now.heads.items c.args.bucket) number)
