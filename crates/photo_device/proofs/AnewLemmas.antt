@@ -1,5 +1,5 @@
 -- What is true of a device that gets any new filter.
-use Rattle.std.proofs.Common.{◌≡◌, ℕ, ◌<◌, Bool, true, false, not, ◌||◌, List, [], ◌++◌, refl, sym, ap, ◌∙◌, subst, arith}
+use Rattle.std.proofs.Common.{◌≡◌, ℕ, ◌<◌, Bool, true, false, not, List, [], ◌++◌, refl, sym, ap, ◌∙◌, subst, arith}
 use Rattle.std.specs.Prelude.{filter, None}
 use Rattle.std.specs.List.{AllByRecursion}
 use Rattle.std.proofs.lemmas.List.{map-append}
@@ -10,11 +10,14 @@ use Rattle.photo_filter_rules.specs.Matching.{matches}
 use Rattle.photo_version.specs.Author.{Author, epoch_of_author, next_author}
 use Rattle.photo_version.specs.Version.{Version}
 use Rattle.item_knowledge.specs.Fragments.{Fragment, knows}
-use Rattle.item_knowledge.specs.Kept.{nothing_known, star_bound}
+use Rattle.item_knowledge.specs.Kept.{nothing_known}
 use Rattle.photo_device.specs.declared.held.Held.{Held}
 use Rattle.photo_device.specs.Entry.{Entry, put_entries}
 use Rattle.photo_device.specs.Held.{entry_of, entries_of, count_of, put_helds}
 use Rattle.photo_device.specs.Device.{Kept, ModelDevice, Shows, holds}
+use Rattle.photo_device.specs.declared.anew.Anew.{Anew}
+use Rattle.photo_device.specs.Anew.{IsAnew}
+use Rattle.photo_device.specs.Staging.{AreParts}
 use Rattle.photo_device.specs.Own.{HasEarlier, IsKnownBy, IsDevice}
 use Rattle.photo_device.specs.Taking.{AreNewTo, with_side}
 use Rattle.photo_device.specs.Telling.{tell, tells}
@@ -53,23 +56,27 @@ new_to_none stored waiting none is new = subst (λ (l : List Held). AreNewTo l (
 })
 
 -- a device in its next epoch, with any filter, what it held sorted anew, and what is known then
-abbrev pub anew : Tree → List Fragment → Kept → Kept
-anew tree fs d = record {
+abbrev pub begun : Tree → List Held → List Held → List Fragment → Kept → Kept
+begun tree store out fs d = record {
   author = next_author d.author;
   tree = tree;
   counter = 0;
-  store = with_side true tree (d.store ++ d.out) [];
-  out = with_side false tree (d.store ++ d.out) [];
+  store = store;
+  out = out;
   knowledge = fs;
   staged = None;
 }
 
--- what is known then is what the held versions tell, of single pictures alone
-pub record KnowsWhatIsTold (fs : List Fragment) (d : Kept) : Type 0 where
-  pub pairs : (p : ℕ) (v : Version) → 0 < p → knows fs p v ≡ (tells d.store p v || tells d.out p v)
-  pub star : (a : Author) → star_bound fs a ≡ 0
+module _ (tree : Tree) (anew : Anew) (d : Kept) (told : IsAnew tree d.store d.out anew) (is : IsDevice d) where
+  abbrev fs : List Fragment
+  fs = anew.told.known
 
-module _ (tree : Tree) (fs : List Fragment) (d : Kept) (told : KnowsWhatIsTold fs d) (is : IsDevice d) where
+  abbrev sorted : Kept
+  sorted = begun tree (with_side true tree (d.store ++ d.out) []) (with_side false tree (d.store ++ d.out) []) fs d
+
+  whole : begun tree anew.store anew.out fs d ≡ sorted
+  whole = λ i. begun tree (told.store i) (told.out i) fs d
+
   all_pairs : (p : ℕ) (v : Version) → 0 < p → knows fs p v ≡ tells (d.store ++ d.out) p v
   all_pairs p v above = told.pairs p v above ∙ sym (list_any-append (one p v) d.store d.out)
 
@@ -96,11 +103,14 @@ module _ (tree : Tree) (fs : List Fragment) (d : Kept) (told : KnowsWhatIsTold f
   }
 
   -- it is what an empty device of the next epoch is that takes what was held and learns what this tells
-  pub anew_device : epoch_of_author d.author < 4294967295 → IsDevice (anew tree fs d)
-  anew_device h =
+  sorted_device : epoch_of_author d.author < 4294967295 → IsDevice sorted
+  sorted_device h =
       joins_device (d.store ++ d.out) fs (empty (next_author d.author) tree) new_to_nothing (all_append HasEarlier d.store d.out is.store is.out)
       (begins_next_epoch d.author d.knowledge fs h is.knows.later (told.star (next_author d.author)) within)
       (λ p w above known. absurd (false≢true known)) known_after (empty_device (next_author d.author) tree)
+
+  pub anew_device : epoch_of_author d.author < 4294967295 → AreParts None anew.told.staged (begun tree anew.store anew.out fs d)
+  anew_device h = record { device = subst IsDevice (sym whole) (sorted_device h); fits = told.staged }
 
   held_shown : (m : ModelDevice) → Shows d m → entries_of (d.store ++ d.out) ≡ holds m
   held_shown m shows = map-append entry_of d.store d.out ∙ (λ i. shows.store i ++ shows.out i)
@@ -110,12 +120,12 @@ module _ (tree : Tree) (fs : List Fragment) (d : Kept) (told : KnowsWhatIsTold f
       entries-put_helds (filter (λ (h : Held). q (entry_of h)) (d.store ++ d.out)) []
       ∙ ap (λ es. put_entries es []) (entries-filter q (d.store ++ d.out) ∙ ap (filter q) (held_shown m shows))
 
-  pub anew_shows : (m : ModelDevice) → Shows d m → Shows (anew tree fs d) (refiltered tree m)
-  anew_shows m shows = record {
+  pub anew_shows : (m : ModelDevice) → Shows d m → Shows (begun tree anew.store anew.out fs d) (refiltered tree m)
+  anew_shows m shows = subst (λ (e : Kept). Shows e (refiltered tree m)) (sym whole) (record {
     author = ap next_author shows.author;
     tree = refl;
     counter = refl;
     store = side_shown m (λ e. matches tree e.content) shows;
     out = side_shown m (λ e. not (matches tree e.content)) shows;
     known = λ p above v. all_pairs p v above ∙ tell_entries (d.store ++ d.out) p v ∙ ap (λ es. tell es p v) (held_shown m shows);
-  }
+  })

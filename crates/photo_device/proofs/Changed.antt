@@ -16,6 +16,7 @@ use Rattle.photo_device.specs.Taking.{is_on_side, AreNewTo, with_side}
 use Rattle.photo_device.proofs.AllLemmas.{all_filter, all_put}
 use Rattle.photo_device.proofs.Counts.{count_of-cons, count_of-append, count_of-filter, same_version_is}
 use Rattle.photo_device.proofs.Entries.{entries-put}
+use Rattle.photo_device.proofs.Handed.{none_there}
 use Rattle.photo_device.proofs.OwnLemmas.{known_later}
 use Rattle.photo_device.proofs.Taken.{count_of-put_helds, none_counted, without_none}
 
@@ -75,14 +76,6 @@ all_new takes d new distinct is = record {
         elim (cases_Bool (same_version h.version v)) [
           | inl same ↦ subst (λ w. count_of w helds ≡ 0) (same_version_is h.version v same) (none_counted h.version helds all.0)
           | inr apart ↦ new_counted v helds more all.1 (sym (ap (λ b. b || list_any (λ x. same_version x.version v) more) apart) ∙ some)
-        ]
-
-    none_there : (v : Version) (takes : List Held) → list_any (λ h. same_version h.version v) takes ≡ false → count_of v takes ≡ 0
-    none_there v [] none = refl
-    none_there v (h ∷ more) none =
-        elim (cases_Bool (same_version h.version v)) [
-          | inl same ↦ absurd (false≢true (sym none ∙ ap (λ b. b || list_any (λ x. same_version x.version v) more) same))
-          | inr apart ↦ rw apart (none_there v more (sym (ap (λ b. b || list_any (λ x. same_version x.version v) more) apart) ∙ none))
         ]
 
 -- a device that takes versions, and knows more

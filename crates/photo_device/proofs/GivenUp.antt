@@ -1,5 +1,5 @@
 -- Versions that are given up one after another in two sets.
-use Rattle.std.proofs.Common.{◌≡◌, ℕ, ◌+◌, ◌≤◌, ◌==◌, true, not, cond, ◌||◌, List, [], ◌∷◌, refl, sym, ap, ◌∙◌, inl, inr, arith}
+use Rattle.std.proofs.Common.{◌≡◌, ℕ, ◌+◌, ◌≤◌, ◌==◌, true, not, cond, ◌||◌, List, [], ◌∷◌, sym, ap, ◌∙◌, inl, inr, arith}
 use Rattle.std.proofs.lemmas.Bool.{and_parts, cases_Bool, false≢true}
 use Rattle.photo_version.specs.Version.{Version}
 use Rattle.photo_device.specs.declared.held.Held.{Held}
@@ -31,9 +31,6 @@ pub record AreGoing (versions : List Version) (store out : List Held) (left : Li
   pub once : (v : Version) → count_of v store_now + count_of v out_now ≤ 1
   pub stored : helds_without left store_now ≡ helds_without versions store
   pub waiting : helds_without left out_now ≡ helds_without versions out
-
-pub none_gone : (versions : List Version) (store out : List Held) → ((v : Version) → count_of v store + count_of v out ≤ 1) → AreGoing versions store out versions store out
-none_gone versions store out once = record { once = once; stored = refl; waiting = refl }
 
 pub one_gone : (versions : List Version) (store out : List Held) (v : Version) (left : List Version) (store_now out_now : List Held) → AreGoing versions store out (v ∷ left) store_now out_now
     → AreGoing versions store out left (helds_without (v ∷ []) store_now) (helds_without (v ∷ []) out_now)

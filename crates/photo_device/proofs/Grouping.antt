@@ -1,262 +1,155 @@
--- Conflicts: from versions with their pictures alone, and picture by picture.
-use Rattle.std.proofs.Common.{◌≡◌, ℕ, zero, suc, ◌+◌, ◌-◌, ◌<◌, ◌≤◌, Bool, true, false, not, cond, eqb, ltb, ◌&&◌, ◌||◌, List, [], ◌∷◌, ◌++◌, length, get_or, take, drop, append-nil, append_assoc, refl, sym, ap, ◌∙◌, inl, inr, arith}
+-- Conflicts, picture by picture.
+use Rattle.std.proofs.Common.{◌≡◌, ℕ, zero, suc, ◌<◌, ◌≤◌, Bool, true, false, not, cond, eqb, ltb, List, [], ◌∷◌, ◌++◌, length, get_or, take, drop, append_assoc, refl, sym, ap, ◌∙◌, subst, inl, inr, arith}
 use Rattle.std.specs.Prelude.{filter, map}
 use Rattle.std.specs.List.{list_all}
-use Rattle.std.proofs.lemmas.Bool.{and_parts, and_from, cases_lt, false≢true, not-true, eqb-true, eq-eqb, ne_eqb, lt-ltb, le-ltb}
-use Rattle.std.proofs.lemmas.List.{length-map, get_or_default, get_or-take, get_or-drop, drop-drop, take-append-drop, length-take-le, length-drop}
-use Rattle.std.proofs.lemmas.List.Elements.{filter-append}
-use Rattle.photo_version.specs.Version.{Version, version_before}
+use Rattle.std.specs.List.Sorted.{IsPartitionedBy, IsPartitionPoint}
+use Rattle.std.proofs.lemmas.Bool.{and_parts, cases_Bool, false≢true, eqb-true, eq-eqb, lt-ltb, le-ltb}
+use Rattle.std.proofs.lemmas.List.{length-map, length-drop}
+use Rattle.photo_version.specs.Version.{Version}
 use Rattle.photo_device.specs.declared.held.Held.{Held}
 use Rattle.photo_device.specs.declared.conflict.Conflict.{Conflict}
-use Rattle.photo_device.specs.Ordered.{in_order}
-use Rattle.photo_device.specs.Entry.{Entry, entry_before, put_entry, put_entries}
-use Rattle.photo_device.specs.Held.{entries_of, held_before, are_in_order}
-use Rattle.photo_device.specs.Listing.{as_entry, as_entries, listing, rise}
+use Rattle.photo_device.specs.Entry.{Entry, others}
+use Rattle.photo_device.specs.Held.{entry_of, entries_of, are_in_order, held_of_others}
 use Rattle.photo_device.specs.Conflicts.{pictures_of, versions_of, conflicts_in}
-use Rattle.photo_device.proofs.Runs.{AreOf}
-use Rattle.photo_device.proofs.Putting.{list_all_wider, list_all-filter, filter_all, filter_none}
+use Rattle.photo_device.proofs.Entries.{entries-others}
+use Rattle.photo_device.proofs.Order.{rises, in_order-filter}
+use Rattle.photo_device.proofs.Putting.{turned, list_all_wider, list_all_filtered, filter_all}
 
--- Entries without histories and records have the same conflicts
-
-abbrev bare_all : List Entry → List Entry
-bare_all entries = map (λ e. as_entry (e.picture, e.version)) entries
-
-bare-put : (e : Entry) (es : List Entry) → put_entry (as_entry (e.picture, e.version)) (bare_all es) ≡ bare_all (put_entry e es)
-bare-put e [] = refl
-bare-put e (f ∷ fs) =
-    elim (entry_before f e) as (λ b. cond b (as_entry (f.picture, f.version) ∷ put_entry (as_entry (e.picture, e.version)) (bare_all fs)) (as_entry (e.picture, e.version) ∷ as_entry (f.picture, f.version) ∷ bare_all fs) ≡ bare_all (cond b (f ∷ put_entry e fs) (e ∷ f ∷ fs))) [
-      | true ↦ ap (λ l. as_entry (f.picture, f.version) ∷ l) (bare-put e fs)
-      | false ↦ refl
-    ]
-
-bare-put_all : (es fs : List Entry) → put_entries (bare_all es) (bare_all fs) ≡ bare_all (put_entries es fs)
-bare-put_all [] fs = refl
-bare-put_all (e ∷ es) fs = ap (put_entry (as_entry (e.picture, e.version))) (bare-put_all es fs) ∙ bare-put e (put_entries es fs)
-
-bare-pictures : (es : List Entry) → pictures_of (bare_all es) ≡ pictures_of es
-bare-pictures [] = refl
-bare-pictures (e ∷ es) = ap (λ l. e.picture ∷ filter (λ picture. not (eqb picture e.picture)) l) (bare-pictures es)
-
-bare-versions : (es : List Entry) (p : ℕ) → versions_of (bare_all es) p ≡ versions_of es p
-bare-versions es p = ap (λ vs. record { picture = p; versions = vs }) (of_picture es)
-  where
-    of_picture : (es : List Entry) → map (λ (e : Entry). e.version) (filter (λ (e : Entry). eqb e.picture p) (bare_all es)) ≡ map (λ (e : Entry). e.version) (filter (λ (e : Entry). eqb e.picture p) es)
-    of_picture [] = refl
-    of_picture (e ∷ es) =
-        elim (eqb e.picture p) as (λ b. map (λ (e : Entry). e.version) (cond b (as_entry (e.picture, e.version) ∷ filter (λ (e : Entry). eqb e.picture p) (bare_all es)) (filter (λ (e : Entry). eqb e.picture p) (bare_all es))) ≡ map (λ (e : Entry). e.version) (cond b (e ∷ filter (λ (e : Entry). eqb e.picture p) es) (filter (λ (e : Entry). eqb e.picture p) es))) [
-          | true ↦ ap (λ l. e.version ∷ l) (of_picture es)
-          | false ↦ of_picture es
-        ]
-
-abbrev are_two : Conflict → Bool
-are_two c = ltb 1 (length c.versions)
-
-bare-conflicts : (es : List Entry) → conflicts_in (bare_all es) ≡ conflicts_in es
-bare-conflicts es = (λ i. filter are_two (map (λ p. bare-versions es p i) (bare-pictures es i)))
-
-listed-bare : (xs : List Held) → as_entries (listing xs) ≡ bare_all (entries_of xs)
-listed-bare [] = refl
-listed-bare (x ∷ xs) = ap (λ l. as_entry (x.picture, x.version) ∷ l) (listed-bare xs)
-
--- the conflicts of two sets are those of their versions with their pictures
-pub listed-conflicts : (xs ys : List Held) → conflicts_in (put_entries (as_entries (listing xs)) (as_entries (listing ys))) ≡ conflicts_in (put_entries (entries_of xs) (entries_of ys))
-listed-conflicts xs ys =
-    (λ i. conflicts_in (put_entries (listed-bare xs i) (listed-bare ys i)))
-    ∙ ap conflicts_in (bare-put_all (entries_of xs) (entries_of ys))
-    ∙ bare-conflicts (put_entries (entries_of xs) (entries_of ys))
-
--- The versions of one picture, and those of others behind them
+-- Of entries in any order: the conflict of the first one's picture, and those of the others
 
 abbrev is_other : ℕ → ℕ → Bool
 is_other p q = not (eqb q p)
 
--- all are of the picture
-abbrev pub are_of : ℕ → List Entry → Bool
-are_of p es = list_all (λ e. eqb e.picture p) es
+filter-swap : {A : Type 0} (q r : A → Bool) (xs : List A) → filter q (filter r xs) ≡ filter r (filter q xs)
+filter-swap q r [] = refl
+filter-swap q r (x ∷ xs) =
+    let rest = filter-swap q r xs in
+    elim (cases_Bool (q x)) [
+      | inl passes ↦ elim (cases_Bool (r x)) [
+        | inl too ↦ rw (too, passes, too) (ap (λ l. x ∷ l) rest)
+        | inr fails ↦ rw (fails, passes, fails) rest
+      ]
+      | inr fails ↦ elim (cases_Bool (r x)) [
+        | inl passes ↦ rw (passes, fails) rest
+        | inr too ↦ rw (too, fails) rest
+      ]
+    ]
 
--- none is of the picture
-abbrev pub are_of_others : ℕ → List Entry → Bool
-are_of_others p es = list_all (λ e. not (eqb e.picture p)) es
+pictures-others : (p : ℕ) (es : List Entry) → filter (is_other p) (pictures_of es) ≡ pictures_of (others p es)
+pictures-others p [] = refl
+pictures-others p (e ∷ es) =
+    let rest = pictures-others p es in
+    elim (cases_Bool (eqb e.picture p)) [
+      | inl same ↦
+          let is : e.picture ≡ p = eqb-true e.picture p same in
+          rw same (ap (λ q. filter (is_other p) (filter (is_other q) (pictures_of es))) is
+          ∙ filter_all (is_other p) _ (list_all_filtered (is_other p) (pictures_of es)) ∙ rest)
+      | inr other ↦ rw other (ap (λ l. e.picture ∷ l) (filter-swap (is_other p) (is_other e.picture) (pictures_of es) ∙ ap (filter (is_other e.picture)) rest))
+    ]
 
-pictures_others : (p : ℕ) (es : List Entry) → are_of_others p es ≡ true → list_all (is_other p) (pictures_of es) ≡ true
-pictures_others p [] h = refl
-pictures_others p (e ∷ es) h =
-    and_from (is_other p e.picture) _ (and_parts _ _ h).0 (list_all-filter (is_other p) (λ q. not (eqb q e.picture)) (pictures_of es) (pictures_others p es (and_parts _ _ h).1))
-
-first_is : (p : ℕ) (e : Entry) (run : List Entry) → are_of p (e ∷ run) ≡ true → e.picture ≡ p
-first_is p e run h = eqb-true e.picture p (and_parts (eqb e.picture p) _ h).0
-
--- the pictures of a run are one
-run_pictures : (p : ℕ) (e : Entry) (run rest : List Entry) → are_of p (e ∷ run) ≡ true → list_all (is_other p) (pictures_of rest) ≡ true → pictures_of ((e ∷ run) ++ rest) ≡ p ∷ pictures_of rest
-run_pictures p e [] rest h o = (λ i. first_is p e [] h i ∷ filter (λ q. not (eqb q (first_is p e [] h i))) (pictures_of rest)) ∙ ap (λ l. p ∷ l) (filter_all (is_other p) (pictures_of rest) o)
-run_pictures p e (f ∷ run) rest h o =
-    let same = first_is p e (f ∷ run) h in
-    let later = run_pictures p f run rest (and_parts (eqb e.picture p) _ h).1 o in
-    (λ i. same i ∷ filter (λ q. not (eqb q (same i))) (later i)) ∙ ap (λ l. p ∷ l) (without_first (eqb p p) (eq-eqb p p refl))
-  where
-    without_first : (b : Bool) → b ≡ true → cond (not b) (p ∷ filter (is_other p) (pictures_of rest)) (filter (is_other p) (pictures_of rest)) ≡ pictures_of rest
-    without_first true e = filter_all (is_other p) (pictures_of rest) o
-    without_first false e = absurd (false≢true e)
-
--- and its versions are all of them
-run_versions : (p : ℕ) (run rest : List Entry) → are_of p run ≡ true → are_of_others p rest ≡ true → versions_of (run ++ rest) p ≡ record { picture = p; versions = map (λ (e : Entry). e.version) run }
-run_versions p run rest h o =
-    ap (λ l. record { picture = p; versions = map (λ (e : Entry). e.version) l })
-    (filter-append (λ (e : Entry). eqb e.picture p) run rest ∙ (λ i. filter_all (λ (e : Entry). eqb e.picture p) run h i ++ filter_none (λ (e : Entry). eqb e.picture p) rest o i) ∙ append-nil run)
-
--- another picture has none there
-rest_versions : (p q : ℕ) (run rest : List Entry) → are_of p run ≡ true → is_other p q ≡ true → versions_of (run ++ rest) q ≡ versions_of rest q
-rest_versions p q run rest h other =
+-- another picture has its versions among the others
+versions-others : (p q : ℕ) (es : List Entry) → is_other p q ≡ true → versions_of es q ≡ versions_of (others p es) q
+versions-others p q es other =
     ap (λ l. record { picture = q; versions = map (λ (e : Entry). e.version) l })
-    (filter-append (λ (e : Entry). eqb e.picture q) run rest ∙ ap (λ l. l ++ filter (λ (e : Entry). eqb e.picture q) rest) (filter_none (λ (e : Entry). eqb e.picture q) run (list_all_wider (λ (e : Entry). eqb e.picture p) (λ (e : Entry). not (eqb e.picture q)) apart run h)))
+    (sym (filter-swap (λ (e : Entry). eqb e.picture q) (λ (e : Entry). is_other p e.picture) es
+    ∙ filter_all (λ (e : Entry). is_other p e.picture) _ (list_all_wider (λ (e : Entry). eqb e.picture q) (λ (e : Entry). is_other p e.picture) apart _ (list_all_filtered (λ (e : Entry). eqb e.picture q) es))))
   where
-    apart : (e : Entry) → eqb e.picture p ≡ true → not (eqb e.picture q) ≡ true
-    apart e same = ap not (ne_eqb e.picture q (λ here. absurd (false≢true (sym (not-true _ other) ∙ eq-eqb q p (sym here ∙ eqb-true e.picture p same)))))
+    apart : (e : Entry) → eqb e.picture q ≡ true → is_other p e.picture ≡ true
+    apart e same = ap (is_other p) (eqb-true e.picture q same) ∙ other
 
 map_alike : {X Y : Type 0} (f g : X → Y) (q : X → Bool) → ((x : X) → q x ≡ true → f x ≡ g x) → (xs : List X) → list_all q xs ≡ true → map f xs ≡ map g xs
 map_alike f g q alike [] h = refl
 map_alike f g q alike (x ∷ xs) h = (λ i. alike x (and_parts _ _ h).0 i ∷ map_alike f g q alike xs (and_parts _ _ h).1 i)
 
-abbrev pub conflict_of : ℕ → List Entry → Conflict
-conflict_of p run = record { picture = p; versions = map (λ (e : Entry). e.version) run }
+abbrev are_two : Conflict → Bool
+are_two c = ltb 1 (length c.versions)
 
--- the conflicts of a run and of what follows it
-run_first : (p : ℕ) (e : Entry) (run rest : List Entry) → are_of p (e ∷ run) ≡ true → are_of_others p rest ≡ true → conflicts_in ((e ∷ run) ++ rest) ≡ filter are_two (conflict_of p (e ∷ run) ∷ map (versions_of rest) (pictures_of rest))
-run_first p e run rest h o =
-    let others = pictures_others p rest o in
-    ap (λ l. filter are_two (map (versions_of ((e ∷ run) ++ rest)) l)) (run_pictures p e run rest h others)
-    ∙ (λ i. filter are_two (run_versions p (e ∷ run) rest h o i ∷ map_alike (versions_of ((e ∷ run) ++ rest)) (versions_of rest) (is_other p) (λ q other. rest_versions p q (e ∷ run) rest h other) (pictures_of rest) others i))
+abbrev first_and : Conflict → List Entry → List Conflict
+first_and c es = filter are_two (c ∷ map (versions_of es) (pictures_of es))
 
-split_first : (b : Bool) (c : Conflict) (l : List Conflict) → cond b (c ∷ l) l ≡ cond b (c ∷ []) [] ++ l
-split_first true c l = refl
-split_first false c l = refl
+first_conflict : (e : Entry) (es : List Entry) → conflicts_in (e ∷ es) ≡ first_and (versions_of (e ∷ es) e.picture) (others e.picture (e ∷ es))
+first_conflict e es =
+    let p = e.picture in
+    let without : others p es ≡ others p (e ∷ es) = rw (eq-eqb p p refl) refl in
+    ap (λ l. filter are_two (versions_of (e ∷ es) p ∷ l))
+    (map_alike (versions_of (e ∷ es)) (versions_of (others p (e ∷ es))) (is_other p) (λ q other. versions-others p q (e ∷ es) other) _ (list_all_filtered (is_other p) (pictures_of es))
+    ∙ ap (map (versions_of (others p (e ∷ es)))) (pictures-others p es ∙ ap pictures_of without))
 
-pub one_conflict : (p : ℕ) (e : Entry) (run : List Entry) → are_of p (e ∷ run) ≡ true → conflicts_in (e ∷ run) ≡ cond (are_two (conflict_of p (e ∷ run))) (conflict_of p (e ∷ run) ∷ []) []
-one_conflict p e run h = ap conflicts_in (sym (append-nil (e ∷ run))) ∙ run_first p e run [] h refl
+-- Of held versions in order: those of the first one's picture stand in front
 
-pub run_conflicts : (p : ℕ) (e : Entry) (run rest : List Entry) → are_of p (e ∷ run) ≡ true → are_of_others p rest ≡ true → conflicts_in ((e ∷ run) ++ rest) ≡ conflicts_in (e ∷ run) ++ conflicts_in rest
-run_conflicts p e run rest h o =
-    run_first p e run rest h o
-    ∙ split_first (are_two (conflict_of p (e ∷ run))) (conflict_of p (e ∷ run)) (conflicts_in rest)
-    ∙ ap (λ l. l ++ conflicts_in rest) (sym (one_conflict p e run h))
+abbrev is_at : ℕ → Held → Bool
+is_at p h = eqb h.picture p
 
--- a set's versions stand in order
-pub listed_order : (xs : List Held) (items : List (ℕ × Version)) → items ≡ listing xs → are_in_order xs ≡ true → in_order entry_before (as_entries items) ≡ true
-listed_order xs items is o = ap (λ l. in_order entry_before (as_entries l)) is ∙ same xs ∙ o
+abbrev pub conflict_of : ℕ → List Held → Conflict
+conflict_of p run = record { picture = p; versions = map (λ (h : Held). h.version) run }
+
+versions-held : (p : ℕ) (hs : List Held) → versions_of (entries_of hs) p ≡ conflict_of p (filter (is_at p) hs)
+versions-held p hs = ap (λ vs. record { picture = p; versions = vs }) (by hs)
   where
-    all : (x : Held) (xs : List Held) → list_all (entry_before (as_entry (x.picture, x.version))) (as_entries (listing xs)) ≡ list_all (held_before x) xs
-    all x [] = refl
-    all x (y ∷ ys) = ap (λ b. held_before x y && b) (all x ys)
+    by : (hs : List Held) → map (λ (e : Entry). e.version) (filter (λ (e : Entry). eqb e.picture p) (entries_of hs)) ≡ map (λ (h : Held). h.version) (filter (is_at p) hs)
+    by [] = refl
+    by (h ∷ hs) = elim (cases_Bool (eqb h.picture p)) [
+      | inl same ↦ rw same (ap (λ l. h.version ∷ l) (by hs))
+      | inr other ↦ rw other (by hs)
+    ]
 
-    same : (xs : List Held) → in_order entry_before (as_entries (listing xs)) ≡ are_in_order xs
-    same [] = refl
-    same (x ∷ xs) = (λ i. all x xs i && same xs i)
+-- the first picture's versions, and the others
+pub record IsFirstRun (p : ℕ) (hs run rest : List Held) : Type 0 where
+  pub conflicts : conflicts_in (entries_of hs) ≡ first_and (conflict_of p run) (entries_of rest)
+  pub order : are_in_order rest ≡ true
+  pub shorter : length rest < length hs
 
--- Versions with their pictures, place by place
+first_at : (h : Held) (hs : List Held) → are_in_order (h ∷ hs) ≡ true → IsPartitionedBy (is_at h.picture) (h ∷ hs)
+first_at h hs o i j d le l here =
+    let first = rises (h ∷ hs) o 0 i d (omega arith) (omega arith) in
+    let up = rises (h ∷ hs) o i j d le l in
+    let same = eqb-true (get_or (h ∷ hs) j d).picture h.picture here in
+    eq-eqb (get_or (h ∷ hs) i d).picture h.picture (omega arith)
 
--- along versions in order the picture numbers don't fall
+abbrev pub TurnsAt : ℕ → List Held → ℕ → Type 0
+TurnsAt p hs n = IsPartitionPoint (λ (h : Held). eqb h.picture p ≡ true) (λ (h : Held). eqb h.picture p ≡ false) hs n
 
-le_of : (e f : Entry) → not (entry_before f e) ≡ true → e.picture ≤ f.picture
-le_of e f h = elim (cases_lt f.picture e.picture) [
-  | inl less ↦ absurd (false≢true (sym (not-true _ h) ∙ ap (λ b. b || (eqb f.picture e.picture && version_before f.version e.version)) (lt-ltb f.picture e.picture less)))
-  | inr le ↦ le
-]
+pub first_partitioned : (p : ℕ) (hs : List Held) (x : Held) → 0 < length hs → x ≡ get_or hs 0 x → p ≡ x.picture → are_in_order hs ≡ true → IsPartitionedBy (λ (h : Held). eqb h.picture p) hs
+first_partitioned p [] x some is same o = absurd (omega arith)
+first_partitioned p (h ∷ hs) x some is same o = subst (λ q. IsPartitionedBy (is_at q) (h ∷ hs)) (sym (same ∙ ap (λ (y : Held). y.picture) is)) (first_at h hs o)
 
-first_le : (x : ℕ × Version) (xs : List (ℕ × Version)) (j : ℕ) (d : ℕ × Version) → list_all (λ f. not (entry_before f (as_entry x))) (as_entries xs) ≡ true → j < length xs → x.0 ≤ (get_or xs j d).0
-first_le x [] j d h l = absurd (omega arith)
-first_le x (y ∷ ys) zero d h l = le_of (as_entry x) (as_entry y) (and_parts _ _ h).0
-first_le x (y ∷ ys) (suc j) d h l = first_le x ys j d (and_parts _ _ h).1 (omega arith)
+pub first_run : (p : ℕ) (hs run rest : List Held) (x : Held) (n : ℕ) → 0 < length hs → x ≡ get_or hs 0 x → p ≡ x.picture → are_in_order hs ≡ true → n ≤ length hs → TurnsAt p hs n → run ≡ take n hs → rest ≡ drop n hs
+    → IsFirstRun p hs run rest
+first_run p [] run rest x n some is same o within turns run_is rest_is = absurd (omega arith)
+first_run p (h ∷ hs) run rest x n some is same o within turns run_is rest_is =
+    let first = same ∙ ap (λ (y : Held). y.picture) is in
+    subst (λ q. IsFirstRun q (h ∷ hs) run rest) (sym first) (by (subst (λ q. TurnsAt q (h ∷ hs) n) first turns))
+  where
+    by : TurnsAt h.picture (h ∷ hs) n → IsFirstRun h.picture (h ∷ hs) run rest
+    by point =
+        let p = h.picture in
+        let parts = turned (is_at p) (h ∷ hs) n within point in
+        let left : held_of_others p (h ∷ hs) ≡ rest = parts.1 ∙ sym rest_is in
+        let some_first : 0 < n = elim n as (λ m. TurnsAt p (h ∷ hs) m → 0 < m) [
+          | zero ↦ λ t. absurd (false≢true (sym (t.1 0 h (omega arith) (omega arith)) ∙ eq-eqb p p refl))
+          | suc m ↦ λ t. omega arith
+        ] point in
+        record {
+          conflicts = first_conflict (entry_of h) (entries_of hs)
+              ∙ (λ i. first_and ((versions-held p (h ∷ hs) ∙ ap (conflict_of p) (parts.0 ∙ sym run_is)) i) ((sym (entries-others p (h ∷ hs)) ∙ ap entries_of left) i));
+          order = subst (λ l. are_in_order l ≡ true) left (in_order-filter (λ (x : Held). not (eqb x.picture p)) (h ∷ hs) o);
+          shorter =
+              let long = ap length rest_is ∙ length-drop n (h ∷ hs) in
+              omega arith;
+        }
 
-pictures_rise : (all : List (ℕ × Version)) → rise (as_entries all) ≡ true → (i j : ℕ) (d : ℕ × Version) → i < j → j < length all → (get_or all i d).0 ≤ (get_or all j d).0
-pictures_rise [] h i j d u l = absurd (omega arith)
-pictures_rise (x ∷ xs) h i zero d u l = absurd (omega arith)
-pictures_rise (x ∷ xs) h zero (suc j) d u l = first_le x xs j d (and_parts _ _ h).0 (omega arith)
-pictures_rise (x ∷ xs) h (suc i) (suc j) d u l = pictures_rise xs (and_parts _ _ h).1 i j d (omega arith) (omega arith)
+-- with what was found before, and without
 
-all_of : (p : ℕ) (run : List (ℕ × Version)) → ((k : ℕ) (d : ℕ × Version) → k < length run → (get_or run k d).0 ≡ p) → are_of p (as_entries run) ≡ true
-all_of p [] h = refl
-all_of p (x ∷ xs) h = and_from (eqb x.0 p) _ (eq-eqb x.0 p (h 0 x (omega arith))) (all_of p xs (λ k d l. h (suc k) d (omega arith)))
+split_first : (p : ℕ) (run rest : List Held) → first_and (conflict_of p run) (entries_of rest) ≡ cond (ltb 1 (length run)) (conflict_of p run ∷ conflicts_in (entries_of rest)) (conflicts_in (entries_of rest))
+split_first p run rest = ap (λ n. cond (ltb 1 n) (conflict_of p run ∷ conflicts_in (entries_of rest)) (conflicts_in (entries_of rest))) (length-map run (λ (h : Held). h.version))
 
-none_of : (p : ℕ) (rest : List (ℕ × Version)) → ((k : ℕ) (d : ℕ × Version) → k < length rest → (get_or rest k d).0 ≡ p → ⊥) → are_of_others p (as_entries rest) ≡ true
-none_of p [] h = refl
-none_of p (x ∷ xs) h = and_from (not (eqb x.0 p)) _ (ap not (ne_eqb x.0 p (h 0 x (omega arith)))) (none_of p xs (λ k d l. h (suc k) d (omega arith)))
+pub run_two : (p : ℕ) (hs run rest : List Held) (old new : List Conflict) (versions : List Version) → IsFirstRun p hs run rest → 1 < length run → versions ≡ map (λ (h : Held). h.version) run → new ≡ old ++ record { picture = p; versions = versions } ∷ []
+    → new ++ conflicts_in (entries_of rest) ≡ old ++ conflicts_in (entries_of hs)
+run_two p hs run rest old new versions first two versions_is new_is =
+    ap (λ l. l ++ conflicts_in (entries_of rest)) (new_is ∙ ap (λ vs. old ++ record { picture = p; versions = vs } ∷ []) versions_is)
+    ∙ append_assoc old (conflict_of p run ∷ []) (conflicts_in (entries_of rest))
+    ∙ ap (λ l. old ++ l) (sym (first.conflicts ∙ split_first p run rest ∙ ap (λ b. cond b (conflict_of p run ∷ conflicts_in (entries_of rest)) (conflicts_in (entries_of rest))) (lt-ltb 1 (length run) two)))
 
-versions_alone : (run : List (ℕ × Version)) → map (λ (e : Entry). e.version) (as_entries run) ≡ map (λ (p : ℕ × Version). p.1) run
-versions_alone [] = refl
-versions_alone (x ∷ xs) = ap (λ l. x.1 ∷ l) (versions_alone xs)
-
--- the conflicts of the versions of one picture
-run_alone : (run : List (ℕ × Version)) (d : ℕ × Version) → 0 < length run → ((k : ℕ) (d : ℕ × Version) → k < length run → (get_or run k d).0 ≡ (get_or run 0 d).0) → conflicts_in (as_entries run) ≡ cond (ltb 1 (length run)) (record { picture = (get_or run 0 d).0; versions = map (λ (p : ℕ × Version). p.1) run } ∷ []) []
-run_alone [] d some same = absurd (omega arith)
-run_alone (x ∷ xs) d some same =
-    one_conflict x.0 (as_entry x) (as_entries xs) (all_of x.0 (x ∷ xs) (λ k e l. same k e l))
-    ∙ (λ i. cond (ltb 1 (length (versions_alone (x ∷ xs) i))) (record { picture = x.0; versions = versions_alone (x ∷ xs) i } ∷ []) [])
-    ∙ ap (λ n. cond (ltb 1 n) (record { picture = x.0; versions = map (λ (p : ℕ × Version). p.1) (x ∷ xs) } ∷ []) []) (length-map (x ∷ xs) (λ (p : ℕ × Version). p.1))
-
-pub run_two : (run : List (ℕ × Version)) (d : ℕ × Version) (old : List Conflict) (versions : List Version) → 0 < length run → ((k : ℕ) (d : ℕ × Version) → k < length run → (get_or run k d).0 ≡ (get_or run 0 d).0) → 1 < length run → versions ≡ map (λ (p : ℕ × Version). p.1) run → old ++ record { picture = (get_or run 0 d).0; versions = versions } ∷ [] ≡ old ++ conflicts_in (as_entries run)
-run_two run d old versions some same two is =
-    ap (λ vs. old ++ record { picture = (get_or run 0 d).0; versions = vs } ∷ []) is
-    ∙ ap (λ l. old ++ l) (sym (run_alone run d some same ∙ ap (λ b. cond b (record { picture = (get_or run 0 d).0; versions = map (λ (p : ℕ × Version). p.1) run } ∷ []) []) (lt-ltb 1 (length run) two)))
-
-pub run_one : (run : List (ℕ × Version)) (old : List Conflict) → 0 < length run → ((k : ℕ) (d : ℕ × Version) → k < length run → (get_or run k d).0 ≡ (get_or run 0 d).0) → length run ≤ 1 → old ≡ old ++ conflicts_in (as_entries run)
-run_one [] old some same one = absurd (omega arith)
-run_one (x ∷ xs) old some same one =
-    sym (append-nil old)
-    ∙ ap (λ l. old ++ l) (sym (run_alone (x ∷ xs) x some same ∙ ap (λ b. cond b (record { picture = x.0; versions = map (λ (p : ℕ × Version). p.1) (x ∷ xs) } ∷ []) []) (le-ltb 1 (length (x ∷ xs)) one)))
-
--- a run, and what is behind it
-
-as_entries-append : (xs ys : List (ℕ × Version)) → as_entries (xs ++ ys) ≡ as_entries xs ++ as_entries ys
-as_entries-append [] ys = refl
-as_entries-append (x ∷ xs) ys = ap (λ l. as_entry x ∷ l) (as_entries-append xs ys)
-
-two_parts : (p : ℕ) (run rest : List (ℕ × Version)) → 0 < length run → are_of p (as_entries run) ≡ true → are_of_others p (as_entries rest) ≡ true → conflicts_in (as_entries (run ++ rest)) ≡ conflicts_in (as_entries run) ++ conflicts_in (as_entries rest)
-two_parts p [] rest some h o = absurd (omega arith)
-two_parts p (x ∷ xs) rest some h o = ap conflicts_in (as_entries-append (x ∷ xs) rest) ∙ run_conflicts p (as_entry x) (as_entries xs) (as_entries rest) h o
-
-module _ (all : List (ℕ × Version)) (from to : ℕ) (more : from < to) (within : to ≤ length all) (same : AreOf all from to) where
-  read : (k : ℕ) (d : ℕ × Version) → k < length (take (to - from) (drop from all)) → (get_or (take (to - from) (drop from all)) k d).0 ≡ (get_or all from d).0
-  read k d l =
-      let inside : k < to - from = omega (arith, length-take-le (to - from) (drop from all) (omega (arith, length-drop from all))) in
-      ap (λ (x : ℕ × Version). x.0) (get_or-take (to - from) (drop from all) k d inside ∙ get_or-drop from all k d)
-      ∙ same (from + k) d (omega arith) (omega arith)
-
-  pub run_same : (k : ℕ) (d : ℕ × Version) → k < length (take (to - from) (drop from all)) → (get_or (take (to - from) (drop from all)) k d).0 ≡ (get_or (take (to - from) (drop from all)) 0 d).0
-  run_same k d l = read k d l ∙ sym (read 0 d (omega arith))
-
-  behind : rise (as_entries all) ≡ true → ((d : ℕ × Version) → to < length all → (get_or all to d).0 ≡ (get_or all from d).0 → ⊥) → (d f : ℕ × Version) (k : ℕ) → k < length (drop to all) → (get_or (drop to all) k f).0 ≡ (get_or all from d).0 → ⊥
-  behind up ends d f k l here =
-      let left = length-drop to all in
-      let inside : to < length all = omega arith in
-      let at = ap (λ (x : ℕ × Version). x.0) (get_or-drop to all k f) in
-      let first = ap (λ (x : ℕ × Version). x.0) (get_or_default all from d f (omega arith)) in
-      let low = pictures_rise all up from to f more inside in
-      elim (cases_lt 0 k) [
-        | inl later ↦
-            let high = pictures_rise all up to (to + k) f (omega arith) (omega arith) in
-            ends f inside (omega arith)
-        | inr next ↦
-            let same_place : to + k ≡ to = omega arith in
-            ends f inside (ap (λ n. (get_or all n f).0) (sym same_place) ∙ sym at ∙ here ∙ first)
-      ]
-
-  pub run_step : (old new whole : List Conflict) → rise (as_entries all) ≡ true → ((d : ℕ × Version) → to < length all → (get_or all to d).0 ≡ (get_or all from d).0 → ⊥)
-      → new ≡ old ++ conflicts_in (as_entries (take (to - from) (drop from all))) → old ++ conflicts_in (as_entries (drop from all)) ≡ whole → new ++ conflicts_in (as_entries (drop to all)) ≡ whole
-  run_step old new whole up ends is so_far = by all refl
-    where
-      by : (l : List (ℕ × Version)) → l ≡ all → new ++ conflicts_in (as_entries (drop to all)) ≡ whole
-      by [] e = let empty = ap length e in absurd (omega arith)
-      by (d ∷ ds) e =
-          let run = take (to - from) (drop from all) in
-          let p = (get_or all from d).0 in
-          let long = length-take-le (to - from) (drop from all) (omega (arith, length-drop from all)) in
-          let at : from + (to - from) ≡ to = omega arith in
-          let rest : drop (to - from) (drop from all) ≡ drop to all = drop-drop (to - from) from all ∙ ap (λ n. drop n all) at in
-          let split : drop from all ≡ run ++ drop to all = sym (take-append-drop (to - from) (drop from all)) ∙ ap (λ l. run ++ l) rest in
-          let parts = two_parts p run (drop to all) (omega arith)
-          (all_of p run (λ k f l. read k f l ∙ ap (λ (x : ℕ × Version). x.0) (get_or_default all from f d (omega arith))))
-          (none_of p (drop to all) (λ k f l here. behind up ends d f k l here)) in
-          ap (λ l. l ++ conflicts_in (as_entries (drop to all))) is
-          ∙ append_assoc old (conflicts_in (as_entries run)) (conflicts_in (as_entries (drop to all)))
-          ∙ ap (λ l. old ++ l) (sym parts ∙ ap (λ l. conflicts_in (as_entries l)) (sym split))
-          ∙ so_far
+pub run_one : (p : ℕ) (hs run rest : List Held) (old : List Conflict) → IsFirstRun p hs run rest → length run ≤ 1 → old ++ conflicts_in (entries_of rest) ≡ old ++ conflicts_in (entries_of hs)
+run_one p hs run rest old first one =
+    ap (λ l. old ++ l) (sym (first.conflicts ∙ split_first p run rest ∙ ap (λ b. cond b (conflict_of p run ∷ conflicts_in (entries_of rest)) (conflicts_in (entries_of rest))) (le-ltb 1 (length run) one)))

@@ -78,7 +78,7 @@ others_left : (v : Version) (old new : List Held) (x : Held) → count_of v old 
 others_left v old new x once out = out.rest ∙ taken_rest v old out.place x once out.at out.passes
 
 -- there is none
-none_there : (v : Version) (xs : List Held) → list_any (λ h. same_version h.version v) xs ≡ false → count_of v xs ≡ 0
+pub none_there : (v : Version) (xs : List Held) → list_any (λ h. same_version h.version v) xs ≡ false → count_of v xs ≡ 0
 none_there v [] none = refl
 none_there v (x ∷ xs) none = elim (cases_Bool (same_version x.version v)) [
   | inl same ↦ absurd (false≢true (sym none ∙ ap (λ b. b || list_any (λ h. same_version h.version v) xs) same))

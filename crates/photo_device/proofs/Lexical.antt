@@ -1,7 +1,8 @@
 -- Orders by a key, and by a second test where the keys are the same: versions, entries and held versions.
 use Rattle.std.proofs.Common.{◌≡◌, ℕ, ◌<◌, Bool, true, false, not, eqb, ltb, ◌&&◌, ◌||◌, refl, sym, ap, ◌∙◌, subst, ◌⊎◌, inl, inr, arith}
 use Rattle.std.specs.Cmp.{IsStrictWeakOrder}
-use Rattle.std.proofs.lemmas.Bool.{lt-ltb, le-ltb, ltb-true, ltb-false, eq-eqb, ne_eqb, cases_order, false≢true}
+use Rattle.std.proofs.lemmas.Bool.{lt-ltb, le-ltb, ltb-true, eq-eqb, ne_eqb, cases_order, cases_Bool, false≢true}
+use Rattle.std.proofs.lemmas.List.Sorted.{IsStrictWeakOrder-by_number}
 use Rattle.photo_version.specs.Author.{Author, same_author, author_before}
 use Rattle.photo_version.specs.Version.{Version, version_before, same_version}
 use Rattle.photo_version.proofs.AuthorLemmas.{Before, before_from, before_trans, cases_author, same_from, not_before_same}
@@ -80,6 +81,24 @@ module _ {K X : Type 0} (less same : K → K → Bool) (keys : AreKeys less same
     ]
   ]
 
+-- where two are the same just if neither stands before the other
+module _ {X : Type 0} (before same : X → X → Bool) (law : (x y : X) → same x y ≡ (not (before x y) && not (before y x))) where
+  pub before_other : (x y : X) → before x y ≡ true → same x y ≡ false
+  before_other x y h = law x y ∙ ap (λ b. not b && not (before y x)) h
+
+  pub behind_other : (x y : X) → before y x ≡ true → same x y ≡ false
+  behind_other x y h = law x y ∙ ap (λ b. not (before x y) && not b) h ∙ none_of_both (not (before x y))
+    where
+      none_of_both : (b : Bool) → (b && false) ≡ false
+      none_of_both true = refl
+      none_of_both false = refl
+
+  pub behind_first : (x y : X) → before x y ≡ false → same x y ≡ false → before y x ≡ true
+  behind_first x y h other = elim (cases_Bool (before y x)) [
+    | inl behind ↦ behind
+    | inr none ↦ absurd (false≢true (sym other ∙ law x y ∙ (λ i. not (h i) && not (none i))))
+  ]
+
 -- numbers, as keys and as the last test
 
 number_before : (a b : ℕ) → a < b → IsBefore ltb eqb a b
@@ -108,13 +127,7 @@ number_keys = record {
 }
 
 number_order : {X : Type 0} (number : X → ℕ) → IsStrictWeakOrder (λ (x y : X). ltb (number x) (number y))
-number_order number = record {
-  one_way = λ x y h. let less = ltb-true _ _ h in le-ltb (number y) (number x) (omega arith);
-  chain = λ x y z h g.
-      let first = ltb-false _ _ h in
-      let second = ltb-false _ _ g in
-      le-ltb (number x) (number z) (omega arith);
-}
+number_order number = IsStrictWeakOrder-by_number number
 
 number_same : (a b : ℕ) → eqb a b ≡ (not (ltb a b) && not (ltb b a))
 number_same a b = elim (cases_order a b) [

@@ -1,7 +1,6 @@
 pub mod Order
 pub mod Entries
 pub mod Counts
-pub mod Found
 pub mod Shown
 pub mod Holding
 pub mod AllLemmas
@@ -21,8 +20,6 @@ pub mod Changed
 pub mod Staged
 pub mod Narrowed
 pub mod Grouping
-pub mod Runs
-pub mod Merging
 pub mod Handed
 pub mod GivenUp
 pub mod NextEpoch

@@ -1,16 +1,16 @@
 -- The version that a search finds.
-use Rattle.std.proofs.Common.{◌≡◌, ℕ, Bool, true, false, not, cond, ◌&&◌, List, [], ◌∷◌, Bor, refl, sym, ap, ◌∙◌, inl, inr}
+use Rattle.std.proofs.Common.{◌≡◌, ℕ, Bool, true, false, not, cond, List, [], ◌∷◌, Bor, refl, sym, ap, ◌∙◌, inl, inr}
 use Rattle.std.specs.Prelude.{Option, Some, None, is_some}
 use Rattle.std.specs.Option.{option_copied}
 use Rattle.std.specs.List.{find, list_all}
 use Rattle.std.specs.List.Sorted.{IsPartitionedBy}
 use Rattle.std.specs.Fn.{Mut, Called, ComputesKey}
 use Rattle.std.proofs.lemmas.Fn.{always_returns_same}
-use Rattle.std.proofs.lemmas.Bool.{and_parts, cases_Bool, false≢true}
+use Rattle.std.proofs.lemmas.Bool.{and_parts, cases_Bool}
 use Rattle.photo_version.specs.Version.{Version}
 use Rattle.photo_device.specs.declared.held.Held.{Held}
 use Rattle.photo_device.specs.Held.{held_before, stands_before, is_of, are_in_order, find_version_of, has_version_of}
-use Rattle.photo_device.proofs.Lexical.{held_order, held_same}
+use Rattle.photo_device.proofs.Lexical.{held_order, held_same, before_other, behind_other, behind_first}
 use Rattle.photo_device.proofs.Putting.{partitioned, follows}
 use Rattle.photo_device.proofs.Inserting.{key_of}
 
@@ -18,6 +18,9 @@ use Rattle.photo_device.proofs.Inserting.{key_of}
 abbrev pub if_of : ℕ → Version → Option Held → Option Held
 if_of picture version None = None
 if_of picture version (Some h) = cond (is_of h picture version) (Some h) None
+
+abbrev is_one : Held → Held → Bool
+is_one a b = is_of a b.picture b.version
 
 module _ (picture : ℕ) (version : Version) where
   -- whether it is the one
@@ -27,27 +30,11 @@ module _ (picture : ℕ) (version : Version) where
     | false ↦ refl
   ]
 
-  before_other : (h : Held) → stands_before h picture version ≡ true → is_of h picture version ≡ false
-  before_other h b = held_same h (key_of picture version) ∙ ap (λ t. not t && not (held_before (key_of picture version) h)) b
-
-  behind_other : (h : Held) → held_before (key_of picture version) h ≡ true → is_of h picture version ≡ false
-  behind_other h b = held_same h (key_of picture version) ∙ ap (λ t. not (held_before h (key_of picture version)) && not t) b ∙ none_of_both (not (held_before h (key_of picture version)))
-    where
-      none_of_both : (b : Bool) → b && false ≡ false
-      none_of_both true = refl
-      none_of_both false = refl
-
-  behind_first : (h : Held) → stands_before h picture version ≡ false → is_of h picture version ≡ false → held_before (key_of picture version) h ≡ true
-  behind_first h b other = elim (cases_Bool (held_before (key_of picture version) h)) [
-    | inl behind ↦ behind
-    | inr none ↦ absurd (false≢true (sym other ∙ held_same h (key_of picture version) ∙ (λ i. not (b i) && not (none i))))
-  ]
-
   none_later : (x : Held) (xs : List Held) → held_before (key_of picture version) x ≡ true → list_all (held_before x) xs ≡ true → find_version_of picture version xs ≡ None
   none_later x [] b later = refl
   none_later x (y ∷ ys) b later =
       let order = and_parts (held_before x y) _ later in
-      let other : is_of y picture version ≡ false = behind_other y (follows held_order (key_of picture version) x y b order.0) in
+      let other : is_of y picture version ≡ false = behind_other held_before is_one held_same y (key_of picture version) (follows held_order (key_of picture version) x y b order.0) in
       rw other (none_later x ys b order.1)
 
   -- in a set, the first that doesn't stand before that version of that picture is the only one that may be it
@@ -55,11 +42,11 @@ module _ (picture : ℕ) (version : Version) where
   found_first [] o = refl
   found_first (x ∷ xs) o = elim (cases_Bool (stands_before x picture version)) [
     | inl before ↦
-        let other : is_of x picture version ≡ false = before_other x before in
+        let other : is_of x picture version ≡ false = before_other held_before is_one held_same x (key_of picture version) before in
         rw (before, other) (found_first xs (and_parts _ _ o).1)
     | inr first ↦ elim (cases_Bool (is_of x picture version)) [
       | inl same ↦ rw (first, same) refl
-      | inr other ↦ rw (first, other) (none_later x xs (behind_first x first other) (and_parts _ _ o).0)
+      | inr other ↦ rw (first, other) (none_later x xs (behind_first held_before is_one held_same x (key_of picture version) first other) (and_parts _ _ o).0)
     ]
   ]
 

@@ -1,12 +1,13 @@
 -- Held versions in order.
-use Rattle.std.proofs.Common.{◌≡◌, ℕ, zero, suc, ◌<◌, ◌≤◌, Bool, true, false, leb, ltb, ◌||◌, List, [], ◌∷◌, ◌++◌, length, get_or, take, drop, Vec, refl, sym, ap, ◌∙◌, inl, inr, arith}
+use Rattle.std.proofs.Common.{◌≡◌, ℕ, ◌<◌, ◌≤◌, Bool, true, false, not, eqb, leb, ltb, ◌||◌, List, [], ◌∷◌, ◌++◌, length, get_or, take, drop, Vec, refl, sym, ap, ◌∙◌, subst, inl, inr, arith}
 use Rattle.std.specs.Prelude.{filter}
 use Rattle.std.specs.List.{list_all}
 use Rattle.std.specs.declared.alloc.Global.{Global}
 use Rattle.std.specs.List.Sorted.{IsNonDecreasingBy, IsPartitionPoint}
-use Rattle.std.proofs.lemmas.Bool.{and_parts, and_from, lt-ltb, le-ltb, ltb-true, ltb-false, eqb-false, eq-eqb, ne_eqb, cases_Bool, not-true, leb-true, leb-false, cases_lt, false≢true, cases_order}
+use Rattle.std.proofs.lemmas.Bool.{lt-ltb, le-ltb, lt-leb, le-leb, ltb-true, ltb-false, eqb-false, eq-eqb, ne_eqb, not-true, leb-false, cases_eq, cases_lt, false≢true, cases_order}
 use Rattle.std.proofs.Math.Bool.{or-true}
-use Rattle.std.proofs.lemmas.List.{take_all}
+use Rattle.std.proofs.lemmas.List.{take_all, take-append-drop}
+use Rattle.std.proofs.lemmas.List.Elements.{filter-append}
 use Rattle.block_list.specs.Blocks.{joined}
 use Rattle.photo_device.specs.declared.held.Held.{Held}
 use Rattle.photo_device.specs.Ordered.{put}
@@ -37,85 +38,18 @@ held_before-le a b h = elim (cases_order a.picture b.picture) [
 
 -- along a list in order the picture numbers don't fall
 
-first_le : (x : Held) (xs : List Held) (j : ℕ) (d : Held) → list_all (held_before x) xs ≡ true → j < length xs → x.picture ≤ (get_or xs j d).picture
-first_le x [] j d h l = absurd (omega arith)
-first_le x (y ∷ ys) zero d h l = held_before-le x y (and_parts _ _ h).0
-first_le x (y ∷ ys) (suc j) d h l = first_le x ys j d (and_parts _ _ h).1 (omega arith)
-
 pub rises : (xs : List Held) → are_in_order xs ≡ true → IsNonDecreasingBy (λ h. h.picture) xs
-rises [] h i j d le l = absurd (omega arith)
-rises (x ∷ xs) h zero zero d le l = omega arith
-rises (x ∷ xs) h zero (suc j) d le l = first_le x xs j d (and_parts _ _ h).0 (omega arith)
-rises (x ∷ xs) h (suc i) zero d le l = absurd (omega arith)
-rises (x ∷ xs) h (suc i) (suc j) d le l = rises xs (and_parts _ _ h).1 i j d (omega arith) (omega arith)
+rises xs o i j d le l = elim (cases_lt i j) [
+  | inl before ↦ held_before-le (get_or xs i d) (get_or xs j d) (putting.in_order_at held_before xs o i j d before l)
+  | inr last ↦ let same : i ≡ j = omega arith in rw same (omega arith)
+]
 
--- A list in three parts: smaller pictures up to `from`, the picture itself up to `to`, and greater ones
+-- A list in three parts, as callers above state it: smaller pictures up to `from`, the picture itself up to `to`, and greater ones
 
 pub record Parts (p : ℕ) (xs : List Held) (from to : ℕ) : Type 0 where
   pub below : (k : ℕ) (d : Held) → k < from → (get_or xs k d).picture < p
   pub here : (k : ℕ) (d : Held) → from ≤ k → k < to → (get_or xs k d).picture ≡ p
   pub above : (k : ℕ) (d : Held) → to ≤ k → k < length xs → p < (get_or xs k d).picture
-
-tail : (p : ℕ) (x : Held) (xs : List Held) (from to : ℕ) → Parts p (x ∷ xs) (suc from) (suc to) → Parts p xs from to
-tail p x xs from to parts = record {
-  below = λ k d h. parts.below (suc k) d (omega arith);
-  here = λ k d h g. parts.here (suc k) d (omega arith) (omega arith);
-  above = λ k d h g. parts.above (suc k) d (omega arith) (omega arith);
-}
-
-tail_here : (p : ℕ) (x : Held) (xs : List Held) (to : ℕ) → Parts p (x ∷ xs) 0 (suc to) → Parts p xs 0 to
-tail_here p x xs to parts = record {
-  below = λ k d h. absurd (omega arith);
-  here = λ k d h g. parts.here (suc k) d (omega arith) (omega arith);
-  above = λ k d h g. parts.above (suc k) d (omega arith) (omega arith);
-}
-
-tail_above : (p : ℕ) (x : Held) (xs : List Held) → Parts p (x ∷ xs) 0 0 → Parts p xs 0 0
-tail_above p x xs parts = record {
-  below = λ k d h. absurd (omega arith);
-  here = λ k d h g. absurd (omega arith);
-  above = λ k d h g. parts.above (suc k) d (omega arith) (omega arith);
-}
-
-keeps : (p : ℕ) (x : Held) (xs : List Held) → (x.picture ≡ p → ⊥) → held_of_others p (x ∷ xs) ≡ x ∷ held_of_others p xs
-keeps p x xs h = rw (ne_eqb x.picture p h) refl
-
-drops : (p : ℕ) (x : Held) (xs : List Held) → x.picture ≡ p → held_of_others p (x ∷ xs) ≡ held_of_others p xs
-drops p x xs h = rw (eq-eqb x.picture p h) refl
-
-pub rest_of : (p : ℕ) (xs : List Held) (from to : ℕ) → from ≤ to → to ≤ length xs → Parts p xs from to → held_of_others p xs ≡ take from xs ++ drop to xs
-rest_of p [] zero zero o w parts = refl
-rest_of p [] zero (suc to) o w parts = absurd (omega arith)
-rest_of p [] (suc from) zero o w parts = absurd (omega arith)
-rest_of p [] (suc from) (suc to) o w parts = absurd (omega arith)
-rest_of p (x ∷ xs) zero zero o w parts =
-    let above = parts.above 0 x (omega arith) (omega arith) in
-    keeps p x xs (λ e. absurd (omega arith)) ∙ ap (λ l. x ∷ l) (rest_of p xs 0 0 (omega arith) (omega arith) (tail_above p x xs parts))
-rest_of p (x ∷ xs) zero (suc to) o w parts =
-    drops p x xs (parts.here 0 x (omega arith) (omega arith)) ∙ rest_of p xs 0 to (omega arith) (omega arith) (tail_here p x xs to parts)
-rest_of p (x ∷ xs) (suc from) zero o w parts = absurd (omega arith)
-rest_of p (x ∷ xs) (suc from) (suc to) o w parts =
-    let below = parts.below 0 x (omega arith) in
-    keeps p x xs (λ e. absurd (omega arith)) ∙ ap (λ l. x ∷ l) (rest_of p xs from to (omega arith) (omega arith) (tail p x xs from to parts))
-
--- where `put` puts a version of that picture
-
-put_after : (h x : Held) (xs : List Held) → x.picture < h.picture → put held_before h (x ∷ xs) ≡ x ∷ put held_before h xs
-put_after h x xs l = rw (held_before-less x h l) refl
-
-put_before : (h x : Held) (xs : List Held) → h.picture < x.picture → put held_before h (x ∷ xs) ≡ h ∷ x ∷ xs
-put_before h x xs l = rw (held_before-greater x h l) refl
-
-pub place_of : (h : Held) (xs : List Held) (from to : ℕ) → from ≤ to → to ≤ length xs → Parts h.picture xs from to → put held_before h (take from xs ++ drop to xs) ≡ take from xs ++ h ∷ drop to xs
-place_of h [] zero zero o w parts = refl
-place_of h [] zero (suc to) o w parts = absurd (omega arith)
-place_of h [] (suc from) zero o w parts = absurd (omega arith)
-place_of h [] (suc from) (suc to) o w parts = absurd (omega arith)
-place_of h (x ∷ xs) zero zero o w parts = put_before h x xs (parts.above 0 x (omega arith) (omega arith))
-place_of h (x ∷ xs) zero (suc to) o w parts = place_of h xs 0 to (omega arith) (omega arith) (tail_here h.picture x xs to parts)
-place_of h (x ∷ xs) (suc from) zero o w parts = absurd (omega arith)
-place_of h (x ∷ xs) (suc from) (suc to) o w parts =
-    put_after h x _ (parts.below 0 x (omega arith)) ∙ ap (λ l. x ∷ l) (place_of h xs from to (omega arith) (omega arith) (tail h.picture x xs from to parts))
 
 -- the order is kept
 
@@ -132,48 +66,75 @@ pictures_apart a b other = elim (cases_order a.picture b.picture) [
   ]
 ]
 
-all_elsewhere : (p : ℕ) (xs : List Held) → list_all (λ x. is_of_other p (entry_of x)) (held_of_others p xs) ≡ true
-all_elsewhere p [] = refl
-all_elsewhere p (x ∷ xs) = elim (cases_Bool (is_of_other p (entry_of x))) [
-  | inl other ↦ rw other (and_from _ _ other (all_elsewhere p xs))
-  | inr same ↦ rw same (all_elsewhere p xs)
-]
-
 pub in_order-replaced : (h : Held) (xs : List Held) → are_in_order xs ≡ true → are_in_order (replaced h xs) ≡ true
 in_order-replaced h xs o =
     putting.in_order-put held_order h _ (in_order-filter _ xs o)
-    (putting.list_all_wider (λ x. is_of_other h.picture (entry_of x)) (λ x. held_before h x || held_before x h) (pictures_apart h) _ (all_elsewhere h.picture xs))
+    (putting.list_all_wider (λ x. is_of_other h.picture (entry_of x)) (λ x. held_before h x || held_before x h) (pictures_apart h) _ (putting.list_all_filtered (λ x. is_of_other h.picture (entry_of x)) xs))
 
 -- what two binary searches for a picture answer
 
+smaller : (q p : ℕ) → ltb q p ≡ true → not (eqb q p) ≡ true
+smaller q p h = let less = ltb-true q p h in ap not (ne_eqb q p (λ e. absurd (omega arith)))
+
+not_greater : (q p : ℕ) → ltb q p ≡ true → not (not (leb q p)) ≡ true
+not_greater q p h = let less = ltb-true q p h in ap (λ b. not (not b)) (le-leb q p (omega arith))
+
+greater : (q p : ℕ) → not (ltb q p) ≡ true → not (eqb q p) ≡ not (leb q p)
+greater q p h =
+    let most = ltb-false q p (not-true _ h) in
+    elim (cases_eq q p) [
+      | inl e ↦ ap not (eq-eqb q p e ∙ sym (le-leb q p (omega arith)))
+      | inr ne ↦ ap not (ne_eqb q p ne ∙ sym (lt-leb q p (omega arith)))
+    ]
+
+abbrev is_less : ℕ → Held → Bool
+is_less p h = ltb h.picture p
+
+abbrev is_more : ℕ → Held → Bool
+is_more p h = not (leb h.picture p)
+
+abbrev is_apart : ℕ → Held → Bool
+is_apart p h = not (eqb h.picture p)
+
 pub is_range : (p : ℕ) (xs : List Held) (from to : ℕ) → from ≤ length xs → to ≤ length xs → IsPartitionPoint (λ (h : Held). ltb h.picture p ≡ true) (λ (h : Held). ltb h.picture p ≡ false) xs from → IsPartitionPoint (λ (h : Held). leb h.picture p ≡ true) (λ (h : Held). leb h.picture p ≡ false) xs to → IsRangeOf p xs from to
-is_range p xs from to f t less most =
-    let order : from ≤ to = elim (cases_lt to from) [
-      | inl back ↦ some_between back
-      | inr o ↦ o
-    ] in
-    record {
-      order = order;
-      within = t;
-      rest = rest_of p xs from to order t parts;
-      place = λ h e. ap (put held_before h) (rest h e order) ∙ place_of h xs from to order t (parts_at h e);
-    }
+is_range p xs from to f t less most = record {
+  order = elim (cases_lt to from) [
+    | inl back ↦ some_between back
+    | inr o ↦ o
+  ];
+  within = t;
+  rest = rest;
+  place = λ h e.
+      ap (put held_before h) (ap (λ q. held_of_others q xs) e ∙ rest)
+      ∙ putting.put_between held_order h (take from xs) (drop to xs)
+      (putting.list_all_wider (is_less p) (λ y. held_before y h) (λ y l. let below = ltb-true y.picture p l in held_before-less y h (omega arith)) _ in_front)
+      (putting.list_all_wider (is_more p) (λ y. not (held_before y h)) (λ y g. let above = leb-false y.picture p (not-true _ g) in ap not (held_before-greater y h (omega arith))) _ at_back);
+}
   where
-    parts : Parts p xs from to
-    parts = record {
-      below = λ k d h. ltb-true _ _ (less.0 k d (omega arith) h);
-      here = λ k d h g.
-          let low = ltb-false _ _ (less.1 k d h (omega arith)) in
-          let high = leb-true _ _ (most.0 k d (omega arith) g) in
-          omega arith;
-      above = λ k d h g. leb-false _ _ (most.1 k d h g);
-    }
+    first : (filter (is_less p) xs ≡ take from xs) × (filter (λ h. not (is_less p h)) xs ≡ drop from xs)
+    first = putting.turned (is_less p) xs from f less
 
-    parts_at : (h : Held) → h.picture ≡ p → Parts h.picture xs from to
-    parts_at h e = rw e parts
+    last : filter (is_more p) xs ≡ drop to xs
+    last = (putting.turned (λ (h : Held). leb h.picture p) xs to t most).1
 
-    rest : (h : Held) → h.picture ≡ p → from ≤ to → held_of_others h.picture xs ≡ take from xs ++ drop to xs
-    rest h e order = rest_of h.picture xs from to order t (parts_at h e)
+    in_front : list_all (is_less p) (take from xs) ≡ true
+    in_front = subst (λ l. list_all (is_less p) l ≡ true) first.0 (putting.list_all_filtered (is_less p) xs)
+
+    behind : list_all (λ h. not (is_less p h)) (drop from xs) ≡ true
+    behind = subst (λ l. list_all (λ h. not (is_less p h)) l ≡ true) first.1 (putting.list_all_filtered (λ h. not (is_less p h)) xs)
+
+    at_back : list_all (is_more p) (drop to xs) ≡ true
+    at_back = subst (λ l. list_all (is_more p) l ≡ true) last (putting.list_all_filtered (is_more p) xs)
+
+    parts : (q : Held → Bool) → filter q xs ≡ filter q (take from xs) ++ filter q (drop from xs)
+    parts q = ap (filter q) (sym (take-append-drop from xs)) ∙ filter-append q (take from xs) (drop from xs)
+
+    rest : held_of_others p xs ≡ take from xs ++ drop to xs
+    rest =
+        parts (is_apart p)
+        ∙ (λ i. putting.filter_all (is_apart p) (take from xs) (putting.list_all_wider (is_less p) (is_apart p) (λ h. smaller h.picture p) _ in_front) i
+        ++ putting.filter_alike (λ h. not (is_less p h)) (is_apart p) (is_more p) (λ h. greater h.picture p) (drop from xs) behind i)
+        ∙ ap (λ l. take from xs ++ l) (sym (parts (is_more p) ∙ ap (λ l. l ++ filter (is_more p) (drop from xs)) (putting.filter_none (is_more p) (take from xs) (putting.list_all_wider (is_less p) (λ h. not (is_more p h)) (λ h. not_greater h.picture p) _ in_front))) ∙ last)
 
     some_between : to < from → from ≤ to
     some_between back = elim xs as (λ l. l ≡ xs → from ≤ to) [

@@ -18,7 +18,7 @@ use Rattle.photo_device.specs.Entry.{is_of_other}
 use Rattle.photo_device.specs.Held.{entry_of, held_before, held_of_others, replaced, count_of}
 use Rattle.photo_device.specs.Device.{Kept, held_at, unstaged}
 use Rattle.photo_device.specs.Own.{HasEarlier, KnowsItsOwn, KnowsNoMore, IsKnownBy, IsNext, HasMade, IsDevice}
-use Rattle.photo_device.specs.Learning.{IsOwnLearned}
+use Rattle.photo_device.specs.Learning.{IsNextKnown, IsOwnLearned}
 use Rattle.photo_device.proofs.AllLemmas.{all_filter, all_put}
 use Rattle.photo_device.proofs.Counts.{one_of, count_of-cons, count_of-append, count_of-put, count_of-filter, same_version_is, same_version_self}
 
@@ -114,18 +114,17 @@ up_to_one true n =
 of_author : (a : Author) (k : ℕ) (v : Version) → v ≡ version a (k + 1) → a ≡ v.author
 of_author a k v next = sym (ap (λ (x : Version). x.author) next)
 
-pub next_number : (a : Author) (k : ℕ) (v : Version) (fs gs : List Fragment) → v ≡ version a (k + 1) → gs ≡ fs → KnowsItsOwn a k fs → v.number ≡ star_bound gs v.author + 1
-next_number a k v fs gs next same own =
-    ap (λ (x : Version). x.number) next ∙ ap (λ n. n + 1) (sym own.star) ∙ (λ i. star_bound (sym same i) (of_author a k v next i) + 1)
-
-pub some_number : (a : Author) (k : ℕ) (v : Version) (fs : List Fragment) → v ≡ version a (k + 1) → 0 < k → KnowsItsOwn a k fs → 0 < star_bound fs v.author
-some_number a k v fs next some own = subst (λ b. 0 < star_bound fs b) (of_author a k v next) (subst (λ n. 0 < n) (sym own.star) some)
-
-pub none_above : (a : Author) (k : ℕ) (v : Version) (fs : List Fragment) → v ≡ version a (k + 1) → KnowsItsOwn a k fs → (p n : ℕ) → 0 < p → knows fs p (version v.author n) ≡ true → n ≤ star_bound fs v.author
+none_above : (a : Author) (k : ℕ) (v : Version) (fs : List Fragment) → v ≡ version a (k + 1) → KnowsItsOwn a k fs → (p n : ℕ) → 0 < p → knows fs p (version v.author n) ≡ true → n ≤ star_bound fs v.author
 none_above a k v fs next own p n above here =
     let has : (leb 1 n && leb n k) ≡ true = sym (own.own p n above) ∙ ap (λ b. knows fs p (version b n)) (of_author a k v next) ∙ here in
     let within : n ≤ k = leb-true n k (and_parts (leb 1 n) (leb n k) has).1 in
     subst (λ b. n ≤ star_bound fs b) (of_author a k v next) (subst (λ m. n ≤ m) (sym own.star) within)
+
+pub next_known : (a : Author) (k : ℕ) (v : Version) (fs : List Fragment) → v ≡ version a (k + 1) → KnowsItsOwn a k fs → IsNextKnown v fs
+next_known a k v fs next own = record {
+  next = ap (λ (x : Version). x.number) next ∙ ap (λ n. n + 1) (sym own.star) ∙ (λ i. star_bound fs (of_author a k v next i) + 1);
+  level = none_above a k v fs next own;
+}
 
 -- a device that holds one version more, at either place
 

@@ -16,6 +16,13 @@ module _ {A : Type 0} where
         | false ↦ list_all-filter q r xs (and_parts _ _ h).1
       ]
 
+  pub list_all_filtered : (q : A → Bool) (xs : List A) → list_all q (filter q xs) ≡ true
+  list_all_filtered q [] = refl
+  list_all_filtered q (x ∷ xs) = elim (cases_Bool (q x)) [
+    | inl passes ↦ rw passes (and_from _ _ passes (list_all_filtered q xs))
+    | inr fails ↦ rw fails (list_all_filtered q xs)
+  ]
+
   -- what one test tells of each, another may too
   pub list_all_wider : (q r : A → Bool) → ((x : A) → q x ≡ true → r x ≡ true) → (xs : List A) → list_all q xs ≡ true → list_all r xs ≡ true
   list_all_wider q r wider [] h = refl
@@ -32,6 +39,26 @@ module _ {A : Type 0} where
   filter_none q (x ∷ xs) h =
       let fails : q x ≡ false = not-true _ (and_parts _ _ h).0 in
       rw fails (filter_none q xs (and_parts _ _ h).1)
+
+  -- two tests that are alike where a third passes
+  pub filter_alike : (s q r : A → Bool) → ((x : A) → s x ≡ true → q x ≡ r x) → (xs : List A) → list_all s xs ≡ true → filter q xs ≡ filter r xs
+  filter_alike s q r same [] h = refl
+  filter_alike s q r same (x ∷ xs) h =
+      let rest = filter_alike s q r same xs (and_parts _ _ h).1 in
+      λ i. cond (same x (and_parts _ _ h).0 i) (x ∷ rest i) (rest i)
+
+  -- where a test turns, those that pass end and the others begin
+  pub turned : (q : A → Bool) (xs : List A) (n : ℕ) → n ≤ length xs → IsPartitionPoint (λ y. q y ≡ true) (λ y. q y ≡ false) xs n → (filter q xs ≡ take n xs) × (filter (λ y. not (q y)) xs ≡ drop n xs)
+  turned q [] zero l point = (refl, refl)
+  turned q [] (suc n) l point = absurd (omega arith)
+  turned q (x ∷ xs) zero l point =
+      let fails : q x ≡ false = point.1 0 x (omega arith) (omega arith) in
+      let rest = turned q xs zero (omega arith) (λ j d z u. absurd (omega arith), λ j d u v. point.1 (suc j) d (omega arith) (omega arith)) in
+      (rw fails rest.0, rw fails (ap (λ l. x ∷ l) rest.1))
+  turned q (x ∷ xs) (suc n) l point =
+      let passes : q x ≡ true = point.0 0 x (omega arith) (omega arith) in
+      let rest = turned q xs n (omega arith) (λ j d z u. point.0 (suc j) d (omega arith) (omega arith), λ j d u v. point.1 (suc j) d (omega arith) (omega arith)) in
+      (rw passes (ap (λ l. x ∷ l) rest.0), rw passes rest.1)
 
   module _ (before : A → A → Bool) where
     pub in_order-filter : (r : A → Bool) (xs : List A) → in_order before xs ≡ true → in_order before (filter r xs) ≡ true
@@ -102,6 +129,13 @@ module _ {A : Type 0} where
     put_first x (y ∷ ys) h =
         let after : before y x ≡ false = not-true _ (and_parts _ _ h).0 in
         rw after refl
+
+    -- and what is put between those that stand before it and the others
+    pub put_between : (x : A) (ys zs : List A) → list_all (λ y. before y x) ys ≡ true → list_all (λ z. not (before z x)) zs ≡ true → put before x (ys ++ zs) ≡ ys ++ x ∷ zs
+    put_between x [] zs first last = put_first x zs last
+    put_between x (y ∷ ys) zs first last =
+        let less : before y x ≡ true = (and_parts _ _ first).0 in
+        rw less (ap (λ l. y ∷ l) (put_between x ys zs (and_parts _ _ first).1 last))
 
     none_behind : (x y : A) (ys : List A) → before y x ≡ false → list_all (before y) ys ≡ true → list_all (λ z. not (before z x)) (y ∷ ys) ≡ true
     none_behind x y ys h a =

@@ -1,5 +1,5 @@
 -- A version among versions in order.
-use Rattle.std.proofs.Common.{◌≡◌, ℕ, suc, ◌+◌, ◌-◌, ◌<◌, ◌≤◌, Bool, true, false, not, ◌&&◌, List, length, get_or, refl, sym, ap, ◌∙◌, inl, inr, arith}
+use Rattle.std.proofs.Common.{◌≡◌, ℕ, suc, ◌+◌, ◌-◌, ◌<◌, ◌≤◌, true, false, not, List, length, get_or, sym, ap, ◌∙◌, inl, inr, arith}
 use Rattle.std.specs.List.Sorted.{IsPartitionedBy, IsPartitionPoint}
 use Rattle.std.proofs.lemmas.Bool.{cases_Bool, cases_lt, false≢true, not-true}
 use Rattle.std.proofs.lemmas.List.{get_or_default}
@@ -7,7 +7,7 @@ use Rattle.std.proofs.lemmas.List.Folds.{list_any_at, list_any_none}
 use Rattle.photo_version.specs.Version.{Version, same_version, version_before}
 use Rattle.photo_device.specs.Rising.{are_rising}
 use Rattle.photo_device.specs.Held.{is_listed}
-use Rattle.photo_device.proofs.Lexical.{version_order, version_same}
+use Rattle.photo_device.proofs.Lexical.{version_order, version_same, before_other, behind_other, behind_first}
 use Rattle.photo_device.proofs.Putting.{in_order_at, in_order_next, partitioned_rising}
 
 pub rising_next : (versions : List Version) → ((k : ℕ) (d : Version) → suc k < length versions → version_before (get_or versions (suc k) d) (get_or versions k d) ≡ false) → are_rising versions ≡ true
@@ -21,32 +21,16 @@ rising_partitioned versions w o = partitioned_rising version_order w versions o
 
 -- which one stands where those before w end
 module _ (versions : List Version) (w : Version) (n : ℕ) (o : are_rising versions ≡ true) (point : IsPartitionPoint (λ v. version_before v w ≡ true) (λ v. version_before v w ≡ false) versions n) where
-  before_other : (v : Version) → version_before v w ≡ true → same_version v w ≡ false
-  before_other v h = version_same v w ∙ ap (λ b. not b && not (version_before w v)) h
-
-  behind_other : (v : Version) → version_before w v ≡ true → same_version v w ≡ false
-  behind_other v h = version_same v w ∙ ap (λ b. not (version_before v w) && not b) h ∙ none_of_both (not (version_before v w))
-    where
-      none_of_both : (b : Bool) → b && false ≡ false
-      none_of_both true = refl
-      none_of_both false = refl
-
-  behind_first : (v : Version) → version_before v w ≡ false → same_version v w ≡ false → version_before w v ≡ true
-  behind_first v h other = elim (cases_Bool (version_before w v)) [
-    | inl behind ↦ behind
-    | inr none ↦ absurd (false≢true (sym other ∙ version_same v w ∙ (λ i. not (h i) && not (none i))))
-  ]
-
   others : (k : ℕ) (d : Version) → k < length versions → (n < length versions → same_version (get_or versions n d) w ≡ false) → same_version (get_or versions k d) w ≡ false
   others k d l other = elim (cases_lt k n) [
-    | inl before ↦ before_other _ (point.0 k d (omega arith) before)
+    | inl before ↦ before_other version_before same_version version_same _ w (point.0 k d (omega arith) before)
     | inr from ↦ elim (cases_lt n k) [
       | inl later ↦
           let at : n < length versions = omega arith in
-          let turn = behind_first (get_or versions n d) (point.1 n d (omega arith) at) (other at) in
+          let turn = behind_first version_before same_version version_same (get_or versions n d) w (point.1 n d (omega arith) at) (other at) in
           let rising = not-true _ (in_order_at (λ v w. not (version_before w v)) versions o n k d later l) in
           elim (cases_Bool (version_before w (get_or versions k d))) [
-            | inl behind ↦ behind_other _ behind
+            | inl behind ↦ behind_other version_before same_version version_same _ w behind
             | inr none ↦ absurd (false≢true (sym (version_order.chain w (get_or versions k d) (get_or versions n d) none rising) ∙ turn))
           ]
       | inr same ↦ let here : k ≡ n = omega arith in rw here (other (omega arith))

@@ -289,7 +289,13 @@ stages new p gain d known union normal may store_most store_more out_most out_mo
   };
 }
 
--- where nothing is staged nothing is prepared, whatever else of the device is new
+-- where nothing is staged nothing is prepared
+pub none_prepared : (prepared : Option Prepared) (o : Option (List Fragment)) (d : Kept) → AreParts prepared o d → staging_of prepared o ≡ None → prepared ≡ None
+none_prepared None o d parts none = refl
+none_prepared (Some p) None d parts none = absurd (false≢true parts.fits.there)
+none_prepared (Some p) (Some fs) d parts none = absurd (false≢true (sym (ap is_some none)))
+
+-- and that stays, whatever else of the device is new
 pub none_fits : (prepared : Option Prepared) (o : Option (List Fragment)) (d e : Kept) → AreParts prepared o d → staging_of prepared o ≡ None → IsDevice e → AreParts prepared o e
 none_fits None o d e parts none is = record { device = is; fits = parts.fits }
 none_fits (Some p) None d e parts none is = absurd (false≢true parts.fits.there)

@@ -1,5 +1,5 @@
 -- What a set takes, and how it gives it back.
-use Rattle.std.proofs.Common.{◌≡◌, ◌+◌, ◌≤◌, Bool, true, false, not, cond, ◌||◌, List, [], ◌∷◌, ◌++◌, refl, sym, ap, ◌∙◌, ◌⊎◌, subst, inl, inr, arith}
+use Rattle.std.proofs.Common.{◌≡◌, ℕ, ◌+◌, ◌≤◌, length, Bool, true, false, not, cond, ◌||◌, List, [], ◌∷◌, ◌++◌, refl, sym, ap, ◌∙◌, ◌⊎◌, subst, inl, inr, arith}
 use Rattle.std.specs.Prelude.{filter, Some, None}
 use Rattle.std.specs.Cmp.{IsStrictWeakOrder}
 use Rattle.std.proofs.lemmas.Bool.{cases_Bool, false≢true}
@@ -194,3 +194,19 @@ pub next_new : (h : Held) (left now : List Held) → AreNewTo now (h ∷ left) �
 next_new h left now new =
     not_found h.version now
     (let all = first_new h left now new in let both = count_of-append h.version left now in omega arith)
+
+-- a set that takes all of them, with room
+
+pub record IsPutting (coming before left now : List Held) (more : ℕ) : Type 0 where
+  pub done : put_one_by_one left now ≡ put_one_by_one coming before
+  pub new : AreNewTo now left
+  pub room : length left ≤ more
+
+pub next_putting : (coming before left now next : List Held) (h : Held) (more less : ℕ) → IsPutting coming before (h ∷ left) now more → next ≡ put held_before h now → less + 1 ≡ more → IsPutting coming before left next less
+next_putting coming before left now next h more less putting is fewer =
+    let room = putting.room in
+    subst (λ l. IsPutting coming before left l less) (sym is) (record { done = putting.done; new = put_new h left now putting.new; room = omega arith })
+
+pub all_put_in : (coming before now : List Held) (more : ℕ) → AreNewTo before coming → IsPutting coming before [] now more → now ≡ put_helds coming before
+all_put_in coming before now more new putting =
+    putting.done ∙ one_by_one coming before (λ v. let once = new.once v in let both = count_of-append v coming before in omega arith)

@@ -1,17 +1,14 @@
 // What a device holds, sorted anew for another filter.
-ghost use Rattle.std.specs.Prelude.{◌≡◌, ℕ, ◌<◌, ◌||◌, ◌++◌, true, false, [], filter, None, IfOk, OnOk, OnErr};
+ghost use Rattle.std.specs.Prelude.{◌≡◌, true, false, filter, IfOk, OnOk, OnErr};
 ghost use Rattle.std.specs.List.{AllByRecursion};
 ghost use Rattle.photo_filter_rules.specs.Matching.{matches};
-ghost use Rattle.photo_version.specs.Author.{Author};
-ghost use Rattle.photo_version.specs.Version.{Version};
-ghost use Rattle.item_knowledge.specs.Fragments.{knows};
-ghost use Rattle.item_knowledge.specs.Kept.{star_bound};
 ghost use Rattle.photo_device.specs.Held.{are_in_order};
 ghost use Rattle.photo_device.specs.Own.{HasEarlier};
+ghost use Rattle.photo_device.specs.Anew.{IsAnew, IsNothingYet};
 ghost use Rattle.photo_device.specs.Taking.{with_side, AreNewTo};
-ghost use Rattle.photo_device.specs.Telling.{tells};
 
-use crate::table::gain_of;
+use crate::noted_knowledge::NotedKnowledge;
+use crate::table::learn_told;
 use crate::takes::sort_in;
 use crate::{HeldSet, SharedList};
 use item_knowledge::Knowledge;
@@ -29,8 +26,28 @@ pub(crate) struct Anew {
     pub told: Knowledge,
 }
 
-// The held versions of a set as a list.
-fn listed(set: &HeldSet) -> Result<SharedList, AllocError>
+impl Anew {
+    ghost use Rattle.std.specs.Prelude.{◌≡◌};
+
+    /// It comes in the place of what was held and known. It takes no memory.
+    pub(crate) fn put_into(
+        self,
+        store: &mut HeldSet,
+        out: &mut HeldSet,
+        knowledge: &mut NotedKnowledge,
+    )
+        ensures store { store.new ≡ self.store }
+        ensures out { out.new ≡ self.out }
+        ensures knowledge { knowledge.new ≡ self.told }
+    {
+        *store = self.store;
+        *out = self.out;
+        knowledge.replace(self.told);
+    }
+}
+
+/// The held versions of a set as a list. Its only error is want of memory.
+pub(crate) fn listed(set: &HeldSet) -> Result<SharedList, AllocError>
     ensures value { IfOk result (λ list. list ≡ set.now) }
     ensures ordered { are_in_order set.now ≡ true }
 {
@@ -44,26 +61,48 @@ pub(crate) fn held_anew(wanted: &Filter, store: &HeldSet, out: &HeldSet) -> Resu
     requires once { AreNewTo out.now store.now }
     requires stored { AllByRecursion HasEarlier store.now }
     requires waiting { AllByRecursion HasEarlier out.now }
-    ensures store { IfOk result (λ anew. anew.store ≡ with_side true wanted.now (store.now ++ out.now) []) }
-    ensures out { IfOk result (λ anew. anew.out ≡ with_side false wanted.now (store.now ++ out.now) []) }
-    ensures pairs { IfOk result (λ anew. (p : ℕ) (v : Version) → 0 < p → knows anew.told.known p v ≡ (tells store.now p v || tells out.now p v)) }
-    ensures star { IfOk result (λ anew. (a : Author) → star_bound anew.told.known a ≡ 0) }
-    ensures staged { IfOk result (λ anew. anew.told.staged ≡ None) }
+    ensures { IfOk result (λ anew. IsAnew wanted.now store.now out.now anew) }
 {
     let alloc = store.alloc();
+    let told = Knowledge::new(alloc)?;
+    let mut anew = Anew {
+        store: HeldSet::new(alloc),
+        out: HeldSet::new(alloc),
+        told,
+    };
+    sort_anew(wanted, store, out, &mut anew)?;
+    Ok(anew)
+}
+
+// Sorts what two sets hold into empty ones, and learns what it tells.
+fn sort_anew(
+    wanted: &Filter,
+    store: &HeldSet,
+    out: &HeldSet,
+    anew: &mut Anew,
+) -> Result<(), AllocError>
+    requires once { AreNewTo out.now store.now }
+    requires stored { AllByRecursion HasEarlier store.now }
+    requires waiting { AllByRecursion HasEarlier out.now }
+    requires empty { IsNothingYet anew.old }
+    ensures { OnOk result (IsAnew wanted.now store.now out.now anew.new) }
+{
     let stored = listed(store)?;
     let waiting = listed(out)?;
-    let told = gain_of(alloc, stored.as_slice(), waiting.as_slice())?;
-    let mut store = HeldSet::new(alloc);
-    let mut out = HeldSet::new(alloc);
+    learn_told(
+        store.alloc(),
+        stored.as_slice(),
+        waiting.as_slice(),
+        &mut anew.told,
+    )?;
     sort_in(
         wanted,
         stored.into_vec(),
         waiting.into_vec(),
-        &mut store,
-        &mut out,
+        &mut anew.store,
+        &mut anew.out,
     )?;
-    Ok(Anew { store, out, told })
+    Ok(())
 }
 
 /// What a store holds, sorted anew by a filter: what it matches, as a set, while the rest comes into the out. After want of

@@ -2,7 +2,7 @@
 ghost use Rattle.std.specs.Prelude.{◌≡◌, ◌+◌, None, IfOk, OnOk, OnErr};
 ghost use Rattle.item_knowledge.specs.Kept.{star_bound};
 ghost use Rattle.photo_device.specs.Device.{store_with, out_with};
-ghost use Rattle.photo_device.specs.Learning.{IsOwnLearned};
+ghost use Rattle.photo_device.specs.Learning.{IsHeldNext, IsNextKnown, IsOwnLearned};
 
 use crate::anew::{Anew, held_anew, narrowed};
 use crate::drops::give_up;
@@ -81,6 +81,7 @@ impl Device {
     ghost use Rattle.photo_device.specs.Device.{ModelDevice, Shows, holds, is_held, opening, unstaged, IsAsItWas};
     ghost use Rattle.photo_device.specs.Device.{made, next_version, new_place, changed, without_waiting, narrowed, moved};
     ghost use Rattle.photo_device.specs.Refiltered.{refiltered};
+    ghost use Rattle.photo_device.specs.Anew.{IsAnew};
     ghost use Rattle.photo_device.specs.Conflicts.{conflicts_of};
     ghost use Rattle.photo_record.specs.declared.record.Record.TheVariants.{Removed};
     ghost use Rattle.photo_device.specs.declared.fault.ChangeFault.TheVariants.{NotHeld};
@@ -179,43 +180,20 @@ impl Device {
 
     // Holds its next version at a place, counts it, and knows it of every picture. An error leaves the device as it was.
     fn add(&mut self, place: Place, held: SharedHeld) -> Result<(), AllocError>
-        requires { IsNext held self.old }
-        ensures ok { OnOk result (HasMade place held self.old self.new) }
-        ensures err { OnErr result (self.new ≡ self.old) }
-    {
-        self.knowledge.make_place(held.version());
-        if self.counter == 0 {
-            return self.add_first(place, held);
-        }
-        self.add_later(place, held)
-    }
-
-    // The first version wants memory for its author's bounds: so they are made in a copy of what is known.
-    fn add_first(&mut self, place: Place, held: SharedHeld) -> Result<(), AllocError>
-        requires { IsNext held self.old }
-        ensures ok { OnOk result (HasMade place held self.old self.new) }
-        ensures err { OnErr result (self.new ≡ self.old) }
-    {
-        let version = held.version();
-        let knowledge = with_own(self.knowledge.as_knowledge(), version)?;
-        hold(&mut self.store, &mut self.out, place, held)?;
-        self.prepared = None;
-        self.knowledge = NotedKnowledge::new(self.store.alloc(), knowledge);
-        self.counter = version.n();
-        Ok(())
-    }
-
-    // A later version raises bounds that are there already.
-    fn add_later(&mut self, place: Place, held: SharedHeld) -> Result<(), AllocError>
-        requires some { 0 < self.old.counter }
         requires next { IsNext held self.old }
+        requires unstaged { self.old.staged ≡ None }
         ensures ok { OnOk result (HasMade place held self.old self.new) }
         ensures err { OnErr result (self.new ≡ self.old) }
     {
         let version = held.version();
-        hold(&mut self.store, &mut self.out, place, held)?;
-        self.prepared = None;
-        self.knowledge.raise_own(version);
+        self.knowledge.make_place(version);
+        hold_next(
+            &mut self.store,
+            &mut self.out,
+            &mut self.knowledge,
+            place,
+            held,
+        )?;
         self.counter = version.n();
         Ok(())
     }
@@ -377,10 +355,10 @@ impl Device {
     {
         let Change { drops, takes, gain } = change;
         let pictures = Vec::new(self.store.alloc());
-        if let Err((drops, takes, refused)) = self.stage_lent(drops, pictures, takes, &gain, room) {
-            return Err((Change { drops, takes, gain }, refused));
+        match self.stage_lent(drops, pictures, takes, &gain, room) {
+            Ok(()) => Ok(()),
+            Err((drops, takes, refused)) => Err((Change { drops, takes, gain }, refused)),
         }
-        Ok(())
     }
 
     /// Prepares a change as `stage` does, where what is learned is lent, so that nobody has to copy it. The pictures of the
@@ -541,24 +519,30 @@ impl Device {
         ensures staged { self.new.staged ≡ None }
     {
         self.unstage();
+        match held_anew(&filter, &self.store, &self.out) {
+            Ok(anew) => Ok(self.begin_anew(filter, anew)),
+            Err(refused) => Err((filter, refused)),
+        }
+    }
+
+    // Begins its next epoch with what it holds, sorted anew by the filter that it gets.
+    fn begin_anew(&mut self, filter: Filter, anew: Anew) -> (u64, u64)
+        requires unstaged { self.old.staged ≡ None }
+        requires epoch { epoch_of_author self.old.author < 4_294_967_295 }
+        requires anew { IsAnew filter self.old.store self.old.out anew }
+        ensures shows { (m : ModelDevice) → Shows self.old m → Shows self.new (refiltered filter m) }
+        ensures store { result.0 ≡ length self.new.store }
+        ensures out { result.1 ≡ length self.new.out }
+        ensures staged { self.new.staged ≡ None }
+    {
         let Some(author) = self.author.next() else {
             unreachable!()
         };
-        let anew = match held_anew(&filter, &self.store, &self.out) {
-            Ok(anew) => anew,
-            Err(refused) => return Err((filter, refused)),
-        };
-        let Anew { store, out, told } = anew;
-        let sizes = (store.len() as u64, out.len() as u64);
         self.author = author;
         self.filter = filter;
         self.counter = 0;
-        // What was noted of the old knowledge need not be known any more.
-        self.knowledge = NotedKnowledge::new(store.alloc(), told);
-        self.store = store;
-        self.out = out;
-        self.prepared = None;
-        Ok(sizes)
+        anew.put_into(&mut self.store, &mut self.out, &mut self.knowledge);
+        (self.store.len() as u64, self.out.len() as u64)
     }
 
     /// The same device with another knowledge, which has what every device has to know, and nothing staged.
@@ -568,11 +552,10 @@ impl Device {
         requires out { AllByRecursion (IsKnownBy knowledge.known) self.out }
         ensures { result ≡ record self { knowledge = knowledge.known; staged = None } }
     {
-        let mut knowledge = knowledge;
-        knowledge.unstage();
         let mut device = self;
         device.prepared = None;
-        device.knowledge = NotedKnowledge::new(device.store.alloc(), knowledge);
+        device.knowledge.replace(knowledge);
+        device.knowledge.unstage();
         device
     }
 
@@ -588,9 +571,52 @@ impl Device {
     pub fn conflicts(&self) -> Result<Vec<Conflict>, AllocError>
         ensures { IfOk result (λ list. (m : ModelDevice) → Shows self.now m → list.items ≡ conflicts_of m) }
     {
-        let list = conflicts::conflicts_of(self.store.alloc(), &self.store, &self.out)?;
+        let list = conflicts::conflicts_of(&self.store, &self.out)?;
         Ok(list)
     }
+}
+
+// Holds its author's next version at a place, and knows it of every picture. An error changes nothing.
+fn hold_next(
+    store: &mut HeldSet,
+    out: &mut HeldSet,
+    knowledge: &mut NotedKnowledge,
+    place: Place,
+    held: SharedHeld,
+) -> Result<(), AllocError>
+    requires { IsNextKnown held.version knowledge.old.known }
+    ensures ok { OnOk result (IsHeldNext place held store.old store.new out.old out.new knowledge.old knowledge.new) }
+    ensures store_kept { OnErr result (store.new ≡ store.old) }
+    ensures out_kept { OnErr result (out.new ≡ out.old) }
+    ensures known_kept { OnErr result (knowledge.new ≡ knowledge.old) }
+{
+    let version = held.version();
+    if version.n() == 1 {
+        return hold_first(store, out, knowledge, place, held);
+    }
+    hold(store, out, place, held)?;
+    knowledge.raise_own(version);
+    Ok(())
+}
+
+// The first version wants memory for its author's bounds: so they are made in a copy of what is known.
+fn hold_first(
+    store: &mut HeldSet,
+    out: &mut HeldSet,
+    knowledge: &mut NotedKnowledge,
+    place: Place,
+    held: SharedHeld,
+) -> Result<(), AllocError>
+    requires { IsNextKnown held.version knowledge.old.known }
+    ensures ok { OnOk result (IsHeldNext place held store.old store.new out.old out.new knowledge.old knowledge.new) }
+    ensures store_kept { OnErr result (store.new ≡ store.old) }
+    ensures out_kept { OnErr result (out.new ≡ out.old) }
+    ensures known_kept { OnErr result (knowledge.new ≡ knowledge.old) }
+{
+    let known = with_own(knowledge.as_knowledge(), held.version())?;
+    hold(store, out, place, held)?;
+    knowledge.replace(known);
+    Ok(())
 }
 
 // What is known, and of every picture its author's next version as well. Its only error is want of memory.

@@ -190,12 +190,7 @@ impl HeldSet {
     pub fn find(&self, version: Version) -> Option<&Held>
         ensures { option_copied result ≡ find_version version self.now }
     {
-        for block in self.items.as_blocks() {
-            if let Some(held) = find_in(block, version) {
-                return Some(held.as_held());
-            }
-        }
-        None
+        find_in(&self.items, version)
     }
 
     /// Puts a version in the place of all of its picture. An error leaves the set as it was.
@@ -309,11 +304,16 @@ fn push(items: &mut BlockList<SharedHeld>, held: SharedHeld) -> Result<(), Alloc
     Ok(())
 }
 
-// The one of that version in a part of a set.
-fn find_in(items: &[SharedHeld], version: Version) -> Option<&SharedHeld>
+// The one of that version.
+fn find_in(items: &BlockList<SharedHeld>, version: Version) -> Option<&Held>
     ensures { option_copied result ≡ find_version version items.now }
 {
-    items.iter().find(|held| held.version() == version)
+    for held in items {
+        if held.version() == version {
+            return Some(held.as_held());
+        }
+    }
+    None
 }
 
 // Where the versions of a picture stand: from the first place up to before the second.

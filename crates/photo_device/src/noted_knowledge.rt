@@ -52,6 +52,14 @@ impl NotedKnowledge {
         }
     }
 
+    /// Another knowledge comes in its place, of which nothing is noted. It takes no memory.
+    pub fn replace(&mut self, knowledge: Knowledge)
+        ensures { self.new ≡ knowledge }
+    {
+        self.noted.forget();
+        self.knowledge = knowledge;
+    }
+
     /// The knowledge.
     pub fn as_knowledge(&self) -> &Knowledge
         ensures { result.now ≡ self.now }

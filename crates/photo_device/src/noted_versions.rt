@@ -37,6 +37,13 @@ impl NotedVersions {
         }
     }
 
+    /// Nothing is noted any more. It takes no memory.
+    pub fn forget(&mut self)
+        ensures { self.new.rows.items ≡ [] }
+    {
+        self.rows.clear();
+    }
+
     /// Whether that version of that picture is noted. It takes no memory.
     pub fn has(&self, picture: PicNo, version: Version) -> bool
         ensures { result ≡ true → (known : List Fragment) → AreKnown known self.now.rows.items

@@ -1,9 +1,9 @@
 // What held versions tell of their pictures.
-ghost use Rattle.std.specs.Prelude.{◌≡◌, ℕ, ◌<◌, ◌&&◌, ◌||◌, ◌==◌, nat_le, true, [], None, IfOk, OnOk};
+ghost use Rattle.std.specs.Prelude.{◌≡◌, ℕ, ◌<◌, ◌&&◌, ◌||◌, ◌==◌, ◌++◌, ◌∷◌, nat_le, true, [], None, IfOk, OnOk};
 ghost use Rattle.std.specs.List.{AllByRecursion};
 ghost use Rattle.photo_version.specs.Author.{Author};
 ghost use Rattle.photo_version.specs.Version as versions;
-ghost use Rattle.photo_version.specs.Vector.{denotes};
+ghost use Rattle.photo_version.specs.Vector.{denotes, joined};
 ghost use Rattle.item_knowledge.specs.Fragments.{knows};
 ghost use Rattle.item_knowledge.specs.Kept.{star_bound};
 ghost use Rattle.item_knowledge.specs.Tables.{in_order, keys_pass, at};
@@ -25,8 +25,7 @@ fn told_by(held: &SharedHeld) -> Result<Vector, AllocError>
 {
     // For its fact alone: a version's number is above 0.
     let _number = held.version().n();
-    let vector = held.made_with().with(held.version())?;
-    Ok(vector)
+    held.made_with().with(held.version())
 }
 
 // Adds what is told of a picture to a table whose pictures are none greater.
@@ -47,11 +46,25 @@ fn add_row(
         return Ok(());
     };
     if last == picture {
-        table.push((picture, known.join(&vector)?))?;
-        return Ok(());
+        return push_joined(table, picture, &known, &vector);
     }
     table.push((last, known))?;
     table.push((picture, vector))?;
+    Ok(())
+}
+
+// Puts what two vectors tell of a picture behind a table.
+fn push_joined(
+    table: &mut Vec<(PicNo, Vector)>,
+    picture: PicNo,
+    known: &Vector,
+    vector: &Vector,
+) -> Result<(), AllocError>
+    ensures { OnOk result ((table.new.items ≡ table.old.items ++ (picture, joined known.now vector.now) ∷ [])
+        × ((v : versions.Version) → denotes (joined known.now vector.now) v ≡ (denotes known.now v || denotes vector.now v))) }
+{
+    let both = known.join(vector)?;
+    table.push((picture, both))?;
     Ok(())
 }
 
@@ -67,8 +80,7 @@ fn add_told(table: &mut Vec<(PicNo, Vector)>, held: &SharedHeld) -> Result<(), A
         || ((held.now.picture == p) && (denotes held.now.made_with v || versions.same_version held.now.version v)))) }
 {
     let vector = told_by(held)?;
-    add_row(table, held.picture(), vector)?;
-    Ok(())
+    add_row(table, held.picture(), vector)
 }
 
 // What versions tell, all those of one picture in one row.
@@ -101,9 +113,39 @@ pub fn gain_of(
     ensures staged { IfOk result (λ gain. gain.staged ≡ None) }
 {
     let mut gain = Knowledge::new(alloc)?;
-    let told = table_of(alloc, heard)?;
-    gain.learn_table(&told)?;
-    let told = table_of(alloc, handed)?;
-    gain.learn_table(&told)?;
+    learn_told(alloc, heard, handed, &mut gain)?;
     Ok(gain)
+}
+
+/// Learns what both lists tell. Its only error is want of memory, after which a part may be learned.
+pub(crate) fn learn_told(
+    alloc: Global,
+    heard: &[SharedHeld],
+    handed: &[SharedHeld],
+    gain: &mut Knowledge,
+) -> Result<(), AllocError>
+    requires heard_order { are_in_order heard.now ≡ true }
+    requires handed_order { are_in_order handed.now ≡ true }
+    requires heard { AllByRecursion HasEarlier heard.now }
+    requires handed { AllByRecursion HasEarlier handed.now }
+    ensures pairs { OnOk result ((p : ℕ) (v : versions.Version) → 0 < p
+        → knows gain.new.known p v ≡ ((knows gain.old.known p v || tells heard.now p v) || tells handed.now p v)) }
+    ensures star { OnOk result ((a : Author) → star_bound gain.new.known a ≡ star_bound gain.old.known a) }
+    ensures staged { OnOk result (gain.new.staged ≡ None) }
+{
+    learn_list(alloc, heard, gain)?;
+    learn_list(alloc, handed, gain)
+}
+
+// Learns what a list tells.
+fn learn_list(alloc: Global, list: &[SharedHeld], gain: &mut Knowledge) -> Result<(), AllocError>
+    requires order { are_in_order list.now ≡ true }
+    requires earlier { AllByRecursion HasEarlier list.now }
+    ensures pairs { OnOk result
+        ((p : ℕ) (v : versions.Version) → 0 < p → knows gain.new.known p v ≡ (knows gain.old.known p v || tells list.now p v)) }
+    ensures star { OnOk result ((a : Author) → star_bound gain.new.known a ≡ star_bound gain.old.known a) }
+    ensures staged { OnOk result (gain.new.staged ≡ None) }
+{
+    let told = table_of(alloc, list)?;
+    gain.learn_table(&told)
 }

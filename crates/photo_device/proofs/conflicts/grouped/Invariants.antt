@@ -1,11 +1,11 @@
-use Rattle.std.proofs.Common.{◌≡◌, ◌≤◌, ◌-◌, ◌++◌, length, drop}
-use Rattle.photo_device.specs.Listing.{as_entries}
+use Rattle.std.proofs.Common.{◌≡◌, true, ◌++◌, length}
+use Rattle.photo_device.specs.Held.{entries_of, are_in_order}
 use Rattle.photo_device.specs.Conflicts.{conflicts_in}
 use Rattle.photo_device.proofs.conflicts.grouped.Given as goal
 
--- what is done, with the conflicts of what is left, is all
-abbrev pub invariant-loop-from : goal.invariant-loop-from
-invariant-loop-from l = (l.from ≤ length l.all) × (l.conflicts.items ++ conflicts_in (as_entries (drop l.from l.all)) ≡ conflicts_in (as_entries l.all))
+-- what is found, with the conflicts of what is left, is all
+abbrev pub invariant-loop-rest : goal.invariant-loop-rest
+invariant-loop-rest l = (l.conflicts.items ++ conflicts_in (entries_of l.rest) ≡ conflicts_in (entries_of l.all)) × (are_in_order l.rest ≡ true)
 
-abbrev pub decreases-loop-from : goal.decreases-loop-from
-decreases-loop-from l = length l.all - l.from
+abbrev pub decreases-loop-rest : goal.decreases-loop-rest
+decreases-loop-rest l = length l.rest

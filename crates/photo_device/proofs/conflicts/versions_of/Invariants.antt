@@ -1,7 +1,7 @@
-use Rattle.std.proofs.Common.{◌≡◌, ℕ, take}
+use Rattle.std.proofs.Common.{◌≡◌, take}
 use Rattle.std.specs.Prelude.{map}
-use Rattle.photo_version.specs.Version.{Version}
+use Rattle.photo_device.specs.declared.held.Held.{Held}
 use Rattle.photo_device.proofs.conflicts.versions_of.Given as goal
 
-abbrev pub invariant-loop-version : goal.invariant-loop-version
-invariant-loop-version l = l.versions.items ≡ map (λ (p : ℕ × Version). p.1) (take l.version-index l.run)
+abbrev pub invariant-loop-held : goal.invariant-loop-held
+invariant-loop-held l = l.versions.items ≡ map (λ (h : Held). h.version) (take l.held-index l.run)

@@ -9,8 +9,8 @@ use Rattle.photo_device.specs.Device.{Kept, Shows, made, held_at}
 use Rattle.photo_device.proofs.Shown.{held, IsLearned, shows_made}
 use Rattle.photo_device.proofs.device.Device.make_next.Goals as goal
 
-pub add-requires : goal.add-requires
-add-requires c =
+pub add-requires-clause-next : goal.add-requires-clause-next
+add-requires-clause-next c =
     let version_is = rw c.unwrap-version.ensures at c.new.ensures in
     subst (λ (h : Held). IsNext h c.args.self.now) (sym c.in_ok-shared.ensures) (record {
       next = version_is.1 ∙ ap (λ (d : Kept). version d.author (d.counter + 1)) c.self.view_is;

@@ -1,0 +1,26 @@
+-- Machinery of the proofs: what a device holds, sorted anew for another filter.
+use Rattle.std.specs.Prelude.{◌≡◌, ℕ, ◌<◌, true, false, ◌||◌, List, [], ◌++◌, None}
+use Rattle.photo_filter_text.specs.Tree.{Tree}
+use Rattle.photo_version.specs.Author.{Author}
+use Rattle.photo_version.specs.Version.{Version}
+use Rattle.item_knowledge.specs.Fragments.{knows}
+use Rattle.item_knowledge.specs.Kept.{star_bound}
+use Rattle.photo_device.specs.declared.anew.Anew.{Anew}
+use Rattle.photo_device.specs.declared.held.Held.{Held}
+use Rattle.photo_device.specs.Taking.{with_side}
+use Rattle.photo_device.specs.Telling.{tells}
+
+-- nothing is held or known
+pub record IsNothingYet (anew : Anew) : Type 0 where
+  pub store : anew.store ≡ []
+  pub out : anew.out ≡ []
+  pub nothing : (p : ℕ) (v : Version) → knows anew.told.known p v ≡ false
+  pub star : (a : Author) → star_bound anew.told.known a ≡ 0
+
+-- two sets' versions are sorted by the tree, and what is known is what they tell, of single pictures alone
+pub record IsAnew (tree : Tree) (stored waiting : List Held) (anew : Anew) : Type 0 where
+  pub store : anew.store ≡ with_side true tree (stored ++ waiting) []
+  pub out : anew.out ≡ with_side false tree (stored ++ waiting) []
+  pub pairs : (p : ℕ) (v : Version) → 0 < p → knows anew.told.known p v ≡ (tells stored p v || tells waiting p v)
+  pub star : (a : Author) → star_bound anew.told.known a ≡ 0
+  pub staged : anew.told.staged ≡ None
