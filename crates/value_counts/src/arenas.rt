@@ -7,16 +7,24 @@ use std::alloc::Global;
 // An arena of two rows.
 fn two_rows(alloc: Global) -> Option<FragmentArena> {
     let mut arena = FragmentArena::new(alloc);
-    arena.place(&[1, 2, 3]).ok()?;
-    arena.place(&[4]).ok()?;
-    Some(arena)
+    if arena.place(&[1, 2, 3]).is_ok() && arena.place(&[4]).is_ok() {
+        Some(arena)
+    } else {
+        None
+    }
 }
 
 /// The calls of an arena but `place`, `try_clone`, and a reservation of more than it ever had room for.
 pub fn answer(alloc: Global, times: u32) -> Option<bool> {
-    let arena = two_rows(alloc)?;
+    match two_rows(alloc) {
+        Some(arena) => Some(answer_beside(alloc, &arena, times)),
+        None => None,
+    }
+}
+
+fn answer_beside(alloc: Global, arena: &FragmentArena, times: u32) -> bool {
     let mut other = FragmentArena::new(alloc);
-    Some(is_worked(&arena, &mut other) && answer_of(alloc, &arena, &mut other, times))
+    is_worked(arena, &mut other) && answer_of(alloc, arena, &mut other, times)
 }
 
 fn answer_of(alloc: Global, arena: &FragmentArena, other: &mut FragmentArena, times: u32) -> bool {
@@ -66,8 +74,10 @@ fn is_paired(other: &mut FragmentArena) -> bool {
 
 /// The calls of a block of raw words but `make`.
 pub fn answer_raw(alloc: Global, times: u32) -> Option<bool> {
-    let mut words = RawWords::make(alloc, 3).ok()?;
-    Some(answer_of_raw(&mut words, times))
+    match RawWords::make(alloc, 3) {
+        Ok(mut words) => Some(answer_of_raw(&mut words, times)),
+        Err(_) => None,
+    }
 }
 
 fn answer_of_raw(words: &mut RawWords, times: u32) -> bool {

@@ -3,46 +3,42 @@ use crate::{arenas, epochs, knowledges, lists, records, vectors};
 use std::alloc::Global;
 
 /// Whether each of the calls of a group answered as it has to, so many times. None where no group has the name, or where
-/// the values for it can't be made.
+/// the values for it can't be made. The groups `vector_with`, `knowledge_copy` and `list_cut` do take memory: where these aren't
+/// seen to, the others say nothing.
 pub fn answer_on_values(alloc: Global, group: &str, times: u32) -> Option<bool> {
     match group {
-        "fields" => Some(records::answer_fields(times)),
+        "fields" | "versions" | "epochs" => Some(answer_fields(group, times)),
         "words" => records::answer_words(alloc, times),
-        "versions" => Some(vectors::answer_versions(times)),
-        "epochs" => Some(epochs::answer(times)),
-        "vector" => vectors::answer(alloc, times),
+        "vector" | "vector_with" => vectors::answer(alloc, group, times),
         "arena" => arenas::answer(alloc, times),
         "raw_words" => arenas::answer_raw(alloc, times),
-        _ => of_knowledges(alloc, group, times),
+        _ => of_parts(alloc, group, times),
     }
 }
 
-fn of_knowledges(alloc: Global, group: &str, times: u32) -> Option<bool> {
+fn of_parts(alloc: Global, group: &str, times: u32) -> Option<bool> {
     match group {
-        "knowledge" => knowledges::answer(alloc, times),
-        "fragment" => knowledges::answer_fragment(alloc, times),
-        "knowledge_staging" => knowledges::answer_staging(alloc, times),
-        "knowledge_commit" => knowledges::answer_commit(alloc, times),
+        "knowledge" | "fragment" | "knowledge_staging" | "knowledge_commit" | "knowledge_copy" => {
+            knowledges::answer(alloc, group, times)
+        }
         "knowledge_raising" => knowledges::answer_raising(alloc, times),
-        _ => of_lists(alloc, group, times),
-    }
-}
-
-fn of_lists(alloc: Global, group: &str, times: u32) -> Option<bool> {
-    match group {
-        "list" => lists::answer(alloc, times),
-        "list_removing" => lists::answer_removing(alloc, times),
+        "list" | "list_removing" | "list_cut" => lists::answer(alloc, group, times),
         "list_growing" => lists::answer_growing(alloc, times),
-        _ => of_takers(alloc, group, times),
-    }
-}
-
-// Calls that do take memory: where these aren't seen to, the others say nothing.
-fn of_takers(alloc: Global, group: &str, times: u32) -> Option<bool> {
-    match group {
-        "vector_with" => vectors::answer_with(alloc, times),
-        "knowledge_copy" => knowledges::answer_copy(alloc, times),
-        "list_cut" => lists::answer_cut(alloc, times),
         _ => None,
     }
+}
+
+// Calls of values that are made in each round.
+fn answer_fields(group: &str, times: u32) -> bool {
+    for _ in 0..times {
+        let right = match group {
+            "fields" => records::are_fields_right(),
+            "versions" => vectors::is_version_right(),
+            _ => epochs::are_epochs_right(),
+        };
+        if !right {
+            return false;
+        }
+    }
+    true
 }

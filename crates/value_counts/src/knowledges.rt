@@ -11,7 +11,43 @@ use photo_record::PicNo;
 use photo_version::{Author, Vector, Version};
 use std::alloc::Global;
 
-// Tells of a picture as many versions of a device as its number.
+/// The calls of a knowledge by their groups: `knows`, `same` and what stands beside them; `fragment` and the readers of one;
+/// `stage` of what is known already, `staged`, `commit`, `unstage` and `settle_bounds`; `commit` of what was not known, once
+/// where any calls are asked for; and `try_clone`, which takes memory.
+pub fn answer(alloc: Global, group: &str, times: u32) -> Option<bool> {
+    match twenty(alloc, 0) {
+        Some(mut one) => answer_beside(alloc, &mut one, group, times),
+        None => None,
+    }
+}
+
+fn answer_beside(alloc: Global, one: &mut Knowledge, group: &str, times: u32) -> Option<bool> {
+    let is_staging = group == "knowledge_staging";
+    match twenty(alloc, if is_staging { 0 } else { 1 }) {
+        Some(other) => Some(answer_of(one, &other, group, times)),
+        None => None,
+    }
+}
+
+fn answer_of(one: &mut Knowledge, other: &Knowledge, group: &str, times: u32) -> bool {
+    if group == "knowledge_commit" {
+        return stages(one, other, times > 0);
+    }
+    for _ in 0..times {
+        let right = match group {
+            "knowledge" => are_told_apart(one, other) && knows_eleven(one),
+            "fragment" => has_fragments(one),
+            "knowledge_copy" => is_copied(one),
+            _ => stages_same(one, other),
+        };
+        if !right {
+            return false;
+        }
+    }
+    true
+}
+
+// Tells of a picture the versions of a device up to that number.
 fn is_told(alloc: Global, knowledge: &mut Knowledge, device: u16, n: u32) -> bool {
     let (Some(picture), Some(version)) = (PicNo::new(n), Version::new(Author::new(device), n))
     else {
@@ -23,44 +59,32 @@ fn is_told(alloc: Global, knowledge: &mut Knowledge, device: u16, n: u32) -> boo
     }
 }
 
-// Tells of each of the pictures 1 to 20.
+// Tells of each of the pictures 1 to 20 as many versions of a device as its number, and of the eleventh three versions of each
+// of twenty devices.
 fn are_told(alloc: Global, knowledge: &mut Knowledge, device: u16) -> bool {
     for n in 1..21u32 {
         if !is_told(alloc, knowledge, device, n) {
             return false;
         }
     }
-    true
+    match (PicNo::new(11), vector_of(alloc, 3)) {
+        (Some(picture), Some(vector)) => knowledge.learn(picture, &vector).is_ok(),
+        _ => false,
+    }
 }
 
 // A knowledge of twenty pictures.
 fn twenty(alloc: Global, device: u16) -> Option<Knowledge> {
-    let mut knowledge = Knowledge::new(alloc).ok()?;
-    if are_told(alloc, &mut knowledge, device) {
-        Some(knowledge)
-    } else {
-        None
-    }
-}
-
-/// `knows`, `fragments`, `same` and what stands beside them.
-pub fn answer(alloc: Global, times: u32) -> Option<bool> {
-    let one = twenty(alloc, 0)?;
-    answer_beside(alloc, &one, times)
-}
-
-fn answer_beside(alloc: Global, one: &Knowledge, times: u32) -> Option<bool> {
-    let other = twenty(alloc, 1)?;
-    Some(answer_of(one, &other, times))
-}
-
-fn answer_of(one: &Knowledge, other: &Knowledge, times: u32) -> bool {
-    for _ in 0..times {
-        if !are_told_apart(one, other) || !knows_eleven(one) {
-            return false;
+    match Knowledge::new(alloc) {
+        Ok(mut knowledge) => {
+            if are_told(alloc, &mut knowledge, device) {
+                Some(knowledge)
+            } else {
+                None
+            }
         }
+        Err(_) => None,
     }
-    true
 }
 
 fn are_told_apart(one: &Knowledge, other: &Knowledge) -> bool {
@@ -75,29 +99,6 @@ fn knows_eleven(knowledge: &Knowledge) -> bool {
     known && knowledge.knows(picture, version) && knowledge.fragments() == 21
 }
 
-/// `fragment`, and the readers of a fragment.
-pub fn answer_fragment(alloc: Global, times: u32) -> Option<bool> {
-    let mut knowledge = twenty(alloc, 0)?;
-    Some(is_told_twenty(alloc, &mut knowledge) && answer_of_fragments(&knowledge, times))
-}
-
-// Tells of the eleventh picture three versions of each of twenty devices.
-fn is_told_twenty(alloc: Global, knowledge: &mut Knowledge) -> bool {
-    match (PicNo::new(11), vector_of(alloc, 3)) {
-        (Some(picture), Some(vector)) => knowledge.learn(picture, &vector).is_ok(),
-        _ => false,
-    }
-}
-
-fn answer_of_fragments(knowledge: &Knowledge, times: u32) -> bool {
-    for _ in 0..times {
-        if !has_fragments(knowledge) {
-            return false;
-        }
-    }
-    true
-}
-
 fn has_fragments(knowledge: &Knowledge) -> bool {
     if knowledge.fragments() != 21 {
         return false;
@@ -110,63 +111,34 @@ fn has_fragments(knowledge: &Knowledge) -> bool {
         && eleventh.entry(0) == (Author::new(0), 11)
 }
 
-/// `stage` of what is known already, `staged`, `commit`, `unstage` and `settle_bounds`.
-pub fn answer_staging(alloc: Global, times: u32) -> Option<bool> {
-    let mut knowledge = twenty(alloc, 0)?;
-    answer_with_same(alloc, &mut knowledge, times)
-}
-
-fn answer_with_same(alloc: Global, knowledge: &mut Knowledge, times: u32) -> Option<bool> {
-    let same = twenty(alloc, 0)?;
-    Some(answer_of_staging(knowledge, &same, times))
-}
-
-fn answer_of_staging(knowledge: &mut Knowledge, same: &Knowledge, times: u32) -> bool {
-    for _ in 0..times {
-        if !stages_and_commits(knowledge, same) || !stages_and_drops(knowledge, same) {
-            return false;
-        }
-    }
-    true
-}
-
-fn stages_and_commits(knowledge: &mut Knowledge, same: &Knowledge) -> bool {
-    if knowledge.stage(same).is_err() || !knowledge.staged() {
+// Stages what another knows that is the same, and commits it, and again, and leaves it.
+fn stages_same(knowledge: &mut Knowledge, same: &Knowledge) -> bool {
+    if !stages(knowledge, same, true) || knowledge.stage(same).is_err() {
         return false;
     }
-    knowledge.commit();
     knowledge.settle_bounds();
-    knowledge.has_settled() && !knowledge.staged() && knowledge.same(same)
-}
-
-fn stages_and_drops(knowledge: &mut Knowledge, same: &Knowledge) -> bool {
-    if knowledge.stage(same).is_err() || !knowledge.staged() {
-        return false;
-    }
+    let staged = knowledge.staged();
     knowledge.unstage();
-    !knowledge.staged() && knowledge.same(same)
+    staged && !knowledge.staged() && knowledge.has_settled() && knowledge.same(same)
 }
 
-/// `commit` of what was not known, once where any calls are asked for.
-pub fn answer_commit(alloc: Global, times: u32) -> Option<bool> {
-    let mut knowledge = twenty(alloc, 0)?;
-    answer_with_other(alloc, &mut knowledge, times)
-}
-
-fn answer_with_other(alloc: Global, knowledge: &mut Knowledge, times: u32) -> Option<bool> {
-    let other = twenty(alloc, 1)?;
-    Some(answer_of_commit(knowledge, &other, times))
-}
-
-fn answer_of_commit(knowledge: &mut Knowledge, other: &Knowledge, times: u32) -> bool {
-    if knowledge.stage(other).is_err() || !knowledge.staged() || knowledge.has_all(other) {
+// Stages what another knows, and commits it if that is asked for.
+fn stages(knowledge: &mut Knowledge, other: &Knowledge, commits: bool) -> bool {
+    if knowledge.stage(other).is_err() || !knowledge.staged() {
         return false;
     }
-    if times == 0 {
+    if !commits {
         return true;
     }
     knowledge.commit();
     !knowledge.staged() && knowledge.has_all(other)
+}
+
+fn is_copied(knowledge: &Knowledge) -> bool {
+    match knowledge.try_clone() {
+        Ok(copy) => copy.fragments() == 21,
+        Err(_) => false,
+    }
 }
 
 /// What knows device 0's first version of every picture, and nothing else.
@@ -176,14 +148,12 @@ pub fn first_known(alloc: Global) -> Option<Knowledge>
     ensures known { IfSome result (λ k. (p : ℕ) (v : versions.Version) → 0 < p
         → knows k.known p v ≡ versions.same_version (versions.version (authors.author 0) 1) v) }
 {
-    let Some(version) = Version::new(Author::new(0), 1) else {
-        return None;
-    };
-    let Ok(mut knowledge) = Knowledge::new(alloc) else {
-        return None;
-    };
-    match knowledge.learn_own(version) {
-        Ok(()) => Some(knowledge),
+    let version = Version::new(Author::new(0), 1)?;
+    match Knowledge::new(alloc) {
+        Ok(mut knowledge) => match knowledge.learn_own(version) {
+            Ok(()) => Some(knowledge),
+            Err(_) => None,
+        },
         Err(_) => None,
     }
 }
@@ -209,26 +179,4 @@ fn answer_of_raising(knowledge: &mut Knowledge, times: u32) -> Option<bool>
     }
     knowledge.raise_own(version);
     Some(knowledge.knows(picture, version))
-}
-
-/// `try_clone`, which takes memory.
-pub fn answer_copy(alloc: Global, times: u32) -> Option<bool> {
-    let knowledge = twenty(alloc, 0)?;
-    Some(answer_of_copies(&knowledge, times))
-}
-
-fn answer_of_copies(knowledge: &Knowledge, times: u32) -> bool {
-    for _ in 0..times {
-        if !is_copied(knowledge) {
-            return false;
-        }
-    }
-    true
-}
-
-fn is_copied(knowledge: &Knowledge) -> bool {
-    match knowledge.try_clone() {
-        Ok(copy) => copy.fragments() == 21,
-        Err(_) => false,
-    }
 }

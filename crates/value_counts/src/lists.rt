@@ -14,68 +14,73 @@ fn list_of(alloc: Global, n: u32) -> Option<BlockList<u32>> {
     Some(list)
 }
 
-/// `set` and the readers of a list of blocks.
-pub fn answer(alloc: Global, times: u32) -> Option<bool> {
-    let mut list = list_of(alloc, 1_500)?;
-    Some(answer_of(alloc, &mut list, times))
+/// The calls of a list by their groups: `set` and the readers; `remove_range`, `retain` and `take_near`, a round of which takes
+/// the first number away, and one from the middle; and `insert`, which takes memory where a block has grown long and is halved.
+pub fn answer(alloc: Global, group: &str, times: u32) -> Option<bool> {
+    match list_of(alloc, 2_500) {
+        Some(mut list) => Some(answer_of(alloc, &mut list, group, times)),
+        None => None,
+    }
 }
 
-fn answer_of(alloc: Global, list: &mut BlockList<u32>, times: u32) -> bool {
-    for _ in 0..times {
-        if !BlockList::<u32>::new(alloc).is_empty() || list.as_blocks().is_empty() {
-            return false;
-        }
-        if !sets(list) || !finds(list) || !finds_next(list) {
+fn answer_of(alloc: Global, list: &mut BlockList<u32>, group: &str, times: u32) -> bool {
+    for n in 0..times {
+        let right = match group {
+            "list" => reads(alloc, list),
+            "list_removing" => removes(list, n),
+            _ => cuts(list, n),
+        };
+        if !right {
             return false;
         }
     }
     true
+}
+
+fn reads(alloc: Global, list: &mut BlockList<u32>) -> bool {
+    let is_there = BlockList::<u32>::new(alloc).is_empty() && !list.as_blocks().is_empty();
+    is_there && sets(list) && finds(list)
 }
 
 // Puts a number in the place of one of them.
 fn sets(list: &mut BlockList<u32>) -> bool {
-    if list.len() != 1_500 {
+    if list.len() != 2_500 {
         return false;
     }
     list.set(700, 700);
-    *list.get(700) == 700 && list.iter().all(|x| *x < 1_500)
+    *list.get(700) == 700 && list.iter().all(|x| *x < 2_500)
 }
 
 fn finds(list: &BlockList<u32>) -> bool {
-    let (found, _spot) = list.find_failing_near(Spot::start(), |x| *x < 1_000);
-    found == Some(&1_000)
-        && list.find_failing(|x| *x < 1_000) == Some(&1_000)
-        && list.partition_point(|x| *x < 1_000) == 1_000
+    let (found, spot) = list.find_failing_near(Spot::start(), is_small);
+    let next = match list.behind(spot) {
+        Some((next, _spot)) => *next,
+        None => 0,
+    };
+    next == 1_001
+        && found == Some(&1_000)
+        && list.find_failing(is_small) == Some(&1_000)
+        && list.partition_point(is_small) == 1_000
 }
 
-fn finds_next(list: &BlockList<u32>) -> bool {
-    let (_found, spot) = list.find_failing_near(Spot::start(), |x| *x < 1_000);
-    match list.behind(spot) {
-        Some((next, _spot)) => *next == 1_001,
-        None => false,
+fn is_small(x: &u32) -> bool {
+    *x < 1_000
+}
+
+fn removes(list: &mut BlockList<u32>, n: u32) -> bool {
+    if list.is_empty() {
+        return false;
     }
+    list.remove_range(0, 1);
+    list.retain(|x| *x != 1_000);
+    let middle = n.saturating_add(1_200);
+    let (taken, _spot) = list.take_near(Spot::start(), |x| *x == middle);
+    taken == Some(middle)
 }
 
-/// `remove_range`, `retain` and `take_near`: a round takes the first number away, and one from the middle.
-pub fn answer_removing(alloc: Global, times: u32) -> Option<bool> {
-    let mut list = list_of(alloc, 2_500)?;
-    Some(answer_of_removals(&mut list, times))
-}
-
-fn answer_of_removals(list: &mut BlockList<u32>, times: u32) -> bool {
-    for n in 0..times {
-        if list.is_empty() {
-            return false;
-        }
-        list.remove_range(0, 1);
-        list.retain(|x| *x != 1_000);
-        let middle = n.saturating_add(1_200);
-        let (taken, _spot) = list.take_near(Spot::start(), |x| *x == middle);
-        if taken != Some(middle) {
-            return false;
-        }
-    }
-    true
+fn cuts(list: &mut BlockList<u32>, n: u32) -> bool {
+    let middle = list.len() / 2;
+    list.insert(middle, n).is_ok()
 }
 
 /// `insert_behind`, a round of which puts a number into room that was taken for a thousand; and `open` and `close`, once where
@@ -84,12 +89,14 @@ pub fn answer_growing(alloc: Global, times: u32) -> Option<bool> {
     if times > 1_000 {
         return None;
     }
-    let mut list = list_of(alloc, 1_500)?;
-    let room = list.room(1_000).ok()?;
-    if times == 0 {
-        return Some(true);
+    match list_of(alloc, 1_500) {
+        Some(mut list) => match list.room(1_000) {
+            Ok(room) if times > 0 => Some(answer_of_growth(list, room, times)),
+            Ok(_) => Some(true),
+            Err(_) => None,
+        },
+        None => None,
     }
-    Some(answer_of_growth(list, room, times))
 }
 
 fn answer_of_growth(list: BlockList<u32>, room: Room<u32>, times: u32) -> bool
@@ -101,14 +108,4 @@ fn answer_of_growth(list: BlockList<u32>, room: Room<u32>, times: u32) -> bool
         roomy.insert_behind(|x| *x < n, n);
     }
     !roomy.close().is_empty()
-}
-
-/// `insert`, which takes memory where a block has grown long and is halved.
-pub fn answer_cut(alloc: Global, times: u32) -> Option<bool> {
-    let mut list = list_of(alloc, 1_500)?;
-    for n in 0..times {
-        let middle = list.len() / 2;
-        list.insert(middle, n).ok()?;
-    }
-    Some(!list.is_empty())
 }

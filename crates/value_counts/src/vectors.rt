@@ -3,16 +3,7 @@ use photo_version::{Author, Vector, Version};
 use std::alloc::{AllocError, Global};
 
 /// `Author::new`, `Author::of_word`, `Version::new`, and the readers of these.
-pub fn answer_versions(times: u32) -> bool {
-    for _ in 0..times {
-        if !is_version_right() {
-            return false;
-        }
-    }
-    true
-}
-
-fn is_version_right() -> bool {
+pub fn is_version_right() -> bool {
     match Version::new(Author::new(7), 3) {
         Some(version) => version.n() == 3 && is_seventh(version.author()),
         None => false,
@@ -32,34 +23,61 @@ pub fn vector_of(alloc: Global, n: u32) -> Option<Vector> {
     Some(vector)
 }
 
-/// `Vector::new`, `has`, `leq`, the readers of a vector, and what shares its entries: a copy, and a union or a vector with
-/// one version more where nothing is added.
-pub fn answer(alloc: Global, times: u32) -> Option<bool> {
-    let one = vector_of(alloc, 3)?;
-    let other = vector_of(alloc, 4)?;
-    Some(answer_of(alloc, &one, &other, times))
+/// The calls of a vector by their groups: `Vector::new`, `has`, `leq`, the readers of a vector, and what shares its entries, a
+/// copy, and a union or a vector with one version more where nothing is added; and `Vector::with`, which takes memory.
+pub fn answer(alloc: Global, group: &str, times: u32) -> Option<bool> {
+    match vector_of(alloc, 3) {
+        Some(one) => answer_beside(alloc, &one, group, times),
+        None => None,
+    }
 }
 
-fn answer_of(alloc: Global, one: &Vector, other: &Vector, times: u32) -> bool {
+fn answer_beside(alloc: Global, one: &Vector, group: &str, times: u32) -> Option<bool> {
+    match vector_of(alloc, 4) {
+        Some(other) => Some(answer_of(alloc, one, &other, group == "vector_with", times)),
+        None => None,
+    }
+}
+
+fn answer_of(alloc: Global, one: &Vector, other: &Vector, adds: bool, times: u32) -> bool {
     for _ in 0..times {
-        if !Vector::new(alloc).is_empty() || !has_versions(one, other) || !shares(one, other) {
+        let right = if adds {
+            has_one_more(one)
+        } else {
+            Vector::new(alloc).is_empty() && has_versions(one, other) && shares(one, other)
+        };
+        if !right {
             return false;
         }
     }
     true
 }
 
+fn has_one_more(vector: &Vector) -> bool {
+    let Some(version) = Version::new(Author::new(20), 1) else {
+        return false;
+    };
+    match vector.with(version) {
+        Ok(more) => more.len() == 21,
+        Err(_) => false,
+    }
+}
+
 fn has_versions(one: &Vector, other: &Vector) -> bool {
     let Some(version) = Version::new(Author::new(19), 4) else {
         return false;
     };
+    for (_author, n) in one.iter() {
+        if *n != 3 {
+            return false;
+        }
+    }
     one.leq(other)
         && !other.leq(one)
         && !one.has(version)
         && other.has(version)
         && one.len() == 20
         && one.entry(7) == (Author::new(7), 3)
-        && one.iter().all(|entry| entry.1 == 3)
 }
 
 fn shares(one: &Vector, other: &Vector) -> bool {
@@ -77,20 +95,4 @@ fn is_made(made: Result<Vector, AllocError>, wanted: &Vector) -> bool {
         Ok(vector) => vector == *wanted,
         Err(_) => false,
     }
-}
-
-/// `Vector::with`, which takes memory.
-pub fn answer_with(alloc: Global, times: u32) -> Option<bool> {
-    let vector = vector_of(alloc, 3)?;
-    let version = Version::new(Author::new(20), 1)?;
-    Some(answer_with_one(&vector, version, times))
-}
-
-fn answer_with_one(vector: &Vector, version: Version, times: u32) -> bool {
-    for _ in 0..times {
-        if !vector.with(version).is_ok_and(|more| more.len() == 21) {
-            return false;
-        }
-    }
-    true
 }

@@ -6,12 +6,15 @@ use std::alloc::Global;
 
 const TEXT: &str = "rating >= 4 and not keyword ball";
 
+// The same with all brackets.
+const PRINTED: &str = "( rating >= 4 and not keyword ball )";
+
 /// What came of a call of `photo_filter_text`.
 pub fn verdict_on_texts(alloc: Global, call: &str) -> Option<Verdict> {
     match call {
         "read" => Some(judged(reads(alloc), true)),
-        "print" => print_one(alloc),
-        "FilterTree::try_clone" => tree_copy(alloc),
+        "print" => on_tree(alloc, false),
+        "FilterTree::try_clone" => on_tree(alloc, true),
         _ => None,
     }
 }
@@ -39,51 +42,67 @@ fn reads(alloc: Global) -> Option<bool> {
 // Whether a tree is printed as the text with all brackets.
 fn is_text_of(alloc: Global, tree: &FilterTree) -> bool {
     match print(alloc, tree) {
-        Ok(text) => text.as_str() == "( rating >= 4 and not keyword ball )",
+        Ok(text) => text.as_str() == PRINTED,
         Err(_) => false,
     }
 }
 
-fn print_one(alloc: Global) -> Option<Verdict> {
-    let tree = read(alloc, TEXT).ok()?;
-    let twin = read(alloc, TEXT).ok()?;
-    Some(judged(prints(alloc, &tree), tree == twin))
+// What came of a copy of a tree, or of printing it.
+fn on_tree(alloc: Global, is_copied: bool) -> Option<Verdict> {
+    match read(alloc, TEXT) {
+        Ok(tree) => {
+            let right = if is_copied {
+                copies_tree(alloc, &tree)
+            } else {
+                prints(alloc, &tree)
+            };
+            Some(judged(right, is_text_of(alloc, &tree)))
+        }
+        Err(_) => None,
+    }
 }
 
 fn prints(alloc: Global, tree: &FilterTree) -> Option<bool> {
     mark(alloc);
     let text = print(alloc, tree);
     mark(alloc);
-    Some(text.ok()?.as_str() == "( rating >= 4 and not keyword ball )")
-}
-
-fn tree_copy(alloc: Global) -> Option<Verdict> {
-    let tree = read(alloc, TEXT).ok()?;
-    let twin = read(alloc, TEXT).ok()?;
-    Some(judged(copies_tree(alloc, &tree), tree == twin))
+    match text {
+        Ok(text) => Some(text.as_str() == PRINTED),
+        Err(_) => None,
+    }
 }
 
 fn copies_tree(alloc: Global, tree: &FilterTree) -> Option<bool> {
     mark(alloc);
     let copy = tree.try_clone();
     mark(alloc);
-    Some(copy.ok()? == *tree)
+    match copy {
+        Ok(copy) => Some(copy == *tree),
+        Err(_) => None,
+    }
 }
 
 fn build(alloc: Global) -> Option<Verdict> {
-    let tree = read(alloc, TEXT).ok()?;
-    let twin = read(alloc, TEXT).ok()?;
+    match read(alloc, TEXT) {
+        Ok(tree) => Some(build_of(alloc, tree)),
+        Err(_) => None,
+    }
+}
+
+fn build_of(alloc: Global, tree: FilterTree) -> Verdict {
     mark(alloc);
     let filter = Filter::build(alloc, tree);
     mark(alloc);
-    Some(match filter {
-        Ok(filter) => judged(
-            Some(filter.alternatives() == 1 && *filter.tree() == twin),
-            true,
-        ),
-        Err((tree, BuildFault::NoMemory)) => judged(None, tree == twin),
+    match filter {
+        Ok(filter) => judged(Some(is_filter(alloc, &filter)), true),
+        Err((tree, BuildFault::NoMemory)) => judged(None, is_text_of(alloc, &tree)),
         Err(_) => Verdict::Wrong,
-    })
+    }
+}
+
+// Whether it is the filter of the text.
+fn is_filter(alloc: Global, filter: &Filter) -> bool {
+    filter.alternatives() == 1 && is_text_of(alloc, filter.tree())
 }
 
 /// The filter of a text. None where it has none, or where memory is wanted.
@@ -98,14 +117,18 @@ pub fn same_filter(one: &Filter, other: &Filter) -> bool {
 }
 
 fn filter_copy(alloc: Global) -> Option<Verdict> {
-    let filter = filter_of(alloc, TEXT)?;
-    let twin = filter_of(alloc, TEXT)?;
-    Some(judged(copies_filter(alloc, &filter), same_filter(&filter, &twin)))
+    match filter_of(alloc, TEXT) {
+        Some(filter) => Some(judged(copies_filter(alloc, &filter), is_filter(alloc, &filter))),
+        None => None,
+    }
 }
 
 fn copies_filter(alloc: Global, filter: &Filter) -> Option<bool> {
     mark(alloc);
     let copy = filter.try_clone();
     mark(alloc);
-    Some(same_filter(&copy.ok()?, filter))
+    match copy {
+        Ok(copy) => Some(same_filter(&copy, filter)),
+        Err(_) => None,
+    }
 }

@@ -18,53 +18,42 @@ use std::alloc::Global;
 pub fn verdict(alloc: Global, call: &str) -> Option<Verdict> {
     match call {
         "Knowledge::new" => Some(judged(makes(alloc), true)),
-        "Knowledge::of" => on_knowledge(alloc, Call::Of),
-        "Knowledge::try_clone" => on_knowledge(alloc, Call::Copy),
         "Knowledge::learn_own" => learn_own(alloc),
-        _ => verdict_on_learning(alloc, call),
+        _ => on_knowledge(alloc, call),
     }
-}
-
-fn verdict_on_learning(alloc: Global, call: &str) -> Option<Verdict> {
-    match call {
-        "Knowledge::learn" => on_knowledge(alloc, Call::Learn),
-        "Knowledge::learn_table" => on_knowledge(alloc, Call::LearnTable),
-        "Knowledge::learn_all" => on_knowledge(alloc, Call::LearnAll),
-        "Knowledge::stage" => on_knowledge(alloc, Call::Stage),
-        _ => None,
-    }
-}
-
-#[derive(Clone, Copy)]
-enum Call {
-    Of,
-    Copy,
-    Learn,
-    LearnTable,
-    LearnAll,
-    Stage,
 }
 
 // What came of a call on what knows of picture 7 three versions.
-fn on_knowledge(alloc: Global, call: Call) -> Option<Verdict> {
-    let mut knowledge = told(alloc, 7, 3)?;
+fn on_knowledge(alloc: Global, call: &str) -> Option<Verdict> {
     match told(alloc, 7, 3) {
-        Some(twin) => {
-            let right = calls(alloc, &mut knowledge, call);
-            Some(judged(right, knowledge.same(&twin)))
-        }
+        Some(mut knowledge) => match calls(alloc, &mut knowledge, call) {
+            Some(right) => Some(judged(right, is_told(&knowledge, 7, 3))),
+            None => None,
+        },
         None => None,
     }
 }
 
-fn calls(alloc: Global, knowledge: &mut Knowledge, call: Call) -> Option<bool> {
+// Whether the call gave the right answer, which is None where memory was wanted. None where no call has the name, or the
+// values for it can't be made.
+fn calls(alloc: Global, knowledge: &mut Knowledge, call: &str) -> Option<Option<bool>> {
     match call {
-        Call::Of => tells(alloc, knowledge),
-        Call::Copy => copies(alloc, knowledge),
-        Call::Learn => learns(alloc, knowledge),
-        Call::LearnTable => learns_table(alloc, knowledge),
-        Call::LearnAll => learns_all(alloc, knowledge),
-        Call::Stage => stages(alloc, knowledge),
+        "Knowledge::of" => Some(tells(alloc, knowledge)),
+        "Knowledge::try_clone" => Some(copies(alloc, knowledge)),
+        "Knowledge::learn" => learns(alloc, knowledge),
+        "Knowledge::learn_table" => learns_table(alloc, knowledge),
+        _ => learns_from(alloc, knowledge, call),
+    }
+}
+
+fn learns_from(alloc: Global, knowledge: &mut Knowledge, call: &str) -> Option<Option<bool>> {
+    match told(alloc, 9, 4) {
+        Some(other) => match call {
+            "Knowledge::learn_all" => Some(learns_all(alloc, knowledge, &other)),
+            "Knowledge::stage" => Some(stages(alloc, knowledge, &other)),
+            _ => None,
+        },
+        None => None,
     }
 }
 
@@ -72,8 +61,10 @@ fn makes(alloc: Global) -> Option<bool> {
     mark(alloc);
     let knowledge = Knowledge::new(alloc);
     mark(alloc);
-    let knowledge = knowledge.ok()?;
-    Some(knowledge.fragments() == 1 && !knows(&knowledge, 7, 1))
+    match knowledge {
+        Ok(knowledge) => Some(knowledge.fragments() == 1 && !knows(&knowledge, 7, 1)),
+        Err(_) => None,
+    }
 }
 
 // Whether a version of device 1 is known of a picture.
@@ -84,15 +75,42 @@ fn knows(knowledge: &Knowledge, picture: u32, n: u32) -> bool {
     }
 }
 
+// Whether of one picture device 1's first `n` versions are known, and nothing else.
+fn is_told(knowledge: &Knowledge, picture: u32, n: u32) -> bool {
+    if knowledge.fragments() != 2 {
+        return false;
+    }
+    let (star, told) = (knowledge.fragment(0), knowledge.fragment(1));
+    if star.len() != 0 || told.len() != 1 {
+        return false;
+    }
+    told.pictures() == [u64::from(picture)].as_slice() && told.entry(0) == (Author::new(1), n)
+}
+
 /// What knows of a picture device 1's first `n` versions, and no more. None where a number is out of range, or memory is wanted.
 pub fn told(alloc: Global, picture: u32, n: u32) -> Option<Knowledge>
     ensures { IfSome result (λ knowledge. (p : ℕ) (v : versions.Version) → 0 < p
         → knows knowledge.known p v ≡ ((picture == p) && denotes ((author 1, n) ∷ []) v)) }
 {
-    let mut knowledge = Knowledge::new(alloc).ok()?;
-    let vector = vector_of(alloc, 1, n)?;
-    knowledge.learn(PicNo::new(picture)?, &vector).ok()?;
-    Some(knowledge)
+    let picture = PicNo::new(picture)?;
+    match vector_of(alloc, 1, n) {
+        Some(vector) => told_one(alloc, picture, &vector),
+        None => None,
+    }
+}
+
+// What knows of a picture the versions of a vector, and no more.
+fn told_one(alloc: Global, picture: PicNo, vector: &Vector) -> Option<Knowledge>
+    ensures { IfSome result (λ knowledge. (p : ℕ) (v : versions.Version) → 0 < p
+        → knows knowledge.known p v ≡ ((picture == p) && denotes vector.now v)) }
+{
+    match Knowledge::new(alloc) {
+        Ok(mut knowledge) => match knowledge.learn(picture, vector) {
+            Ok(()) => Some(knowledge),
+            Err(_) => None,
+        },
+        Err(_) => None,
+    }
 }
 
 fn tells(alloc: Global, knowledge: &Knowledge) -> Option<bool> {
@@ -100,25 +118,33 @@ fn tells(alloc: Global, knowledge: &Knowledge) -> Option<bool> {
     mark(alloc);
     let vector = knowledge.of(picture);
     mark(alloc);
-    let vector = vector.ok()?;
-    Some(vector.len() == 1 && vector.entry(0) == (Author::new(1), 3))
+    match vector {
+        Ok(vector) => Some(vector.len() == 1 && vector.entry(0) == (Author::new(1), 3)),
+        Err(_) => None,
+    }
 }
 
 fn copies(alloc: Global, knowledge: &Knowledge) -> Option<bool> {
     mark(alloc);
     let copy = knowledge.try_clone();
     mark(alloc);
-    let copy = copy.ok()?;
-    Some(copy.same(knowledge))
+    match copy {
+        Ok(copy) => Some(copy.same(knowledge)),
+        Err(_) => None,
+    }
 }
 
-fn learns(alloc: Global, knowledge: &mut Knowledge) -> Option<bool> {
+fn learns(alloc: Global, knowledge: &mut Knowledge) -> Option<Option<bool>> {
     let picture = PicNo::new(9)?;
-    let vector = vector_of(alloc, 1, 4)?;
-    mark(alloc);
-    let done = knowledge.learn(picture, &vector).is_ok();
-    mark(alloc);
-    is_right(done, vector.len() == 1, knowledge)
+    match vector_of(alloc, 1, 4) {
+        Some(vector) => {
+            mark(alloc);
+            let done = knowledge.learn(picture, &vector).is_ok();
+            mark(alloc);
+            Some(is_right(done, vector.len() == 1, knowledge))
+        }
+        None => None,
+    }
 }
 
 // Whether what was lent is as it was, and what it tells was learned. None where memory was wanted.
@@ -151,42 +177,46 @@ fn table(alloc: Global) -> Option<Vec<(PicNo, Vector)>>
     Some(table)
 }
 
-fn learns_table(alloc: Global, knowledge: &mut Knowledge) -> Option<bool> {
-    let table = table(alloc)?;
-    mark(alloc);
-    let done = knowledge.learn_table(table.as_slice()).is_ok();
-    mark(alloc);
-    is_right(done, table.len() == 1, knowledge)
-}
-
-fn learns_all(alloc: Global, knowledge: &mut Knowledge) -> Option<bool> {
-    let other = told(alloc, 9, 4)?;
-    mark(alloc);
-    let done = knowledge.learn_all(&other).is_ok();
-    mark(alloc);
-    let kept = knows(&other, 9, 4) && !knows(&other, 7, 1) && other.fragments() == 2;
-    is_right(done, kept, knowledge)
-}
-
-fn stages(alloc: Global, knowledge: &mut Knowledge) -> Option<bool> {
-    let other = told(alloc, 9, 4)?;
-    mark(alloc);
-    let done = knowledge.stage(&other).is_ok();
-    mark(alloc);
-    let kept = knows(knowledge, 7, 3) && !knows(knowledge, 9, 1);
-    if !knowledge.staged() {
-        return is_right(done, kept, knowledge);
+fn learns_table(alloc: Global, knowledge: &mut Knowledge) -> Option<Option<bool>> {
+    match table(alloc) {
+        Some(table) => {
+            mark(alloc);
+            let done = knowledge.learn_table(table.as_slice()).is_ok();
+            mark(alloc);
+            Some(is_right(done, table.len() == 1, knowledge))
+        }
+        None => None,
     }
-    knowledge.commit();
+}
+
+fn learns_all(alloc: Global, knowledge: &mut Knowledge, other: &Knowledge) -> Option<bool> {
+    mark(alloc);
+    let done = knowledge.learn_all(other).is_ok();
+    mark(alloc);
+    is_right(done, is_told(other, 9, 4), knowledge)
+}
+
+fn stages(alloc: Global, knowledge: &mut Knowledge, other: &Knowledge) -> Option<bool> {
+    mark(alloc);
+    let done = knowledge.stage(other).is_ok();
+    mark(alloc);
+    let kept = is_told(knowledge, 7, 3) && is_told(other, 9, 4);
+    if knowledge.staged() {
+        knowledge.commit();
+    }
     is_right(done, kept, knowledge)
 }
 
 fn learn_own(alloc: Global) -> Option<Verdict> {
     let version = Version::new(Author::new(1), 1)?;
-    let mut knowledge = Knowledge::new(alloc).ok()?;
-    let right = learns_own(alloc, &mut knowledge, version);
-    let unchanged = !knows(&knowledge, 7, 1) && knowledge.fragments() == 1;
-    Some(judged(right, unchanged))
+    match Knowledge::new(alloc) {
+        Ok(mut knowledge) => {
+            let right = learns_own(alloc, &mut knowledge, version);
+            let unchanged = !knows(&knowledge, 7, 1) && knowledge.fragments() == 1;
+            Some(judged(right, unchanged))
+        }
+        Err(_) => None,
+    }
 }
 
 fn learns_own(alloc: Global, knowledge: &mut Knowledge, version: Version) -> Option<bool>

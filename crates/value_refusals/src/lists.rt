@@ -6,11 +6,27 @@ use std::alloc::Global;
 /// What came of a call of `block_list`.
 pub fn verdict(alloc: Global, call: &str) -> Option<Verdict> {
     match call {
-        "BlockList::insert" => insert(alloc, 0),
-        "BlockList::insert halving" => insert(alloc, 127),
-        "BlockList::replace_between" => replace(alloc),
-        "BlockList::room" => room(alloc),
+        "BlockList::insert" => on_evens(alloc, 0, call),
+        "BlockList::insert halving" => on_evens(alloc, 127, call),
+        "BlockList::replace_between" => on_evens(alloc, 0, call),
+        // a list with one block, which is full
+        "BlockList::room" => on_evens(alloc, 64, call),
         _ => None,
+    }
+}
+
+// What came of a call on so many even numbers.
+fn on_evens(alloc: Global, count: u32, call: &str) -> Option<Verdict> {
+    match evens(alloc, count) {
+        Some(mut list) => {
+            let right = match call {
+                "BlockList::replace_between" => replaces(alloc, &mut list),
+                "BlockList::room" => takes_room(alloc, &mut list),
+                _ => inserts(alloc, &mut list, count),
+            };
+            Some(judged(right, has_evens(&list, count as usize)))
+        }
+        None => None,
     }
 }
 
@@ -38,13 +54,6 @@ fn has_evens(list: &BlockList<u32>, count: usize) -> bool {
     true
 }
 
-fn insert(alloc: Global, count: u32) -> Option<Verdict> {
-    let mut list = evens(alloc, count)?;
-    let right = inserts(alloc, &mut list, count);
-    let unchanged = has_evens(&list, count as usize);
-    Some(judged(right, unchanged))
-}
-
 // Puts the next even number behind the others.
 fn inserts(alloc: Global, list: &mut BlockList<u32>, count: u32) -> Option<bool> {
     let end = list.len();
@@ -55,27 +64,12 @@ fn inserts(alloc: Global, list: &mut BlockList<u32>, count: u32) -> Option<bool>
     Some(has_evens(list, count as usize + 1))
 }
 
-fn replace(alloc: Global) -> Option<Verdict> {
-    let mut list = BlockList::new(alloc);
-    let right = replaces(alloc, &mut list);
-    let unchanged = list.is_empty();
-    Some(judged(right, unchanged))
-}
-
 fn replaces(alloc: Global, list: &mut BlockList<u32>) -> Option<bool> {
     mark(alloc);
     let done = list.replace_between(|x| *x < 7, |x| *x <= 7, 7);
     mark(alloc);
     done.ok()?;
     Some(list.len() == 1 && *list.get(0) == 7)
-}
-
-// Of a list with one block, which is full.
-fn room(alloc: Global) -> Option<Verdict> {
-    let mut list = evens(alloc, 64)?;
-    let right = takes_room(alloc, &mut list);
-    let unchanged = has_evens(&list, 64);
-    Some(judged(right, unchanged))
 }
 
 fn takes_room(alloc: Global, list: &mut BlockList<u32>) -> Option<bool> {

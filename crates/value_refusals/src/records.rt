@@ -7,9 +7,9 @@ use std::alloc::Global;
 pub fn verdict(alloc: Global, call: &str) -> Option<Verdict> {
     match call {
         "Word::read" => Some(judged(reads_word(alloc), true)),
-        "Word::try_clone" => word_copy(alloc),
         "Words::read" => Some(judged(reads_words(alloc), true)),
-        "Words::try_clone" => words_copy(alloc),
+        "Word::try_clone" => words_copy(alloc, true),
+        "Words::try_clone" => words_copy(alloc, false),
         "Record::try_clone" => record_copy(alloc),
         _ => None,
     }
@@ -24,18 +24,6 @@ fn reads_word(alloc: Global) -> Option<bool> {
         Err(WordFault::NoMemory) => None,
         Err(_) => Some(false),
     }
-}
-
-fn word_copy(alloc: Global) -> Option<Verdict> {
-    let word = Word::read(alloc, "sunset").ok()?;
-    Some(judged(copies_word(alloc, &word), word.text() == "sunset"))
-}
-
-fn copies_word(alloc: Global, word: &Word) -> Option<bool> {
-    mark(alloc);
-    let copy = word.try_clone();
-    mark(alloc);
-    Some(copy.ok()?.text() == "sunset")
 }
 
 fn has_three(words: &Words) -> bool {
@@ -56,36 +44,74 @@ fn reads_words(alloc: Global) -> Option<bool> {
     }
 }
 
-fn words_copy(alloc: Global) -> Option<Verdict> {
-    let words = Words::read(alloc, "tree,sea,ball").ok()?;
-    Some(judged(copies_words(alloc, &words), has_three(&words)))
+// What came of a copy of a set, or of its first word.
+fn words_copy(alloc: Global, of_word: bool) -> Option<Verdict> {
+    match Words::read(alloc, "tree,sea,ball") {
+        Ok(words) => {
+            let right = if of_word && !words.is_empty() {
+                copies_word(alloc, words.get(0))
+            } else {
+                copies_words(alloc, &words)
+            };
+            Some(judged(right, has_three(&words)))
+        }
+        Err(_) => None,
+    }
+}
+
+fn copies_word(alloc: Global, word: &Word) -> Option<bool> {
+    mark(alloc);
+    let copy = word.try_clone();
+    mark(alloc);
+    match copy {
+        Ok(copy) => Some(copy.text() == "ball"),
+        Err(_) => None,
+    }
 }
 
 fn copies_words(alloc: Global, words: &Words) -> Option<bool> {
     mark(alloc);
     let copy = words.try_clone();
     mark(alloc);
-    Some(has_three(&copy.ok()?))
+    match copy {
+        Ok(copy) => Some(has_three(&copy)),
+        Err(_) => None,
+    }
 }
 
 /// A record of that rating, with three words. None where the rating is out of range, or memory is wanted.
 pub fn rated(alloc: Global, rating: u8) -> Option<Record> {
-    Some(Record::Picture {
-        rating: Rating::new(rating)?,
-        day: Day::read("2024-05-01")?,
-        words: Words::read(alloc, "tree,sea,ball").ok()?,
-    })
+    let rating = Rating::new(rating)?;
+    let day = Day::read("2024-05-01")?;
+    match Words::read(alloc, "tree,sea,ball") {
+        Ok(words) => Some(Record::Picture { rating, day, words }),
+        Err(_) => None,
+    }
 }
 
 fn record_copy(alloc: Global) -> Option<Verdict> {
-    let record = rated(alloc, 4)?;
-    let twin = rated(alloc, 4)?;
-    Some(judged(copies_record(alloc, &record), record == twin))
+    match rated(alloc, 4) {
+        Some(record) => Some(judged(copies_record(alloc, &record), is_rated(&record))),
+        None => None,
+    }
+}
+
+// Whether a record has the rating 4 and the three words.
+fn is_rated(record: &Record) -> bool {
+    match record {
+        Record::Picture { rating, day, words } => {
+            rating.value() == 4 && day.number() == 19_844 && has_three(words)
+        }
+        Record::Removed => false,
+    }
 }
 
 fn copies_record(alloc: Global, record: &Record) -> Option<bool> {
     mark(alloc);
     let copy = record.try_clone();
     mark(alloc);
-    Some(copy.ok()? == *record)
+    match copy {
+        Ok(copy) => Some(copy == *record),
+        Err(_) => None,
+    }
 }

@@ -5,16 +5,13 @@ ghost use Rattle.photo_version.specs.Vector.{is_vector};
 
 use crate::verdict::{Verdict, judged, mark};
 use photo_version::{Author, Vector, Version};
-use std::alloc::Global;
+use std::alloc::{AllocError, Global};
 
 /// What came of a call of `photo_version`.
 pub fn verdict(alloc: Global, call: &str) -> Option<Verdict> {
     match call {
         "Vector::from_entries" => from_entries(alloc),
-        "Vector::join" => join(alloc),
-        "Vector::with" => with(alloc),
-        "Vector::try_clone" => copy(alloc),
-        _ => None,
+        _ => on_vector(alloc, call),
     }
 }
 
@@ -30,11 +27,16 @@ fn has_one(vector: &Vector, device: u16, n: u32) -> bool {
     vector.len() == 1 && vector.entry(0) == (Author::new(device), n)
 }
 
-// Whether a vector has those versions of the devices 0 and 1.
-fn has_two(vector: &Vector, first: u32, second: u32) -> bool {
-    vector.len() == 2
-        && vector.entry(0) == (Author::new(0), first)
-        && vector.entry(1) == (Author::new(1), second)
+// Whether the vector that was made has two versions of device 0 and three of device 1. None where memory was wanted.
+fn is_of_two(made: &Result<Vector, AllocError>) -> Option<bool> {
+    match made {
+        Ok(vector) => Some(
+            vector.len() == 2
+                && vector.entry(0) == (Author::new(0), 2)
+                && vector.entry(1) == (Author::new(1), 3),
+        ),
+        Err(_) => None,
+    }
 }
 
 fn two_entries(alloc: Global) -> Option<Vec<(Author, u32)>>
@@ -47,52 +49,69 @@ fn two_entries(alloc: Global) -> Option<Vec<(Author, u32)>>
 }
 
 fn from_entries(alloc: Global) -> Option<Verdict> {
-    let entries = two_entries(alloc)?;
-    mark(alloc);
-    let vector = Vector::from_entries(alloc, entries);
-    mark(alloc);
-    Some(match vector {
-        Ok(vector) => judged(Some(has_two(&vector, 2, 3)), true),
-        Err(_) => Verdict::Refused,
-    })
+    match two_entries(alloc) {
+        Some(entries) => {
+            mark(alloc);
+            let vector = Vector::from_entries(alloc, entries);
+            mark(alloc);
+            Some(judged(is_of_two(&vector), true))
+        }
+        None => None,
+    }
 }
 
-fn join(alloc: Global) -> Option<Verdict> {
-    let one = vector_of(alloc, 0, 2)?;
-    let other = vector_of(alloc, 1, 3)?;
-    let right = joins(alloc, &one, &other);
-    Some(judged(right, has_one(&one, 0, 2) && has_one(&other, 1, 3)))
+// What came of a call on the vector of three versions of device 1.
+fn on_vector(alloc: Global, call: &str) -> Option<Verdict> {
+    match vector_of(alloc, 1, 3) {
+        Some(vector) => match calls(alloc, &vector, call) {
+            Some(right) => Some(judged(right, has_one(&vector, 1, 3))),
+            None => None,
+        },
+        None => None,
+    }
 }
 
-fn joins(alloc: Global, one: &Vector, other: &Vector) -> Option<bool> {
-    mark(alloc);
-    let both = one.join(other);
-    mark(alloc);
-    Some(has_two(&both.ok()?, 2, 3))
+// Whether the call gave the right answer, which is None where memory was wanted. None where no call has the name, or the
+// values for it can't be made.
+fn calls(alloc: Global, vector: &Vector, call: &str) -> Option<Option<bool>> {
+    match call {
+        "Vector::join" => joins(alloc, vector),
+        "Vector::with" => adds(alloc, vector),
+        "Vector::try_clone" => Some(copies(alloc, vector)),
+        _ => None,
+    }
 }
 
-fn with(alloc: Global) -> Option<Verdict> {
-    let vector = vector_of(alloc, 1, 3)?;
+fn joins(alloc: Global, vector: &Vector) -> Option<Option<bool>> {
+    match vector_of(alloc, 0, 2) {
+        Some(other) => {
+            mark(alloc);
+            let both = other.join(vector);
+            mark(alloc);
+            if has_one(&other, 0, 2) {
+                Some(is_of_two(&both))
+            } else {
+                Some(Some(false))
+            }
+        }
+        None => None,
+    }
+}
+
+fn adds(alloc: Global, vector: &Vector) -> Option<Option<bool>> {
     let version = Version::new(Author::new(0), 2)?;
-    let right = adds(alloc, &vector, version);
-    Some(judged(right, has_one(&vector, 1, 3)))
-}
-
-fn adds(alloc: Global, vector: &Vector, version: Version) -> Option<bool> {
     mark(alloc);
     let more = vector.with(version);
     mark(alloc);
-    Some(has_two(&more.ok()?, 2, 3))
-}
-
-fn copy(alloc: Global) -> Option<Verdict> {
-    let vector = vector_of(alloc, 1, 3)?;
-    Some(judged(copies(alloc, &vector), has_one(&vector, 1, 3)))
+    Some(is_of_two(&more))
 }
 
 fn copies(alloc: Global, vector: &Vector) -> Option<bool> {
     mark(alloc);
     let copy = vector.try_clone();
     mark(alloc);
-    Some(has_one(&copy.ok()?, 1, 3))
+    match copy {
+        Ok(copy) => Some(has_one(&copy, 1, 3)),
+        Err(_) => None,
+    }
 }

@@ -2,7 +2,7 @@
 use std::alloc::Global;
 
 /// What came of a call.
-#[derive(Clone, Copy, Debug, PartialEq, Eq)]
+#[derive(Clone, Copy)]
 pub enum Verdict {
     /// It gave the right answer.
     Answered,

@@ -1,66 +1,16 @@
-//! Ratings, picture numbers, days and words, at their limits and beyond.
+//! Ratings, picture numbers, days, words and records: how they are read, and what they are shown as.
+use crate::answers::{is_answer, is_shown};
 use photo_record::{Day, PicNo, Rating, Record, Word, WordFault, Words};
 use std::alloc::Global;
-use std::fmt::Display;
 
-const RATINGS: &[(u8, Option<u8>)] = &[(0, Some(0)), (5, Some(5)), (6, None), (255, None)];
-
-#[test]
-fn ratings(rt: HostRuntime) {
-    for (value, rating) in RATINGS {
-        assert!(rt;
-            Rating::new(*value).map(|r| r.value()) == *rating,
-            "at {value}"
-        );
-    }
-}
-
-const WRITTEN_RATINGS: &[(&str, Option<u8>)] = &[
-    ("0", Some(0)),
-    ("5", Some(5)),
-    ("6", None),
-    ("9", None),
-    ("05", None),
-    ("+5", None),
-    (" 5", None),
-    ("", None),
-    ("\u{665}", None),
-];
-
-#[test]
-fn written_ratings(rt: HostRuntime) {
-    for (text, rating) in WRITTEN_RATINGS {
-        assert!(rt;
-            Rating::read(text).map(|r| r.value()) == *rating,
-            "at {text:?}"
-        );
-    }
-}
-
-const PICTURE_NUMBERS: &[(u32, Option<u32>)] = &[
-    (0, None),
-    (1, Some(1)),
-    (999_999_999, Some(999_999_999)),
-    (1_000_000_000, None),
-    (4_294_967_295, None),
-];
-
-#[test]
-fn picture_numbers(rt: HostRuntime) {
-    for (value, number) in PICTURE_NUMBERS {
-        assert!(rt;
-            PicNo::new(*value).map(|n| n.value()) == *number,
-            "at {value}"
-        );
-    }
-}
-
-const DAYS: &[(&str, Option<i32>)] = &[
-    ("0000-01-01", Some(-719_528)),
-    ("1969-12-31", Some(-1)),
-    ("1970-01-01", Some(0)),
-    ("2024-02-29", Some(19_782)),
-    ("9999-12-31", Some(2_932_896)),
+const DAYS: &[(&str, Option<(i32, u16, u8, u8)>)] = &[
+    ("0000-01-01", Some((-719_528, 0, 1, 1))),
+    ("0000-02-29", Some((-719_469, 0, 2, 29))),
+    ("1969-12-31", Some((-1, 1969, 12, 31))),
+    ("1970-01-01", Some((0, 1970, 1, 1))),
+    ("2000-03-01", Some((11_017, 2000, 3, 1))),
+    ("2024-02-29", Some((19_782, 2024, 2, 29))),
+    ("9999-12-31", Some((2_932_896, 9999, 12, 31))),
     ("2023-02-29", None),
     ("1900-02-29", None),
     ("2024-04-31", None),
@@ -82,31 +32,14 @@ const DAYS: &[(&str, Option<i32>)] = &[
 
 #[test]
 fn days(rt: HostRuntime) {
-    for (text, number) in DAYS {
-        assert!(rt;
-            Day::read(text).map(|d| d.number()) == *number,
-            "at {text:?}"
-        );
+    for (text, date) in DAYS {
+        assert!(rt; date_of(text) == *date, "at {text:?}");
     }
 }
 
-const DATES: &[(&str, (u16, u8, u8))] = &[
-    ("0000-02-29", (0, 2, 29)),
-    ("1969-12-31", (1969, 12, 31)),
-    ("2000-03-01", (2000, 3, 1)),
-    ("9999-12-31", (9999, 12, 31)),
-];
-
-#[test]
-fn dates(rt: HostRuntime) {
-    for (text, date) in DATES {
-        assert!(rt; date_of(text) == Some(*date), "at {text}");
-    }
-}
-
-fn date_of(text: &str) -> Option<(u16, u8, u8)> {
+fn date_of(text: &str) -> Option<(i32, u16, u8, u8)> {
     let day = Day::read(text)?;
-    Some((day.year(), day.month(), day.day()))
+    Some((day.number(), day.year(), day.month(), day.day()))
 }
 
 // Of 64 bytes, and of 65.
@@ -114,6 +47,7 @@ const LONGEST: &str = "aaaaaaaaaaaaaaaaaaaaaaaaaaaaaaaaaaaaaaaaaaaaaaaaaaaaaaaaa
 
 const LONGER: &str = "aaaaaaaaaaaaaaaaaaaaaaaaaaaaaaaaaaaaaaaaaaaaaaaaaaaaaaaaaaaaaaaaa";
 
+// What is read as a word, and how that is shown, or its fault.
 const WORDS: &[(&str, &str)] = &[
     ("x", "x"),
     ("-", "-"),
@@ -127,209 +61,120 @@ const WORDS: &[(&str, &str)] = &[
         "e\u{301}e\u{301}e\u{301}e\u{301}e\u{301}e\u{301}e\u{301}e\u{301}e\u{301}e\u{301}e\u{301}e\u{301}e\u{301}e\u{301}e\u{301}e\u{301}e\u{301}e\u{301}e\u{301}e\u{301}e\u{301}e\u{301}e\u{301}a",
         "éééééééééééééééééééééééa",
     ),
+    ("", "Empty"),
+    (" ", "BadCharacter"),
+    ("\0", "BadCharacter"),
+    ("a\u{1f}", "BadCharacter"),
+    ("\u{7f}", "BadCharacter"),
+    ("\u{85}", "BadCharacter"),
+    ("\u{9f}a", "BadCharacter"),
+    ("a\"", "BadCharacter"),
+    ("(a", "BadCharacter"),
+    ("a)", "BadCharacter"),
+    ("a,b", "BadCharacter"),
+    (LONGER, "TooLong"),
+    (
+        "\u{958}\u{958}\u{958}\u{958}\u{958}\u{958}\u{958}\u{958}\u{958}\u{958}\u{958}",
+        "TooLong",
+    ),
+    (
+        "aaaaaaaaaaaaaaaaaaaaaaaaaaaaaaaaaaaaaaaaaaaaaaaaaaaaaaaaaaaaaaaa ",
+        "BadCharacter",
+    ),
 ];
 
 #[test]
 fn words(rt: HostRuntime) {
-    for (text, form) in WORDS {
-        assert!(rt; is_word(rt.alloc(), text, form), "at {text}");
+    for (text, want) in WORDS {
+        assert!(rt; is_word(rt.alloc(), text, want), "at {text:?}");
     }
 }
 
-// Whether the text is read as that word, and a copy of it is made that is equal.
-fn is_word(alloc: Global, text: &str, form: &str) -> bool {
-    match Word::read(alloc, text) {
-        Ok(word) => word.text() == form && is_copied_word(&word),
-        Err(_) => false,
-    }
+fn is_word(alloc: Global, text: &str, want: &str) -> bool {
+    is_answer(alloc, &Word::read(alloc, text), want)
 }
 
-fn is_copied_word(word: &Word) -> bool {
-    word.try_clone().is_ok_and(|copy| copy == *word)
-}
-
-fn is_refused_word(alloc: Global, text: &str, fault: WordFault) -> bool {
-    Word::read(alloc, text).err() == Some(fault)
-}
-
-const REFUSED_WORDS: &[(&str, WordFault)] = &[
-    ("", WordFault::Empty),
-    (" ", WordFault::BadCharacter),
-    ("\0", WordFault::BadCharacter),
-    ("a\u{1f}", WordFault::BadCharacter),
-    ("\u{7f}", WordFault::BadCharacter),
-    ("\u{85}", WordFault::BadCharacter),
-    ("\u{9f}a", WordFault::BadCharacter),
-    ("a\"", WordFault::BadCharacter),
-    ("(a", WordFault::BadCharacter),
-    ("a)", WordFault::BadCharacter),
-    ("a,b", WordFault::BadCharacter),
-    (LONGER, WordFault::TooLong),
-    (
-        "\u{958}\u{958}\u{958}\u{958}\u{958}\u{958}\u{958}\u{958}\u{958}\u{958}\u{958}",
-        WordFault::TooLong,
-    ),
-    (
-        "aaaaaaaaaaaaaaaaaaaaaaaaaaaaaaaaaaaaaaaaaaaaaaaaaaaaaaaaaaaaaaaa ",
-        WordFault::BadCharacter,
-    ),
-];
-
-#[test]
-fn refused_words(rt: HostRuntime) {
-    for (text, fault) in REFUSED_WORDS {
-        assert!(rt; is_refused_word(rt.alloc(), text, *fault), "at {text:?}");
-    }
-}
-
-const SETS: &[(&str, &[&str])] = &[
-    ("-", &[]),
-    ("-,x", &["-", "x"]),
-    ("b,a,B", &["B", "a", "b"]),
-    ("z,e\u{301},ab,a", &["a", "ab", "z", "é"]),
+// What is read as a set, and how that is shown, or its fault.
+const SETS: &[(&str, &str)] = &[
+    ("-", "-"),
+    ("-,x", "-,x"),
+    ("b,a,B", "B,a,b"),
+    ("z,e\u{301},ab,a", "a,ab,z,é"),
     // U+1F600 stands after U+FF5E by bytes, and before it by units of 16 bits.
-    ("\u{1f600},\u{ff5e}", &["\u{ff5e}", "\u{1f600}"]),
+    ("\u{1f600},\u{ff5e}", "\u{ff5e},\u{1f600}"),
     (
         "p,o,n,m,l,k,j,i,h,g,f,e,d,c,b,a",
-        &[
-            "a", "b", "c", "d", "e", "f", "g", "h", "i", "j", "k", "l", "m", "n", "o", "p",
-        ],
+        "a,b,c,d,e,f,g,h,i,j,k,l,m,n,o,p",
     ),
+    ("", "Empty"),
+    (",", "Empty"),
+    ("x,", "Empty"),
+    ("x,,y", "Empty"),
+    ("x,x", "Repeated"),
+    ("e\u{301},\u{e9}", "Repeated"),
+    ("x, y", "BadCharacter"),
+    ("(,x,x", "BadCharacter"),
+    ("x,x,(", "Repeated"),
+    ("a,b,c,d,e,f,g,h,i,j,k,l,m,n,o,p,q", "TooMany"),
+    ("a,b,c,d,e,f,g,h,i,j,k,l,m,n,o,p,", "TooMany"),
+    ("a,b,c,d,e,f,g,h,i,j,k,l,m,n,o,p,a", "TooMany"),
+    ("a,b,c,d,e,f,g,h,i,j,k,l,m,n,o,a,q", "Repeated"),
 ];
 
 #[test]
 fn sets(rt: HostRuntime) {
-    for (text, words) in SETS {
-        assert!(rt; is_set(rt.alloc(), text, words), "at {text}");
+    for (text, want) in SETS {
+        assert!(rt; is_set(rt.alloc(), text, want), "at {text:?}");
     }
 }
 
-// Whether the text is read as the set of just those words, and a copy of it is made that is equal.
-fn is_set(alloc: Global, text: &str, words: &[&str]) -> bool {
-    match Words::read(alloc, text) {
-        Ok(set) => is_of(alloc, &set, words) && is_copied_set(&set),
+fn is_set(alloc: Global, text: &str, want: &str) -> bool {
+    is_answer(alloc, &Words::read(alloc, text), want)
+}
+
+fn is_copied_word(word: &Word) -> bool {
+    match word.try_clone() {
+        Ok(copy) => copy == *word,
         Err(_) => false,
     }
 }
 
-fn is_copied_set(set: &Words) -> bool {
-    set.try_clone().is_ok_and(|copy| copy == *set)
+fn is_copied_set(words: &Words) -> bool {
+    match words.try_clone() {
+        Ok(copy) => copy == *words,
+        Err(_) => false,
+    }
 }
 
-fn is_of(alloc: Global, set: &Words, words: &[&str]) -> bool {
-    lists(set, words) && has_all(alloc, set, words) && !has(alloc, set, "other")
-}
-
-fn lists(set: &Words, words: &[&str]) -> bool {
-    if set.len() != words.len() || set.is_empty() != words.is_empty() {
+// Whether the words are three, of which `a` is the second, each is copied, and all are.
+fn are_three(words: &Words) -> bool {
+    if words.len() != 3 || words.is_empty() || words.get(1).text() != "a" {
         return false;
     }
-    for i in 0..set.len() {
-        if set.get(i).text() != words[i] {
+    for word in words {
+        if !words.has(word) || !is_copied_word(word) {
             return false;
         }
     }
-    goes_over(set, words)
+    is_copied_set(words)
 }
 
-// Whether those are the words over which one goes, in that order.
-fn goes_over(set: &Words, words: &[&str]) -> bool {
-    let mut place = 0;
-    for word in set {
-        if place >= words.len() {
-            return false;
-        }
-        if word.text() != words[place] {
-            return false;
-        }
-        place += 1;
-    }
-    place == words.len()
-}
-
-fn has_all(alloc: Global, set: &Words, words: &[&str]) -> bool {
-    words.iter().all(|word| has(alloc, set, word))
-}
-
-fn has(alloc: Global, set: &Words, word: &str) -> bool {
-    Word::read(alloc, word).is_ok_and(|word| set.has(&word))
-}
-
-fn is_refused_set(alloc: Global, text: &str, fault: WordFault) -> bool {
-    Words::read(alloc, text).err() == Some(fault)
-}
-
-const REFUSED_SETS: &[(&str, WordFault)] = &[
-    ("", WordFault::Empty),
-    (",", WordFault::Empty),
-    ("x,", WordFault::Empty),
-    ("x,,y", WordFault::Empty),
-    ("x,x", WordFault::Repeated),
-    ("e\u{301},\u{e9}", WordFault::Repeated),
-    ("x, y", WordFault::BadCharacter),
-    ("(,x,x", WordFault::BadCharacter),
-    ("x,x,(", WordFault::Repeated),
-    ("a,b,c,d,e,f,g,h,i,j,k,l,m,n,o,p,q", WordFault::TooMany),
-    ("a,b,c,d,e,f,g,h,i,j,k,l,m,n,o,p,", WordFault::TooMany),
-    ("a,b,c,d,e,f,g,h,i,j,k,l,m,n,o,p,a", WordFault::TooMany),
-    ("a,b,c,d,e,f,g,h,i,j,k,l,m,n,o,a,q", WordFault::Repeated),
-];
-
-#[test]
-fn refused_sets(rt: HostRuntime) {
-    for (text, fault) in REFUSED_SETS {
-        assert!(rt; is_refused_set(rt.alloc(), text, *fault), "at {text:?}");
+fn three_are_read(alloc: Global) -> bool {
+    match Words::read(alloc, "b,a,B") {
+        Ok(words) => are_three(&words),
+        Err(_) => false,
     }
 }
 
 #[test]
-fn copies(rt: HostRuntime) {
-    assert!(rt; is_picture_copied(rt.alloc()));
-    assert!(rt; is_copied(&Record::Removed));
-}
-
-fn is_picture_copied(alloc: Global) -> bool {
-    match picture(alloc) {
-        Some(record) => record != Record::Removed && is_copied(&record),
-        None => false,
-    }
-}
-
-fn picture(alloc: Global) -> Option<Record> {
-    let rating = Rating::new(3)?;
-    let day = Day::read("2024-02-29")?;
-    match Words::read(alloc, "b,a") {
-        Ok(words) => Some(Record::Picture { rating, day, words }),
-        Err(_) => None,
-    }
-}
-
-fn is_copied(record: &Record) -> bool {
-    record.try_clone().is_ok_and(|copy| copy == *record)
-}
-
-fn is_written(alloc: Global, fault: WordFault, text: &str) -> bool {
-    fault.to_string(alloc).is_ok_and(|t| t.as_str() == text)
-}
-
-const FAULTS: &[(WordFault, &str)] = &[
-    (WordFault::Empty, "Empty"),
-    (WordFault::BadCharacter, "BadCharacter"),
-    (WordFault::TooLong, "TooLong"),
-    (WordFault::NoMemory, "NoMemory"),
-    (WordFault::TooMany, "TooMany"),
-    (WordFault::Repeated, "Repeated"),
-];
-
-#[test]
-fn faults(rt: HostRuntime) {
-    for (fault, text) in FAULTS {
-        assert!(rt; is_written(rt.alloc(), *fault, text), "at {text}");
-    }
+fn a_set_has_its_words(rt: HostRuntime) {
+    assert!(rt; three_are_read(rt.alloc()));
 }
 
 // What a record is read from, and how it is shown.
-const SHOWN: &[(&str, &str, &str, &str)] = &[
+type Shown = (&'static str, &'static str, &'static str, &'static str);
+
+const SHOWN: &[Shown] = &[
     (
         "5",
         "2024-05-01",
@@ -345,24 +190,6 @@ const SHOWN: &[(&str, &str, &str, &str)] = &[
     ),
 ];
 
-#[test]
-fn records_are_shown(rt: HostRuntime) {
-    for (rating, day, words, text) in SHOWN {
-        assert!(rt;
-            is_record_shown(rt.alloc(), rating, day, words, text),
-            "at {text}"
-        );
-    }
-    assert!(rt; is_shown(rt.alloc(), &Record::Removed, "removed"));
-}
-
-fn is_record_shown(alloc: Global, rating: &str, day: &str, words: &str, text: &str) -> bool {
-    match record_of(alloc, rating, day, words) {
-        Some(record) => is_shown(alloc, &record, text),
-        None => false,
-    }
-}
-
 fn record_of(alloc: Global, rating: &str, day: &str, words: &str) -> Option<Record> {
     let rating = Rating::read(rating)?;
     let day = Day::read(day)?;
@@ -372,36 +199,51 @@ fn record_of(alloc: Global, rating: &str, day: &str, words: &str) -> Option<Reco
     }
 }
 
-fn is_shown<D: Display>(alloc: Global, value: &D, text: &str) -> bool {
-    value.to_string(alloc).is_ok_and(|t| t.as_str() == text)
+fn is_copied(record: &Record) -> bool {
+    match record.try_clone() {
+        Ok(copy) => copy == *record && copy != Record::Removed,
+        Err(_) => false,
+    }
+}
+
+fn is_record(alloc: Global, (rating, day, words, text): Shown) -> bool {
+    match record_of(alloc, rating, day, words) {
+        Some(record) => is_shown(alloc, &record, text) && is_copied(&record),
+        None => false,
+    }
 }
 
 #[test]
-fn parts_are_shown(rt: HostRuntime) {
-    assert!(rt; are_numbers_shown(rt.alloc()) == Some(true));
-    assert!(rt; is_word_shown(rt.alloc()));
+fn records_are_shown(rt: HostRuntime) {
+    for shown in SHOWN {
+        assert!(rt; is_record(rt.alloc(), *shown), "{shown:?}");
+    }
 }
 
-fn are_numbers_shown(alloc: Global) -> Option<bool> {
+// Numbers at their limits and beyond.
+fn are_limits_kept() -> bool {
+    let new = Rating::new(5).is_some() && Rating::new(6).is_none();
+    let read = Rating::read("5") == Rating::new(5) && Rating::read("6").is_none();
+    let other = Rating::read("05").is_none() && Rating::read("\u{665}").is_none();
+    let first = PicNo::new(0).is_none() && PicNo::new(1).is_some();
+    let last = PicNo::new(999_999_999).is_some() && PicNo::new(1_000_000_000).is_none();
+    new && read && other && first && last
+}
+
+// How parts of a record are shown, also in a column of eight, and what has no part.
+fn are_parts_shown(alloc: Global) -> Option<bool> {
     let (rating, picture) = (Rating::new(4)?, PicNo::new(1_200)?);
-    Some(
-        is_shown(alloc, &rating, "4")
-            && is_shown(alloc, &picture, "1200")
-            && is_padded(alloc, picture),
-    )
-}
-
-// Whether the picture is shown in a column of eight.
-fn is_padded(alloc: Global, picture: PicNo) -> bool {
+    let numbers = is_shown(alloc, &rating, "4") && is_shown(alloc, &picture, "1200");
+    let removed = is_shown(alloc, &Record::Removed, "removed");
+    let fault = is_shown(alloc, &WordFault::NoMemory, "NoMemory");
     match format!(in alloc; "{picture:>8}|") {
-        Ok(text) => text.as_str() == "    1200|",
-        Err(_) => false,
+        Ok(text) => Some(numbers && removed && fault && text.as_str() == "    1200|"),
+        Err(_) => None,
     }
 }
 
-fn is_word_shown(alloc: Global) -> bool {
-    match Word::read(alloc, "sunset") {
-        Ok(word) => is_shown(alloc, &word, "sunset"),
-        Err(_) => false,
-    }
+#[test]
+fn numbers_and_parts(rt: HostRuntime) {
+    assert!(rt; are_limits_kept());
+    assert!(rt; are_parts_shown(rt.alloc()) == Some(true));
 }

@@ -1,117 +1,85 @@
 //! Authors, versions and vectors.
-ghost use Rattle.std.specs.Prelude.{◌≡◌, ◌<◌, ◌≤◌};
-ghost use Rattle.photo_version.specs.Author.{author};
-ghost use Rattle.photo_version.specs.Version as versions;
-
+use crate::answers::is_shown;
 use photo_version::{Author, Vector, Version};
 use std::alloc::Global;
 
 // A vector that is owned has its own function here, with no `?` behind it and no `rt` beside it: so the proofs are short.
 
-// The `n`th version of a device.
-fn version(device: u16, n: u32) -> Version
-    requires { 0 < n }
-    ensures { result ≡ versions.version (author device) n }
-{
-    Version::new(Author::new(device), n).unwrap()
+// Authors as they are compared, numbered and read.
+fn are_authors_right() -> bool {
+    let (first, next, frame) = (Author::new(0), Author::at(0, 1), Author::new(63));
+    let numbers = frame.value() == 63 && next.value() == 0 && next.epoch() == 1;
+    let epochs = first.next() == Some(next) && Author::at(3, 4_294_967_295).next().is_none();
+    let order = first < next && next < Author::new(1) && first != next;
+    let words = next.word() == 1 && Author::new(1).word() == 4_294_967_296;
+    let back = Author::of_word(frame.word()) == frame;
+    numbers && epochs && order && words && back
 }
 
-// Authors and versions as they are compared and read.
-fn are_in_order() -> bool {
-    let (first, later, other) = (version(0, 1), version(0, 10), version(63, 2));
-    first < later && later < other && other.author() == Author::new(63) && other.n() == 2
+// Versions as they are compared and read.
+fn are_versions_right() -> Option<bool> {
+    let (first, later) = (version(0, 0, 1)?, version(0, 0, 10)?);
+    let (next, other) = (version(0, 1, 1)?, version(63, 0, 2)?);
+    let order = first < later && later < next && next < other;
+    let none = version(0, 0, 0).is_none();
+    Some(order && none && other.author() == Author::new(63) && other.n() == 2)
 }
 
 #[test]
 fn authors_and_versions(rt: HostRuntime) {
-    let frame = Author::new(63);
-    assert!(rt; frame.value() == 63 && Author::of_word(frame.word()) == frame);
-    assert!(rt; Version::new(Author::new(0), 0).is_none());
-    assert!(rt; are_in_order());
+    assert!(rt; are_authors_right());
+    assert!(rt; are_versions_right() == Some(true));
 }
 
-#[test]
-fn a_device_has_epochs(rt: HostRuntime) {
-    let (first, next) = (Author::new(0), Author::at(0, 1));
-    assert!(rt; first.next() == Some(next) && next.value() == 0 && next.epoch() == 1);
-    assert!(rt; first < next && next < Author::new(1) && first != next);
-    assert!(rt; Author::at(3, 4_294_967_295).next().is_none());
-    assert!(rt; next.word() == 1 && Author::new(1).word() == 4_294_967_296);
-    assert!(rt; Author::of_word(Author::at(65_535, 7).word()) == Author::at(65_535, 7));
+// The nth version of a device in an epoch.
+fn version(device: u16, epoch: u32, n: u32) -> Option<Version> {
+    Version::new(Author::at(device, epoch), n)
 }
 
-// A vector's entries, each as a device and its last version.
-type Bounds = &'static [(u16, u32)];
-
-// The vector with a version more, where there is that version.
-fn raised(vector: &Vector, device: u16, n: u32) -> Option<Vector> {
-    let version = Version::new(Author::new(device), n)?;
-    vector.with(version).ok()
-}
+// A vector's entries, each as a device, its epoch and its last version there.
+type Bounds = &'static [(u16, u32, u32)];
 
 // The vector of the bounds.
-fn vector(alloc: Global, bounds: &[(u16, u32)]) -> Option<Vector> {
+fn vector(alloc: Global, bounds: Bounds) -> Option<Vector> {
     let mut vector = Vector::new(alloc);
-    for (device, n) in bounds {
-        vector = raised(&vector, *device, *n)?;
+    for (device, epoch, n) in bounds {
+        vector = vector.with(version(*device, *epoch, *n)?).ok()?;
     }
     Some(vector)
 }
 
-// Whether the entries of the vector are the bounds.
-fn has_entries(vector: &Vector, bounds: &[(u16, u32)]) -> bool {
-    if vector.len() != bounds.len() {
-        return false;
-    }
-    for i in 0..vector.len() {
-        let (device, n) = bounds[i];
-        if vector.entry(i) != (Author::new(device), n) {
+// Whether the entries of the vector are the bounds, also where they are gone over.
+fn has_entries(vector: &Vector, bounds: Bounds) -> bool {
+    let mut place = 0;
+    for entry in vector {
+        if place >= bounds.len() || place >= vector.len() {
             return false;
         }
-    }
-    true
-}
-
-// The same, where they are gone over.
-fn goes_over(vector: &Vector, bounds: &[(u16, u32)]) -> bool {
-    let mut rest = bounds;
-    for (author, n) in vector {
-        let Some((bound, others)) = rest.split_first() else {
-            return false;
-        };
-        if (author.value(), *n) != *bound {
+        let (device, epoch, n) = bounds[place];
+        if *entry != (Author::at(device, epoch), n) || vector.entry(place) != *entry {
             return false;
         }
-        rest = others;
+        place += 1;
     }
-    rest.is_empty()
+    place == bounds.len()
 }
 
 // Whether the union of two vectors has these entries.
-fn joins(left: &Vector, right: &Vector, wanted: &[(u16, u32)]) -> bool {
+fn joins(left: &Vector, right: &Vector, wanted: Bounds) -> bool {
     match left.join(right) {
-        Ok(both) => has_entries(&both, wanted) && goes_over(&both, wanted),
+        Ok(both) => has_entries(&both, wanted),
         Err(_) => false,
     }
 }
 
-fn join_both_ways(left: &Vector, right: &Vector, wanted: &[(u16, u32)]) -> bool {
-    joins(left, right, wanted) && joins(right, left, wanted)
-}
-
-fn join_of(alloc: Global, left: &Vector, right: &[(u16, u32)], wanted: &[(u16, u32)]) -> bool {
+fn join_of(alloc: Global, left: &Vector, right: Bounds, wanted: Bounds) -> bool {
     match vector(alloc, right) {
-        Some(right) => join_both_ways(left, &right, wanted),
+        Some(right) => joins(left, &right, wanted) && joins(&right, left, wanted),
         None => false,
     }
 }
 
-fn are_joined(
-    alloc: Global,
-    left: &[(u16, u32)],
-    right: &[(u16, u32)],
-    wanted: &[(u16, u32)],
-) -> bool {
+fn are_joined(alloc: Global, left: Bounds, right: Bounds, wanted: Bounds) -> bool {
     match vector(alloc, left) {
         Some(left) => join_of(alloc, &left, right, wanted),
         None => false,
@@ -119,14 +87,60 @@ fn are_joined(
 }
 
 const UNIONS: &[(Bounds, Bounds, Bounds)] = &[
-    (&[(0, 2), (0, 1)], &[(0, 1), (1, 3)], &[(0, 2), (1, 3)]),
     (
-        &[(4, 1), (2, 7)],
-        &[(3, 5), (2, 6)],
-        &[(2, 7), (3, 5), (4, 1)],
+        &[(0, 0, 2), (0, 0, 1)],
+        &[(0, 0, 1), (1, 0, 3)],
+        &[(0, 0, 2), (1, 0, 3)],
     ),
-    (&[(1, 2), (9, 9)], &[(9, 9), (1, 2)], &[(1, 2), (9, 9)]),
-    (&[(0, 2)], &[], &[(0, 2)]),
+    (
+        &[(4, 0, 1), (2, 0, 7)],
+        &[(3, 0, 5), (2, 0, 6)],
+        &[(2, 0, 7), (3, 0, 5), (4, 0, 1)],
+    ),
+    (&[(0, 0, 2)], &[], &[(0, 0, 2)]),
+    // epochs stand apart
+    (
+        &[(0, 0, 2)],
+        &[(1, 0, 1), (0, 1, 1)],
+        &[(0, 0, 2), (0, 1, 1), (1, 0, 1)],
+    ),
+    // more entries than a list has room for at first
+    (
+        &[
+            (0, 0, 1),
+            (2, 0, 3),
+            (4, 0, 5),
+            (6, 0, 7),
+            (8, 0, 9),
+            (10, 0, 11),
+            (12, 0, 13),
+        ],
+        &[
+            (1, 0, 2),
+            (3, 0, 4),
+            (5, 0, 6),
+            (7, 0, 8),
+            (9, 0, 10),
+            (11, 0, 12),
+            (13, 0, 14),
+        ],
+        &[
+            (0, 0, 1),
+            (1, 0, 2),
+            (2, 0, 3),
+            (3, 0, 4),
+            (4, 0, 5),
+            (5, 0, 6),
+            (6, 0, 7),
+            (7, 0, 8),
+            (8, 0, 9),
+            (9, 0, 10),
+            (10, 0, 11),
+            (11, 0, 12),
+            (12, 0, 13),
+            (13, 0, 14),
+        ],
+    ),
 ];
 
 #[test]
@@ -136,73 +150,25 @@ fn a_union_has_the_greater_bounds(rt: HostRuntime) {
     }
 }
 
-// Whether the first two versions of a device and the first of its next epoch are three entries apart.
-fn has_both_epochs(both: &Vector, second: Version) -> bool {
-    both.len() == 2
-        && both.entry(0) == (Author::new(0), 2)
-        && both.entry(1) == (Author::at(0, 1), 1)
-        && !both.has(second)
-}
-
-fn keeps_epochs_apart(two: &Vector) -> Option<bool> {
-    let first = Version::new(Author::at(0, 1), 1)?;
-    let second = Version::new(Author::at(0, 1), 2)?;
-    match two.with(first) {
-        Ok(both) => Some(has_both_epochs(&both, second)),
-        Err(_) => None,
-    }
-}
-
-fn keeps_epochs_of_two(alloc: Global) -> Option<bool> {
-    match vector(alloc, &[(0, 2)]) {
-        Some(two) => keeps_epochs_apart(&two),
-        None => None,
-    }
-}
-
-#[test]
-fn a_vector_has_epochs_apart(rt: HostRuntime) {
-    assert!(rt; keeps_epochs_of_two(rt.alloc()) == Some(true));
-}
-
-// Whether a vector has two versions of a device, and nothing else.
-fn has_just_two(two: &Vector) -> bool {
-    !two.is_empty()
-        && two.has(version(0, 2))
-        && two.has(version(0, 1))
-        && !two.has(version(0, 3))
-        && !two.has(version(1, 1))
-}
-
-fn is_above_nothing(two: &Vector, empty: &Vector) -> bool {
-    empty.is_empty() && !empty.has(version(0, 1)) && empty.leq(two) && !two.leq(empty)
-}
-
-// Whether a vector is the same with a version more that it has.
-fn stays(two: &Vector) -> bool {
-    match two.with(version(0, 1)) {
-        Ok(same) => has_entries(&same, &[(0, 2)]),
-        Err(_) => false,
-    }
+// Whether a vector has two versions of device 0, and nothing else, and is above nothing.
+fn has_just_two(alloc: Global, two: &Vector) -> Option<bool> {
+    let (first, second, third) = (version(0, 0, 1)?, version(0, 0, 2)?, version(0, 0, 3)?);
+    let other = version(1, 0, 1)?;
+    let has = two.has(first) && two.has(second) && !two.has(third) && !two.has(other);
+    let empty = Vector::new(alloc);
+    Some(has && !two.is_empty() && empty.is_empty() && empty.leq(two) && !two.leq(&empty))
 }
 
 fn has_an_equal_copy(two: &Vector) -> bool {
     match two.try_clone() {
-        Ok(copy) => copy == *two && has_entries(&copy, &[(0, 2)]),
+        Ok(copy) => copy == *two,
         Err(_) => false,
     }
 }
 
-fn is_as_wanted(alloc: Global, two: &Vector) -> bool {
-    has_just_two(two)
-        && is_above_nothing(two, &Vector::new(alloc))
-        && stays(two)
-        && has_an_equal_copy(two)
-}
-
 fn has_up_to_two(alloc: Global) -> bool {
-    match vector(alloc, &[(0, 2)]) {
-        Some(two) => is_as_wanted(alloc, &two),
+    match vector(alloc, &[(0, 0, 2)]) {
+        Some(two) => has_just_two(alloc, &two) == Some(true) && has_an_equal_copy(&two),
         None => false,
     }
 }
@@ -212,72 +178,26 @@ fn a_vector_has_versions_up_to_its_bounds(rt: HostRuntime) {
     assert!(rt; has_up_to_two(rt.alloc()));
 }
 
-// The vector of every second of forty authors, from that one on, each with as many versions as its number and one.
-fn every_second(alloc: Global, first: u16) -> Option<Vector>
-    requires { first ≤ 1 }
-{
-    let mut vector = Vector::new(alloc);
-    for i in 0..20u16 {
-        let author = first + 2 * i;
-        vector = raised(&vector, author, u32::from(author) + 1)?;
-    }
-    Some(vector)
-}
-
-// Whether a vector has all forty authors, each with as many versions as its number and one.
-fn has_forty(vector: &Vector) -> bool {
-    if vector.len() != 40 {
-        return false;
-    }
-    for i in 0..40u16 {
-        if vector.entry(usize::from(i)) != (Author::new(i), u32::from(i) + 1) {
-            return false;
-        }
-    }
-    true
-}
-
-fn join_to_forty(even: &Vector, odd: &Vector) -> bool {
-    match even.join(odd) {
-        Ok(both) => has_forty(&both),
-        Err(_) => false,
-    }
-}
-
-fn joins_to_forty(alloc: Global, even: &Vector) -> bool {
-    match every_second(alloc, 1) {
-        Some(odd) => join_to_forty(even, &odd) && join_to_forty(&odd, even),
-        None => false,
-    }
-}
-
-fn has_forty_authors(alloc: Global) -> bool {
-    match every_second(alloc, 0) {
-        Some(even) => joins_to_forty(alloc, &even),
-        None => false,
-    }
-}
-
-#[test]
-fn a_union_may_have_many_authors(rt: HostRuntime) {
-    assert!(rt; has_forty_authors(rt.alloc()));
-}
-
 // Whether a version is there, and is shown so.
-fn is_shown_as(alloc: Global, version: Option<Version>, text: &str) -> bool {
-    let Some(version) = version else {
-        return false;
-    };
-    match version.to_string(alloc) {
-        Ok(shown) => shown.as_str() == text,
-        Err(_) => false,
+fn is_shown_as(alloc: Global, device: u16, epoch: u32, n: u32, text: &str) -> bool {
+    match version(device, epoch, n) {
+        Some(version) => is_shown(alloc, &version, text),
+        None => false,
     }
 }
 
+const SHOWN: &[(u16, u32, u32, &str)] = &[
+    (0, 0, 3, "0:3"),
+    (0, 1, 3, "0.1:3"),
+    (12, 40, 7, "12.40:7"),
+];
+
 #[test]
-fn a_version_is_shown_by_the_number_of_its_device(rt: HostRuntime) {
-    let (first, next) = (Author::new(0), Author::at(0, 1));
-    assert!(rt; is_shown_as(rt.alloc(), Version::new(first, 3), "0:3"));
-    assert!(rt; is_shown_as(rt.alloc(), Version::new(next, 3), "0.1:3"));
-    assert!(rt; is_shown_as(rt.alloc(), Version::new(Author::at(12, 40), 7), "12.40:7"));
+fn versions_are_shown(rt: HostRuntime) {
+    for (device, epoch, n, text) in SHOWN {
+        assert!(rt;
+            is_shown_as(rt.alloc(), *device, *epoch, *n, text),
+            "{text}"
+        );
+    }
 }

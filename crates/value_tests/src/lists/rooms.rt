@@ -27,16 +27,6 @@ fn scattered(alloc: Global, n: u32, end: u32) -> Result<Vec<u32>, AllocError>
     Ok(numbers)
 }
 
-/// The numbers of the list and the others, in order.
-fn in_order(alloc: Global, list: &BlockList<u32>, numbers: &[u32]) -> Result<Vec<u32>, AllocError> {
-    let mut all = Vec::from_slice(alloc, numbers)?;
-    for block in list.as_blocks() {
-        all.extend_from_slice(block)?;
-    }
-    all.sort_unstable();
-    Ok(all)
-}
-
 /// Puts the numbers in, each where it would stand among the others.
 fn grow(alloc: Global, list: &mut BlockList<u32>, room: Room<u32>, numbers: &[u32])
     requires most { length list.old ≤ room.most }
@@ -51,39 +41,36 @@ fn grow(alloc: Global, list: &mut BlockList<u32>, room: Room<u32>, numbers: &[u3
     *list = roomy.close();
 }
 
-fn grows(alloc: Global, list: &mut BlockList<u32>, numbers: &[u32]) -> bool {
-    match list.room(numbers.len()) {
-        Ok(room) => {
-            grow(alloc, list, room, numbers);
-            true
-        }
-        Err(_) => false,
-    }
-}
-
-fn is_just(list: &BlockList<u32>, wanted: &[u32]) -> bool {
-    if list.len() != wanted.len() {
-        return false;
-    }
-    for i in 0..wanted.len() {
-        if i >= list.len() || *list.get(i) != wanted[i] {
+fn is_in_order(list: &BlockList<u32>) -> bool {
+    let mut last = 0;
+    for item in list {
+        if *item < last {
             return false;
         }
+        last = *item;
     }
     true
 }
 
-/// Whether the list grows by the numbers, as a sorted vector would.
+/// Whether the list grows by the numbers in room that was taken for it, and is in order then.
 fn grows_in_order(alloc: Global, list: &mut BlockList<u32>, numbers: &[u32]) -> bool {
-    match in_order(alloc, list, numbers) {
-        Ok(wanted) => grows(alloc, list, numbers) && is_just(list, wanted.as_slice()),
+    let len = list.len();
+    match list.room(numbers.len()) {
+        Ok(room) => {
+            grow(alloc, list, room, numbers);
+            is_in_order(list) && list.len().wrapping_sub(len) == numbers.len()
+        }
         Err(_) => false,
     }
 }
 
-fn grows_to(alloc: Global, n: u32, numbers: &[u32], wanted: Shape) -> bool {
+/// Whether so many thousands grow by the numbers, and have that shape then, where one is given.
+fn grow_to(alloc: Global, n: u32, numbers: &[u32], wanted: Option<Shape>) -> bool {
     match thousands(alloc, n) {
-        Ok(mut list) => grows_in_order(alloc, &mut list, numbers) && shape(&list) == wanted,
+        Ok(mut list) => {
+            grows_in_order(alloc, &mut list, numbers)
+                && (wanted.is_none() || wanted == Some(shape(&list)))
+        }
         Err(_) => false,
     }
 }
@@ -101,127 +88,83 @@ const GROWTHS: &[(u32, &[u32], Shape)] = &[
     (254, &[5, 4, 3], (3, 128)),
 ];
 
-fn wrong_growth(alloc: Global) -> Option<usize> {
-    for i in 0..GROWTHS.len() {
-        let (n, numbers, wanted) = GROWTHS[i];
-        if !grows_to(alloc, n, numbers, wanted) {
-            return Some(i);
-        }
-    }
-    None
-}
-
 #[test]
 fn a_list_grows_in_its_room(rt: HostRuntime) {
-    let wrong = wrong_growth(rt.alloc());
-    assert!(rt; wrong.is_none(), "{wrong:?}");
+    for (n, numbers, wanted) in GROWTHS {
+        assert!(rt;
+            grow_to(rt.alloc(), *n, numbers, Some(*wanted)),
+            "{n}, {numbers:?}"
+        );
+    }
 }
 
-/// Whether the list grows by so many numbers below `end`, as a sorted vector would.
-fn grows_below(alloc: Global, list: &mut BlockList<u32>, n: u32, end: u32) -> bool
-    requires { 0 < end }
-{
-    match scattered(alloc, n, end) {
-        Ok(numbers) => grows_in_order(alloc, list, numbers.as_slice()),
+/// Whether two full blocks grow by a thousand numbers that lie among theirs.
+fn grow_by_a_thousand(alloc: Global) -> bool {
+    match scattered(alloc, 1_000, 300_000) {
+        Ok(numbers) => grow_to(alloc, 254, &numbers, None),
         Err(_) => false,
     }
 }
 
-/// Whether so many numbers grow by a thousand that lie among them.
-fn grows_much(alloc: Global, n: u32) -> bool {
-    match thousands(alloc, n) {
-        Ok(mut list) => grows_below(alloc, &mut list, 1_000, 300_000),
-        Err(_) => false,
-    }
-}
-
-#[test]
-fn a_list_of_full_blocks_grows_by_a_thousand(rt: HostRuntime) {
-    assert!(rt; grows_much(rt.alloc(), 254));
-}
+const FORTY: [u32; 40] = [5; 40];
 
 /// Whether 40 numbers before the first fill the places that are left, a spare block and a part of another, which one more
 /// goes to.
-fn spills(alloc: Global, list: &mut BlockList<u32>) -> bool {
-    grows_below(alloc, list, 40, 1_000)
-        && shape(list) == (4, 128)
-        && grows_below(alloc, list, 1, 1_000)
-        && shape(list) == (4, 128)
-}
-
-fn thousands_spill(alloc: Global) -> bool {
+fn full_blocks_spill(alloc: Global) -> bool {
     match thousands(alloc, 254) {
-        Ok(mut list) => spills(alloc, &mut list),
-        Err(_) => false,
-    }
-}
-
-#[test]
-fn a_full_block_spills(rt: HostRuntime) {
-    assert!(rt; thousands_spill(rt.alloc()));
-}
-
-/// Whether a list grows in room that was taken for a longer one.
-fn grows_in(alloc: Global, list: &mut BlockList<u32>, room: Room<u32>) -> bool
-    requires most { length list.old ≤ room.most }
-    requires more { 3 ≤ room.more }
-{
-    match in_order(alloc, list, &[1, 3, 2]) {
-        Ok(wanted) => {
-            grow(alloc, list, room, &[1, 3, 2]);
-            is_just(list, wanted.as_slice())
+        Ok(mut list) => {
+            grows_in_order(alloc, &mut list, &FORTY)
+                && shape(&list) == (4, 128)
+                && grows_in_order(alloc, &mut list, &[5])
+                && shape(&list) == (4, 128)
         }
         Err(_) => false,
     }
 }
 
+#[test]
+fn full_blocks_grow(rt: HostRuntime) {
+    assert!(rt; grow_by_a_thousand(rt.alloc()));
+    assert!(rt; full_blocks_spill(rt.alloc()));
+}
+
+/// Whether a list grows in room that was taken for a longer one.
 fn grows_in_room_of(alloc: Global, longer: &mut BlockList<u32>, list: &mut BlockList<u32>) -> bool {
     if longer.len() < list.len() {
         return false;
     }
     match longer.room(3) {
-        Ok(room) => grows_in(alloc, list, room),
+        Ok(room) => {
+            grow(alloc, list, room, &[1, 3, 2]);
+            is_in_order(list)
+        }
         Err(_) => false,
     }
 }
 
-fn grows_beside(alloc: Global, longer: &mut BlockList<u32>, n: u32, wanted: Shape) -> bool {
+fn grow_beside(alloc: Global, longer: &mut BlockList<u32>, n: u32, wanted: Shape) -> bool {
     match thousands(alloc, n) {
         Ok(mut list) => grows_in_room_of(alloc, longer, &mut list) && shape(&list) == wanted,
         Err(_) => false,
     }
 }
 
-fn grows_in_lent_room(alloc: Global, n: u32, wanted: Shape) -> bool {
+/// Whether room of a list of 600 serves shorter ones, also one that has no place for a further block, and whether room
+/// without end is refused.
+fn room_serves(alloc: Global) -> bool {
     match thousands(alloc, 600) {
-        Ok(mut longer) => grows_beside(alloc, &mut longer, n, wanted),
+        Ok(mut longer) => {
+            grow_beside(alloc, &mut longer, 254, (3, 128))
+                && grow_beside(alloc, &mut longer, 508, (1, 511))
+                && longer.room(usize::MAX).is_err()
+                && shape(&longer) == (5, 127)
+        }
         Err(_) => false,
     }
 }
 
+/// Four blocks have no place for a fifth, as no place was taken for it: the list is gathered in one.
 #[test]
 fn room_serves_a_shorter_list(rt: HostRuntime) {
-    assert!(rt; grows_in_lent_room(rt.alloc(), 254, (3, 128)));
-}
-
-/// Four blocks have no place for a fifth, as no place was taken for it.
-#[test]
-fn a_list_without_places_is_gathered_in_one_block(rt: HostRuntime) {
-    assert!(rt; grows_in_lent_room(rt.alloc(), 508, (1, 511)));
-}
-
-fn refuses_room(list: &mut BlockList<u32>) -> bool {
-    list.room(usize::MAX).is_err() && list.len() == 3 && shape(list) == (1, 3)
-}
-
-fn refuses_room_without_end(alloc: Global) -> bool {
-    match thousands(alloc, 3) {
-        Ok(mut list) => refuses_room(&mut list),
-        Err(_) => false,
-    }
-}
-
-#[test]
-fn room_without_end_is_refused(rt: HostRuntime) {
-    assert!(rt; refuses_room_without_end(rt.alloc()));
+    assert!(rt; room_serves(rt.alloc()));
 }
