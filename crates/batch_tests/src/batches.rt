@@ -10,44 +10,89 @@ const FOUR_DEVICES: &str =
 // A device that a version is named by is none of its command's.
 const NAMED: &str = "device a all\ndevice b all\nknows a 7 b:1\nnew b 7 5 2024-01-01 -\n";
 
-// Whether a script of that text has what is asked of it. A script owns much, so each test passes a function by name.
-fn on_script<F: FnOnce(Global, &Script) -> bool>(alloc: Global, text: &str, test: F) -> bool
-    requires { F.IsAlwaysCallable test }
-{
+// What is asked of a plan, with the right answer.
+enum Asked {
+    // The batch of each command, and what it goes after or 0.
+    Places(&'static [(u32, u32)]),
+    // The commands of each batch.
+    Members(&'static [&'static [u32]]),
+    // The longest chain that a command ends.
+    Chain(u32, &'static [u32]),
+}
+
+const PLANS: &[(&str, Asked)] = &[
+    (
+        FOUR_DEVICES,
+        Asked::Places(&[(0, 0), (0, 0), (1, 1), (1, 2), (2, 4), (2, 3), (3, 6)]),
+    ),
+    (
+        FOUR_DEVICES,
+        Asked::Members(&[&[1, 2], &[3, 4], &[5, 6], &[7]]),
+    ),
+    // chains go back to the later of two
+    (FOUR_DEVICES, Asked::Chain(7, &[1, 3, 6, 7])),
+    (FOUR_DEVICES, Asked::Chain(5, &[2, 4, 5])),
+    (FOUR_DEVICES, Asked::Chain(2, &[2])),
+    (NAMED, Asked::Members(&[&[1, 2]])),
+    ("", Asked::Places(&[])),
+    ("", Asked::Members(&[])),
+    ("device a all", Asked::Places(&[])),
+    ("device a all", Asked::Members(&[])),
+];
+
+const ORDERS: &[(&str, &[u32], bool)] = &[
+    (FOUR_DEVICES, &[1, 2, 3, 4, 5, 6, 7], true),
+    (FOUR_DEVICES, &[2, 1, 4, 3, 6, 5, 7], true),
+    (FOUR_DEVICES, &[3, 1, 2, 4, 5, 6, 7], false),
+    (FOUR_DEVICES, &[1, 2, 3, 4, 5, 6], false),
+    (FOUR_DEVICES, &[1, 1, 2, 3, 4, 5, 6, 7], false),
+    (FOUR_DEVICES, &[1, 1, 2, 3, 4, 5, 6], false),
+    (FOUR_DEVICES, &[0, 1, 2, 3, 4, 5, 6], false),
+    (FOUR_DEVICES, &[1, 2, 3, 4, 5, 6, 8], false),
+    (FOUR_DEVICES, &[1, 2, 3, 5, 4, 6, 7], false),
+    (FOUR_DEVICES, &[], false),
+    (NAMED, &[2, 1], true),
+    ("", &[], true),
+    ("", &[1], false),
+    ("device a all", &[], true),
+    ("device a all", &[1], false),
+];
+
+fn is_planned(alloc: Global, text: &str, asked: &Asked) -> bool {
     match read_script(alloc, text.as_bytes()) {
-        Ok(script) => test(alloc, &script),
+        Ok(script) => has_plan(alloc, &script, asked),
         Err(_) => false,
     }
 }
 
-// The same of its plan.
-fn on_plan<F: FnOnce(Global, &Plan) -> bool>(alloc: Global, text: &str, test: F) -> bool
-    requires { F.IsAlwaysCallable test }
-{
-    match read_script(alloc, text.as_bytes()) {
-        Ok(script) => on_plan_of(alloc, &script, test),
-        Err(_) => false,
-    }
-}
-
-fn on_plan_of<F: FnOnce(Global, &Plan) -> bool>(alloc: Global, script: &Script, test: F) -> bool
-    requires { F.IsAlwaysCallable test }
-{
+fn has_plan(alloc: Global, script: &Script, asked: &Asked) -> bool {
     match plan(alloc, script) {
-        Ok(plan) => test(alloc, &plan),
+        Ok(plan) => has(alloc, &plan, asked),
         Err(_) => false,
     }
 }
 
-// The batch of each command, and what it goes after or 0.
-const PLACES: &[(u32, u32)] = &[(0, 0), (0, 0), (1, 1), (1, 2), (2, 4), (2, 3), (3, 6)];
+fn is_judged(alloc: Global, text: &str, order: &[u32], right: bool) -> bool {
+    match read_script(alloc, text.as_bytes()) {
+        Ok(script) => lawful(alloc, &script, order) == Ok(right),
+        Err(_) => false,
+    }
+}
 
-fn has_places(_alloc: Global, plan: &Plan) -> bool {
-    if plan.commands() != 7 {
+fn has(alloc: Global, plan: &Plan, asked: &Asked) -> bool {
+    match asked {
+        Asked::Places(places) => has_places(plan, places),
+        Asked::Members(members) => has_members(plan, members),
+        Asked::Chain(number, chain) => is_chain(alloc, plan, *number, chain),
+    }
+}
+
+fn has_places(plan: &Plan, places: &[(u32, u32)]) -> bool {
+    if plan.commands() as usize != places.len() {
         return false;
     }
-    for place in 0..7u32 {
-        let (batch, after) = PLACES[place as usize];
+    for place in 0..plan.commands() {
+        let (batch, after) = places[place as usize];
         if plan.batch_of(place + 1) != batch || plan.after(place + 1).unwrap_or(0) != after {
             return false;
         }
@@ -55,24 +100,16 @@ fn has_places(_alloc: Global, plan: &Plan) -> bool {
     true
 }
 
-const MEMBERS: &[&[u32]] = &[&[1, 2], &[3, 4], &[5, 6], &[7]];
-
-fn has_members(_alloc: Global, plan: &Plan) -> bool {
-    if plan.batches() != 4 {
+fn has_members(plan: &Plan, members: &[&[u32]]) -> bool {
+    if plan.batches() as usize != members.len() {
         return false;
     }
-    for batch in 0..4u32 {
-        if plan.members(batch) != MEMBERS[batch as usize] {
+    for batch in 0..plan.batches() {
+        if plan.members(batch) != members[batch as usize] {
             return false;
         }
     }
     true
-}
-
-#[test]
-fn the_batches_of_seven_commands(rt: HostRuntime) {
-    assert!(rt; on_plan(rt.alloc(), FOUR_DEVICES, has_places));
-    assert!(rt; on_plan(rt.alloc(), FOUR_DEVICES, has_members));
 }
 
 fn is_chain(alloc: Global, plan: &Plan, number: u32, wanted: &[u32]) -> bool {
@@ -85,76 +122,19 @@ fn is_chain(alloc: Global, plan: &Plan, number: u32, wanted: &[u32]) -> bool {
     }
 }
 
-fn has_chains(alloc: Global, plan: &Plan) -> bool {
-    is_chain(alloc, plan, 7, &[1, 3, 6, 7])
-        && is_chain(alloc, plan, 5, &[2, 4, 5])
-        && is_chain(alloc, plan, 2, &[2])
-}
-
 #[test]
-fn chains_go_back_to_the_later_of_two(rt: HostRuntime) {
-    assert!(rt; on_plan(rt.alloc(), FOUR_DEVICES, has_chains));
-}
-
-const ORDERS: &[(&[u32], bool)] = &[
-    (&[1, 2, 3, 4, 5, 6, 7], true),
-    (&[2, 1, 4, 3, 6, 5, 7], true),
-    (&[3, 1, 2, 4, 5, 6, 7], false),
-    (&[1, 2, 3, 4, 5, 6], false),
-    (&[1, 1, 2, 3, 4, 5, 6, 7], false),
-    (&[1, 1, 2, 3, 4, 5, 6], false),
-    (&[0, 1, 2, 3, 4, 5, 6], false),
-    (&[1, 2, 3, 4, 5, 6, 8], false),
-    (&[1, 2, 3, 5, 4, 6, 7], false),
-    (&[], false),
-];
-
-fn judges(alloc: Global, script: &Script) -> bool {
-    for (order, wanted) in ORDERS {
-        match lawful(alloc, script, order) {
-            Ok(answer) => {
-                if answer != *wanted {
-                    return false;
-                }
-            }
-            Err(_) => return false,
-        }
+fn answers_of_plans(rt: HostRuntime) {
+    for (text, asked) in PLANS {
+        assert!(rt; is_planned(rt.alloc(), text, asked), "{text}");
     }
-    true
 }
 
 #[test]
 fn lawful_orders(rt: HostRuntime) {
-    assert!(rt; on_script(rt.alloc(), FOUR_DEVICES, judges));
-}
-
-fn is_one_batch(_alloc: Global, plan: &Plan) -> bool {
-    plan.batches() == 1 && plan.members(0) == [1u32, 2].as_slice()
-}
-
-fn may_turn(alloc: Global, script: &Script) -> bool {
-    matches!(lawful(alloc, script, &[2, 1]), Ok(true))
-}
-
-#[test]
-fn a_version_names_no_device_of_its_command(rt: HostRuntime) {
-    assert!(rt; on_plan(rt.alloc(), NAMED, is_one_batch));
-    assert!(rt; on_script(rt.alloc(), NAMED, may_turn));
-}
-
-fn is_empty(_alloc: Global, plan: &Plan) -> bool {
-    plan.commands() == 0 && plan.batches() == 0
-}
-
-fn takes_nothing_alone(alloc: Global, script: &Script) -> bool {
-    matches!(lawful(alloc, script, &[]), Ok(true))
-        && matches!(lawful(alloc, script, &[1]), Ok(false))
-}
-
-#[test]
-fn a_script_with_no_commands(rt: HostRuntime) {
-    for text in ["", "device a all"] {
-        assert!(rt; on_plan(rt.alloc(), text, is_empty), "{text}");
-        assert!(rt; on_script(rt.alloc(), text, takes_nothing_alone), "{text}");
+    for (text, order, right) in ORDERS {
+        assert!(rt;
+            is_judged(rt.alloc(), text, order, *right),
+            "{order:?} of {text}"
+        );
     }
 }

@@ -22,6 +22,12 @@ const ONE_PULL: Tally = Tally {
     reports: 0,
 };
 
+const ONE_CHANGE: Tally = Tally {
+    changes: 1,
+    pulls: 0,
+    reports: 0,
+};
+
 const PULL: Kind = Kind::Pull {
     taken: 3,
     handed: 2,
@@ -41,7 +47,7 @@ const ALL: Totals = Totals {
     moved: 5,
 };
 
-// The first share counts a change, which the second is shown; the second counts a pull; the first takes it in and closes.
+// Each share has what it was given. The first one counts a change, which the second is shown; the second counts a pull; the first takes it in and closes.
 fn is_counted<B: Books, R: Wait>(rt: &R, alloc: Global, blanks: Blanks) -> bool
     requires names { blanks ≡ B.names }
     requires tally { B.tally ≡ tally 1 1 0 }
@@ -50,12 +56,16 @@ fn is_counted<B: Books, R: Wait>(rt: &R, alloc: Global, blanks: Blanks) -> bool
         return false;
     };
     let mut second = first.split(ONE_PULL);
+    let split = first.parts() == 999
+        && second.parts() == 1
+        && second.left() == ONE_PULL
+        && first.left() == ONE_CHANGE;
     ledger.count(rt, &mut first, Kind::Change);
     let seen = ledger.glance(rt, &mut second);
     ledger.count(rt, &mut second, PULL);
     first.join(second);
     let all = ledger.close(rt, first);
-    seen == CHANGED && all == ALL
+    split && seen == CHANGED && all == ALL
 }
 
 #[test]
@@ -140,50 +150,4 @@ fn is_counted_on_two_threads<
 #[test]
 fn two_threads(rt: HostRuntime) {
     assert!(rt; is_counted_on_two_threads::<Brand, HostRuntime>(rt, rt.alloc(), Blanks::new()));
-}
-
-// A share has what it was given, and counts reports.
-fn is_shared<B: Books, R: Wait>(rt: &R, alloc: Global, blanks: Blanks) -> bool
-    requires names { blanks ≡ B.names }
-    requires tally { B.tally ≡ tally 2 1 3 }
-{
-    let tally = Tally {
-        changes: 2,
-        pulls: 1,
-        reports: 3,
-    };
-    let Ok((ledger, mut first)) = open::<B>(alloc, blanks, tally) else {
-        return false;
-    };
-    let of = Tally {
-        changes: 1,
-        pulls: 0,
-        reports: 2,
-    };
-    let mut second = first.split(of);
-    let split = first.parts() == 999
-        && second.parts() == 1
-        && second.left() == of
-        && first.left()
-            == Tally {
-                changes: 1,
-                pulls: 1,
-                reports: 1,
-            };
-    ledger.count(rt, &mut second, Kind::Report);
-    first.join(second);
-    let all = ledger.close(rt, first);
-    split
-        && all
-            == Totals {
-                changes: 0,
-                pulls: 0,
-                reports: 1,
-                moved: 0,
-            }
-}
-
-#[test]
-fn shares(rt: HostRuntime) {
-    assert!(rt; is_shared::<Brand, HostRuntime>(&rt, rt.alloc(), Blanks::new()));
 }

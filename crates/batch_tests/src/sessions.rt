@@ -1,247 +1,215 @@
-// A session of a fleet, what it is asked, and a script whose commands it is given by number.
-use fleet_questions::{audited, holding, knowing, lacking, pull_moves, selected};
+//! Sessions, which give each of their calls to a fleet, what a fleet is asked, and the commands of a script by number.
+mod asking;
+mod numbers;
+mod working;
+
+use asking::{Question, copies, has_conflict, is_asked, lists, moves, selects};
+use fleet_questions::audited;
 use fleet_session::{FleetFault, Session};
-use photo_device::{Device, SharedHeld};
+use photo_device::Place;
 use photo_filter_rules::Filter;
 use photo_filter_text::read;
-use photo_record::{Day, PicNo, Rating, Record, Words};
-use photo_script::{Script, read_script, report_text};
+use photo_version::Author;
 use std::alloc::Global;
+use working::{Counts, Made, adds, changes, makes, narrows, pulls, refilters};
 
-#[test]
-fn a_device_is_added_and_asked(rt: HostRuntime) {
-    assert!(rt; on_session(rt.alloc(), adds_and_asks));
+// What is done by a session and asked of it, with what comes of it. Devices, pictures and ratings are given by their numbers.
+enum Step {
+    // A device makes a version of a picture with a rating.
+    Make(u16, u32, u8, Result<Made, FleetFault>),
+    // It edits a picture to a rating, or removes it where there is none; nothing is made of what isn't held.
+    Change(u16, u32, Option<u8>, Option<Made>),
+    // It narrows to a filter: how many versions go to its out, or that it is refused.
+    Narrow(u16, &'static str, Option<u64>),
+    // It gets another filter: how many versions its store and its out have then.
+    Refilter(u16, &'static str, (u64, u64)),
+    // A device pulls from another, as a preview has told.
+    Pull(u16, u16, Result<Counts, FleetFault>),
+    // A device joins: its number.
+    Add(&'static str, u16),
+    // A device is listed: how many versions its store and its out have.
+    List(u16, Result<(usize, usize), FleetFault>),
+    // Which devices hold, lack or know a picture.
+    Ask(Question, u32, &'static [u16]),
+    // Which pictures a filter selects on a device.
+    Select(u16, &'static str, &'static [u32]),
+    // Which pictures a pull would take, and which would be handed over.
+    Move(u16, u16, &'static [u32], &'static [u32]),
+    // A device has a conflict between the first versions of the first two devices, and no other.
+    Conflict(u16),
+    // A copy goes its own way.
+    Copy,
+    // The epoch of a device.
+    Epoch(u16, u32),
+    // How many devices there are, how many commands ran, and how many versions were made.
+    Has(u16, u32, usize),
 }
 
-#[test]
-fn what_a_filter_selects_is_shown_before_it_moves(rt: HostRuntime) {
-    assert!(rt; on_session(rt.alloc(), selects_and_moves));
-}
-
-#[test]
-fn what_a_session_does_not_take_changes_nothing(rt: HostRuntime) {
-    assert!(rt; on_session(rt.alloc(), refuses));
-}
-
-#[test]
-fn the_commands_of_a_script_run_by_number(rt: HostRuntime) {
-    assert!(rt; runs_script(rt.alloc()) == Some(true));
-}
-
-#[test]
-fn a_copy_goes_its_own_way(rt: HostRuntime) {
-    assert!(rt; on_session(rt.alloc(), tries_on_a_copy));
-}
-
-// Whether a session of two devices passes a test: one that keeps all, and one that keeps ratings of 4 and more.
-fn on_session<F: FnOnce(Global, &mut Session) -> bool>(alloc: Global, test: F) -> bool
-    requires { F.IsAlwaysCallable test }
-{
-    match two_devices(alloc) {
-        Some(mut session) => test(alloc, &mut session),
-        None => false,
-    }
-}
-
-fn two_devices(alloc: Global) -> Option<Session> {
-    let filters = [filter_of(alloc, "all")?, filter_of(alloc, "rating >= 4")?];
-    Session::new(alloc, &filters).ok()
-}
+const RUNS: &[(&str, &[Step])] = &[
+    (
+        "a device is added and asked",
+        &[
+            Step::Make(0, 7, 5, Ok((1, Place::Store))),
+            Step::Add("rating >= 3", 2),
+            Step::Pull(2, 0, Ok((1, 0, true))),
+            Step::Make(1, 9, 2, Ok((1, Place::Out))),
+            Step::Has(3, 3, 2),
+            Step::Ask(Question::Holding, 7, &[0, 2]),
+            Step::Ask(Question::Lacking, 7, &[1]),
+            Step::Ask(Question::Knowing, 7, &[0, 2]),
+            Step::Ask(Question::Holding, 9, &[1]),
+            Step::Ask(Question::Knowing, 9, &[1]),
+        ],
+    ),
+    (
+        "what a filter selects is shown before it moves",
+        &[
+            Step::Make(1, 9, 5, Ok((1, Place::Store))),
+            Step::Make(1, 7, 2, Ok((2, Place::Out))),
+            Step::Move(0, 1, &[9], &[7]),
+            Step::Select(1, "all", &[7, 9]),
+            Step::Select(1, "rating >= 4", &[9]),
+            Step::Select(0, "all", &[]),
+        ],
+    ),
+    (
+        "what a session does not take changes nothing",
+        &[
+            Step::Make(2, 7, 3, Err(FleetFault::NoDevice)),
+            Step::Pull(1, 1, Err(FleetFault::NoDevice)),
+            Step::Pull(0, 2, Err(FleetFault::NoDevice)),
+            Step::Pull(2, 0, Err(FleetFault::NoDevice)),
+            Step::List(2, Err(FleetFault::NoDevice)),
+            Step::Has(2, 0, 0),
+            Step::List(1, Ok((0, 0))),
+            Step::Has(2, 1, 0),
+        ],
+    ),
+    (
+        "a fleet narrows and removes",
+        &[
+            Step::Change(0, 7, None, None),
+            Step::Make(0, 7, 3, Ok((1, Place::Store))),
+            Step::Narrow(0, "rating >= 4", Some(1)),
+            Step::Narrow(0, "rating >= 3", None),
+            Step::Change(0, 7, None, Some((2, Place::Out))),
+            Step::Has(2, 5, 2),
+            Step::Change(0, 7, Some(4), Some((3, Place::Store))),
+            Step::List(0, Ok((1, 0))),
+        ],
+    ),
+    (
+        "a pull is previewed and brings a conflict",
+        &[
+            Step::Make(0, 7, 5, Ok((1, Place::Store))),
+            Step::Make(1, 7, 4, Ok((1, Place::Store))),
+            Step::Pull(1, 0, Ok((1, 0, true))),
+            Step::Conflict(1),
+        ],
+    ),
+    (
+        "a fleet refilters",
+        &[
+            Step::Make(0, 7, 3, Ok((1, Place::Store))),
+            Step::Epoch(0, 0),
+            Step::Refilter(0, "rating >= 4", (0, 1)),
+            Step::Make(0, 7, 3, Ok((1, Place::Out))),
+            Step::Epoch(0, 1),
+        ],
+    ),
+    (
+        "a copy goes its own way",
+        &[
+            Step::Make(0, 7, 5, Ok((1, Place::Store))),
+            Step::Make(0, 9, 4, Ok((2, Place::Store))),
+            Step::Copy,
+            Step::Ask(Question::Holding, 7, &[0]),
+            Step::Ask(Question::Holding, 9, &[0]),
+            Step::Has(2, 2, 2),
+        ],
+    ),
+];
 
 fn filter_of(alloc: Global, text: &str) -> Option<Filter> {
     let tree = read(alloc, text).ok()?;
     Filter::build(alloc, tree).ok()
 }
 
-fn rated(alloc: Global, rating: u8) -> Option<Record> {
-    Some(Record::Picture {
-        rating: Rating::new(rating)?,
-        day: Day::read("2024-05-01")?,
-        words: Words::read(alloc, "-").ok()?,
-    })
+// A session of two devices: one that keeps all, and one that keeps ratings of 4 and more.
+fn two_devices(alloc: Global) -> Option<Session> {
+    let filters = [filter_of(alloc, "all")?, filter_of(alloc, "rating >= 4")?];
+    Session::new(alloc, &filters).ok()
 }
 
-fn makes(
-    alloc: Global,
-    session: &mut Session,
-    device: u16,
-    picture: u32,
-    rating: u8,
-) -> Option<()> {
-    let record = rated(alloc, rating)?;
-    session.make(device, PicNo::new(picture)?, &record).ok()?;
-    Some(())
-}
-
-fn adds_and_asks(alloc: Global, session: &mut Session) -> bool {
-    adds(alloc, session) == Some(true) && are_asked(alloc, session) == Some(true)
-}
-
-// The first device makes picture 7, and a third device comes and pulls it; the second makes picture 9.
-fn adds(alloc: Global, session: &mut Session) -> Option<bool> {
-    makes(alloc, session, 0, 7, 5)?;
-    let number = add_one(alloc, session)?;
-    let counts = session.pull(2, 0).ok()?;
-    makes(alloc, session, 1, 9, 2)?;
-    Some(number == 2 && counts.taken == 1 && session.fleet().devices().len() == 3)
-}
-
-fn add_one(alloc: Global, session: &mut Session) -> Option<u16> {
-    let filter = filter_of(alloc, "rating >= 3")?;
-    session.add(&filter).ok()
-}
-
-fn are_asked(alloc: Global, session: &Session) -> Option<bool> {
-    let (seven, nine) = (PicNo::new(7)?, PicNo::new(9)?);
-    let asked = holds(alloc, session, seven, &[0, 2])?
-        && lacks(alloc, session, seven, &[1])?
-        && knows(alloc, session, seven, &[0, 2])?
-        && holds(alloc, session, nine, &[1])?
-        && knows(alloc, session, nine, &[1])?;
-    Some(asked && audited(alloc, session.fleet()) == Ok(true))
-}
-
-fn holds(alloc: Global, session: &Session, picture: PicNo, right: &[u16]) -> Option<bool> {
-    let numbers = holding(alloc, session.fleet(), picture).ok()?;
-    Some(numbers.as_slice() == right)
-}
-
-fn lacks(alloc: Global, session: &Session, picture: PicNo, right: &[u16]) -> Option<bool> {
-    let numbers = lacking(alloc, session.fleet(), picture).ok()?;
-    Some(numbers.as_slice() == right)
-}
-
-fn knows(alloc: Global, session: &Session, picture: PicNo, right: &[u16]) -> Option<bool> {
-    let numbers = knowing(alloc, session.fleet(), picture).ok()?;
-    Some(numbers.as_slice() == right)
-}
-
-// The first device makes pictures 7 and 9, which the second pulls in a copy alone.
-fn tries_on_a_copy(alloc: Global, session: &mut Session) -> bool {
-    makes(alloc, session, 0, 7, 5).is_some()
-        && makes(alloc, session, 0, 9, 4).is_some()
-        && pulls_in_copy(alloc, session) == Some(true)
-}
-
-fn pulls_in_copy(alloc: Global, session: &Session) -> Option<bool> {
-    let mut copy = session.try_clone().ok()?;
-    Some(is_same(&copy, session) && pulled_apart(alloc, &mut copy, session)?)
-}
-
-fn is_same(copy: &Session, session: &Session) -> bool {
-    let (one, other) = (copy.fleet(), session.fleet());
-    one.commands() == other.commands()
-        && one.log().len() == 2
-        && other.log().len() == 2
-        && one.devices().len() == other.devices().len()
-}
-
-fn pulled_apart(alloc: Global, copy: &mut Session, session: &Session) -> Option<bool> {
-    let counts = copy.pull(1, 0).ok()?;
-    let (seven, nine) = (PicNo::new(7)?, PicNo::new(9)?);
-    let moved = counts.taken == 2
-        && holds(alloc, copy, seven, &[0, 1])?
-        && holds(alloc, copy, nine, &[0, 1])?;
-    let stayed = holds(alloc, session, seven, &[0])? && holds(alloc, session, nine, &[0])?;
-    Some(moved && stayed && session.fleet().commands() == 2)
-}
-
-// The second device makes picture 9, which it keeps, and picture 7, which it is only to hand over.
-fn selects_and_moves(alloc: Global, session: &mut Session) -> bool {
-    makes(alloc, session, 1, 9, 5).is_some()
-        && makes(alloc, session, 1, 7, 2).is_some()
-        && shows(alloc, session) == Some(true)
-}
-
-fn shows(alloc: Global, session: &Session) -> Option<bool> {
-    let (target, source) = (session.device(0)?, session.device(1)?);
-    let moved = moves(alloc, target, source)?;
-    Some(
-        moved
-            && selects(alloc, source, "all", &[7, 9])?
-            && selects(alloc, source, "rating >= 4", &[9])?
-            && selects(alloc, target, "all", &[])?,
-    )
-}
-
-fn selects(alloc: Global, device: &Device, text: &str, right: &[u32]) -> Option<bool> {
-    let filter = filter_of(alloc, text)?;
-    let found = selected(alloc, device, &filter).ok()?;
-    Some(are_of(&found, right))
-}
-
-fn moves(alloc: Global, target: &Device, source: &Device) -> Option<bool> {
-    let moves = pull_moves(alloc, target, source).ok()?;
-    Some(are_of(&moves.taken, &[9]) && are_of(&moves.handed, &[7]))
-}
-
-fn are_of(helds: &[SharedHeld], pictures: &[u32]) -> bool {
-    if helds.len() != pictures.len() {
-        return false;
+fn is_run(alloc: Global, steps: &[Step]) -> bool {
+    match two_devices(alloc) {
+        Some(mut session) => does(alloc, &mut session, steps),
+        None => false,
     }
-    for i in 0..helds.len() {
-        if helds[i].picture().value() != pictures[i] {
+}
+
+// Whether a session takes those steps one after another, and is audited well after each.
+fn does(alloc: Global, session: &mut Session, steps: &[Step]) -> bool {
+    for step in steps {
+        if !does_one(alloc, session, step) || audited(alloc, session.fleet()) != Ok(true) {
             return false;
         }
     }
     true
 }
 
-fn refuses(alloc: Global, session: &mut Session) -> bool {
-    are_refused(alloc, session) == Some(true)
-        && session.fleet().commands() == 0
-        && session.fleet().log().is_empty()
-}
-
-fn are_refused(alloc: Global, session: &mut Session) -> Option<bool> {
-    let (picture, record) = (PicNo::new(7)?, rated(alloc, 3)?);
-    let unmade = session.make(2, picture, &record) == Err(FleetFault::NoDevice);
-    let same = session.pull(1, 1) == Err(FleetFault::NoDevice);
-    let far = session.pull(0, 2) == Err(FleetFault::NoDevice);
-    let unseen = session.preview(2, 0) == Err(FleetFault::NoDevice);
-    Some(unmade && same && far && unseen && session.device(2).is_none())
-}
-
-const SCRIPT: &str =
-    "device a all\ndevice b rating >= 4\nnew a 1 5 2024-01-01 -\npull b a\nlist b\n";
-
-const TEXTS: [&str; 3] = [
-    "1 made a:1 store\n",
-    "2 pulled taken 1 handed 0 notices 0 dropped 0 learned yes\n",
-    "3 list b store 1 out 0\n  store 1 a:1 rating 5 day 2024-01-01 words -\n",
-];
-
-fn runs_script(alloc: Global) -> Option<bool> {
-    let script = read_script(alloc, SCRIPT.as_bytes()).ok()?;
-    let mut session = Session::of_script(alloc, &script).ok()?;
-    Some(tells(alloc, &mut session, &script)? && ends(&mut session, &script))
-}
-
-// Whether the texts of the reports are the right ones.
-fn tells(alloc: Global, session: &mut Session, script: &Script) -> Option<bool> {
-    for i in 0..TEXTS.len() {
-        if !is_told(alloc, session, script, i as u32 + 1, TEXTS[i])? {
-            return Some(false);
+fn does_one(alloc: Global, session: &mut Session, step: &Step) -> bool {
+    match step {
+        Step::Make(device, picture, rating, made) => {
+            makes(alloc, session, *device, (*picture, *rating), *made)
         }
+        Step::Change(device, picture, rating, made) => {
+            changes(alloc, session, *device, (*picture, *rating), *made)
+        }
+        Step::Narrow(device, text, moved) => narrows(alloc, session, *device, text, *moved),
+        Step::Refilter(device, text, sizes) => refilters(alloc, session, *device, text, *sizes),
+        Step::Pull(target, source, counts) => pulls(session, *target, *source, *counts),
+        Step::Add(text, number) => adds(alloc, session, text, *number),
+        Step::List(device, sizes) => lists(session, *device, *sizes),
+        _ => is_so(alloc, session, step),
     }
-    Some(true)
 }
 
-fn is_told(
-    alloc: Global,
-    session: &mut Session,
-    script: &Script,
-    number: u32,
-    right: &str,
-) -> Option<bool> {
-    let report = session.run_number(script, number).ok()?;
-    let text = report_text(alloc, script, number, &report).ok()?;
-    Some(text.as_str() == right)
+// Whether a session answers as a step says that changes nothing.
+fn is_so(alloc: Global, session: &Session, step: &Step) -> bool {
+    match step {
+        Step::Ask(question, picture, right) => is_asked(alloc, session, question, *picture, right),
+        Step::Select(device, text, right) => selects(alloc, session, *device, text, right),
+        Step::Move(target, source, taken, handed) => {
+            moves(alloc, session, (*target, *source), taken, handed)
+        }
+        Step::Conflict(device) => has_conflict(session, *device),
+        Step::Copy => copies(alloc, session),
+        Step::Epoch(device, epoch) => match session.device(*device) {
+            Some(held) => held.author() == Author::at(*device, *epoch),
+            None => false,
+        },
+        Step::Has(devices, commands, made) => has(session, *devices, *commands, *made),
+        _ => false,
+    }
 }
 
-// Whether there is no command before the first and behind the last one.
-fn ends(session: &mut Session, script: &Script) -> bool {
-    let before = session.run_number(script, 0).is_err();
-    let behind = session.run_number(script, 4).is_err();
-    before && behind && session.fleet().commands() == 3 && session.fleet().log().len() == 1
+fn has(session: &Session, devices: u16, commands: u32, made: usize) -> bool {
+    let fleet = session.fleet();
+    fleet.devices().len() == usize::from(devices)
+        && fleet.commands() == commands
+        && fleet.log().len() == made
+        && session.device(devices).is_none()
+}
+
+#[test]
+fn runs_of_sessions(rt: HostRuntime) {
+    for (name, steps) in RUNS {
+        assert!(rt; is_run(rt.alloc(), steps), "{name}");
+    }
+}
+
+#[test]
+fn the_commands_of_a_script_run_by_number(rt: HostRuntime) {
+    assert!(rt; numbers::runs_script(rt.alloc()));
 }

@@ -3,5 +3,3 @@
 
 #[cfg(test)]
 mod scripts;
-#[cfg(test)]
-mod texts;

@@ -1,64 +1,99 @@
-// What a device is asked: what it doesn't know of a set.
-use super::{are, made_all, on_device, opened};
-use photo_device::{Device, HeldSet};
+// What a device is asked: what it doesn't know of another one's store.
+use super::changing::makes;
+use super::steps::{Step, are, opened};
+use super::{Run, is_run};
+use photo_device::{Device, HeldSet, Place};
 use std::alloc::Global;
 
-const PICTURES: &[(u32, u8)] = &[(1, 5), (2, 5), (3, 5)];
+/// The pictures that a device makes, those that another one makes, and what the device then doesn't know of the other.
+pub type Round = (&'static [u32], &'static [u32], &'static [(u32, u32)]);
 
-// Whether of a set a device doesn't know just these, where it notes nothing.
-fn is_unknown_by(alloc: Global, device: &Device, set: &HeldSet, wanted: &[(u32, u32)]) -> bool {
-    match device.unknown_by(alloc, set) {
-        Ok(found) => are(&found, wanted),
-        Err(_) => false,
+/// Whether a device of one more number makes and is asked as the rounds say.
+pub fn asks(alloc: Global, device: &mut Device, author: u16, rounds: &[Round]) -> bool {
+    let mut other = opened(alloc, author, "all");
+    asks_one(alloc, device, &mut other, rounds)
+}
+
+fn asks_one(
+    alloc: Global,
+    device: &mut Device,
+    other: &mut Option<Device>,
+    rounds: &[Round],
+) -> bool {
+    match other {
+        Some(other) => asks_all(alloc, device, other, rounds),
+        None => false,
     }
 }
 
-// Whether of a set a device doesn't know just these, also where it is asked again.
-fn is_unknown(alloc: Global, device: &mut Device, set: &HeldSet, wanted: &[(u32, u32)]) -> bool {
-    for _ in 0..3u8 {
-        if !is_unknown_by(alloc, device, set, wanted) {
+fn asks_all(alloc: Global, device: &mut Device, other: &mut Device, rounds: &[Round]) -> bool {
+    for (mine, theirs, unknown) in rounds {
+        if !makes_all(alloc, device, mine)
+            || !makes_all(alloc, other, theirs)
+            || !is_unknown(alloc, device, other.store(), unknown)
+        {
             return false;
-        }
-        match device.unknown_of(alloc, set) {
-            Ok(found) if are(&found, wanted) => {}
-            _ => return false,
         }
     }
     true
 }
 
-// The twin is of the same author, so the device knows what it made up to its own last version.
-fn knows_its_twins(alloc: Global, device: &mut Device) -> bool {
-    let Some(mut twin) = opened(alloc, 3, "all") else {
-        return false;
-    };
-    made_all(alloc, device, PICTURES)
-        && made_all(alloc, &mut twin, PICTURES)
-        && is_unknown(alloc, device, twin.store(), &[])
-        && made_all(alloc, &mut twin, &[(9, 5), (2, 4)])
-        && is_unknown(alloc, device, twin.store(), &[(2, 5), (9, 4)])
-        && made_all(alloc, device, &[(7, 5)])
-        && is_unknown(alloc, device, twin.store(), &[(2, 5)])
-        && made_all(alloc, device, &[(7, 5)])
-        && is_unknown(alloc, device, twin.store(), &[])
+fn makes_all(alloc: Global, device: &mut Device, pictures: &[u32]) -> bool {
+    for number in pictures {
+        let n = device.counter().saturating_add(1);
+        if !makes(alloc, device, *number, Some(3), (n, Place::Store)) {
+            return false;
+        }
+    }
+    true
 }
+
+// Whether of a set a device doesn't know just these, where it notes nothing, and also where it is asked again.
+fn is_unknown(alloc: Global, device: &mut Device, set: &HeldSet, wanted: &[(u32, u32)]) -> bool {
+    for _ in 0..3u8 {
+        if !matches!(device.unknown_by(alloc, set), Ok(found) if are(&found, wanted)) {
+            return false;
+        }
+        if !matches!(device.unknown_of(alloc, set), Ok(found) if are(&found, wanted)) {
+            return false;
+        }
+    }
+    true
+}
+
+const RUNS: &[Run] = &[
+    // the other one is of the same author, so the device knows what it made up to its own last version
+    (
+        "a device knows what it made as another holds it",
+        3,
+        "all",
+        &[Step::Ask(
+            3,
+            &[
+                (&[1, 2, 3], &[1, 2, 3], &[]),
+                (&[], &[9, 2], &[(2, 5), (9, 4)]),
+                (&[7], &[], &[(2, 5)]),
+                (&[7], &[], &[]),
+            ],
+        )],
+    ),
+    (
+        "a device knows nothing of another",
+        3,
+        "all",
+        &[Step::Ask(
+            4,
+            &[
+                (&[], &[], &[]),
+                (&[1, 2, 3], &[1, 2, 3], &[(1, 1), (2, 2), (3, 3)]),
+            ],
+        )],
+    ),
+];
 
 #[test]
-fn a_device_knows_what_it_made_as_another_holds_it(rt: HostRuntime) {
-    assert!(rt; on_device(rt.alloc(), 3, "all", knows_its_twins));
-}
-
-fn knows_no_other(alloc: Global, device: &mut Device) -> bool {
-    let Some(mut other) = opened(alloc, 4, "all") else {
-        return false;
-    };
-    is_unknown(alloc, device, other.store(), &[])
-        && made_all(alloc, device, PICTURES)
-        && made_all(alloc, &mut other, PICTURES)
-        && is_unknown(alloc, device, other.store(), &[(1, 1), (2, 2), (3, 3)])
-}
-
-#[test]
-fn a_device_knows_nothing_of_another(rt: HostRuntime) {
-    assert!(rt; on_device(rt.alloc(), 3, "all", knows_no_other));
+fn asking(rt: HostRuntime) {
+    for run in RUNS {
+        assert!(rt; is_run(rt.alloc(), run), "{}", run.0);
+    }
 }

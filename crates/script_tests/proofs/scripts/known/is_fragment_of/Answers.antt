@@ -1,7 +1,7 @@
 use Rattle.std.proofs.Common.{ap, arith}
 use Rattle.photo_version.specs.Author.{device_of_author}
 use Rattle.script_tests.proofs.Everywhere.{all_places, one_more}
-use Rattle.script_tests.proofs.scripts.knowing.is_fragment_of.Goals as goal
+use Rattle.script_tests.proofs.scripts.known.is_fragment_of.Goals as goal
 
 pub loop-i-preserved : goal.loop-i-preserved
 loop-i-preserved c = one_more _ c.loop-i.i c.loop-i.invariant (let same = ap device_of_author c.entry-author.ensures.author in omega arith)

@@ -1,5 +1,5 @@
 use Rattle.std.proofs.Common.{◌≡◌, ◌++◌, map}
-use Rattle.device_tests.proofs.devices.each.pictures_of.Given as goal
+use Rattle.device_tests.proofs.devices.showing.pictures_of.Given as goal
 
 -- those that were put, and those of what is left
 abbrev pub invariant-loop-held : goal.invariant-loop-held

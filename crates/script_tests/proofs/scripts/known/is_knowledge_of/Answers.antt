@@ -2,7 +2,7 @@ use Rattle.std.proofs.Common.{subst, arith}
 use Rattle.item_knowledge.specs.Fragments.{nothing}
 use Rattle.photo_script.specs.Reports.{IsFragmentOfScript}
 use Rattle.script_tests.proofs.Everywhere.{all_places, one_more}
-use Rattle.script_tests.proofs.scripts.knowing.is_knowledge_of.Goals as goal
+use Rattle.script_tests.proofs.scripts.known.is_knowledge_of.Goals as goal
 
 pub loop-k-preserved : goal.loop-k-preserved
 loop-k-preserved c = one_more _ c.loop-k.k c.loop-k.invariant (subst (IsFragmentOfScript c.args.script.now) c.fragment.ensures (c.is_fragment_of.ensures c.if-not-is_fragment_of.false))
