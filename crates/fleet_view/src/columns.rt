@@ -5,7 +5,7 @@ use std::alloc::{AllocError, Global};
 use view_parts::Layout;
 
 /// What a column of the chart stands for.
-#[derive(Clone, Copy, Debug, PartialEq, Eq)]
+#[derive(Clone, Copy)]
 pub enum Columns {
     /// Each command has one.
     Commands,
@@ -14,7 +14,7 @@ pub enum Columns {
 }
 
 /// The columns of one batch, or of one command: from the first on up to the end.
-#[derive(Clone, Copy, Debug, PartialEq, Eq)]
+#[derive(Clone, Copy)]
 pub struct Band {
     pub from: u32,
     pub end: u32,
@@ -27,33 +27,70 @@ pub struct Columned {
     pub bands: Vec<Band>,
 }
 
-/// A column for each command.
-pub fn by_command(alloc: Global, script: &Script) -> Result<Columned, AllocError> {
-    let mut columns = Vec::new(alloc);
-    let mut bands = Vec::new(alloc);
-    for place in 0..script.commands() {
-        let from = place as u32;
-        columns.push(from)?;
-        bands.push(Band {
-            from,
-            end: from + 1,
-        })?;
+impl Columned {
+    // So many commands, all in the first column, and no bands.
+    fn new(alloc: Global, commands: usize) -> Result<Columned, AllocError> {
+        let columns = vec![in alloc; 0; commands]?;
+        Ok(Columned {
+            columns,
+            bands: Vec::new(alloc),
+        })
     }
-    Ok(Columned { columns, bands })
+
+    /// How many columns there are.
+    pub fn width(&self) -> usize {
+        match self.bands.last() {
+            Some(band) => band.end as usize,
+            None => 0,
+        }
+    }
 }
 
-/// Columns for each batch of the script's plan.
-pub fn by_batch(alloc: Global, script: &Script) -> Result<Columned, AllocError> {
-    let plan: Plan = plan(alloc, script)?;
-    let mut columns = vec![in alloc; 0; script.commands()]?;
-    let mut bands = Vec::new(alloc);
-    let mut from = 0;
-    for batch in 0..plan.batches() {
-        let end = place_members(script, plan.members(batch), &mut columns, from);
+/// The columns of a chart.
+pub fn columned_by(
+    alloc: Global,
+    script: &Script,
+    columns: Columns,
+) -> Result<Columned, AllocError> {
+    let mut columned = Columned::new(alloc, script.commands())?;
+    match columns {
+        Columns::Commands => place_each(&mut columned)?,
+        Columns::Batches => place_batches(alloc, &mut columned, script)?,
+    }
+    Ok(columned)
+}
+
+// A column for each command.
+fn place_each(columned: &mut Columned) -> Result<(), AllocError> {
+    let Columned { columns, bands } = columned;
+    let mut from = 0u32;
+    for column in columns.iter_mut() {
+        *column = from;
+        let end = from.saturating_add(1);
         bands.push(Band { from, end })?;
         from = end;
     }
-    Ok(Columned { columns, bands })
+    Ok(())
+}
+
+// Columns for each batch of the script's plan.
+fn place_batches(
+    alloc: Global,
+    columned: &mut Columned,
+    script: &Script,
+) -> Result<(), AllocError> {
+    let plan = plan(alloc, script)?;
+    place_plan(columned, script, &plan)
+}
+
+fn place_plan(columned: &mut Columned, script: &Script, plan: &Plan) -> Result<(), AllocError> {
+    let mut from = 0;
+    for batch in 0..plan.batches() {
+        let end = place_members(script, plan.members(batch), &mut columned.columns, from);
+        columned.bands.push(Band { from, end })?;
+        from = end;
+    }
+    Ok(())
 }
 
 // Gives each command of a batch its column, from a first one on, and gives the column behind them. A command between two

@@ -1,5 +1,6 @@
 //! What is drawn of a run, in two layers, and the marks that it is drawn with.
 use crate::escaping::push_escaped;
+use crate::strife::Since;
 use std::alloc::{AllocError, Global};
 use view_parts::Layout;
 
@@ -9,39 +10,29 @@ pub struct Drawing {
     pub layout: Layout,
     pub below: String,
     pub above: String,
+    /// Of each device that has conflicts, since when.
+    pub strife: Vec<Option<Since>>,
     pub alloc: Global,
 }
 
 /// Where a mark stands: in which column, on which device's lane.
-#[derive(Clone, Copy, Debug, PartialEq, Eq)]
+#[derive(Clone, Copy)]
 pub struct Spot {
     pub column: u32,
     pub device: u16,
 }
 
 impl Drawing {
-    /// Nothing is drawn.
-    pub fn new(alloc: Global, layout: Layout) -> Drawing {
-        Drawing {
+    /// Nothing is drawn, and none of so many devices has conflicts.
+    pub fn new(alloc: Global, layout: Layout, devices: usize) -> Result<Drawing, AllocError> {
+        let strife = vec![in alloc; None; devices]?;
+        Ok(Drawing {
             layout,
             below: String::new(alloc),
             above: String::new(alloc),
+            strife,
             alloc,
-        }
-    }
-
-    /// Begins a group that a title explains.
-    pub fn begin(&mut self, title: &str) -> Result<(), AllocError> {
-        self.above.push_str("<g><title>")?;
-        push_escaped(&mut self.above, title)?;
-        self.above.push_str("</title>")?;
-        Ok(())
-    }
-
-    /// Ends it.
-    pub fn end(&mut self) -> Result<(), AllocError> {
-        self.above.push_str("</g>\n")?;
-        Ok(())
+        })
     }
 
     /// A dot of a class.
@@ -50,8 +41,7 @@ impl Drawing {
         write!(
             self.above,
             "<circle class=\"{class}\" cx=\"{x}\" cy=\"{y}\" r=\"{radius}\"/>"
-        )?;
-        Ok(())
+        )
     }
 
     /// A cross.
@@ -61,35 +51,29 @@ impl Drawing {
         write!(
             self.above,
             "<path class=\"refused\" d=\"M{left} {top} {right} {bottom}M{right} {top} {left} {bottom}\"/>"
-        )?;
-        Ok(())
+        )
     }
 
     /// A square.
     pub fn square(&mut self, spot: Spot) -> Result<(), AllocError> {
-        let (x, y) = (self.layout.x(spot.column), self.layout.y(spot.device));
-        let (left, top) = (x - 5, y - 5);
+        let (left, top) = (
+            self.layout.x(spot.column) - 5,
+            self.layout.y(spot.device) - 5,
+        );
         write!(
             self.above,
             "<rect class=\"filter\" x=\"{left}\" y=\"{top}\" width=\"10\" height=\"10\"/>"
-        )?;
-        Ok(())
+        )
     }
 
     /// A triangle with a mark in it, below the lane, beside the column's middle.
     pub fn alarm(&mut self, spot: Spot) -> Result<(), AllocError> {
         let (x, y) = (self.layout.x(spot.column) + 10, self.layout.y(spot.device));
-        let (left, right, top, bottom) = (x - 7, x + 7, y + 5, y + 18);
+        let (left, right, top, bottom, foot) = (x - 7, x + 7, y + 5, y + 18, y + 17);
         write!(
             self.above,
-            "<path class=\"alarm\" d=\"M{x} {top} {right} {bottom}H{left}z\"/>"
-        )?;
-        let foot = y + 17;
-        write!(
-            self.above,
-            "<text class=\"mark mid\" x=\"{x}\" y=\"{foot}\">!</text>"
-        )?;
-        Ok(())
+            "<path class=\"alarm\" d=\"M{x} {top} {right} {bottom}H{left}z\"/><text class=\"mark mid\" x=\"{x}\" y=\"{foot}\">!</text>"
+        )
     }
 
     /// An arrow from a lane to another one.
@@ -104,20 +88,19 @@ impl Drawing {
         write!(
             self.above,
             "<path class=\"{class}\" d=\"M{x} {start}V{tip}\" marker-end=\"url(#tip)\"/>"
-        )?;
-        Ok(())
+        )
     }
 
-    /// A text above a lane, in the middle of its column, where there is room for texts.
-    pub fn label(&mut self, spot: Spot, class: &str, text: &str) -> Result<(), AllocError> {
+    /// A number above a lane, in the middle of its column, where there is room for texts.
+    pub fn label(&mut self, spot: Spot, class: &str, number: u32) -> Result<(), AllocError> {
         if !self.layout.labelled {
             return Ok(());
         }
         let (x, y) = (self.layout.x(spot.column), self.layout.y(spot.device) - 10);
-        write!(self.above, "<text class=\"{class}\" x=\"{x}\" y=\"{y}\">")?;
-        push_escaped(&mut self.above, text)?;
-        self.above.push_str("</text>")?;
-        Ok(())
+        write!(
+            self.above,
+            "<text class=\"{class}\" x=\"{x}\" y=\"{y}\">{number}</text>"
+        )
     }
 
     /// A text that begins a little right of a spot, and stands below its lane but so far higher, where there is room for
@@ -136,7 +119,25 @@ impl Drawing {
         let y = (self.layout.y(spot.device) + 16).saturating_sub(higher);
         write!(self.above, "<text class=\"note\" x=\"{x}\" y=\"{y}\">")?;
         push_escaped(&mut self.above, text)?;
-        self.above.push_str("</text>")?;
-        Ok(())
+        self.above.push_str("</text>")
+    }
+
+    /// The same of a letter and a count, five pixels right of a spot.
+    pub fn count(
+        &mut self,
+        spot: Spot,
+        higher: u64,
+        letter: &str,
+        count: u64,
+    ) -> Result<(), AllocError> {
+        if !self.layout.labelled {
+            return Ok(());
+        }
+        let x = self.layout.x(spot.column) + 5;
+        let y = (self.layout.y(spot.device) + 16).saturating_sub(higher);
+        write!(
+            self.above,
+            "<text class=\"note\" x=\"{x}\" y=\"{y}\">{letter}{count}</text>"
+        )
     }
 }

@@ -1,16 +1,14 @@
 //! How each command is drawn, by what came of it.
 ghost use Rattle.std.specs.Prelude.{◌≤◌, ◌<◌, length};
 
-use crate::chart::shown_filter;
 use crate::columns::picture_of;
 use crate::drawing::{Drawing, Spot};
+use crate::filters::{push_whole_filter, shown_filter};
 use crate::names::{device_name, push_version};
 use photo_device::Place;
 use photo_filter_rules::Filter;
-use photo_filter_text::print;
 use photo_pull::PullCounts;
 use photo_script::{Command, Report, Script, devices_of};
-use photo_version::Version;
 use std::alloc::AllocError;
 
 /// Draws the command of that number in a column, by the report on it.
@@ -25,46 +23,12 @@ pub fn draw_command(
     requires within { number ≤ length script.now.commands }
 {
     let command = script.command(number);
-    let (device, source) = devices_of(command);
-    let spot = Spot { column, device };
-    let mut title = String::new(drawing.alloc);
-    push_title(&mut title, script, number, command)?;
-    match report {
-        Report::Made { version, place } => {
-            push_made(&mut title, script, *version, *place)?;
-            drawing.begin(title.as_str())?;
-            draw_made(drawing, spot, command, *place)?;
-        }
-        Report::NotHeld | Report::NotNarrower => {
-            title.push_str(", which is refused")?;
-            drawing.begin(title.as_str())?;
-            drawing.cross(spot)?;
-        }
-        Report::Narrowed(_) | Report::Refiltered { .. } => {
-            push_filter(&mut title, command)?;
-            drawing.begin(title.as_str())?;
-            draw_filter(drawing, spot, command)?;
-        }
-        Report::Pulled(counts) => {
-            push_counts(&mut title, counts)?;
-            drawing.begin(title.as_str())?;
-            draw_pull(drawing, spot, source.unwrap_or(device), counts)?;
-        }
-        Report::Preview(counts) => {
-            push_counts(&mut title, counts)?;
-            drawing.begin(title.as_str())?;
-            let from = Spot {
-                column,
-                device: source.unwrap_or(device),
-            };
-            drawing.arrow(from, device, "preview")?;
-        }
-        _ => {
-            drawing.begin(title.as_str())?;
-            drawing.dot(spot, "asks", 3)?;
-        }
-    }
-    drawing.end()
+    drawing.above.push_str("<g><title>")?;
+    push_title(&mut drawing.above, script, number, command)?;
+    push_outcome(&mut drawing.above, script, command, report)?;
+    drawing.above.push_str("</title>")?;
+    draw_marks(drawing, column, command, report)?;
+    drawing.above.push_str("</g>\n")
 }
 
 // The command's number, its word and its devices.
@@ -81,11 +45,10 @@ fn push_title(
         let name = device_name(script, source);
         write!(title, " {name}")?;
     }
-    let picture = picture_of(command);
-    if picture > 0 {
-        write!(title, " {picture}")?;
+    match picture_of(command) {
+        0 => Ok(()),
+        picture => write!(title, " {picture}"),
     }
-    Ok(())
 }
 
 fn word_of(command: &Command) -> &'static str {
@@ -104,42 +67,27 @@ fn word_of(command: &Command) -> &'static str {
     }
 }
 
-fn push_made(
+// What came of the command.
+fn push_outcome(
     title: &mut String,
     script: &Script,
-    version: Version,
-    place: Place,
-) -> Result<(), AllocError> {
-    title.push_str(" made ")?;
-    push_version(title, script, version)?;
-    title.push_str(match place {
-        Place::Store => ", in the store",
-        Place::Out => ", in the out",
-    })?;
-    Ok(())
-}
-
-fn draw_made(
-    drawing: &mut Drawing,
-    spot: Spot,
     command: &Command,
-    place: Place,
+    report: &Report,
 ) -> Result<(), AllocError> {
-    let picture = picture_of(command);
-    let label = format!(in drawing.alloc; "{picture}")?;
-    let class = match command {
-        Command::Remove { .. } => "mid gone",
-        _ => "mid",
-    };
-    drawing.label(spot, class, label.as_str())?;
-    drawing.dot(
-        spot,
-        match place {
-            Place::Store => "kept",
-            Place::Out => "waits",
-        },
-        5,
-    )
+    match report {
+        Report::Made { version, place } => {
+            title.push_str(" made ")?;
+            push_version(title, script, *version)?;
+            title.push_str(match place {
+                Place::Store => ", in the store",
+                Place::Out => ", in the out",
+            })
+        }
+        Report::NotHeld | Report::NotNarrower => title.push_str(", which is refused"),
+        Report::Narrowed(_) | Report::Refiltered { .. } => push_filter(title, command),
+        Report::Pulled(counts) | Report::Preview(counts) => push_counts(title, counts),
+        _ => Ok(()),
+    }
 }
 
 // The filter that a command gives a device.
@@ -151,47 +99,87 @@ fn filter_in(command: &Command) -> Option<&Filter> {
 }
 
 fn push_filter(title: &mut String, command: &Command) -> Result<(), AllocError> {
-    if let Some(filter) = filter_in(command) {
-        let text = print(*title.allocator(), filter.tree())?;
-        title.push_str(" to ")?;
-        title.push_str(text.as_str())?;
+    match filter_in(command) {
+        Some(filter) => {
+            title.push_str(" to ")?;
+            push_whole_filter(title, filter)
+        }
+        None => Ok(()),
     }
-    Ok(())
+}
+
+fn push_counts(title: &mut String, counts: &PullCounts) -> Result<(), AllocError> {
+    let (taken, handed) = (counts.taken, counts.handed);
+    let (dropped, notices) = (counts.dropped, counts.notices);
+    write!(
+        title,
+        ": {taken} taken, {handed} handed over, {dropped} dropped, {notices} noticed"
+    )
+}
+
+// The marks of a command in its column.
+fn draw_marks(
+    drawing: &mut Drawing,
+    column: u32,
+    command: &Command,
+    report: &Report,
+) -> Result<(), AllocError> {
+    let (device, source) = devices_of(command);
+    let spot = Spot { column, device };
+    let from = Spot {
+        column,
+        device: source.unwrap_or(device),
+    };
+    match report {
+        Report::Made { place, .. } => draw_made(drawing, spot, command, *place),
+        Report::NotHeld | Report::NotNarrower => drawing.cross(spot),
+        Report::Narrowed(_) | Report::Refiltered { .. } => draw_filter(drawing, spot, command),
+        Report::Pulled(counts) => draw_pull(drawing, from, device, counts),
+        Report::Preview(_) => drawing.arrow(from, device, "preview"),
+        _ => drawing.dot(spot, "asks", 3),
+    }
+}
+
+fn draw_made(
+    drawing: &mut Drawing,
+    spot: Spot,
+    command: &Command,
+    place: Place,
+) -> Result<(), AllocError> {
+    let class = match command {
+        Command::Remove { .. } => "mid gone",
+        _ => "mid",
+    };
+    drawing.label(spot, class, picture_of(command))?;
+    let class = match place {
+        Place::Store => "kept",
+        Place::Out => "waits",
+    };
+    drawing.dot(spot, class, 5)
 }
 
 fn draw_filter(drawing: &mut Drawing, spot: Spot, command: &Command) -> Result<(), AllocError> {
     if let Some(filter) = filter_in(command) {
-        let shown = shown_filter(drawing.alloc, filter)?;
-        drawing.note(spot, 0, 0, shown.as_str())?;
+        note_filter(drawing, spot, filter)?;
     }
     drawing.square(spot)
 }
 
-fn push_counts(title: &mut String, counts: &PullCounts) -> Result<(), AllocError> {
-    let (taken, handed, dropped) = (counts.taken, counts.handed, counts.dropped);
-    write!(
-        title,
-        ": {taken} taken, {handed} handed over, {dropped} dropped"
-    )?;
-    let notices = counts.notices;
-    write!(title, ", {notices} noticed")?;
-    Ok(())
+fn note_filter(drawing: &mut Drawing, spot: Spot, filter: &Filter) -> Result<(), AllocError> {
+    let shown = shown_filter(drawing.alloc, filter)?;
+    drawing.note(spot, 0, 0, &shown)
 }
 
 fn draw_pull(
     drawing: &mut Drawing,
-    spot: Spot,
-    source: u16,
+    from: Spot,
+    target: u16,
     counts: &PullCounts,
 ) -> Result<(), AllocError> {
-    let from = Spot {
-        column: spot.column,
-        device: source,
-    };
-    drawing.arrow(from, spot.device, "pull")?;
+    drawing.arrow(from, target, "pull")?;
     let lower = Spot {
-        column: spot.column,
-        device: spot.device.max(source),
+        column: from.column,
+        device: from.device.max(target),
     };
     let mut line = 58u64;
     for (letter, count) in [
@@ -200,8 +188,7 @@ fn draw_pull(
         ("d", counts.dropped),
     ] {
         if count > 0 {
-            let label = format!(in drawing.alloc; "{letter}{count}")?;
-            drawing.note(lower, 5, line, label.as_str())?;
+            drawing.count(lower, line, letter, count)?;
             line = line.saturating_sub(12);
         }
     }

@@ -8,11 +8,13 @@ mod current;
 mod drawing;
 mod escaping;
 mod events;
+mod filters;
 mod helps;
 mod moves;
 mod names;
 mod playing;
 mod refusals;
+mod running;
 mod serve;
 mod source;
 mod strife;
@@ -25,7 +27,7 @@ use refusals::without_words;
 use serve::serve;
 use std::alloc::Global;
 use std::env;
-use std::io::{self, BufWriter};
+use std::io::{self, BufWriter, Write};
 use std::process::ExitCode;
 use view_parts::without_memory;
 
@@ -33,17 +35,21 @@ fn main(rt: HostRuntime) -> ExitCode {
     ExitCode::from(status(&rt))
 }
 
-// The exit status of the program on the words of its command line. Output is gathered before it is written.
+// The exit status of the program on the words of its command line.
 fn status(rt: &HostRuntime) -> u8 {
     let mut err = rt.stderr();
-    let words = match given_words(rt, rt.alloc()) {
-        Ok(words) => words,
-        Err(error) => return without_words(rt.alloc(), error.kind(), &mut err),
-    };
-    let Ok(mut out) = BufWriter::new(rt.alloc(), rt.stdout()) else {
-        return without_memory(&mut err);
-    };
-    serve(rt, rt.alloc(), words.as_slice(), &mut out, &mut err)
+    match given_words(rt, rt.alloc()) {
+        Ok(words) => answer(rt, &words, &mut err),
+        Err(error) => without_words(rt.alloc(), error.kind(), &mut err),
+    }
+}
+
+// Output is gathered before it is written.
+fn answer<E: Write>(rt: &HostRuntime, words: &[String], err: &mut E) -> u8 {
+    match BufWriter::new(rt.alloc(), rt.stdout()) {
+        Ok(mut out) => serve(rt, rt.alloc(), words, &mut out, err),
+        Err(_) => without_memory(err),
+    }
 }
 
 // The words of the command line, the program's name first.

@@ -1,20 +1,12 @@
 //! The pulls that would bring what a device is to keep and hasn't, or take what waits in an out.
-ghost use Rattle.std.specs.Prelude.{◌≤◌, ◌<◌, length};
+ghost use Rattle.std.specs.Prelude.{◌≤◌, ◌<◌, ◌≢◌, length};
 
 use crate::names::{device_name, push_version};
 use crate::whereabouts::is_asked;
 use live_fleet::Fleet;
-use photo_device::{Device, SharedHeld};
-use photo_pull::PullCounts;
+use photo_device::{Device, Place, SharedHeld};
 use photo_script::Script;
 use std::alloc::{AllocError, Global};
-
-// What a pull would move: from the source's store, and from its out.
-#[derive(Drop)]
-struct Move {
-    stored: Vec<SharedHeld>,
-    waiting: Vec<SharedHeld>,
-}
 
 /// Puts behind a text a line for each pull that would bring its target some version of a picture that is asked for.
 pub fn push_moves(
@@ -25,16 +17,15 @@ pub fn push_moves(
     pictures: &[u32],
 ) -> Result<(), AllocError> {
     let mut lines = String::new(alloc);
-    for target in 0..device_count(script, fleet) {
-        push_moves_to(alloc, &mut lines, script, fleet, target, pictures)?;
-    }
+    push_pulls(alloc, &mut lines, script, fleet, pictures)?;
     if lines.is_empty() {
-        text.push_str("\nno pull would bring a version\n")?;
+        text.push_str("\nno pull would bring a version\n")
     } else {
-        text.push_str("\npulls that would bring versions, those from an out in brackets:\n")?;
-        text.push_str(lines.as_str())?;
+        write!(
+            text,
+            "\npulls that would bring versions, those from an out in brackets:\n{lines}"
+        )
     }
-    Ok(())
 }
 
 // How many devices the script and the fleet have both.
@@ -44,8 +35,21 @@ fn device_count(script: &Script, fleet: &Fleet) -> u16
     script.devices().min(fleet.devices().len()) as u16
 }
 
-// The lines of a target, in the order of its sources.
-fn push_moves_to(
+// The lines of all pulls, by their targets and then by their sources.
+fn push_pulls(
+    alloc: Global,
+    lines: &mut String,
+    script: &Script,
+    fleet: &Fleet,
+    pictures: &[u32],
+) -> Result<(), AllocError> {
+    for target in 0..device_count(script, fleet) {
+        push_pulls_to(alloc, lines, script, fleet, target, pictures)?;
+    }
+    Ok(())
+}
+
+fn push_pulls_to(
     alloc: Global,
     lines: &mut String,
     script: &Script,
@@ -57,88 +61,117 @@ fn push_moves_to(
 {
     for source in 0..device_count(script, fleet) {
         if source != target {
-            let moved = move_between(alloc, fleet, target, source, pictures)?;
-            if !moved.stored.is_empty() || !moved.waiting.is_empty() {
-                let counts = fleet.preview(target, source)?;
-                push_pull(lines, script, (target, source), &counts)?;
-                push_moved(lines, script, &moved)?;
-            }
+            push_pull(alloc, lines, script, fleet, (target, source), pictures)?;
         }
     }
     Ok(())
 }
 
-// What a pull would bring of the pictures that are asked for: what the target doesn't know of the source's store and is to
-// keep, and what it doesn't know of the source's out.
-fn move_between(
-    alloc: Global,
-    fleet: &Fleet,
-    target: u16,
-    source: u16,
-    pictures: &[u32],
-) -> Result<Move, AllocError> {
-    let mut moved = Move {
-        stored: Vec::new(alloc),
-        waiting: Vec::new(alloc),
-    };
-    let devices = fleet.devices();
-    if let (Some(target), Some(source)) = (
-        devices.get(usize::from(target)),
-        devices.get(usize::from(source)),
-    ) {
-        moved.stored = target.unknown_by(alloc, source.store())?;
-        moved.waiting = target.unknown_by(alloc, source.out())?;
-        keep_asked(&mut moved, target, pictures);
-    }
-    Ok(moved)
-}
-
-fn keep_asked(moved: &mut Move, target: &Device, pictures: &[u32]) {
-    let filter = target.filter();
-    moved.stored.retain(|held| filter.matches(held.content())
-        && is_asked(pictures, held.picture().value()));
-    moved
-        .waiting
-        .retain(|held| is_asked(pictures, held.picture().value()));
-}
-
+// The line of a pull, the target before the source; none where it would bring nothing.
 fn push_pull(
+    alloc: Global,
     lines: &mut String,
     script: &Script,
+    fleet: &Fleet,
     devices: (u16, u16),
-    counts: &PullCounts,
-) -> Result<(), AllocError> {
-    let (target, source) = (
-        device_name(script, devices.0),
-        device_name(script, devices.1),
-    );
-    let (taken, handed) = (counts.taken, counts.handed);
-    write!(
-        lines,
-        "  pull {target} {source}  takes {taken}, is handed {handed}:"
+    pictures: &[u32],
+) -> Result<(), AllocError>
+    requires target { devices.0 < length fleet.now.devices }
+    requires source { devices.1 < length fleet.now.devices }
+    requires differ { devices.1 ≢ devices.0 }
+{
+    let (target, source) = devices;
+    let mut moved = String::new(alloc);
+    push_moved(
+        &mut moved,
+        script,
+        &fleet.devices()[usize::from(target)],
+        &fleet.devices()[usize::from(source)],
+        pictures,
     )?;
-    Ok(())
+    push_line(lines, script, fleet, devices, &moved)
 }
 
-fn push_moved(lines: &mut String, script: &Script, moved: &Move) -> Result<(), AllocError> {
-    push_list(lines, script, &moved.stored, (" ", ""))?;
-    push_list(lines, script, &moved.waiting, (" [", "]"))?;
-    lines.push_str("\n")?;
-    Ok(())
+fn push_line(
+    lines: &mut String,
+    script: &Script,
+    fleet: &Fleet,
+    devices: (u16, u16),
+    moved: &str,
+) -> Result<(), AllocError>
+    requires target { devices.0 < length fleet.now.devices }
+    requires source { devices.1 < length fleet.now.devices }
+    requires differ { devices.1 ≢ devices.0 }
+{
+    if moved.is_empty() {
+        return Ok(());
+    }
+    let (target, source) = devices;
+    let counts = fleet.preview(target, source)?;
+    let (taken, handed) = (counts.taken, counts.handed);
+    let (target, source) = (device_name(script, target), device_name(script, source));
+    writeln!(
+        lines,
+        "  pull {target} {source}  takes {taken}, is handed {handed}:{moved}"
+    )
+}
+
+// What a pull would bring of the pictures that are asked for: what the target doesn't know of the source's store and is to
+// keep, and what it doesn't know of the source's out.
+fn push_moved(
+    moved: &mut String,
+    script: &Script,
+    target: &Device,
+    source: &Device,
+    pictures: &[u32],
+) -> Result<(), AllocError> {
+    push_moved_from(moved, script, target, source, Place::Store, pictures)?;
+    push_moved_from(moved, script, target, source, Place::Out, pictures)
+}
+
+fn push_moved_from(
+    moved: &mut String,
+    script: &Script,
+    target: &Device,
+    source: &Device,
+    place: Place,
+    pictures: &[u32],
+) -> Result<(), AllocError> {
+    let set = match place {
+        Place::Store => source.store(),
+        Place::Out => source.out(),
+    };
+    let unknown = target.unknown_by(*moved.allocator(), set)?;
+    push_list(moved, script, target, &unknown, place, pictures)
 }
 
 fn push_list(
-    lines: &mut String,
+    moved: &mut String,
     script: &Script,
-    list: &[SharedHeld],
-    marks: (&str, &str),
+    target: &Device,
+    unknown: &[SharedHeld],
+    place: Place,
+    pictures: &[u32],
 ) -> Result<(), AllocError> {
-    for held in list {
-        lines.push_str(marks.0)?;
+    let (before, behind) = match place {
+        Place::Store => (" ", ""),
+        Place::Out => (" [", "]"),
+    };
+    for held in unknown {
         let picture = held.picture().value();
-        write!(lines, "{picture} ")?;
-        push_version(lines, script, held.version())?;
-        lines.push_str(marks.1)?;
+        if is_asked(pictures, picture) && is_wanted(target, held, place) {
+            write!(moved, "{before}{picture} ")?;
+            push_version(moved, script, held.version())?;
+            moved.push_str(behind)?;
+        }
     }
     Ok(())
+}
+
+// Whether a device takes a version that it doesn't know: what waits in an out it always does.
+fn is_wanted(target: &Device, held: &SharedHeld, place: Place) -> bool {
+    match place {
+        Place::Store => target.filter().matches(held.content()),
+        Place::Out => true,
+    }
 }

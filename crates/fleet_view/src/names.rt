@@ -1,7 +1,7 @@
 //! Names of devices and of versions, as reports write them.
 use photo_script::Script;
 use photo_version::Version;
-use std::alloc::{AllocError, Global};
+use std::alloc::AllocError;
 
 /// The name of the device at a place; a place that no device has gets a mark of its own.
 pub fn device_name(script: &Script, place: u16) -> &str {
@@ -22,20 +22,8 @@ pub fn push_version(
     let name = device_name(script, author.value());
     let (epoch, number) = (author.epoch(), version.n());
     if epoch == 0 {
-        write!(text, "{name}:{number}")?;
+        write!(text, "{name}:{number}")
     } else {
-        write!(text, "{name}.{epoch}:{number}")?;
+        write!(text, "{name}.{epoch}:{number}")
     }
-    Ok(())
-}
-
-/// A version's name.
-pub fn version_name(
-    alloc: Global,
-    script: &Script,
-    version: Version,
-) -> Result<String, AllocError> {
-    let mut text = String::new(alloc);
-    push_version(&mut text, script, version)?;
-    Ok(text)
 }

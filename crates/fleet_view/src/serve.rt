@@ -1,15 +1,13 @@
 //! What the program does, from the words to the exit status.
-ghost use Rattle.std.specs.Prelude.{◌≡◌, ◌⊎◌};
-
-use crate::chart::chart;
+use crate::chart::push_chart;
 use crate::refusals::refused;
-use crate::source::{read_bytes, script_of};
-use crate::whereabouts::whereabouts;
+use crate::source::read_bytes;
+use crate::whereabouts::push_whereabouts;
 use crate::words::{Request, View, request_of};
 use fleet_steps::RunError;
 use photo_script::{Script, ScriptFault, read_script};
 use script_faults::fault_view;
-use std::alloc::{AllocError, Global};
+use std::alloc::Global;
 use std::convert::AsStr;
 use std::io::Write;
 use std::rt::Files;
@@ -30,82 +28,94 @@ pub fn serve<S: AsStr, R: Files, W: Write, E: Write>(
     err: &mut E,
 ) -> u8 {
     match request_of(alloc, words) {
-        Ok(request) => match request.view {
-            View::Fault => {
-                let told = tell_fault(rt, alloc, request.file, out);
-                match told {
-                    Ok(status) => status,
-                    Err(error) => status_of(Err(error), err),
-                }
-            }
-            _ => status_of(show(rt, alloc, &request, out), err),
+        Ok(request) => match perform(rt, alloc, &request, out) {
+            Ok(status) => status,
+            Err(error) => status_of(Err(error), err),
         },
         Err(refusal) => refused(alloc, &refusal, out, err),
     }
 }
 
-// Writes what is asked for of a script.
-fn show<R: Files, W: Write>(
+// Writes what is asked for of a file, once all of it is made, and gives the status.
+fn perform<R: Files, W: Write>(
     rt: &R,
     alloc: Global,
     request: &Request<'_>,
     out: &mut W,
-) -> Result<(), RunError> {
-    let script = script_of(rt, alloc, request.file)?;
-    let Ok(text) = view_of(alloc, &script, &request.view) else {
-        return Err(RunError::NoMemory);
-    };
-    write_whole(out, text.as_str())
+) -> Result<u8, RunError> {
+    let mut text = String::new(alloc);
+    let status = push_asked(rt, alloc, &mut text, request)?;
+    write_whole(out, &text, status)
 }
 
-fn view_of(alloc: Global, script: &Script, view: &View) -> Result<String, AllocError> {
-    match view {
-        View::Where(pictures) => whereabouts(alloc, script, pictures),
-        View::Chart(columns) => chart(alloc, script, *columns),
-        View::Fault => String::from_str(alloc, NO_FAULT),
-    }
-}
-
-// Writes a script's fault, or that it has none, and gives the status. Want of memory is told as that of any command.
-fn tell_fault<R: Files, W: Write>(
+fn push_asked<R: Files>(
     rt: &R,
     alloc: Global,
-    file: &str,
-    out: &mut W,
+    text: &mut String,
+    request: &Request<'_>,
 ) -> Result<u8, RunError> {
-    let bytes = match read_bytes(rt, alloc, file) {
-        Ok(bytes) => bytes,
-        Err(fault) => return write_fault(alloc, &[], fault, out),
-    };
-    match read_script(alloc, bytes.as_slice()) {
-        Ok(_) => {
-            write_whole(out, NO_FAULT)?;
-            Ok(DONE)
-        }
-        Err(fault) => write_fault(alloc, bytes.as_slice(), fault, out),
+    match read_bytes(rt, alloc, request.file) {
+        Ok(bytes) => push_answer(alloc, text, &bytes, &request.view),
+        Err(fault) => push_fault(alloc, text, &[], fault, &request.view),
     }
 }
 
-fn write_fault<W: Write>(
+// Puts what is asked for of a file's bytes behind a text.
+fn push_answer(
     alloc: Global,
+    text: &mut String,
+    bytes: &[u8],
+    view: &View,
+) -> Result<u8, RunError> {
+    match read_script(alloc, bytes) {
+        Ok(script) => push_view(alloc, text, &script, view),
+        Err(fault) => push_fault(alloc, text, bytes, fault, view),
+    }
+}
+
+fn push_view(
+    alloc: Global,
+    text: &mut String,
+    script: &Script,
+    view: &View,
+) -> Result<u8, RunError> {
+    let pushed = match view {
+        View::Where(pictures) => push_whereabouts(alloc, text, script, pictures),
+        View::Chart(columns) => push_chart(alloc, text, script, *columns),
+        View::Fault => text.push_str(NO_FAULT),
+    };
+    match pushed {
+        Ok(()) => Ok(DONE),
+        Err(_) => Err(RunError::NoMemory),
+    }
+}
+
+// Tells a script's fault where that is asked for. Else it is an error, and want of memory is as that of any command.
+fn push_fault(
+    alloc: Global,
+    text: &mut String,
     bytes: &[u8],
     fault: ScriptFault,
-    out: &mut W,
+    view: &View,
 ) -> Result<u8, RunError> {
-    if fault == ScriptFault::NoMemory {
-        return Err(RunError::Script(fault));
+    match (view, fault) {
+        (View::Where(_) | View::Chart(_), _) | (_, ScriptFault::NoMemory) => Err(RunError::Script(
+            fault,
+        )),
+        _ => match fault_view(alloc, bytes, fault) {
+            Ok(told) => {
+                *text = told;
+                Ok(BAD_SCRIPT)
+            }
+            Err(_) => Err(RunError::NoMemory),
+        },
     }
-    let Ok(text) = fault_view(alloc, bytes, fault) else {
-        return Err(RunError::NoMemory);
-    };
-    write_whole(out, text.as_str())?;
-    Ok(BAD_SCRIPT)
 }
 
-// Writes a text and flushes the writer.
-fn write_whole<W: Write>(out: &mut W, text: &str) -> Result<(), RunError> {
+// Writes a text, flushes the writer, and passes the status on.
+fn write_whole<W: Write>(out: &mut W, text: &str, status: u8) -> Result<u8, RunError> {
     if out.write_all(text.as_bytes()).is_err() || out.flush().is_err() {
         return Err(RunError::Write);
     }
-    Ok(())
+    Ok(status)
 }

@@ -1,16 +1,9 @@
-//! The bytes of the files that the command line names, and their scripts.
-use fleet_steps::RunError;
-use photo_script::{MAX_TEXT_BYTES, Script, ScriptFault, read_script};
+//! The bytes of the files that the command line names.
+use photo_script::{MAX_TEXT_BYTES, ScriptFault};
 use std::alloc::Global;
 use std::fs;
 use std::io::Read;
 use std::rt::Files;
-
-/// The script of a file.
-pub fn script_of<R: Files>(rt: &R, alloc: Global, file: &str) -> Result<Script, RunError> {
-    let bytes = read_bytes(rt, alloc, file).map_err(RunError::Script)?;
-    read_script(alloc, bytes.as_slice()).map_err(RunError::Script)
-}
 
 /// The bytes of a file, which are no more than a script may have.
 pub fn read_bytes<R: Files>(rt: &R, alloc: Global, file: &str) -> Result<Vec<u8>, ScriptFault> {

@@ -4,79 +4,41 @@ ghost use Rattle.std.specs.Prelude.{◌≤◌, ◌<◌, length};
 use crate::drawing::{Drawing, Spot};
 use crate::names::{device_name, push_version};
 use live_fleet::Fleet;
-use photo_device::Conflict;
+use photo_device::{Conflict, Device};
 use photo_script::{Command, Script, devices_of};
-use std::alloc::{AllocError, Global};
+use std::alloc::AllocError;
 
 /// A device's conflicts: since which column it has some, and of how many pictures.
-#[derive(Clone, Copy, Debug, PartialEq, Eq)]
-struct Since {
+#[derive(Clone, Copy)]
+pub struct Since {
     column: u32,
     pictures: usize,
 }
 
-/// The conflicts of each device.
-#[derive(Drop)]
-pub struct Strife {
-    since: Vec<Option<Since>>,
-}
-
-impl Strife {
-    /// No device has any.
-    pub fn new(alloc: Global, devices: usize) -> Result<Strife, AllocError> {
-        Ok(Strife {
-            since: vec![in alloc; None; devices]?,
-        })
+/// Notes the conflicts of the device that the command of that number changed, behind it: where there are more than before
+/// they get a mark, and where there are none any more a band is drawn from the first to here.
+pub fn note_strife(
+    drawing: &mut Drawing,
+    script: &Script,
+    fleet: &Fleet,
+    number: u32,
+    column: u32,
+) -> Result<(), AllocError>
+    requires first { 0 < number }
+    requires within { number ≤ length script.now.commands }
+{
+    let command = script.command(number);
+    if !is_change(command) {
+        return Ok(());
     }
-
-    /// Notes the conflicts of the device that the command of that number changed, behind it: where there are more than before
-    /// they get a mark, and where there are none any more a band is drawn from the first to here.
-    pub fn note(
-        &mut self,
-        drawing: &mut Drawing,
-        script: &Script,
-        fleet: &Fleet,
-        number: u32,
-        column: u32,
-    ) -> Result<(), AllocError>
-        requires first { 0 < number }
-        requires within { number ≤ length script.now.commands }
-    {
-        let command = script.command(number);
-        let (place, _) = devices_of(command);
-        let spot = Spot {
-            column,
-            device: place,
-        };
-        let i = usize::from(place);
-        let (Some(device), Some(before)) = (fleet.devices().get(i), self.since.get(i)) else {
-            return Ok(());
-        };
-        if !is_change(command) {
-            return Ok(());
-        }
-        let before = *before;
-        let conflicts = device.conflicts()?;
-        if conflicts.len() > before.map_or(0, |known| known.pictures) {
-            draw_alarm(drawing, script, spot, number, &conflicts)?;
-        }
-        let now = later(drawing, spot, before, conflicts.len())?;
-        if let Some(since) = self.since.get_mut(i) {
-            *since = now;
-        }
-        Ok(())
-    }
-
-    /// Draws the bands of the conflicts that are left at the end.
-    pub fn finish(&self, drawing: &mut Drawing) -> Result<(), AllocError> {
-        let layout = drawing.layout;
-        let end = layout.end();
-        for (place, since) in self.since.iter().enumerate() {
-            if let Some(known) = since {
-                draw_band(drawing, place as u64, known.column, end)?;
-            }
-        }
-        Ok(())
+    let (place, _) = devices_of(command);
+    let spot = Spot {
+        column,
+        device: place,
+    };
+    match fleet.devices().get(usize::from(place)) {
+        Some(device) => note_device(drawing, script, device, number, spot),
+        None => Ok(()),
     }
 }
 
@@ -93,29 +55,57 @@ fn is_change(command: &Command) -> bool {
     )
 }
 
-// What is known of a device's conflicts behind a command, which leaves it those of so many pictures.
-fn later(
+fn note_device(
     drawing: &mut Drawing,
+    script: &Script,
+    device: &Device,
+    number: u32,
     spot: Spot,
-    before: Option<Since>,
-    pictures: usize,
-) -> Result<Option<Since>, AllocError> {
-    match before {
-        Some(known) if pictures == 0 => {
-            let end = drawing.layout.x(spot.column);
-            draw_band(drawing, u64::from(spot.device), known.column, end)?;
-            Ok(None)
-        }
-        Some(known) => Ok(Some(Since {
-            column: known.column,
-            pictures,
-        })),
-        None if pictures == 0 => Ok(None),
-        None => Ok(Some(Since {
-            column: spot.column,
-            pictures,
-        })),
+) -> Result<(), AllocError> {
+    let conflicts = device.conflicts()?;
+    note_conflicts(drawing, script, &conflicts, number, spot)
+}
+
+fn note_conflicts(
+    drawing: &mut Drawing,
+    script: &Script,
+    conflicts: &[Conflict],
+    number: u32,
+    spot: Spot,
+) -> Result<(), AllocError> {
+    let place = usize::from(spot.device);
+    let pictures = conflicts.len();
+    let before = drawing.strife.get(place).copied().unwrap_or(None);
+    let (column, known) = match before {
+        Some(since) => (since.column, since.pictures),
+        None => (spot.column, 0),
+    };
+    if pictures > known {
+        draw_alarm(drawing, script, spot, number, conflicts)?;
     }
+    if pictures == 0 && known > 0 {
+        let end = drawing.layout.x(spot.column);
+        draw_band(drawing, u64::from(spot.device), column, end)?;
+    }
+    if let Some(since) = drawing.strife.get_mut(place) {
+        *since = if pictures > 0 {
+            Some(Since { column, pictures })
+        } else {
+            None
+        };
+    }
+    Ok(())
+}
+
+/// Draws the bands of the conflicts that are left at the end.
+pub fn finish_strife(drawing: &mut Drawing) -> Result<(), AllocError> {
+    let end = drawing.layout.end();
+    for place in 0..drawing.strife.len() {
+        if let Some(since) = drawing.strife.get(place).copied().unwrap_or(None) {
+            draw_band(drawing, place as u64, since.column, end)?;
+        }
+    }
+    Ok(())
 }
 
 fn draw_band(drawing: &mut Drawing, place: u64, column: u32, end: u64) -> Result<(), AllocError> {
@@ -126,8 +116,7 @@ fn draw_band(drawing: &mut Drawing, place: u64, column: u32, end: u64) -> Result
     writeln!(
         drawing.below,
         "<path class=\"strife\" d=\"M{from} {y}H{end}\"/>"
-    )?;
-    Ok(())
+    )
 }
 
 // A mark with the pictures in conflict and their versions.
@@ -138,15 +127,17 @@ fn draw_alarm(
     number: u32,
     conflicts: &[Conflict],
 ) -> Result<(), AllocError> {
-    let mut title = String::new(drawing.alloc);
     let name = device_name(script, spot.device);
-    write!(title, "{number} leaves {name} with versions in conflict:")?;
+    write!(
+        drawing.above,
+        "<g><title>{number} leaves {name} with versions in conflict:"
+    )?;
     for conflict in conflicts {
-        push_conflict(&mut title, script, conflict)?;
+        push_conflict(&mut drawing.above, script, conflict)?;
     }
-    drawing.begin(title.as_str())?;
+    drawing.above.push_str("</title>")?;
     drawing.alarm(spot)?;
-    drawing.end()
+    drawing.above.push_str("</g>\n")
 }
 
 fn push_conflict(
@@ -160,6 +151,5 @@ fn push_conflict(
         push_version(title, script, *version)?;
         title.push_str(" ")?;
     }
-    title.push_str(")")?;
-    Ok(())
+    title.push_str(")")
 }

@@ -4,71 +4,82 @@ use unicode_width::UnicodeWidthStr;
 use view_parts::missing;
 
 // Between two columns.
-const GAP: &str = "  ";
+const GAP: usize = 2;
 
-/// Rows of cells, which need not be equally long.
+/// Rows of equally many cells.
 #[derive(Drop)]
 pub struct Table {
-    rows: Vec<Vec<String>>,
+    /// The texts of the cells, row by row, with nothing between them.
+    pub cells: String,
+    // Where each cell ends.
+    ends: Vec<usize>,
+    columns: usize,
     alloc: Global,
 }
 
 impl Table {
-    /// A table without rows.
-    pub fn new(alloc: Global) -> Table {
+    /// A table of so many columns, without rows.
+    pub fn new(alloc: Global, columns: usize) -> Table {
         Table {
-            rows: Vec::new(alloc),
+            cells: String::new(alloc),
+            ends: Vec::new(alloc),
+            columns,
             alloc,
         }
     }
 
-    /// Puts one row more below the others.
-    pub fn add(&mut self, row: Vec<String>) -> Result<(), AllocError> {
-        self.rows.push(row)?;
+    /// Ends a cell with what was put behind the cells before it.
+    pub fn end_cell(&mut self) -> Result<(), AllocError> {
+        self.ends.push(self.cells.len())?;
         Ok(())
-    }
-
-    // How wide each column is.
-    fn widths(&self) -> Result<Vec<usize>, AllocError> {
-        let mut widths = Vec::new(self.alloc);
-        for row in &self.rows {
-            widen(&mut widths, row)?;
-        }
-        Ok(widths)
     }
 
     /// Puts the table behind a text, a line for each row.
     pub fn push_to(&self, text: &mut String) -> Result<(), AllocError> {
-        let widths = self.widths()?;
-        for row in &self.rows {
-            push_row(text, row, &widths)?;
+        let mut widths = vec![in self.alloc; 0; self.columns]?;
+        self.widen(&mut widths);
+        self.push_rows(text, &widths)
+    }
+
+    // Makes each column as wide as its widest cell.
+    fn widen(&self, widths: &mut [usize]) {
+        let (mut from, mut column) = (0, 0);
+        for end in &self.ends {
+            if let Some(widest) = widths.get_mut(column) {
+                *widest = self.cell(from, *end).width().max(*widest);
+            }
+            from = *end;
+            column = self.behind(column);
+        }
+    }
+
+    // No space stands behind the last cell of a row.
+    fn push_rows(&self, text: &mut String, widths: &[usize]) -> Result<(), AllocError> {
+        let (mut from, mut column) = (0, 0);
+        for end in &self.ends {
+            let cell = self.cell(from, *end);
+            text.push_str(cell)?;
+            from = *end;
+            let width = widths.get(column).copied().unwrap_or(0);
+            column = self.behind(column);
+            if column == 0 {
+                text.push_str("\n")?;
+            } else {
+                push_spaces(text, missing(cell, width).saturating_add(GAP))?;
+            }
         }
         Ok(())
     }
-}
 
-// Makes each column as wide as its cell in the row, if it isn't.
-fn widen(widths: &mut Vec<usize>, row: &[String]) -> Result<(), AllocError> {
-    for (column, cell) in row.iter().enumerate() {
-        let width = cell.as_str().width();
-        match widths.get_mut(column) {
-            Some(widest) => *widest = width.max(*widest),
-            None => widths.push(width)?,
-        }
+    fn cell(&self, from: usize, end: usize) -> &str {
+        self.cells.get(from..end).unwrap_or("")
     }
-    Ok(())
-}
 
-// A row: no space stands behind its last cell.
-fn push_row(text: &mut String, row: &[String], widths: &[usize]) -> Result<(), AllocError> {
-    let mut owed = 0;
-    for (cell, width) in row.iter().zip(widths) {
-        push_spaces(text, owed)?;
-        text.push_str(cell.as_str())?;
-        owed = missing(cell.as_str(), *width).saturating_add(GAP.len());
+    // The column behind another, which is the first one behind the last.
+    fn behind(&self, column: usize) -> usize {
+        let next = column.saturating_add(1);
+        if next < self.columns { next } else { 0 }
     }
-    text.push_str("\n")?;
-    Ok(())
 }
 
 // Puts so many spaces behind a text.

@@ -1,8 +1,10 @@
 //! Where the pictures are once a script has run: a table, and below it conflicts and the pulls that would move something.
-use crate::current::current_of;
+ghost use Rattle.std.specs.Prelude.{◌≡◌, length};
+
+use crate::current::{current_of, is_current};
 use crate::moves::push_moves;
-use crate::names::{device_name, push_version, version_name};
-use crate::playing::played_fleet;
+use crate::names::{device_name, push_version};
+use crate::playing::play;
 use crate::table::Table;
 use live_fleet::Fleet;
 use photo_device::{Device, Held};
@@ -16,37 +18,64 @@ use view_parts::{Standing, standing_of};
 const LEGEND: &str =
     "\nV in the store, [V] in the out, ~V only known, -V never heard of; V* superseded\n";
 
-/// The text of `where`: a line for each of the pictures, or for each picture that was made where none is named.
-pub fn whereabouts(alloc: Global, script: &Script, pictures: &[u32]) -> Result<String, AllocError> {
-    let fleet = played_fleet(alloc, script)?;
-    let histories = histories(alloc, &fleet, pictures)?;
-    let mut text = String::new(alloc);
-    let mut table = Table::new(alloc);
-    table.add(heading(alloc, script)?)?;
-    let mut conflicts = String::new(alloc);
-    for (picture, versions) in histories.iter() {
-        let current = current_of(alloc, versions)?;
-        table.add(row(alloc, script, &fleet, *picture, versions, &current)?)?;
-        push_conflict(&mut conflicts, script, *picture, &current)?;
-    }
-    table.push_to(&mut text)?;
-    text.push_str(LEGEND)?;
-    push_unmade(&mut text, &histories, pictures)?;
-    if !conflicts.is_empty() {
-        text.push_str("\nconflicts, which an edit on a device that has all of them resolves:\n")?;
-        text.push_str(conflicts.as_str())?;
-    }
-    push_moves(alloc, &mut text, script, &fleet, pictures)?;
-    Ok(text)
+// What stands above the conflicts.
+const CONFLICTS: &str = "\nconflicts, which an edit on a device that has all of them resolves:\n";
+
+// What is said of pictures: a line of a table for each, and one more of each that is in conflict.
+#[derive(Drop)]
+struct Lines {
+    table: Table,
+    conflicts: String,
 }
 
-// The versions of each picture that is asked for, oldest first.
-fn histories<'a>(
+/// Puts the text of `where` behind another: a line for each of the pictures, or for each picture that was made where none is
+/// named.
+pub fn push_whereabouts(
     alloc: Global,
+    text: &mut String,
+    script: &Script,
+    pictures: &[u32],
+) -> Result<(), AllocError> {
+    let mut fleet = Fleet::of_script(alloc, script)?;
+    push_played(alloc, text, script, &mut fleet, pictures)
+}
+
+// Runs the script on its devices, and tells where the pictures are then.
+fn push_played(
+    alloc: Global,
+    text: &mut String,
+    script: &Script,
+    fleet: &mut Fleet,
+    pictures: &[u32],
+) -> Result<(), AllocError>
+    requires devices { length fleet.old.devices ≡ length script.now.names }
+    requires none { fleet.old.commands ≡ 0 }
+{
+    play(fleet, script)?;
+    push_pictures(alloc, text, script, fleet, pictures)?;
+    push_moves(alloc, text, script, fleet, pictures)
+}
+
+// What is said of single pictures.
+fn push_pictures(
+    alloc: Global,
+    text: &mut String,
+    script: &Script,
+    fleet: &Fleet,
+    pictures: &[u32],
+) -> Result<(), AllocError> {
+    let mut histories = BTreeMap::new(alloc);
+    note_histories(alloc, &mut histories, fleet, pictures)?;
+    push_histories(alloc, text, script, fleet, pictures, &histories)
+}
+
+// Notes the versions of each picture that is asked for, oldest first.
+fn note_histories<'a>(
+    alloc: Global,
+    histories: &mut BTreeMap<u32, Vec<&'a Held>>,
     fleet: &'a Fleet,
     pictures: &[u32],
-) -> Result<BTreeMap<u32, Vec<&'a Held>>, AllocError> {
-    let mut histories = BTreeMap::new(alloc);
+) -> Result<(), AllocError> {
     for held in fleet.log() {
         let picture = held.picture.value();
         if is_asked(pictures, picture) {
@@ -56,7 +85,7 @@ fn histories<'a>(
                 .push(held)?;
         }
     }
-    Ok(histories)
+    Ok(())
 }
 
 /// Whether a picture is one of those that are asked for; where none is named, each is.
@@ -64,73 +93,115 @@ pub fn is_asked(pictures: &[u32], picture: u32) -> bool {
     pictures.is_empty() || pictures.contains(&picture)
 }
 
-// The names of the columns.
-fn heading(alloc: Global, script: &Script) -> Result<Vec<String>, AllocError> {
-    let mut cells = Vec::new(alloc);
-    cells.push(String::from_str(alloc, "picture")?)?;
-    cells.push(String::from_str(alloc, "current")?)?;
-    for place in 0..script.devices() {
-        let name = device_name(script, place as u16);
-        cells.push(String::from_str(alloc, name)?)?;
-    }
-    Ok(cells)
+fn push_histories(
+    alloc: Global,
+    text: &mut String,
+    script: &Script,
+    fleet: &Fleet,
+    pictures: &[u32],
+    histories: &BTreeMap<u32, Vec<&Held>>,
+) -> Result<(), AllocError> {
+    let mut lines = Lines {
+        table: Table::new(alloc, script.devices().saturating_add(2)),
+        conflicts: String::new(alloc),
+    };
+    fill(alloc, &mut lines, script, fleet, histories)?;
+    push_lines(text, &lines, pictures, histories)
 }
 
-// The line of a picture.
-fn row(
+fn fill(
     alloc: Global,
+    lines: &mut Lines,
+    script: &Script,
+    fleet: &Fleet,
+    histories: &BTreeMap<u32, Vec<&Held>>,
+) -> Result<(), AllocError> {
+    add_heading(&mut lines.table, script)?;
+    for (picture, versions) in histories.iter() {
+        add_picture(alloc, lines, script, fleet, *picture, versions)?;
+    }
+    Ok(())
+}
+
+// The names of the columns.
+fn add_heading(table: &mut Table, script: &Script) -> Result<(), AllocError> {
+    table.cells.push_str("picture")?;
+    table.end_cell()?;
+    table.cells.push_str("current")?;
+    table.end_cell()?;
+    for place in 0..script.devices() {
+        table.cells.push_str(device_name(script, place as u16))?;
+        table.end_cell()?;
+    }
+    Ok(())
+}
+
+fn add_picture(
+    alloc: Global,
+    lines: &mut Lines,
+    script: &Script,
+    fleet: &Fleet,
+    picture: u32,
+    versions: &[&Held],
+) -> Result<(), AllocError> {
+    let current = current_of(alloc, versions)?;
+    add_lines(lines, script, fleet, picture, versions, &current)
+}
+
+// The line of a picture, and that of its conflict.
+fn add_lines(
+    lines: &mut Lines,
     script: &Script,
     fleet: &Fleet,
     picture: u32,
     versions: &[&Held],
     current: &[&Held],
-) -> Result<Vec<String>, AllocError> {
-    let mut cells = Vec::new(alloc);
-    cells.push(format!(in alloc; "{picture}")?)?;
-    cells.push(current_cell(alloc, script, current)?)?;
+) -> Result<(), AllocError> {
+    let table = &mut lines.table;
+    write!(table.cells, "{picture}")?;
+    table.end_cell()?;
+    push_current(&mut table.cells, script, current)?;
+    table.end_cell()?;
     for device in fleet.devices() {
-        cells.push(device_cell(alloc, script, device, versions, current)?)?;
+        push_standings(&mut table.cells, script, device, versions, current)?;
+        table.end_cell()?;
     }
-    Ok(cells)
+    push_conflict(&mut lines.conflicts, script, picture, current)
 }
 
 // The current versions; two or more of them are in conflict.
-fn current_cell(alloc: Global, script: &Script, current: &[&Held]) -> Result<String, AllocError> {
-    let mut text = String::new(alloc);
+fn push_current(cells: &mut String, script: &Script, current: &[&Held]) -> Result<(), AllocError> {
+    let mut between = "";
     for held in current {
-        if !text.is_empty() {
-            text.push_str(" ! ")?;
-        }
-        push_version(&mut text, script, held.version)?;
+        cells.push_str(between)?;
+        between = " ! ";
+        push_version(cells, script, held.version)?;
         if let Record::Removed = &held.content {
-            text.push_str(" removed")?;
+            cells.push_str(" removed")?;
         }
     }
-    Ok(text)
+    Ok(())
 }
 
 // How a device stands to the current versions, and which others it holds.
-fn device_cell(
-    alloc: Global,
+fn push_standings(
+    cells: &mut String,
     script: &Script,
     device: &Device,
     versions: &[&Held],
     current: &[&Held],
-) -> Result<String, AllocError> {
-    let mut text = String::new(alloc);
+) -> Result<(), AllocError> {
+    let mut between = "";
     for held in versions {
-        let is_current = current.iter().any(|other| other.version == held.version);
         let standing = standing_of(device, held.picture, held.version);
-        if let Some((before, behind)) = marks(standing, is_current) {
-            if !text.is_empty() {
-                text.push_str(" ")?;
-            }
-            text.push_str(before)?;
-            push_version(&mut text, script, held.version)?;
-            text.push_str(behind)?;
+        if let Some((before, behind)) = marks(standing, is_current(current, held.version)) {
+            write!(cells, "{between}{before}")?;
+            between = " ";
+            push_version(cells, script, held.version)?;
+            cells.push_str(behind)?;
         }
     }
-    Ok(text)
+    Ok(())
 }
 
 // What stands before and behind a version's name; nothing is said of one that is superseded and not held.
@@ -161,20 +232,25 @@ fn push_conflict(
         text.push_str(" ")?;
         push_version(text, script, held.version)?;
     }
-    text.push_str("\n")?;
-    Ok(())
+    text.push_str("\n")
 }
 
-// A line for each picture that is asked for and that no command made.
-fn push_unmade(
+fn push_lines(
     text: &mut String,
-    histories: &BTreeMap<u32, Vec<&Held>>,
+    lines: &Lines,
     pictures: &[u32],
+    histories: &BTreeMap<u32, Vec<&Held>>,
 ) -> Result<(), AllocError> {
+    lines.table.push_to(text)?;
+    text.push_str(LEGEND)?;
     for picture in pictures {
         if !histories.contains_key(picture) {
             writeln!(text, "no command made picture {picture}")?;
         }
+    }
+    if !lines.conflicts.is_empty() {
+        text.push_str(CONFLICTS)?;
+        text.push_str(lines.conflicts.as_str())?;
     }
     Ok(())
 }

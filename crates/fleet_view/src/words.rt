@@ -27,6 +27,15 @@ pub enum View {
 /// What the words ask for, which begin with the program's name, or why they are refused.
 pub fn request_of<'a, S: AsStr>(alloc: Global, words: &'a [S]) -> Result<Request<'a>, clap::Error> {
     let mut command = command_line(alloc)?;
+    asked(alloc, &mut command, words)
+}
+
+// What the words ask of the program's command line.
+fn asked<'a, S: AsStr>(
+    alloc: Global,
+    command: &mut Command<'a>,
+    words: &'a [S],
+) -> Result<Request<'a>, clap::Error> {
     let matches = command.try_get_matches_from_mut(words)?;
     match request_in(alloc, &matches)? {
         Some(request) => Ok(request),
@@ -89,10 +98,18 @@ pub fn command_line<'a>(alloc: Global) -> Result<Command<'a>, AllocError> {
     let command = Command::new(alloc, "fleet_view")
         .about("Shows where a script's pictures are, a chart of its run, or what is wrong with it")
         .after_help(OVERVIEW)
-        .subcommand_required(true)
-        .subcommand(where_command(alloc)?)?
-        .subcommand(chart_command(alloc)?)?;
-    command.subcommand(fault_command(alloc)?)
+        .subcommand_required(true);
+    let command = with(command, where_command(alloc))?;
+    let command = with(command, chart_command(alloc))?;
+    with(command, fault_command(alloc))
+}
+
+// A command line with one command more.
+fn with<'a>(
+    program: Command<'a>,
+    command: Result<Command<'a>, AllocError>,
+) -> Result<Command<'a>, AllocError> {
+    program.subcommand(command?)
 }
 
 // `where FILE [PICTURE]...`

@@ -1,21 +1,62 @@
 //! What is told of a line's fault beside its name: where it is, what may stand there, what is known of it, and a mend.
 use crate::lines::Span;
+use std::alloc::AllocError;
 
 /// What is told of a line's fault.
-#[derive(Drop)]
-pub struct Cause {
+#[derive(Clone, Copy)]
+pub struct Cause<'a> {
     /// The part of the line that the fault is at.
     pub span: Span,
     /// What may stand there.
     pub expected: &'static str,
-    /// What is known of the cause; empty where nothing more is.
-    pub known: String,
+    /// What is known of the cause.
+    pub known: Known<'a>,
     /// How the line is mended.
     pub mend: &'static str,
 }
 
+/// What is known of a fault's cause.
+#[derive(Clone, Copy)]
+pub enum Known<'a> {
+    /// Nothing more.
+    Nothing,
+    /// What this text says.
+    Said(&'static str),
+    /// A number between two texts.
+    Counted(&'static str, usize, &'static str),
+    /// The line has so many fields, and its form another number.
+    Fields(usize, usize),
+    /// This name is near to what stands there.
+    Near(&'a str),
+    /// The filter's token of that number can't stand there.
+    Token(usize, &'a str),
+}
+
+impl Known<'_> {
+    /// Puts a line with what is known behind a text; none where nothing is.
+    pub fn push_to(&self, text: &mut String) -> Result<(), AllocError> {
+        match *self {
+            Known::Nothing => Ok(()),
+            Known::Said(known) => writeln!(text, "known:    {known}"),
+            Known::Counted(before, number, behind) => writeln!(
+                text,
+                "known:    {before}{number}{behind}"
+            ),
+            Known::Fields(found, wanted) => writeln!(
+                text,
+                "known:    the line has {found} fields, and its form has {wanted}"
+            ),
+            Known::Near(name) => writeln!(text, "known:    it is near to '{name}'"),
+            Known::Token(k, token) => writeln!(
+                text,
+                "known:    token {k} of the filter, '{token}', can't stand there"
+            ),
+        }
+    }
+}
+
 /// The words that a line may begin with, each with its fields.
-pub const LINES: [(&str, &str); 12] = [
+pub const LINES: &[(&str, &str)] = &[
     ("device", "device NAME FILTER"),
     ("new", "new DEV PIC RATING DATE WORDS"),
     ("edit", "edit DEV PIC RATING DATE WORDS"),
@@ -33,7 +74,7 @@ pub const LINES: [(&str, &str); 12] = [
 /// The fields of a line that begins with a word.
 pub fn form_of(word: &str) -> &'static str {
     for (name, form) in LINES {
-        if name == word {
+        if *name == word {
             return form;
         }
     }

@@ -1,40 +1,26 @@
 //! A script's text by lines and fields, as the reader of scripts cuts it.
-use std::alloc::{AllocError, Global};
 
 /// A part of a line: from a byte on up to another.
-#[derive(Clone, Copy, Debug, PartialEq, Eq)]
+#[derive(Clone, Copy)]
 pub struct Span {
     pub from: usize,
     pub to: usize,
 }
 
-/// A line with its fields.
-#[derive(Drop)]
+/// A line of a script, and its number, from 1.
+#[derive(Clone, Copy)]
 pub struct Line<'a> {
     pub text: &'a str,
     pub number: u32,
-    pub fields: Vec<Span>,
 }
 
 impl<'a> Line<'a> {
-    /// The line of that number, from 1, of a text.
-    pub fn of(alloc: Global, text: &'a str, number: u32) -> Result<Line<'a>, AllocError> {
-        let place = (number as usize).saturating_sub(1);
-        let text = bare(text.split('\n').nth(place).unwrap_or(""));
-        let fields = parts(
-            alloc,
-            text,
-            Span {
-                from: 0,
-                to: text.len(),
-            },
-            b' ',
-        )?;
-        Ok(Line {
-            text,
+    /// What stands between two line feeds, without the one CR that belongs to its end.
+    pub fn of(row: &'a str, number: u32) -> Line<'a> {
+        Line {
+            text: row.strip_suffix('\r').unwrap_or(row),
             number,
-            fields,
-        })
+        }
     }
 
     /// The text of a part.
@@ -44,7 +30,19 @@ impl<'a> Line<'a> {
 
     /// The place of a field, counted from 0; behind the line's end where there are fewer.
     pub fn span(&self, i: usize) -> Span {
-        self.fields.get(i).copied().unwrap_or(self.end())
+        let mut left = i;
+        let mut from = 0usize;
+        for piece in self.text.split(' ') {
+            let to = from.saturating_add(piece.len());
+            if !piece.is_empty() {
+                if left == 0 {
+                    return Span { from, to };
+                }
+                left -= 1;
+            }
+            from = to.saturating_add(1);
+        }
+        self.end()
     }
 
     /// A field, counted from 0; empty where there are fewer.
@@ -52,18 +50,29 @@ impl<'a> Line<'a> {
         self.at(self.span(i))
     }
 
+    // Where the last field ends; 0 where there is none.
+    fn last(&self) -> usize {
+        let mut to = 0usize;
+        for (i, byte) in self.text.bytes().enumerate() {
+            if byte != b' ' {
+                to = i.saturating_add(1);
+            }
+        }
+        to
+    }
+
     /// The place behind the last field.
     pub fn end(&self) -> Span {
-        let from = self
-            .fields
-            .last()
-            .map_or(0, |last| last.to.saturating_add(1));
+        let from = match self.last() {
+            0 => 0,
+            last => last.saturating_add(1),
+        };
         Span { from, to: from }
     }
 
     /// From a field on to the end of the last one.
     pub fn rest(&self, i: usize) -> Span {
-        let to = self.fields.last().map_or(0, |last| last.to);
+        let to = self.last();
         Span {
             from: self.span(i).from.min(to),
             to,
@@ -71,54 +80,27 @@ impl<'a> Line<'a> {
     }
 }
 
-// A line without the one CR that belongs to its end.
-fn bare(line: &str) -> &str {
-    line.strip_suffix('\r').unwrap_or(line)
-}
-
-/// The parts of a span between bytes of a kind that separates: none of them is empty.
-pub fn parts(
-    alloc: Global,
-    text: &str,
-    span: Span,
-    separator: u8,
-) -> Result<Vec<Span>, AllocError> {
-    let mut parts = Vec::new(alloc);
-    let mut open = None;
-    for (i, byte) in text.bytes().enumerate().take(span.to).skip(span.from) {
-        match (byte == separator, open) {
-            (false, None) => open = Some(i),
-            (true, Some(from)) => {
-                parts.push(Span { from, to: i })?;
-                open = None;
-            }
-            _ => {}
+/// How many fields a text has: what stands between spaces.
+pub fn count_fields(text: &str) -> usize {
+    let mut count = 0usize;
+    for piece in text.split(' ') {
+        if !piece.is_empty() {
+            count = count.saturating_add(1);
         }
     }
-    if let Some(from) = open {
-        parts.push(Span { from, to: span.to })?;
-    }
-    Ok(parts)
-}
-
-/// A field of a line, counted from 0, that is not cut into all of its fields; empty where there are fewer.
-pub fn field_of(line: &str, i: usize) -> &str {
-    bare(line)
-        .split(' ')
-        .filter(|field| !field.is_empty())
-        .nth(i)
-        .unwrap_or("")
+    count
 }
 
 /// The number of the first line before a line whose first field is a word and another field is a text.
 pub fn earlier(text: &str, before: u32, word: &str, i: usize, field: &str) -> Option<u32> {
     let mut number = 0u32;
-    for line in text.split('\n') {
+    for row in text.split('\n') {
         number = number.saturating_add(1);
         if number >= before {
             return None;
         }
-        if field_of(line, 0) == word && field_of(line, i) == field {
+        let line = Line::of(row, number);
+        if line.field(0) == word && line.field(i) == field {
             return Some(number);
         }
     }
@@ -128,12 +110,12 @@ pub fn earlier(text: &str, before: u32, word: &str, i: usize, field: &str) -> Op
 /// The number of the first line before a line that has a command.
 pub fn first_command(text: &str, before: u32) -> Option<u32> {
     let mut number = 0u32;
-    for line in text.split('\n') {
+    for row in text.split('\n') {
         number = number.saturating_add(1);
         if number >= before {
             return None;
         }
-        let word = field_of(line, 0);
+        let word = Line::of(row, number).field(0);
         if !word.is_empty() && !word.starts_with('#') && word != "device" {
             return Some(number);
         }

@@ -3,6 +3,7 @@ use crate::cause::Cause;
 use crate::field_cause as causes;
 use crate::filter_cause::bad_filter;
 use crate::lines::{Line, Span};
+use crate::word_cause::bad_words;
 use photo_script::{LineFault, ScriptFault};
 use std::alloc::{AllocError, Global};
 use std::str::from_utf8;
@@ -14,22 +15,30 @@ const SHOWN: usize = 1024;
 /// The text that tells the fault of a script's bytes, which were read as far as they could be.
 pub fn fault_view(alloc: Global, bytes: &[u8], fault: ScriptFault) -> Result<String, AllocError> {
     let mut text = String::new(alloc);
+    push_fault(alloc, &mut text, bytes, fault)?;
+    Ok(text)
+}
+
+fn push_fault(
+    alloc: Global,
+    text: &mut String,
+    bytes: &[u8],
+    fault: ScriptFault,
+) -> Result<(), AllocError> {
     writeln!(text, "script fault: {fault}")?;
     match fault {
         ScriptFault::Read => text.push_str(
             "known:    the file can't be opened or read\nmend:     look at its name, and whether it is a folder\n",
-        )?,
+        ),
         ScriptFault::TooLarge => text.push_str(
             "known:    it has more than 8,388,608 bytes\nmend:     leave some lines out\n",
-        )?,
-        ScriptFault::NotUtf8 => push_not_utf8(&mut text, bytes)?,
-        ScriptFault::NoMemory => text.push_str("mend:     run it where there is more memory\n")?,
+        ),
+        ScriptFault::NotUtf8 => push_not_utf8(text, bytes),
+        ScriptFault::NoMemory => text.push_str("mend:     run it where there is more memory\n"),
         ScriptFault::Line { line, fault } => {
-            let script = from_utf8(bytes).unwrap_or("");
-            push_line_fault(alloc, &mut text, script, line, fault)?
+            push_line_fault(alloc, text, from_utf8(bytes).unwrap_or(""), line, fault)
         }
     }
-    Ok(text)
 }
 
 // Where the bytes cease to be UTF-8.
@@ -38,18 +47,16 @@ fn push_not_utf8(text: &mut String, bytes: &[u8]) -> Result<(), AllocError> {
         Ok(_) => bytes.len(),
         Err(error) => error.valid_up_to(),
     };
-    let line = bytes
-        .iter()
-        .take(good)
-        .filter(|byte| **byte == b'\n')
-        .count()
-        .saturating_add(1);
-    writeln!(
+    let mut line = 1usize;
+    for byte in bytes.iter().take(good) {
+        if *byte == b'\n' {
+            line = line.saturating_add(1);
+        }
+    }
+    write!(
         text,
-        "known:    the first {good} bytes are UTF-8, up to line {line}"
-    )?;
-    text.push_str("mend:     save the text as UTF-8\n")?;
-    Ok(())
+        "known:    the first {good} bytes are UTF-8, up to line {line}\nmend:     save the text as UTF-8\n"
+    )
 }
 
 fn push_line_fault(
@@ -59,41 +66,38 @@ fn push_line_fault(
     number: u32,
     fault: LineFault,
 ) -> Result<(), AllocError> {
-    let line = Line::of(alloc, script, number)?;
-    let cause = cause_of(alloc, script, &line, fault)?;
-    push_marked(alloc, text, &line, cause.span)?;
+    let place = (number as usize).saturating_sub(1);
+    let line = Line::of(script.split('\n').nth(place).unwrap_or(""), number);
+    let cause = cause_of(alloc, script, line, fault)?;
+    push_marked(alloc, text, line, cause.span)?;
     let (expected, mend) = (cause.expected, cause.mend);
     writeln!(text, "expected: {expected}")?;
-    if !cause.known.is_empty() {
-        let known = cause.known.as_str();
-        writeln!(text, "known:    {known}")?;
-    }
-    writeln!(text, "mend:     {mend}")?;
-    Ok(())
+    cause.known.push_to(text)?;
+    writeln!(text, "mend:     {mend}")
 }
 
-fn cause_of(
+fn cause_of<'a>(
     alloc: Global,
-    script: &str,
-    line: &Line<'_>,
+    script: &'a str,
+    line: Line<'a>,
     fault: LineFault,
-) -> Result<Cause, AllocError> {
+) -> Result<Cause<'a>, AllocError> {
     match fault {
-        LineFault::LineTooLong => causes::too_long(alloc, line),
+        LineFault::LineTooLong => Ok(causes::too_long(line)),
         LineFault::UnknownCommand => causes::unknown_command(alloc, line),
-        LineFault::WrongFields => causes::wrong_fields(alloc, line),
-        LineFault::BadName => causes::bad_name(alloc, line),
+        LineFault::WrongFields => Ok(causes::wrong_fields(line)),
+        LineFault::BadName => Ok(causes::bad_name(line)),
         LineFault::UnknownDevice => causes::unknown_device(alloc, script, line),
-        LineFault::RepeatedDevice => causes::repeated_device(alloc, script, line),
-        LineFault::LateDevice => causes::late_device(alloc, script, line),
-        LineFault::BadNumber => causes::bad_number(alloc, line),
-        LineFault::BadRating => causes::bad_rating(alloc, line),
-        LineFault::BadDate => causes::bad_date(alloc, line),
-        LineFault::BadKeyword => causes::bad_words(alloc, line),
+        LineFault::RepeatedDevice => Ok(causes::repeated_device(script, line)),
+        LineFault::LateDevice => Ok(causes::late_device(script, line)),
+        LineFault::BadNumber => Ok(causes::bad_number(line)),
+        LineFault::BadRating => Ok(causes::bad_rating(line)),
+        LineFault::BadDate => Ok(causes::bad_date(line)),
+        LineFault::BadKeyword => bad_words(alloc, line),
         LineFault::BadFilter => bad_filter(alloc, line),
-        LineFault::RepeatedPicture => causes::repeated_picture(alloc, script, line),
-        LineFault::TooMany => causes::too_many(alloc, line),
-        LineFault::SameDevice => causes::same_device(alloc, line),
+        LineFault::RepeatedPicture => Ok(causes::repeated_picture(script, line)),
+        LineFault::TooMany => Ok(causes::too_many(line)),
+        LineFault::SameDevice => Ok(causes::same_device(line)),
     }
 }
 
@@ -101,43 +105,58 @@ fn cause_of(
 fn push_marked(
     alloc: Global,
     text: &mut String,
-    line: &Line<'_>,
+    line: Line<'_>,
     span: Span,
 ) -> Result<(), AllocError> {
     let number = line.number;
-    let margin = format!(in alloc; "{number}")?;
-    let before = shown(alloc, line.text.get(..span.from).unwrap_or(line.text))?;
-    let marked = shown(alloc, line.at(span))?;
-    let all = shown(alloc, line.text)?;
-    writeln!(text, "  {number} | {all}")?;
-    push_spaces(text, margin.len().saturating_add(2))?;
+    let start = text.len();
+    write!(text, "  {number}")?;
+    let margin = text.len().saturating_sub(start);
     text.push_str(" | ")?;
-    let missing = span.from.saturating_sub(line.text.len());
-    push_spaces(text, before.as_str().width().saturating_add(missing))?;
-    for _ in 0..marked.as_str().width().max(1) {
-        text.push_str("^")?;
-    }
+    push_shown(text, line.text)?;
     text.push_str("\n")?;
+    push_repeated(text, ' ', margin)?;
+    push_carets(alloc, text, line, span)
+}
+
+fn push_carets(
+    alloc: Global,
+    text: &mut String,
+    line: Line<'_>,
+    span: Span,
+) -> Result<(), AllocError> {
+    let before = shown_width(alloc, line.text.get(..span.from).unwrap_or(line.text))?;
+    let missing = span.from.saturating_sub(line.text.len());
+    let marked = shown_width(alloc, line.at(span))?;
+    text.push_str(" | ")?;
+    push_repeated(text, ' ', before.saturating_add(missing))?;
+    push_repeated(text, '^', marked.max(1))?;
+    text.push_str("\n")
+}
+
+// Puts a text behind another as it is shown: control characters, as a tab is, have a mark in their place.
+fn push_shown(text: &mut String, part: &str) -> Result<(), AllocError> {
+    let start = text.len();
+    for c in part.chars() {
+        if text.len().saturating_sub(start) >= SHOWN {
+            return text.push_str("\u{2026}");
+        }
+        text.push(if c.is_control() { '\u{fffd}' } else { c })?;
+    }
     Ok(())
 }
 
-// A text as it is shown: control characters, as a tab is, have a mark in their place.
-fn shown(alloc: Global, text: &str) -> Result<String, AllocError> {
+// How many columns a text takes as it is shown.
+fn shown_width(alloc: Global, part: &str) -> Result<usize, AllocError> {
     let mut shown = String::new(alloc);
-    for c in text.chars() {
-        if shown.len() >= SHOWN {
-            shown.push_str("\u{2026}")?;
-            break;
-        }
-        shown.push(if c.is_control() { '\u{fffd}' } else { c })?;
-    }
-    Ok(shown)
+    push_shown(&mut shown, part)?;
+    Ok(shown.as_str().width())
 }
 
-// Puts so many spaces behind a text.
-fn push_spaces(text: &mut String, count: usize) -> Result<(), AllocError> {
+// Puts a character behind a text so often.
+fn push_repeated(text: &mut String, c: char, count: usize) -> Result<(), AllocError> {
     for _ in 0..count {
-        text.push_str(" ")?;
+        text.push(c)?;
     }
     Ok(())
 }

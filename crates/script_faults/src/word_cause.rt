@@ -1,88 +1,83 @@
 //! The cause of a fault of a picture's words.
-use crate::cause::Cause;
+use crate::cause::{Cause, Known};
 use crate::lines::{Line, Span};
 use photo_record::{Word, WordFault};
 use std::alloc::{AllocError, Global};
 
 const EXPECTED: &str = "- for no words, or at most 16 different words with commas between them";
 
+// The mend of words where no single one is known to be wrong.
+const COMMAS: &str = "write the words with commas between them";
+
 // The most words of a picture.
 const MOST_WORDS: usize = 16;
 
 /// F14: the first of the pieces between commas that is no word, or too many, or there before.
-pub fn words_cause(
-    alloc: Global,
-    line: &Line<'_>,
-    whole: Span,
-    pieces: &[Span],
-) -> Result<Cause, AllocError> {
+pub fn bad_words<'a>(alloc: Global, line: Line<'a>) -> Result<Cause<'a>, AllocError> {
+    let whole = line.span(5);
+    let words = line.at(whole);
     let mut from = whole.from;
-    for (place, piece) in line.at(whole).split(',').enumerate() {
+    for (place, piece) in words.split(',').enumerate() {
         let to = from.saturating_add(piece.len());
-        let span = Span { from, to };
-        if place >= MOST_WORDS {
-            return told(
-                alloc,
-                span,
-                "it is the seventeenth word",
-                "leave some words out",
-            );
-        }
-        match Word::read(alloc, piece) {
-            Ok(word) => {
-                if is_repeated(alloc, line, pieces, from, &word)? {
-                    return told(
-                        alloc,
-                        span,
-                        "the word stands there already",
-                        "write each word once",
-                    );
-                }
-            }
-            Err(WordFault::NoMemory) => return Err(AllocError),
-            Err(fault) => {
-                let (known, mend) = of_word(fault);
-                return told(alloc, span, known, mend);
-            }
+        if let Some((known, mend)) = piece_fault(alloc, words, place, piece)? {
+            return Ok(told(Span { from, to }, known, mend));
         }
         from = to.saturating_add(1);
     }
-    told(alloc, whole, "", "write the words with commas between them")
+    Ok(told(whole, "", COMMAS))
 }
 
-fn told(
-    alloc: Global,
-    span: Span,
-    known: &'static str,
-    mend: &'static str,
-) -> Result<Cause, AllocError> {
-    Ok(Cause {
+fn told(span: Span, known: &'static str, mend: &'static str) -> Cause<'static> {
+    Cause {
         span,
         expected: EXPECTED,
-        known: String::from_str(alloc, known)?,
+        known: if known.is_empty() {
+            Known::Nothing
+        } else {
+            Known::Said(known)
+        },
         mend,
-    })
+    }
 }
 
-// Whether one of the pieces before a byte reads as the word.
-fn is_repeated(
+// What is wrong with the piece at a place, and how it is mended; nothing where none before it is the same word.
+fn piece_fault(
     alloc: Global,
-    line: &Line<'_>,
-    pieces: &[Span],
-    from: usize,
+    words: &str,
+    place: usize,
+    piece: &str,
+) -> Result<Option<(&'static str, &'static str)>, AllocError> {
+    if place >= MOST_WORDS {
+        return Ok(Some(("it is the seventeenth word", "leave some words out")));
+    }
+    match Word::read(alloc, piece) {
+        Ok(word) => repetition(alloc, words, place, &word),
+        Err(WordFault::NoMemory) => Err(AllocError),
+        Err(fault) => Ok(Some(of_word(fault))),
+    }
+}
+
+// What is wrong with the word at a place if one of the pieces before it reads as the same word.
+fn repetition(
+    alloc: Global,
+    words: &str,
+    place: usize,
     word: &Word,
-) -> Result<bool, AllocError> {
-    for piece in pieces {
-        if piece.from >= from {
-            continue;
-        }
-        match Word::read(alloc, line.at(*piece)) {
-            Ok(other) if other.text() == word.text() => return Ok(true),
-            Err(WordFault::NoMemory) => return Err(AllocError),
-            _ => {}
+) -> Result<Option<(&'static str, &'static str)>, AllocError> {
+    for piece in words.split(',').take(place) {
+        if reads_as(alloc, piece, word)? {
+            return Ok(Some(("the word stands there already", "write each word once")));
         }
     }
-    Ok(false)
+    Ok(None)
+}
+
+fn reads_as(alloc: Global, piece: &str, word: &Word) -> Result<bool, AllocError> {
+    match Word::read(alloc, piece) {
+        Ok(other) => Ok(other.text() == word.text()),
+        Err(WordFault::NoMemory) => Err(AllocError),
+        Err(_) => Ok(false),
+    }
 }
 
 // What is known of a word that is none, and how it is mended.
@@ -97,6 +92,6 @@ fn of_word(fault: WordFault) -> (&'static str, &'static str) {
             "leave that character out",
         ),
         WordFault::TooLong => ("the word has over 64 bytes", "write a shorter word"),
-        _ => ("", "write the words with commas between them"),
+        _ => ("", COMMAS),
     }
 }
