@@ -2,6 +2,7 @@ pub mod Ordered
 pub mod Entry
 pub mod Held
 pub mod Rising
+pub mod Marks
 pub mod Noted
 pub mod Device
 pub mod Telling

@@ -1,15 +1,20 @@
 // Versions that are looked for along a set.
 ghost use Rattle.std.specs.Prelude.{◌≡◌, true};
 ghost use Rattle.photo_device.specs.Held.{is_listed};
+ghost use Rattle.photo_device.specs.Marks.{AreMarked};
 ghost use Rattle.photo_device.specs.Rising.{are_rising};
 
+use crate::marks::{MARKS, mark_place, marks_of};
 use photo_version::Version;
 
-/// Versions that are looked for: by a binary search where they stand in order, else one after another.
+/// Versions that are looked for: by a binary search where they stand in order, else one after another. Most others are
+/// told apart from them by their marks at once.
 #[derive(Drop)]
 pub struct Sought<'a> {
     versions: &'a [Version],
     rising: bool,
+    marks: [bool; MARKS],
+    ghost marked: { AreMarked versions.now marks },
     ghost in_order: { rising ≡ true → are_rising versions.now ≡ true },
 }
 
@@ -21,6 +26,7 @@ impl<'a> Sought<'a> {
         Sought {
             versions,
             rising: is_rising(versions),
+            marks: marks_of(versions),
         }
     }
 
@@ -28,6 +34,9 @@ impl<'a> Sought<'a> {
     pub fn has(&self, version: Version) -> bool
         ensures { result ≡ is_listed self.now.versions.now version }
     {
+        if !self.marks[mark_place(version)] {
+            return false;
+        }
         if self.rising {
             is_found(self.versions, version)
         } else {
