@@ -4,8 +4,6 @@ use Rattle.std.specs.List.{find}
 use Rattle.std.specs.List.Sorted.{IsPartitionedBy, IsPartitionPoint}
 use Rattle.std.specs.declared.alloc.Global.{Global}
 use Rattle.std.proofs.lemmas.Bool.{cases_Bool, false≢true}
-use Rattle.std.proofs.lemmas.List.{get_or_default}
-use Rattle.std.proofs.lemmas.List.Concat.{get_or-flat_map}
 use Rattle.std.proofs.lemmas.Option.{slice_get-get_or}
 use Rattle.block_list.specs.Blocks.{joined, start_of, IsPlace}
 use Rattle.block_list.proofs.Joined.{start_within}
@@ -20,27 +18,6 @@ module _ {T : Type 0} where
       | inr fails ↦ fails
     ],
   )
-
-  pub place_in : (blocks : List (Vec T Global)) (b k : ℕ) (v : Vec T Global) → b < length blocks → v ≡ get_or blocks b v → k ≤ length v.items → IsPlace blocks (start_of blocks b + k) b k
-  place_in blocks b k v inside is within = record {
-    block = inside;
-    start = refl;
-    within = λ d. omega (arith, ap (λ (w : Vec T Global). length w.items) (get_or_default blocks b d v inside ∙ sym is));
-  }
-
-  pub same_block : (blocks : List (Vec T Global)) (b : ℕ) (v w : Vec T Global) → b < length blocks → v ≡ get_or blocks b v → w ≡ get_or blocks b w → v ≡ w
-  same_block blocks b v w inside is also = is ∙ get_or_default blocks b v w inside ∙ sym also
-
-  -- the element before a place in a block that isn't its first
-  pub before_here : (blocks : List (Vec T Global)) (b k : ℕ) (v : Vec T Global) (x d : T) → IsPlace blocks (start_of blocks b + k) b k → v ≡ get_or blocks b v → 0 < k → x ≡ get_or v.items (k - 1) x → get_or (joined blocks) (start_of blocks b + k - 1) d ≡ x
-  before_here blocks b k v x d place is some item =
-      let at : start_of blocks b + k - 1 ≡ start_of blocks b + (k - 1) = omega arith in
-      let within = place.within v in
-      let room : length (get_or blocks b v).items ≡ length v.items = ap (λ (w : Vec T Global). length w.items) (sym is) in
-      ap (λ n. get_or (joined blocks) n d) at
-      ∙ get_or-flat_map (λ block. block.items) blocks b (k - 1) v d place.block (omega arith)
-      ∙ ap (λ (w : Vec T Global). get_or w.items (k - 1) d) (sym is)
-      ∙ get_or_default v.items (k - 1) d x (omega arith) ∙ sym item
 
   -- where the test turns, the first element that fails is the one there
   pub found_at_turn : (p : T → Bool) (xs : List T) (i : ℕ) → i ≤ length xs → IsPartitionPoint (λ y. p y ≡ true) (λ y. p y ≡ false) xs i → slice_get xs i ≡ find (λ y. not (p y)) xs

@@ -4,7 +4,7 @@ use Rattle.std.specs.Prelude.{Option, None, IfNone}
 use Rattle.std.specs.List.{list_any}
 use Rattle.std.specs.declared.alloc.Global.{Global}
 use Rattle.std.proofs.lemmas.Bool.{cases_lt}
-use Rattle.std.proofs.lemmas.List.{get_or_default, take_all}
+use Rattle.std.proofs.lemmas.List.{get_or_default}
 use Rattle.std.proofs.lemmas.List.Folds.{list_any-append, list_any_more}
 use Rattle.std.proofs.lemmas.Option.{same_Some, slice_get_within, slice_get-get_or, get_or_from_slice_get}
 use Rattle.block_list.specs.Blocks.{joined, start_of, IsElement}
@@ -28,9 +28,6 @@ module _ {T : Type 0} where
       ∙ ap (λ b. b || p (get_or xs i read)) none
       ∙ ap p (sym is) ∙ fails
 
-  pub none_in_all : (p : T → Bool) (xs : List T) (i : ℕ) → length xs ≤ i → list_any p (take i xs) ≡ false → list_any p xs ≡ false
-  none_in_all p xs i all none = ap (list_any p) (sym (take_all i xs all)) ∙ none
-
   -- an element of a block is an element of the list
   pub element_in : (blocks : List (Vec T Global)) (b k : ℕ) (v : Vec T Global) → b < length blocks → v ≡ get_or blocks b v → k < length v.items → IsElement blocks (start_of blocks b + k) b k
   element_in blocks b k v inside is within = record {
@@ -47,17 +44,6 @@ module _ {T : Type 0} where
       let here : slice_get items k ≡ Some y = ap (λ l. slice_get l k) items_is ∙ slice_get-get_or v.items k x here_within in
       let there : slice_get (joined blocks) (start_of blocks b + k) ≡ Some y = read_at blocks (start_of blocks b + k) b k v y (element_in blocks b k v inside is here_within) is (get_or_default v.items k x y here_within) in
       ap p (same_Some x y (sym at ∙ there)) ∙ passes y here
-
-  -- a block more in which none passes
-  pub none_further : (p : T → Bool) (blocks : List (Vec T Global)) (from b : ℕ) (v : Vec T Global) → b < length blocks → v ≡ get_or blocks b v → list_any p v.items ≡ false → ((j : ℕ) (d : Vec T Global) → from ≤ j → j < b → list_any p (get_or blocks j d).items ≡ false) → (j : ℕ) (d : Vec T Global) → from ≤ j → j < b + 1 → list_any p (get_or blocks j d).items ≡ false
-  none_further p blocks from b v within is none before j d low high = elim (cases_lt j b) [
-    | inl less ↦ before j d low less
-    | inr last ↦
-        let same : j ≡ b = omega arith in
-        ap (λ n. list_any p (get_or blocks n d).items) same
-        ∙ ap (λ (w : Vec T Global). list_any p w.items) (get_or_default blocks b d v within ∙ sym is)
-        ∙ none
-  ]
 
   -- in no block one passes
   pub none_in_blocks : (p : T → Bool) (blocks : List (Vec T Global)) → ((j : ℕ) (d : Vec T Global) → j < length blocks → list_any p (get_or blocks j d).items ≡ false) → list_any p (joined blocks) ≡ false

@@ -1,7 +1,6 @@
 //! The list in blocks: what it is seen as, and its calls.
 use crate::blocks::{element_at, insert_at, insert_in, remove_between, set_at, set_in};
 use crate::kept::retain_in;
-use crate::near::{behind, spot_near};
 use crate::search::{element_behind, first_failing, index_of, is_alone, passes_behind, spot_of};
 use crate::taken::{spot_passing, take_at};
 use crate::{Iter, Room, Roomy, Spot};
@@ -30,7 +29,7 @@ impl<T> Model for BlockList<T> {
 }
 
 impl<T> BlockList<T> {
-    ghost use Rattle.std.specs.Prelude.{◌≡◌, ◌<◌, ◌≤◌, ◌==◌, Bool, true, false, not, [], length, slice_get, Some, ℕ, IfSome};
+    ghost use Rattle.std.specs.Prelude.{◌≡◌, ◌<◌, ◌≤◌, ◌==◌, Bool, true, false, not, [], length, slice_get, Some};
     ghost use Rattle.std.specs.Option.{option_copied};
     ghost use Rattle.std.specs.List.{find};
     ghost use Rattle.std.specs.List.Sorted.{IsPartitionedBy, IsPartitionPoint};
@@ -111,35 +110,21 @@ impl<T> BlockList<T> {
         ensures { (p : T → Bool) → ComputesKey P.FnMut p pred → IsPartitionedBy p self.now
             → option_copied result ≡ find (λ y. not (p y)) self.now }
     {
-        if self.blocks.is_empty() {
-            return None;
-        }
-        let (block, place) = spot_of(&self.blocks, pred);
-        element_behind(&self.blocks, block, place)
+        self.find_failing_at(pred).0
     }
 
-    /// What `find_failing` gives, and a hint for the next search. Any hint will do.
-    ///
-    /// A search that ends where the one before did, and has its hint, looks at two elements.
-    pub fn find_failing_near<P: Fn(&T) -> bool>(&self, near: Spot, pred: P) -> (Option<&T>, Spot)
+    /// What `find_failing` gives, and a hint for `take_near`.
+    pub fn find_failing_at<P: Fn(&T) -> bool>(&self, pred: P) -> (Option<&T>, Spot)
         requires { P.IsAlwaysCallable pred }
         ensures { (p : T → Bool) → ComputesKey P.FnMut p pred → IsPartitionedBy p self.now
             → option_copied result.0 ≡ find (λ y. not (p y)) self.now }
     {
         if self.blocks.is_empty() {
-            return (None, near);
+            return (None, Spot::start());
         }
-        let (block, place) = spot_near(&self.blocks, near, pred);
+        let (block, place) = spot_of(&self.blocks, pred);
         let found = element_behind(&self.blocks, block, place);
         (found, Spot { block, place })
-    }
-
-    /// The element behind the one at which a search ended, and the hint of a search that ends there. It is looked for beside
-    /// that one alone: no answer doesn't tell that there is none.
-    pub fn behind(&self, near: Spot) -> Option<(&T, Spot)>
-        ensures { IfSome result (λ r. (i : ℕ) × (slice_get self.now i ≡ Some r.0.now)) }
-    {
-        behind(&self.blocks, near)
     }
 }
 

@@ -7,7 +7,6 @@ mod elements;
 mod gather;
 mod kept;
 pub mod laws;
-mod near;
 mod placed;
 mod room;
 mod roomy;

@@ -1,7 +1,5 @@
 //! Calls by their names.
-use crate::{
-    devices, fleets, gates, plans, pulls, questions, runs, scripts, sessions, streams, texts,
-};
+use crate::{devices, fleets, gates, pulls, questions, runs, scripts, sessions, streams};
 use std::alloc::Global;
 use std::sync::Wait;
 use std::thread::Threads;
@@ -18,6 +16,22 @@ pub fn of_line<R: Threads + Wait + Copy + Send + 'static>(
         "fleet_workers" if call == "run_fleet command" => gates::verdict(rt, alloc),
         "fleet_workers" => streams::verdict_on_fleet(rt, alloc, call),
         "fleet_runner" if call == "run_stream" => streams::verdict_on_stream(rt, alloc),
+        _ => of_fleets(alloc, library, call),
+    }
+}
+
+fn of_fleets(alloc: Global, library: &str, call: &str) -> Option<Verdict> {
+    match call {
+        "write_reports" | "write_plan" => scripts::verdict(alloc, library, call),
+        "Fleet::of_script" | "Fleet::run_number" => scripts::verdict(alloc, library, call),
+        "Session::of_script" => scripts::verdict(alloc, library, call),
+        "read_script" => scripts::verdict_on_reading(alloc),
+        _ => of_library(alloc, library, call),
+    }
+}
+
+fn of_library(alloc: Global, library: &str, call: &str) -> Option<Verdict> {
+    match library {
         "fleet_runner" => streams::verdict(alloc, call),
         "fleet_steps" => runs::verdict(alloc, call),
         "live_fleet" => fleets::verdict(alloc, call),
@@ -31,10 +45,8 @@ fn of_scripts(alloc: Global, library: &str, call: &str) -> Option<Verdict> {
     match library {
         "photo_pull" if call == "pull" => pulls::verdict(alloc, pulls::Call::Pull),
         "photo_pull" if call == "preview" => pulls::verdict(alloc, pulls::Call::Preview),
-        "photo_script" => scripts::verdict(alloc, call),
-        "script_text" => texts::verdict(alloc, call),
-        "photo_batcher" => plans::verdict(alloc, call),
         "photo_device" => devices::verdict(alloc, call),
+        "photo_script" | "script_text" | "photo_batcher" => scripts::verdict(alloc, library, call),
         _ => verdict_on(alloc, library, call),
     }
 }

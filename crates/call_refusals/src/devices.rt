@@ -5,13 +5,12 @@ ghost use Rattle.photo_version.specs.Version as versions;
 ghost use Rattle.photo_version.specs.Vector.{denotes};
 ghost use Rattle.item_knowledge.specs.Fragments.{knows};
 
-use crate::fleets::divided;
-use crate::runs::runs_command;
+use crate::questions;
+use crate::runs::{logs, runs_command};
 use item_knowledge::Knowledge;
-use live_fleet::Fleet;
 use photo_device::{
-    Change, ChangeFault, Device, Held, HeldSet, NarrowFault, Place, SharedHeld, SharedList,
-    VersionList,
+    Change, ChangeFault, Conflict, Device, Held, HeldSet, NarrowFault, Place, SharedHeld,
+    SharedList, VersionList,
 };
 use photo_filter_rules::Filter;
 use photo_record::{PicNo, Record};
@@ -40,11 +39,12 @@ fn verdict_on_others(alloc: Global, call: &str) -> Option<Verdict> {
         "Device::unknown_by" => on_device(alloc, 2, Call::AskLent),
         "Device::narrow" => on_device(alloc, 2, Call::Narrow),
         "Device::refilter" => on_device(alloc, 2, Call::Refilter),
-        "Device::conflicts" => conflicts(alloc),
+        "Device::conflicts" => questions::verdict(alloc, call),
         "Held::try_clone" => on_device(alloc, 1, Call::CopyHeld),
         "SharedHeld::new" => on_device(alloc, 1, Call::Share),
         "SharedHeld::try_clone" => on_device(alloc, 1, Call::CopyShared),
         "HeldSet::to_list" => on_device(alloc, 2, Call::List),
+        "IssueLog::new" => on_device(alloc, 2, Call::Log),
         _ => None,
     }
 }
@@ -65,6 +65,7 @@ enum Call {
     Share,
     CopyShared,
     List,
+    Log,
     Command,
 }
 
@@ -75,13 +76,23 @@ pub fn verdict_on_command(alloc: Global) -> Option<Verdict> {
 
 // What came of a call on a device that has made so many versions.
 fn on_device(alloc: Global, count: u8, call: Call) -> Option<Verdict> {
-    let mut device = device(alloc, count)?;
-    beside_twin(alloc, &mut device, count, call)
+    let mut made = device(alloc, count);
+    let verdict = match &mut made {
+        Some(device) => beside_twin(alloc, device, count, call),
+        None => None,
+    };
+    drop(made);
+    verdict
 }
 
 fn beside_twin(alloc: Global, device: &mut Device, count: u8, call: Call) -> Option<Verdict> {
-    let twin = self::device(alloc, count)?;
-    on_twins(alloc, device, &twin, call)
+    let made = self::device(alloc, count);
+    let verdict = match &made {
+        Some(twin) => on_twins(alloc, device, twin, call),
+        None => None,
+    };
+    drop(made);
+    verdict
 }
 
 fn on_twins(alloc: Global, device: &mut Device, twin: &Device, call: Call) -> Option<Verdict> {
@@ -105,19 +116,34 @@ fn calls(alloc: Global, device: &mut Device, call: Call) -> Option<bool> {
         Call::StageLent => stages_lent(alloc, device),
         Call::Ask => asks(alloc, device, Call::Ask),
         Call::AskLent => asks(alloc, device, Call::AskLent),
-        Call::CopyHeld => with_first(alloc, device.store(), copies_held),
-        Call::Share => with_first(alloc, device.store(), shares),
-        Call::CopyShared => with_first(alloc, device.store(), copies_shared),
         Call::Command => runs_command(alloc, device),
-        _ => lists(alloc, device.store()),
+        call => calls_of_set(alloc, device.store(), call),
+    }
+}
+
+fn calls_of_set(alloc: Global, set: &HeldSet, call: Call) -> Option<bool> {
+    if set.is_empty() {
+        return Some(false);
+    }
+    match call {
+        Call::CopyHeld => copies_held(alloc, set.get(0)),
+        Call::Share => shares(alloc, set.get(0)),
+        Call::CopyShared => copies_shared(alloc, set.get(0)),
+        Call::Log => logs(alloc, set),
+        _ => lists(alloc, set),
     }
 }
 
 fn copies(alloc: Global, device: &Device) -> Option<bool> {
     mark(alloc);
-    let copy = device.try_clone();
+    let made = device.try_clone();
     mark(alloc);
-    Some(same_device(&copy.ok()?, device))
+    let right = match &made {
+        Ok(copy) => Some(same_device(copy, device)),
+        Err(_) => None,
+    };
+    drop(made);
+    right
 }
 
 fn same_held(one: &HeldSet, other: &HeldSet) -> bool {
@@ -155,39 +181,81 @@ pub fn same_devices(devices: &[Device], others: &[Device]) -> bool {
     true
 }
 
-// Makes a version of each of the first so many pictures, of falling rating.
-fn make_all(alloc: Global, device: &mut Device, count: u8) -> Option<()> {
+// Whether a version of each of the first so many pictures was made, of falling rating.
+fn has_made_all(alloc: Global, device: &mut Device, count: u8) -> bool {
     for n in 0..count {
-        if device.counter() == u32::MAX {
-            return None;
+        if !has_made_one(alloc, device, n) {
+            return false;
         }
-        let content = rated(alloc, 5u8.saturating_sub(n))?;
-        device.make(PicNo::new(u32::from(n) + 1)?, &content).ok()?;
     }
-    Some(())
+    true
 }
 
-fn opened(alloc: Global, text: &str) -> Option<Device> {
-    Device::new(alloc, Author::new(0), filter_of(alloc, text)?).ok()
+fn has_made_one(alloc: Global, device: &mut Device, n: u8) -> bool {
+    let made = rated(alloc, 5u8.saturating_sub(n));
+    let right = match (&made, PicNo::new(u32::from(n) + 1)) {
+        (Some(content), Some(picture)) if device.counter() < u32::MAX => {
+            device.make(picture, content).is_ok()
+        }
+        _ => false,
+    };
+    drop(made);
+    right
+}
+
+fn opened(alloc: Global, author: u16, text: &str) -> Option<Device> {
+    match filter_of(alloc, text) {
+        Some(filter) => Device::new(alloc, Author::new(author), filter).ok(),
+        None => None,
+    }
+}
+
+// A device that keeps what a filter matches, and made so many versions, of the pictures 1 and more.
+fn device_of(alloc: Global, author: u16, text: &str, count: u8) -> Option<Device> {
+    match opened(alloc, author, text) {
+        Some(mut device) => {
+            if has_made_all(alloc, &mut device, count) {
+                return Some(device);
+            }
+            drop(device);
+            None
+        }
+        None => None,
+    }
 }
 
 /// A device that made so many versions, of the pictures 1 and more, and keeps those of a rating of 4 or more.
 pub fn device(alloc: Global, count: u8) -> Option<Device> {
-    let mut device = opened(alloc, "rating >= 4")?;
-    make_all(alloc, &mut device, count)?;
-    Some(device)
+    device_of(alloc, 0, "rating >= 4", count)
 }
 
 fn new(alloc: Global) -> Option<Verdict> {
-    let filter = filter_of(alloc, "rating >= 4")?;
-    let twin = filter_of(alloc, "rating >= 4")?;
+    let made = filter_of(alloc, "rating >= 4");
+    let verdict = match &made {
+        Some(twin) => new_beside(alloc, twin),
+        None => None,
+    };
+    drop(made);
+    verdict
+}
+
+fn new_beside(alloc: Global, twin: &Filter) -> Option<Verdict> {
+    match filter_of(alloc, "rating >= 4") {
+        Some(filter) => Some(new_with(alloc, filter, twin)),
+        None => None,
+    }
+}
+
+fn new_with(alloc: Global, filter: Filter, twin: &Filter) -> Verdict {
     mark(alloc);
-    let device = Device::new(alloc, Author::new(0), filter);
+    let made = Device::new(alloc, Author::new(0), filter);
     mark(alloc);
-    Some(match device {
-        Ok(device) => judged(Some(is_fresh(&device, &twin)), true),
-        Err((filter, _)) => judged(None, same_filter(&filter, &twin)),
-    })
+    let verdict = match &made {
+        Ok(device) => judged(Some(is_fresh(device, twin)), true),
+        Err((filter, _)) => judged(None, same_filter(filter, twin)),
+    };
+    drop(made);
+    verdict
 }
 
 fn is_fresh(device: &Device, filter: &Filter) -> bool {
@@ -219,8 +287,13 @@ pub fn has_made(
 }
 
 fn makes(alloc: Global, device: &mut Device) -> Option<bool> {
-    let content = rated(alloc, 4)?;
-    makes_of(alloc, device, &content)
+    let record = rated(alloc, 4);
+    let right = match &record {
+        Some(content) => makes_of(alloc, device, content),
+        None => None,
+    };
+    drop(record);
+    right
 }
 
 fn makes_of(alloc: Global, device: &mut Device, content: &Record) -> Option<bool> {
@@ -234,8 +307,13 @@ fn makes_of(alloc: Global, device: &mut Device, content: &Record) -> Option<bool
 }
 
 fn edits(alloc: Global, device: &mut Device) -> Option<bool> {
-    let content = rated(alloc, 1)?;
-    edits_to(alloc, device, &content)
+    let record = rated(alloc, 1);
+    let right = match &record {
+        Some(content) => edits_to(alloc, device, content),
+        None => None,
+    };
+    drop(record);
+    right
 }
 
 fn edits_to(alloc: Global, device: &mut Device, content: &Record) -> Option<bool> {
@@ -281,59 +359,73 @@ fn change(alloc: Global) -> Option<Change>
     ensures gain { IfSome result (λ change. (p : ℕ) (v : versions.Version) → 0 < p
         → knows change.gain.known p v ≡ ((7 == p) && denotes ((author 1, 3) ∷ []) v)) }
 {
-    let gain = told(alloc, 7, 3)?;
-    Some(Change {
-        drops: VersionList::new(Vec::new(alloc)),
-        takes: SharedList::new(Vec::new(alloc)),
-        gain,
-    })
+    match told(alloc, 7, 3) {
+        Some(gain) => Some(Change {
+            drops: VersionList::new(Vec::new(alloc)),
+            takes: SharedList::new(Vec::new(alloc)),
+            gain,
+        }),
+        None => None,
+    }
 }
 
 fn stage(alloc: Global, device: &mut Device, twin: &Device) -> Option<Verdict> {
-    let change = change(alloc)?;
-    if device.author().value() != 0 {
-        return None;
+    match change(alloc) {
+        Some(change) => stages(alloc, device, change, twin),
+        None => None,
     }
-    let done = stages(alloc, device, change);
-    let kept = same_device(device, twin);
-    Some(match done {
-        Ok(()) => judged(Some(device.staged()), kept),
-        Err((change, _)) => judged(
-            None,
-            kept && has_nothing_staged(device) && is_change(alloc, &change),
-        ),
-    })
 }
 
-fn stages(alloc: Global, device: &mut Device, change: Change) -> Result<(), (Change, AllocError)>
-    requires zero { device_of_author device.old.author ≡ 0 }
+fn stages(alloc: Global, device: &mut Device, change: Change, twin: &Device) -> Option<Verdict>
     requires drops { change.drops ≡ [] }
     requires takes { change.takes ≡ [] }
     requires gain { (p : ℕ) (v : versions.Version) → 0 < p
         → knows change.gain.known p v ≡ ((7 == p) && denotes ((author 1, 3) ∷ []) v) }
 {
+    if device.author().value() != 0 {
+        drop(change);
+        return None;
+    }
     mark(alloc);
     let done = device.stage(change, 2);
     mark(alloc);
-    done
+    let verdict = match &done {
+        Ok(()) => judged(Some(device.staged()), true),
+        Err((change, _)) => judged(None, is_as_before(device, twin) && is_change(alloc, change)),
+    };
+    drop(done);
+    Some(verdict)
+}
+
+// Whether a device is as its twin, and has nothing staged.
+fn is_as_before(device: &Device, twin: &Device) -> bool {
+    same_device(device, twin) && has_nothing_staged(device)
 }
 
 fn is_change(alloc: Global, change: &Change) -> bool {
-    match told(alloc, 7, 3) {
+    let made = told(alloc, 7, 3);
+    let right = match &made {
         Some(gain) => {
-            change.gain.same(&gain) && change.drops.is_empty() && change.takes.is_empty()
+            change.gain.same(gain) && change.drops.is_empty() && change.takes.is_empty()
         }
         None => false,
-    }
+    };
+    drop(made);
+    right
 }
 
 // Lends a device three versions of another one's, and has it take and give up nothing.
 fn stages_lent(alloc: Global, device: &mut Device) -> Option<bool> {
-    let gain = told(alloc, 7, 3)?;
     if device.author().value() != 0 {
         return None;
     }
-    stages_gain(alloc, device, &gain)
+    let made = told(alloc, 7, 3);
+    let right = match &made {
+        Some(gain) => stages_gain(alloc, device, gain),
+        None => None,
+    };
+    drop(made);
+    right
 }
 
 // None where memory was wanted, nothing is staged, and both lists came back.
@@ -348,48 +440,67 @@ fn stages_gain(alloc: Global, device: &mut Device, gain: &Knowledge) -> Option<b
     mark(alloc);
     let done = device.stage_lent(drops, pictures, takes, gain, 2);
     mark(alloc);
-    match done {
+    let right = match &done {
         Ok(()) => Some(device.staged()),
         Err((drops, takes, _)) => {
-            if !has_nothing_staged(device) || !drops.is_empty() || !takes.is_empty() {
-                return Some(false);
+            if has_nothing_staged(device) && drops.is_empty() && takes.is_empty() {
+                None
+            } else {
+                Some(false)
             }
-            None
         }
-    }
+    };
+    drop(done);
+    right
 }
 
 fn narrow(alloc: Global, device: &mut Device, twin: &Device) -> Option<Verdict> {
-    let filter = filter_of(alloc, "rating >= 5")?;
+    match filter_of(alloc, "rating >= 5") {
+        Some(filter) => Some(narrows(alloc, device, filter, twin)),
+        None => None,
+    }
+}
+
+fn narrows(alloc: Global, device: &mut Device, filter: Filter, twin: &Device) -> Verdict {
     mark(alloc);
     let moved = device.narrow(filter);
     mark(alloc);
-    Some(match moved {
-        Ok(count) => judged(Some(count == 1 && has_moved(device)), true),
-        Err((filter, NarrowFault::NoMemory)) => judged(
-            None,
-            same_device(device, twin) && is_five(alloc, &filter),
-        ),
+    let verdict = match &moved {
+        Ok(count) => judged(Some(*count == 1 && has_moved(device)), true),
+        Err((filter, NarrowFault::NoMemory)) => {
+            judged(None, same_device(device, twin) && is_five(alloc, filter))
+        }
         Err(_) => Verdict::Wrong,
-    })
+    };
+    drop(moved);
+    verdict
+}
+
+fn refilter(alloc: Global, device: &mut Device, twin: &Device) -> Option<Verdict> {
+    match filter_of(alloc, "rating >= 5") {
+        Some(filter) => refilters(alloc, device, filter, twin),
+        None => None,
+    }
 }
 
 // Gives a device in its first epoch a filter that matches the first of its two versions.
-fn refilter(alloc: Global, device: &mut Device, twin: &Device) -> Option<Verdict> {
-    let filter = filter_of(alloc, "rating >= 5")?;
+fn refilters(alloc: Global, device: &mut Device, filter: Filter, twin: &Device) -> Option<Verdict> {
     if device.author().epoch() != 0 {
+        drop(filter);
         return None;
     }
     mark(alloc);
     let sizes = device.refilter(filter);
     mark(alloc);
-    Some(match sizes {
-        Ok(sizes) => judged(Some(sizes == (1, 1) && has_begun_anew(alloc, device)), true),
-        Err((filter, _)) => judged(
-            None,
-            same_device(device, twin) && has_nothing_staged(device) && is_five(alloc, &filter),
+    let verdict = match &sizes {
+        Ok(sizes) => judged(
+            Some(*sizes == (1, 1) && has_begun_anew(alloc, device)),
+            true,
         ),
-    })
+        Err((filter, _)) => judged(None, is_as_before(device, twin) && is_five(alloc, filter)),
+    };
+    drop(sizes);
+    Some(verdict)
 }
 
 // Whether a device is in its second epoch, has made nothing in it, and knows each of its two versions of its picture alone.
@@ -412,92 +523,119 @@ fn has_moved(device: &Device) -> bool {
 }
 
 fn is_five(alloc: Global, filter: &Filter) -> bool {
-    match filter_of(alloc, "rating >= 5") {
-        Some(twin) => same_filter(filter, &twin),
+    let made = filter_of(alloc, "rating >= 5");
+    let right = match &made {
+        Some(twin) => same_filter(filter, twin),
         None => false,
-    }
+    };
+    drop(made);
+    right
 }
 
-fn conflicts(alloc: Global) -> Option<Verdict> {
-    let fleet = divided(alloc)?;
-    conflicts_beside_twin(alloc, &fleet)
-}
-
-fn conflicts_beside_twin(alloc: Global, fleet: &Fleet) -> Option<Verdict> {
-    let twin = divided(alloc)?;
-    finds_or_leaves(alloc, fleet, &twin)
-}
-
-fn finds_or_leaves(alloc: Global, fleet: &Fleet, twin: &Fleet) -> Option<Verdict> {
-    let right = finds_conflicts(alloc, fleet.devices().first()?);
-    Some(judged(right, same_devices(fleet.devices(), twin.devices())))
-}
-
-fn finds_conflicts(alloc: Global, device: &Device) -> Option<bool> {
+/// Whether a device finds that it holds two versions of picture 7, and no other conflict. None where memory was wanted.
+pub fn finds_conflicts(alloc: Global, device: &Device) -> Option<bool> {
     mark(alloc);
     let found = device.conflicts();
     mark(alloc);
-    let found = found.ok()?;
-    match found.as_slice() {
-        [conflict] => Some(conflict.picture.value() == 7 && conflict.versions.len() == 2),
-        _ => Some(false),
-    }
+    let right = match &found {
+        Ok(found) => Some(are_of_seven(found)),
+        Err(_) => None,
+    };
+    drop(found);
+    right
 }
 
-// Makes a call with the first of a set.
-fn with_first<F: FnOnce(Global, &Held) -> Option<bool>>(
-    alloc: Global,
-    set: &HeldSet,
-    call: F,
-) -> Option<bool>
-    requires { F.IsAlwaysCallable call }
-{
-    if set.is_empty() {
-        return Some(false);
+fn are_of_seven(found: &[Conflict]) -> bool {
+    match found {
+        [conflict] => conflict.picture.value() == 7 && conflict.versions.len() == 2,
+        _ => false,
     }
-    call(alloc, set.get(0))
 }
 
 fn copies_held(alloc: Global, held: &Held) -> Option<bool> {
     mark(alloc);
-    let copy = held.try_clone();
+    let made = held.try_clone();
     mark(alloc);
-    Some(copy.ok()? == *held)
+    let right = match &made {
+        Ok(copy) => Some(*copy == *held),
+        Err(_) => None,
+    };
+    drop(made);
+    right
 }
 
 fn shares(alloc: Global, held: &Held) -> Option<bool> {
-    let copy = held.try_clone().ok()?;
+    match held.try_clone() {
+        Ok(copy) => shares_copy(alloc, copy, held),
+        Err(_) => None,
+    }
+}
+
+fn shares_copy(alloc: Global, copy: Held, held: &Held) -> Option<bool> {
     mark(alloc);
-    let shared = SharedHeld::new(alloc, copy);
+    let made = SharedHeld::new(alloc, copy);
     mark(alloc);
-    Some(shared.ok()?.as_held() == held)
+    let right = is_shared(&made, held);
+    drop(made);
+    right
+}
+
+// Whether what was made is that version. None where memory was wanted.
+fn is_shared(made: &Result<SharedHeld, AllocError>, held: &Held) -> Option<bool> {
+    match made {
+        Ok(shared) => Some(shared.as_held() == held),
+        Err(_) => None,
+    }
 }
 
 fn copies_shared(alloc: Global, held: &Held) -> Option<bool> {
-    let shared = SharedHeld::new(alloc, held.try_clone().ok()?).ok()?;
+    match held.try_clone() {
+        Ok(copy) => copies_shared_copy(alloc, copy, held),
+        Err(_) => None,
+    }
+}
+
+fn copies_shared_copy(alloc: Global, copy: Held, held: &Held) -> Option<bool> {
+    let shared = SharedHeld::new(alloc, copy);
+    let right = match &shared {
+        Ok(shared) => copies_of_shared(alloc, shared, held),
+        Err(_) => None,
+    };
+    drop(shared);
+    right
+}
+
+fn copies_of_shared(alloc: Global, shared: &SharedHeld, held: &Held) -> Option<bool> {
     mark(alloc);
-    let copy = shared.try_clone();
+    let made = shared.try_clone();
     mark(alloc);
-    Some(copy.ok()?.as_held() == held)
+    let right = is_shared(&made, held);
+    drop(made);
+    right
 }
 
 fn lists(alloc: Global, set: &HeldSet) -> Option<bool> {
     mark(alloc);
-    let list = set.to_list();
+    let made = set.to_list();
     mark(alloc);
-    let list = list.ok()?;
-    Some(
-        list.len() == 2
-            && set.len() == 2
-            && list.get(0).as_held() == set.get(0)
-            && list.get(1).as_held() == set.get(1),
-    )
+    let right = match &made {
+        Ok(list) => Some(set.len() == 2 && are_those_of(list.as_slice(), set)),
+        Err(_) => None,
+    };
+    drop(made);
+    right
 }
 
 // Asks a device for what it doesn't know of another one's store.
 fn asks(alloc: Global, device: &mut Device, call: Call) -> Option<bool> {
-    let other = other(alloc)?;
-    asks_for(alloc, device, &other, call)
+    // Another device, which has made two versions.
+    let made = device_of(alloc, 1, "all", 2);
+    let right = match &made {
+        Some(other) => asks_for(alloc, device, other, call),
+        None => None,
+    };
+    drop(made);
+    right
 }
 
 fn asks_for(alloc: Global, device: &mut Device, other: &Device, call: Call) -> Option<bool> {
@@ -507,29 +645,30 @@ fn asks_for(alloc: Global, device: &mut Device, other: &Device, call: Call) -> O
     }
 }
 
-// Another device, which has made two versions.
-fn other(alloc: Global) -> Option<Device> {
-    let mut other = Device::new(alloc, Author::new(1), filter_of(alloc, "all")?).ok()?;
-    match make_all(alloc, &mut other, 2) {
-        Some(()) => Some(other),
-        None => None,
-    }
-}
-
 fn asks_of(alloc: Global, device: &mut Device, set: &HeldSet) -> Option<bool> {
     mark(alloc);
     let found = device.unknown_of(alloc, set);
     mark(alloc);
-    let found = found.ok()?;
-    Some(are_those_of(&found, set))
+    let right = is_all_of(&found, set);
+    drop(found);
+    right
 }
 
 fn asks_lent(alloc: Global, device: &Device, set: &HeldSet) -> Option<bool> {
     mark(alloc);
     let found = device.unknown_by(alloc, set);
     mark(alloc);
-    let found = found.ok()?;
-    Some(are_those_of(&found, set))
+    let right = is_all_of(&found, set);
+    drop(found);
+    right
+}
+
+// Whether what was found is all of a set. None where memory was wanted.
+fn is_all_of(found: &Result<Vec<SharedHeld>, AllocError>, set: &HeldSet) -> Option<bool> {
+    match found {
+        Ok(found) => Some(are_those_of(found, set)),
+        Err(_) => None,
+    }
 }
 
 fn are_those_of(found: &[SharedHeld], set: &HeldSet) -> bool {

@@ -1,6 +1,7 @@
 //! A command of a run by a worker, between the two calls of the run's gate.
 use crate::runs::is_run;
-use crate::scripts::{FOUR_DEVICES, is_four, script_of};
+use crate::scripts::is_four;
+use crate::streams::shared_script;
 use fleet_runner::{Gate, Workers, run_fleet};
 use photo_script::{Script, Totals};
 use std::alloc::Global;
@@ -37,10 +38,24 @@ impl Gate for Marks {
 
 /// What came of `run_fleet` with one worker, where the requests are counted that one of its commands makes.
 pub fn verdict<R: Threads + Wait + Copy + Send + 'static>(rt: R, alloc: Global) -> Option<Verdict> {
-    let script = Arc::new(alloc, script_of(alloc, FOUR_DEVICES)?).ok()?;
+    match shared_script(alloc) {
+        Some(script) => {
+            let verdict = verdict_on(rt, alloc, &script);
+            drop(script);
+            verdict
+        }
+        None => None,
+    }
+}
+
+fn verdict_on<R: Threads + Wait + Copy + Send + 'static>(
+    rt: R,
+    alloc: Global,
+    script: &Arc<Script>,
+) -> Option<Verdict> {
     let gate = Arc::new(alloc, Marks { alloc }).ok()?;
-    let right = runs(rt, alloc, &script, gate);
-    Some(judged(right, is_four(&*script)))
+    let right = runs(rt, alloc, script, gate);
+    Some(judged(right, is_four(&**script)))
 }
 
 fn runs<R: Threads + Wait + Copy + Send + 'static>(

@@ -1,37 +1,48 @@
-//! The calls of `photo_batcher`.
+//! The calls of `photo_batcher`, and of what writes a plan.
 ghost use Rattle.std.specs.Prelude.{◌≡◌, ◌≤◌, ◌<◌, length};
 
-use crate::scripts::{FOUR_DEVICES, is_four, script_of};
+use crate::scripts::unless_changed;
+use crate::streams;
 use photo_batcher::{Plan, lawful, plan};
 use photo_script::Script;
-use std::alloc::Global;
-use value_refusals::{Verdict, judged, mark};
+use std::alloc::{AllocError, Global};
+use value_refusals::mark;
 
 /// An order that gives the run of the script of four devices.
 pub const LAWFUL: &[u32] = &[2, 1, 4, 3, 6, 5, 7];
 
-/// What came of a call of `photo_batcher`.
-pub fn verdict(alloc: Global, call: &str) -> Option<Verdict> {
+/// Whether a call on the script of four devices gives the right answer: None where no call has the name, and within where
+/// memory was wanted.
+pub fn calls_on_script(alloc: Global, script: &Script, call: &str) -> Option<Option<bool>> {
     match call {
-        "plan" => on_script(alloc, true),
-        "lawful" => on_script(alloc, false),
-        "Plan::chain_of" => chain(alloc),
+        "plan" => Some(plans(alloc, script)),
+        "lawful" => Some(judges_order(alloc, script)),
+        "Plan::chain_of" => calls_on_plan(alloc, script, call),
         _ => None,
     }
 }
 
-fn on_script(alloc: Global, is_plan: bool) -> Option<Verdict> {
-    let script = script_of(alloc, FOUR_DEVICES)?;
-    let right = if is_plan {
-        plans(alloc, &script)
-    } else {
-        judges_order(alloc, &script)
+/// The same of a call on its plan.
+pub fn calls_on_plan(alloc: Global, script: &Script, call: &str) -> Option<Option<bool>> {
+    let made = plan(alloc, script);
+    let right = match &made {
+        Ok(plan) => Some(calls_of(alloc, plan, call)),
+        Err(_) => None,
     };
-    Some(judged(right, is_four(&script)))
+    drop(made);
+    right
 }
 
-/// Whether it is the plan of the script of four devices.
-pub fn is_planned(plan: &Plan) -> bool {
+fn calls_of(alloc: Global, plan: &Plan, call: &str) -> Option<bool> {
+    let right = match call {
+        "Plan::chain_of" => follows(alloc, plan),
+        _ => streams::writes_out_plan(alloc, plan),
+    };
+    unless_changed(right, is_planned(plan))
+}
+
+// Whether it is the plan of the script of four devices.
+fn is_planned(plan: &Plan) -> bool {
     plan.commands() == 7
         && plan.batches() == 4
         && plan.members(0) == [1, 2].as_slice()
@@ -42,9 +53,14 @@ pub fn is_planned(plan: &Plan) -> bool {
 
 fn plans(alloc: Global, script: &Script) -> Option<bool> {
     mark(alloc);
-    let plan = plan(alloc, script);
+    let made = plan(alloc, script);
     mark(alloc);
-    Some(is_planned(&plan.ok()?))
+    let right = match &made {
+        Ok(plan) => Some(is_planned(plan)),
+        Err(_) => None,
+    };
+    drop(made);
+    right
 }
 
 fn judges_order(alloc: Global, script: &Script) -> Option<bool> {
@@ -54,18 +70,6 @@ fn judges_order(alloc: Global, script: &Script) -> Option<bool> {
     answer.ok()
 }
 
-/// The plan of the script of four devices.
-pub fn four_planned(alloc: Global) -> Option<Plan> {
-    let script = script_of(alloc, FOUR_DEVICES)?;
-    plan(alloc, &script).ok()
-}
-
-fn chain(alloc: Global) -> Option<Verdict> {
-    let plan = four_planned(alloc)?;
-    let right = follows(alloc, &plan);
-    Some(judged(right, is_planned(&plan)))
-}
-
 fn follows(alloc: Global, plan: &Plan) -> Option<bool> {
     if plan.commands() != 7 {
         return Some(false);
@@ -73,5 +77,14 @@ fn follows(alloc: Global, plan: &Plan) -> Option<bool> {
     mark(alloc);
     let chain = plan.chain_of(alloc, 7);
     mark(alloc);
-    Some(chain.ok()?.as_slice() == [1, 3, 6, 7].as_slice())
+    let right = is_chain(&chain);
+    drop(chain);
+    right
+}
+
+fn is_chain(chain: &Result<Vec<u32>, AllocError>) -> Option<bool> {
+    match chain {
+        Ok(chain) => Some(chain.as_slice() == [1, 3, 6, 7].as_slice()),
+        Err(_) => None,
+    }
 }

@@ -5,24 +5,34 @@ ghost use Rattle.photo_version.specs.Author.{epoch_of_author};
 ghost use Rattle.fleet_steps.specs.Between.{AreReady, HaveRoom, MayPull};
 
 use crate::devices::same_devices;
-use fleet_steps::{run_between, run_on, run_plain, run_pull};
+use fleet_steps::{Outcome, run_between, run_on, run_plain, run_pull};
 use photo_device::Device;
 use photo_pull::{PullCounts, preview, pull};
-use photo_script::{Command, Report, read_script};
+use photo_script::{Command, Report, Script, read_script};
 use std::alloc::Global;
 use value_refusals::{Verdict, judged, mark};
 
 /// What came of a pull.
 pub fn verdict(alloc: Global, call: Call) -> Option<Verdict> {
-    let mut devices = devices_before(alloc)?;
-    beside_twins(alloc, devices.as_mut_slice(), call)
+    let mut made = before(alloc);
+    let verdict = match &mut made {
+        Some(outcome) => beside_twins(alloc, outcome.devices.as_mut_slice(), call),
+        None => None,
+    };
+    drop(made);
+    verdict
 }
 
 fn beside_twins(alloc: Global, devices: &mut [Device], call: Call) -> Option<Verdict>
     requires ready { AreReady devices.old }
 {
-    let twins = devices_before(alloc)?;
-    Some(on_twins(alloc, devices, twins.as_slice(), call))
+    let made = before(alloc);
+    let verdict = match &made {
+        Some(twin) => Some(on_twins(alloc, devices, twin.devices.as_slice(), call)),
+        None => None,
+    };
+    drop(made);
+    verdict
 }
 
 fn on_twins(alloc: Global, devices: &mut [Device], twins: &[Device], call: Call) -> Verdict
@@ -59,17 +69,29 @@ pub enum Call {
 const BEFORE: &str =
     "device cam rating >= 4\ndevice srv all\ndevice tab all\nnew cam 7 5 2024-01-01 -\npull tab cam\nedit cam 7 1 2024-01-01 -\npull srv cam\nedit tab 7 4 2024-01-01 -\npull cam tab\nedit cam 7 5 2024-01-01 -\n";
 
-// The devices before `srv` pulls from `cam`.
-#[tactic(auto, using(crate::proofs::Ready::ready_after))]
-fn devices_before(alloc: Global) -> Option<Vec<Device>>
-    ensures { IfSome result (λ devices. AreReady devices.items) }
+// What comes of that script, before `srv` pulls from `cam`.
+fn before(alloc: Global) -> Option<Outcome>
+    ensures { IfSome result (λ outcome. AreReady outcome.devices.items) }
 {
-    let script = read_script(alloc, BEFORE.as_bytes()).ok()?;
+    match read_script(alloc, BEFORE.as_bytes()) {
+        Ok(script) => {
+            let outcome = run_before(alloc, &script);
+            drop(script);
+            outcome
+        }
+        Err(_) => None,
+    }
+}
+
+#[tactic(auto, using(crate::proofs::Ready::ready_after))]
+fn run_before(alloc: Global, script: &Script) -> Option<Outcome>
+    ensures { IfSome result (λ outcome. AreReady outcome.devices.items) }
+{
     // For their facts alone: what is true of every script.
     let _devices = script.devices();
     let _commands = script.commands();
-    match run_plain(alloc, &script) {
-        Ok(outcome) => Some(outcome.devices),
+    match run_plain(alloc, script) {
+        Ok(outcome) => Some(outcome),
         Err(_) => None,
     }
 }
@@ -195,7 +217,12 @@ fn runs_pull(alloc: Global, target: &mut Device, source: &mut Device) -> Option<
     mark(alloc);
     let report = run_pull(alloc, target, source);
     mark(alloc);
-    Some(is_told(&report.ok()?) && has_taken(target))
+    let right = match &report {
+        Ok(report) => Some(is_told(report) && has_taken(target)),
+        Err(_) => None,
+    };
+    drop(report);
+    right
 }
 
 // Whether a preview's command tells what the pull would count.
@@ -209,8 +236,12 @@ fn runs_between(alloc: Global, target: &mut Device, source: &mut Device) -> Opti
     mark(alloc);
     let report = run_between(alloc, &command, target, source);
     mark(alloc);
-    match report.ok()? {
-        Report::Preview(counts) => Some(counts == COUNTS && !has_taken(target)),
-        _ => Some(false),
-    }
+    let right = match &report {
+        Ok(Report::Preview(counts)) => Some(*counts == COUNTS && !has_taken(target)),
+        Ok(_) => Some(false),
+        Err(_) => None,
+    };
+    drop(report);
+    drop(command);
+    right
 }

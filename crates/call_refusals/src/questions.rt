@@ -1,23 +1,35 @@
 //! The calls of `fleet_questions`.
-use crate::fleets::{divided, same_fleet};
+use crate::devices::finds_conflicts;
+use crate::fleets::{Start, begun, same_fleet};
 use fleet_questions::{audited, holding, knowing, lacking, pull_moves, selected};
 use live_fleet::Fleet;
 use photo_device::Device;
+use photo_filter_rules::Filter;
 use photo_record::PicNo;
-use std::alloc::Global;
+use std::alloc::{AllocError, Global};
 use value_refusals::{Verdict, filter_of, judged, mark};
 
-/// What came of a call of `fleet_questions`, on two devices, the first of which holds two versions of picture 7 and the second one
-/// of them.
+/// What came of a call of `fleet_questions`, or of `Device::conflicts`, on two devices, the first of which holds two versions of
+/// picture 7 and the second one of them.
 pub fn verdict(alloc: Global, call: &str) -> Option<Verdict> {
-    let fleet = divided(alloc)?;
-    let right = asks(alloc, &fleet, call)?;
-    beside_twin(alloc, &fleet, right)
+    let made = begun(alloc, Start::Divided);
+    let verdict = match &made {
+        Some(fleet) => beside_twin(alloc, fleet, call),
+        None => None,
+    };
+    drop(made);
+    verdict
 }
 
-fn beside_twin(alloc: Global, fleet: &Fleet, right: Option<bool>) -> Option<Verdict> {
-    let twin = divided(alloc)?;
-    Some(judged(right, same_fleet(fleet, &twin)))
+fn beside_twin(alloc: Global, fleet: &Fleet, call: &str) -> Option<Verdict> {
+    let right = asks(alloc, fleet, call)?;
+    let made = begun(alloc, Start::Divided);
+    let verdict = match &made {
+        Some(twin) => Some(judged(right, same_fleet(fleet, twin))),
+        None => None,
+    };
+    drop(made);
+    verdict
 }
 
 // Whether the answer is the right one: None where no call has the name, and within where memory was wanted.
@@ -26,6 +38,7 @@ fn asks(alloc: Global, fleet: &Fleet, call: &str) -> Option<Option<bool>> {
         return None;
     };
     match call {
+        "Device::conflicts" => Some(finds_conflicts(alloc, first)),
         "selected" => Some(selects(alloc, first)),
         "pull_moves" => Some(moves(alloc, second, first)),
         "audited" => Some(audits(alloc, fleet)),
@@ -44,19 +57,37 @@ fn of_picture(alloc: Global, fleet: &Fleet, call: &str) -> Option<Option<bool>> 
 }
 
 fn selects(alloc: Global, device: &Device) -> Option<bool> {
-    let filter = filter_of(alloc, "rating >= 4")?;
+    let made = filter_of(alloc, "rating >= 4");
+    let right = match &made {
+        Some(filter) => selects_by(alloc, device, filter),
+        None => None,
+    };
+    drop(made);
+    right
+}
+
+fn selects_by(alloc: Global, device: &Device, filter: &Filter) -> Option<bool> {
     mark(alloc);
-    let found = selected(alloc, device, &filter);
+    let found = selected(alloc, device, filter);
     mark(alloc);
-    Some(found.ok()?.len() == 2)
+    let right = match &found {
+        Ok(found) => Some(found.len() == 2),
+        Err(_) => None,
+    };
+    drop(found);
+    right
 }
 
 fn moves(alloc: Global, target: &Device, source: &Device) -> Option<bool> {
     mark(alloc);
     let moves = pull_moves(alloc, target, source);
     mark(alloc);
-    let moves = moves.ok()?;
-    Some(moves.taken.len() == 1 && moves.handed.is_empty())
+    let right = match &moves {
+        Ok(moves) => Some(moves.taken.len() == 1 && moves.handed.is_empty()),
+        Err(_) => None,
+    };
+    drop(moves);
+    right
 }
 
 fn audits(alloc: Global, fleet: &Fleet) -> Option<bool> {
@@ -70,23 +101,29 @@ fn holds(alloc: Global, fleet: &Fleet, picture: PicNo) -> Option<bool> {
     mark(alloc);
     let numbers = holding(alloc, fleet, picture);
     mark(alloc);
-    Some(are_both(&numbers.ok()?))
+    are_both(numbers)
 }
 
 fn knows(alloc: Global, fleet: &Fleet, picture: PicNo) -> Option<bool> {
     mark(alloc);
     let numbers = knowing(alloc, fleet, picture);
     mark(alloc);
-    Some(are_both(&numbers.ok()?))
+    are_both(numbers)
 }
 
 fn lacks(alloc: Global, fleet: &Fleet, picture: PicNo) -> Option<bool> {
     mark(alloc);
     let numbers = lacking(alloc, fleet, picture);
     mark(alloc);
-    Some(are_both(&numbers.ok()?))
+    are_both(numbers)
 }
 
-fn are_both(numbers: &[u16]) -> bool {
-    numbers.len() == 2 && numbers[0] == 0 && numbers[1] == 1
+// Whether they are the numbers of both devices. None where memory was wanted.
+fn are_both(numbers: Result<Vec<u16>, AllocError>) -> Option<bool> {
+    let right = match &numbers {
+        Ok(numbers) => Some(numbers.as_slice() == [0, 1].as_slice()),
+        Err(_) => None,
+    };
+    drop(numbers);
+    right
 }

@@ -1,15 +1,14 @@
 //! The calls of `fleet_steps` but those on one command.
-use crate::devices::{device, has_made, same_device, same_devices};
+use crate::devices::{has_made, same_device, same_devices};
 use crate::plans::LAWFUL;
-use crate::scripts::{FOUR_DEVICES, is_four, script_of};
-use crate::{devices, pulls};
+use crate::{devices, pulls, scripts};
 use fleet_steps::{
     IssueLog, Outcome, RunError, no_reports, opening_device, opening_devices, replay, run_command,
     run_plain,
 };
-use photo_device::{Device, Held, Place};
+use photo_device::{Device, Held, HeldSet, Place, SharedList};
 use photo_pull::PullCounts;
-use photo_record::PicNo;
+use photo_record::{PicNo, Record};
 use photo_script::{Command, Report, Script, Totals};
 use std::alloc::Global;
 use value_refusals::{Verdict, judged, mark, rated};
@@ -21,67 +20,81 @@ pub fn verdict(alloc: Global, call: &str) -> Option<Verdict> {
         "run_pull" => pulls::verdict(alloc, pulls::Call::RunPull),
         "run_between" => pulls::verdict(alloc, pulls::Call::RunBetween),
         "run_on" => pulls::verdict(alloc, pulls::Call::RunOn),
-        "IssueLog::new" => log(alloc),
+        "IssueLog::new" => devices::verdict(alloc, call),
         "no_reports" => Some(judged(makes_reports(alloc), true)),
-        _ => verdict_on_scripts(alloc, call),
+        _ => scripts::verdict(alloc, "fleet_steps", call),
     }
 }
 
-fn verdict_on_scripts(alloc: Global, call: &str) -> Option<Verdict> {
-    let script = script_of(alloc, FOUR_DEVICES)?;
-    let right = match call {
-        "opening_devices" => opens(alloc, &script),
-        "opening_device" => opens_one(alloc, &script),
-        "run_plain" => runs(alloc, &script),
-        "replay" => replays(alloc, &script),
-        _ => return None,
-    };
-    Some(judged(right, is_four(&script)))
+/// Whether a call on the script of four devices gives the right answer: None where no call has the name, and within where
+/// memory was wanted.
+pub fn calls_on_script(alloc: Global, script: &Script, call: &str) -> Option<Option<bool>> {
+    match call {
+        "opening_devices" => Some(opens(alloc, script)),
+        "opening_device" => Some(opens_one(alloc, script)),
+        "run_plain" => Some(runs(alloc, script)),
+        "replay" => Some(replays(alloc, script)),
+        _ => None,
+    }
 }
 
 /// Whether a device of two versions edits one of its pictures. None where memory was wanted.
 pub fn runs_command(alloc: Global, device: &mut Device) -> Option<bool> {
-    let (picture, record) = (PicNo::new(1)?, rated(alloc, 1)?);
+    let picture = PicNo::new(1)?;
+    match rated(alloc, 1) {
+        Some(record) => edits(alloc, device, picture, record),
+        None => None,
+    }
+}
+
+fn edits(alloc: Global, device: &mut Device, picture: PicNo, record: Record) -> Option<bool> {
     let command = Command::Edit {
         device: 0,
         picture,
         record,
     };
     if device.counter() != 2 || device.author().epoch() != 0 {
+        drop(command);
         return Some(false);
     }
     mark(alloc);
     let report = run_command(alloc, &command, device);
     mark(alloc);
-    match report.ok()? {
-        Report::Made { version, place } => {
-            Some(has_made(device, (version, place), 3, picture, Place::Out))
+    let right = match &report {
+        Ok(Report::Made { version, place }) => {
+            Some(has_made(device, (*version, *place), 3, picture, Place::Out))
         }
-        _ => Some(false),
+        Ok(_) => Some(false),
+        Err(_) => None,
+    };
+    drop(report);
+    drop(command);
+    right
+}
+
+/// Whether a log has all of a set of two. None where memory was wanted.
+pub fn logs(alloc: Global, set: &HeldSet) -> Option<bool> {
+    match set.to_list() {
+        Ok(list) => logs_list(alloc, list, set),
+        Err(_) => None,
     }
 }
 
-fn log(alloc: Global) -> Option<Verdict> {
-    let device = device(alloc, 2)?;
-    log_of(alloc, &device)
+fn logs_list(alloc: Global, list: SharedList, set: &HeldSet) -> Option<bool> {
+    let issued = list.into_vec();
+    mark(alloc);
+    let made = IssueLog::new(alloc, issued);
+    mark(alloc);
+    let right = match &made {
+        Ok(log) => Some(has_two(log, set)),
+        Err(_) => None,
+    };
+    drop(made);
+    right
 }
 
-fn log_of(alloc: Global, device: &Device) -> Option<Verdict> {
-    let issued = device.store().to_list().ok()?.into_vec();
-    mark(alloc);
-    let log = IssueLog::new(alloc, issued);
-    mark(alloc);
-    Some(match log {
-        Ok(log) => judged(Some(has_two(&log, device)), true),
-        Err(_) => Verdict::Refused,
-    })
-}
-
-fn has_two(log: &IssueLog, device: &Device) -> bool {
-    log.len() == 2
-        && device.store().len() == 2
-        && is_at(log, 0, device.store().get(0))
-        && is_at(log, 1, device.store().get(1))
+fn has_two(log: &IssueLog, set: &HeldSet) -> bool {
+    log.len() == 2 && set.len() == 2 && is_at(log, 0, set.get(0)) && is_at(log, 1, set.get(1))
 }
 
 fn is_at(log: &IssueLog, place: usize, held: &Held) -> bool {
@@ -90,15 +103,24 @@ fn is_at(log: &IssueLog, place: usize, held: &Held) -> bool {
 
 fn opens(alloc: Global, script: &Script) -> Option<bool> {
     mark(alloc);
-    let devices = opening_devices(alloc, script);
+    let made = opening_devices(alloc, script);
     mark(alloc);
-    let devices = devices.ok()?;
-    are_opened(alloc, devices.as_slice(), script)
+    let right = match &made {
+        Ok(devices) => are_opened(alloc, devices, script),
+        Err(_) => None,
+    };
+    drop(made);
+    right
 }
 
 fn are_opened(alloc: Global, devices: &[Device], script: &Script) -> Option<bool> {
-    let twins = opening_devices(alloc, script).ok()?;
-    Some(devices.len() == 4 && same_devices(devices, twins.as_slice()))
+    let made = opening_devices(alloc, script);
+    let right = match &made {
+        Ok(twins) => Some(devices.len() == 4 && same_devices(devices, twins)),
+        Err(_) => None,
+    };
+    drop(made);
+    right
 }
 
 fn opens_one(alloc: Global, script: &Script) -> Option<bool> {
@@ -106,38 +128,58 @@ fn opens_one(alloc: Global, script: &Script) -> Option<bool> {
         return Some(false);
     }
     mark(alloc);
-    let device = opening_device(alloc, 3, script.filter(3));
+    let made = opening_device(alloc, 3, script.filter(3));
     mark(alloc);
-    let device = device.ok()?;
-    is_fourth(alloc, &device, script)
+    let right = match &made {
+        Ok(device) => is_fourth(alloc, device, script),
+        Err(_) => None,
+    };
+    drop(made);
+    right
 }
 
 fn is_fourth(alloc: Global, device: &Device, script: &Script) -> Option<bool> {
-    let devices = opening_devices(alloc, script).ok()?;
-    Some(devices.len() == 4 && same_device(device, &devices[3]))
+    let made = opening_devices(alloc, script);
+    let right = match &made {
+        Ok(devices) => Some(devices.len() == 4 && same_device(device, &devices[3])),
+        Err(_) => None,
+    };
+    drop(made);
+    right
 }
 
 fn makes_reports(alloc: Global) -> Option<bool> {
     mark(alloc);
-    let reports = no_reports(alloc, 70);
+    let made = no_reports(alloc, 70);
     mark(alloc);
-    let reports = reports.ok()?;
-    Some(
-        reports.len() == 70
-            && matches!(
-                (&reports[0], &reports[69]),
-                (Report::NotHeld, Report::NotHeld)
-            ),
-    )
+    let right = match &made {
+        Ok(reports) => Some(are_seventy(reports)),
+        Err(_) => None,
+    };
+    drop(made);
+    right
+}
+
+fn are_seventy(reports: &[Report]) -> bool {
+    reports.len() == 70 && is_not_held(&reports[0]) && is_not_held(&reports[69])
+}
+
+fn is_not_held(report: &Report) -> bool {
+    match report {
+        Report::NotHeld => true,
+        _ => false,
+    }
 }
 
 /// The right answer for a run of the script of four devices. None where memory was wanted.
 pub fn is_run(outcome: Result<Outcome, RunError>) -> Option<bool> {
-    match outcome {
-        Ok(outcome) => Some(is_outcome(&outcome)),
+    let right = match &outcome {
+        Ok(outcome) => Some(is_outcome(outcome)),
         Err(RunError::NoMemory) => None,
         Err(_) => Some(false),
-    }
+    };
+    drop(outcome);
+    right
 }
 
 const TOTALS: Totals = Totals {

@@ -1,99 +1,162 @@
 //! The calls of `fleet_session`.
-use crate::fleets::same_fleet;
-use crate::scripts::{FOUR_DEVICES, is_four, script_of};
+use crate::fleets::{same_fleet, two_filters};
+use crate::scripts::script_of;
 use fleet_session::{FleetFault, Session};
+use photo_filter_rules::Filter;
 use photo_record::{PicNo, Record};
 use photo_script::{Command, Script};
 use std::alloc::Global;
 use value_refusals::{Verdict, filter_of, judged, mark, rated};
 
-/// What came of a call of `fleet_session`.
+/// What came of a call of `fleet_session` that needs no script.
 pub fn verdict(alloc: Global, call: &str) -> Option<Verdict> {
     match call {
         "Session::new" => new(alloc),
-        "Session::of_script" => of_script(alloc),
         _ => on_session(alloc, call),
     }
 }
 
 // Two devices that keep all, and have made nothing.
 fn opened(alloc: Global) -> Option<Session> {
-    let filters = [filter_of(alloc, "all")?, filter_of(alloc, "all")?];
-    Session::new(alloc, &filters).ok()
+    let made = two_filters(alloc, "all");
+    let session = match &made {
+        Some(filters) => Session::new(alloc, filters).ok(),
+        None => None,
+    };
+    drop(made);
+    session
 }
 
-// The same, of which the first has made picture 7, with a script of as many devices.
+// The same, of which the first has made picture 7.
 fn begun(alloc: Global) -> Option<Session> {
-    let mut session = opened(alloc)?;
-    begin(alloc, &mut session)?;
-    Some(session)
+    match opened(alloc) {
+        Some(mut session) => {
+            if begin(alloc, &mut session) {
+                return Some(session);
+            }
+            drop(session);
+            None
+        }
+        None => None,
+    }
 }
 
-fn begin(alloc: Global, session: &mut Session) -> Option<()> {
-    session.make(0, PicNo::new(7)?, &rated(alloc, 4)?).ok()?;
-    Some(())
+fn begin(alloc: Global, session: &mut Session) -> bool {
+    let record = rated(alloc, 4);
+    let done = match (&record, PicNo::new(7)) {
+        (Some(content), Some(picture)) => session.make(0, picture, content).is_ok(),
+        _ => false,
+    };
+    drop(record);
+    done
 }
 
 fn new(alloc: Global) -> Option<Verdict> {
-    let filters = [filter_of(alloc, "all")?, filter_of(alloc, "rating >= 4")?];
+    let made = two_filters(alloc, "rating >= 4");
+    let verdict = match &made {
+        Some(filters) => Some(new_with(alloc, filters)),
+        None => None,
+    };
+    drop(made);
+    verdict
+}
+
+fn new_with(alloc: Global, filters: &[Filter; 2]) -> Verdict {
     mark(alloc);
-    let session = Session::new(alloc, &filters);
+    let made = Session::new(alloc, filters);
     mark(alloc);
-    Some(match session {
+    let verdict = match &made {
         Ok(session) => judged(Some(session.fleet().devices().len() == 2), true),
         Err(fault) => judged(
             None,
-            fault == FleetFault::NoMemory && filters[1].alternatives() == 1,
+            *fault == FleetFault::NoMemory && filters[1].alternatives() == 1,
         ),
-    })
+    };
+    drop(made);
+    verdict
 }
 
-fn of_script(alloc: Global) -> Option<Verdict> {
-    let script = script_of(alloc, FOUR_DEVICES)?;
+/// Whether a call on the script of four devices gives the right answer: None where no call has the name, and within where
+/// memory was wanted.
+pub fn calls_on_script(alloc: Global, script: &Script, call: &str) -> Option<Option<bool>> {
+    match call {
+        "Session::of_script" => Some(takes_devices(alloc, script)),
+        _ => None,
+    }
+}
+
+fn takes_devices(alloc: Global, script: &Script) -> Option<bool> {
     mark(alloc);
-    let session = Session::of_script(alloc, &script);
+    let made = Session::of_script(alloc, script);
     mark(alloc);
-    Some(match session {
-        Ok(session) => judged(Some(session.fleet().devices().len() == 4), true),
-        Err(_) => judged(None, is_four(&script)),
-    })
+    let right = match &made {
+        Ok(session) => Some(session.fleet().devices().len() == 4),
+        Err(_) => None,
+    };
+    drop(made);
+    right
 }
 
 fn on_session(alloc: Global, call: &str) -> Option<Verdict> {
-    let mut session = begun(alloc)?;
-    let right = calls(alloc, &mut session, call)?;
-    beside_twin(alloc, &session, right)
+    let mut made = begun(alloc);
+    let verdict = match &mut made {
+        Some(session) => beside_twin(alloc, session, call),
+        None => None,
+    };
+    drop(made);
+    verdict
 }
 
-fn beside_twin(alloc: Global, session: &Session, right: Option<bool>) -> Option<Verdict> {
-    let twin = begun(alloc)?;
-    Some(judged(right, same_session(session, &twin)))
-}
-
-fn same_session(one: &Session, other: &Session) -> bool {
-    same_fleet(one.fleet(), other.fleet())
+fn beside_twin(alloc: Global, session: &mut Session, call: &str) -> Option<Verdict> {
+    let right = calls(alloc, session, call)?;
+    let made = begun(alloc);
+    let verdict = match &made {
+        Some(twin) => Some(judged(right, same_fleet(session.fleet(), twin.fleet()))),
+        None => None,
+    };
+    drop(made);
+    verdict
 }
 
 // Whether the answer is the right one: None where no call has the name, and within where memory was wanted.
 fn calls(alloc: Global, session: &mut Session, call: &str) -> Option<Option<bool>> {
     match call {
         "Session::run" => Some(runs(alloc, session)),
-        "Session::make" => Some(makes(alloc, session)),
-        "Session::edit" => Some(edits(alloc, session)),
         "Session::remove" => Some(removes(alloc, session)),
         "Session::pull" => Some(pulls(alloc, session)),
-        _ => other_calls(alloc, session, call),
+        "Session::preview" => Some(previews(alloc, session)),
+        "Session::run_number" => Some(runs_number(alloc, session)),
+        "Session::try_clone" => Some(copies(alloc, session)),
+        _ => calls_with(alloc, session, call),
     }
 }
 
-fn other_calls(alloc: Global, session: &mut Session, call: &str) -> Option<Option<bool>> {
+// Those that are lent a record or a filter.
+fn calls_with(alloc: Global, session: &mut Session, call: &str) -> Option<Option<bool>> {
+    let record = rated(alloc, 3);
+    let filter = filter_of(alloc, "rating >= 5");
+    let right = match (&record, &filter) {
+        (Some(content), Some(filter)) => calls_lent(alloc, session, content, filter, call),
+        _ => None,
+    };
+    drop(record);
+    drop(filter);
+    right
+}
+
+fn calls_lent(
+    alloc: Global,
+    session: &mut Session,
+    content: &Record,
+    filter: &Filter,
+    call: &str,
+) -> Option<Option<bool>> {
     match call {
-        "Session::narrow" => Some(narrows(alloc, session)),
-        "Session::refilter" => Some(refilters(alloc, session)),
-        "Session::preview" => Some(previews(alloc, session)),
-        "Session::add" => Some(adds(alloc, session)),
-        "Session::run_number" => Some(runs_number(alloc, session)),
-        "Session::try_clone" => Some(copies(alloc, session)),
+        "Session::make" => Some(makes(alloc, session, content)),
+        "Session::edit" => Some(edits(alloc, session, content)),
+        "Session::narrow" => Some(narrows(alloc, session, filter)),
+        "Session::refilter" => Some(refilters(alloc, session, filter)),
+        "Session::add" => Some(adds(alloc, session, filter)),
         _ => None,
     }
 }
@@ -115,25 +178,22 @@ fn runs(alloc: Global, session: &mut Session) -> Option<bool> {
     mark(alloc);
     let report = session.run(&command);
     mark(alloc);
+    drop(command);
     Some(given(report)? && session.fleet().log().len() == 2)
 }
 
-fn content(alloc: Global) -> Option<(PicNo, Record)> {
-    Some((PicNo::new(7)?, rated(alloc, 3)?))
-}
-
-fn makes(alloc: Global, session: &mut Session) -> Option<bool> {
-    let (picture, content) = content(alloc)?;
+fn makes(alloc: Global, session: &mut Session, content: &Record) -> Option<bool> {
+    let picture = PicNo::new(7)?;
     mark(alloc);
-    let made = session.make(1, picture, &content);
+    let made = session.make(1, picture, content);
     mark(alloc);
     Some(given(made)? && session.fleet().log().len() == 2)
 }
 
-fn edits(alloc: Global, session: &mut Session) -> Option<bool> {
-    let (picture, content) = content(alloc)?;
+fn edits(alloc: Global, session: &mut Session, content: &Record) -> Option<bool> {
+    let picture = PicNo::new(7)?;
     mark(alloc);
-    let made = session.edit(0, picture, &content);
+    let made = session.edit(0, picture, content);
     mark(alloc);
     Some(given(made)? && session.fleet().log().len() == 2)
 }
@@ -153,18 +213,16 @@ fn pulls(alloc: Global, session: &mut Session) -> Option<bool> {
     Some(given(counts)? && session.fleet().commands() == 2)
 }
 
-fn narrows(alloc: Global, session: &mut Session) -> Option<bool> {
-    let filter = filter_of(alloc, "rating >= 5")?;
+fn narrows(alloc: Global, session: &mut Session, filter: &Filter) -> Option<bool> {
     mark(alloc);
-    let count = session.narrow(0, &filter);
+    let count = session.narrow(0, filter);
     mark(alloc);
     Some(given(count)? && session.fleet().commands() == 2)
 }
 
-fn refilters(alloc: Global, session: &mut Session) -> Option<bool> {
-    let filter = filter_of(alloc, "rating >= 5")?;
+fn refilters(alloc: Global, session: &mut Session, filter: &Filter) -> Option<bool> {
     mark(alloc);
-    let sizes = session.refilter(0, &filter);
+    let sizes = session.refilter(0, filter);
     mark(alloc);
     Some(given(sizes)? && session.fleet().commands() == 2)
 }
@@ -176,27 +234,40 @@ fn previews(alloc: Global, session: &Session) -> Option<bool> {
     Some(given(counts)? && session.fleet().commands() == 1)
 }
 
-fn adds(alloc: Global, session: &mut Session) -> Option<bool> {
-    let filter = filter_of(alloc, "rating >= 5")?;
+fn adds(alloc: Global, session: &mut Session, filter: &Filter) -> Option<bool> {
     mark(alloc);
-    let number = session.add(&filter);
+    let number = session.add(filter);
     mark(alloc);
     Some(given(number)? && session.fleet().devices().len() == 3)
 }
 
 fn copies(alloc: Global, session: &Session) -> Option<bool> {
     mark(alloc);
-    let copy = session.try_clone();
+    let made = session.try_clone();
     mark(alloc);
-    Some(same_fleet(copy.ok()?.fleet(), session.fleet()))
+    let right = match &made {
+        Ok(copy) => Some(same_fleet(copy.fleet(), session.fleet())),
+        Err(_) => None,
+    };
+    drop(made);
+    right
 }
 
 const TWO_DEVICES: &str = "device a all\ndevice b all\nnew b 1 5 2024-01-01 -\n";
 
 fn runs_number(alloc: Global, session: &mut Session) -> Option<bool> {
-    let script: Script = script_of(alloc, TWO_DEVICES)?;
+    let made = script_of(alloc, TWO_DEVICES);
+    let right = match &made {
+        Some(script) => runs_first_of(alloc, session, script),
+        None => None,
+    };
+    drop(made);
+    right
+}
+
+fn runs_first_of(alloc: Global, session: &mut Session, script: &Script) -> Option<bool> {
     mark(alloc);
-    let report = session.run_number(&script, 1);
+    let report = session.run_number(script, 1);
     mark(alloc);
     Some(given(report)? && session.fleet().log().len() == 2)
 }

@@ -1,8 +1,8 @@
 //! The calls of `fleet_runner` and `fleet_workers`.
-use crate::plans::{four_planned, is_planned};
+use crate::plans::calls_on_plan;
 use crate::pulls::COUNTS;
 use crate::runs::is_run;
-use crate::scripts::{FOUR_DEVICES, is_four, script_of};
+use crate::scripts::{FOUR_DEVICES, is_four, is_read, script_of, unless_changed};
 use fleet_runner::{
     OpenGate, RunError, Workers, plain_stream, read_source, run_fleet, run_stream, write_plan,
     write_reports,
@@ -14,13 +14,21 @@ use std::sync::{Arc, Wait};
 use std::thread::Threads;
 use value_refusals::{Verdict, judged, mark};
 
-/// What came of a call of `fleet_runner` that waits for nobody.
+/// What came of a call of `fleet_runner` that needs no script and waits for nobody.
 pub fn verdict(alloc: Global, call: &str) -> Option<Verdict> {
     match call {
         "read_source" => Some(judged(reads(alloc), true)),
-        "write_reports" => reports(alloc),
-        "write_plan" => plan(alloc),
         "plain_stream" => plain(alloc),
+        _ => None,
+    }
+}
+
+/// Whether a call on the script of four devices gives the right answer: None where no call has the name, and within where
+/// memory was wanted.
+pub fn calls_on_script(alloc: Global, script: &Script, call: &str) -> Option<Option<bool>> {
+    match call {
+        "write_reports" => Some(reports(alloc, script)),
+        "write_plan" => calls_on_plan(alloc, script, call),
         _ => None,
     }
 }
@@ -34,10 +42,32 @@ pub fn verdict_on_fleet<R: Threads + Wait + Copy + Send + 'static>(
     if call != "run_fleet" {
         return None;
     }
-    let script = Arc::new(alloc, script_of(alloc, FOUR_DEVICES)?).ok()?;
+    match shared_script(alloc) {
+        Some(script) => {
+            let verdict = runs_open(rt, alloc, &script);
+            drop(script);
+            verdict
+        }
+        None => None,
+    }
+}
+
+/// The script of four devices, shared.
+pub fn shared_script(alloc: Global) -> Option<Arc<Script>> {
+    match script_of(alloc, FOUR_DEVICES) {
+        Some(script) => Arc::new(alloc, script).ok(),
+        None => None,
+    }
+}
+
+fn runs_open<R: Threads + Wait + Copy + Send + 'static>(
+    rt: R,
+    alloc: Global,
+    script: &Arc<Script>,
+) -> Option<Verdict> {
     let gate = Arc::new(alloc, OpenGate).ok()?;
-    let right = runs(rt, alloc, &script, gate);
-    Some(judged(right, is_four(&*script)))
+    let right = runs(rt, alloc, script, gate);
+    Some(judged(right, is_four(&**script)))
 }
 
 /// What came of `run_stream` with two workers.
@@ -61,11 +91,9 @@ fn reads(alloc: Global) -> Option<bool> {
     mark(alloc);
     let script = read_source(alloc, &mut source);
     mark(alloc);
-    match script {
-        Ok(script) => Some(is_four(&script)),
-        Err(ScriptFault::NoMemory) => None,
-        Err(_) => Some(false),
-    }
+    let right = is_read(&script);
+    drop(script);
+    right
 }
 
 // What the output of a writing or of a run is to be. None where memory was wanted.
@@ -80,12 +108,10 @@ fn is_written(done: Result<(), RunError>, output: &[u8], wanted: &str) -> Option
 const TWO_REPORTS: &str =
     "1 pulled taken 1 handed 0 notices 0 dropped 1 learned no\n2 refused C1 NotHeld\n";
 
-fn reports(alloc: Global) -> Option<Verdict> {
-    let script = script_of(alloc, FOUR_DEVICES)?;
+fn reports(alloc: Global, script: &Script) -> Option<bool> {
     let mut output = room(alloc)?;
-    let right = writes(alloc, &script, &mut output);
-    let unchanged = is_four(&script) && is_first_of_two(output.as_slice());
-    Some(judged(right, unchanged))
+    let right = writes(alloc, script, &mut output);
+    unless_changed(right, is_first_of_two(output.as_slice()))
 }
 
 // Whether it is the text of the first report, or of none.
@@ -99,18 +125,18 @@ fn writes(alloc: Global, script: &Script, output: &mut Vec<u8>) -> Option<bool> 
     mark(alloc);
     let done = write_reports(alloc, output, script, &reports);
     mark(alloc);
+    drop(reports);
     is_written(done, output.as_slice(), TWO_REPORTS)
 }
 
 const PLAN: &str =
     "1 batch 0 after -\n2 batch 0 after -\n3 batch 1 after 1\n4 batch 1 after 2\n5 batch 2 after 4\n6 batch 2 after 3\n7 batch 3 after 6\nbatches 4\n";
 
-fn plan(alloc: Global) -> Option<Verdict> {
-    let plan = four_planned(alloc)?;
+/// Whether a plan is written out rightly. None where memory was wanted.
+pub fn writes_out_plan(alloc: Global, plan: &Plan) -> Option<bool> {
     let mut output = room(alloc)?;
-    let right = writes_plan(alloc, &plan, &mut output);
-    let unchanged = is_planned(&plan) && PLAN.as_bytes().starts_with(output.as_slice());
-    Some(judged(right, unchanged))
+    let right = writes_plan(alloc, plan, &mut output);
+    unless_changed(right, PLAN.as_bytes().starts_with(output.as_slice()))
 }
 
 fn writes_plan(alloc: Global, plan: &Plan, output: &mut Vec<u8>) -> Option<bool> {

@@ -1,50 +1,28 @@
 -- A union in which each picture that is listed has a fragment of its own: where their vectors differ it is the normal form.
 use Rattle.std.proofs.Common.{◌≡◌, ℕ, zero, suc, ◌+◌, ◌*◌, ◌<◌, ◌≤◌, Bool, true, false, ltb, ◌⊎◌, List, [], ◌∷◌, ◌++◌, length, get_or, map, take, refl, sym, subst, ap, ◌∙◌, inl, inr, arith, append_assoc, append-nil, length-append, None}
-use Rattle.std.specs.List.{list_all}
 use Rattle.std.proofs.Math.ListN.{get_or-append}
 use Rattle.std.proofs.Math.Seq.{get_or-append_seam}
 use Rattle.std.proofs.lemmas.List.{get_or-map, take_all, length-map}
 use Rattle.std.proofs.lemmas.Bool.{and_parts, cases_Bool, cases_lt, cases_eq, ltb-true}
 use Rattle.item_knowledge.specs.Tables.{keys_pass, in_order}
 use Rattle.item_knowledge.specs.Entries.{Entry, same_entries}
-use Rattle.item_knowledge.specs.Fragments.{Fragment, are_groups, is_normal, goes_before, first, nothing, entries_at}
-use Rattle.item_knowledge.specs.Gathering.{IsSide, add, gathered, indexed, place, after, number, star_first, paired, pair_vector, groups_of, IsWritten}
+use Rattle.item_knowledge.specs.Excess.{AllDiffer, union_vector}
+use Rattle.item_knowledge.specs.Fragments.{Fragment, first, nothing, entries_at}
+use Rattle.item_knowledge.specs.Gathering.{IsSide, add, gathered, indexed, place, after, number, star_first, paired}
 use Rattle.item_knowledge.specs.declared.places.Places.{Places}
 use Rattle.item_knowledge.specs.Places.{vectors_at, IsFound}
 use Rattle.item_knowledge.specs.Rows.{flat, fragments_of, rows_of, AreRows}
 use Rattle.item_knowledge.specs.Seen.{IsSeen, has_unseen}
+use Rattle.item_knowledge.specs.Written.{groups_of, IsWritten}
 use Rattle.item_knowledge.specs.Apart.{singles, numbered, spread_of, FromLeft, IsListed, AreThere, AreApart, AreUnseen, AreTold, IsSpread}
-use Rattle.item_knowledge.proofs.FragmentLemmas.{entries_decide, before_parts, groups_parts, normal_parts}
+use Rattle.item_knowledge.proofs.FragmentLemmas.{entries_decide}
 use Rattle.item_knowledge.proofs.GatherLemmas.{unless_same, unless_other}
 use Rattle.item_knowledge.proofs.IndexLemmas.{indexed_same, indexed_other}
-use Rattle.item_knowledge.proofs.MergeLemmas.{all_at}
 use Rattle.item_knowledge.proofs.PlaceLemmas.{of_one, add_absent, place_of_added, place_later, vectors_length, vector_there}
 use Rattle.item_knowledge.proofs.RowLemmas.{entries_row, fragments_rows, rows_rows}
 use Rattle.item_knowledge.proofs.SeenLemmas.{unseen_nowhere}
 use Rattle.item_knowledge.proofs.TableLemmas.{merge_order}
 use Rattle.item_knowledge.proofs.UnionLemmas.{entries_order}
-
--- Vectors of a normal form differ
-
-before_at : (g : Fragment) (gs : List Fragment) (b : ℕ) → list_all (λ (h : Fragment). goes_before g h) gs ≡ true → b < length gs → g.entries ≡ entries_at gs b → ⊥
-before_at g gs b h l = (before_parts g (get_or gs b nothing) (all_at (λ (x : Fragment). goes_before g x) gs b nothing h l)).other
-
-groups_differ : (star : List Entry) (gs : List Fragment) (a b : ℕ) → are_groups star gs ≡ true → a < b → b < length gs → entries_at gs a ≡ entries_at gs b → ⊥
-groups_differ star [] a b h l m e = absurd (omega (arith, m))
-groups_differ star (g ∷ gs) a zero h l m e = absurd (omega (arith, l))
-groups_differ star (g ∷ gs) zero (suc b) h l m e = before_at g gs b (groups_parts star g gs h).before (omega (arith, m)) e
-groups_differ star (g ∷ gs) (suc a) (suc b) h l m e = groups_differ star gs a b (groups_parts star g gs h).rest (omega (arith, l)) (omega (arith, m)) e
-
-star_differs : (star : List Entry) (gs : List Fragment) (b : ℕ) → are_groups star gs ≡ true → b < length gs → star ≡ entries_at gs b → ⊥
-star_differs star [] b h m e = absurd (omega (arith, m))
-star_differs star (g ∷ gs) zero h m e = (groups_parts star g gs h).group.other e
-star_differs star (g ∷ gs) (suc b) h m e = star_differs star gs b (groups_parts star g gs h).rest (omega (arith, m)) e
-
-pub vectors_differ : (fs : List Fragment) (a b : ℕ) → is_normal fs ≡ true → a < b → b < length fs → entries_at fs a ≡ entries_at fs b → ⊥
-vectors_differ [] a b h l m e = absurd (omega (arith, m))
-vectors_differ (s ∷ gs) a zero h l m e = absurd (omega (arith, l))
-vectors_differ (s ∷ gs) zero (suc b) h l m e = star_differs s.entries gs b (normal_parts s gs h).groups (omega (arith, m)) e
-vectors_differ (s ∷ gs) (suc a) (suc b) h l m e = groups_differ s.entries gs a b (normal_parts s gs h).groups (omega (arith, l)) (omega (arith, m)) e
 
 -- No group has a vector that none of them has
 
@@ -57,16 +35,13 @@ place_none (g ∷ gs) v h = elim (cases_Bool (same_entries g.entries v)) [
 
 -- Fragments of one picture each, whose vectors differ, are what is gathered
 
-abbrev pub Differ : List Fragment → Type 0
-Differ gs = (j k : ℕ) → j < k → k < length gs → entries_at gs j ≡ entries_at gs k → ⊥
-
 pub singles_same : (star : List Entry) (f : ℕ × ℕ → List Entry) (r : ℕ × (ℕ × ℕ)) (rs : List (ℕ × (ℕ × ℕ))) → same_entries star (f r.1) ≡ true → singles star f (r ∷ rs) ≡ singles star f rs
 singles_same star f r rs h = rw h refl
 
 pub singles_other : (star : List Entry) (f : ℕ × ℕ → List Entry) (r : ℕ × (ℕ × ℕ)) (rs : List (ℕ × (ℕ × ℕ))) → same_entries star (f r.1) ≡ false → singles star f (r ∷ rs) ≡ of_one r.0 (f r.1) ∷ singles star f rs
 singles_other star f r rs h = rw h refl
 
-seam_absent : (gs : List Fragment) (g : Fragment) (hs : List Fragment) → Differ (gs ++ g ∷ hs) → place gs g.entries ≡ None
+seam_absent : (gs : List Fragment) (g : Fragment) (hs : List Fragment) → AllDiffer (gs ++ g ∷ hs) → place gs g.entries ≡ None
 seam_absent gs g hs d = place_none gs g.entries (λ k l e.
     let many = length-append gs (g ∷ hs) in
     d k (length gs) l (omega (arith, many))
@@ -76,28 +51,28 @@ module _ (star : List Entry) (f : ℕ × ℕ → List Entry) where
   seam : (r : ℕ × (ℕ × ℕ)) (rs : List (ℕ × (ℕ × ℕ))) (gs : List Fragment) → same_entries star (f r.1) ≡ false → gs ++ singles star f (r ∷ rs) ≡ (gs ++ of_one r.0 (f r.1) ∷ []) ++ singles star f rs
   seam r rs gs other = ap (λ hs. gs ++ hs) (singles_other star f r rs other) ∙ sym (append_assoc gs (of_one r.0 (f r.1) ∷ []) (singles star f rs))
 
-  absent_at : (r : ℕ × (ℕ × ℕ)) (rs : List (ℕ × (ℕ × ℕ))) (gs : List Fragment) → same_entries star (f r.1) ≡ false → Differ (gs ++ singles star f (r ∷ rs)) → place gs (f r.1) ≡ None
-  absent_at r rs gs other d = seam_absent gs (of_one r.0 (f r.1)) (singles star f rs) (subst (λ hs. Differ (gs ++ hs)) (singles_other star f r rs other) d)
+  absent_at : (r : ℕ × (ℕ × ℕ)) (rs : List (ℕ × (ℕ × ℕ))) (gs : List Fragment) → same_entries star (f r.1) ≡ false → AllDiffer (gs ++ singles star f (r ∷ rs)) → place gs (f r.1) ≡ None
+  absent_at r rs gs other d = seam_absent gs (of_one r.0 (f r.1)) (singles star f rs) (subst (λ hs. AllDiffer (gs ++ hs)) (singles_other star f r rs other) d)
 
-  pub gathered_singles : (rs : List (ℕ × (ℕ × ℕ))) (gs : List Fragment) → Differ (gs ++ singles star f rs) → gathered star f rs gs ≡ gs ++ singles star f rs
+  pub gathered_singles : (rs : List (ℕ × (ℕ × ℕ))) (gs : List Fragment) → AllDiffer (gs ++ singles star f rs) → gathered star f rs gs ≡ gs ++ singles star f rs
   gathered_singles [] gs d = sym (append-nil gs)
   gathered_singles (r ∷ rs) gs d = elim (cases_Bool (same_entries star (f r.1))) [
     | inl same ↦
         ap (λ hs. gathered star f rs hs) (unless_same star r.0 (f r.1) gs same)
-        ∙ gathered_singles rs gs (subst (λ hs. Differ (gs ++ hs)) (singles_same star f r rs same) d)
+        ∙ gathered_singles rs gs (subst (λ hs. AllDiffer (gs ++ hs)) (singles_same star f r rs same) d)
         ∙ ap (λ hs. gs ++ hs) (sym (singles_same star f r rs same))
     | inr other ↦
         ap (λ hs. gathered star f rs hs) (unless_other star r.0 (f r.1) gs other ∙ sym (add_absent r.0 (f r.1) gs (absent_at r rs gs other d)))
-        ∙ gathered_singles rs (gs ++ of_one r.0 (f r.1) ∷ []) (subst Differ (seam r rs gs other) d)
+        ∙ gathered_singles rs (gs ++ of_one r.0 (f r.1) ∷ []) (subst AllDiffer (seam r rs gs other) d)
         ∙ sym (seam r rs gs other)
   ]
 
-  pub indexed_singles : (rs : List (ℕ × (ℕ × ℕ))) (gs : List Fragment) → Differ (gs ++ singles star f rs) → indexed star f rs gs ≡ numbered (suc (length gs)) (singles star f rs)
+  pub indexed_singles : (rs : List (ℕ × (ℕ × ℕ))) (gs : List Fragment) → AllDiffer (gs ++ singles star f rs) → indexed star f rs gs ≡ numbered (suc (length gs)) (singles star f rs)
   indexed_singles [] gs d = refl
   indexed_singles (r ∷ rs) gs d = elim (cases_Bool (same_entries star (f r.1))) [
     | inl same ↦
         indexed_same star f r rs gs same
-        ∙ indexed_singles rs gs (subst (λ hs. Differ (gs ++ hs)) (singles_same star f r rs same) d)
+        ∙ indexed_singles rs gs (subst (λ hs. AllDiffer (gs ++ hs)) (singles_same star f r rs same) d)
         ∙ ap (λ hs. numbered (suc (length gs)) hs) (sym (singles_same star f r rs same))
     | inr other ↦
         let none = absent_at r rs gs other d in
@@ -106,7 +81,7 @@ module _ (star : List Entry) (f : ℕ × ℕ → List Entry) where
         let many : length (gs ++ of_one r.0 v ∷ []) ≡ suc (length gs) = length-append gs (of_one r.0 v ∷ []) ∙ (omega arith) in
         let rest : indexed star f rs (add r.0 v gs) ≡ numbered (suc (suc (length gs))) (singles star f rs) =
         ap (λ hs. indexed star f rs hs) (sym (add_absent r.0 v gs none))
-        ∙ indexed_singles rs (gs ++ of_one r.0 v ∷ []) (subst Differ (seam r rs gs other) d)
+        ∙ indexed_singles rs (gs ++ of_one r.0 v ∷ []) (subst AllDiffer (seam r rs gs other) d)
         ∙ ap (λ n. numbered (suc n) (singles star f rs)) many in
         indexed_other star f r rs gs other
         ∙ (λ i. (r.0, at i) ∷ rest i)
@@ -182,25 +157,20 @@ all_apart places rows listed i found noted over j k l m e =
         vector_there rows places.numbers.items n (get_or listed n (0, 0)).1 (omega (arith, b, long))
         (sym (ap (λ (ns : List ℕ). get_or ns n 0) whole ∙ get_or-map (λ (x : ℕ × ℕ). x.1) listed n (0, 0) 0 b))
 
--- What is written, once its vectors are told apart
+-- What is written
 
-module _ (left right : List (List ℕ)) (xs ys : List (ℕ × ℕ)) (words : List ℕ) (star : List Entry) (rows : List (List ℕ)) (index joined : List (ℕ × ℕ))
-    (normal : is_normal (fragments_of left) ≡ true) (left_side : IsSide (fragments_of left) xs) (right_side : IsSide (fragments_of right) ys) (seen : IsSeen words left)
-    (h : IsSpread left star (spread_of (fragments_of left) (fragments_of right) xs ys) rows index joined) where
-  abbrev all : List Fragment
-  all = spread_of (fragments_of left) (fragments_of right) xs ys
-
-  fragments : fragments_of rows ≡ star_first star all
-  fragments = ap fragments_of h.rows_are ∙ fragments_rows (star_first star all)
+module _ {left : List (List ℕ)} {gs : List Fragment} {rows : List (List ℕ)} {index joined : List (ℕ × ℕ)} (h : IsSpread left gs rows index joined) where
+  fragments : fragments_of rows ≡ star_first [] gs
+  fragments = ap fragments_of h.rows_are ∙ fragments_rows (star_first [] gs)
 
   pub spread_rows : AreRows rows
-  spread_rows = subst AreRows (sym h.rows_are) (rows_rows (star_first star all))
+  spread_rows = subst AreRows (sym h.rows_are) (rows_rows (star_first [] gs))
 
   pub there_index : AreThere rows index
   there_index m l =
-      let long = ap (length {A = ℕ × ℕ}) h.index_is ∙ numbered_length 1 all in
+      let long = ap (length {A = ℕ × ℕ}) h.index_is ∙ numbered_length 1 gs in
       let count = ap (length {A = Fragment}) fragments in
-      let at = ap (λ (ns : List (ℕ × ℕ)). (get_or ns m (0, 0)).1) h.index_is ∙ numbered_at 1 all m (omega (arith, long, l)) in
+      let at = ap (λ (ns : List (ℕ × ℕ)). (get_or ns m (0, 0)).1) h.index_is ∙ numbered_at 1 gs m (omega (arith, long, l)) in
       omega (arith, long, count, at, l)
 
   pub there_joined : AreThere rows joined
@@ -209,21 +179,21 @@ module _ (left right : List (List ℕ)) (xs ys : List (ℕ × ℕ)) (words : Lis
       let below = h.there m l in
       omega (arith, count, below)
 
-  vector : (k n : ℕ) → k < length all → n ≡ suc k → get_or rows (2 * n + 1) [] ≡ flat (entries_at all k)
+  vector : (k n : ℕ) → k < length gs → n ≡ suc k → get_or rows (2 * n + 1) [] ≡ flat (entries_at gs k)
   vector k n l e =
       ap (λ m. get_or rows (2 * m + 1) []) e
       ∙ ap (λ rs. get_or rs (2 * suc k + 1) []) h.rows_are
-      ∙ entries_row (star_first star all) (suc k) (omega (arith, l))
+      ∙ entries_row (star_first [] gs) (suc k) (omega (arith, l))
 
-  vector_index : (k : ℕ) → k < length all → get_or rows (2 * (get_or index k (0, 0)).1 + 1) [] ≡ flat (entries_at all k)
-  vector_index k l = vector k (get_or index k (0, 0)).1 l (ap (λ (ns : List (ℕ × ℕ)). (get_or ns k (0, 0)).1) h.index_is ∙ numbered_at 1 all k l ∙ (omega arith))
+  vector_index : (k : ℕ) → k < length gs → get_or rows (2 * (get_or index k (0, 0)).1 + 1) [] ≡ flat (entries_at gs k)
+  vector_index k l = vector k (get_or index k (0, 0)).1 l (ap (λ (ns : List (ℕ × ℕ)). (get_or ns k (0, 0)).1) h.index_is ∙ numbered_at 1 gs k l ∙ (omega arith))
 
-  of_index : AreApart rows index → Differ all
+  of_index : AreApart rows index → AllDiffer gs
   of_index apart j k l m e =
-      let long = ap (length {A = ℕ × ℕ}) h.index_is ∙ numbered_length 1 all in
+      let long = ap (length {A = ℕ × ℕ}) h.index_is ∙ numbered_length 1 gs in
       apart j k l (omega (arith, long, m)) (vector_index j (omega (arith, l, m)) ∙ ap flat e ∙ sym (vector_index k m))
 
-  both_joined : AreApart rows joined → (j k : ℕ) → j < k → k < length all → entries_at all j ≡ entries_at all k → IsListed joined (suc j) → IsListed joined (suc k) → ⊥
+  both_joined : AreApart rows joined → (j k : ℕ) → j < k → k < length gs → entries_at gs j ≡ entries_at gs k → IsListed joined (suc j) → IsListed joined (suc k) → ⊥
   both_joined apart j k l m e a b =
       let same : get_or rows (2 * (get_or joined a.place (0, 0)).1 + 1) [] ≡ get_or rows (2 * (get_or joined b.place (0, 0)).1 + 1) [] = vector j _ (omega (arith, l, m)) a.is ∙ ap flat e ∙ sym (vector k _ m b.is) in
       elim (cases_lt a.place b.place) [
@@ -234,41 +204,49 @@ module _ (left right : List (List ℕ)) (xs ys : List (ℕ × ℕ)) (words : Lis
         ]
       ]
 
+-- Once its vectors are told apart it is the union
+
+module _ (left right : List (List ℕ)) (xs ys : List (ℕ × ℕ)) (words : List ℕ) (star : List Entry) (rows : List (List ℕ)) (index joined : List (ℕ × ℕ))
+    (differ : AllDiffer (fragments_of left)) (left_side : IsSide (fragments_of left) xs) (right_side : IsSide (fragments_of right) ys) (seen : IsSeen words left)
+    (h : IsSpread left (spread_of star (fragments_of left) (fragments_of right) xs ys) rows index joined) where
+  abbrev all : List Fragment
+  all = spread_of star (fragments_of left) (fragments_of right) xs ys
+
   joined_left : AreUnseen left words rows joined → (j : ℕ) (g : Fragment) → entries_at all j ≡ g.entries → IsListed joined (suc j) → FromLeft left g → ⊥
   joined_left unseen j g e a b =
       let there : entries_at (fragments_of rows) (get_or joined a.place (0, 0)).1 ≡ entries_at (fragments_of left) b.number =
-      (λ i. entries_at (fragments i) (a.is i)) ∙ e ∙ sym b.is in
+      (λ i. entries_at (fragments h i) (a.is i)) ∙ e ∙ sym b.is in
       unseen_nowhere words left b.number seen (entries_order (fragments_of left) xs b.number left_side b.there)
       (ap (λ es. has_unseen words (entries_at (fragments_of left) 0) es) (sym there) ∙ unseen a.place a.there)
 
   both_left : (g k : Fragment) → (g.pictures ≡ k.pictures → ⊥) → g.entries ≡ k.entries → FromLeft left g → FromLeft left k → ⊥
   both_left g k other e a b = elim (cases_lt a.number b.number) [
-    | inl less ↦ vectors_differ (fragments_of left) a.number b.number normal less b.there (a.is ∙ e ∙ sym b.is)
+    | inl less ↦ differ a.number b.number less b.there (a.is ∙ e ∙ sym b.is)
     | inr over ↦ elim (cases_eq a.number b.number) [
       | inl one ↦ other (sym a.alone ∙ ap (λ n. get_or left (2 * n) []) one ∙ b.alone)
-      | inr two ↦ vectors_differ (fragments_of left) b.number a.number normal (omega (arith, over, two)) a.there (b.is ∙ sym e ∙ sym a.is)
+      | inr two ↦ differ b.number a.number (omega (arith, over, two)) a.there (b.is ∙ sym e ∙ sym a.is)
     ]
   ]
 
-  of_joined : AreUnseen left words rows joined → AreApart rows joined → Differ all
+  of_joined : AreUnseen left words rows joined → AreApart rows joined → AllDiffer all
   of_joined unseen apart j k l m e = by (h.origins j (omega (arith, l, m))) (h.origins k m) where
     by : IsListed joined (suc j) ⊎ FromLeft left (get_or all j nothing) → IsListed joined (suc k) ⊎ FromLeft left (get_or all k nothing) → ⊥
-    by (inl a) (inl b) = both_joined apart j k l m e a b
+    by (inl a) (inl b) = both_joined h apart j k l m e a b
     by (inl a) (inr b) = joined_left unseen j (get_or all k nothing) e a b
     by (inr a) (inl b) = joined_left unseen k (get_or all j nothing) (sym e) b a
     by (inr a) (inr b) = both_left (get_or all j nothing) (get_or all k nothing)
-        (pictures_differ (pair_vector (fragments_of left) (fragments_of right) (0, 0)) (pair_vector (fragments_of left) (fragments_of right)) (paired xs ys) j k (merge_order (λ a. (a, 0)) (λ a b. (a, b.1)) (λ b. (0, b)) xs ys right_side.order) l m) e a b
+        (pictures_differ [] (union_vector star (fragments_of left) (fragments_of right)) (paired xs ys) j k (merge_order (λ a. (a, 0)) (λ a b. (a, b.1)) (λ b. (0, b)) xs ys right_side.order) l m) e a b
 
-  differ : AreTold left words rows index joined → Differ all
-  differ (inl apart) = of_index apart
-  differ (inr told) = of_joined told.0 told.1
+  all_differ : AreTold left words rows index joined → AllDiffer all
+  all_differ (inl apart) = of_index h apart
+  all_differ (inr told) = of_joined told.0 told.1
 
-  pub told_written : star ≡ pair_vector (fragments_of left) (fragments_of right) (0, 0) → AreTold left words rows index joined → IsWritten (fragments_of left) xs (fragments_of right) ys rows index
-  told_written is told =
-      let f = pair_vector (fragments_of left) (fragments_of right) in
-      let apart = differ told in
-      let groups : all ≡ groups_of (fragments_of left) (fragments_of right) xs ys = sym (gathered_singles (f (0, 0)) f (paired xs ys) [] apart) in
+  pub told_written : AreTold left words rows index joined → IsWritten star (fragments_of left) xs (fragments_of right) ys rows index
+  told_written told =
+      let f = union_vector star (fragments_of left) (fragments_of right) in
+      let apart = all_differ told in
+      let groups : all ≡ groups_of star (fragments_of left) (fragments_of right) xs ys = sym (gathered_singles [] f (paired xs ys) [] apart) in
       record {
-        rows = h.rows_are ∙ (λ i. rows_of (star_first (is i) (groups i)));
-        numbers = h.index_is ∙ sym (indexed_singles (f (0, 0)) f (paired xs ys) [] apart);
+        rows = h.rows_are ∙ ap (λ gs. rows_of (star_first [] gs)) groups;
+        numbers = h.index_is ∙ sym (indexed_singles [] f (paired xs ys) [] apart);
       }

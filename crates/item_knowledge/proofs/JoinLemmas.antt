@@ -1,16 +1,23 @@
 -- The join of two vectors.
-use Rattle.std.proofs.Common.{◌≡◌, ℕ, ◌≤◌, Bool, true, leb, max, ◌&&◌, ◌||◌, List, [], ◌∷◌, refl, sym, subst, ap, ◌∙◌, inl, inr, arith}
+use Rattle.std.proofs.Common.{◌≡◌, ℕ, ◌<◌, ◌≤◌, ◌+◌, ◌-◌, Bool, true, leb, max, ◌&&◌, ◌||◌, List, [], ◌∷◌, ◌++◌, length, get_or, drop, length-drop, refl, sym, subst, ap, ◌∙◌, inl, inr, arith, append-nil}
 use Rattle.std.specs.List.{list_all}
-use Rattle.std.proofs.lemmas.Bool.{and_parts, and_from, lt-ltb, le-leb, eq-eqb, ne_eqb, cases_eq}
+use Rattle.std.proofs.lemmas.Bool.{and_parts, and_from, lt-ltb, le-ltb, le-leb, eq-eqb, ne_eqb, cases_eq, cases_lt}
+use Rattle.std.proofs.lemmas.List.{drop_all}
 use Rattle.std.proofs.lemmas.Bool.Decides.{nat_tests}
 use Rattle.std.proofs.Math.Nat.{max-zero, zero-max}
 use Rattle.photo_version.specs.Author.{author_word}
 use Rattle.photo_version.specs.Version.{Version}
 use Rattle.item_knowledge.specs.Tables.{in_order}
 use Rattle.item_knowledge.specs.Entries.{Entry, denotes, is_entry, most_number, is_vector, bound, leq, joined}
+use Rattle.item_knowledge.specs.declared.join.Merging.{Merging}
+use Rattle.item_knowledge.specs.Excess.{exceeding, IsLent}
+use Rattle.item_knowledge.specs.Merging.{left_of}
+use Rattle.item_knowledge.specs.Rows.{pairs, flat}
 use Rattle.item_knowledge.proofs.TableLemmas.{merge_at, merge_order, merge_all}
 use Rattle.item_knowledge.proofs.EntryLemmas.{entry_parts, vector_parts, bound_below, denotes-bound, one_by_bounds}
 use Rattle.item_knowledge.proofs.FragmentLemmas.{leq_at}
+use Rattle.item_knowledge.proofs.MergeLemmas.{drop_next, all_at}
+use Rattle.item_knowledge.proofs.RowLemmas.{joined_more}
 
 abbrev all_entries : List Entry → Bool
 all_entries es = list_all (λ (e : Entry). is_entry e) es
@@ -82,3 +89,49 @@ pub joined_right : (xs ys : List Entry) → is_vector xs ≡ true → is_vector 
 joined_right xs ys h g l = one_by_bounds (joined xs ys) ys (joined_vector xs ys h g) g (λ a.
     let le = leq_at xs ys a l in
     joined_bound xs ys a h g ∙ (omega arith))
+
+-- Two rows that are gone along together
+
+pub at_first : (at : Merging) (xs ys : List ℕ) → at.left ≡ 0 → at.right ≡ 0 → left_of at xs ys ≡ joined (pairs xs) (pairs ys)
+at_first at xs ys l r = λ i. joined (drop (l i) (pairs xs)) (drop (r i) (pairs ys))
+
+-- an entry above the star's is written, and another isn't
+
+pub exceeding_more : (star now rest all : List Entry) (out new : List ℕ) (e : Entry) → bound star e.0 < e.1 → now ≡ e ∷ rest → new ≡ (out ++ e.0 ∷ []) ++ e.1 ∷ [] → out ++ flat (exceeding star now) ≡ flat all → new ++ flat (exceeding star rest) ≡ flat all
+exceeding_more star now rest all out new e above step is done =
+    joined_more out new e (exceeding star rest) (exceeding star now) all is (ap (exceeding star) step ∙ rw (lt-ltb (bound star e.0) e.1 above) refl) done
+
+pub exceeding_less : (star now rest : List Entry) (e : Entry) → e.1 ≤ bound star e.0 → now ≡ e ∷ rest → exceeding star now ≡ exceeding star rest
+exceeding_less star now rest e le step = ap (exceeding star) step ∙ rw (le-ltb (bound star e.0) e.1 le) refl
+
+pub exceeding_done : (star now all : List Entry) (out : List ℕ) → now ≡ [] → out ++ flat (exceeding star now) ≡ flat all → out ≡ flat all
+exceeding_done star now all out none done = sym (append-nil out) ∙ ap (λ es. out ++ flat (exceeding star es)) (sym none) ∙ done
+
+-- A fragment that is lent
+
+pub vector_order : (es : List Entry) → is_vector es ≡ true → in_order es ≡ true
+vector_order es h = (and_parts (in_order es) (all_entries es) h).0
+
+pub lent_vector : (row star : List ℕ) → IsLent row star → is_vector (joined (pairs row) (pairs star)) ≡ true
+lent_vector row star h = joined_vector (pairs row) (pairs star) h.vector h.star
+
+pub entry_there : (es : List Entry) (i : ℕ) → is_vector es ≡ true → i < length es → is_entry (get_or es i (0, 0)) ≡ true
+entry_there es i h l = all_at (λ (e : Entry). is_entry e) es i (0, 0) (and_parts (in_order es) (all_entries es) h).1 l
+
+-- where an entry comes next, it stands at this place
+pub came_to : (es now rest : List Entry) (i : ℕ) (e : Entry) → now ≡ e ∷ rest → now ≡ drop i es → (e ≡ get_or es i (0, 0)) × (rest ≡ drop (i + 1) es)
+came_to es now rest i e step is = elim (cases_lt i (length es)) [
+  | inl there ↦ both e (get_or es i (0, 0)) rest (drop (i + 1) es) (sym step ∙ is ∙ drop_next es i (0, 0) there)
+  | inr over ↦ absurd (some e rest (sym step ∙ is ∙ drop_all i es over))
+]
+  where
+    both : (a b : Entry) (xs ys : List Entry) → a ∷ xs ≡ b ∷ ys → (a ≡ b) × (xs ≡ ys)
+    both a b xs ys s = (cc, cc)
+
+    some : (a : Entry) (xs : List Entry) → a ∷ xs ≡ [] → ⊥
+    some a xs s = cc
+
+pub not_over : (es now : List Entry) (i : ℕ) → now ≡ [] → now ≡ drop i es → length es ≤ i
+not_over es now i none is =
+    let long : 0 ≡ length es - i = ap (length {A = Entry}) (sym none ∙ is) ∙ length-drop i es in
+    omega (arith, long)

@@ -16,7 +16,8 @@ use Rattle.item_knowledge.specs.Kept.{IsKept, is_side_within, star_bound}
 use Rattle.item_knowledge.proofs.EntryLemmas.{denotes-bound}
 use Rattle.item_knowledge.proofs.FragmentLemmas.{normal_parts, leq_at, leq_denotes, star_of_every}
 use Rattle.item_knowledge.proofs.JoinLemmas.{leq_from}
-use Rattle.item_knowledge.proofs.UnionLemmas.{above, at_number, side_vector, normal_side, knows_vector}
+use Rattle.item_knowledge.proofs.ExcessLemmas.{at_number}
+use Rattle.item_knowledge.proofs.UnionLemmas.{above, side_vector, normal_side, knows_vector}
 
 pub kept_side : (rows : List (List ℕ)) (xs : List (ℕ × ℕ)) → IsKept rows xs → IsSide (fragments_of rows) xs
 kept_side rows xs h = normal_side (fragments_of rows) xs h.normal h.index
@@ -71,7 +72,7 @@ joins rows xs now gs us ys zs h is u = subst (λ fs. IsJoined fs gs ys us) is (r
 
 -- Inclusion
 
-leq_trans : (xs ys zs : List Entry) → is_vector xs ≡ true → leq xs ys ≡ true → leq ys zs ≡ true → leq xs zs ≡ true
+pub leq_trans : (xs ys zs : List Entry) → is_vector xs ≡ true → leq xs ys ≡ true → leq ys zs ≡ true → leq xs zs ≡ true
 leq_trans xs ys zs h l m = leq_from xs zs h (λ a.
     let p = leq_at xs ys a l in
     let q = leq_at ys zs a m in

@@ -19,11 +19,9 @@ pub mod StagedLemmas
 pub mod WithinLemmas
 pub mod TableRowLemmas
 pub mod KnownLemmas
-pub mod PutLemmas
-pub mod LateLemmas
 pub mod NextLemmas
-pub mod WaitingLemmas
-pub mod TopLemmas
+pub mod ExcessLemmas
+pub mod LiveLemmas
 pub mod SeenLemmas
 pub mod NormalLemmas
 pub mod ApartLemmas

@@ -1,23 +1,20 @@
 -- An author's next version, raised in place.
-use Rattle.std.proofs.Common.{◌≡◌, ℕ, ◌+◌, ◌-◌, ◌<◌, ◌≤◌, true, leb, ltb, max, ◌&&◌, ◌||◌, List, [], ◌∷◌, refl, sym, subst, ◌∙◌, inl, inr, arith}
-use Rattle.std.specs.List.{list_all}
-use Rattle.std.proofs.lemmas.Bool.{and_parts, and_from, lt-ltb, ltb-true, le-leb, leb-true, cases_lt, false≢true, or_left, or_right}
+use Rattle.std.proofs.Common.{◌≡◌, ℕ, ◌+◌, ◌-◌, ◌<◌, ◌≤◌, true, ltb, max, ◌&&◌, ◌||◌, List, [], ◌∷◌, refl, sym, subst, ◌∙◌, inl, inr, arith}
+use Rattle.std.proofs.lemmas.Bool.{and_from, lt-ltb, ltb-true, le-leb, cases_lt, false≢true, or_left, or_right}
 use Rattle.photo_version.specs.Author.{Author, author_word, is_author_word}
 use Rattle.photo_version.specs.Version.{Version, version}
-use Rattle.item_knowledge.specs.Tables.{in_order}
-use Rattle.item_knowledge.specs.Entries.{Entry, denotes, is_entry, most_number, is_vector, bound, leq}
+use Rattle.item_knowledge.specs.Entries.{Entry, denotes, is_entry, most_number, is_vector, bound}
 use Rattle.item_knowledge.specs.Fragments.{Fragment, is_empty, first, lists, reaches, knows, are_groups, is_normal, entries_at}
-use Rattle.item_knowledge.specs.Gathering.{is_above, vector_of}
+use Rattle.item_knowledge.specs.Gathering.{vector_of}
 use Rattle.item_knowledge.specs.Kept.{IsKept, star_bound}
-use Rattle.item_knowledge.specs.Raising.{are_level, all_raised, are_risen, star_of_one}
+use Rattle.item_knowledge.specs.Raising.{IsWaiting, are_level, all_raised, star_of_one}
 use Rattle.item_knowledge.specs.Spare.{IsJoined, HasNext}
-use Rattle.item_knowledge.specs.Late.{IsWaiting}
 use Rattle.item_knowledge.specs.Rows.{fragments_of, rows_of}
 use Rattle.item_knowledge.proofs.EntryLemmas.{denotes-bound}
-use Rattle.item_knowledge.proofs.FragmentLemmas.{groups_parts, normal_parts, leq_at}
-use Rattle.item_knowledge.proofs.KeptLemmas.{kept_side, joins, next_known, star_next}
+use Rattle.item_knowledge.proofs.FragmentLemmas.{groups_parts, normal_parts}
+use Rattle.item_knowledge.proofs.KeptLemmas.{joins, next_known, star_next}
 use Rattle.item_knowledge.proofs.PictureLemmas.{listed, first_listed}
-use Rattle.item_knowledge.proofs.RaiseLemmas.{raised_kept, is_next}
+use Rattle.item_knowledge.proofs.RaiseLemmas.{raised_kept}
 
 -- Where no version that is known has a number above b, no bound is above b
 
@@ -67,21 +64,6 @@ kept_level rows xs fs w h same next each =
     subst (λ b. are_level fs (author_word w.author) b ≡ true) before
     (level_known fs w.author (star_bound fs w.author) (subst (λ gs. is_normal gs ≡ true) same h.normal) each)
 
--- Each fragment has the author's entry where the star has it
-
-pub risen_all : (e : Entry) (star : List Entry) (b : ℕ) (fs : List Fragment) → list_all (λ (f : Fragment). is_above star f) fs ≡ true → 0 < bound star e.0 → are_level fs e.0 b ≡ true → b ≤ e.1 → are_risen e fs ≡ true
-risen_all e star b [] h z l m = refl
-risen_all e star b (f ∷ fs) h z l m =
-    let p = and_parts (is_above star f) (list_all (λ (g : Fragment). is_above star g) fs) h in
-    let q = and_parts (is_vector f.entries) (leq star f.entries) p.0 in
-    let order = (and_parts (in_order f.entries) (list_all (λ (x : Entry). is_entry x) f.entries) q.0).0 in
-    let r = and_parts (leb (bound f.entries e.0) b) (are_level fs e.0 b) l in
-    let least = leq_at star f.entries e.0 q.1 in
-    let most = leb-true (bound f.entries e.0) b r.0 in
-    and_from _ _
-    (and_from _ _ order (and_from _ _ (lt-ltb 0 (bound f.entries e.0) (omega arith)) (le-leb (bound f.entries e.0) e.1 (omega arith))))
-    (risen_all e star b fs p.1 z r.1 m)
-
 -- what a knowledge and an author's next version have
 record IsOwn (w : Version) (rows : List (List ℕ)) (xs : List (ℕ × ℕ)) : Type 0 where
   kept : IsKept rows xs
@@ -102,25 +84,26 @@ next_joined w before fs gs new ys known normal next is none j = record {
   learned = λ p v z. j.pairs p v z ∙ ((λ i. knows (known i) p v || denotes (vector_of (is i) (none i) p) v) ∙ next_known fs w p v normal z next);
 }
 
-owned_by : (w : Version) (rows : List (List ℕ)) (xs : List (ℕ × ℕ)) (out : List (List ℕ)) → IsOwn w rows xs → out ≡ rows_of (all_raised (author_word w.author, w.number) (fragments_of rows)) → IsOwned w (fragments_of rows) xs out
-owned_by w rows xs out h is =
-    let fs = fragments_of rows in
-    let e : Entry = (author_word w.author, w.number) in
-    let made = raised_kept e rows xs out h.kept (is_next e fs fs refl h.entry h.next h.level) is in
-    record {
-      kept = made.kept;
-      next = next_joined w fs fs (star_of_one e) (fragments_of out) [] refl h.kept.normal h.next refl refl (joins rows xs fs (star_of_one e) (fragments_of out) [] xs h.kept refl made.union);
-    }
-
 own_waiting : (w : Version) (rows : List (List ℕ)) (xs : List (ℕ × ℕ)) → IsOwn w rows xs → IsWaiting (author_word w.author, w.number) (fragments_of rows)
 own_waiting w rows xs h =
-    let next = h.next in
-    let before : w.number - 1 ≡ star_bound (fragments_of rows) w.author = omega arith in
+    let next : w.number ≡ bound (entries_at (fragments_of rows) 0) (author_word w.author) + 1 = h.next in
+    let before : w.number - 1 ≡ bound (entries_at (fragments_of rows) 0) (author_word w.author) = omega arith in
     record {
       normal = h.kept.normal;
       entry = h.entry;
       level = subst (λ b. are_level (fragments_of rows) (author_word w.author) b ≡ true) before h.level;
-      risen = risen_all (author_word w.author, w.number) (entries_at (fragments_of rows) 0) (w.number - 1) (fragments_of rows) (kept_side rows xs h.kept).above h.some h.level (omega arith);
+      some = h.some;
+      most = omega arith;
+    }
+
+owned_by : (w : Version) (rows : List (List ℕ)) (xs : List (ℕ × ℕ)) (out : List (List ℕ)) → IsOwn w rows xs → out ≡ rows_of (all_raised (author_word w.author, w.number) (fragments_of rows)) → IsOwned w (fragments_of rows) xs out
+owned_by w rows xs out h is =
+    let fs = fragments_of rows in
+    let e : Entry = (author_word w.author, w.number) in
+    let made = raised_kept e rows xs out h.kept (own_waiting w rows xs h) is in
+    record {
+      kept = made.kept;
+      next = next_joined w fs fs (star_of_one e) (fragments_of out) [] refl h.kept.normal h.next refl refl (joins rows xs fs (star_of_one e) (fragments_of out) [] xs h.kept refl made.union);
     }
 
 -- the bound may be raised, and then the version is known

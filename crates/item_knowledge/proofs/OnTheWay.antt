@@ -1,13 +1,14 @@
 -- What holds while a union is written: how far its table has come, and what stands there by then.
-use Rattle.std.specs.Prelude.{◌≡◌, ℕ, true, ◌*◌, ◌≤◌, List, ◌++◌, length}
+use Rattle.std.specs.Prelude.{◌≡◌, ℕ, ◌*◌, ◌≤◌, List, [], ◌++◌, length}
 use Rattle.fragment_arena.specs.Arena.{run}
 use Rattle.item_knowledge.specs.Apart.{singles, spread_of, IsSpread}
 use Rattle.item_knowledge.specs.Entries.{Entry}
-use Rattle.item_knowledge.specs.Fragments.{Fragment, is_normal}
-use Rattle.item_knowledge.specs.Gathering.{IsSide, gathered, indexed, pair_vector}
+use Rattle.item_knowledge.specs.Excess.{union_vector}
+use Rattle.item_knowledge.specs.Fragments.{Fragment}
+use Rattle.item_knowledge.specs.Gathering.{gathered, indexed}
 use Rattle.item_knowledge.specs.declared.pairing.Pairing.{Pairing}
 use Rattle.item_knowledge.specs.Pairing.{left_of}
-use Rattle.item_knowledge.specs.Rows.{pairs, AreRows, fragments_of}
+use Rattle.item_knowledge.specs.Rows.{fragments_of}
 
 -- a table on the way: the groups so far with their index, and the rows that are left
 pub record IsGathered (star : List Entry) (f : ℕ × ℕ → List Entry) (rows : List (ℕ × (ℕ × ℕ))) (gs : List Fragment) (numbers : List (ℕ × ℕ)) (all : List Fragment) (every : List (ℕ × ℕ)) : Type 0 where
@@ -15,17 +16,9 @@ pub record IsGathered (star : List Entry) (f : ℕ × ℕ → List Entry) (rows 
   pub index : numbers ++ indexed star f rows gs ≡ every
 
 -- a union on the way: what is written, with a run of the left's fragments that is still to be written, and the rows that are left
-pub record IsOnTheWay (left right : List (List ℕ)) (xs ys : List (ℕ × ℕ)) (star : List ℕ) (out : List (List ℕ)) (index joined : List (ℕ × ℕ)) (at : Pairing) (from to : ℕ) : Type 0 where
+pub record IsOnTheWay (left right : List (List ℕ)) (xs ys : List (ℕ × ℕ)) (star : List Entry) (out : List (List ℕ)) (index joined : List (ℕ × ℕ)) (at : Pairing) (from to : ℕ) : Type 0 where
   pub gs : List Fragment
-  pub rest : gs ++ singles (pair_vector (fragments_of left) (fragments_of right) (0, 0)) (pair_vector (fragments_of left) (fragments_of right)) (left_of at xs ys) ≡ spread_of (fragments_of left) (fragments_of right) xs ys
-  pub spread : IsSpread left (pairs star) gs (out ++ run left (2 * from) (2 * to)) index joined
+  pub rest : gs ++ singles [] (union_vector star (fragments_of left) (fragments_of right)) (left_of at xs ys) ≡ spread_of star (fragments_of left) (fragments_of right) xs ys
+  pub spread : IsSpread left gs (out ++ run left (2 * from) (2 * to)) index joined
   pub order : from ≤ to
   pub there : to ≤ length (fragments_of left)
-
--- the union of two sides, and its star
-pub record IsPair (left right : List (List ℕ)) (xs ys : List (ℕ × ℕ)) (star : List ℕ) : Type 0 where
-  pub left_rows : AreRows left
-  pub left_side : IsSide (fragments_of left) xs
-  pub right_side : IsSide (fragments_of right) ys
-  pub normal : is_normal (fragments_of left) ≡ true
-  pub joint : pairs star ≡ pair_vector (fragments_of left) (fragments_of right) (0, 0)

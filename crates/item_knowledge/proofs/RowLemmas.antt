@@ -1,15 +1,14 @@
 -- Rows of words.
-use Rattle.std.proofs.Common.{◌≡◌, ℕ, zero, suc, ◌+◌, ◌*◌, ◌<◌, ◌≤◌, true, ltb, eqb, ◌&&◌, max, List, [], ◌∷◌, ◌++◌, length, get_or, drop, refl, sym, ap, ◌∙◌, arith, append_assoc}
-use Rattle.std.proofs.lemmas.List.{drop_all}
+use Rattle.std.proofs.Common.{◌≡◌, ℕ, zero, suc, ◌+◌, ◌*◌, ◌<◌, ◌≤◌, true, ltb, eqb, ◌&&◌, max, List, [], ◌∷◌, ◌++◌, length, get_or, set, refl, sym, ap, ◌∙◌, arith, append_assoc}
 use Rattle.std.specs.Cmp.Lexicographic.{pointwise}
 use Rattle.std.proofs.Math.Bool.{and_assoc}
-use Rattle.std.proofs.lemmas.Bool.{and_parts, eqb-true}
+use Rattle.std.proofs.lemmas.Bool.{and_parts, and_from, lt-ltb, eq-eqb, ne_eqb}
 use Rattle.item_knowledge.specs.Tables.{keys_pass, in_order}
-use Rattle.item_knowledge.specs.Entries.{Entry, same_entries, joined}
+use Rattle.item_knowledge.specs.Entries.{Entry, bound, same_entries, joined}
 use Rattle.item_knowledge.specs.Fragments.{Fragment, nothing, entries_at}
 use Rattle.item_knowledge.specs.Rows.{pairs, flat, IsRow, fragments_of, rows_of, AreRows}
-use Rattle.item_knowledge.proofs.TableLemmas.{merge_left}
-use Rattle.item_knowledge.proofs.SearchLemmas.{order_from}
+use Rattle.item_knowledge.proofs.SearchLemmas.{first_below}
+use Rattle.item_knowledge.proofs.TableLemmas.{merge_left, merge_both}
 
 -- Rows and what they are of
 
@@ -74,15 +73,7 @@ same_rows (a ∷ n ∷ xs) (b ∷ []) h g = absurd (odd b g)
 same_rows (a ∷ n ∷ xs) (b ∷ m ∷ ys) h g =
     ap (λ r. eqb a b && (eqb n m && r)) (same_rows xs ys (rest_row a n xs h) (rest_row b m ys g)) ∙ sym (and_assoc (eqb a b) (eqb n m) (same_entries (pairs xs) (pairs ys)))
 
--- A join of rows
-
-pub row_from : (xs : List ℕ) (i : ℕ) → IsRow xs → drop (2 * i) xs ≡ flat (drop i (pairs xs))
-row_from xs zero h = sym h
-row_from [] (suc i) h = let e : 2 * suc i ≡ suc (2 * i + 1) = omega arith in ap (λ k. drop k []) e
-row_from (a ∷ []) (suc i) h = absurd (odd a h)
-row_from (a ∷ n ∷ ws) (suc i) h =
-    let e : 2 * suc i ≡ suc (suc (2 * i)) = omega arith in
-    ap (λ k. drop k (a ∷ n ∷ ws)) e ∙ row_from ws i (rest_row a n ws h)
+-- Joins
 
 -- one entry more
 pub joined_more : (out new : List ℕ) (e : Entry) (rest now all : List Entry) → new ≡ (out ++ e.0 ∷ []) ++ e.1 ∷ [] → now ≡ e ∷ rest → out ++ flat now ≡ flat all → new ++ flat rest ≡ flat all
@@ -91,31 +82,27 @@ joined_more out new e rest now all is step done =
     ∙ (append_assoc (out ++ e.0 ∷ []) (e.1 ∷ []) (flat rest)
     ∙ (append_assoc out (e.0 ∷ []) (e.1 ∷ flat rest) ∙ (ap (λ es. out ++ flat es) (sym step) ∙ done)))
 
-none_joined : (ys : List Entry) → joined [] ys ≡ ys
-none_joined [] = refl
-none_joined (y ∷ ys) = ap (λ zs. y ∷ zs) (none_joined ys)
-
 pub joined_none : (xs : List Entry) → in_order xs ≡ true → joined xs [] ≡ xs
 joined_none [] h = refl
 joined_none (x ∷ xs) h =
     let a = and_parts (keys_pass (λ k. ltb x.0 k) xs) (in_order xs) h in
     merge_left (λ a. a) (λ a b. max a b) (λ b. b) x xs [] a.0 refl ∙ ap (λ zs. x ∷ zs) (joined_none xs a.1)
 
-pub joined_empty : (es : List Entry) (ws : List ℕ) → in_order es ≡ true → eqb (length ws) 0 ≡ true → joined es (pairs ws) ≡ es
-joined_empty es [] o h = joined_none es o
-joined_empty es (w ∷ ws) o h = absurd (omega (arith, eqb-true (length (w ∷ ws)) 0 h))
-
--- the rest of the row that is left
-
-pub left_merged : (xs ys out new : List ℕ) (all : List Entry) (i j : ℕ) → in_order (pairs xs) ≡ true → length (pairs ys) ≤ j → new ≡ out ++ flat (drop i (pairs xs)) → out ++ flat (joined (drop i (pairs xs)) (drop j (pairs ys))) ≡ flat all → new ≡ flat all
-left_merged xs ys out new all i j o over is done =
-    let rest : joined (drop i (pairs xs)) (drop j (pairs ys)) ≡ drop i (pairs xs) = ap (joined (drop i (pairs xs))) (drop_all j (pairs ys) over) ∙ joined_none (drop i (pairs xs)) (order_from (pairs xs) i o) in
-    is ∙ (ap (λ es. out ++ flat es) (sym rest) ∙ done)
-
-pub right_merged : (xs ys out new : List ℕ) (all : List Entry) (i j : ℕ) → length (pairs xs) ≤ i → new ≡ out ++ flat (drop j (pairs ys)) → out ++ flat (joined (drop i (pairs xs)) (drop j (pairs ys))) ≡ flat all → new ≡ flat all
-right_merged xs ys out new all i j over is done =
-    let rest : joined (drop i (pairs xs)) (drop j (pairs ys)) ≡ drop j (pairs ys) = ap (λ es. joined es (drop j (pairs ys))) (drop_all i (pairs xs) over) ∙ none_joined (drop j (pairs ys)) in
-    is ∙ (ap (λ es. out ++ flat es) (sym rest) ∙ done)
+-- a bound that is raised in place in a row is the join with the one entry
+pub row_put : (es : List Entry) (i a n : ℕ) → in_order es ≡ true → i < length es → (get_or es i (0, 0)).0 ≡ a → bound es a ≤ n → set (flat es) (2 * i + 1) n ≡ flat (joined es ((a, n) ∷ []))
+row_put [] i a n h l e m = absurd (omega arith)
+row_put (x ∷ es) zero a n h l e m =
+    let p = and_parts (keys_pass (λ k. ltb x.0 k) es) (in_order es) h in
+    let less : x.1 ≤ n = rw (eq-eqb x.0 a e) at m in
+    let most : max x.1 n ≡ n = omega arith in
+    ap flat (sym (merge_both (λ k. k) (λ k j. max k j) (λ j. j) x es (a, n) [] e p.0 ∙ (λ z. (x.0, most z) ∷ joined_none es p.1 z)))
+row_put (x ∷ es) (suc i) a n h l e m =
+    let p = and_parts (keys_pass (λ k. ltb x.0 k) es) (in_order es) h in
+    let less = first_below x.0 es i (0, 0) p.0 (omega arith) in
+    let two : 2 * suc i + 1 ≡ suc (suc (2 * i + 1)) = omega arith in
+    let rest = row_put es i a n p.1 (omega arith) e (rw (ne_eqb x.0 a (λ s. absurd (omega arith))) at m) in
+    ap (λ k. set (flat (x ∷ es)) k n) two
+    ∙ (ap (λ ws. x.0 ∷ x.1 ∷ ws) rest ∙ ap flat (sym (merge_left (λ k. k) (λ k j. max k j) (λ j. j) x es ((a, n) ∷ []) p.0 (and_from _ _ (lt-ltb x.0 a (omega arith)) refl))))
 
 -- The entries of a row by their places
 

@@ -1,9 +1,10 @@
 -- Searches in tables.
 use Rattle.std.proofs.Common.{rules, ◌≡◌, ℕ, zero, suc, ◌+◌, ◌<◌, ◌≤◌, true, false, ltb, List, [], ◌∷◌, length, get_or, drop, refl, sym, subst, ap, ◌∙◌, inl, inr, arith, add-one}
 use Rattle.std.specs.List.Sorted.{IsNonDecreasingBy, IsPartitionPoint}
-use Rattle.std.proofs.lemmas.Bool.{and_parts, and_from, lt-ltb, ltb-true, ltb-false, eq-eqb, ne_eqb, cases_lt}
+use Rattle.std.proofs.lemmas.Bool.{and_parts, and_from, lt-ltb, ltb-true, ltb-false, eq-eqb, ne_eqb, cases_lt, cases_eq}
 use Rattle.std.proofs.lemmas.List.{drop_all}
 use Rattle.item_knowledge.specs.Tables.{keys_pass, in_order, at, merge}
+use Rattle.item_knowledge.specs.Rows.{IsAt}
 use Rattle.item_knowledge.proofs.MergeLemmas.{drop_next, all_at}
 use Rattle.item_knowledge.proofs.TableLemmas.{at_above, above_all, merge_left, merge_right, merge_both}
 
@@ -21,27 +22,58 @@ no_fall (x ∷ xs) h zero (suc j) d le l =
 no_fall (x ∷ xs) h (suc i) zero d le l = absurd (omega arith)
 no_fall (x ∷ xs) h (suc i) (suc j) d le l = no_fall xs (and_parts (keys_pass (λ n. ltb x.0 n) xs) (in_order xs) h).1 i j d (omega arith) (omega arith)
 
--- a place with smaller numbers before it, and none behind it
-pub record IsPlace (p : ℕ) (xs : List (ℕ × ℕ)) (i : ℕ) : Type 0 where
-  pub below : (k : ℕ) (d : ℕ × ℕ) → k < i → (get_or xs k d).0 < p
-  pub from : (k : ℕ) (d : ℕ × ℕ) → i ≤ k → k < length xs → p ≤ (get_or xs k d).0
+-- smaller numbers stand before the first place, and none from the second on
+pub record IsBetween (p : ℕ) (xs : List (ℕ × ℕ)) (low high : ℕ) : Type 0 where
+  pub below : (k : ℕ) → k < low → (get_or xs k (0, 0)).0 < p
+  pub from : (k : ℕ) → high ≤ k → k < length xs → p ≤ (get_or xs k (0, 0)).0
 
-pub absent_at : (xs : List (ℕ × ℕ)) (p i : ℕ) (e : ℕ × ℕ) → in_order xs ≡ true → IsPlace p xs i → (i < length xs → (get_or xs i e).0 ≡ p → ⊥) → at 0 xs p ≡ 0
-absent_at [] p i e o h n = refl
-absent_at (x ∷ xs) p zero e o h n =
+pub absent_at : (xs : List (ℕ × ℕ)) (p i : ℕ) → in_order xs ≡ true → IsBetween p xs i i → (i < length xs → (get_or xs i (0, 0)).0 ≡ p → ⊥) → at 0 xs p ≡ 0
+absent_at [] p i o h n = refl
+absent_at (x ∷ xs) p zero o h n =
     let a = and_parts (keys_pass (λ k. ltb x.0 k) xs) (in_order xs) o in
-    let le = h.from 0 e (omega arith) (omega arith) in
+    let le = h.from 0 (omega arith) (omega arith) in
     rw (ne_eqb x.0 p (n (omega arith))) (at_above 0 xs p (above_all p x.0 xs le a.0))
-absent_at (x ∷ xs) p (suc i) e o h n =
+absent_at (x ∷ xs) p (suc i) o h n =
     let a = and_parts (keys_pass (λ k. ltb x.0 k) xs) (in_order xs) o in
-    let less = h.below 0 e (omega arith) in
-    rw (ne_eqb x.0 p (λ same. absurd (omega arith))) (absent_at xs p i e a.1 (record { below = λ k d g. h.below (suc k) d (omega arith); from = λ k d g m. h.from (suc k) d (omega arith) (omega arith) }) (λ l. n (omega arith)))
+    let less = h.below 0 (omega arith) in
+    rw (ne_eqb x.0 p (λ same. absurd (omega arith))) (absent_at xs p i a.1 (record { below = λ k g. h.below (suc k) (omega arith); from = λ k g m. h.from (suc k) (omega arith) (omega arith) }) (λ l. n (omega arith)))
 
-pub is_place : (p : ℕ) (xs : List (ℕ × ℕ)) (i : ℕ) → IsPartitionPoint (λ r. ltb r.0 p ≡ true) (λ r. ltb r.0 p ≡ false) xs i → IsPlace p xs i
+pub is_place : (p : ℕ) (xs : List (ℕ × ℕ)) (i : ℕ) → IsPartitionPoint (λ r. ltb r.0 p ≡ true) (λ r. ltb r.0 p ≡ false) xs i → IsBetween p xs i i
 is_place p xs i h = record {
-  below = λ k d l. ltb-true (get_or xs k d).0 p (search (rules, h.0));
-  from = λ k d l m. ltb-false (get_or xs k d).0 p (search (rules, h.1));
+  below = λ k l. ltb-true (get_or xs k (0, 0)).0 p (search (rules, h.0));
+  from = λ k l m. ltb-false (get_or xs k (0, 0)).0 p (search (rules, h.1));
 }
+
+-- The search by halves
+
+pub between_all : (p : ℕ) (xs : List (ℕ × ℕ)) (n : ℕ) → n ≡ length xs → IsBetween p xs 0 n
+between_all p xs n e = record { below = λ k l. absurd (omega arith); from = λ k l m. absurd (omega arith) }
+
+module _ (p : ℕ) (xs : List (ℕ × ℕ)) (low high i : ℕ) (o : in_order xs ≡ true) (h : IsBetween p xs low high) (l : i < length xs) where
+  pub between_above : (get_or xs i (0, 0)).0 < p → IsBetween p xs (i + 1) high
+  between_above less = record { below = λ k m. let up = no_fall xs o k i (0, 0) (omega arith) l in omega arith; from = h.from }
+
+  pub between_below : p ≤ (get_or xs i (0, 0)).0 → IsBetween p xs low i
+  between_below le = record { below = h.below; from = λ k m n. let up = no_fall xs o i k (0, 0) m n in omega arith }
+
+-- before a place stands nothing of the number
+pub at_place : (p : ℕ) (xs : List (ℕ × ℕ)) (i : ℕ) → IsBetween p xs i i → at 0 (drop i xs) p ≡ at 0 xs p
+at_place p xs i h = go xs i h.below where
+  go : (ys : List (ℕ × ℕ)) (j : ℕ) → ((k : ℕ) → k < j → (get_or ys k (0, 0)).0 < p) → at 0 (drop j ys) p ≡ at 0 ys p
+  go ys zero f = refl
+  go [] (suc j) f = refl
+  go (y ∷ ys) (suc j) f =
+      let less = f 0 (omega arith) in
+      go ys j (λ k l. f (suc k) (omega arith)) ∙ sym (rw (ne_eqb y.0 p (λ s. absurd (omega arith))) refl)
+
+pub stands_at : (p : ℕ) (xs : List (ℕ × ℕ)) (i : ℕ) → in_order xs ≡ true → IsBetween p xs i i → 0 < at 0 xs p → IsAt xs i p
+stands_at p xs i o h some = elim (cases_lt i (length xs)) [
+  | inl there ↦ elim (cases_eq (get_or xs i (0, 0)).0 p) [
+    | inl same ↦ record { inside = there; author_is = same }
+    | inr other ↦ let none = absent_at xs p i o h (λ _. other) in absurd (omega arith)
+  ]
+  | inr over ↦ let none = absent_at xs p i o h (λ l. absurd (omega (arith, l))) in absurd (omega arith)
+]
 
 -- A table, from a place on
 
@@ -51,7 +83,7 @@ order_from [] (suc i) h = refl
 order_from (x ∷ xs) (suc i) h = order_from xs i (and_parts (keys_pass (λ k. ltb x.0 k) xs) (in_order xs) h).1
 
 -- behind a place all are greater
-pub above_next : (xs : List (ℕ × ℕ)) (i : ℕ) (d : ℕ × ℕ) → in_order xs ≡ true → i < length xs → keys_pass (λ k. ltb (get_or xs i d).0 k) (drop (i + 1) xs) ≡ true
+above_next : (xs : List (ℕ × ℕ)) (i : ℕ) (d : ℕ × ℕ) → in_order xs ≡ true → i < length xs → keys_pass (λ k. ltb (get_or xs i d).0 k) (drop (i + 1) xs) ≡ true
 above_next xs i d h l =
     let order = subst (λ zs. in_order zs ≡ true) (drop_next xs i d l) (order_from xs i h) in
     (and_parts (keys_pass (λ k. ltb (get_or xs i d).0 k) (drop (i + 1) xs)) (in_order (drop (i + 1) xs)) order).0
@@ -62,7 +94,7 @@ none_from xs i p d h l less =
     ∙ at_above 0 (get_or xs i d ∷ drop (i + 1) xs) p (and_from _ _ (lt-ltb p (get_or xs i d).0 less) (above_all p (get_or xs i d).0 (drop (i + 1) xs) (omega arith) (above_next xs i d h l)))
 
 -- where a place has no greater number, nothing before it counts
-pub at_from : (xs : List (ℕ × ℕ)) (i q : ℕ) (d : ℕ × ℕ) → in_order xs ≡ true → i < length xs → (get_or xs i d).0 ≤ q → at 0 (drop i xs) q ≡ at 0 xs q
+at_from : (xs : List (ℕ × ℕ)) (i q : ℕ) (d : ℕ × ℕ) → in_order xs ≡ true → i < length xs → (get_or xs i d).0 ≤ q → at 0 (drop i xs) q ≡ at 0 xs q
 at_from xs zero q d h l le = refl
 at_from [] (suc i) q d h l le = absurd (omega arith)
 at_from (x ∷ xs) (suc i) q d h l le =
@@ -70,7 +102,7 @@ at_from (x ∷ xs) (suc i) q d h l le =
     let less = first_below x.0 xs i d a.0 (omega arith) in
     at_from xs i q d a.1 (omega arith) le ∙ sym (rw (ne_eqb x.0 q (λ s. absurd (omega arith))) refl)
 
-pub passed_from : (xs : List (ℕ × ℕ)) (i q : ℕ) (d : ℕ × ℕ) → i < length xs → ((get_or xs i d).0 ≡ q → ⊥) → at 0 (drop i xs) q ≡ at 0 (drop (i + 1) xs) q
+passed_from : (xs : List (ℕ × ℕ)) (i q : ℕ) (d : ℕ × ℕ) → i < length xs → ((get_or xs i d).0 ≡ q → ⊥) → at 0 (drop i xs) q ≡ at 0 (drop (i + 1) xs) q
 passed_from xs i q d l n = ap (λ zs. at 0 zs q) (drop_next xs i d l) ∙ rw (ne_eqb (get_or xs i d).0 q n) refl
 
 pub found_there : (xs : List (ℕ × ℕ)) (p i : ℕ) (d : ℕ × ℕ) → in_order xs ≡ true → i < length xs → (get_or xs i d).0 ≡ p → (get_or xs i d).1 ≡ at 0 xs p

@@ -1,25 +1,18 @@
 -- Marks of the bounds that stand in rows.
-use Rattle.std.proofs.Common.{◌≡◌, ℕ, zero, suc, ◌+◌, ◌*◌, ◌%◌, ◌^◌, ◌<◌, ◌≤◌, true, false, not, ltb, eqb, max, List, [], ◌∷◌, ◌++◌, length, get_or, set, replicate, refl, sym, subst, ap, ◌∙◌, inl, inr, arith}
+use Rattle.std.proofs.Common.{◌≡◌, ℕ, suc, ◌+◌, ◌*◌, ◌%◌, ◌^◌, ◌<◌, ◌≤◌, true, false, not, ltb, eqb, max, List, [], ◌∷◌, length, get_or, set, refl, sym, subst, ap, ◌∙◌, inl, inr, arith}
 use Rattle.std.specs.Int.{bit_at}
 use Rattle.std.specs.Int.Bits.{bit_or}
 use Rattle.std.proofs.lemmas.Bool.{and_parts, ltb-true, not-true, cases_Bool, cases_lt, cases_eq, eq-eqb, eqb-true, ne_eqb, false≢true}
-use Rattle.std.proofs.lemmas.List.{get_or_past, get_or_append_left, get_or-set_same, get_or-set_other, length-set}
+use Rattle.std.proofs.lemmas.List.{get_or_past, get_or-set_same, get_or-set_other, length-set}
 use Rattle.std.proofs.lemmas.Nat.{one_shl}
-use Rattle.std.proofs.lemmas.Nat.Bits.{bit_at_or, bit_at-zero, bit_at-lt, bit_at-pow_same}
-use Rattle.item_knowledge.specs.Tables.{at, keys_pass, in_order}
+use Rattle.std.proofs.lemmas.Nat.Bits.{bit_at_or, bit_at-lt, bit_at-pow_same}
+use Rattle.item_knowledge.specs.Tables.{keys_pass, in_order}
 use Rattle.item_knowledge.specs.Entries.{Entry, bound}
-use Rattle.item_knowledge.specs.Fragments.{Fragment, entries_at}
-use Rattle.item_knowledge.specs.Gathering.{vector_of, IsSide, IsUnion}
-use Rattle.item_knowledge.specs.Raising.{all_raised, are_risen}
-use Rattle.item_knowledge.specs.Rows.{fragments_of, rows_of}
+use Rattle.item_knowledge.specs.Fragments.{Fragment, nothing, entries_at}
+use Rattle.item_knowledge.specs.Rows.{fragments_of}
 use Rattle.item_knowledge.specs.Seen.{bit_of, is_marked, HasMarks, AreMarked, IsSeen, is_unseen, has_unseen}
 use Rattle.item_knowledge.proofs.EntryLemmas.{bound_below}
 use Rattle.item_knowledge.proofs.MergeLemmas.{next_too}
-use Rattle.item_knowledge.proofs.PutLemmas.{raised_at_bound}
-use Rattle.item_knowledge.proofs.RaiseLemmas.{length_raised}
-use Rattle.item_knowledge.proofs.RowLemmas.{fragments_rows}
-use Rattle.item_knowledge.proofs.TopLemmas.{none_past}
-use Rattle.item_knowledge.proofs.UnionLemmas.{union_at}
 
 -- Marks
 
@@ -33,18 +26,6 @@ with_more words new a n m is h =
     let few : bit_at m i < 2 = bit_at-lt m i in
     let now : bit_at (bit_or w m) i ≡ 1 = omega arith in
     eq-eqb (bit_at (get_or new (n % 8192) 0) i) 1 (ap (λ x. bit_at x i) is ∙ now)
-
-pub filled : (words new : List ℕ) (k : ℕ) → new ≡ words ++ replicate k 0 → HasMarks words new
-filled words new k is a n h = elim (cases_lt (n % 8192) (length words)) [
-  | inl there ↦
-      let same : get_or new (n % 8192) 0 ≡ get_or words (n % 8192) 0 = ap (λ xs. get_or xs (n % 8192) 0) is ∙ get_or_append_left words (replicate k 0) 0 (n % 8192) there in
-      ap (λ x. eqb (bit_at x (bit_of a)) 1) same ∙ h
-  | inr past ↦
-      let none : get_or words (n % 8192) 0 ≡ 0 = get_or_past words (n % 8192) 0 past in
-      let bits : bit_at (get_or words (n % 8192) 0) (bit_of a) ≡ 0 = ap (λ x. bit_at x (bit_of a)) none ∙ bit_at-zero (bit_of a) in
-      let one = eqb-true (bit_at (get_or words (n % 8192) 0) (bit_of a)) 1 h in
-      absurd (omega arith)
-]
 
 pub set_keeps : (words new : List ℕ) (place m : ℕ) → place < length words → new ≡ set words place (bit_or (get_or words place 0) m) → HasMarks words new
 set_keeps words new place m l is a n h = elim (cases_eq (n % 8192) place) [
@@ -95,6 +76,9 @@ one_added one other words new i h l is =
 
 -- Rows that are marked
 
+none_past : (fs : List Fragment) (k a : ℕ) → length fs ≤ k → bound (entries_at fs k) a ≡ 0
+none_past fs k a l = ap (λ (f : Fragment). bound f.entries a) (get_or_past fs k nothing l)
+
 bounds_marked : (words : List ℕ) (es : List Entry) (a : ℕ) → AreMarked words es → 0 < bound es a → is_marked words a (bound es a) ≡ true
 bounds_marked words [] a h some = absurd (omega arith)
 bounds_marked words (e ∷ es) a h some = elim (cases_eq e.0 a) [
@@ -113,7 +97,7 @@ all_seen words rows n l h k a more = elim (cases_lt k (length (fragments_of rows
 ]
 
 -- what is marked stays so
-pub marked_more : (words new : List ℕ) (es : List Entry) → HasMarks words new → AreMarked words es → AreMarked new es
+marked_more : (words new : List ℕ) (es : List Entry) → HasMarks words new → AreMarked words es → AreMarked new es
 marked_more words new es more h i l = more (get_or es i (0, 0)).0 (get_or es i (0, 0)).1 (h i l)
 
 pub marked_rows : (words new : List ℕ) (fs : List Fragment) (k : ℕ) → ((j : ℕ) → j < k → AreMarked words (entries_at fs j)) → HasMarks words new → AreMarked new (entries_at fs k) → (j : ℕ) → j < k + 1 → AreMarked new (entries_at fs j)
@@ -150,49 +134,3 @@ pub unseen_nowhere : (words : List ℕ) (rows : List (List ℕ)) (k : ℕ) → I
 unseen_nowhere words rows k h order unseen =
     let some = some_unseen words (entries_at (fragments_of rows) 0) (entries_at (fragments_of rows) k) order unseen in
     false≢true (sym some.1.1 ∙ h k some.0 some.1.0)
-
--- The marks of a union
-
-pub union_seen : (one other words : List ℕ) (left right out : List (List ℕ)) (xs ys zs : List (ℕ × ℕ)) → IsSeen one left → IsSeen other right → HasMarks one words → HasMarks other words → IsSide (fragments_of left) xs → IsSide (fragments_of right) ys → IsUnion (fragments_of left) xs (fragments_of right) ys (fragments_of out) zs → IsSeen words out
-union_seen one other words left right out xs ys zs h g first_marks other_marks f side u zero a more = absurd (omega arith)
-union_seen one other words left right out xs ys zs h g first_marks other_marks f side u (suc k) a more = elim (cases_lt (suc k) (length (fragments_of out))) [
-  | inl there ↦
-      let here = union_at (fragments_of left) (fragments_of right) (fragments_of out) xs ys zs (suc k) a f side u (omega arith) there in
-      let left_bound = bound (vector_of (fragments_of left) xs here.0) a in
-      let right_bound = bound (vector_of (fragments_of right) ys here.0) a in
-      let greater = here.1 in
-      let star = u.star a in
-      elim (cases_lt left_bound right_bound) [
-        | inl less ↦
-            let is : right_bound ≡ bound (entries_at (fragments_of out) (suc k)) a = omega arith in
-            subst (λ n. is_marked words a n ≡ true) is (other_marks a right_bound (g (at 0 ys here.0) a (omega arith)))
-        | inr most ↦
-            let is : left_bound ≡ bound (entries_at (fragments_of out) (suc k)) a = omega arith in
-            subst (λ n. is_marked words a n ≡ true) is (first_marks a left_bound (h (at 0 xs here.0) a (omega arith)))
-      ]
-  | inr past ↦ let none = none_past (fragments_of out) (suc k) a past in absurd (omega arith)
-]
-
--- Marks where an author's bound rises
-
-pub raised_seen : (words : List ℕ) (rows new : List (List ℕ)) (e : Entry) → IsSeen words rows → are_risen e (fragments_of rows) ≡ true → new ≡ rows_of (all_raised e (fragments_of rows)) → IsSeen words new
-raised_seen words rows new e h risen is = subst (λ gs. Seen_of gs) (sym (ap fragments_of is ∙ fragments_rows (all_raised e fs))) one
-  where
-    fs : List Fragment
-    fs = fragments_of rows
-
-    Seen_of : List Fragment → Type 0
-    Seen_of gs = (k a : ℕ) → bound (entries_at gs 0) a < bound (entries_at gs k) a → is_marked words a (bound (entries_at gs k) a) ≡ true
-
-    one : Seen_of (all_raised e fs)
-    one k a more = elim (cases_lt k (length fs)) [
-      | inl there ↦
-          let here = raised_at_bound e fs k a risen there in
-          let star = raised_at_bound e fs 0 a risen (omega arith) in
-          let same : bound (entries_at fs k) a ≡ bound (entries_at (all_raised e fs) k) a = omega arith in
-          subst (λ n. is_marked words a n ≡ true) same (h k a (omega arith))
-      | inr past ↦
-          let long = length_raised e fs in
-          let none = none_past (all_raised e fs) k a (omega arith) in
-          absurd (omega arith)
-    ]

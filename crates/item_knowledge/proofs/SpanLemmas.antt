@@ -1,13 +1,6 @@
--- Runs of the left's fragments, and what the union has at a picture whose fragment stays.
-use Rattle.std.proofs.Common.{◌≡◌, ℕ, zero, suc, ◌+◌, ◌-◌, ◌*◌, ◌<◌, ◌≤◌, max, List, [], ◌∷◌, ◌++◌, length, get_or, take, drop, refl, sym, ap, ◌∙◌, inl, inr, arith, append-nil}
+-- Runs of the left's fragments.
+use Rattle.std.proofs.Common.{◌≡◌, ℕ, zero, suc, ◌+◌, ◌-◌, ◌*◌, ◌<◌, ◌≤◌, List, [], ◌∷◌, ◌++◌, length, get_or, take, drop, refl, sym, ap, ◌∙◌, arith, append-nil}
 use Rattle.fragment_arena.specs.Arena.{run}
-use Rattle.item_knowledge.specs.Entries.{Entry, bound}
-use Rattle.item_knowledge.specs.Fragments.{Fragment, entries_at}
-use Rattle.item_knowledge.specs.Gathering.{IsSide, pair_vector}
-use Rattle.item_knowledge.specs.Apart.{AddsNothing}
-use Rattle.item_knowledge.proofs.FragmentLemmas.{leq_at}
-use Rattle.item_knowledge.proofs.JoinLemmas.{joined_bound, joined_left, leq_from}
-use Rattle.item_knowledge.proofs.UnionLemmas.{above}
 
 -- A run with one more row
 
@@ -35,22 +28,3 @@ run_more rows from a le lt =
 
 pub nothing_pending : (left out : List (List ℕ)) (to : ℕ) → out ++ run left to to ≡ out
 nothing_pending left out to = ap (λ rs. out ++ rs) (run_empty left to) ∙ append-nil out
-
--- What stays has the vector of the union
-
-untold : (fs gs : List Fragment) (xs ys : List (ℕ × ℕ)) (star : List Entry) (a : ℕ) → IsSide fs xs → IsSide gs ys → star ≡ pair_vector fs gs (0, 0) → star ≡ entries_at fs 0 → a < length fs → pair_vector fs gs (a, 0) ≡ entries_at fs a
-untold fs gs xs ys star a left right joint same l =
-    let s = above fs xs 0 left left.star in
-    let t = above gs ys 0 right right.star in
-    let v = above fs xs a left l in
-    joined_left (entries_at fs a) (entries_at gs 0) v.vector t.vector
-    (leq_from (entries_at gs 0) (entries_at fs a) t.vector (λ w.
-    let both : bound (entries_at fs 0) w ≡ max (bound (entries_at fs 0) w) (bound (entries_at gs 0) w) = ap (λ es. bound es w) (sym same ∙ joint) ∙ joined_bound (entries_at fs 0) (entries_at gs 0) w s.vector t.vector in
-    let up = leq_at (entries_at fs 0) (entries_at fs a) w v.above in
-    omega (arith, both, up)))
-
--- what adds nothing leaves the vector of the left
-pub stays_joint : (fs gs : List Fragment) (xs ys : List (ℕ × ℕ)) (star : List Entry) (a b : ℕ) → IsSide fs xs → IsSide gs ys → star ≡ pair_vector fs gs (0, 0) → star ≡ entries_at fs 0 → a < length fs → b < length gs → AddsNothing fs gs a b
-    → pair_vector fs gs (a, b) ≡ entries_at fs a
-stays_joint fs gs xs ys star a b left right joint same l m (inl e) = ap (λ k. pair_vector fs gs (a, k)) e ∙ untold fs gs xs ys star a left right joint same l
-stays_joint fs gs xs ys star a b left right joint same l m (inr within) = joined_left (entries_at fs a) (entries_at gs b) (above fs xs a left l).vector (above gs ys b right m).vector within

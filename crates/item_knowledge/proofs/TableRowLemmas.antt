@@ -1,5 +1,5 @@
 -- What is told of pictures, as rows.
-use Rattle.std.proofs.Common.{◌≡◌, ℕ, zero, suc, ◌+◌, ◌<◌, ◌≤◌, Bool, true, false, ltb, cond, max, ◌&&◌, ◌||◌, List, [], ◌∷◌, ◌++◌, map, length, get_or, drop, refl, sym, subst, ap, ◌∙◌, inl, inr, arith, append_assoc, Some}
+use Rattle.std.proofs.Common.{◌≡◌, ℕ, zero, suc, ◌+◌, ◌<◌, ◌≤◌, Bool, true, false, ltb, cond, max, ◌&&◌, ◌||◌, List, [], ◌∷◌, ◌++◌, map, length, drop, refl, sym, subst, ap, ◌∙◌, inl, inr, arith, append_assoc, Some}
 use Rattle.std.proofs.lemmas.List.{drop_all, append-nil, length-append, length-map}
 use Rattle.std.specs.List.{list_all, slice_get}
 use Rattle.std.proofs.lemmas.Option.{slice_get_within, get_or_from_slice_get}
@@ -16,12 +16,12 @@ use Rattle.item_knowledge.specs.Entries.{Entry, denotes, is_entry, is_vector, mo
 use Rattle.item_knowledge.specs.Fragments.{Fragment, knows, nothing, entries_at}
 use Rattle.item_knowledge.specs.Kept.{star_bound}
 use Rattle.item_knowledge.specs.Spare.{IsJoined}
-use Rattle.item_knowledge.specs.Rows.{flat, fragments_of, rows_of}
+use Rattle.item_knowledge.specs.Rows.{flat, fragments_of, rows_of, AreRows}
 use Rattle.item_knowledge.specs.Gathering.{is_above, vector_of, IsSide}
 use Rattle.item_knowledge.specs.TableRows.{entries_of, bounds_of, told_one, told, numbered, IsTold}
 use Rattle.item_knowledge.proofs.MergeLemmas.{drop_next}
 use Rattle.item_knowledge.proofs.EntryLemmas.{vector_parts}
-use Rattle.item_knowledge.proofs.RowLemmas.{fragments_rows}
+use Rattle.item_knowledge.proofs.RowLemmas.{fragments_rows, rows_rows}
 
 some_same : {X : Type 0} (y z : X) → Some y ≡ Some z → y ≡ z
 some_same y z e = cc
@@ -155,16 +155,15 @@ told_vector table p = found_told (nothing ∷ []) 1 table p refl (omega arith) r
 
 -- The bounds of all entries
 
-pub bounds_done : (es : List Entry) (out : List Bound) (i : ℕ) → length es ≤ i → out ++ bounds_of (drop i es) ≡ bounds_of es → out ≡ bounds_of es
-bounds_done es out i l h = sym (append-nil out) ∙ (ap (λ fs. out ++ bounds_of fs) (sym (drop_all i es l)) ∙ h)
+pub bounds_done : (now all : List Entry) (out : List Bound) → now ≡ [] → out ++ bounds_of now ≡ bounds_of all → out ≡ bounds_of all
+bounds_done now all out none h = sym (append-nil out) ∙ (ap (λ es. out ++ bounds_of es) (sym none) ∙ h)
 
-pub bounds_more : (es : List Entry) (i : ℕ) (e : Entry) (out new : List Bound) (b : Bound) → i < length es → e ≡ get_or es i (0, 0) → b ≡ (author_of_word e.0, e.1) → new ≡ out ++ b ∷ [] → out ++ bounds_of (drop i es) ≡ bounds_of es → new ++ bounds_of (drop (i + 1) es) ≡ bounds_of es
-bounds_more es i e out new b l at bound is h =
-    let rest : List Bound = bounds_of (drop (i + 1) es) in
-    ap (λ bs. bs ++ rest) is
-    ∙ (append_assoc out (b ∷ []) rest
-    ∙ (ap (λ c. out ++ c ∷ rest) (bound ∙ ap (λ (x : Entry). (author_of_word x.0, x.1)) at)
-    ∙ (ap (λ fs. out ++ bounds_of fs) (sym (drop_next es i (0, 0) l)) ∙ h)))
+pub bounds_more : (now rest all : List Entry) (e : Entry) (out new : List Bound) (b : Bound) → now ≡ e ∷ rest → b ≡ (author_of_word e.0, e.1) → new ≡ out ++ b ∷ [] → out ++ bounds_of now ≡ bounds_of all → new ++ bounds_of rest ≡ bounds_of all
+bounds_more now rest all e out new b step bound is h =
+    ap (λ bs. bs ++ bounds_of rest) is
+    ∙ (append_assoc out (b ∷ []) (bounds_of rest)
+    ∙ (ap (λ c. out ++ c ∷ bounds_of rest) bound
+    ∙ (ap (λ es. out ++ bounds_of es) (sym step) ∙ h)))
 
 -- What is learned of a table
 
@@ -194,6 +193,23 @@ one_at false bs v = refl
 
 pub one_side : (q : ℕ) (bs : List Bound) (rows : List (List ℕ)) → rows ≡ rows_of (told ((q, bs) ∷ [])) → 0 < q → is_vector (entries_of bs) ≡ true → IsSide (fragments_of rows) ((q, 1) ∷ [])
 one_side q bs rows is z v = told_are_side ((q, bs) ∷ []) rows ((q, 1) ∷ []) is refl refl (and_from _ _ (lt-ltb 0 q z) refl) (and_from _ _ v refl)
+
+-- The rows of what is told
+
+told_vectors : (table : List (ℕ × List Bound)) → list_all (λ (t : ℕ × List Bound). is_vector (entries_of t.1)) table ≡ true → list_all (λ (f : Fragment). is_vector f.entries) (map (λ t. told_one t) table) ≡ true
+told_vectors [] h = refl
+told_vectors (t ∷ table) h =
+    let p = and_parts (is_vector (entries_of t.1)) (list_all (λ (u : ℕ × List Bound). is_vector (entries_of u.1)) table) h in
+    and_from _ _ p.0 (told_vectors table p.1)
+
+pub told_are_vectors : (table : List (ℕ × List Bound)) (rows : List (List ℕ)) → rows ≡ rows_of (told table) → list_all (λ (t : ℕ × List Bound). is_vector (entries_of t.1)) table ≡ true → list_all (λ (f : Fragment). is_vector f.entries) (fragments_of rows) ≡ true
+told_are_vectors table rows is h = subst (λ fs. list_all (λ (f : Fragment). is_vector f.entries) fs ≡ true) (sym (ap fragments_of is ∙ fragments_rows (told table))) (told_vectors table h)
+
+pub told_are_rows : (table : List (ℕ × List Bound)) (rows : List (List ℕ)) → rows ≡ rows_of (told table) → AreRows rows
+told_are_rows table rows is = subst AreRows (sym is) (rows_rows (told table))
+
+pub told_star : (table : List (ℕ × List Bound)) (rows : List (List ℕ)) → rows ≡ rows_of (told table) → entries_at (fragments_of rows) 0 ≡ []
+told_star table rows is = ap (λ rs. entries_at (fragments_of rs) 0) is
 
 -- A table on the way: what is told, and what is left
 

@@ -1,22 +1,23 @@
 -- A union in which each picture has a fragment of its own, on the way along two indexes.
-use Rattle.std.proofs.Common.{◌≡◌, ℕ, suc, ◌+◌, ◌*◌, ◌<◌, ◌≤◌, Bool, true, false, not, ◌⊎◌, List, [], ◌∷◌, ◌++◌, length, get_or, drop, refl, sym, subst, ap, ◌∙◌, inl, inr, arith, append_assoc, append-nil, length-append}
+use Rattle.std.proofs.Common.{◌≡◌, ℕ, suc, ◌+◌, ◌*◌, ◌<◌, ◌≤◌, true, false, ◌⊎◌, List, [], ◌∷◌, ◌++◌, length, get_or, drop, sym, subst, ap, ◌∙◌, inl, inr, arith, append_assoc, append-nil, length-append}
 use Rattle.std.proofs.Math.ListN.{get_or-append}
 use Rattle.std.proofs.Math.Seq.{get_or-append_seam}
-use Rattle.std.proofs.lemmas.Bool.{cases_Bool, cases_lt, true≢false}
+use Rattle.std.proofs.lemmas.Bool.{cases_Bool, cases_lt}
 use Rattle.fragment_arena.specs.Arena.{run}
 use Rattle.item_knowledge.specs.Apart.{singles, spread_of, FromLeft, IsListed, IsSpread, Stays}
 use Rattle.item_knowledge.specs.Entries.{Entry, same_entries}
+use Rattle.item_knowledge.specs.Excess.{union_vector, IsExcess, AllDiffer}
 use Rattle.item_knowledge.specs.Fragments.{Fragment, nothing, entries_at}
-use Rattle.item_knowledge.specs.Gathering.{paired, pair_vector, star_first}
+use Rattle.item_knowledge.specs.Gathering.{paired, star_first}
 use Rattle.item_knowledge.specs.declared.pairing.Pairing.{Pairing}
 use Rattle.item_knowledge.specs.Pairing.{left_of}
 use Rattle.item_knowledge.specs.Rows.{pairs, flat, IsRow, fragments_of}
-use Rattle.item_knowledge.proofs.ApartLemmas.{vectors_differ, singles_same, singles_other, rows_snoc, numbered_snoc, numbered_length}
+use Rattle.item_knowledge.proofs.ApartLemmas.{singles_same, singles_other, rows_snoc, numbered_snoc, numbered_length}
 use Rattle.item_knowledge.proofs.FragmentLemmas.{entries_decide}
-use Rattle.item_knowledge.proofs.OnTheWay.{IsOnTheWay, IsPair}
+use Rattle.item_knowledge.proofs.OnTheWay.{IsOnTheWay}
 use Rattle.item_knowledge.proofs.PlaceLemmas.{of_one}
 use Rattle.item_knowledge.proofs.RowLemmas.{pairs_flat, flat_row, entries_read, rows_read}
-use Rattle.item_knowledge.proofs.SpanLemmas.{run_more, nothing_pending, stays_joint}
+use Rattle.item_knowledge.proofs.SpanLemmas.{run_more, nothing_pending}
 
 -- What is listed, with one more
 
@@ -51,17 +52,17 @@ module _ (joined after : List (ℕ × ℕ)) (x : ℕ × ℕ) (pushed : after ≡
 
 -- What is written, with one fragment more
 
-spread_more : (left : List (List ℕ)) (star : List Entry) (gs : List Fragment) (rows new : List (List ℕ)) (index more joined after : List (ℕ × ℕ)) (p : ℕ) (row : List ℕ) (v : List Entry)
-    → IsSpread left star gs rows index joined → new ≡ (rows ++ (p ∷ []) ∷ []) ++ row ∷ [] → IsRow row → pairs row ≡ v → more ≡ index ++ (p, length index + 1) ∷ []
+spread_more : (left : List (List ℕ)) (gs : List Fragment) (rows new : List (List ℕ)) (index more joined after : List (ℕ × ℕ)) (p : ℕ) (row : List ℕ) (v : List Entry)
+    → IsSpread left gs rows index joined → new ≡ (rows ++ (p ∷ []) ∷ []) ++ row ∷ [] → IsRow row → pairs row ≡ v → more ≡ index ++ (p, length index + 1) ∷ []
     → ((n : ℕ) → IsListed joined n → IsListed after n) → IsListed after (suc (length gs)) ⊎ FromLeft left (of_one p v) → ((m : ℕ) → m < length after → (get_or after m (0, 0)).1 < suc (suc (length gs)))
-    → IsSpread left star (gs ++ of_one p v ∷ []) new more after
-spread_more left star gs rows new index more joined after p row v h written is_row vector pushed wider origin below =
+    → IsSpread left (gs ++ of_one p v ∷ []) new more after
+spread_more left gs rows new index more joined after p row v h written is_row vector pushed wider origin below =
     let long : length index ≡ length gs = ap (length {A = ℕ × ℕ}) h.index_is ∙ numbered_length 1 gs in
     let many : length (gs ++ of_one p v ∷ []) ≡ suc (length gs) = length-append gs (of_one p v ∷ []) ∙ (omega arith) in
     let number : length index + 1 ≡ 1 + length gs = omega (arith, long) in
     let row_is : row ≡ flat v = sym is_row ∙ ap flat vector in
     record {
-      rows_are = written ∙ (λ j. (h.rows_are j ++ (p ∷ []) ∷ []) ++ row_is j ∷ []) ∙ sym (rows_snoc (star_first star gs) p v);
+      rows_are = written ∙ (λ j. (h.rows_are j ++ (p ∷ []) ∷ []) ++ row_is j ∷ []) ∙ sym (rows_snoc (star_first [] gs) p v);
       index_is = pushed ∙ (λ j. h.index_is j ++ (p, number j) ∷ []) ∙ sym (numbered_snoc 1 gs p v);
       origins = λ k l. elim (cases_lt k (length gs)) [
         | inl less ↦ widened k (sym (get_or-append gs (of_one p v ∷ []) nothing k less)) (h.origins k less)
@@ -79,17 +80,13 @@ spread_more left star gs rows new index more joined after p row v h written is_r
 
 -- On the way
 
-pub not_raised : (b : Bool) → not b ≡ false → b ≡ true
-not_raised true h = refl
-not_raised false h = absurd (true≢false h)
-
-pub on_first : (left right : List (List ℕ)) (xs ys : List (ℕ × ℕ)) (star : List ℕ) (out : List (List ℕ)) (index joined : List (ℕ × ℕ)) (at : Pairing) → 0 < length (fragments_of left) → IsRow star → at.left ≡ 0 → at.right ≡ 0 → out ≡ [] ∷ star ∷ [] → index ≡ [] → joined ≡ []
+pub on_first : (left right : List (List ℕ)) (xs ys : List (ℕ × ℕ)) (star : List Entry) (out : List (List ℕ)) (index joined : List (ℕ × ℕ)) (at : Pairing) → 0 < length (fragments_of left) → at.left ≡ 0 → at.right ≡ 0 → out ≡ [] ∷ [] ∷ [] → index ≡ [] → joined ≡ []
     → IsOnTheWay left right xs ys star out index joined at 1 1
-on_first left right xs ys star out index joined at some s l r o n j = record {
+on_first left right xs ys star out index joined at some l r o n j = record {
   gs = [];
-  rest = λ i. singles (pair_vector (fragments_of left) (fragments_of right) (0, 0)) (pair_vector (fragments_of left) (fragments_of right)) (paired (drop (l i) xs) (drop (r i) ys));
+  rest = λ i. singles [] (union_vector star (fragments_of left) (fragments_of right)) (paired (drop (l i) xs) (drop (r i) ys));
   spread = record {
-    rows_are = nothing_pending left out 2 ∙ o ∙ ap (λ row. [] ∷ row ∷ []) (sym s);
+    rows_are = nothing_pending left out 2 ∙ o;
     index_is = n;
     origins = λ k l. absurd (omega (arith, l));
     there = λ m l. let none = ap (length {A = ℕ × ℕ}) j in absurd (omega (arith, l, none));
@@ -98,79 +95,78 @@ on_first left right xs ys star out index joined at some s l r o n j = record {
   there = some;
 }
 
-module _ (left right : List (List ℕ)) (xs ys : List (ℕ × ℕ)) (star : List ℕ) (out : List (List ℕ)) (index joined : List (ℕ × ℕ)) (at : Pairing) (from to : ℕ) (h : IsOnTheWay left right xs ys star out index joined at from to) where
-  abbrev pub f : ℕ × ℕ → List Entry
-  f = pair_vector (fragments_of left) (fragments_of right)
+module _ (left right : List (List ℕ)) (xs ys : List (ℕ × ℕ)) (star : List Entry) (out : List (List ℕ)) (index joined : List (ℕ × ℕ)) (at : Pairing) (from to : ℕ) (h : IsOnTheWay left right xs ys star out index joined at from to) where
+  abbrev f : ℕ × ℕ → List Entry
+  f = union_vector star (fragments_of left) (fragments_of right)
 
-  pub on_star : (then : Pairing) (r : ℕ × (ℕ × ℕ)) → left_of at xs ys ≡ r ∷ left_of then xs ys → same_entries (f (0, 0)) (f r.1) ≡ true → IsOnTheWay left right xs ys star out index joined then from to
+  -- a picture with no more than the star is passed over
+  pub on_star : (then : Pairing) (r : ℕ × (ℕ × ℕ)) → left_of at xs ys ≡ r ∷ left_of then xs ys → same_entries [] (f r.1) ≡ true → IsOnTheWay left right xs ys star out index joined then from to
   on_star then r step same = record {
     gs = h.gs;
-    rest = ap (λ hs. h.gs ++ hs) (sym (ap (singles (f (0, 0)) f) step ∙ singles_same (f (0, 0)) f r (left_of then xs ys) same)) ∙ h.rest;
+    rest = ap (λ hs. h.gs ++ hs) (sym (ap (singles [] f) step ∙ singles_same [] f r (left_of then xs ys) same)) ∙ h.rest;
     spread = h.spread;
     order = h.order;
     there = h.there;
   }
 
   -- one more
-  on_more : (then : Pairing) (r : ℕ × (ℕ × ℕ)) (new : List (List ℕ)) (more after : List (ℕ × ℕ)) (start end : ℕ) → left_of at xs ys ≡ r ∷ left_of then xs ys → same_entries (f (0, 0)) (f r.1) ≡ false
-      → IsSpread left (pairs star) (h.gs ++ of_one r.0 (f r.1) ∷ []) (new ++ run left (2 * start) (2 * end)) more after → start ≤ end → end ≤ length (fragments_of left) → IsOnTheWay left right xs ys star new more after then start end
+  on_more : (then : Pairing) (r : ℕ × (ℕ × ℕ)) (new : List (List ℕ)) (more after : List (ℕ × ℕ)) (start end : ℕ) → left_of at xs ys ≡ r ∷ left_of then xs ys → same_entries [] (f r.1) ≡ false
+      → IsSpread left (h.gs ++ of_one r.0 (f r.1) ∷ []) (new ++ run left (2 * start) (2 * end)) more after → start ≤ end → end ≤ length (fragments_of left) → IsOnTheWay left right xs ys star new more after then start end
   on_more then r new more after start end step other spread order there = record {
     gs = h.gs ++ of_one r.0 (f r.1) ∷ [];
-    rest = append_assoc h.gs (of_one r.0 (f r.1) ∷ []) (singles (f (0, 0)) f (left_of then xs ys))
-        ∙ ap (λ hs. h.gs ++ hs) (sym (ap (singles (f (0, 0)) f) step ∙ singles_other (f (0, 0)) f r (left_of then xs ys) other)) ∙ h.rest;
+    rest = append_assoc h.gs (of_one r.0 (f r.1) ∷ []) (singles [] f (left_of then xs ys))
+        ∙ ap (λ hs. h.gs ++ hs) (sym (ap (singles [] f) step ∙ singles_other [] f r (left_of then xs ys) other)) ∙ h.rest;
     spread = spread;
     order = order;
     there = there;
   }
 
   pub on_joined : (then : Pairing) (r : ℕ × (ℕ × ℕ)) (new : List (List ℕ)) (more after : List (ℕ × ℕ)) (row : List ℕ) → left_of at xs ys ≡ r ∷ left_of then xs ys
-      → IsRow row → pairs row ≡ f r.1 → same_entries (f (0, 0)) (f r.1) ≡ false
+      → IsRow row → pairs row ≡ f r.1 → same_entries [] (f r.1) ≡ false
       → new ≡ ((out ++ run left (2 * from) (2 * to)) ++ (r.0 ∷ []) ∷ []) ++ row ∷ [] → more ≡ index ++ (r.0, length index + 1) ∷ [] → after ≡ joined ++ (r.0, length index + 1) ∷ []
       → IsOnTheWay left right xs ys star new more after then to to
   on_joined then r new more after row step is_row vector other placed pushed listed =
       let long : length index + 1 ≡ suc (length h.gs) = let e = ap (length {A = ℕ × ℕ}) h.spread.index_is ∙ numbered_length 1 h.gs in omega (arith, e) in
       on_more then r new more after to to step other
-      (spread_more left (pairs star) h.gs (out ++ run left (2 * from) (2 * to)) (new ++ run left (2 * to) (2 * to)) index more joined after r.0 row (f r.1) h.spread (nothing_pending left new (2 * to) ∙ placed) is_row vector pushed
+      (spread_more left h.gs (out ++ run left (2 * from) (2 * to)) (new ++ run left (2 * to) (2 * to)) index more joined after r.0 row (f r.1) h.spread (nothing_pending left new (2 * to) ∙ placed) is_row vector pushed
       (listed_wider joined after (r.0, length index + 1) listed)
       (inl (subst (IsListed after) long (listed_last joined after (r.0, length index + 1) listed)))
       (listed_below joined after (r.0, length index + 1) listed (suc (length h.gs)) long h.spread.there))
       (omega arith) h.there
 
-  pub on_stays : (then : Pairing) (r : ℕ × (ℕ × ℕ)) (new : List (List ℕ)) (more : List (ℕ × ℕ)) (start : ℕ) (raised : Bool) → IsPair left right xs ys star → pairs star ≡ entries_at (fragments_of left) 0 → left_of at xs ys ≡ r ∷ left_of then xs ys → Stays left right raised r.0 r.1.0 r.1.1 → r.1.0 < length (fragments_of left) → r.1.1 < length (fragments_of right)
+  pub on_stays : (then : Pairing) (r : ℕ × (ℕ × ℕ)) (new : List (List ℕ)) (more : List (ℕ × ℕ)) (start : ℕ) (words : List ℕ) → IsExcess words left → AllDiffer (fragments_of left) → left_of at xs ys ≡ r ∷ left_of then xs ys → Stays star left right r.0 r.1 → r.1.0 < length (fragments_of left)
       → start ≤ r.1.0 → new ++ run left (2 * start) (2 * r.1.0) ≡ out ++ run left (2 * from) (2 * to) → more ≡ index ++ (r.0, length index + 1) ∷ []
       → IsOnTheWay left right xs ys star new more joined then start (r.1.0 + 1)
-  on_stays then r new more start raised pair same step s there_a there_b begins written pushed =
+  on_stays then r new more start words excess differ step s there_a begins written pushed =
       let fs = fragments_of left in
-      let gs = fragments_of right in
       let a = r.1.0 in
       let row = get_or left (2 * a + 1) [] in
-      let is : row ≡ flat (entries_at fs a) = entries_read left a pair.left_rows there_a in
+      let is : row ≡ flat (entries_at fs a) = entries_read left a excess.are_rows there_a in
       let is_row : IsRow row = subst IsRow (sym is) (flat_row (entries_at fs a)) in
       let entries : pairs row ≡ entries_at fs a = ap pairs is ∙ pairs_flat (entries_at fs a) in
-      let joint : f r.1 ≡ entries_at fs a = stays_joint fs gs xs ys (pairs star) a r.1.1 pair.left_side pair.right_side pair.joint same there_a there_b s.nothing in
-      let other : same_entries (f (0, 0)) (f r.1) ≡ false = (λ j. same_entries ((sym pair.joint ∙ same) j) (joint j)) ∙ differs a there_a pair s.beside in
-      let inside : 2 * a + 1 < length left = omega (arith, rows_read left pair.left_rows, there_a) in
+      let other : same_entries [] (f r.1) ≡ false = ap (λ es. same_entries [] es) s.joint ∙ some in
+      let inside : 2 * a + 1 < length left = omega (arith, rows_read left excess.are_rows, there_a) in
       let placed : new ++ run left (2 * start) (2 * (a + 1)) ≡ ((out ++ run left (2 * from) (2 * to)) ++ (r.0 ∷ []) ∷ []) ++ row ∷ [] =
       ap (λ rs. new ++ rs) (run_more left start a begins inside)
       ∙ sym (append_assoc new (run left (2 * start) (2 * a) ++ get_or left (2 * a) [] ∷ []) (row ∷ []))
       ∙ ap (λ rs. rs ++ row ∷ []) (sym (append_assoc new (run left (2 * start) (2 * a)) (get_or left (2 * a) [] ∷ [])))
       ∙ (λ j. (written j ++ s.alone j ∷ []) ++ row ∷ []) in
       on_more then r new more joined start (a + 1) step other
-      (spread_more left (pairs star) h.gs (out ++ run left (2 * from) (2 * to)) (new ++ run left (2 * start) (2 * (a + 1))) index more joined joined r.0 row (f r.1) h.spread placed is_row (entries ∙ sym joint) pushed
+      (spread_more left h.gs (out ++ run left (2 * from) (2 * to)) (new ++ run left (2 * start) (2 * (a + 1))) index more joined joined r.0 row (f r.1) h.spread placed is_row (entries ∙ sym s.joint) pushed
       (λ n listed. listed)
-      (inr (record { number = a; there = there_a; alone = s.alone; is = sym joint }))
+      (inr (record { number = a; there = there_a; alone = s.alone; is = sym s.joint }))
       (λ m l. let below = h.spread.there m l in omega (arith, below)))
       (omega (arith, begins)) (omega (arith, there_a))
     where
-      differs : (a : ℕ) → a < length (fragments_of left) → IsPair left right xs ys star → 0 < a → same_entries (entries_at (fragments_of left) 0) (entries_at (fragments_of left) a) ≡ false
-      differs a l pair z = elim (cases_Bool (same_entries (entries_at (fragments_of left) 0) (entries_at (fragments_of left) a))) [
-        | inl e ↦ absurd (vectors_differ (fragments_of left) 0 a pair.normal z l ((entries_decide (entries_at (fragments_of left) 0) (entries_at (fragments_of left) a)).0 e))
+      some : same_entries [] (entries_at (fragments_of left) r.1.0) ≡ false
+      some = elim (cases_Bool (same_entries [] (entries_at (fragments_of left) r.1.0))) [
+        | inl e ↦ absurd (differ 0 r.1.0 s.beside there_a (excess.first ∙ (entries_decide [] (entries_at (fragments_of left) r.1.0)).0 e))
         | inr e ↦ e
       ]
 
-  pub on_all : (new : List (List ℕ)) → left_of at xs ys ≡ [] → new ≡ out ++ run left (2 * from) (2 * to) → IsSpread left (pairs star) (spread_of (fragments_of left) (fragments_of right) xs ys) new index joined
+  pub on_all : (new : List (List ℕ)) → left_of at xs ys ≡ [] → new ≡ out ++ run left (2 * from) (2 * to) → IsSpread left (spread_of star (fragments_of left) (fragments_of right) xs ys) new index joined
   on_all new none written =
-      let whole : h.gs ≡ spread_of (fragments_of left) (fragments_of right) xs ys =
-      sym (append-nil h.gs) ∙ ap (λ rs. h.gs ++ singles (f (0, 0)) f rs) (sym none) ∙ h.rest in
-      subst (λ rs. IsSpread left (pairs star) (spread_of (fragments_of left) (fragments_of right) xs ys) rs index joined) (sym written)
-      (subst (λ gs. IsSpread left (pairs star) gs (out ++ run left (2 * from) (2 * to)) index joined) whole h.spread)
+      let whole : h.gs ≡ spread_of star (fragments_of left) (fragments_of right) xs ys =
+      sym (append-nil h.gs) ∙ ap (λ rs. h.gs ++ singles [] f rs) (sym none) ∙ h.rest in
+      subst (λ rs. IsSpread left (spread_of star (fragments_of left) (fragments_of right) xs ys) rs index joined) (sym written)
+      (subst (λ gs. IsSpread left gs (out ++ run left (2 * from) (2 * to)) index joined) whole h.spread)

@@ -1,8 +1,9 @@
 -- Machinery of the proofs: a union in which each picture that is listed has a fragment of its own.
-use Rattle.std.specs.Prelude.{◌≡◌, ℕ, suc, Bool, true, false, ◌+◌, ◌*◌, ◌<◌, ◌⊎◌, if◌then◌else◌, List, [], ◌∷◌, length, get_or}
-use Rattle.item_knowledge.specs.Entries.{Entry, leq, same_entries}
+use Rattle.std.specs.Prelude.{◌≡◌, ℕ, suc, true, ◌+◌, ◌*◌, ◌<◌, ◌⊎◌, if◌then◌else◌, List, [], ◌∷◌, length, get_or}
+use Rattle.item_knowledge.specs.Entries.{Entry, same_entries}
+use Rattle.item_knowledge.specs.Excess.{union_vector}
 use Rattle.item_knowledge.specs.Fragments.{Fragment, first, nothing, entries_at}
-use Rattle.item_knowledge.specs.Gathering.{paired, pair_vector, star_first}
+use Rattle.item_knowledge.specs.Gathering.{paired, star_first}
 use Rattle.item_knowledge.specs.Rows.{fragments_of, rows_of}
 use Rattle.item_knowledge.specs.Seen.{has_unseen}
 
@@ -17,20 +18,15 @@ abbrev pub numbered : ℕ → List Fragment → List (ℕ × ℕ)
 numbered n [] = []
 numbered n (g ∷ gs) = (first g.pictures, n) ∷ numbered (suc n) gs
 
--- the union of two sides, written so
-abbrev pub spread_of : List Fragment → List Fragment → List (ℕ × ℕ) → List (ℕ × ℕ) → List Fragment
-spread_of fs gs xs ys = singles (pair_vector fs gs (0, 0)) (pair_vector fs gs) (paired xs ys)
+-- the union of two sides beyond its star, written so
+abbrev pub spread_of : List Entry → List Fragment → List Fragment → List (ℕ × ℕ) → List (ℕ × ℕ) → List Fragment
+spread_of star fs gs xs ys = singles [] (union_vector star fs gs) (paired xs ys)
 
--- the right's fragment b is the star, or has nothing beyond the left's a
-abbrev pub AddsNothing : List Fragment → List Fragment → ℕ → ℕ → Type 0
-AddsNothing fs gs a b = (b ≡ 0) ⊎ (leq (entries_at gs b) (entries_at fs a) ≡ true)
-
--- the left's fragment a comes as it stands: it has this picture alone, and the right has nothing more than it and the left's star
-pub record Stays (rows others : List (List ℕ)) (is_raised : Bool) (picture a b : ℕ) : Type 0 where
-  pub level : is_raised ≡ false
-  pub beside : 0 < a
-  pub alone : get_or rows (2 * a) [] ≡ picture ∷ []
-  pub nothing : AddsNothing (fragments_of rows) (fragments_of others) a b
+-- the left's fragment comes as it stands: it has this picture alone, and the union has just its entries there
+pub record Stays (star : List Entry) (rows others : List (List ℕ)) (picture : ℕ) (numbers : ℕ × ℕ) : Type 0 where
+  pub beside : 0 < numbers.0
+  pub alone : get_or rows (2 * numbers.0) [] ≡ picture ∷ []
+  pub joint : union_vector star (fragments_of rows) (fragments_of others) numbers ≡ entries_at (fragments_of rows) numbers.0
 
 -- a fragment is one of the left's
 pub record FromLeft (left : List (List ℕ)) (g : Fragment) : Type 0 where
@@ -63,8 +59,8 @@ abbrev pub AreTold : List (List ℕ) → List ℕ → List (List ℕ) → List (
 AreTold left words rows index joined = AreApart rows index ⊎ (AreUnseen left words rows joined × AreApart rows joined)
 
 -- rows of a star and of fragments with their index, of which each is listed as joined or is one of the left's
-pub record IsSpread (left : List (List ℕ)) (star : List Entry) (gs : List Fragment) (rows : List (List ℕ)) (index joined : List (ℕ × ℕ)) : Type 0 where
-  pub rows_are : rows ≡ rows_of (star_first star gs)
+pub record IsSpread (left : List (List ℕ)) (gs : List Fragment) (rows : List (List ℕ)) (index joined : List (ℕ × ℕ)) : Type 0 where
+  pub rows_are : rows ≡ rows_of (star_first [] gs)
   pub index_is : index ≡ numbered 1 gs
   pub origins : (k : ℕ) → k < length gs → IsListed joined (suc k) ⊎ FromLeft left (get_or gs k nothing)
   pub there : (m : ℕ) → m < length joined → (get_or joined m (0, 0)).1 < suc (length gs)

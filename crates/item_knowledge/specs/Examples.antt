@@ -4,9 +4,9 @@ use Rattle.photo_version.specs.Author.{author, author_at, author_word}
 use Rattle.photo_version.specs.Version.{Version, version}
 use Rattle.item_knowledge.specs.Entries.{Entry, joined}
 use Rattle.item_knowledge.specs.Fragments.{Fragment, knows, is_normal, known}
-use Rattle.item_knowledge.specs.Late.{shown}
+use Rattle.item_knowledge.specs.Excess.{exceeding, shown}
 use Rattle.item_knowledge.specs.Raising.{are_level}
-use Rattle.item_knowledge.specs.Rows.{rows_of}
+use Rattle.item_knowledge.specs.Rows.{flat, rows_of}
 use Rattle.item_knowledge.specs.Staged.{IsStagedUnion}
 use Rattle.item_knowledge.specs.Seen.{has_unseen}
 
@@ -106,9 +106,12 @@ pub record TheMarks : Type 0 where
   pub as_the_star : has_unseen (0 ∷ 2 ∷ 1 ∷ []) (entry 0 3 ∷ []) (entry 0 3 ∷ []) ≡ false
   pub comes_round : has_unseen (0 ∷ 2 ∷ 1 ∷ []) [] (entry 64 8194 ∷ []) ≡ false
 
--- a bound of device 0 that waits beside rows
-pub record TheWaiting : Type 0 where
+-- a star that stands once, and rows of what exceeds it
+pub record TheExcess : Type 0 where
   pub level : are_level both (author_word (author 0)) 1 ≡ true
   pub not_level : are_level both (author_word (author 1)) 0 ≡ false
-  pub is_shown : shown (Some (entry 0 3)) (rows_of both) ≡ rows_of (of [] (entry 0 3 ∷ []) ∷ of (8 ∷ []) (entry 0 3 ∷ entry 1 1 ∷ []) ∷ [])
-  pub none_waits : shown None (rows_of both) ≡ rows_of both
+  pub exceeds : exceeding (entry 0 1 ∷ []) (entry 0 1 ∷ entry 1 1 ∷ []) ≡ entry 1 1 ∷ []
+  pub all : exceeding [] (entry 0 1 ∷ entry 1 1 ∷ []) ≡ entry 0 1 ∷ entry 1 1 ∷ []
+  pub is_shown : shown (flat (entry 0 1 ∷ [])) (rows_of other) ≡ rows_of both
+  pub risen : shown (flat (entry 0 3 ∷ [])) (rows_of other) ≡ rows_of (of [] (entry 0 3 ∷ []) ∷ of (8 ∷ []) (entry 0 3 ∷ entry 1 1 ∷ []) ∷ [])
+  pub no_star : shown [] (rows_of of_two) ≡ rows_of of_two

@@ -5,7 +5,6 @@ use Rattle.photo_version.specs.Version.{Version}
 use Rattle.item_knowledge.specs.Tables.{merge, at, in_order, keys_pass}
 use Rattle.item_knowledge.specs.Entries.{Entry, denotes, is_vector, bound, leq, same_entries, joined}
 use Rattle.item_knowledge.specs.Fragments.{Fragment, knows, is_normal, known, entries_at}
-use Rattle.item_knowledge.specs.Rows.{rows_of}
 
 -- the vector to which an index leads, the star's where it leads nowhere
 abbrev pub vector_of : List Fragment → List (ℕ × ℕ) → ℕ → List Entry
@@ -75,19 +74,6 @@ indexed star vector (r ∷ rs) gs =
 
 abbrev pub star_first : List Entry → List Fragment → List Fragment
 star_first star gs = record { pictures = []; entries = star } ∷ gs
-
--- the groups of the union of two sides
-abbrev pub groups_of : List Fragment → List Fragment → List (ℕ × ℕ) → List (ℕ × ℕ) → List Fragment
-groups_of fs gs xs ys = gathered (pair_vector fs gs (0, 0)) (pair_vector fs gs) (paired xs ys) []
-
--- and their index
-abbrev pub index_of : List Fragment → List Fragment → List (ℕ × ℕ) → List (ℕ × ℕ) → List (ℕ × ℕ)
-index_of fs gs xs ys = indexed (pair_vector fs gs (0, 0)) (pair_vector fs gs) (paired xs ys) []
-
--- the union of two sides stands in rows, with its index
-pub record IsWritten (fs : List Fragment) (xs : List (ℕ × ℕ)) (gs : List Fragment) (ys : List (ℕ × ℕ)) (out : List (List ℕ)) (index : List (ℕ × ℕ)) : Type 0 where
-  pub rows : out ≡ rows_of (star_first (pair_vector fs gs (0, 0)) (groups_of fs gs xs ys))
-  pub numbers : index ≡ index_of fs gs xs ys
 
 -- what holds of the union of two sides
 pub record IsUnion (fs : List Fragment) (xs : List (ℕ × ℕ)) (gs : List Fragment) (ys : List (ℕ × ℕ)) (us : List Fragment) (zs : List (ℕ × ℕ)) : Type 0 where

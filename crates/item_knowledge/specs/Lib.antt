@@ -3,12 +3,13 @@ pub mod Entries
 pub mod Fragments
 pub mod Rows
 pub mod Gathering
+pub mod Excess
+pub mod Merging
+pub mod Written
 pub mod Raising
 pub mod Places
-pub mod Tops
 pub mod Seen
 pub mod Kept
-pub mod Late
 pub mod Staged
 pub mod Spare
 pub mod Coding

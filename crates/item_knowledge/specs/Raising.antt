@@ -1,27 +1,26 @@
 -- Machinery of the proofs: an author's bound is raised in each fragment.
-use Rattle.std.specs.Prelude.{ℕ, Bool, ◌&&◌, nat_lt, nat_le, List, [], ◌∷◌, map}
+use Rattle.std.specs.Prelude.{◌≡◌, ℕ, ◌<◌, ◌≤◌, Bool, true, nat_le, List, [], ◌∷◌}
 use Rattle.std.specs.List.{list_all}
-use Rattle.item_knowledge.specs.Tables.{in_order}
-use Rattle.item_knowledge.specs.Entries.{Entry, bound, joined}
-use Rattle.item_knowledge.specs.Fragments.{Fragment}
+use Rattle.item_knowledge.specs.Entries.{Entry, is_entry, bound}
+use Rattle.item_knowledge.specs.Excess.{wholes}
+use Rattle.item_knowledge.specs.Fragments.{Fragment, is_normal, entries_at}
 
 -- no fragment has a version of the author above b
 abbrev pub are_level : List Fragment → ℕ → ℕ → Bool
 are_level fs a b = list_all (λ f. nat_le (bound f.entries a) b) fs
 
-abbrev pub raised : Entry → Fragment → Fragment
-raised e f = record { pictures = f.pictures; entries = joined f.entries (e ∷ []) }
-
 abbrev pub all_raised : Entry → List Fragment → List Fragment
-all_raised e fs = map (λ f. raised e f) fs
+all_raised e fs = wholes (e ∷ []) fs
 
 -- a star of one entry, and no group
 abbrev pub star_of_one : Entry → List Fragment
 star_of_one e = record { pictures = []; entries = e ∷ [] } ∷ []
 
--- the author has a bound already, and at most the new one
-abbrev pub is_risen : Entry → Fragment → Bool
-is_risen e f = in_order f.entries && (nat_lt 0 (bound f.entries e.0) && nat_le (bound f.entries e.0) e.1)
-
-abbrev pub are_risen : Entry → List Fragment → Bool
-are_risen e fs = list_all (λ f. is_risen e f) fs
+-- an author's bound may be raised beside a normal form's rows: the star has an entry of the author, of at most the new bound, and
+-- no vector has more
+pub record IsWaiting (e : Entry) (fs : List Fragment) : Type 0 where
+  pub normal : is_normal fs ≡ true
+  pub entry : is_entry e ≡ true
+  pub level : are_level fs e.0 (bound (entries_at fs 0) e.0) ≡ true
+  pub some : 0 < bound (entries_at fs 0) e.0
+  pub most : bound (entries_at fs 0) e.0 ≤ e.1

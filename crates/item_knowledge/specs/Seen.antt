@@ -5,7 +5,6 @@ use Rattle.std.specs.List.{list_any}
 use Rattle.item_knowledge.specs.Entries.{Entry, bound}
 use Rattle.item_knowledge.specs.Fragments.{entries_at}
 use Rattle.item_knowledge.specs.Rows.{fragments_of}
-use Rattle.item_knowledge.specs.Tops.{IsTop}
 
 -- the bit of an author by its word: devices one after another, each with its later epochs behind it. They come round again
 abbrev pub bit_of : ℕ → ℕ
@@ -33,8 +32,3 @@ is_unseen words star e = nat_lt (bound star e.0) e.1 && not (is_marked words e.0
 
 abbrev pub has_unseen : List ℕ → List Entry → List Entry → Bool
 has_unseen words star es = list_any (λ e. is_unseen words star e) es
-
--- what stands beside rows
-pub record IsTopped (top words : List ℕ) (rows : List (List ℕ)) : Type 0 where
-  pub top_row : IsTop top rows
-  pub seen : IsSeen words rows

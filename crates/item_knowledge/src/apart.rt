@@ -1,21 +1,22 @@
 // A union in which no two pictures that are listed have the same vector: each fragment is written once, where it stays, and
 // neighbours of the left that stay as they are come in one run. Whether the vectors differ is asked of what stands there then.
-ghost use Rattle.std.specs.Prelude.{◌≡◌, ◌+◌, ◌*◌, ◌<◌, ◌≤◌, [], ◌∷◌, ◌++◌, true, length, get_or, IfOk, IfSome, OnOk};
+ghost use Rattle.std.specs.Prelude.{◌≡◌, ◌+◌, ◌*◌, ◌<◌, ◌≤◌, [], ◌∷◌, ◌++◌, true, false, length, get_or, IfOk, IfSome, OnOk};
 ghost use Rattle.fragment_arena.specs.Arena.{run};
-ghost use Rattle.item_knowledge.specs.Apart.{AddsNothing, Stays, AreThere, AreApart, AreUnseen, AreTold, IsSpread, spread_of};
-ghost use Rattle.item_knowledge.specs.Fragments.{is_normal, entries_at};
-ghost use Rattle.item_knowledge.specs.Gathering.{pair_vector, IsWritten};
+ghost use Rattle.item_knowledge.specs.Apart.{Stays, AreThere, AreApart, AreUnseen, AreTold, IsSpread, spread_of};
+ghost use Rattle.item_knowledge.specs.Excess.{AllDiffer, exceeds_all, is_covered};
+ghost use Rattle.item_knowledge.specs.Fragments.{entries_at};
+ghost use Rattle.item_knowledge.specs.Written.{IsWritten};
 ghost use Rattle.item_knowledge.specs.Rows.{pairs, IsRow, AreRows, fragments_of};
 ghost use Rattle.item_knowledge.specs.Tables.{in_order};
 ghost use Rattle.item_knowledge.specs.Seen.{IsSeen};
 ghost use Rattle.item_knowledge.specs.Sides.{fragments};
 
-use crate::gather::same_row;
+use crate::gather::{is_nothing, same_row};
 use crate::index::{IndexEntry, to_u32};
 use crate::pairing::{Pairing, pictures_together};
 use crate::places::Places;
 use crate::rows::Rows;
-use crate::search::is_leq;
+use crate::search::{bound_at, entry_at, entry_count};
 use crate::seen::Seen;
 use crate::side::Side;
 use crate::union::{begin, entries, pair};
@@ -29,17 +30,40 @@ struct Lists {
     joined: Vec<IndexEntry>,
 }
 
-// Whether the right's fragment `b` has nothing beyond the left's `a`, where the right's star has nothing beyond the left's.
+// Whether each bound of a row is above a star's.
 #[inline(always)]
-fn adds_nothing(left: Side<'_>, right: Side<'_>, a: usize, b: usize) -> bool
-    requires a { a < length (fragments left) }
-    requires b { b < length (fragments right) }
-    ensures { result ≡ true → AddsNothing (fragments left.entry) (fragments right.entry) a b }
+fn exceeds(row: &[u64], star: &[u64]) -> bool
+    requires row { IsRow row.now }
+    requires star_row { IsRow star.now }
+    requires star { in_order (pairs star.now) ≡ true }
+    ensures { result ≡ exceeds_all (pairs star.now) (pairs row.now) }
 {
-    if b == 0 {
-        return true;
+    for i in 0..entry_count(row) {
+        let (author, n) = entry_at(row, i);
+        if n <= bound_at(star, author) {
+            return false;
+        }
     }
-    is_leq(entries(right.rows, b), entries(left.rows, a))
+    true
+}
+
+// Whether each bound of a row is at most that of another row or of a star.
+#[inline(always)]
+fn adds_nothing(row: &[u64], other: &[u64], star: &[u64]) -> bool
+    requires row { IsRow row.now }
+    requires other_row { IsRow other.now }
+    requires star_row { IsRow star.now }
+    requires other { in_order (pairs other.now) ≡ true }
+    requires star { in_order (pairs star.now) ≡ true }
+    ensures { result ≡ is_covered (pairs star.now) (pairs other.now) (pairs row.now) }
+{
+    for i in 0..entry_count(row) {
+        let (author, n) = entry_at(row, i);
+        if n > bound_at(other, author) && n > bound_at(star, author) {
+            return false;
+        }
+    }
+    true
 }
 
 // Whether a picture is the only one of a fragment.
@@ -58,24 +82,38 @@ fn is_alone(rows: &Rows, number: usize, picture: u32) -> bool
     pictures[0] == u64::from(picture)
 }
 
-// Whether the left's fragment `a` comes as it stands for a picture: the star is the left's, the picture is alone in it, and the
-// right's `b` has nothing beyond it.
+// Whether the left's fragment comes as it stands for a picture: the picture is alone in it, all of it is beyond the star, and the
+// right's has nothing beyond both.
 #[inline(always)]
-fn stays(left: Side<'_>, right: Side<'_>, is_raised: bool, picture: u32, a: usize, b: usize) -> bool
-    requires a { a < length (fragments left) }
-    requires b { b < length (fragments right) }
-    ensures { result ≡ true → Stays left.entry.rows.now right.entry.rows.now is_raised picture a b }
+fn stays(
+    left: Side<'_>,
+    right: Side<'_>,
+    star: &[u64],
+    is_raised: bool,
+    picture: u32,
+    numbers: (usize, usize),
+) -> bool
+    requires a { numbers.0 < length (fragments left) }
+    requires b { numbers.1 < length (fragments right) }
+    requires star_row { IsRow star.now }
+    requires star { in_order (pairs star.now) ≡ true }
+    requires raised { is_raised ≡ false → pairs star.now ≡ pairs left.star.now }
+    ensures { result ≡ true → Stays (pairs star.now) left.entry.rows.now right.entry.rows.now picture numbers }
 {
-    if is_raised {
-        return false;
-    }
+    let (a, b) = numbers;
     if a == 0 {
         return false;
     }
     if !is_alone(left.rows, a, picture) {
         return false;
     }
-    adds_nothing(left, right, a, b)
+    let row = entries(left.rows, a);
+    if is_raised {
+        if !exceeds(row, star) {
+            return false;
+        }
+    }
+    b == 0 || adds_nothing(entries(right.rows, b), row, star)
 }
 
 // The left's fragment `a` comes behind a run of others from one number up to another, all of which are still to be
@@ -136,32 +174,32 @@ fn spread(
     lists: &mut Lists,
     out: &mut Rows,
 ) -> Result<(), AllocError>
-    requires normal { is_normal (fragments left) ≡ true }
+    requires differ { AllDiffer (fragments left) }
     requires star_row { IsRow star.now }
-    requires star { pairs star.now ≡ pair_vector (fragments left) (fragments right) (0, 0) }
+    requires star { in_order (pairs star.now) ≡ true }
     requires index { lists.old.index.items ≡ [] }
     requires joined { lists.old.joined.items ≡ [] }
-    requires out { out.old ≡ [] ∷ star.now ∷ [] }
-    ensures { OnOk result (IsSpread left.entry.rows.now (pairs star.now)
-        (spread_of (fragments left.entry) (fragments right.entry) left.entry.index.now right.entry.index.now)
+    requires out { out.old ≡ [] ∷ [] ∷ [] }
+    ensures { OnOk result (IsSpread left.entry.rows.now
+        (spread_of (pairs star.now) (fragments left.entry) (fragments right.entry) left.entry.index.now right.entry.index.now)
         out.new lists.new.index.items lists.new.joined.items) }
 {
     // For its fact alone: the rows are fewer than 2 ^ 63.
     let _count = left.rows.rows();
-    let is_raised = !same_row(star, entries(left.rows, 0));
+    let is_raised = !same_row(star, left.star);
     let mut from = 1;
     let mut to = 1;
     let mut pairing = Pairing::new();
-    while let Some((picture, (a, b))) = pairing.next(left, right) {
-        if stays(left, right, is_raised, picture, a, b) {
-            from = run_to(left.rows, from, to, a, out)?;
-            to = a + 1;
+    while let Some((picture, numbers)) = pairing.next(left, right) {
+        if stays(left, right, star, is_raised, picture, numbers) {
+            from = run_to(left.rows, from, to, numbers.0, out)?;
+            to = numbers.0 + 1;
             let number = to_u32(lists.index.len() + 1)?;
             lists.index.push((picture, number))?;
             continue;
         }
-        let row = pair(left, right, a, b, room)?;
-        if same_row(star, row) {
+        let row = pair(left, right, numbers, star, room)?;
+        if is_nothing(row) {
             continue;
         }
         place_behind(left.rows, from, to, picture, row, out)?;
@@ -241,8 +279,9 @@ fn are_told_apart(
     are_apart(alloc, rows, index)
 }
 
-/// Writes the normal form of what either side denotes, and gives its index, where no two pictures have the same vector but for
-/// those that have the star's. It gives none where that isn't so, and what was written is of no use. The left's bounds have marks.
+/// Writes what the normal form of what either side denotes has beyond its star, which is given, and gives its index, where no two
+/// pictures have the same vector but for those that have the star's. It gives none where that isn't so, and what was written is
+/// of no use. The left's bounds have marks, and its vectors differ.
 pub(crate) fn apart(
     alloc: Global,
     left: Side<'_>,
@@ -251,11 +290,11 @@ pub(crate) fn apart(
     seen: &Seen,
     out: &mut Rows,
 ) -> Result<Option<Vec<IndexEntry>>, AllocError>
-    requires normal { is_normal (fragments left) ≡ true }
+    requires differ { AllDiffer (fragments left) }
     requires seen { IsSeen seen.now.words.items left.rows.now }
     requires star_row { IsRow star.now }
-    requires star { pairs star.now ≡ pair_vector (fragments left) (fragments right) (0, 0) }
-    ensures { IfOk result (λ found. IfSome found (λ index. IsWritten (fragments left.entry) left.entry.index.now
+    requires star { in_order (pairs star.now) ≡ true }
+    ensures { IfOk result (λ found. IfSome found (λ index. IsWritten (pairs star.now) (fragments left.entry) left.entry.index.now
         (fragments right.entry) right.entry.index.now out.new index.items)) }
 {
     // Where some fragment has several pictures two of them mostly have the same vector then too.
@@ -272,7 +311,7 @@ pub(crate) fn apart(
         .words()
         .max(right.rows.words())
         .saturating_add(count.saturating_mul(2));
-    begin(star, count, words, out)?;
+    begin(count, words, out)?;
     spread(left, right, star, &mut Vec::new(alloc), &mut lists, out)?;
     if are_told_apart(alloc, left.rows, seen, out, &lists.index, &lists.joined)? {
         return Ok(Some(lists.index));

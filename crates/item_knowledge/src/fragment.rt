@@ -1,52 +1,51 @@
-// A fragment, lent.
-use crate::live::{Entry, late_of};
-use crate::search::entry_at;
-use photo_version::Author;
+// A fragment, lent, and its entries one after another.
+use crate::join::Merging;
+use photo_version::{Author, Vector};
+use std::alloc::{AllocError, Global};
 use std::marker::Model;
 
 /// Pictures with what is known of each of them, lent by a knowledge. The star stands for all pictures and lists none.
 #[derive(Debug, Drop)]
 pub struct Fragment<'a> {
     pictures: &'a [u64],
+    // What it has beyond the star.
     row: &'a [u64],
-    // Whose bound is shown as another than the one in the row.
-    late: Option<Entry>,
+    star: &'a [u64],
 }
 
 impl<'a> Model for Fragment<'a> {
-    ghost use Rattle.std.specs.Prelude.{◌≡◌, true};
-    ghost use Rattle.item_knowledge.specs.Entries.{is_vector};
+    ghost use Rattle.item_knowledge.specs.Entries.{joined};
     ghost use Rattle.item_knowledge.specs.Fragments as spec;
     ghost use Rattle.item_knowledge.specs.Coding.{fragment_code};
-    ghost use Rattle.item_knowledge.specs.Late.{late_entries};
-    ghost use Rattle.item_knowledge.specs.Rows.{pairs, IsRow};
+    ghost use Rattle.item_knowledge.specs.Excess.{IsLent};
+    ghost use Rattle.item_knowledge.specs.Rows.{pairs};
 
     ghost Value = { spec.Fragment };
 
     ghost coded = { fragment_code };
 
-    ghost view = { λ f. record { pictures = f.pictures.now; entries = late_entries f.late (pairs f.row.now) } };
+    ghost view = { λ f. record { pictures = f.pictures.now; entries = joined (pairs f.row.now) (pairs f.star.now) } };
 
-    ghost invariant = { λ f. IsRow f.row.now × (is_vector (late_entries f.late (pairs f.row.now)) ≡ true) };
+    ghost invariant = { λ f. IsLent f.row.now f.star.now };
 }
 
 impl<'a> Fragment<'a> {
-    ghost use Rattle.std.specs.Prelude.{◌≡◌, ◌<◌, true, length, get_or};
+    ghost use Rattle.std.specs.Prelude.{◌≡◌, ◌<◌, true, length, get_or, IfOk};
     ghost use Rattle.photo_version.specs.Author.{author_word, author_of_word};
-    ghost use Rattle.item_knowledge.specs.Entries.{is_vector};
+    ghost use Rattle.item_knowledge.specs.Entries.{joined, is_entry, is_vector};
+    ghost use Rattle.item_knowledge.specs.Excess.{IsLent};
     ghost use Rattle.item_knowledge.specs.Fragments.{is_empty};
-    ghost use Rattle.item_knowledge.specs.Late.{late_entries};
-    ghost use Rattle.item_knowledge.specs.Rows.{pairs, IsRow};
+    ghost use Rattle.item_knowledge.specs.Rows.{pairs};
+    ghost use Rattle.item_knowledge.specs.TableRows.{bounds_of};
 
-    pub(crate) fn new(pictures: &'a [u64], row: &'a [u64], late: Option<Entry>) -> Fragment<'a>
-        requires row { IsRow row.now }
-        requires vector { is_vector (late_entries late (pairs row.now)) ≡ true }
-        ensures { result ≡ record { pictures = pictures.now; entries = late_entries late (pairs row.now) } }
+    pub(crate) fn new(pictures: &'a [u64], row: &'a [u64], star: &'a [u64]) -> Fragment<'a>
+        requires { IsLent row.now star.now }
+        ensures { result ≡ record { pictures = pictures.now; entries = joined (pairs row.now) (pairs star.now) } }
     {
         Fragment {
             pictures,
             row,
-            late,
+            star,
         }
     }
 
@@ -64,14 +63,31 @@ impl<'a> Fragment<'a> {
         self.pictures
     }
 
-    /// The number of entries, one for each author of whom a version is known.
+    /// The number of entries, one for each author of whom a version is known. They are counted.
     pub fn len(&self) -> usize
         ensures { result ≡ length self.now.entries }
     {
-        self.row.len() / 2
+        let mut count: usize = 0;
+        let mut merging = Merging::new();
+        while let Some(_) = merging.next(self.row, self.star) {
+            count += 1;
+        }
+        count
     }
 
-    /// The author at place `i`, from 0, in order, and up to which number, above 0, its versions are known.
+    /// Its entries, from the first. They are lent.
+    pub fn entries(&self) -> FragmentEntries<'a>
+        ensures { result ≡ self.now.entries }
+    {
+        FragmentEntries {
+            row: self.row,
+            star: self.star,
+            merging: Merging::new(),
+        }
+    }
+
+    /// The author at place `i`, from 0, in order, and up to which number, above 0, its versions are known. It goes over those
+    /// before: whoever wants all takes [`Fragment::entries`].
     pub fn entry(&self, i: usize) -> (Author, u32)
         requires { i < length self.now.entries }
         ensures author { result.0 ≡ author_of_word (get_or self.now.entries i (0, 0)).0 }
@@ -79,8 +95,78 @@ impl<'a> Fragment<'a> {
         ensures number { result.1 ≡ (get_or self.now.entries i (0, 0)).1 }
         ensures above_zero { 0 < result.1 }
     {
-        let (word, raised) = entry_at(self.row, i);
-        let number = late_of(self.late, word).unwrap_or(raised);
+        let (word, number) = self.entry_of(i);
         (Author::of_word(word), number as u32)
+    }
+
+    // The entry at a place, as words.
+    fn entry_of(&self, i: usize) -> (u64, u64)
+        requires { i < length self.now.entries }
+        ensures value { result ≡ get_or self.now.entries i (0, 0) }
+        ensures entry { is_entry result ≡ true }
+    {
+        let mut place: usize = 0;
+        let mut merging = Merging::new();
+        while let Some(entry) = merging.next(self.row, self.star) {
+            if place == i {
+                return entry;
+            }
+            place += 1;
+        }
+        (0, 0)
+    }
+
+    /// What is known of each of its pictures.
+    pub(crate) fn vector(&self, alloc: Global) -> Result<Vector, AllocError>
+        ensures vector { IfOk result (λ vector. vector ≡ bounds_of self.now.entries) }
+        ensures entries { is_vector self.now.entries ≡ true }
+    {
+        let mut bounds = Vec::new(alloc);
+        let mut merging = Merging::new();
+        while let Some((word, number)) = merging.next(self.row, self.star) {
+            bounds.push((Author::of_word(word), number as u32))?;
+        }
+        Vector::from_entries(alloc, bounds)
+    }
+}
+
+/// The entries of a fragment that are still to come, lent by a knowledge.
+#[derive(Debug, Drop)]
+pub struct FragmentEntries<'a> {
+    row: &'a [u64],
+    star: &'a [u64],
+    merging: Merging,
+}
+
+impl<'a> Model for FragmentEntries<'a> {
+    ghost use Rattle.std.specs.Prelude.{◌≡◌, true, List};
+    ghost use Rattle.std.specs.Coded.{coded×, coded_ℕ, coded_list};
+    ghost use Rattle.item_knowledge.specs.Entries.{Entry, is_vector};
+    ghost use Rattle.item_knowledge.specs.Excess.{IsLent};
+    ghost use Rattle.item_knowledge.specs.Merging.{left_of};
+
+    ghost Value = { List Entry };
+
+    ghost coded = { coded_list (coded× coded_ℕ coded_ℕ) };
+
+    ghost view = { λ e. left_of e.merging e.row.now e.star.now };
+
+    ghost invariant = { λ e. IsLent e.row.now e.star.now × (is_vector (left_of e.merging e.row.now e.star.now) ≡ true) };
+}
+
+impl<'a> FragmentEntries<'a> {
+    ghost use Rattle.std.specs.Prelude.{◌≡◌, ◌<◌, ◌∷◌, [], None, IfSome};
+    ghost use Rattle.photo_version.specs.Author.{author_word, author_of_word};
+
+    /// The next author, in order, and up to which number, above 0, its versions are known; none behind the last one.
+    pub fn next_entry(&mut self) -> Option<(Author, u32)>
+        ensures next { IfSome result (λ e. self.old ≡ (author_word e.0, e.1) ∷ self.new) }
+        ensures above_zero { IfSome result (λ e. 0 < e.1) }
+        ensures none { result ≡ None → self.old ≡ [] }
+    {
+        let Some((word, number)) = self.merging.next(self.row, self.star) else {
+            return None;
+        };
+        Some((Author::of_word(word), number as u32))
     }
 }

@@ -1,5 +1,5 @@
 // Pictures that come to the group of their vector.
-ghost use Rattle.std.specs.Prelude.{◌≡◌, ◌<◌, length, OnOk, IfOk, Some};
+ghost use Rattle.std.specs.Prelude.{◌≡◌, ◌<◌, [], length, OnOk, IfOk, Some};
 ghost use Rattle.item_knowledge.specs.Entries.{same_entries};
 ghost use Rattle.item_knowledge.specs.Gathering as spec;
 ghost use Rattle.item_knowledge.specs.Places.{Placed, vectors_at};
@@ -9,6 +9,14 @@ use crate::group::Group;
 use crate::places::Places;
 use crate::rows::Rows;
 use std::alloc::{AllocError, Global};
+
+/// Whether a row has no entries.
+pub(crate) fn is_nothing(row: &[u64]) -> bool
+    requires { IsRow row.now }
+    ensures { result ≡ same_entries [] (pairs row.now) }
+{
+    row.is_empty()
+}
 
 /// Whether two rows have the same entries.
 pub(crate) fn same_row(xs: &[u64], ys: &[u64]) -> bool

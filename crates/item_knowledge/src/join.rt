@@ -1,52 +1,97 @@
 // The join of two rows of entries.
 ghost use Rattle.std.specs.Prelude.{◌≡◌, true, OnOk};
 ghost use Rattle.item_knowledge.specs.Tables.{in_order};
-ghost use Rattle.item_knowledge.specs.Entries as spec;
+ghost use Rattle.item_knowledge.specs.Entries.{joined};
+ghost use Rattle.item_knowledge.specs.Excess.{exceeding};
+ghost use Rattle.item_knowledge.specs.Merging as spec;
 ghost use Rattle.item_knowledge.specs.Rows.{pairs, IsRow};
 
-use crate::search::{entries_from, entry_at, entry_count};
+use crate::search::{bound_at, entry_at, entry_count};
 use std::alloc::AllocError;
 
-/// Writes the row of the join of two vectors, in place of what was there: of each author the greater bound.
+/// How far two rows have been gone along together.
+#[derive(Debug, Clone, Copy)]
+pub(crate) struct Merging {
+    pub left: usize,
+    pub right: usize,
+}
+
+impl Merging {
+    ghost use Rattle.std.specs.Prelude.{◌≡◌, ◌<◌, ◌∷◌, [], None, IfSome, true};
+    ghost use Rattle.item_knowledge.specs.Tables.{in_order};
+    ghost use Rattle.item_knowledge.specs.Rows.{pairs, IsRow};
+
+    /// At the first entries of both.
+    pub(crate) fn new() -> Merging
+        ensures left { result.left ≡ 0 }
+        ensures right { result.right ≡ 0 }
+    {
+        Merging { left: 0, right: 0 }
+    }
+
+    /// The next entry of the join: an author of either row, and the greater of its bounds.
+    #[inline(always)]
+    pub(crate) fn next(&mut self, xs: &[u64], ys: &[u64]) -> Option<(u64, u64)>
+        requires left_row { IsRow xs.now }
+        requires right_row { IsRow ys.now }
+        requires left { in_order (pairs xs.now) ≡ true }
+        requires right { in_order (pairs ys.now) ≡ true }
+        ensures next { IfSome result (λ e. spec.left_of self.old xs.now ys.now ≡ e ∷ spec.left_of self.new xs.now ys.now) }
+        ensures further { IfSome result (λ _. spec.to_come self.new xs.now ys.now < spec.to_come self.old xs.now ys.now) }
+        ensures none { result ≡ None → spec.left_of self.old xs.now ys.now ≡ [] }
+        ensures over { result ≡ None → self.new ≡ self.old }
+    {
+        if self.left >= entry_count(xs) {
+            if self.right >= entry_count(ys) {
+                return None;
+            }
+            let y = entry_at(ys, self.right);
+            self.right += 1;
+            return Some(y);
+        }
+        let x = entry_at(xs, self.left);
+        if self.right >= entry_count(ys) {
+            self.left += 1;
+            return Some(x);
+        }
+        let y = entry_at(ys, self.right);
+        if x.0 < y.0 {
+            self.left += 1;
+            return Some(x);
+        }
+        self.right += 1;
+        if y.0 < x.0 {
+            return Some(y);
+        }
+        self.left += 1;
+        Some((x.0, x.1.max(y.1)))
+    }
+}
+
+/// Writes the row of what the join of two vectors has above a star's bounds, in place of what was there.
 #[inline(always)]
-pub(crate) fn join(xs: &[u64], ys: &[u64], out: &mut Vec<u64>) -> Result<(), AllocError>
+pub(crate) fn join(
+    xs: &[u64],
+    ys: &[u64],
+    star: &[u64],
+    out: &mut Vec<u64>,
+) -> Result<(), AllocError>
     requires left_row { IsRow xs.now }
     requires right_row { IsRow ys.now }
+    requires star_row { IsRow star.now }
     requires left { in_order (pairs xs.now) ≡ true }
     requires right { in_order (pairs ys.now) ≡ true }
+    requires star { in_order (pairs star.now) ≡ true }
     ensures row { OnOk result (IsRow out.new.items) }
-    ensures entries { OnOk result (pairs out.new.items ≡ spec.joined (pairs xs.now) (pairs ys.now)) }
+    ensures entries { OnOk result (pairs out.new.items ≡ exceeding (pairs star.now) (joined (pairs xs.now) (pairs ys.now))) }
 {
     out.clear();
-    out.reserve(xs.len().saturating_add(ys.len()))?;
-    let (left, right) = (entry_count(xs), entry_count(ys));
-    let mut i = 0;
-    let mut j = 0;
-    while i < left && j < right {
-        let (a, m) = entry_at(xs, i);
-        let (b, n) = entry_at(ys, j);
-        if a < b {
-            out.push_reserved(a);
-            out.push_reserved(m);
-            i += 1;
-            continue;
+    let mut merging = Merging::new();
+    while let Some((author, n)) = merging.next(xs, ys) {
+        if bound_at(star, author) < n {
+            out.push(author)?;
+            out.push(n)?;
         }
-        if b < a {
-            out.push_reserved(b);
-            out.push_reserved(n);
-            j += 1;
-            continue;
-        }
-        let most = m.max(n);
-        out.push_reserved(a);
-        out.push_reserved(most);
-        i += 1;
-        j += 1;
     }
-    if i < left {
-        out.extend_from_slice(entries_from(xs, i))?;
-        return Ok(());
-    }
-    out.extend_from_slice(entries_from(ys, j))?;
     Ok(())
 }

@@ -2,12 +2,9 @@
 use crate::Fragment;
 use crate::index::IndexEntry;
 use crate::known::has_table;
-use crate::live::LiveRows;
-use crate::raise::is_level;
+use crate::live::{LiveRows, is_level, is_within};
 use crate::search::{number_at, number_near};
-use crate::table_rows::{star_alone, told, told_one, vector_of as vector_of_fragment};
-use crate::topped::ToppedRows;
-use crate::union::is_within;
+use crate::table_rows::{told, told_one};
 use photo_record::PicNo;
 use photo_version::{Vector, Version};
 use std::alloc::{AllocError, Global};
@@ -78,12 +75,12 @@ impl Knowledge {
         ensures value { IfOk result (λ k. k ≡ settled nothing_known) }
         ensures nothing { IfOk result (λ k. (p : ℕ) (v : versions.Version) → spec.knows k.known p v ≡ false) }
     {
-        let star = star_alone(alloc, &[])?;
+        let live = LiveRows::of_star(alloc, &[])?;
         Ok(Knowledge {
             alloc,
-            live: LiveRows::new(star),
+            live,
             index: Vec::new(alloc),
-            spare: LiveRows::new(ToppedRows::none(alloc)),
+            spare: LiveRows::none(alloc),
             staged: Staged::Nothing,
         })
     }
@@ -161,11 +158,11 @@ impl Knowledge {
         ensures { IfOk result (λ vector. (v : versions.Version) → vectors.denotes vector v ≡ spec.knows self.now.known picture v) }
     {
         let (number, _place) = number_at(&self.index, picture.value());
-        vector_of_fragment(self.alloc, &self.live.fragment(number))
+        self.live.fragment(number).vector(self.alloc)
     }
 
     // Stages what is known and what a side denotes.
-    fn stage_union(&mut self, rows: &ToppedRows, index: &[IndexEntry]) -> Result<(), AllocError>
+    fn stage_union(&mut self, rows: &LiveRows, index: &[IndexEntry]) -> Result<(), AllocError>
         requires rows { AreRows rows.now }
         requires side { IsSide (fragments_of rows.now) index.now }
         ensures known { self.new.known ≡ self.old.known }
@@ -193,26 +190,8 @@ impl Knowledge {
             self.staged = Staged::AllKnown;
             return Ok(());
         }
-        if let Some(rows) = other.live.settled() {
-            self.stage_union(rows, &other.index)?;
-            return Ok(());
-        }
-        let rows = other.live.to_rows(self.alloc)?;
-        self.stage_union(&rows, &other.index)?;
+        self.stage_union(&other.live, &other.index)?;
         Ok(())
-    }
-
-    /// Puts a bound that waits beside the rows into them, so that a union with this knowledge as the other side needs no copy
-    /// of it. What is known and what is staged stay. It takes no memory.
-    pub fn settle_bounds(&mut self)
-        ensures { self.new ≡ self.old }
-    {
-        self.live.settle();
-    }
-
-    /// Whether no bound waits beside the rows, as after [`Knowledge::settle_bounds`]. What is known is the same either way.
-    pub fn has_settled(&self) -> bool {
-        self.live.settled().is_some()
     }
 
     /// Whether something is staged.
@@ -247,7 +226,7 @@ impl Knowledge {
     }
 
     // Learns what a side denotes.
-    fn take_union(&mut self, rows: &ToppedRows, index: &[IndexEntry]) -> Result<(), AllocError>
+    fn take_union(&mut self, rows: &LiveRows, index: &[IndexEntry]) -> Result<(), AllocError>
         requires rows { AreRows rows.now }
         requires side { IsSide (fragments_of rows.now) index.now }
         ensures joined { OnOk result (IsJoined self.old.known (fragments_of rows.now) index.now self.new.known) }
@@ -341,7 +320,7 @@ impl Knowledge {
             return Ok(());
         }
         self.unstage();
-        let rows = star_alone(self.alloc, &[author, n])?;
+        let rows = LiveRows::of_star(self.alloc, &[author, n])?;
         self.take_union(&rows, &[])?;
         Ok(())
     }
@@ -368,13 +347,13 @@ impl Knowledge {
     pub fn try_clone(&self) -> Result<Knowledge, AllocError>
         ensures { IfOk result (λ copy. copy ≡ settled self.now.known) }
     {
-        let rows = self.live.to_rows(self.alloc)?;
+        let live = self.live.try_clone(self.alloc)?;
         let index = self.index.to_vec(self.alloc)?;
         Ok(Knowledge {
             alloc: self.alloc,
-            live: LiveRows::new(rows),
+            live,
             index,
-            spare: LiveRows::new(ToppedRows::none(self.alloc)),
+            spare: LiveRows::none(self.alloc),
             staged: Staged::Nothing,
         })
     }

@@ -1,6 +1,6 @@
 //! Laws of what fragments denote. Each function's contract is a law, and its body does nothing.
 ghost use Rattle.item_knowledge.specs.Laws.{VectorsAreOne, NormalFormsAreOne, StarIsOfEvery, EachHasOneNormalForm};
-ghost use Rattle.item_knowledge.specs.Examples.{TheLibrary, TheNormalForms, TheVectors, TheStaged, TheMarks, TheEpochs, TheWaiting};
+ghost use Rattle.item_knowledge.specs.Examples.{TheLibrary, TheNormalForms, TheVectors, TheStaged, TheMarks, TheEpochs, TheExcess};
 
 /// A vector is determined by the versions that it denotes.
 pub fn vectors_are_one()
@@ -30,5 +30,5 @@ pub fn examples()
     ensures staged { TheStaged }
     ensures marks { TheMarks }
     ensures epochs { TheEpochs }
-    ensures waiting { TheWaiting }
+    ensures excess { TheExcess }
 {}

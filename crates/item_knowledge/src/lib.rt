@@ -13,14 +13,12 @@ pub mod laws;
 mod live;
 mod pairing;
 mod places;
-mod raise;
 mod rows;
 mod search;
 mod seen;
 mod side;
 mod table_rows;
-mod topped;
 mod union;
 
-pub use fragment::Fragment;
+pub use fragment::{Fragment, FragmentEntries};
 pub use knowledge::Knowledge;

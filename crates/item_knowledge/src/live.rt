@@ -1,58 +1,101 @@
-// The rows of what is known, with a bound that may stand beside them.
-ghost use Rattle.std.specs.Prelude.{◌≡◌, ℕ, ◌<◌, true, length, None};
+// The rows of what is known: a star, and of each group what it has beyond the star.
+ghost use Rattle.std.specs.Prelude.{◌≡◌, ℕ, ◌<◌, true, length};
 ghost use Rattle.item_knowledge.specs.Fragments.{entries_at};
-ghost use Rattle.item_knowledge.specs.Late as spec;
+ghost use Rattle.item_knowledge.specs.Gathering.{IsSide};
+ghost use Rattle.item_knowledge.specs.Kept.{is_side_within};
+ghost use Rattle.item_knowledge.specs.Raising as raising;
 ghost use Rattle.item_knowledge.specs.Rows.{AreRows, fragments_of};
 ghost use Rattle.item_knowledge.specs.Tables.{in_order};
 
 use crate::Fragment;
 use crate::index::IndexEntry;
-use crate::search::{bound_at, is_leq};
-use crate::topped::{ToppedRows, topped_union};
+use crate::join::join;
+use crate::rows::Rows;
+use crate::search::{bound_at, entry_at, entry_count, number_near, place_of};
+use crate::seen::{Seen, seen_of, seen_together};
+use crate::side::Side;
+use crate::union::{entries, union};
 use std::alloc::{AllocError, Global};
 use std::marker::Model;
 
-/// An author's word, and up to which number its versions are known.
-pub(crate) type Entry = (u64, u64);
-
-/// The rows of what is known. An author whose bound rises in all of them may have it beside the rows at first: a device's
-/// own rises with each version that it makes. It stays there over unions whose other side has no more of it than the rows.
+/// The rows of what is known. A row that repeats the star's bounds would be as long as there are authors, and would change with
+/// each that rises: so the star stands once, and a row has what exceeds it. It is seen as the rows of whole vectors.
 #[derive(Debug, Drop)]
 pub(crate) struct LiveRows {
-    rows: ToppedRows,
-    // Whose bound is still to be raised in each row, and to what.
-    late: Option<Entry>,
+    // The star's entries, as in a row.
+    star: Vec<u64>,
+    // The first fragment has no entries, and each other one the bounds that are above the star's.
+    rows: Rows,
+    // Marks of the bounds in the rows.
+    seen: Seen,
 }
 
 impl Model for LiveRows {
     ghost use Rattle.std.specs.Prelude.{ℕ, List};
     ghost use Rattle.std.specs.Coded.{coded_ℕ, coded_list};
-    ghost use Rattle.item_knowledge.specs.Late.{shown, IsLate};
+    ghost use Rattle.item_knowledge.specs.Excess.{shown, IsExcess};
+    ghost use Rattle.item_knowledge.specs.Seen.{IsSeen};
 
     ghost Value = { List (List ℕ) };
 
     ghost coded = { coded_list (coded_list coded_ℕ) };
 
-    ghost view = { λ r. shown r.late r.rows };
+    ghost view = { λ r. shown r.star.items r.rows };
 
-    ghost invariant = { λ r. IsLate r.late r.rows };
+    ghost invariant = { λ r. IsExcess r.star.items r.rows × IsSeen r.seen.words.items r.rows };
 }
 
 impl LiveRows {
-    ghost use Rattle.std.specs.Prelude.{◌≡◌, ◌<◌, true, [], length, get_or, IfOk, OnOk, IfSome};
+    ghost use Rattle.std.specs.Prelude.{◌≡◌, ◌<◌, true, [], ◌∷◌, length, get_or, IfOk, OnOk};
+    ghost use Rattle.std.specs.List.{list_all};
     ghost use Rattle.item_knowledge.specs.Tables.{in_order};
     ghost use Rattle.item_knowledge.specs.Entries.{bound, leq, is_vector};
     ghost use Rattle.item_knowledge.specs.Fragments.{entries_at, nothing, is_normal};
     ghost use Rattle.item_knowledge.specs.Gathering.{IsSide, IsUnion};
-    ghost use Rattle.item_knowledge.specs.Late.{IsWaiting};
-    ghost use Rattle.item_knowledge.specs.Raising.{all_raised};
-    ghost use Rattle.item_knowledge.specs.Rows.{AreRows, fragments_of, rows_of};
+    ghost use Rattle.item_knowledge.specs.Raising.{all_raised, IsWaiting};
+    ghost use Rattle.item_knowledge.specs.Rows.{AreRows, IsRow, pairs, fragments_of, rows_of};
 
-    /// Rows in which each bound stands.
-    pub(crate) fn new(rows: ToppedRows) -> LiveRows
-        ensures { result ≡ rows }
+    /// No rows. Takes no memory.
+    pub(crate) fn none(alloc: Global) -> LiveRows
+        ensures { result ≡ [] }
     {
-        LiveRows { rows, late: None }
+        LiveRows {
+            star: Vec::new(alloc),
+            rows: Rows::new(alloc),
+            seen: Seen::new(alloc),
+        }
+    }
+
+    /// The rows of a star alone.
+    pub(crate) fn of_star(alloc: Global, star: &[u64]) -> Result<LiveRows, AllocError>
+        requires row { IsRow star.now }
+        requires vector { is_vector (pairs star.now) ≡ true }
+        ensures { IfOk result (λ rows. rows ≡ [] ∷ star.now ∷ []) }
+    {
+        let star = star.to_vec(alloc)?;
+        let mut rows = Rows::new(alloc);
+        rows.reserve(2, 0)?;
+        rows.place_fragment(&[], &[])?;
+        Ok(LiveRows {
+            star,
+            rows,
+            seen: Seen::new(alloc),
+        })
+    }
+
+    /// The rows of fragments of which the first is a star without entries.
+    pub(crate) fn of_rows(alloc: Global, rows: Rows) -> Result<LiveRows, AllocError>
+        requires rows { AreRows rows }
+        requires star { entries_at (fragments_of rows) 0 ≡ [] }
+        requires vectors { list_all (λ f. is_vector f.entries) (fragments_of rows) ≡ true }
+        ensures { IfOk result (λ live. live ≡ rows) }
+    {
+        let seen = seen_of(alloc, &rows)?;
+        Ok(LiveRows {
+            star: Vec::new(alloc),
+            rows,
+            seen,
+        })
     }
 
     /// The number of fragments.
@@ -71,10 +114,11 @@ impl LiveRows {
         requires order { in_order (entries_at (fragments_of self.now) k) ≡ true }
         ensures { result ≡ bound (entries_at (fragments_of self.now) k) author }
     {
-        if let Some(n) = late_of(self.late, author) {
-            return n;
+        let beyond = bound_at(entries(&self.rows, k), author);
+        if beyond > 0 {
+            return beyond;
         }
-        bound_at(self.rows.entries(k), author)
+        bound_at(&self.star, author)
     }
 
     /// The fragment of a number. It is lent, and copies nothing.
@@ -86,167 +130,169 @@ impl LiveRows {
     {
         // For its fact alone: the rows are fewer than 2 ^ 63.
         let _count = self.rows.rows();
-        Fragment::new(self.rows.row(2 * k), self.rows.entries(k), self.late)
+        Fragment::new(self.rows.row(2 * k), entries(&self.rows, k), &self.star)
     }
 
-    // Whether each bound of a fragment is at most that of the fragment of a number here.
-    fn has(&self, k: usize, fragment: &Fragment<'_>) -> bool
+    // Whether each bound of a row is at most that of the fragment of a number.
+    #[inline(always)]
+    fn has_row(&self, k: usize, row: &[u64]) -> bool
         requires rows { AreRows self.now }
         requires number { k < length (fragments_of self.now) }
         requires order { in_order (entries_at (fragments_of self.now) k) ≡ true }
-        ensures { result ≡ leq fragment.now.entries (entries_at (fragments_of self.now) k) }
+        requires row { IsRow row.now }
+        ensures { result ≡ leq (pairs row.now) (entries_at (fragments_of self.now) k) }
     {
-        for i in 0..fragment.len() {
-            let (author, n) = fragment.entry(i);
-            if self.bound(k, author.word()) < u64::from(n) {
+        for i in 0..entry_count(row) {
+            let (author, n) = entry_at(row, i);
+            if self.bound(k, author) < n {
                 return false;
             }
         }
         true
     }
 
-    /// Whether each bound of the fragment of a number is at most that of another's of its number.
+    /// Whether each bound of the star is at most that of another's star.
+    pub(crate) fn is_star_leq(&self, others: &LiveRows) -> bool
+        requires rows { AreRows self.now }
+        requires others { AreRows others.now }
+        requires some { 0 < length (fragments_of self.now) }
+        requires other { 0 < length (fragments_of others.now) }
+        requires order { in_order (entries_at (fragments_of others.now) 0) ≡ true }
+        ensures { result ≡ leq (entries_at (fragments_of self.now) 0) (entries_at (fragments_of others.now) 0) }
+    {
+        others.has_row(0, &self.star)
+    }
+
+    /// Whether each bound of the fragment of a number is at most that of another's of its number, whose star has those of the
+    /// star here.
     #[inline(always)]
     pub(crate) fn is_leq(&self, k: usize, others: &LiveRows, l: usize) -> bool
         requires rows { AreRows self.now }
         requires others { AreRows others.now }
         requires number { k < length (fragments_of self.now) }
         requires other { l < length (fragments_of others.now) }
-        requires vector { is_vector (entries_at (fragments_of self.now) k) ≡ true }
         requires order { in_order (entries_at (fragments_of others.now) l) ≡ true }
+        requires star { leq (entries_at (fragments_of self.now) 0) (entries_at (fragments_of others.now) l) ≡ true }
         ensures { result ≡ leq (entries_at (fragments_of self.now) k) (entries_at (fragments_of others.now) l) }
     {
-        if let Some(rows) = self.settled() {
-            if is_leq(rows.entries(k), others.rows.entries(l)) {
-                return true;
-            }
-        }
-        others.has(l, &self.fragment(k))
+        others.has_row(l, entries(&self.rows, k))
     }
 
-    /// Raises the author's bound to `n` in each fragment, where each has one. It takes no memory, and touches no row as long
-    /// as one author's is raised again and again.
+    /// Raises the author's bound to `n` in each fragment, where each has one and none more than the star. It takes no memory,
+    /// and touches no row.
     pub(crate) fn raise(&mut self, author: u64, n: u64)
         requires rows { AreRows self.old }
         requires waiting { IsWaiting (author, n) (fragments_of self.old) }
         ensures { self.new ≡ rows_of (all_raised (author, n) (fragments_of self.old)) }
     {
-        if late_of(self.late, author).is_none() {
-            settle(&mut self.rows, &mut self.late);
-        }
-        self.late = Some((author, n));
-    }
-
-    /// Raises in each row the bound that is still to be raised. It takes no memory.
-    pub(crate) fn settle(&mut self)
-        ensures { self.new ≡ self.old }
-    {
-        settle(&mut self.rows, &mut self.late);
-    }
-
-    /// The rows, where each bound stands in them.
-    pub(crate) fn settled(&self) -> Option<&ToppedRows>
-        ensures { IfSome result (λ rows. rows.now ≡ self.now) }
-    {
-        if self.late.is_some() {
-            return None;
-        }
-        Some(&self.rows)
+        let place = place_of(&self.star, author);
+        self.star[2 * place + 1] = n;
     }
 
     /// No rows any more. The largest block stays, for the rows to come; no word of those that stood is kept.
     pub(crate) fn clear(&mut self)
         ensures { self.new ≡ [] }
     {
+        self.star.clear();
         self.rows.clear();
-        self.late = None;
+        self.seen.clear();
     }
 
-    /// Writes the normal form of what either side denotes, and gives its index. What is shown here stays. A bound that is still
-    /// to be raised waits beside what is written, where the other side has no more of its author than the star in the rows.
+    /// Writes the normal form of what either side denotes, and gives its index. An error leaves no rows.
     pub(crate) fn union(
-        &mut self,
+        &self,
         alloc: Global,
         index: &[IndexEntry],
-        others: &ToppedRows,
+        others: &LiveRows,
         others_index: &[IndexEntry],
         out: &mut LiveRows,
     ) -> Result<Vec<IndexEntry>, AllocError>
-        requires rows { AreRows self.old }
+        requires rows { AreRows self.now }
         requires others { AreRows others.now }
-        requires left { IsSide (fragments_of self.old) index.now }
+        requires left { IsSide (fragments_of self.now) index.now }
         requires right { IsSide (fragments_of others.now) others_index.now }
-        requires normal { is_normal (fragments_of self.old) ≡ true }
-        ensures same { self.new ≡ self.old }
+        requires normal { is_normal (fragments_of self.now) ≡ true }
         ensures rows { OnOk result (AreRows out.new) }
-        ensures union { IfOk result (λ written. IsUnion (fragments_of self.old) index.now (fragments_of others.now) others_index.now
+        ensures union { IfOk result (λ written. IsUnion (fragments_of self.now) index.now (fragments_of others.now) others_index.now
             (fragments_of out.new) written.items) }
     {
-        settle_for(&mut self.rows, &mut self.late, others);
-        out.late = None;
-        let written = topped_union(
-            alloc,
-            &self.rows,
+        out.clear();
+        let mut star = Vec::new(alloc);
+        join(&self.star, &others.star, &[], &mut star)?;
+        let seen = seen_together(alloc, &self.seen, &others.seen)?;
+        let left = Side {
+            star: &self.star,
+            rows: &self.rows,
             index,
-            others,
-            others_index,
-            &mut out.rows,
-        )?;
-        out.late = self.late;
-        Ok(written)
-    }
-
-    /// A copy of the rows, in which each bound stands.
-    pub(crate) fn to_rows(&self, alloc: Global) -> Result<ToppedRows, AllocError>
-        ensures { IfOk result (λ rows. rows ≡ self.now) }
-    {
-        let mut rows = self.rows.try_clone(alloc)?;
-        let mut late = self.late;
-        settle(&mut rows, &mut late);
-        Ok(rows)
-    }
-}
-
-/// The bound of an author that is still to be raised.
-pub(crate) fn late_of(late: Option<Entry>, author: u64) -> Option<u64>
-    ensures { result ≡ spec.late_of late author }
-{
-    if let Some((raised, n)) = late {
-        if raised == author {
-            return Some(n);
+        };
+        let right = Side {
+            star: &others.star,
+            rows: &others.rows,
+            index: others_index,
+        };
+        match union(alloc, left, right, &star, &self.seen, &mut out.rows) {
+            Ok(written) => {
+                out.star = star;
+                out.seen = seen;
+                Ok(written)
+            }
+            Err(refused) => {
+                out.rows.clear();
+                Err(refused)
+            }
         }
     }
-    None
+
+    /// A copy.
+    pub(crate) fn try_clone(&self, alloc: Global) -> Result<LiveRows, AllocError>
+        ensures { IfOk result (λ copy. copy ≡ self.now) }
+    {
+        let star = self.star.to_vec(alloc)?;
+        let rows = self.rows.try_clone()?;
+        let seen = self.seen.try_clone(alloc)?;
+        Ok(LiveRows { star, rows, seen })
+    }
 }
 
-// Raises in each row the bound that is still to be raised, unless it may wait beside the union with other rows as well. Takes
-// no memory.
-fn settle_for(rows: &mut ToppedRows, late: &mut Option<Entry>, others: &ToppedRows)
-    requires late { spec.IsLate late.old rows.old }
+/// Whether no fragment has a version of the author above the bound. Takes no memory.
+pub(crate) fn is_level(rows: &LiveRows, author: u64, bound: u64) -> bool
+    requires rows { AreRows rows.now }
+    requires order { (k : ℕ) → k < length (fragments_of rows.now) → in_order (entries_at (fragments_of rows.now) k) ≡ true }
+    ensures { result ≡ raising.are_level (fragments_of rows.now) author bound }
+{
+    for k in 0..rows.len() {
+        if rows.bound(k, author) > bound {
+            return false;
+        }
+    }
+    true
+}
+
+/// Whether each vector of the one side is at most the other's at the same picture. Takes no memory.
+pub(crate) fn is_within(
+    rows: &LiveRows,
+    index: &[IndexEntry],
+    others: &LiveRows,
+    others_index: &[IndexEntry],
+) -> bool
+    requires rows { AreRows rows.now }
     requires others { AreRows others.now }
-    requires some { 0 < length (fragments_of others.now) }
-    requires star { in_order (entries_at (fragments_of others.now) 0) ≡ true }
-    ensures late { spec.IsLate late.new rows.new }
-    ensures shown { spec.shown late.new rows.new ≡ spec.shown late.old rows.old }
-    ensures untouching { spec.AreUntouching late.new rows.new (fragments_of others.now) }
+    requires left { IsSide (fragments_of rows.now) index.now }
+    requires right { IsSide (fragments_of others.now) others_index.now }
+    ensures { result ≡ is_side_within (fragments_of rows.now) index.now (fragments_of others.now) others_index.now }
 {
-    let Some((author, _)) = *late else {
-        return;
-    };
-    let bound = bound_at(rows.entries(0), author);
-    if !others.are_within(author, bound) {
-        settle(rows, late);
+    if !rows.is_star_leq(others) {
+        return false;
     }
-}
-
-// Raises in each row the bound that is still to be raised. Takes no memory.
-fn settle(rows: &mut ToppedRows, late: &mut Option<Entry>)
-    requires { spec.IsLate late.old rows.old }
-    ensures rows { rows.new ≡ spec.shown late.old rows.old }
-    ensures late { late.new ≡ None }
-{
-    if let Some((author, n)) = *late {
-        rows.raise(author, n);
-        *late = None;
+    let mut hint = 0;
+    for i in 0..index.len() {
+        let (picture, own) = index[i];
+        let number = own as usize;
+        let (other, next) = number_near(others_index, hint, picture);
+        hint = next;
+        if !rows.is_leq(number, others, other) {
+            return false;
+        }
     }
+    true
 }

@@ -1,16 +1,13 @@
 // Searches for a picture in an index, and for an author in a row.
 ghost use Rattle.std.specs.Prelude.{◌≡◌, ◌<◌, ◌≤◌, true, length, get_or, drop, IfSome};
 ghost use Rattle.item_knowledge.specs.Tables.{in_order, at};
-ghost use Rattle.item_knowledge.specs.Entries.{bound, leq};
-ghost use Rattle.item_knowledge.specs.Rows.{pairs, flat, IsRow, IsAt};
+ghost use Rattle.item_knowledge.specs.Entries.{bound};
+ghost use Rattle.item_knowledge.specs.Rows.{pairs, IsRow, IsAt};
 
 use crate::index::IndexEntry;
 
 // How many places one goes forward from a hint before the whole index is searched.
 const STEPS: usize = 32;
-
-// What the number of a device is multiplied by in its author's word.
-pub(crate) const EPOCHS: u64 = 4_294_967_296;
 
 /// The number of the fragment to which an index leads from a picture, 0 for the star, and the place in the index at which
 /// the picture stands or would stand.
@@ -127,56 +124,26 @@ pub(crate) fn entry_at(row: &[u64], i: usize) -> (u64, u64)
     (row[2 * i], row[2 * i + 1])
 }
 
-/// The words of the entries of a row from a place on.
-#[tactic(auto, using(crate::proofs::RowLemmas::row_length))]
-pub(crate) fn entries_from(row: &[u64], place: usize) -> &[u64]
-    requires row { IsRow row.now }
-    requires place { place ≤ length (pairs row.now) }
-    ensures { result.now ≡ flat (drop place (pairs row.now)) }
-{
-    // For its fact alone: how long the row is.
-    let _count = row.len();
-    &row[2 * place..]
-}
-
-// The bound of an author in a row, and its place, where no entry before that place is the author's.
-#[inline(always)]
-fn bound_from(row: &[u64], from: usize, author: u64) -> (u64, usize)
+/// The first place of a row of entries in order whose author is this one or a later one.
+pub(crate) fn place_of(row: &[u64], author: u64) -> usize
     requires row { IsRow row.now }
     requires order { in_order (pairs row.now) ≡ true }
-    requires from { bound (drop from (pairs row.now)) author ≡ bound (pairs row.now) author }
-    ensures bound { result.0 ≡ bound (pairs row.now) author }
-    ensures there { 0 < result.0 → IsAt (pairs row.now) result.1 author }
+    ensures inside { result ≤ length (pairs row.now) }
+    ensures behind { bound (drop result (pairs row.now)) author ≡ bound (pairs row.now) author }
+    ensures there { result < length (pairs row.now) → author ≤ (get_or (pairs row.now) result (0, 0)).0 }
+    ensures at { 0 < bound (pairs row.now) author → IsAt (pairs row.now) result author }
 {
-    let mut place = from;
-    while place < entry_count(row) {
-        let (word, n) = entry_at(row, place);
-        if word == author {
-            return (n, place);
-        }
-        if author < word {
-            return (0, place);
-        }
-        place += 1;
-    }
-    (0, place)
-}
-
-/// The bound of an author in a row of entries in order, 0 where it has none, and the place of its entry. The work is small
-/// where the hint is that place or one close before it; any hint will do.
-#[inline(always)]
-pub(crate) fn bound_near(row: &[u64], hint: usize, author: u64) -> (u64, usize)
-    requires row { IsRow row.now }
-    requires order { in_order (pairs row.now) ≡ true }
-    ensures bound { result.0 ≡ bound (pairs row.now) author }
-    ensures there { 0 < result.0 → IsAt (pairs row.now) result.1 author }
-{
-    if hint < entry_count(row) {
-        if entry_at(row, hint).0 <= author {
-            return bound_from(row, hint, author);
+    let mut low = 0;
+    let mut high = entry_count(row);
+    while low < high {
+        let middle = low + (high - low) / 2;
+        if entry_at(row, middle).0 < author {
+            low = middle + 1;
+        } else {
+            high = middle;
         }
     }
-    bound_from(row, 0, author)
+    low
 }
 
 /// The bound of an author in a row of entries in order, 0 where it has none.
@@ -185,25 +152,13 @@ pub(crate) fn bound_at(row: &[u64], author: u64) -> u64
     requires order { in_order (pairs row.now) ≡ true }
     ensures { result ≡ bound (pairs row.now) author }
 {
-    // Where each device before it has one entry, an author's stands at its device's number.
-    bound_near(row, (author / EPOCHS) as usize, author).0
-}
-
-/// Whether each bound of the one row is at most the other's.
-pub(crate) fn is_leq(row: &[u64], other: &[u64]) -> bool
-    requires left_row { IsRow row.now }
-    requires right_row { IsRow other.now }
-    requires right { in_order (pairs other.now) ≡ true }
-    ensures { result ≡ leq (pairs row.now) (pairs other.now) }
-{
-    let mut hint: usize = 0;
-    for i in 0..entry_count(row) {
-        let (author, n) = entry_at(row, i);
-        let (most, place) = bound_near(other, hint, author);
-        if most < n {
-            return false;
-        }
-        hint = place.saturating_add(1);
+    let place = place_of(row, author);
+    if place >= entry_count(row) {
+        return 0;
     }
-    true
+    let (word, n) = entry_at(row, place);
+    if word != author {
+        return 0;
+    }
+    n
 }

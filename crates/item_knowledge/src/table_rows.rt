@@ -1,13 +1,12 @@
-// The rows of a star, of one picture, and of a table of pictures.
+// The rows of one picture, and of a table of pictures.
 ghost use Rattle.std.specs.Prelude.{◌≡◌, [], ◌∷◌, ◌++◌, true, IfOk, OnOk};
 ghost use Rattle.item_knowledge.specs.Entries.{is_vector};
 ghost use Rattle.item_knowledge.specs.Rows.{pairs, flat, IsRow};
 ghost use Rattle.item_knowledge.specs.TableRows as spec;
 
-use crate::Fragment;
 use crate::index::{IndexEntry, to_u32};
+use crate::live::LiveRows;
 use crate::rows::Rows;
-use crate::topped::ToppedRows;
 use photo_record::PicNo;
 use photo_version::Vector;
 use std::alloc::{AllocError, Global};
@@ -27,18 +26,6 @@ pub(crate) fn write_row(vector: &Vector, row: &mut Vec<u64>) -> Result<(), Alloc
     Ok(())
 }
 
-/// The vector of a fragment.
-pub(crate) fn vector_of(alloc: Global, fragment: &Fragment<'_>) -> Result<Vector, AllocError>
-    requires { is_vector fragment.now.entries ≡ true }
-    ensures { IfOk result (λ vector. vector ≡ spec.bounds_of fragment.now.entries) }
-{
-    let mut bounds = Vec::new(alloc);
-    for i in 0..fragment.len() {
-        bounds.push(fragment.entry(i))?;
-    }
-    Vector::from_entries(alloc, bounds)
-}
-
 // A fragment of one picture with the entries of a vector, at the end. The row is room to write in.
 fn place_told(
     rows: &mut Rows,
@@ -54,48 +41,35 @@ fn place_told(
     Ok(())
 }
 
-// A star, and room for so many rows.
-fn star_first(alloc: Global, star: &[u64], count: usize) -> Result<Rows, AllocError>
-    ensures { IfOk result (λ rows. rows ≡ [] ∷ star.now ∷ []) }
+// A star without entries, and room for so many rows.
+fn star_first(alloc: Global, count: usize) -> Result<Rows, AllocError>
+    ensures { IfOk result (λ rows. rows ≡ [] ∷ [] ∷ []) }
 {
     let mut rows = Rows::new(alloc);
     rows.reserve(count, count.saturating_mul(2))?;
-    rows.place(&[])?;
-    rows.place(star)?;
+    rows.place_fragment(&[], &[])?;
     Ok(rows)
 }
 
-/// The rows of a star alone.
-pub(crate) fn star_alone(alloc: Global, star: &[u64]) -> Result<ToppedRows, AllocError>
-    ensures { IfOk result (λ rows. rows ≡ [] ∷ star.now ∷ []) }
-{
-    let rows = star_first(alloc, star, 2)?;
-    Ok(ToppedRows::of_star(alloc, rows))
-}
-
 /// The rows of what is told of one picture.
-pub(crate) fn told_one(
-    alloc: Global,
-    picture: u32,
-    vector: &Vector,
-) -> Result<ToppedRows, AllocError>
+pub(crate) fn told_one(alloc: Global, picture: u32, vector: &Vector) -> Result<LiveRows, AllocError>
     ensures rows { IfOk result (λ rows. rows ≡ [] ∷ [] ∷ (picture ∷ []) ∷ flat (spec.entries_of vector.now) ∷ []) }
     ensures vector { OnOk result (is_vector (spec.entries_of vector.now) ≡ true) }
 {
-    let mut rows = star_first(alloc, &[], 4)?;
+    let mut rows = star_first(alloc, 4)?;
     place_told(&mut rows, picture, vector, &mut Vec::new(alloc))?;
-    ToppedRows::of_rows(alloc, rows)
+    LiveRows::of_rows(alloc, rows)
 }
 
 /// The rows of what is told of pictures, with their index.
 pub(crate) fn told(
     alloc: Global,
     table: &[(PicNo, Vector)],
-) -> Result<(ToppedRows, Vec<IndexEntry>), AllocError>
+) -> Result<(LiveRows, Vec<IndexEntry>), AllocError>
     ensures { IfOk result (λ all. spec.IsTold table.now all.0 all.1.items) }
 {
     let count = table.len().saturating_mul(2).saturating_add(2);
-    let mut rows = star_first(alloc, &[], count)?;
+    let mut rows = star_first(alloc, count)?;
     let mut index = Vec::with_capacity(alloc, table.len())?;
     let mut row = Vec::new(alloc);
     for i in 0..table.len() {
@@ -105,6 +79,6 @@ pub(crate) fn told(
         let number = to_u32(i + 1)?;
         index.push((picture, number))?;
     }
-    let topped = ToppedRows::of_rows(alloc, rows)?;
-    Ok((topped, index))
+    let live = LiveRows::of_rows(alloc, rows)?;
+    Ok((live, index))
 }

@@ -1,5 +1,6 @@
-//! The calls of a device and of held versions.
-use photo_device::{Device, HeldSet, Spot};
+//! The calls of a device and of what it holds.
+use crate::{held, staging};
+use photo_device::{Device, HeldSet};
 use photo_record::{PicNo, Record};
 use photo_version::{Author, Version};
 use std::alloc::Global;
@@ -7,15 +8,45 @@ use value_refusals::{filter_of, rated};
 
 /// A device that has made nothing, and keeps what has a rating of 3 or more.
 pub fn opened(alloc: Global, number: u16) -> Option<Device> {
-    Device::new(alloc, Author::new(number), filter_of(alloc, "rating >= 3")?).ok()
+    match filter_of(alloc, "rating >= 3") {
+        Some(filter) => Device::new(alloc, Author::new(number), filter).ok(),
+        None => None,
+    }
+}
+
+/// The groups of calls on a device: its readers and `held`; the readers of a set of held versions; `unknown_of` for a set of
+/// which it knows all; `conflicts`, which takes memory; and those of a shared version and of what is staged.
+pub fn answer(alloc: Global, group: &str, times: u32) -> Option<bool> {
+    let mut made = opened(alloc, 0);
+    let right = match &mut made {
+        Some(device) => answer_of(alloc, device, group, times),
+        None => None,
+    };
+    drop(made);
+    right
+}
+
+fn answer_of(alloc: Global, device: &mut Device, group: &str, times: u32) -> Option<bool> {
+    match group {
+        "device" | "held_set" | "asking" | "held" | "conflicts" => {
+            if !has_made(alloc, device, 300, 4) {
+                return None;
+            }
+            answer_of_full(alloc, device, group, times)
+        }
+        _ => staging::answer(alloc, device, group, times),
+    }
 }
 
 /// Whether a device made a version of each of the pictures 1 to so many, with that rating.
 pub fn has_made(alloc: Global, device: &mut Device, pictures: u32, rating: u8) -> bool {
-    match rated(alloc, rating) {
-        Some(content) => makes_all(device, pictures, &content),
+    let made = rated(alloc, rating);
+    let right = match &made {
+        Some(content) => makes_all(device, pictures, content),
         None => false,
-    }
+    };
+    drop(made);
+    right
 }
 
 fn makes_all(device: &mut Device, pictures: u32, content: &Record) -> bool {
@@ -34,26 +65,23 @@ fn makes(device: &mut Device, n: u32, content: &Record) -> bool {
     }
 }
 
-/// A device that made and holds 300 versions.
-pub fn device(alloc: Global) -> Option<Device> {
-    let mut device = opened(alloc, 0)?;
-    if has_made(alloc, &mut device, 300, 4) {
-        Some(device)
-    } else {
-        None
+// Of a device that made and holds 300 versions.
+fn answer_of_full(alloc: Global, device: &mut Device, group: &str, times: u32) -> Option<bool> {
+    match group {
+        "asking" => knows_twin(alloc, device, times),
+        "held" => held::answer(alloc, device, times),
+        _ => Some(answer_each(device, group, times)),
     }
 }
 
-/// `held` and the readers of a device, and `settle_bounds`, which first finds a bound that waits.
-pub fn answer(alloc: Global, times: u32) -> Option<bool> {
-    let mut device = device(alloc)?;
-    Some(answer_of(&mut device, times))
-}
-
-fn answer_of(device: &mut Device, times: u32) -> bool {
+fn answer_each(device: &Device, group: &str, times: u32) -> bool {
     for _ in 0..times {
-        device.settle_bounds();
-        if !has_parts(device) || !has_last(device) {
+        let is_right = match group {
+            "device" => has_parts(device) && has_last(device),
+            "held_set" => has_hundredth(device.store()),
+            _ => has_no_conflicts(device),
+        };
+        if !is_right {
             return false;
         }
     }
@@ -76,15 +104,21 @@ fn has_last(device: &Device) -> bool {
     device.held(version).is_some() && device.held_of(picture, version).is_some()
 }
 
-/// `unknown_of` for a set of which a device knows all.
-pub fn answer_asked(alloc: Global, times: u32) -> Option<bool> {
-    let mut device = device(alloc)?;
-    knows_twin(alloc, &mut device, times)
+fn knows_twin(alloc: Global, device: &mut Device, times: u32) -> Option<bool> {
+    let mut made = opened(alloc, 0);
+    let right = match &mut made {
+        Some(twin) => knows_filled(alloc, device, twin, times),
+        None => None,
+    };
+    drop(made);
+    right
 }
 
-fn knows_twin(alloc: Global, device: &mut Device, times: u32) -> Option<bool> {
-    let twin = self::device(alloc)?;
-    Some(knows_each(alloc, device, &twin, times))
+fn knows_filled(alloc: Global, device: &mut Device, twin: &mut Device, times: u32) -> Option<bool> {
+    if !has_made(alloc, twin, 300, 4) {
+        return None;
+    }
+    Some(knows_each(alloc, device, twin, times))
 }
 
 fn knows_each(alloc: Global, device: &mut Device, twin: &Device, times: u32) -> bool {
@@ -97,34 +131,20 @@ fn knows_each(alloc: Global, device: &mut Device, twin: &Device, times: u32) -> 
 }
 
 fn knows_all(alloc: Global, device: &mut Device, set: &HeldSet) -> bool {
-    match device.unknown_of(alloc, set) {
+    let found = device.unknown_of(alloc, set);
+    let right = match &found {
         Ok(found) => found.is_empty(),
         Err(_) => false,
-    }
-}
-
-/// The readers of a set of held versions.
-pub fn answer_sets(alloc: Global, times: u32) -> Option<bool> {
-    let device = device(alloc)?;
-    Some(answer_of_set(&device, times))
-}
-
-fn answer_of_set(device: &Device, times: u32) -> bool {
-    for _ in 0..times {
-        if !has_hundredth(device.store()) {
-            return false;
-        }
-    }
-    true
+    };
+    drop(found);
+    right
 }
 
 fn has_hundredth(set: &HeldSet) -> bool {
     let (Some(picture), Some(version)) = (PicNo::new(100), Version::new(Author::new(0), 100)) else {
         return false;
     };
-    let (found, _spot) = set.has_near(Spot::start(), picture, version);
-    found
-        && set.has(picture, version)
+    set.has(picture, version)
         && set.of(picture, version).is_some()
         && set.find(version).is_some()
         && set.blocks().len() == 3
@@ -133,24 +153,12 @@ fn has_hundredth(set: &HeldSet) -> bool {
         && set.get(99).picture == picture
 }
 
-/// `conflicts`, which takes memory.
-pub fn answer_conflicts(alloc: Global, times: u32) -> Option<bool> {
-    let device = device(alloc)?;
-    Some(answer_of_conflicts(&device, times))
-}
-
-fn answer_of_conflicts(device: &Device, times: u32) -> bool {
-    for _ in 0..times {
-        if !has_no_conflicts(device) {
-            return false;
-        }
-    }
-    true
-}
-
 fn has_no_conflicts(device: &Device) -> bool {
-    match device.conflicts() {
+    let found = device.conflicts();
+    let right = match &found {
         Ok(list) => list.is_empty(),
         Err(_) => false,
-    }
+    };
+    drop(found);
+    right
 }

@@ -7,18 +7,26 @@ use value_refusals::{filter_of, rated};
 
 /// `covers`, `matches` and the readers of a filter.
 pub fn answer(alloc: Global, times: u32) -> Option<bool> {
-    let wide = filter_of(alloc, "rating >= 3 or keyword sea or day >= 2024-06-01")?;
-    answer_beside(alloc, &wide, times)
+    let wide = filter_of(alloc, "rating >= 3 or keyword sea or day >= 2024-06-01");
+    let narrow = filter_of(alloc, "rating >= 4 and not keyword ball");
+    let record = rated(alloc, 4);
+    let right = answer_of_all(&wide, &narrow, &record, times);
+    drop(wide);
+    drop(narrow);
+    drop(record);
+    right
 }
 
-fn answer_beside(alloc: Global, wide: &Filter, times: u32) -> Option<bool> {
-    let narrow = filter_of(alloc, "rating >= 4 and not keyword ball")?;
-    answer_of_both(alloc, wide, &narrow, times)
-}
-
-fn answer_of_both(alloc: Global, wide: &Filter, narrow: &Filter, times: u32) -> Option<bool> {
-    let record = rated(alloc, 4)?;
-    Some(answer_of(wide, narrow, &record, times))
+fn answer_of_all(
+    wide: &Option<Filter>,
+    narrow: &Option<Filter>,
+    record: &Option<Record>,
+    times: u32,
+) -> Option<bool> {
+    match (wide, narrow, record) {
+        (Some(wide), Some(narrow), Some(record)) => Some(answer_of(wide, narrow, record, times)),
+        _ => None,
+    }
 }
 
 fn answer_of(wide: &Filter, narrow: &Filter, record: &Record, times: u32) -> bool {

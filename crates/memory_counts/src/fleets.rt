@@ -1,6 +1,5 @@
 //! The readers of a fleet that is driven by hand, and those of a run's log.
-use crate::scripts::small;
-use fleet_runner::{Fleet, IssueLog, Outcome, run_plain};
+use fleet_runner::{Fleet, IssueLog, Outcome};
 use fleet_session::Session;
 use fleet_steps::made_on;
 use photo_record::PicNo;
@@ -10,14 +9,26 @@ use value_refusals::filter_of;
 
 // A fleet of one device.
 fn one_device(alloc: Global) -> Option<Fleet> {
-    let filters = [filter_of(alloc, "rating >= 3")?];
-    Fleet::new(alloc, &filters).ok()
+    match filter_of(alloc, "rating >= 3") {
+        Some(filter) => {
+            let filters = [filter];
+            let fleet = Fleet::new(alloc, &filters).ok();
+            drop(filters);
+            fleet
+        }
+        None => None,
+    }
 }
 
 /// `takes` and the readers of a fleet of one device.
 pub fn answer(alloc: Global, times: u32) -> Option<bool> {
-    let fleet = one_device(alloc)?;
-    Some(answer_of(&fleet, times))
+    let made = one_device(alloc);
+    let right = match &made {
+        Some(fleet) => Some(answer_of(fleet, times)),
+        None => None,
+    };
+    drop(made);
+    right
 }
 
 fn answer_of(fleet: &Fleet, times: u32) -> bool {
@@ -40,8 +51,10 @@ fn is_fresh(fleet: &Fleet) -> bool {
 
 /// What passes a fleet on, and the readers of a session.
 pub fn answer_session(alloc: Global, times: u32) -> Option<bool> {
-    let fleet = one_device(alloc)?;
-    Some(is_passed_on(fleet, times))
+    match one_device(alloc) {
+        Some(fleet) => Some(is_passed_on(fleet, times)),
+        None => None,
+    }
 }
 
 fn is_passed_on(fleet: Fleet, times: u32) -> bool {
@@ -52,6 +65,7 @@ fn is_passed_on(fleet: Fleet, times: u32) -> bool {
         is_right = is_right && has_one_device(&session);
         fleet = session.into_fleet();
     }
+    drop(fleet);
     is_right
 }
 
@@ -60,17 +74,7 @@ fn has_one_device(session: &Session) -> bool {
 }
 
 /// `made_on` and the readers of a log.
-pub fn answer_log(alloc: Global, times: u32) -> Option<bool> {
-    let script = small(alloc)?;
-    answer_of_run(alloc, &script, times)
-}
-
-fn answer_of_run(alloc: Global, script: &Script, times: u32) -> Option<bool> {
-    let outcome = run_plain(alloc, script).ok()?;
-    Some(answer_of_log(script, &outcome, times))
-}
-
-fn answer_of_log(script: &Script, outcome: &Outcome, times: u32) -> bool {
+pub fn answer_log(script: &Script, outcome: &Outcome, times: u32) -> bool {
     for _ in 0..times {
         if !has_one(&outcome.log) || !has_made(script, outcome) {
             return false;

@@ -1,5 +1,5 @@
 //! Groups of calls by their names.
-use crate::{devices, filters, fleets, held, ledgers, runs, scripts, staging};
+use crate::{devices, filters, fleets, ledgers, runs, scripts, staging};
 use std::alloc::Global;
 use std::sync::Wait;
 use value_counts::answer_on_values;
@@ -18,22 +18,11 @@ pub fn of_line<R: Wait>(rt: &R, alloc: Global, line: &str) -> Option<bool> {
 
 fn of_devices(alloc: Global, group: &str, times: u32) -> Option<bool> {
     match group {
-        "device" => devices::answer(alloc, times),
-        "held_set" => devices::answer_sets(alloc, times),
-        "asking" => devices::answer_asked(alloc, times),
-        "held" => held::answer(alloc, times),
-        // It does take memory: where that isn't seen to, the others say nothing.
-        "conflicts" => devices::answer_conflicts(alloc, times),
-        _ => of_staging(alloc, group, times),
-    }
-}
-
-fn of_staging(alloc: Global, group: &str, times: u32) -> Option<bool> {
-    match group {
-        "staged" => staging::answer(alloc, times),
-        "commit" => staging::answer_commit(alloc, times),
-        "unstage" => staging::answer_unstage(alloc, times),
-        "handing" => staging::answer_handing(alloc, times),
+        // Conflicts do take memory: where that isn't seen to, the others say nothing.
+        "device" | "held_set" | "asking" | "held" | "conflicts" => {
+            devices::answer(alloc, group, times)
+        }
+        "staged" | "commit" | "unstage" | "handing" => devices::answer(alloc, group, times),
         "given" => staging::answer_given(alloc, times),
         _ => of_scripts(alloc, group, times),
     }
@@ -41,20 +30,11 @@ fn of_staging(alloc: Global, group: &str, times: u32) -> Option<bool> {
 
 fn of_scripts(alloc: Global, group: &str, times: u32) -> Option<bool> {
     match group {
-        "script" => scripts::answer(alloc, times),
+        "script" | "plan" | "audit" | "log" => scripts::answer(alloc, group, times),
         "same_words" => scripts::answer_same_words(alloc, times),
-        "plan" => runs::answer_plan(alloc, times),
-        "audit" => runs::answer_audit(alloc, times),
         "workers" => Some(runs::answer_workers(times)),
-        _ => of_fleets(alloc, group, times),
-    }
-}
-
-fn of_fleets(alloc: Global, group: &str, times: u32) -> Option<bool> {
-    match group {
         "fleet" => fleets::answer(alloc, times),
         "session" => fleets::answer_session(alloc, times),
-        "log" => fleets::answer_log(alloc, times),
         _ => answer_on_values(alloc, group, times),
     }
 }

@@ -1,19 +1,18 @@
 //! The readers of a held version that is shared, and the calls of a list of such.
-use crate::devices::device;
 use photo_device::{Device, ItemList, SharedHeld, SharedList};
 use photo_record::Record;
 use photo_version::Version;
 use std::alloc::Global;
 
-/// The readers of the first version that a device holds, and of a list of all of them; `ItemList::new` and `into_vec`.
-pub fn answer(alloc: Global, times: u32) -> Option<bool> {
-    let device = device(alloc)?;
-    answer_of_device(alloc, &device, times)
-}
-
-fn answer_of_device(alloc: Global, device: &Device, times: u32) -> Option<bool> {
-    let list = device.store().to_list().ok()?;
-    Some(answer_of(alloc, &list, times))
+/// The readers of the first version that a device of 300 holds, and of a list of all of them; `ItemList::new` and `into_vec`.
+pub fn answer(alloc: Global, device: &Device, times: u32) -> Option<bool> {
+    let made = device.store().to_list();
+    let right = match &made {
+        Ok(list) => Some(answer_of(alloc, list, times)),
+        Err(_) => None,
+    };
+    drop(made);
+    right
 }
 
 fn answer_of(alloc: Global, list: &SharedList, times: u32) -> bool {

@@ -1,19 +1,19 @@
 //! The calls of a plan, the audit, and the number of workers.
-use crate::scripts::small;
+use crate::fleets::answer_log;
 use fleet_runner::{Outcome, Workers, audit, run_plain};
 use photo_batcher::{Plan, places_of, plan};
 use photo_script::Script;
 use std::alloc::Global;
 
 /// The readers of a plan, and the places of a command's devices.
-pub fn answer_plan(alloc: Global, times: u32) -> Option<bool> {
-    let script = small(alloc)?;
-    answer_of_script(alloc, &script, times)
-}
-
-fn answer_of_script(alloc: Global, script: &Script, times: u32) -> Option<bool> {
-    let plan = plan(alloc, script).ok()?;
-    Some(answer_of_plan(script, &plan, times))
+pub fn answer_plan(alloc: Global, script: &Script, times: u32) -> Option<bool> {
+    let made = plan(alloc, script);
+    let right = match &made {
+        Ok(plan) => Some(answer_of_plan(script, plan, times)),
+        Err(_) => None,
+    };
+    drop(made);
+    right
 }
 
 fn answer_of_plan(script: &Script, plan: &Plan, times: u32) -> bool {
@@ -39,16 +39,16 @@ fn has_last(plan: &Plan) -> bool {
     plan.commands() == 4 && plan.batch_of(4) == 2 && plan.after(4) == Some(3)
 }
 
-// What comes of a script.
-fn outcome(alloc: Global) -> Option<Outcome> {
-    let script = small(alloc)?;
-    run_plain(alloc, &script).ok()
-}
-
-/// `audit`.
-pub fn answer_audit(alloc: Global, times: u32) -> Option<bool> {
-    let outcome = outcome(alloc)?;
-    Some(answer_of_audits(&outcome, times))
+/// `audit`, or the calls of a log, on what comes of a script.
+pub fn answer_outcome(alloc: Global, script: &Script, group: &str, times: u32) -> Option<bool> {
+    let run = run_plain(alloc, script);
+    let right = match &run {
+        Ok(outcome) if group == "log" => Some(answer_log(script, outcome, times)),
+        Ok(outcome) => Some(answer_of_audits(outcome, times)),
+        Err(_) => None,
+    };
+    drop(run);
+    right
 }
 
 fn answer_of_audits(outcome: &Outcome, times: u32) -> bool {

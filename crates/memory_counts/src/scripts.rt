@@ -1,4 +1,5 @@
 //! The calls of a script.
+use crate::runs;
 use photo_script::{Report, Script, devices_of, read_script, totals_of};
 use std::alloc::{AllocError, Global};
 
@@ -6,15 +7,23 @@ use std::alloc::{AllocError, Global};
 const TEXT: &str =
     "device cam all\ndevice frame rating >= 3\nnew cam 1 4 2024-01-01 sea\nknows frame 1 cam:1\npull frame cam\nlist cam\n";
 
-/// That script.
-pub fn small(alloc: Global) -> Option<Script> {
-    read_script(alloc, TEXT.as_bytes()).ok()
+/// The groups of calls on that script: `devices_of`, `totals_of` and its readers, and those of its plan and of what comes of it.
+pub fn answer(alloc: Global, group: &str, times: u32) -> Option<bool> {
+    let read = read_script(alloc, TEXT.as_bytes());
+    let right = match &read {
+        Ok(script) => answer_of_group(alloc, script, group, times),
+        Err(_) => None,
+    };
+    drop(read);
+    right
 }
 
-/// `devices_of`, `totals_of` and the readers of a script.
-pub fn answer(alloc: Global, times: u32) -> Option<bool> {
-    let script = small(alloc)?;
-    Some(answer_of(&script, times))
+fn answer_of_group(alloc: Global, script: &Script, group: &str, times: u32) -> Option<bool> {
+    match group {
+        "script" => Some(answer_of(script, times)),
+        "plan" => runs::answer_plan(alloc, script, times),
+        _ => runs::answer_outcome(alloc, script, group, times),
+    }
 }
 
 fn answer_of(script: &Script, times: u32) -> bool {
@@ -57,10 +66,13 @@ fn push_edits(text: &mut String, times: u32) -> Result<(), AllocError> {
 }
 
 fn reads(alloc: Global, text: &str, times: u32) -> bool {
-    match read_script(alloc, text.as_bytes()) {
+    let read = read_script(alloc, text.as_bytes());
+    let right = match &read {
         Ok(script) => script.commands() == times as usize,
         Err(_) => false,
-    }
+    };
+    drop(read);
+    right
 }
 
 // By the report of a question alone, which moved nothing.

@@ -33,30 +33,36 @@ fn stages_gain(alloc: Global, device: &mut Device, gain: &Knowledge) -> bool
     let drops = VersionList::new(Vec::new(alloc));
     let takes = SharedList::new(Vec::new(alloc));
     let pictures = Vec::new(alloc);
-    device.stage_lent(drops, pictures, takes, gain, 0).is_ok()
-}
-
-// A device on which a knowledge is staged that is not its own.
-fn staged(alloc: Global) -> Option<Device> {
-    let mut device = opened(alloc, 0)?;
-    if stages_another(alloc, &mut device) {
-        Some(device)
-    } else {
-        None
-    }
+    let done = device.stage_lent(drops, pictures, takes, gain, 0);
+    let right = done.is_ok();
+    drop(done);
+    right
 }
 
 fn stages_another(alloc: Global, device: &mut Device) -> bool {
-    match told(alloc, 7, 3) {
-        Some(gain) => stages(alloc, device, &gain),
+    let made = told(alloc, 7, 3);
+    let right = match &made {
+        Some(gain) => stages(alloc, device, gain),
         None => false,
-    }
+    };
+    drop(made);
+    right
 }
 
-/// `staged`.
-pub fn answer(alloc: Global, times: u32) -> Option<bool> {
-    let device = staged(alloc)?;
-    Some(is_staged(&device, times))
+/// `hand_over`; and `staged`, `unstage`, of which the first round drops what is staged, and `commit`, once where any calls are
+/// asked for, of a device on which a knowledge is staged that is not its own.
+pub fn answer(alloc: Global, device: &mut Device, group: &str, times: u32) -> Option<bool> {
+    if group == "handing" {
+        return Some(has_made(alloc, device, 1_000, 2) && hands(alloc, device, times));
+    }
+    if !stages_another(alloc, device) {
+        return None;
+    }
+    Some(match group {
+        "staged" => is_staged(device, times),
+        "unstage" => unstages(device, times),
+        _ => times == 0 || commits(alloc, device),
+    })
 }
 
 fn is_staged(device: &Device, times: u32) -> bool {
@@ -68,23 +74,11 @@ fn is_staged(device: &Device, times: u32) -> bool {
     true
 }
 
-/// `unstage`: the first round drops what is staged.
-pub fn answer_unstage(alloc: Global, times: u32) -> Option<bool> {
-    let mut device = staged(alloc)?;
-    Some(unstages(&mut device, times))
-}
-
 fn unstages(device: &mut Device, times: u32) -> bool {
     for _ in 0..times {
         device.unstage();
     }
     device.staged() == (times == 0)
-}
-
-/// `commit`, once where any calls are asked for.
-pub fn answer_commit(alloc: Global, times: u32) -> Option<bool> {
-    let mut device = staged(alloc)?;
-    Some(times == 0 || commits(alloc, &mut device))
 }
 
 fn commits(alloc: Global, device: &mut Device) -> bool {
@@ -95,17 +89,15 @@ fn commits(alloc: Global, device: &mut Device) -> bool {
     !device.staged() && device.knowledge().fragments() == 2
 }
 
-/// `hand_over`: a round hands over one of a thousand versions in the out.
-pub fn answer_handing(alloc: Global, times: u32) -> Option<bool> {
-    let mut device = opened(alloc, 0)?;
-    Some(has_made(alloc, &mut device, 1_000, 2) && hands(alloc, &mut device, times))
-}
-
+// A round hands over one of a thousand versions in the out.
 fn hands(alloc: Global, device: &mut Device, times: u32) -> bool {
-    match Vec::with_capacity(alloc, 1_000) {
-        Ok(mut handed) => hands_each(device, &mut handed, times),
+    let mut room = Vec::with_capacity(alloc, 1_000);
+    let right = match &mut room {
+        Ok(handed) => hands_each(device, handed, times),
         Err(_) => false,
-    }
+    };
+    drop(room);
+    right
 }
 
 fn hands_each(device: &mut Device, handed: &mut Vec<SharedHeld>, times: u32) -> bool {
@@ -131,19 +123,39 @@ fn is_handed(device: &mut Device, n: u32, handed: &mut Vec<SharedHeld>) -> bool 
 
 /// `with_knowledge`, once where any calls are asked for.
 pub fn answer_given(alloc: Global, times: u32) -> Option<bool> {
-    let device = opened(alloc, 1)?;
-    Some(is_given(alloc, device, times))
+    match opened(alloc, 1) {
+        Some(device) => Some(is_given(alloc, device, times)),
+        None => None,
+    }
 }
 
 fn is_given(alloc: Global, device: Device, times: u32) -> bool {
+    match first_known(alloc) {
+        Some(knowledge) => is_given_one(device, knowledge, times),
+        None => {
+            drop(device);
+            false
+        }
+    }
+}
+
+fn is_given_one(device: Device, knowledge: Knowledge, times: u32) -> bool
+    requires star { (a : authors.Author) → star_bound knowledge.known a ≡ (if authors.same_author (authors.author 0) a then 1 else 0) }
+    requires known { (p : ℕ) (v : versions.Version) → 0 < p
+        → knows knowledge.known p v ≡ versions.same_version (versions.version (authors.author 0) 1) v }
+{
     let is_first = device.author().value() == 0;
     if is_first || device.counter() != 0 || !device.store().is_empty() || !device.out().is_empty() {
+        drop(device);
+        drop(knowledge);
         return false;
     }
-    match first_known(alloc) {
-        Some(knowledge) => times == 0 || is_given_first(device, knowledge),
-        None => false,
+    if times == 0 {
+        drop(device);
+        drop(knowledge);
+        return true;
     }
+    is_given_first(device, knowledge)
 }
 
 fn is_given_first(device: Device, knowledge: Knowledge) -> bool
@@ -155,5 +167,8 @@ fn is_given_first(device: Device, knowledge: Knowledge) -> bool
     requires known { (p : ℕ) (v : versions.Version) → 0 < p
         → knows knowledge.known p v ≡ versions.same_version (versions.version (authors.author 0) 1) v }
 {
-    with_knowledge(device, knowledge).knowledge().fragments() == 1
+    let given = with_knowledge(device, knowledge);
+    let right = given.knowledge().fragments() == 1;
+    drop(given);
+    right
 }

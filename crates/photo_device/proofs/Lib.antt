@@ -8,7 +8,6 @@ pub mod NotedLemmas
 pub mod OwnLemmas
 pub mod Replacing
 pub mod Lexical
-pub mod Pushing
 pub mod Putting
 pub mod Inserting
 pub mod Located

@@ -1,7 +1,6 @@
 -- The version that a search finds.
 use Rattle.std.proofs.Common.{◌≡◌, ℕ, Bool, true, false, not, cond, List, [], ◌∷◌, Bor, refl, sym, ap, ◌∙◌, inl, inr}
 use Rattle.std.specs.Prelude.{Option, Some, None, is_some}
-use Rattle.std.specs.Option.{option_copied}
 use Rattle.std.specs.List.{find, list_all}
 use Rattle.std.specs.List.Sorted.{IsPartitionedBy}
 use Rattle.std.specs.Fn.{Mut, Called, ComputesKey}
@@ -56,13 +55,6 @@ module _ (picture : ℕ) (version : Version) where
     | inl same ↦ rw same refl
     | inr other ↦ rw other (found_or_none xs)
   ]
-
-  pub told_by_found : (xs : List Held) (found : Option (Bor Held)) → option_copied found ≡ find_version_of picture version xs → is_some found ≡ has_version_of picture version xs
-  told_by_found xs found is = copied found ∙ ap is_some is ∙ sym (found_or_none xs)
-    where
-      copied : (o : Option (Bor Held)) → is_some o ≡ is_some (option_copied o)
-      copied None = refl
-      copied (Some h) = refl
 
   -- the same by a test of the code
   module _ (xs : List Held) (found : Option Held) {F : Type 0} {f : Mut F (Bor Held × Unit {0}) Bool} {before : F} where

@@ -10,13 +10,6 @@ use Rattle.photo_device.specs.declared.held.Held.{Held}
 use Rattle.photo_device.specs.Taking.{with_side}
 use Rattle.photo_device.specs.Telling.{tells}
 
--- nothing is held or known
-pub record IsNothingYet (anew : Anew) : Type 0 where
-  pub store : anew.store ≡ []
-  pub out : anew.out ≡ []
-  pub nothing : (p : ℕ) (v : Version) → knows anew.told.known p v ≡ false
-  pub star : (a : Author) → star_bound anew.told.known a ≡ 0
-
 -- two sets' versions are sorted by the tree, and what is known is what they tell, of single pictures alone
 pub record IsAnew (tree : Tree) (stored waiting : List Held) (anew : Anew) : Type 0 where
   pub store : anew.store ≡ with_side true tree (stored ++ waiting) []

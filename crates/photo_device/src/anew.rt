@@ -4,13 +4,11 @@ ghost use Rattle.std.specs.List.{AllByRecursion};
 ghost use Rattle.photo_filter_rules.specs.Matching.{matches};
 ghost use Rattle.photo_device.specs.Held.{are_in_order};
 ghost use Rattle.photo_device.specs.Own.{HasEarlier};
-ghost use Rattle.photo_device.specs.Anew.{IsAnew, IsNothingYet};
+ghost use Rattle.photo_device.specs.Anew.{IsAnew};
 ghost use Rattle.photo_device.specs.Taking.{with_side, AreNewTo};
 
-use crate::noted_knowledge::NotedKnowledge;
-use crate::table::learn_told;
 use crate::takes::sort_in;
-use crate::{HeldSet, SharedList};
+use crate::{HeldSet, SharedList, gain_of};
 use item_knowledge::Knowledge;
 use photo_filter_rules::Filter;
 use std::alloc::AllocError;
@@ -24,26 +22,6 @@ pub(crate) struct Anew {
     pub out: HeldSet,
     /// What all of it tells of its pictures, and no more.
     pub told: Knowledge,
-}
-
-impl Anew {
-    ghost use Rattle.std.specs.Prelude.{◌≡◌};
-
-    /// It comes in the place of what was held and known. It takes no memory.
-    pub(crate) fn put_into(
-        self,
-        store: &mut HeldSet,
-        out: &mut HeldSet,
-        knowledge: &mut NotedKnowledge,
-    )
-        ensures store { store.new ≡ self.store }
-        ensures out { out.new ≡ self.out }
-        ensures knowledge { knowledge.new ≡ self.told }
-    {
-        *store = self.store;
-        *out = self.out;
-        knowledge.replace(self.told);
-    }
 }
 
 /// The held versions of a set as a list. Its only error is want of memory.
@@ -64,37 +42,14 @@ pub(crate) fn held_anew(wanted: &Filter, store: &HeldSet, out: &HeldSet) -> Resu
     ensures { IfOk result (λ anew. IsAnew wanted.now store.now out.now anew) }
 {
     let alloc = store.alloc();
-    let told = Knowledge::new(alloc)?;
+    let stored = listed(store)?;
+    let waiting = listed(out)?;
+    let told = gain_of(alloc, stored.as_slice(), waiting.as_slice())?;
     let mut anew = Anew {
         store: HeldSet::new(alloc),
         out: HeldSet::new(alloc),
         told,
     };
-    sort_anew(wanted, store, out, &mut anew)?;
-    Ok(anew)
-}
-
-// Sorts what two sets hold into empty ones, and learns what it tells.
-fn sort_anew(
-    wanted: &Filter,
-    store: &HeldSet,
-    out: &HeldSet,
-    anew: &mut Anew,
-) -> Result<(), AllocError>
-    requires once { AreNewTo out.now store.now }
-    requires stored { AllByRecursion HasEarlier store.now }
-    requires waiting { AllByRecursion HasEarlier out.now }
-    requires empty { IsNothingYet anew.old }
-    ensures { OnOk result (IsAnew wanted.now store.now out.now anew.new) }
-{
-    let stored = listed(store)?;
-    let waiting = listed(out)?;
-    learn_told(
-        store.alloc(),
-        stored.as_slice(),
-        waiting.as_slice(),
-        &mut anew.told,
-    )?;
     sort_in(
         wanted,
         stored.into_vec(),
@@ -102,7 +57,7 @@ fn sort_anew(
         &mut anew.store,
         &mut anew.out,
     )?;
-    Ok(())
+    Ok(anew)
 }
 
 /// What a store holds, sorted anew by a filter: what it matches, as a set, while the rest comes into the out. After want of

@@ -1,5 +1,5 @@
 //! The pictures of which two or more versions are held.
-ghost use Rattle.std.specs.Prelude.{◌≡◌, ◌<◌, ◌≤◌, ◌++◌, true, map, length, IfOk, OnOk};
+ghost use Rattle.std.specs.Prelude.{◌≡◌, ◌<◌, ◌≤◌, ◌++◌, true, map, length, IfOk};
 ghost use Rattle.photo_device.specs.Held.{entries_of, are_in_order, put_helds};
 ghost use Rattle.photo_device.specs.Taking.{AreNewTo};
 ghost use Rattle.photo_device.specs.Conflicts.{conflicts_in};

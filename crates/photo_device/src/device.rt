@@ -65,7 +65,7 @@ impl Model for Device {
 }
 
 impl Device {
-    ghost use Rattle.std.specs.Prelude.{◌≡◌, ◌≢◌, ℕ, ◌+◌, ◌<◌, ◌≤◌, ◌||◌, ◌++◌, true, false, not, filter, is_some, length, None};
+    ghost use Rattle.std.specs.Prelude.{◌≡◌, ◌≢◌, ◌+◌, ◌<◌, ◌≤◌, ◌||◌, ◌++◌, true, false, not, filter, is_some, length, None};
     ghost use Rattle.std.specs.Prelude.{Err, IfOk, IfErr, IfSome, OnOk, OnErr};
     ghost use Rattle.std.specs.Prelude.{vec_len, vec_capacity};
     ghost use Rattle.std.specs.List.{AllByRecursion};
@@ -147,23 +147,6 @@ impl Device {
         ensures staged { self.new.staged ≡ None }
     {
         self.unstage();
-        self.make_next(picture, content)
-    }
-
-    // What `make` does to a device on which nothing is staged.
-    fn make_next(
-        &mut self,
-        picture: PicNo,
-        content: &Record,
-    ) -> Result<(Version, Place), AllocError>
-        requires counter { self.old.counter < 4_294_967_295 }
-        requires unstaged { self.old.staged ≡ None }
-        ensures shows { IfOk result (λ answer. (m : ModelDevice) → Shows self.old m → Shows self.new (made m picture content.now)) }
-        ensures version { IfOk result (λ answer. (m : ModelDevice) → Shows self.old m → answer.0 ≡ next_version m) }
-        ensures place { IfOk result (λ answer. (m : ModelDevice) → Shows self.old m → answer.1 ≡ new_place m content.now) }
-        ensures err { OnErr result (self.new ≡ self.old) }
-        ensures staged { self.new.staged ≡ None }
-    {
         let number = self.counter + 1;
         let version = Version::new(self.author, number).unwrap();
         let held = Held {
@@ -238,6 +221,7 @@ impl Device {
     /// Of which picture which versions it knows.
     pub fn knowledge(&self) -> &Knowledge
         ensures value { result.now.known ≡ self.now.knowledge }
+        ensures unstaged { self.now.staged ≡ None → result.now.staged ≡ None }
         ensures device { IsDevice (unstaged self.now) }
     {
         self.knowledge.as_knowledge()
@@ -317,7 +301,7 @@ impl Device {
         if !self.holds(picture) {
             return Err(ChangeFault::NotHeld);
         }
-        Ok(self.make_next(picture, content)?)
+        Ok(self.make(picture, content)?)
     }
 
     /// Makes a version that removes a picture of which a version is held, as `edit` does. An error leaves the device as
@@ -404,13 +388,6 @@ impl Device {
             in_out,
         });
         Ok(())
-    }
-
-    /// Makes its knowledge one that a union needs no copy of, as `Knowledge::settle_bounds` does. It takes no memory.
-    pub fn settle_bounds(&mut self)
-        ensures { self.new ≡ self.old }
-    {
-        self.knowledge.settle_bounds();
     }
 
     /// Whether a change is staged.
@@ -541,7 +518,10 @@ impl Device {
         self.author = author;
         self.filter = filter;
         self.counter = 0;
-        anew.put_into(&mut self.store, &mut self.out, &mut self.knowledge);
+        let Anew { store, out, told } = anew;
+        self.store = store;
+        self.out = out;
+        self.knowledge.replace(told);
         (self.store.len() as u64, self.out.len() as u64)
     }
 
@@ -591,29 +571,13 @@ fn hold_next(
     ensures known_kept { OnErr result (knowledge.new ≡ knowledge.old) }
 {
     let version = held.version();
-    if version.n() == 1 {
-        return hold_first(store, out, knowledge, place, held);
+    if version.n() > 1 {
+        hold(store, out, place, held)?;
+        knowledge.raise_own(version);
+        return Ok(());
     }
-    hold(store, out, place, held)?;
-    knowledge.raise_own(version);
-    Ok(())
-}
-
-// The first version wants memory for its author's bounds: so they are made in a copy of what is known.
-fn hold_first(
-    store: &mut HeldSet,
-    out: &mut HeldSet,
-    knowledge: &mut NotedKnowledge,
-    place: Place,
-    held: SharedHeld,
-) -> Result<(), AllocError>
-    requires { IsNextKnown held.version knowledge.old.known }
-    ensures ok { OnOk result (IsHeldNext place held store.old store.new out.old out.new knowledge.old knowledge.new) }
-    ensures store_kept { OnErr result (store.new ≡ store.old) }
-    ensures out_kept { OnErr result (out.new ≡ out.old) }
-    ensures known_kept { OnErr result (knowledge.new ≡ knowledge.old) }
-{
-    let known = with_own(knowledge.as_knowledge(), held.version())?;
+    // The first version wants memory for its author's bounds: so they are made in a copy of what is known.
+    let known = with_own(knowledge.as_knowledge(), version)?;
     hold(store, out, place, held)?;
     knowledge.replace(known);
     Ok(())

@@ -1,7 +1,6 @@
 // Sets of held versions, in the order of their pictures.
-ghost use Rattle.std.specs.Prelude.{◌≡◌, ◌++◌, ◌∷◌, [], true, IfOk, OnOk};
-ghost use Rattle.std.specs.Option.{option_copied};
-ghost use Rattle.photo_device.specs.Held.{are_in_order, find_version, IsRangeOf};
+ghost use Rattle.std.specs.Prelude.{◌≡◌, true};
+ghost use Rattle.photo_device.specs.Held.{are_in_order, IsRangeOf};
 
 use crate::roomy_set::RoomySet;
 use crate::sought::Sought;
@@ -126,30 +125,7 @@ impl HeldSet {
     pub fn has(&self, picture: PicNo, version: Version) -> bool
         ensures { result ≡ has_version_of picture version self.now }
     {
-        self.of(picture, version).is_some()
-    }
-
-    /// Whether it has that version of that picture, and a hint for the next question. It takes no memory. Any hint will do:
-    /// `Spot::start()`, or what an earlier question gave.
-    ///
-    /// Where questions come in the order of pictures, and of the versions of each, every one with the hint that the one
-    /// before gave, the work for one is small.
-    #[inline(always)]
-    pub fn has_near(&self, near: Spot, picture: PicNo, version: Version) -> (bool, Spot)
-        ensures { result.0 ≡ has_version_of picture version self.now }
-    {
-        if let Some((held, spot)) = self.items.behind(near) {
-            if held.is_of(picture, version) {
-                return (true, spot);
-            }
-        }
-        let (found, spot) = self
-            .items
-            .find_failing_near(near, |held| held.is_before(picture, version));
-        let Some(held) = found else {
-            return (false, spot);
-        };
-        (held.is_of(picture, version), spot)
+        self.look_for(picture, version).0
     }
 
     /// That version of that picture, if it has it. It is found by a search, which takes no memory.
@@ -170,10 +146,8 @@ impl HeldSet {
         ensures { IfOk result (λ list. list ≡ self.now) }
     {
         let mut items = Vec::with_capacity(self.alloc, self.items.len())?;
-        for block in self.items.as_blocks() {
-            for held in block {
-                items.push(held.try_clone()?)?;
-            }
+        for held in &self.items {
+            items.push(held.try_clone()?)?;
         }
         Ok(SharedList::new(items))
     }
@@ -182,7 +156,10 @@ impl HeldSet {
     pub(crate) fn try_clone(&self) -> Result<HeldSet, AllocError>
         ensures { IfOk result (λ copy. copy ≡ self.now) }
     {
-        let items = copied(&self.items, self.alloc)?;
+        let mut items = BlockList::new(self.alloc);
+        for held in &self.items {
+            items.insert(items.len(), held.try_clone()?)?;
+        }
         Ok(HeldSet::of_list(items, self.alloc))
     }
 
@@ -190,7 +167,12 @@ impl HeldSet {
     pub fn find(&self, version: Version) -> Option<&Held>
         ensures { option_copied result ≡ find_version version self.now }
     {
-        find_in(&self.items, version)
+        for held in &self.items {
+            if held.version() == version {
+                return Some(held.as_held());
+            }
+        }
+        None
     }
 
     /// Puts a version in the place of all of its picture. An error leaves the set as it was.
@@ -226,7 +208,7 @@ impl HeldSet {
         ensures dropped { result ≡ true → self.new ≡ helds_without (version ∷ []) self.old }
         ensures kept { result ≡ false → self.new ≡ self.old }
     {
-        let (has, near) = self.has_near(Spot::start(), picture, version);
+        let (has, near) = self.look_for(picture, version);
         if !has {
             return false;
         }
@@ -252,6 +234,19 @@ impl HeldSet {
                 handed.push_reserved(held);
             }
         }
+    }
+
+    // Whether it has that version of that picture, and a hint where it stands.
+    fn look_for(&self, picture: PicNo, version: Version) -> (bool, Spot)
+        ensures { result.0 ≡ has_version_of picture version self.now }
+    {
+        let (found, spot) = self
+            .items
+            .find_failing_at(|held| held.is_before(picture, version));
+        let Some(held) = found else {
+            return (false, spot);
+        };
+        (held.is_of(picture, version), spot)
     }
 
     // Takes the one of that version out, if it has it, and gives a hint for the next.
@@ -283,37 +278,6 @@ impl HeldSet {
             None => false,
         }
     }
-}
-
-// The same list, which shares what it has. Its only error is want of memory.
-fn copied(items: &BlockList<SharedHeld>, alloc: Global) -> Result<BlockList<SharedHeld>, AllocError>
-    ensures { IfOk result (λ copy. copy ≡ items.now) }
-{
-    let mut copy = BlockList::new(alloc);
-    for held in items {
-        push(&mut copy, held.try_clone()?)?;
-    }
-    Ok(copy)
-}
-
-// Puts a held version behind all others, at a cost that hardly grows with their number.
-fn push(items: &mut BlockList<SharedHeld>, held: SharedHeld) -> Result<(), AllocError>
-    ensures { OnOk result (items.new ≡ items.old ++ held ∷ []) }
-{
-    items.replace_between(|_| true, |_| true, held)?;
-    Ok(())
-}
-
-// The one of that version.
-fn find_in(items: &BlockList<SharedHeld>, version: Version) -> Option<&Held>
-    ensures { option_copied result ≡ find_version version items.now }
-{
-    for held in items {
-        if held.version() == version {
-            return Some(held.as_held());
-        }
-    }
-    None
 }
 
 // Where the versions of a picture stand: from the first place up to before the second.

@@ -24,7 +24,6 @@ mod sought;
 mod table;
 mod takes;
 
-pub use block_list::Spot;
 pub use change::Change;
 pub use conflict::Conflict;
 pub use device::Device;

@@ -1,8 +1,4 @@
 // What a device knows, with notes of what it was found to know.
-ghost use Rattle.std.specs.Prelude.{◌≡◌, ◌++◌, true, not, filter, OnOk};
-ghost use Rattle.item_knowledge.specs.Fragments.{knows};
-ghost use Rattle.photo_device.specs.Noted.{AreKnown};
-
 use crate::noted_versions::NotedVersions;
 use crate::{HeldSet, SharedHeld};
 use item_knowledge::Knowledge;
@@ -33,14 +29,14 @@ impl Model for NotedKnowledge {
 }
 
 impl NotedKnowledge {
-    ghost use Rattle.std.specs.Prelude.{◌≡◌, ℕ, ◌<◌, ◌≤◌, ◌+◌, ◌||◌, ◌++◌, if◌then◌else◌, true, not, filter, None, IfOk, IfSome, OnOk, OnErr};
+    ghost use Rattle.std.specs.Prelude.{◌≡◌, ℕ, ◌<◌, true, not, filter, None, IfOk, IfSome, OnOk, OnErr};
     ghost use Rattle.std.specs.Option.{is_some};
-    ghost use Rattle.photo_version.specs.Author.{Author, same_author};
     ghost use Rattle.photo_version.specs.Version as versions;
     ghost use Rattle.item_knowledge.specs.Fragments.{knows};
     ghost use Rattle.item_knowledge.specs.Kept.{star_bound};
     ghost use Rattle.item_knowledge.specs.Staged.{settled, IsStagedUnion};
     ghost use Rattle.photo_device.specs.Held.{are_in_order};
+    ghost use Rattle.photo_device.specs.Learning.{IsNextKnown, IsOwnLearned};
 
     /// A knowledge of which nothing is noted. It takes no memory.
     pub fn new(alloc: Global, knowledge: Knowledge) -> NotedKnowledge
@@ -70,13 +66,8 @@ impl NotedKnowledge {
     /// As `Knowledge::raise_own`.
     pub fn raise_own(&mut self, version: Version)
         requires first { 0 < star_bound self.old.known version.author }
-        requires next { version.number ≡ star_bound self.old.known version.author + 1 }
-        requires level { (p n : ℕ) → 0 < p → knows self.old.known p (versions.version version.author n) ≡ true
-            → n ≤ star_bound self.old.known version.author }
-        ensures star { (a : Author) → star_bound self.new.known a
-            ≡ (if same_author version.author a then version.number else star_bound self.old.known a) }
-        ensures learned { (p : ℕ) (v : versions.Version) → 0 < p → knows self.new.known p v
-            ≡ (knows self.old.known p v || versions.same_version version v) }
+        requires next { IsNextKnown version self.old.known }
+        ensures learned { IsOwnLearned version self.old.known self.new.known }
         ensures staged { self.new.staged ≡ None }
     {
         self.knowledge.raise_own(version);
@@ -89,13 +80,6 @@ impl NotedKnowledge {
         ensures refused { OnErr result (self.new.staged ≡ None) }
     {
         self.knowledge.stage(gain)
-    }
-
-    /// As `Knowledge::settle_bounds`.
-    pub fn settle_bounds(&mut self)
-        ensures { self.new ≡ self.old }
-    {
-        self.knowledge.settle_bounds();
     }
 
     /// As `Knowledge::unstage`.
@@ -135,14 +119,19 @@ impl NotedKnowledge {
     {
         let mut found = Vec::new(alloc);
         let mut hint = 0;
-        for block in set.blocks() {
-            push_unknown(
-                &mut found,
-                &mut self.noted,
-                &self.knowledge,
-                &mut hint,
-                block,
-            )?;
+        for held in set.iter() {
+            let (picture, version) = (held.picture(), held.version());
+            if self.noted.has(picture, version) {
+                continue;
+            }
+            let (known, next) = self.knowledge.knows_near(hint, picture, version);
+            hint = next;
+            if known {
+                self.noted.note(picture, version);
+                continue;
+            }
+            self.noted.make_place(version);
+            found.push(held.try_clone()?)?;
         }
         Ok(found)
     }
@@ -155,79 +144,17 @@ impl NotedKnowledge {
     {
         let mut found = Vec::new(alloc);
         let mut hint = 0;
-        for block in set.blocks() {
-            push_unnoted(&mut found, &self.noted, &self.knowledge, &mut hint, block)?;
+        for held in set.iter() {
+            let (picture, version) = (held.picture(), held.version());
+            if self.noted.has(picture, version) {
+                continue;
+            }
+            let (known, next) = self.knowledge.knows_near(hint, picture, version);
+            hint = next;
+            if !known {
+                found.push(held.try_clone()?)?;
+            }
         }
         Ok(found)
     }
-}
-
-// Whether a version is noted or known. Any hint will do.
-fn is_known(
-    noted: &NotedVersions,
-    knowledge: &Knowledge,
-    hint: &mut usize,
-    held: &SharedHeld,
-) -> bool
-    requires { AreKnown knowledge.now.known noted.now.rows.items }
-    ensures { result ≡ knows knowledge.now.known held.now.picture held.now.version }
-{
-    let (picture, version) = (held.picture(), held.version());
-    if noted.has(picture, version) {
-        return true;
-    }
-    let (known, next) = knowledge.knows_near(*hint, picture, version);
-    *hint = next;
-    known
-}
-
-// Puts copies of those of a list that aren't known behind others, and notes nothing. Any hint will do.
-fn push_unnoted(
-    found: &mut Vec<SharedHeld>,
-    noted: &NotedVersions,
-    knowledge: &Knowledge,
-    hint: &mut usize,
-    list: &[SharedHeld],
-) -> Result<(), AllocError>
-    requires { AreKnown knowledge.now.known noted.now.rows.items }
-    ensures { OnOk result (found.new.items
-        ≡ found.old.items ++ filter (λ h. not (knows knowledge.now.known h.picture h.version)) list.now) }
-{
-    for held in list {
-        if is_known(noted, knowledge, hint, held) {
-            continue;
-        }
-        found.push(held.try_clone()?)?;
-    }
-    Ok(())
-}
-
-// Puts copies of those of a list that aren't known behind others, and notes those that are. Any hint will do.
-fn push_unknown(
-    found: &mut Vec<SharedHeld>,
-    noted: &mut NotedVersions,
-    knowledge: &Knowledge,
-    hint: &mut usize,
-    list: &[SharedHeld],
-) -> Result<(), AllocError>
-    requires { AreKnown knowledge.now.known noted.old.rows.items }
-    ensures found { OnOk result (found.new.items
-        ≡ found.old.items ++ filter (λ h. not (knows knowledge.now.known h.picture h.version)) list.now) }
-    ensures noted { AreKnown knowledge.now.known noted.new.rows.items }
-{
-    for held in list {
-        let (picture, version) = (held.picture(), held.version());
-        if noted.has(picture, version) {
-            continue;
-        }
-        let (known, next) = knowledge.knows_near(*hint, picture, version);
-        *hint = next;
-        if known {
-            noted.note(picture, version);
-            continue;
-        }
-        noted.make_place(version);
-        found.push(held.try_clone()?)?;
-    }
-    Ok(())
 }

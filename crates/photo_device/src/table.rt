@@ -113,28 +113,9 @@ pub fn gain_of(
     ensures staged { IfOk result (λ gain. gain.staged ≡ None) }
 {
     let mut gain = Knowledge::new(alloc)?;
-    learn_told(alloc, heard, handed, &mut gain)?;
+    learn_list(alloc, heard, &mut gain)?;
+    learn_list(alloc, handed, &mut gain)?;
     Ok(gain)
-}
-
-/// Learns what both lists tell. Its only error is want of memory, after which a part may be learned.
-pub(crate) fn learn_told(
-    alloc: Global,
-    heard: &[SharedHeld],
-    handed: &[SharedHeld],
-    gain: &mut Knowledge,
-) -> Result<(), AllocError>
-    requires heard_order { are_in_order heard.now ≡ true }
-    requires handed_order { are_in_order handed.now ≡ true }
-    requires heard { AllByRecursion HasEarlier heard.now }
-    requires handed { AllByRecursion HasEarlier handed.now }
-    ensures pairs { OnOk result ((p : ℕ) (v : versions.Version) → 0 < p
-        → knows gain.new.known p v ≡ ((knows gain.old.known p v || tells heard.now p v) || tells handed.now p v)) }
-    ensures star { OnOk result ((a : Author) → star_bound gain.new.known a ≡ star_bound gain.old.known a) }
-    ensures staged { OnOk result (gain.new.staged ≡ None) }
-{
-    learn_list(alloc, heard, gain)?;
-    learn_list(alloc, handed, gain)
 }
 
 // Learns what a list tells.

@@ -10,7 +10,7 @@ use Rattle.photo_device.specs.Own.{HasEarlier}
 use Rattle.photo_device.specs.Staging.{HasStaged}
 use Rattle.photo_pull.specs.declared.counts.PullCounts.{PullCounts}
 use Rattle.photo_pull.specs.Pull.{pulled, handed_over, counts_of}
-use Rattle.photo_pull.specs.OnHeld.{new_stored, new_waiting, dropped_stored, dropped_waiting, heard, taken_stored, gains, learns, versions}
+use Rattle.photo_pull.specs.OnHeld.{IsOrdered, new_stored, new_waiting, dropped_stored, dropped_waiting, heard, taken_stored, gains, learns, versions}
 use Rattle.photo_pull.specs.declared.part.Part.{Part}
 use Rattle.photo_pull.specs.declared.hearing.Hearing.{Hearing}
 
@@ -18,8 +18,7 @@ use Rattle.photo_pull.specs.declared.hearing.Hearing.{Hearing}
 pub record AreNews (t s : Kept) (news : Part) : Type 0 where
   pub stored : news.stored.items ≡ new_stored t s
   pub waiting : news.waiting.items ≡ new_waiting t s
-  pub stored_order : are_in_order news.stored.items ≡ true
-  pub waiting_order : are_in_order news.waiting.items ≡ true
+  pub order : IsOrdered news
   pub stored_earlier : AllByRecursion HasEarlier news.stored.items
   pub waiting_earlier : AllByRecursion HasEarlier news.waiting.items
 

@@ -1,5 +1,5 @@
 -- Machinery of the proofs: a pull on the held versions of two devices, as the code finds them. What a pull is says `Pull`.
-use Rattle.std.specs.Prelude.{ℕ, Bool, not, ◌&&◌, ◌||◌, ◌==◌, List, map, filter}
+use Rattle.std.specs.Prelude.{◌≡◌, ℕ, Bool, true, not, ◌&&◌, ◌||◌, ◌==◌, List, map, filter}
 use Rattle.std.specs.List.{list_any}
 use Rattle.photo_version.specs.Version.{Version, Versions, same_version}
 use Rattle.photo_version.specs.Vector.{denotes}
@@ -8,8 +8,10 @@ use Rattle.photo_filter_text.specs.Tree.{Tree}
 use Rattle.photo_filter_rules.specs.Matching.{matches}
 use Rattle.photo_filter_rules.specs.Covers.{covers}
 use Rattle.photo_device.specs.declared.held.Held.{Held}
+use Rattle.photo_device.specs.Held.{are_in_order}
 use Rattle.photo_device.specs.Device.{Kept}
 use Rattle.photo_device.specs.Telling.{tells}
+use Rattle.photo_pull.specs.declared.part.Part.{Part}
 
 -- not known
 abbrev pub is_new : List Fragment → Held → Bool
@@ -27,9 +29,26 @@ has_above ws h = list_any (λ w. is_above w h) ws
 abbrev pub has_below : List Held → Held → Bool
 has_below hs w = list_any (λ h. is_above w h) hs
 
+-- one of a part supersedes h
+abbrev pub part_above : Part → Held → Bool
+part_above part h = has_above part.stored.items h || has_above part.waiting.items h
+
+-- w supersedes one of a part
+abbrev pub part_below : Part → Held → Bool
+part_below part w = has_below part.stored.items w || has_below part.waiting.items w
+
+-- a part is in the order of its pictures
+pub record IsOrdered (part : Part) : Type 0 where
+  pub stored : are_in_order part.stored.items ≡ true
+  pub waiting : are_in_order part.waiting.items ≡ true
+
 -- that version of that picture is among them
 abbrev pub has_same : List Held → Held → Bool
 has_same hs h = list_any (λ g. (g.picture == h.picture) && same_version g.version h.version) hs
+
+-- something new supersedes h, or, where what a device keeps is followed, that knows h and doesn't keep it
+abbrev pub is_gone : Part → Bool → Kept → Held → Bool
+is_gone news followed d h = part_above news h || (followed && (knows d.knowledge h.picture h.version && not (has_same d.store h)))
 
 -- what the target doesn't know of the source's store, and of its out
 abbrev pub new_stored : Kept → Kept → List Held

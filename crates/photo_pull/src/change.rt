@@ -100,20 +100,19 @@ pub(crate) fn stage_found(
     alloc: Global,
     hearing: Hearing,
     target: &mut Device,
-    source: &mut Device,
+    source: &Device,
     room: usize,
 ) -> Result<(), AllocError>
-    requires hearing { IsHearing target.old source.old hearing }
-    requires may { MayPull target.old source.old }
+    requires hearing { IsHearing target.old source.now hearing }
+    requires may { MayPull target.old source.now }
     requires unstaged { target.old.staged ≡ None }
-    ensures staged { OnOk result (HasStagedPull target.old source.old room target.new) }
+    ensures staged { OnOk result (HasStagedPull target.old source.now room target.new) }
     ensures err { OnErr result (IsAsItWas target.old target.new) }
     ensures unstaged { OnErr result (target.new.staged ≡ None) }
-    ensures source { source.new ≡ source.old }
 {
     // For their facts alone: what is true of every device.
     let _target = target.knowledge();
-    let _source = source.knowledge();
+    let taught = source.knowledge();
     let Hearing {
         learned,
         dropped,
@@ -122,8 +121,7 @@ pub(crate) fn stage_found(
     } = hearing;
     let (drops, pictures) = drops_of(alloc, target, &dropped.stored, &dropped.waiting)?;
     if learned {
-        source.settle_bounds();
-        return stage_heard(drops, pictures, heard, source.knowledge(), target, room);
+        return stage_heard(drops, pictures, heard, taught, target, room);
     }
     let gain = gain_of(alloc, &heard, &handed)?;
     stage_heard(drops, pictures, heard, &gain, target, room)

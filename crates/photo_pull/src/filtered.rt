@@ -1,12 +1,12 @@
 //! Held versions that pass a test, in their order. A copy shares what the version carries.
-ghost use Rattle.std.specs.Prelude.{◌≡◌, ◌≤◌, ◌++◌, ◌&&◌, ◌||◌, not, true, length, filter, take, IfOk, OnOk};
-ghost use Rattle.photo_device.specs.Held.{are_in_order};
-ghost use Rattle.photo_pull.specs.OnHeld.{is_selected, has_above, has_below, has_same, versions};
-ghost use Rattle.photo_pull.specs.Gaps.{IsGap, are_kept};
+ghost use Rattle.std.specs.Prelude.{◌≡◌, ◌≤◌, ◌++◌, ◌&&◌, ◌||◌, not, true, length, filter, IfOk, OnOk};
 ghost use Rattle.item_knowledge.specs.Fragments.{knows};
+ghost use Rattle.photo_device.specs.Held.{are_in_order};
+ghost use Rattle.photo_pull.specs.OnHeld.{is_gone, is_selected, has_same, part_below, versions, IsOrdered};
+ghost use Rattle.photo_pull.specs.Gaps.{IsGap};
 
 use crate::gap::Gap;
-use crate::keeping::{Along, kept_along};
+use crate::keeping::{Along, is_kept_along};
 use crate::part::Part;
 use photo_device::{Device, HeldSet, SharedHeld};
 use photo_filter_rules::Filter;
@@ -18,9 +18,7 @@ fn has_given_up(device: &Device, along: &mut Along, held: &SharedHeld) -> bool
     ensures { result ≡ (knows device.now.knowledge held.now.picture held.now.version && not (has_same device.now.store held.now)) }
 {
     let (picture, version) = (held.picture(), held.version());
-    let (keeps, next) = device.store().has_near(along.kept, picture, version);
-    along.kept = next;
-    if keeps {
+    if is_kept_along(device.store(), along, held) || device.store().has(picture, version) {
         return false;
     }
     let (known, next) = device.knowledge().knows_near(along.known, picture, version);
@@ -37,69 +35,15 @@ fn is_dropped(
     along: &mut Along,
     held: &SharedHeld,
 ) -> bool
-    requires stored { are_in_order news.now.stored.items ≡ true }
-    requires waiting { are_in_order news.now.waiting.items ≡ true }
-    requires gap { IsGap news.now.stored.items news.now.waiting.items gap.old }
-    ensures is { result ≡ ((has_above news.now.stored.items held.now || has_above news.now.waiting.items held.now)
-        || (followed && (knows device.now.knowledge held.now.picture held.now.version
-        && not (has_same device.now.store held.now)))) }
-    ensures gap { IsGap news.now.stored.items news.now.waiting.items gap.new }
+    requires order { IsOrdered news.now }
+    requires gap { IsGap news.now gap.old }
+    ensures is { result ≡ is_gone news.now followed device.now held.now }
+    ensures gap { IsGap news.now gap.new }
 {
-    if news.any_above_along(gap, held) {
+    if news.any_above(gap, held) {
         return true;
     }
     followed && has_given_up(device, along, held)
-}
-
-// How many of the first of a list are seen to stay, where keeping is followed: their pictures are in a gap, and the device
-// keeps them.
-fn staying(
-    followed: bool,
-    device: &Device,
-    along: &mut Along,
-    list: &[SharedHeld],
-    gap: &Gap,
-) -> usize
-    ensures fewer { result ≤ length list.now }
-    ensures kept { are_kept gap.now device.now.store (take result list.now) ≡ true }
-{
-    if !followed {
-        return 0;
-    }
-    kept_along(device.store(), along, list, gap)
-}
-
-// Puts copies of those of a list that go behind others.
-fn push_dropped(
-    found: &mut Vec<SharedHeld>,
-    news: &Part,
-    followed: bool,
-    device: &Device,
-    gap: &mut Gap,
-    along: &mut Along,
-    list: &[SharedHeld],
-) -> Result<(), AllocError>
-    requires stored { are_in_order news.now.stored.items ≡ true }
-    requires waiting { are_in_order news.now.waiting.items ≡ true }
-    requires gap { IsGap news.now.stored.items news.now.waiting.items gap.old }
-    ensures gap { OnOk result (IsGap news.now.stored.items news.now.waiting.items gap.new) }
-    ensures found { OnOk result (found.new.items ≡ found.old.items ++ filter
-        (λ h. (has_above news.now.stored.items h || has_above news.now.waiting.items h)
-        || (followed && (knows device.now.knowledge h.picture h.version && not (has_same device.now.store h)))) list.now) }
-{
-    let mut place = 0;
-    loop {
-        place += staying(followed, device, along, &list[place..], gap);
-        if place == list.len() {
-            return Ok(());
-        }
-        let held = &list[place];
-        place += 1;
-        if !is_dropped(news, followed, device, gap, along, held) {
-            continue;
-        }
-        found.push(held.try_clone()?)?;
-    }
 }
 
 /// Copies of those of a set that something new supersedes, or that a device has given up whose keeping is followed.
@@ -110,30 +54,26 @@ pub(crate) fn dropped_of(
     device: &Device,
     set: &HeldSet,
 ) -> Result<Vec<SharedHeld>, AllocError>
-    requires stored { are_in_order news.now.stored.items ≡ true }
-    requires waiting { are_in_order news.now.waiting.items ≡ true }
-    ensures items { IfOk result
-        (λ found. found.items ≡ filter (λ h. (has_above news.now.stored.items h || has_above news.now.waiting.items h)
-        || (followed && (knows device.now.knowledge h.picture h.version && not (has_same device.now.store h)))) set.now) }
+    requires { IsOrdered news.now }
+    ensures items { IfOk result (λ found. found.items ≡ filter (is_gone news.now followed device.now) set.now) }
     ensures ordered { IfOk result (λ found. are_in_order found.items ≡ true) }
 {
     let mut found = Vec::new(alloc);
     let mut gap = Gap::none();
     let mut along = Along::start();
-    for block in set.blocks() {
-        push_dropped(
-            &mut found, news, followed, device, &mut gap, &mut along, block,
-        )?;
+    for held in set.iter() {
+        if !is_dropped(news, followed, device, &mut gap, &mut along, held) {
+            continue;
+        }
+        found.push(held.try_clone()?)?;
     }
     Ok(found)
 }
 
 /// Those of a list that a filter matches, or that supersede something that is dropped.
 pub(crate) fn heard_of(wanted: &Filter, dropped: &Part, list: Vec<SharedHeld>) -> Vec<SharedHeld>
-    requires stored { are_in_order dropped.now.stored.items ≡ true }
-    requires waiting { are_in_order dropped.now.waiting.items ≡ true }
-    ensures { result.items ≡ filter
-        (λ w. is_selected wanted.now w || (has_below dropped.now.stored.items w || has_below dropped.now.waiting.items w)) list.items }
+    requires { IsOrdered dropped.now }
+    ensures { result.items ≡ filter (λ w. is_selected wanted.now w || part_below dropped.now w) list.items }
 {
     let mut heard = list;
     heard.retain(|held| wanted.matches(held.content()) || dropped.any_below(held));

@@ -1,7 +1,6 @@
 // What a target hears of from a source.
-ghost use Rattle.std.specs.Prelude.{◌≡◌, true, IfOk};
-ghost use Rattle.photo_device.specs.Held.{are_in_order};
-ghost use Rattle.photo_pull.specs.OnHeld.{new_stored, new_waiting, dropped_stored, dropped_waiting, learns};
+ghost use Rattle.std.specs.Prelude.{◌≡◌, IfOk};
+ghost use Rattle.photo_pull.specs.OnHeld.{IsOrdered, new_stored, new_waiting, dropped_stored, dropped_waiting, learns};
 ghost use Rattle.photo_pull.specs.Findings.{AreNews, IsHearing};
 
 use crate::PullCounts;
@@ -35,13 +34,11 @@ fn dropped_for(
 ) -> Result<Part, AllocError>
     requires stored { news.now.stored.items ≡ new_stored target.now source.now }
     requires waiting { news.now.waiting.items ≡ new_waiting target.now source.now }
-    requires stored_order { are_in_order news.now.stored.items ≡ true }
-    requires waiting_order { are_in_order news.now.waiting.items ≡ true }
+    requires order { IsOrdered news.now }
     requires learned { learned ≡ learns target.now source.now }
     ensures stored { IfOk result (λ part. part.stored.items ≡ dropped_stored target.now source.now) }
     ensures waiting { IfOk result (λ part. part.waiting.items ≡ dropped_waiting target.now source.now) }
-    ensures stored_order { IfOk result (λ part. are_in_order part.stored.items ≡ true) }
-    ensures waiting_order { IfOk result (λ part. are_in_order part.waiting.items ≡ true) }
+    ensures order { IfOk result (λ part. IsOrdered part) }
 {
     let stored = dropped_of(alloc, news, learned, source, target.store())?;
     let waiting = dropped_of(alloc, news, false, source, target.out())?;

@@ -1,5 +1,5 @@
 //! Searches in lists of held versions that are in the order of their pictures.
-ghost use Rattle.std.specs.Prelude.{◌≡◌, ◌≤◌, ◌<◌, ◌==◌, true, false, filter, drop};
+ghost use Rattle.std.specs.Prelude.{◌≡◌, ◌≤◌, ◌<◌, ◌==◌, true, false, length, filter, drop};
 ghost use Rattle.std.specs.List.{list_any};
 ghost use Rattle.photo_version.specs.Vector.{denotes};
 ghost use Rattle.photo_device.specs.declared.held.Held as spec;
@@ -45,7 +45,8 @@ fn supersedes(newer: &SharedHeld, held: &SharedHeld) -> bool
 // The place of a list before which all are of smaller pictures, and none behind it is.
 fn first_of(list: &[SharedHeld], picture: PicNo) -> usize
     requires { are_in_order list.now ≡ true }
-    ensures { (h : spec.Held) → h.picture ≡ picture → has_above (drop result list.now) h ≡ has_above list.now h }
+    ensures bound { result ≤ length list.now }
+    ensures above { (h : spec.Held) → picture ≤ h.picture → has_above (drop result list.now) h ≡ has_above list.now h }
 {
     list.partition_point(|held| held.picture() < picture)
 }
@@ -56,7 +57,7 @@ pub(crate) fn next_picture(list: &[SharedHeld], picture: PicNo) -> u32
     requires { are_in_order list.now ≡ true }
     ensures { (h : spec.Held) → picture ≤ h.picture → h.picture < result → has_above list.now h ≡ false }
 {
-    let place = list.partition_point(|held| held.picture() < picture);
+    let place = first_of(list, picture);
     if place == list.len() {
         return u32::MAX;
     }

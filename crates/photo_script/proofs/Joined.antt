@@ -1,5 +1,5 @@
 -- Words with commas between them, and items in the same way, one more at a time.
-use Rattle.std.proofs.Common.{◌≡◌, ◌≢◌, ◌<◌, ◌≤◌, ◌+◌, ◌∷◌, ◌++◌, ℕ, List, [], length, take, map, get_or, slice_get, Some, refl, sym, ap, ◌∙◌, append_assoc, arith}
+use Rattle.std.proofs.Common.{◌≡◌, ◌≢◌, ◌<◌, ◌≤◌, ◌+◌, ◌∷◌, ◌++◌, ℕ, List, [], length, take, map, get_or, slice_get, Some, refl, sym, ap, ◌∙◌, append_assoc, append-nil, arith}
 use Rattle.std.specs.List.{join_with_byte}
 use Rattle.std.proofs.lemmas.List.{take_more, length-take-le, take_all, map-append}
 use Rattle.std.proofs.lemmas.Option.{get_or_from_slice_get, slice_get_within}
@@ -60,6 +60,18 @@ pub pictures-all : (ps : List ℕ) (n : ℕ) → 0 < length ps → length ps ≤
 pictures-all [] n some whole = absurd (omega arith)
 pictures-all (p ∷ ps) n some whole = joined_to-all 44 decimal (p ∷ ps) n whole
 
-pub bounds-all : (script : Contents) (es : List Entry) (n : ℕ) → 0 < length es → length es ≤ n → joined_to 32 (bound_text script) es n ≡ bounds_text script es
-bounds-all script [] n some whole = absurd (omega arith)
-bounds-all script (e ∷ es) n some whole = joined_to-all 32 (bound_text script) (e ∷ es) n whole
+-- what comes behind the first bound: each of the others behind a space
+abbrev pub bounds_behind : Contents → List Entry → List ℕ
+bounds_behind script [] = []
+bounds_behind script (e ∷ es) = (32 ∷ bound_text script e) ++ bounds_behind script es
+
+pub bounds-first : (script : Contents) (e : Entry) (es : List Entry) → bound_text script e ++ bounds_behind script es ≡ bounds_text script (e ∷ es)
+bounds-first script e [] = append-nil (bound_text script e)
+bounds-first script e (f ∷ es) = ap (λ t. bound_text script e ++ (32 ∷ t)) (bounds-first script f es)
+
+pub bounds-turn : (script : Contents) (e : Entry) (rest now : List Entry) (old new all : List ℕ) → now ≡ e ∷ rest → new ≡ (old ++ 32 ∷ []) ++ bound_text script e → old ++ bounds_behind script now ≡ all → new ++ bounds_behind script rest ≡ all
+bounds-turn script e rest now old new all step is done =
+    let item = bound_text script e in
+    let behind = bounds_behind script rest in
+    let regrouped : ((old ++ 32 ∷ []) ++ item) ++ behind ≡ old ++ ((32 ∷ item) ++ behind) = simp append_assoc in
+    ap (λ t. t ++ behind) is ∙ regrouped ∙ ap (λ es. old ++ bounds_behind script es) (sym step) ∙ done

@@ -2,7 +2,7 @@
 ghost use Rattle.std.specs.Prelude.{◌≡◌, ◌<◌, ◌++◌, length, get_or, string_bytes, OnOk};
 ghost use Rattle.std.specs.List.{AllByRecursion, flat_map};
 ghost use Rattle.std.specs.Fmt.{decimal};
-ghost use Rattle.photo_script.specs.Reports.{IsFragmentOfScript, pictures_text, bound_text, bounds_text};
+ghost use Rattle.photo_script.specs.Reports.{IsFragmentOfScript, pictures_text, bounds_text};
 ghost use Rattle.photo_script.specs.Reports.{fragment_text, knowledge_text};
 
 use crate::Script;
@@ -96,28 +96,15 @@ fn push_bounds(
     requires { IsFragmentOfScript script.now fragment.now }
     ensures { OnOk result (string_bytes text.new ≡ string_bytes text.old ++ bounds_text script.now fragment.now.entries) }
 {
-    if fragment.len() == 0 {
+    let mut entries = fragment.entries();
+    let Some(first) = entries.next_entry() else {
         text.push_str("-")?;
         return Ok(());
-    }
-    push_bound(text, script, fragment, 0)?;
-    for i in 1..fragment.len() {
+    };
+    push_version_of(text, script, first.0, first.1)?;
+    while let Some(bound) = entries.next_entry() {
         text.push_str(" ")?;
-        push_bound(text, script, fragment, i)?;
+        push_version_of(text, script, bound.0, bound.1)?;
     }
     Ok(())
-}
-
-fn push_bound(
-    text: &mut String,
-    script: &Script,
-    fragment: &Fragment<'_>,
-    i: usize,
-) -> Result<(), AllocError>
-    requires within { i < length fragment.now.entries }
-    requires authors { IsFragmentOfScript script.now fragment.now }
-    ensures { OnOk result (string_bytes text.new ≡ string_bytes text.old ++ bound_text script.now (get_or fragment.now.entries i (0, 0))) }
-{
-    let (author, number) = fragment.entry(i);
-    push_version_of(text, script, author, number)
 }

@@ -12,8 +12,8 @@ use photo_version::{Author, Vector, Version};
 use std::alloc::Global;
 
 /// The calls of a knowledge by their groups: `knows`, `same` and what stands beside them; `fragment` and the readers of one;
-/// `stage` of what is known already, `staged`, `commit`, `unstage` and `settle_bounds`; `commit` of what was not known, once
-/// where any calls are asked for; and `try_clone`, which takes memory.
+/// `stage` of what is known already, `staged`, `commit` and `unstage`; `commit` of what was not known, once where any calls are
+/// asked for; and `try_clone`, which takes memory.
 pub fn answer(alloc: Global, group: &str, times: u32) -> Option<bool> {
     match twenty(alloc, 0) {
         Some(mut one) => answer_beside(alloc, &mut one, group, times),
@@ -109,6 +109,7 @@ fn has_fragments(knowledge: &Knowledge) -> bool {
         && eleventh.pictures() == [11].as_slice()
         && eleventh.len() == 20
         && eleventh.entry(0) == (Author::new(0), 11)
+        && eleventh.entries().next_entry().is_some()
 }
 
 // Stages what another knows that is the same, and commits it, and again, and leaves it.
@@ -116,10 +117,9 @@ fn stages_same(knowledge: &mut Knowledge, same: &Knowledge) -> bool {
     if !stages(knowledge, same, true) || knowledge.stage(same).is_err() {
         return false;
     }
-    knowledge.settle_bounds();
     let staged = knowledge.staged();
     knowledge.unstage();
-    staged && !knowledge.staged() && knowledge.has_settled() && knowledge.same(same)
+    staged && !knowledge.staged() && knowledge.same(same)
 }
 
 // Stages what another knows, and commits it if that is asked for.

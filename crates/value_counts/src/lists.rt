@@ -52,13 +52,7 @@ fn sets(list: &mut BlockList<u32>) -> bool {
 }
 
 fn finds(list: &BlockList<u32>) -> bool {
-    let (found, spot) = list.find_failing_near(Spot::start(), is_small);
-    let next = match list.behind(spot) {
-        Some((next, _spot)) => *next,
-        None => 0,
-    };
-    next == 1_001
-        && found == Some(&1_000)
+    list.find_failing_at(is_small).0 == Some(&1_000)
         && list.find_failing(is_small) == Some(&1_000)
         && list.partition_point(is_small) == 1_000
 }

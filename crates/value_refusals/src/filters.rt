@@ -30,13 +30,15 @@ pub fn verdict_on_rules(alloc: Global, call: &str) -> Option<Verdict> {
 
 fn reads(alloc: Global) -> Option<bool> {
     mark(alloc);
-    let tree = read(alloc, TEXT);
+    let made = read(alloc, TEXT);
     mark(alloc);
-    match tree {
-        Ok(tree) => Some(is_text_of(alloc, &tree)),
+    let right = match &made {
+        Ok(tree) => Some(is_text_of(alloc, tree)),
         Err(FilterFault::NoMemory) => None,
         Err(_) => Some(false),
-    }
+    };
+    drop(made);
+    right
 }
 
 // Whether a tree is printed as the text with all brackets.
@@ -49,17 +51,22 @@ fn is_text_of(alloc: Global, tree: &FilterTree) -> bool {
 
 // What came of a copy of a tree, or of printing it.
 fn on_tree(alloc: Global, is_copied: bool) -> Option<Verdict> {
-    match read(alloc, TEXT) {
-        Ok(tree) => {
-            let right = if is_copied {
-                copies_tree(alloc, &tree)
-            } else {
-                prints(alloc, &tree)
-            };
-            Some(judged(right, is_text_of(alloc, &tree)))
-        }
+    let made = read(alloc, TEXT);
+    let verdict = match &made {
+        Ok(tree) => Some(on_read(alloc, tree, is_copied)),
         Err(_) => None,
-    }
+    };
+    drop(made);
+    verdict
+}
+
+fn on_read(alloc: Global, tree: &FilterTree, is_copied: bool) -> Verdict {
+    let right = if is_copied {
+        copies_tree(alloc, tree)
+    } else {
+        prints(alloc, tree)
+    };
+    judged(right, is_text_of(alloc, tree))
 }
 
 fn prints(alloc: Global, tree: &FilterTree) -> Option<bool> {
@@ -74,12 +81,14 @@ fn prints(alloc: Global, tree: &FilterTree) -> Option<bool> {
 
 fn copies_tree(alloc: Global, tree: &FilterTree) -> Option<bool> {
     mark(alloc);
-    let copy = tree.try_clone();
+    let made = tree.try_clone();
     mark(alloc);
-    match copy {
-        Ok(copy) => Some(copy == *tree),
+    let right = match &made {
+        Ok(copy) => Some(*copy == *tree),
         Err(_) => None,
-    }
+    };
+    drop(made);
+    right
 }
 
 fn build(alloc: Global) -> Option<Verdict> {
@@ -91,13 +100,15 @@ fn build(alloc: Global) -> Option<Verdict> {
 
 fn build_of(alloc: Global, tree: FilterTree) -> Verdict {
     mark(alloc);
-    let filter = Filter::build(alloc, tree);
+    let built = Filter::build(alloc, tree);
     mark(alloc);
-    match filter {
-        Ok(filter) => judged(Some(is_filter(alloc, &filter)), true),
-        Err((tree, BuildFault::NoMemory)) => judged(None, is_text_of(alloc, &tree)),
+    let verdict = match &built {
+        Ok(filter) => judged(Some(is_filter(alloc, filter)), true),
+        Err((tree, BuildFault::NoMemory)) => judged(None, is_text_of(alloc, tree)),
         Err(_) => Verdict::Wrong,
-    }
+    };
+    drop(built);
+    verdict
 }
 
 // Whether it is the filter of the text.
@@ -117,18 +128,23 @@ pub fn same_filter(one: &Filter, other: &Filter) -> bool {
 }
 
 fn filter_copy(alloc: Global) -> Option<Verdict> {
-    match filter_of(alloc, TEXT) {
-        Some(filter) => Some(judged(copies_filter(alloc, &filter), is_filter(alloc, &filter))),
+    let made = filter_of(alloc, TEXT);
+    let verdict = match &made {
+        Some(filter) => Some(judged(copies_filter(alloc, filter), is_filter(alloc, filter))),
         None => None,
-    }
+    };
+    drop(made);
+    verdict
 }
 
 fn copies_filter(alloc: Global, filter: &Filter) -> Option<bool> {
     mark(alloc);
-    let copy = filter.try_clone();
+    let made = filter.try_clone();
     mark(alloc);
-    match copy {
-        Ok(copy) => Some(same_filter(&copy, filter)),
+    let right = match &made {
+        Ok(copy) => Some(same_filter(copy, filter)),
         Err(_) => None,
-    }
+    };
+    drop(made);
+    right
 }

@@ -25,13 +25,18 @@ pub fn verdict(alloc: Global, call: &str) -> Option<Verdict> {
 
 // What came of a call on what knows of picture 7 three versions.
 fn on_knowledge(alloc: Global, call: &str) -> Option<Verdict> {
-    match told(alloc, 7, 3) {
-        Some(mut knowledge) => match calls(alloc, &mut knowledge, call) {
-            Some(right) => Some(judged(right, is_told(&knowledge, 7, 3))),
-            None => None,
-        },
+    let mut made = told(alloc, 7, 3);
+    let verdict = match &mut made {
+        Some(knowledge) => on_told(alloc, knowledge, call),
         None => None,
-    }
+    };
+    drop(made);
+    verdict
+}
+
+fn on_told(alloc: Global, knowledge: &mut Knowledge, call: &str) -> Option<Verdict> {
+    let right = calls(alloc, knowledge, call)?;
+    Some(judged(right, is_told(knowledge, 7, 3)))
 }
 
 // Whether the call gave the right answer, which is None where memory was wanted. None where no call has the name, or the
@@ -47,24 +52,43 @@ fn calls(alloc: Global, knowledge: &mut Knowledge, call: &str) -> Option<Option<
 }
 
 fn learns_from(alloc: Global, knowledge: &mut Knowledge, call: &str) -> Option<Option<bool>> {
-    match told(alloc, 9, 4) {
-        Some(other) => match call {
-            "Knowledge::learn_all" => Some(learns_all(alloc, knowledge, &other)),
-            "Knowledge::stage" => Some(stages(alloc, knowledge, &other)),
-            _ => None,
-        },
+    let made = told(alloc, 9, 4);
+    let right = match &made {
+        Some(other) => learns_other(alloc, knowledge, other, call),
         None => None,
+    };
+    drop(made);
+    right
+}
+
+fn learns_other(
+    alloc: Global,
+    knowledge: &mut Knowledge,
+    other: &Knowledge,
+    call: &str,
+) -> Option<Option<bool>> {
+    match call {
+        "Knowledge::learn_all" => Some(learns_all(alloc, knowledge, other)),
+        "Knowledge::stage" => Some(stages(alloc, knowledge, other)),
+        _ => None,
     }
 }
 
 fn makes(alloc: Global) -> Option<bool> {
     mark(alloc);
-    let knowledge = Knowledge::new(alloc);
+    let made = Knowledge::new(alloc);
     mark(alloc);
-    match knowledge {
-        Ok(knowledge) => Some(knowledge.fragments() == 1 && !knows(&knowledge, 7, 1)),
+    let right = match &made {
+        Ok(knowledge) => Some(is_new(knowledge)),
         Err(_) => None,
-    }
+    };
+    drop(made);
+    right
+}
+
+// Whether nothing is known.
+fn is_new(knowledge: &Knowledge) -> bool {
+    knowledge.fragments() == 1 && !knows(knowledge, 7, 1)
 }
 
 // Whether a version of device 1 is known of a picture.
@@ -105,10 +129,13 @@ fn told_one(alloc: Global, picture: PicNo, vector: &Vector) -> Option<Knowledge>
         → knows knowledge.known p v ≡ ((picture == p) && denotes vector.now v)) }
 {
     match Knowledge::new(alloc) {
-        Ok(mut knowledge) => match knowledge.learn(picture, vector) {
-            Ok(()) => Some(knowledge),
-            Err(_) => None,
-        },
+        Ok(mut knowledge) => {
+            if knowledge.learn(picture, vector).is_ok() {
+                return Some(knowledge);
+            }
+            drop(knowledge);
+            None
+        }
         Err(_) => None,
     }
 }
@@ -126,12 +153,14 @@ fn tells(alloc: Global, knowledge: &Knowledge) -> Option<bool> {
 
 fn copies(alloc: Global, knowledge: &Knowledge) -> Option<bool> {
     mark(alloc);
-    let copy = knowledge.try_clone();
+    let made = knowledge.try_clone();
     mark(alloc);
-    match copy {
+    let right = match &made {
         Ok(copy) => Some(copy.same(knowledge)),
         Err(_) => None,
-    }
+    };
+    drop(made);
+    right
 }
 
 fn learns(alloc: Global, knowledge: &mut Knowledge) -> Option<Option<bool>> {
@@ -212,7 +241,8 @@ fn learn_own(alloc: Global) -> Option<Verdict> {
     match Knowledge::new(alloc) {
         Ok(mut knowledge) => {
             let right = learns_own(alloc, &mut knowledge, version);
-            let unchanged = !knows(&knowledge, 7, 1) && knowledge.fragments() == 1;
+            let unchanged = is_new(&knowledge);
+            drop(knowledge);
             Some(judged(right, unchanged))
         }
         Err(_) => None,

@@ -46,17 +46,22 @@ fn reads_words(alloc: Global) -> Option<bool> {
 
 // What came of a copy of a set, or of its first word.
 fn words_copy(alloc: Global, of_word: bool) -> Option<Verdict> {
-    match Words::read(alloc, "tree,sea,ball") {
-        Ok(words) => {
-            let right = if of_word && !words.is_empty() {
-                copies_word(alloc, words.get(0))
-            } else {
-                copies_words(alloc, &words)
-            };
-            Some(judged(right, has_three(&words)))
-        }
+    let made = Words::read(alloc, "tree,sea,ball");
+    let verdict = match &made {
+        Ok(words) => Some(on_words(alloc, words, of_word)),
         Err(_) => None,
-    }
+    };
+    drop(made);
+    verdict
+}
+
+fn on_words(alloc: Global, words: &Words, of_word: bool) -> Verdict {
+    let right = if of_word && !words.is_empty() {
+        copies_word(alloc, words.get(0))
+    } else {
+        copies_words(alloc, words)
+    };
+    judged(right, has_three(words))
 }
 
 fn copies_word(alloc: Global, word: &Word) -> Option<bool> {

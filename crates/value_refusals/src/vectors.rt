@@ -62,13 +62,18 @@ fn from_entries(alloc: Global) -> Option<Verdict> {
 
 // What came of a call on the vector of three versions of device 1.
 fn on_vector(alloc: Global, call: &str) -> Option<Verdict> {
-    match vector_of(alloc, 1, 3) {
-        Some(vector) => match calls(alloc, &vector, call) {
-            Some(right) => Some(judged(right, has_one(&vector, 1, 3))),
-            None => None,
-        },
+    let made = vector_of(alloc, 1, 3);
+    let verdict = match &made {
+        Some(vector) => on_three(alloc, vector, call),
         None => None,
-    }
+    };
+    drop(made);
+    verdict
+}
+
+fn on_three(alloc: Global, vector: &Vector, call: &str) -> Option<Verdict> {
+    let right = calls(alloc, vector, call)?;
+    Some(judged(right, has_one(vector, 1, 3)))
 }
 
 // Whether the call gave the right answer, which is None where memory was wanted. None where no call has the name, or the
@@ -83,18 +88,25 @@ fn calls(alloc: Global, vector: &Vector, call: &str) -> Option<Option<bool>> {
 }
 
 fn joins(alloc: Global, vector: &Vector) -> Option<Option<bool>> {
-    match vector_of(alloc, 0, 2) {
-        Some(other) => {
-            mark(alloc);
-            let both = other.join(vector);
-            mark(alloc);
-            if has_one(&other, 0, 2) {
-                Some(is_of_two(&both))
-            } else {
-                Some(Some(false))
-            }
-        }
+    let made = vector_of(alloc, 0, 2);
+    let right = match &made {
+        Some(other) => Some(joins_other(alloc, other, vector)),
         None => None,
+    };
+    drop(made);
+    right
+}
+
+fn joins_other(alloc: Global, other: &Vector, vector: &Vector) -> Option<bool> {
+    mark(alloc);
+    let both = other.join(vector);
+    mark(alloc);
+    let right = is_of_two(&both);
+    drop(both);
+    if has_one(other, 0, 2) {
+        right
+    } else {
+        Some(false)
     }
 }
 
@@ -103,15 +115,19 @@ fn adds(alloc: Global, vector: &Vector) -> Option<Option<bool>> {
     mark(alloc);
     let more = vector.with(version);
     mark(alloc);
-    Some(is_of_two(&more))
+    let right = is_of_two(&more);
+    drop(more);
+    Some(right)
 }
 
 fn copies(alloc: Global, vector: &Vector) -> Option<bool> {
     mark(alloc);
-    let copy = vector.try_clone();
+    let made = vector.try_clone();
     mark(alloc);
-    match copy {
-        Ok(copy) => Some(has_one(&copy, 1, 3)),
+    let right = match &made {
+        Ok(copy) => Some(has_one(copy, 1, 3)),
         Err(_) => None,
-    }
+    };
+    drop(made);
+    right
 }

@@ -157,10 +157,10 @@ fn a_list_is_edited_over_blocks(rt: HostRuntime) {
     }
 }
 
-// Whether a number of a list of 275 is found, also from that hint on, or none beyond the last.
-fn finds(list: &BlockList<u32>, near: Spot, wanted: u32) -> bool {
+// Whether a number of a list of 275 is found, or none beyond the last.
+fn finds(list: &BlockList<u32>, wanted: u32) -> bool {
     let below = |item: &u32| *item < wanted;
-    let (found, _) = list.find_failing_near(near, &below);
+    let (found, _) = list.find_failing_at(&below);
     let place = list.partition_point(&below);
     place == (wanted as usize).min(275)
         && found == list.find_failing(&below)
@@ -169,9 +169,9 @@ fn finds(list: &BlockList<u32>, near: Spot, wanted: u32) -> bool {
 
 const WANTED: &[u32] = &[0, 1, 126, 127, 128, 253, 254, 274, 275, 277];
 
-fn finds_each(list: &BlockList<u32>, near: Spot) -> bool {
+fn finds_each(list: &BlockList<u32>) -> bool {
     for wanted in WANTED {
-        if !finds(list, near, *wanted) {
+        if !finds(list, *wanted) {
             return false;
         }
     }
@@ -180,37 +180,16 @@ fn finds_each(list: &BlockList<u32>, near: Spot) -> bool {
 
 // Where the first number stands that isn't below the wanted one, as a hint.
 fn spot_of(list: &BlockList<u32>, wanted: u32) -> Spot {
-    list.find_failing_near(Spot::start(), |item| *item < wanted)
-        .1
+    list.find_failing_at(|item| *item < wanted).1
 }
 
-// Goes along a list of 0, 1, 2 and so on, from its first element to the one behind it, and so on to the last.
-fn goes_along(list: &BlockList<u32>, count: u32) -> bool {
-    let mut near = spot_of(list, 0);
-    for wanted in 1..count {
-        match list.behind(near) {
-            Some((item, further)) if *item == wanted => near = further,
-            _ => return false,
-        }
-    }
-    list.behind(near).is_none()
-}
-
-// Whether a list of 2,000 numbers, of which the first 275 stay, is searched right from places that it has and that it had.
+// Whether a list of 2,000 numbers, of which the first 275 stay, is searched right.
 fn is_searched(list: &mut BlockList<u32>) -> bool {
     if list.len() != 2_000 {
         return false;
     }
-    let inside = [spot_of(list, 0), spot_of(list, 127), spot_of(list, 274)];
-    let beyond = [spot_of(list, 275), spot_of(list, 892), spot_of(list, 2_000)];
     list.remove_range(275, 2_000);
-    for i in 0..3 {
-        let is_found = finds_each(list, inside[i]) && finds_each(list, beyond[i]);
-        if !is_found || list.behind(beyond[i]).is_some() {
-            return false;
-        }
-    }
-    goes_along(list, 275) && sets(list)
+    finds_each(list) && sets(list)
 }
 
 fn sets(list: &mut BlockList<u32>) -> bool {
@@ -229,11 +208,6 @@ fn grows_and_is_searched(alloc: Global) -> bool {
 }
 
 #[test]
-fn elements_are_found_from_any_hint(rt: HostRuntime) {
+fn elements_are_found(rt: HostRuntime) {
     assert!(rt; grows_and_is_searched(rt.alloc()));
-    assert!(rt;
-        BlockList::<u32>::new(rt.alloc())
-            .behind(Spot::start())
-            .is_none()
-    );
 }

@@ -4,7 +4,7 @@ use super::changing::{Changed, edits, makes, removes};
 use super::filtering::{hands_over, narrows, refilters};
 use super::showing::{fills, is_gone_over, shows};
 use super::staging::{commits, copies, stages, stages_hinted};
-use photo_device::{Device, Held, HeldSet, Place, SharedHeld, Spot};
+use photo_device::{Device, Held, HeldSet, Place, SharedHeld};
 use photo_filter_rules::Filter;
 use photo_record::{Day, PicNo, Rating, Record, Words};
 use photo_version::{Author, Version};
@@ -209,17 +209,14 @@ fn is_held(alloc: Global, device: &Device, held: &Held, number: u32, rating: Opt
     }
 }
 
-// Whether a device's store has that version of that picture: by a search, from a hint, and by a look at all of them.
+// Whether a device's store has that version of that picture: by a search, and by a look at all of them.
 fn finds(device: &Device, number: u32, (author, n): (u16, u32)) -> Option<bool> {
     let picture = PicNo::new(number)?;
     let version = Version::new(Author::new(author), n)?;
     let set = device.store();
     let has = set.has(picture, version);
-    let (near, spot) = set.has_near(Spot::start(), picture, version);
-    let again = set.has_near(spot, picture, version).0;
-    let is_alike = near == has && again == has && set.of(picture, version).is_some() == has;
     let is_there = set.find(version).is_some();
-    if is_alike && (is_there || !has) {
+    if set.of(picture, version).is_some() == has && (is_there || !has) {
         Some(has)
     } else {
         None

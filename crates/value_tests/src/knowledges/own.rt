@@ -1,11 +1,11 @@
-//! What a device learns of its own versions: a bound that rises, and waits beside the rows.
+//! What a device learns of its own versions: a bound that rises in every fragment.
 ghost use Rattle.std.specs.Prelude.{◌≡◌, ◌<◌, OnOk};
 ghost use Rattle.photo_version.specs.Author.{author};
 ghost use Rattle.item_knowledge.specs.Kept.{star_bound};
 
 use super::{learns, picture, version};
-use item_knowledge::Knowledge;
-use photo_version::Vector;
+use item_knowledge::{FragmentEntries, Knowledge};
+use photo_version::{Author, Vector};
 use std::alloc::{AllocError, Global};
 
 // Learns of every picture the first two versions of device 0, and between them a version of picture 7.
@@ -18,13 +18,27 @@ fn learn_two(knowledge: &mut Knowledge, other: &Vector) -> Result<(), AllocError
     knowledge.learn_own(version(0, 2))
 }
 
+// Whether the next entry is that of a device, up to a number.
+fn comes(entries: &mut FragmentEntries<'_>, device: u16, n: u32) -> bool {
+    match entries.next_entry() {
+        Some((author, number)) => author == Author::new(device) && number == n,
+        None => false,
+    }
+}
+
 // Whether the fragment behind the star has two entries, up to these numbers.
 fn shows(knowledge: &Knowledge, first: u32, second: u32) -> bool {
     if knowledge.fragments() != 2 {
         return false;
     }
     let fragment = knowledge.fragment(1);
-    fragment.len() == 2 && fragment.entry(0).1 == first && fragment.entry(1).1 == second
+    let mut entries = fragment.entries();
+    fragment.len() == 2
+        && fragment.entry(0).1 == first
+        && fragment.entry(1).1 == second
+        && comes(&mut entries, 0, first)
+        && comes(&mut entries, 1, second)
+        && entries.next_entry().is_none()
 }
 
 // Whether all versions of device 0 are known up to the second, and of picture 7 the first of device 1.
@@ -37,25 +51,18 @@ fn has_two(knowledge: &Knowledge) -> bool {
         && !knowledge.knows(picture(7), version(0, 3))
 }
 
-// Whether the bound that rose waits until it is settled, and the next one until others have more of it.
-fn waits(alloc: Global, knowledge: &mut Knowledge) -> bool
+// Whether a bound that rises again is shown in every fragment, and others may have it too.
+fn rises_again(alloc: Global, knowledge: &mut Knowledge) -> bool
     requires { star_bound knowledge.old.known (author 0) ≡ 2 }
 {
-    if knowledge.has_settled() || !has_two(knowledge) {
+    if !has_two(knowledge) || knowledge.learn_own(version(0, 3)).is_err() {
         return false;
     }
-    knowledge.settle_bounds();
-    let settled = knowledge.has_settled() && has_two(knowledge);
-    if knowledge.learn_own(version(0, 3)).is_err() {
-        return false;
-    }
-    settled
+    shows(knowledge, 3, 1)
         && learns(alloc, knowledge, 5, 1, 1)
-        && !knowledge.has_settled()
         && shows(knowledge, 3, 1)
         && knowledge.knows(picture(5), version(1, 1))
         && learns(alloc, knowledge, 9, 0, 3)
-        && knowledge.has_settled()
         && shows(knowledge, 3, 1)
         && knowledge.knows(picture(9), version(0, 3))
 }
@@ -77,8 +84,7 @@ fn rises_beside_its_copy(alloc: Global, knowledge: &mut Knowledge) -> bool
     match knowledge.try_clone() {
         Ok(mut before) => {
             knowledge.same(&before)
-                && before.has_settled()
-                && waits(alloc, knowledge)
+                && rises_again(alloc, knowledge)
                 && has_more(knowledge, &mut before)
         }
         Err(_) => false,
@@ -108,8 +114,7 @@ fn own_versions_rise(alloc: Global) -> bool {
     }
 }
 
-// No clause tells of what waits, since what is known is the same.
 #[test]
-fn a_bound_that_rose_waits_beside_the_rows(rt: HostRuntime) {
+fn a_bound_that_rose_is_shown_in_every_fragment(rt: HostRuntime) {
     assert!(rt; own_versions_rise(rt.alloc()));
 }

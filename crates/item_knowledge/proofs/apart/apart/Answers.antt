@@ -5,17 +5,17 @@ use Rattle.item_knowledge.proofs.ApartLemmas.{spread_rows, there_index, there_jo
 use Rattle.item_knowledge.proofs.apart.apart.Goals as goal
 
 pub are_told_apart-requires-clause-rows : goal.are_told_apart-requires-clause-rows
-are_told_apart-requires-clause-rows c = spread_rows c.args.left.rows.now c.args.right.rows.now c.args.left.index.now c.args.right.index.now c.args.seen.now.words.items (pairs c.args.star.now) c.spread.new.out c.spread.new.lists.index.items c.spread.new.lists.joined.items c.requires.normal c.args.left.side c.args.right.side c.requires.seen c.in_ok-spread.ensures
+are_told_apart-requires-clause-rows c = spread_rows c.in_ok-spread.ensures
 
 pub are_told_apart-requires-clause-index : goal.are_told_apart-requires-clause-index
-are_told_apart-requires-clause-index c = subst (λ ns. AreThere c.spread.new.out ns) (sym c.deref.ensures.value) (there_index c.args.left.rows.now c.args.right.rows.now c.args.left.index.now c.args.right.index.now c.args.seen.now.words.items (pairs c.args.star.now) c.spread.new.out c.spread.new.lists.index.items c.spread.new.lists.joined.items c.requires.normal c.args.left.side c.args.right.side c.requires.seen c.in_ok-spread.ensures)
+are_told_apart-requires-clause-index c = subst (λ ns. AreThere c.spread.new.out ns) (sym c.deref.ensures.value) (there_index c.in_ok-spread.ensures)
 
 pub are_told_apart-requires-clause-joined : goal.are_told_apart-requires-clause-joined
-are_told_apart-requires-clause-joined c = subst (λ ns. AreThere c.spread.new.out ns) (sym c.deref-2.ensures.value) (there_joined c.args.left.rows.now c.args.right.rows.now c.args.left.index.now c.args.right.index.now c.args.seen.now.words.items (pairs c.args.star.now) c.spread.new.out c.spread.new.lists.index.items c.spread.new.lists.joined.items c.requires.normal c.args.left.side c.args.right.side c.requires.seen c.in_ok-spread.ensures)
+are_told_apart-requires-clause-joined c = subst (λ ns. AreThere c.spread.new.out ns) (sym c.deref-2.ensures.value) (there_joined c.in_ok-spread.ensures)
 
 pub returns-then-branch : goal.returns-then-branch
 returns-then-branch c =
     let told : AreTold c.args.left.rows.now c.args.seen.now.words.items c.spread.new.out c.deref.result.now c.deref-2.result.now = c.in_ok-are_told_apart.ensures c.if-branch.true in
     let told_of : AreTold c.args.left.rows.now c.args.seen.now.words.items c.spread.new.out c.spread.new.lists.index.items c.spread.new.lists.joined.items =
     subst (λ ns. AreTold c.args.left.rows.now c.args.seen.now.words.items c.spread.new.out ns c.spread.new.lists.joined.items) c.deref.ensures.value (subst (λ ms. AreTold c.args.left.rows.now c.args.seen.now.words.items c.spread.new.out c.deref.result.now ms) c.deref-2.ensures.value told) in
-    told_written c.args.left.rows.now c.args.right.rows.now c.args.left.index.now c.args.right.index.now c.args.seen.now.words.items (pairs c.args.star.now) c.spread.new.out c.spread.new.lists.index.items c.spread.new.lists.joined.items c.requires.normal c.args.left.side c.args.right.side c.requires.seen c.in_ok-spread.ensures c.requires.star told_of
+    told_written c.args.left.rows.now c.args.right.rows.now c.args.left.index.now c.args.right.index.now c.args.seen.now.words.items (pairs c.args.star.now) c.spread.new.out c.spread.new.lists.index.items c.spread.new.lists.joined.items c.requires.differ c.args.left.side c.args.right.side c.requires.seen c.in_ok-spread.ensures told_of

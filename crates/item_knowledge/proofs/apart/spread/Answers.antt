@@ -1,17 +1,18 @@
-use Rattle.std.proofs.Common.{rules, ◌≡◌, ℕ, ◌+◌, true, false, not, [], ◌∷◌, ◌++◌, length, sym, ap, ◌∙◌, arith}
-use Rattle.item_knowledge.specs.Apart.{Stays}
+use Rattle.std.proofs.Common.{rules, ◌≡◌, ℕ, ◌+◌, true, false, [], ◌∷◌, ◌++◌, length, sym, ap, ◌∙◌, arith}
 use Rattle.item_knowledge.specs.Entries.{same_entries}
-use Rattle.item_knowledge.specs.Gathering.{pair_vector}
+use Rattle.item_knowledge.specs.Excess.{union_vector}
 use Rattle.item_knowledge.specs.Rows.{pairs}
 use Rattle.item_knowledge.specs.Sides.{fragments}
 use Rattle.item_knowledge.proofs.FragmentLemmas.{entries_decide}
-use Rattle.item_knowledge.proofs.OnTheWay.{IsPair}
 use Rattle.item_knowledge.proofs.RowLemmas.{rows_read}
-use Rattle.item_knowledge.proofs.WayLemmas.{not_raised, on_first, on_star, on_stays, on_joined, on_all}
+use Rattle.item_knowledge.proofs.WayLemmas.{on_first, on_star, on_stays, on_joined, on_all}
 use Rattle.item_knowledge.proofs.apart.spread.Goals as goal
 
 pub loop-picture-init : goal.loop-picture-init
-loop-picture-init c = on_first c.args.left.rows.now c.args.right.rows.now c.args.left.index.now c.args.right.index.now c.args.star.now c.args.out.now c.args.lists.now.index.items c.args.lists.now.joined.items c.new-pairing.result c.args.left.side.star c.requires.star_row c.new-pairing.ensures.left c.new-pairing.ensures.right c.requires.out c.requires.index c.requires.joined
+loop-picture-init c = on_first c.args.left.rows.now c.args.right.rows.now c.args.left.index.now c.args.right.index.now (pairs c.args.star.now) c.args.out.now c.args.lists.now.index.items c.args.lists.now.joined.items c.new-pairing.result c.args.left.side.star c.new-pairing.ensures.left c.new-pairing.ensures.right c.requires.out c.requires.index c.requires.joined
+
+pub stays-requires-clause-raised : goal.stays-requires-clause-raised
+stays-requires-clause-raised c = λ level. (entries_decide (pairs c.args.star.now) (pairs c.args.left.star.now)).0 (sym c.same_row-is_raised.ensures ∙ search rules)
 
 pub overflow_add-to : goal.overflow_add-to
 overflow_add-to c =
@@ -20,28 +21,24 @@ overflow_add-to c =
 
 pub loop-picture-preserved-then-stays : goal.loop-picture-preserved-then-stays
 loop-picture-preserved-then-stays c =
-    let r : ℕ × (ℕ × ℕ) = (c.in-Some.picture, (c.in-Some.a, c.in-Some.b)) in
-    let pair : IsPair c.args.left.rows.now c.args.right.rows.now c.args.left.index.now c.args.right.index.now c.args.star.now = record { left_rows = c.args.left.whole; left_side = c.args.left.side; right_side = c.args.right.side; normal = c.requires.normal; joint = c.requires.star } in
-    let stays : Stays c.args.left.rows.now c.args.right.rows.now (not c.same_row-is_raised.result) r.0 r.1.0 r.1.1 = c.stays.ensures c.if-stays.true in
-    let same : same_entries (pairs c.args.star.now) (pairs c.entries.result.now) ≡ true = sym c.same_row-is_raised.ensures ∙ not_raised c.same_row-is_raised.result stays.level in
-    on_stays c.args.left.rows.now c.args.right.rows.now c.args.left.index.now c.args.right.index.now c.args.star.now c.loop-picture.out c.loop-picture.lists.index.items c.loop-picture.lists.joined.items c.loop-picture.pairing c.loop-picture.from c.loop-picture.to c.loop-picture.invariant c.next.new.self r c.run_to.new.out c.push.new.self.items c.in_ok-from.from (not c.same_row-is_raised.result) pair
-    ((entries_decide (pairs c.args.star.now) (pairs c.entries.result.now)).0 same ∙ c.entries.ensures.entries) c.in-Some.ensures.next stays c.in-Some.ensures.left c.in-Some.ensures.right c.in_ok-from.ensures.order c.in_ok-from.ensures.run
+    let r : ℕ × (ℕ × ℕ) = (c.in-Some.picture, c.in-Some.numbers) in
+    on_stays c.args.left.rows.now c.args.right.rows.now c.args.left.index.now c.args.right.index.now (pairs c.args.star.now) c.loop-picture.out c.loop-picture.lists.index.items c.loop-picture.lists.joined.items c.loop-picture.pairing c.loop-picture.from c.loop-picture.to c.loop-picture.invariant c.next.new.self r c.run_to.new.out c.push.new.self.items c.in_ok-from.from c.args.left.star.now c.args.left.excess c.requires.differ c.in-Some.ensures.next (c.stays.ensures c.if-stays.true) c.in-Some.ensures.left c.in_ok-from.ensures.order c.in_ok-from.ensures.run
     (c.in_ok-push.ensures.items ∙ ap (λ n. c.loop-picture.lists.index.items ++ (r.0, n) ∷ []) (c.in_ok-number.ensures.value ∙ search rules))
 
-pub loop-picture-preserved-then-same_row : goal.loop-picture-preserved-then-same_row
-loop-picture-preserved-then-same_row c =
-    let r : ℕ × (ℕ × ℕ) = (c.in-Some.picture, (c.in-Some.a, c.in-Some.b)) in
-    let f = pair_vector (fragments c.args.left) (fragments c.args.right) in
-    let same : same_entries (f (0, 0)) (f r.1) ≡ true = (λ j. same_entries (sym c.requires.star j) (sym c.in_ok-row.ensures.entries j)) ∙ (sym c.same_row.ensures ∙ search rules) in
-    on_star c.args.left.rows.now c.args.right.rows.now c.args.left.index.now c.args.right.index.now c.args.star.now c.loop-picture.out c.loop-picture.lists.index.items c.loop-picture.lists.joined.items c.loop-picture.pairing c.loop-picture.from c.loop-picture.to c.loop-picture.invariant c.next.new.self r c.in-Some.ensures.next same
+pub loop-picture-preserved-then-is_nothing : goal.loop-picture-preserved-then-is_nothing
+loop-picture-preserved-then-is_nothing c =
+    let r : ℕ × (ℕ × ℕ) = (c.in-Some.picture, c.in-Some.numbers) in
+    let f = union_vector (pairs c.args.star.now) (fragments c.args.left) (fragments c.args.right) in
+    let none : same_entries [] (f r.1) ≡ true = ap (λ v. same_entries [] v) (sym c.in_ok-row.ensures.entries) ∙ (sym c.is_nothing.ensures ∙ search rules) in
+    on_star c.args.left.rows.now c.args.right.rows.now c.args.left.index.now c.args.right.index.now (pairs c.args.star.now) c.loop-picture.out c.loop-picture.lists.index.items c.loop-picture.lists.joined.items c.loop-picture.pairing c.loop-picture.from c.loop-picture.to c.loop-picture.invariant c.next.new.self r c.in-Some.ensures.next none
 
 pub loop-picture-preserved : goal.loop-picture-preserved
 loop-picture-preserved c =
-    let r : ℕ × (ℕ × ℕ) = (c.in-Some.picture, (c.in-Some.a, c.in-Some.b)) in
-    let f = pair_vector (fragments c.args.left) (fragments c.args.right) in
-    let other : same_entries (f (0, 0)) (f r.1) ≡ false = (λ j. same_entries (sym c.requires.star j) (sym c.in_ok-row.ensures.entries j)) ∙ (sym c.same_row.ensures ∙ search rules) in
+    let r : ℕ × (ℕ × ℕ) = (c.in-Some.picture, c.in-Some.numbers) in
+    let f = union_vector (pairs c.args.star.now) (fragments c.args.left) (fragments c.args.right) in
+    let some : same_entries [] (f r.1) ≡ false = ap (λ v. same_entries [] v) (sym c.in_ok-row.ensures.entries) ∙ (sym c.is_nothing.ensures ∙ search rules) in
     let number : c.in_ok-number-2.number ≡ length c.loop-picture.lists.index.items + 1 = c.in_ok-number-2.ensures.value ∙ search rules in
-    on_joined c.args.left.rows.now c.args.right.rows.now c.args.left.index.now c.args.right.index.now c.args.star.now c.loop-picture.out c.loop-picture.lists.index.items c.loop-picture.lists.joined.items c.loop-picture.pairing c.loop-picture.from c.loop-picture.to c.loop-picture.invariant c.next.new.self r c.place_behind.new.out c.push-in-Some.new.self.items c.push-in-Some-2.new.self.items c.in_ok-row.row.now c.in-Some.ensures.next c.in_ok-row.ensures.row c.in_ok-row.ensures.entries other (search rules)
+    on_joined c.args.left.rows.now c.args.right.rows.now c.args.left.index.now c.args.right.index.now (pairs c.args.star.now) c.loop-picture.out c.loop-picture.lists.index.items c.loop-picture.lists.joined.items c.loop-picture.pairing c.loop-picture.from c.loop-picture.to c.loop-picture.invariant c.next.new.self r c.place_behind.new.out c.push-in-Some.new.self.items c.push-in-Some-2.new.self.items c.in_ok-row.row.now c.in-Some.ensures.next c.in_ok-row.ensures.row c.in_ok-row.ensures.entries some (search rules)
     (c.in_ok-push-2.ensures.items ∙ ap (λ n. c.loop-picture.lists.index.items ++ (r.0, n) ∷ []) number) (c.in_ok-push-3.ensures.items ∙ ap (λ n. c.loop-picture.lists.joined.items ++ (r.0, n) ∷ []) number)
 
 pub overflow_mul-from : goal.overflow_mul-from
@@ -63,4 +60,4 @@ place_run-requires-clause-there c =
     omega (arith, rows, on.there)
 
 pub returns : goal.returns
-returns c = on_all c.args.left.rows.now c.args.right.rows.now c.args.left.index.now c.args.right.index.now c.args.star.now c.loop-picture.out c.loop-picture.lists.index.items c.loop-picture.lists.joined.items c.loop-picture.pairing c.loop-picture.from c.loop-picture.to c.loop-picture.invariant c.place_run.new.self (c.next.ensures.none (search rules)) (search rules)
+returns c = on_all c.args.left.rows.now c.args.right.rows.now c.args.left.index.now c.args.right.index.now (pairs c.args.star.now) c.loop-picture.out c.loop-picture.lists.index.items c.loop-picture.lists.joined.items c.loop-picture.pairing c.loop-picture.from c.loop-picture.to c.loop-picture.invariant c.place_run.new.self (c.next.ensures.none (search rules)) (search rules)

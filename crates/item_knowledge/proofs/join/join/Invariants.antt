@@ -1,15 +1,12 @@
-use Rattle.std.proofs.Common.{◌≡◌, ◌++◌, length, drop, ◌-◌, ◌+◌, ◌*◌, ◌≤◌, vec_len, vec_capacity}
+use Rattle.std.proofs.Common.{◌≡◌, ◌++◌}
 use Rattle.item_knowledge.specs.Entries.{joined}
+use Rattle.item_knowledge.specs.Excess.{exceeding}
+use Rattle.item_knowledge.specs.Merging as spec
 use Rattle.item_knowledge.specs.Rows.{pairs, flat}
 use Rattle.item_knowledge.proofs.join.join.Given as goal
 
-abbrev pub invariant-loop-i : goal.invariant-loop-i
-invariant-loop-i l = record {
-  done : l.out.items ++ flat (joined (drop l.i (pairs l.xs)) (drop l.j (pairs l.ys))) ≡ flat (joined (pairs l.xs) (pairs l.ys));
-  left : l.i ≤ length (pairs l.xs);
-  right : l.j ≤ length (pairs l.ys);
-  room : vec_len l.out + 2 * ((length (pairs l.xs) - l.i) + (length (pairs l.ys) - l.j)) ≤ vec_capacity l.out;
-}
+abbrev pub invariant-loop-author : goal.invariant-loop-author
+invariant-loop-author l = record { done : l.out.items ++ flat (exceeding (pairs l.star) (spec.left_of l.merging l.xs l.ys)) ≡ flat (exceeding (pairs l.star) (joined (pairs l.xs) (pairs l.ys))) }
 
-abbrev pub decreases-loop-i : goal.decreases-loop-i
-decreases-loop-i l = (length (pairs l.xs) - l.i) + (length (pairs l.ys) - l.j)
+abbrev pub decreases-loop-author : goal.decreases-loop-author
+decreases-loop-author l = spec.to_come l.merging l.xs l.ys

@@ -31,5 +31,5 @@ returns c = record {
   staged = the_staged;
   marks = record { marked = refl; no_mark = refl; of_another = refl; above_all = refl; as_the_star = refl; comes_round = refl };
   epochs = record { behind = refl; turned_round = refl; its_first = refl; not_its_second = refl; shared = refl };
-  waiting = record { level = refl; not_level = refl; is_shown = refl; none_waits = refl };
+  excess = record { level = refl; not_level = refl; exceeds = refl; all = refl; is_shown = refl; risen = refl; no_star = refl };
 }

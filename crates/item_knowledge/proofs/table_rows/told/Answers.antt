@@ -3,8 +3,7 @@ use Rattle.std.specs.List.{slice_get}
 use Rattle.std.proofs.lemmas.Option.{slice_get-get_or}
 use Rattle.item_knowledge.specs.Rows.{flat}
 use Rattle.item_knowledge.specs.TableRows.{entries_of}
-use Rattle.item_knowledge.proofs.TableRowLemmas.{got_drop, none_told, one_told, all_told}
-use Rattle.item_knowledge.proofs.TopLemmas.{told_are_rows, told_are_vectors}
+use Rattle.item_knowledge.proofs.TableRowLemmas.{got_drop, none_told, one_told, all_told, told_are_rows, told_are_vectors, told_star}
 use Rattle.item_knowledge.proofs.table_rows.told.Goals as goal
 
 pub loop-i-init : goal.loop-i-init
@@ -28,7 +27,7 @@ loop-i-preserved c =
 pub returns : goal.returns
 returns c =
     let all = all_told c.args.table.now c.loop-i.rows c.loop-i.index.items c.loop-i.i (omega arith) c.loop-i.invariant.told in
-    record { rows_are = c.in_ok-topped.ensures ∙ all.rows_are; index_is = all.index_is; positive = all.positive; vectors = all.vectors }
+    record { rows_are = c.in_ok-live.ensures ∙ all.rows_are; index_is = all.index_is; positive = all.positive; vectors = all.vectors }
 
 pub of_rows-requires-clause-rows : goal.of_rows-requires-clause-rows
 of_rows-requires-clause-rows c = told_are_rows c.args.table.now c.loop-i.rows (all_told c.args.table.now c.loop-i.rows c.loop-i.index.items c.loop-i.i (omega arith) c.loop-i.invariant.told).rows_are
@@ -37,3 +36,6 @@ pub of_rows-requires-clause-vectors : goal.of_rows-requires-clause-vectors
 of_rows-requires-clause-vectors c =
     let all = all_told c.args.table.now c.loop-i.rows c.loop-i.index.items c.loop-i.i (omega arith) c.loop-i.invariant.told in
     told_are_vectors c.args.table.now c.loop-i.rows all.rows_are all.vectors
+
+pub of_rows-requires-clause-star : goal.of_rows-requires-clause-star
+of_rows-requires-clause-star c = told_star c.args.table.now c.loop-i.rows (all_told c.args.table.now c.loop-i.rows c.loop-i.index.items c.loop-i.i (omega arith) c.loop-i.invariant.told).rows_are

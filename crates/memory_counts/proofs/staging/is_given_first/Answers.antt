@@ -36,6 +36,6 @@ knows_none_of_its_own a counter knowledge other none star known = rw none record
         let less = ltb-true a.word v.author.word parts.1 in
         ne_eqb 0 v.author.word (λ e. absurd (omega arith))
 
-pub with_knowledge-requires-clause-own : goal.with_knowledge-requires-clause-own
-with_knowledge-requires-clause-own c =
+pub with_knowledge-given-requires-clause-own : goal.with_knowledge-given-requires-clause-own
+with_knowledge-given-requires-clause-own c =
     knows_none_of_its_own c.args.device.author c.args.device.counter c.args.knowledge.known c.requires.other c.requires.none c.requires.star c.requires.known

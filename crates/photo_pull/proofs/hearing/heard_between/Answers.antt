@@ -20,8 +20,8 @@ returns c =
       dropped_waiting = c.in_ok-dropped.ensures.waiting;
       heard = heard ∙ (λ i. filter (λ w. is_selected (c.filter-3.ensures i) w || (has_below (c.in_ok-dropped.ensures.stored i) w || has_below (c.in_ok-dropped.ensures.waiting i) w)) (c.requires.stored i));
       handed = c.requires.waiting;
-      heard_order = ap are_in_order heard ∙ in_order-filter test c.args.news.stored.items c.requires.stored_order;
-      handed_order = c.requires.waiting_order;
+      heard_order = ap are_in_order heard ∙ in_order-filter test c.args.news.stored.items c.requires.order.stored;
+      handed_order = c.requires.order.waiting;
       heard_earlier = subst (AllByRecursion HasEarlier) (sym heard) (all_filter HasEarlier test c.args.news.stored.items c.requires.stored_earlier);
       handed_earlier = c.requires.waiting_earlier;
     }

@@ -4,7 +4,7 @@ use Rattle.std.proofs.lemmas.List.{length-map}
 use Rattle.item_knowledge.specs.Fragments.{Fragment, knows}
 use Rattle.photo_device.specs.declared.held.Held.{Held}
 use Rattle.photo_device.specs.Held.{times_in, helds_at}
-use Rattle.photo_device.specs.Device.{Kept, Shows, without_waiting}
+use Rattle.photo_device.specs.Device.{Shows, without_waiting}
 use Rattle.photo_pull.specs.OnHeld.{versions, gains, is_selected, new_waiting}
 use Rattle.photo_pull.proofs.Ready.{AreReady}
 use Rattle.photo_pull.proofs.Changes.{shows_unchanged, shows_pulled, shows_handed, shows_not_handed}
@@ -42,7 +42,7 @@ commit-requires-clause-handed c =
     let found = c.in_ok-hearing.ensures in
     let asked : c.deref.result.now ≡ versions (new_waiting c.args.target.now c.args.source.now) = c.deref.ensures.value ∙ c.in_ok-asked.ensures.asked ∙ ap versions found.handed in
     let handed : c.hand_over.new.handed.items ≡ new_waiting c.args.target.now c.args.source.now =
-    c.hand_over.ensures.handed ∙ (λ i. c.in_ok-asked.ensures.empty i ++ helds_at (asked i) (c.stage_found.ensures.source i).out) ∙ handed_are c.args.target.now c.args.source.now ready in
+    c.hand_over.ensures.handed ∙ (λ i. c.in_ok-asked.ensures.empty i ++ helds_at (asked i) c.args.source.now.out) ∙ handed_are c.args.target.now c.args.source.now ready in
     may_hand_found c.args.target.now c.args.source.now ready _ c.stage_found.new.target c.in_ok-stage_found.ensures.staged c.hand_over.new.handed.items handed
     (let long = ap (length {A = Held}) handed in let all = length-map (new_waiting c.args.target.now c.args.source.now) (λ (h : Held). h.version) in let counted = c.in_ok-asked.asked.ok.0 in let n = c.len.ensures in
     let asked_long = ap length (c.in_ok-asked.ensures.asked ∙ ap versions found.handed) in omega arith)
@@ -53,10 +53,10 @@ returns-clause-done c =
     let found = c.in_ok-hearing.ensures in
     let asked : c.deref.result.now ≡ versions (new_waiting c.args.target.now c.args.source.now) = c.deref.ensures.value ∙ c.in_ok-asked.ensures.asked ∙ ap versions found.handed in
     let handed : c.hand_over.new.handed.items ≡ new_waiting c.args.target.now c.args.source.now =
-    c.hand_over.ensures.handed ∙ (λ i. c.in_ok-asked.ensures.empty i ++ helds_at (asked i) (c.stage_found.ensures.source i).out) ∙ handed_are c.args.target.now c.args.source.now ready in
+    c.hand_over.ensures.handed ∙ (λ i. c.in_ok-asked.ensures.empty i ++ helds_at (asked i) c.args.source.now.out) ∙ handed_are c.args.target.now c.args.source.now ready in
     record {
       target = shows_found c.args.target.now c.args.source.now ready _ c.stage_found.new.target c.in_ok-stage_found.ensures.staged c.hand_over.new.handed.items handed c.commit.new.self c.commit.ensures.shows;
       source = λ t s shows_t shows_s. shows_handed c.args.target.now c.args.source.now ready t s shows_t shows_s c.hand_over.new.self
-          (λ m shows. subst (λ vs. Shows c.hand_over.new.self (without_waiting vs m)) asked (c.hand_over.ensures.shows m (subst (λ (d : Kept). Shows d m) (sym c.stage_found.ensures.source) shows)));
+          (λ m shows. subst (λ vs. Shows c.hand_over.new.self (without_waiting vs m)) asked (c.hand_over.ensures.shows m shows));
       counted = λ t s shows_t shows_s. counts_found c.args.target.now c.args.source.now c.in_ok-hearing.hearing found ready t s shows_t shows_s c.counts-counts.result (c.counts-counts.ensures.taken ∙ ap (λ tree. length (filter (is_selected tree) c.in_ok-hearing.hearing.heard.items)) c.filter.ensures) c.counts-counts.ensures.handed c.counts-counts.ensures.notices c.counts-counts.ensures.dropped c.counts-counts.ensures.learned;
     }

@@ -6,8 +6,8 @@ use Rattle.photo_device.proofs.Order.{rises}
 use Rattle.photo_pull.proofs.Along.{behind}
 use Rattle.photo_pull.proofs.superseding.first_of.Goals as goal
 
-pub returns : goal.returns
-returns c = λ h of_it.
+pub returns-clause-above : goal.returns-clause-above
+returns-clause-above c = λ h from.
     let xs = c.args.list.now in
     let p = c.args.picture in
     let less = IsPartitionPoint-from_clause (λ (h : Held). ltb h.picture p) xs c.partition_point.result c.partition_point.ensures.partitioned (IsPartitionedBy-ltb (λ (h : Held). h.picture) xs p (rises xs c.requires)) (λ a r f h. search rules) in

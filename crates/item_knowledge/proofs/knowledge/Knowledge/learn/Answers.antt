@@ -1,8 +1,7 @@
 use Rattle.std.proofs.Common.{rules, ◌≡◌, ◌||◌, ◌&&◌, [], ◌∷◌, eqb, refl, ap, ◌∙◌}
 use Rattle.photo_version.specs.Vector as vectors
 use Rattle.item_knowledge.specs.Fragments.{knows}
-use Rattle.item_knowledge.proofs.TableRowLemmas.{one_side, one_at, told_joined}
-use Rattle.item_knowledge.proofs.TopLemmas.{told_are_rows}
+use Rattle.item_knowledge.proofs.TableRowLemmas.{one_side, one_at, told_joined, told_are_rows}
 use Rattle.item_knowledge.proofs.StagedLemmas.{known_of}
 use Rattle.item_knowledge.proofs.knowledge.Knowledge.learn.Goals as goal
 

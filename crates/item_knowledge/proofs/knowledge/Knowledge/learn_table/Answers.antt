@@ -1,6 +1,5 @@
 use Rattle.std.proofs.Common.{◌∙◌}
-use Rattle.item_knowledge.proofs.TableRowLemmas.{told_are_side, told_joined}
-use Rattle.item_knowledge.proofs.TopLemmas.{told_are_rows}
+use Rattle.item_knowledge.proofs.TableRowLemmas.{told_are_side, told_joined, told_are_rows}
 use Rattle.item_knowledge.proofs.StagedLemmas.{known_of}
 use Rattle.item_knowledge.proofs.knowledge.Knowledge.learn_table.Goals as goal
 

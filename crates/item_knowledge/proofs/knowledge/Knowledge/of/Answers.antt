@@ -1,8 +1,8 @@
-use Rattle.std.proofs.Common.{rules, ◌≡◌, true, sym, subst, ap, ◌∙◌}
+use Rattle.std.proofs.Common.{rules, ◌≡◌, ap, ◌∙◌}
 use Rattle.std.proofs.lemmas.Result.{IfOk-weaker}
 use Rattle.photo_version.specs.Version.{Version}
 use Rattle.photo_version.specs.Vector as vectors
-use Rattle.item_knowledge.specs.Entries.{denotes, is_vector}
+use Rattle.item_knowledge.specs.Entries.{denotes}
 use Rattle.item_knowledge.specs.Fragments.{knows, Fragment}
 use Rattle.item_knowledge.specs.TableRows.{bounds_of}
 use Rattle.item_knowledge.proofs.KeptLemmas.{is_of}
@@ -16,13 +16,8 @@ fragment-requires-clause-number c = (is_of c.self.inside.live c.self.inside.inde
 pub fragment-requires-clause-vector : goal.fragment-requires-clause-vector
 fragment-requires-clause-vector c = (is_of c.self.inside.live c.self.inside.index.items c.args.self.now.known c.args.picture c.number_at-number.result.0 c.self.invariant.kept (known_of c.self.view_is) (search rules)).vector
 
-pub vector_of-requires : goal.vector_of-requires
-vector_of-requires c =
-    let of = is_of c.self.inside.live c.self.inside.index.items c.args.self.now.known c.args.picture c.number_at-number.result.0 c.self.invariant.kept (known_of c.self.view_is) (search rules) in
-    subst (λ (f : Fragment). is_vector f.entries ≡ true) (sym c.fragment.ensures) of.vector
-
 pub returns : goal.returns
 returns c =
     let of = is_of c.self.inside.live c.self.inside.index.items c.args.self.now.known c.args.picture c.number_at-number.result.0 c.self.invariant.kept (known_of c.self.view_is) (search rules) in
-    IfOk-weaker c.vector_of.result (λ bs. bs ≡ bounds_of c.fragment.result.entries) (λ bs. (v : Version) → vectors.denotes bs v ≡ knows c.args.self.now.known c.args.picture v)
-    (λ bs same v. ap (λ cs. vectors.denotes cs v) same ∙ (bounds_denote c.fragment.result.entries v ∙ (ap (λ (f : Fragment). denotes f.entries v) c.fragment.ensures ∙ of.known v))) c.vector_of.ensures
+    IfOk-weaker c.vector.result (λ bs. bs ≡ bounds_of c.fragment.result.entries) (λ bs. (v : Version) → vectors.denotes bs v ≡ knows c.args.self.now.known c.args.picture v)
+    (λ bs same v. ap (λ cs. vectors.denotes cs v) same ∙ (bounds_denote c.fragment.result.entries v ∙ (ap (λ (f : Fragment). denotes f.entries v) c.fragment.ensures ∙ of.known v))) c.vector.ensures.vector

@@ -1,7 +1,7 @@
-use Rattle.std.proofs.Common.{rules, ◌≡◌, true, Some, sym, subst, ap, ◌∙◌}
+use Rattle.std.proofs.Common.{◌≡◌, true, Some, sym, subst, ◌∙◌}
 use Rattle.item_knowledge.specs.Rows.{fragments_of}
 use Rattle.item_knowledge.specs.Gathering.{IsSide}
-use Rattle.item_knowledge.specs.Kept.{IsKept, is_side_within}
+use Rattle.item_knowledge.specs.Kept.{is_side_within}
 use Rattle.item_knowledge.specs.Staged.{IsStagedUnion}
 use Rattle.item_knowledge.proofs.KeptLemmas.{kept_side}
 use Rattle.item_knowledge.proofs.StagedLemmas.{known_of, within_union, side_union}
@@ -23,30 +23,11 @@ returns-then-is_within-clause-staged c =
     (subst (λ fs. IsStagedUnion (Some (fragments_of c.self.inside.live)) (fragments_of c.self.inside.live) fs) (known_of c.other.view_is) union)
 
 pub stage_union-requires-clause-side : goal.stage_union-requires-clause-side
-stage_union-requires-clause-side c =
-    let rows : c.in-Some.rows.now ≡ c.other.inside.live = search rules in
-    subst (λ rs. IsSide (fragments_of rs) c.deref-in-Some.result.now) (sym rows)
-    (subst (IsSide (fragments_of c.other.inside.live)) (sym c.deref-in-Some.ensures.value) (kept_side c.other.inside.live c.other.inside.index.items c.other.invariant.kept))
-
-pub returns-in-Some-clause-staged : goal.returns-in-Some-clause-staged
-returns-in-Some-clause-staged c =
-    let rows : c.in-Some.rows.now ≡ c.other.inside.live = search rules in
-    let said = c.in_ok-stage_union.ensures in
-    subst (λ fs. IsStagedUnion c.stage_union.new.self.staged fs c.args.other.now.known) (known_of c.self.view_is)
-    (subst (λ fs. IsStagedUnion c.stage_union.new.self.staged (fragments_of c.self.inside.live) fs) (ap fragments_of rows ∙ known_of c.other.view_is)
-    (side_union c.stage_union.new.self.staged (fragments_of c.self.inside.live) c.in-Some.rows.now c.other.inside.index.items c.deref-in-Some.result.now
-    (subst (λ rs. IsKept rs c.other.inside.index.items) (sym rows) c.other.invariant.kept) c.deref-in-Some.ensures.value said.there said.joined))
-
-pub stage_union-requires-2-clause-side : goal.stage_union-requires-2-clause-side
-stage_union-requires-2-clause-side c =
-    subst (λ rs. IsSide (fragments_of rs) c.deref-3.result.now) (sym c.in_ok-rows.ensures)
-    (subst (IsSide (fragments_of c.other.inside.live)) (sym c.deref-3.ensures.value) (kept_side c.other.inside.live c.other.inside.index.items c.other.invariant.kept))
+stage_union-requires-clause-side c = subst (IsSide (fragments_of c.other.inside.live)) (sym c.deref-3.ensures.value) (kept_side c.other.inside.live c.other.inside.index.items c.other.invariant.kept)
 
 pub returns-clause-staged : goal.returns-clause-staged
 returns-clause-staged c =
-    let rows : c.in_ok-rows.rows ≡ c.other.inside.live = c.in_ok-rows.ensures in
-    let said = c.in_ok-stage_union-2.ensures in
-    subst (λ fs. IsStagedUnion c.stage_union-2.new.self.staged fs c.args.other.now.known) (known_of c.self.view_is)
-    (subst (λ fs. IsStagedUnion c.stage_union-2.new.self.staged (fragments_of c.self.inside.live) fs) (ap fragments_of rows ∙ known_of c.other.view_is)
-    (side_union c.stage_union-2.new.self.staged (fragments_of c.self.inside.live) c.in_ok-rows.rows c.other.inside.index.items c.deref-3.result.now
-    (subst (λ rs. IsKept rs c.other.inside.index.items) (sym rows) c.other.invariant.kept) c.deref-3.ensures.value said.there said.joined))
+    let said = c.in_ok-stage_union.ensures in
+    subst (λ fs. IsStagedUnion c.stage_union.new.self.staged fs c.args.other.now.known) (known_of c.self.view_is)
+    (subst (λ fs. IsStagedUnion c.stage_union.new.self.staged (fragments_of c.self.inside.live) fs) (known_of c.other.view_is)
+    (side_union c.stage_union.new.self.staged (fragments_of c.self.inside.live) c.other.inside.live c.other.inside.index.items c.deref-3.result.now c.other.invariant.kept c.deref-3.ensures.value said.there said.joined))

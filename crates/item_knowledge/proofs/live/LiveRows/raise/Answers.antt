@@ -1,34 +1,29 @@
-use Rattle.std.proofs.Common.{sym, subst, ap, ◌∙◌}
-use Rattle.std.specs.Option.{is_some}
-use Rattle.item_knowledge.specs.Late as spec
-use Rattle.item_knowledge.proofs.LateLemmas.{MayRise, rise_first, rise_again}
-use Rattle.item_knowledge.proofs.live.LiveRows.raise.Goals.{then-is_none, else-is_none}
+use Rattle.std.proofs.Common.{◌≡◌, ◌<◌, true, length, refl, sym, subst, ap, arith}
+use Rattle.item_knowledge.specs.Entries.{bound}
+use Rattle.item_knowledge.specs.Rows.{pairs, IsAt}
+use Rattle.item_knowledge.specs.Tables.{in_order}
+use Rattle.item_knowledge.proofs.JoinLemmas.{vector_order}
+use Rattle.item_knowledge.proofs.LiveLemmas.{raised_inside, raised_star}
 use Rattle.item_knowledge.proofs.live.LiveRows.raise.Goals as goal
 
+pub place_of-place-requires-clause-order : goal.place_of-place-requires-clause-order
+place_of-place-requires-clause-order c = subst (λ ws. in_order (pairs ws) ≡ true) (sym c.deref.ensures.value) (vector_order (pairs c.self.inside.star.items) c.self.invariant.0.vector)
+
+pub overflow_mul-place : goal.overflow_mul-place
+overflow_mul-place c = let inside = raised_inside c.self.inside.star.items c.self.inside.rows c.args.self.now c.args.author c.args.n c.place_of-place.result c.self.invariant.0 c.self.view_is c.requires.waiting (subst (λ ws. 0 < bound (pairs ws) c.args.author → IsAt (pairs ws) c.place_of-place.result c.args.author) c.deref.ensures.value c.place_of-place.ensures.at) in omega arith
+
+pub overflow_add-place : goal.overflow_add-place
+overflow_add-place c = let inside = raised_inside c.self.inside.star.items c.self.inside.rows c.args.self.now c.args.author c.args.n c.place_of-place.result c.self.invariant.0 c.self.view_is c.requires.waiting (subst (λ ws. 0 < bound (pairs ws) c.args.author → IsAt (pairs ws) c.place_of-place.result c.args.author) c.deref.ensures.value c.place_of-place.ensures.at) in omega arith
+
+pub index_mut-requires : goal.index_mut-requires
+index_mut-requires c =
+    let inside = raised_inside c.self.inside.star.items c.self.inside.rows c.args.self.now c.args.author c.args.n c.place_of-place.result c.self.invariant.0 c.self.view_is c.requires.waiting (subst (λ ws. 0 < bound (pairs ws) c.args.author → IsAt (pairs ws) c.place_of-place.result c.args.author) c.deref.ensures.value c.place_of-place.ensures.at) in
+    let long = c.deref.ensures.len in
+    let same = ap length c.deref.ensures.value in
+    omega arith
+
 pub invariant_of-self : goal.invariant_of-self
-invariant_of-self c =
-    let rise : MayRise (c.args.author, c.args.n) c.if-is_none.self-inside.rows c.args.self.now = elim c.if-is_none.branch [
-      | then-is_none w ↦ rise_first (c.args.author, c.args.n) c.if-is_none.self-inside.rows c.args.self.now (ap (λ r. r.rows) w.self-inside-is ∙ (w.settle.ensures.rows ∙ c.self.view_is)) c.requires.rows c.requires.waiting
-      | else-is_none w ↦
-          let inside = w.self-inside-is in
-          rise_again c.if-is_none.self-inside.late c.if-is_none.self-inside.rows c.args.self.now c.args.author c.args.n
-          (subst (λ r. spec.IsLate r.late r.rows) (sym inside) c.self.invariant)
-          (ap (λ r. spec.shown r.late r.rows) inside ∙ c.self.view_is)
-          c.requires.waiting
-          (ap (λ r. is_some (spec.late_of r.late c.args.author)) inside ∙ (ap is_some (sym c.late_of.ensures) ∙ w.if-is_none.ensures))
-    ] in
-    rise.late
+invariant_of-self c = ((raised_star c.self.inside.star.items c.self.inside.rows c.args.self.now c.args.author c.args.n c.place_of-place.result c.self.invariant.0 c.self.view_is c.requires.waiting (subst (λ ws. 0 < bound (pairs ws) c.args.author → IsAt (pairs ws) c.place_of-place.result c.args.author) c.deref.ensures.value c.place_of-place.ensures.at) _ refl).excess, c.self.invariant.1)
 
 pub returns : goal.returns
-returns c =
-    let rise : MayRise (c.args.author, c.args.n) c.if-is_none.self-inside.rows c.args.self.now = elim c.if-is_none.branch [
-      | then-is_none w ↦ rise_first (c.args.author, c.args.n) c.if-is_none.self-inside.rows c.args.self.now (ap (λ r. r.rows) w.self-inside-is ∙ (w.settle.ensures.rows ∙ c.self.view_is)) c.requires.rows c.requires.waiting
-      | else-is_none w ↦
-          let inside = w.self-inside-is in
-          rise_again c.if-is_none.self-inside.late c.if-is_none.self-inside.rows c.args.self.now c.args.author c.args.n
-          (subst (λ r. spec.IsLate r.late r.rows) (sym inside) c.self.invariant)
-          (ap (λ r. spec.shown r.late r.rows) inside ∙ c.self.view_is)
-          c.requires.waiting
-          (ap (λ r. is_some (spec.late_of r.late c.args.author)) inside ∙ (ap is_some (sym c.late_of.ensures) ∙ w.if-is_none.ensures))
-    ] in
-    rise.shown
+returns c = (raised_star c.self.inside.star.items c.self.inside.rows c.args.self.now c.args.author c.args.n c.place_of-place.result c.self.invariant.0 c.self.view_is c.requires.waiting (subst (λ ws. 0 < bound (pairs ws) c.args.author → IsAt (pairs ws) c.place_of-place.result c.args.author) c.deref.ensures.value c.place_of-place.ensures.at) _ refl).shown

@@ -1,41 +1,51 @@
-use Rattle.std.proofs.Common.{◌∙◌}
-use Rattle.item_knowledge.specs.Rows.{fragments_of}
-use Rattle.item_knowledge.proofs.UnionLemmas.{entries_order}
-use Rattle.item_knowledge.proofs.WaitingLemmas.{late_side, late_normal, waits}
+use Rattle.std.proofs.Common.{◌≡◌, true, sym, subst, ap, ◌∙◌}
+use Rattle.item_knowledge.specs.Entries.{is_vector}
+use Rattle.item_knowledge.specs.Excess.{IsExcess}
+use Rattle.item_knowledge.specs.Fragments.{is_normal}
+use Rattle.item_knowledge.specs.Rows.{pairs, fragments_of}
+use Rattle.item_knowledge.specs.Tables.{in_order}
+use Rattle.item_knowledge.proofs.ExcessLemmas.{wholes_differ}
+use Rattle.item_knowledge.proofs.JoinLemmas.{joined_vector, vector_order}
+use Rattle.item_knowledge.proofs.LiveLemmas.{shown_are, shown_side, star_joined, union_made, union_seen}
+use Rattle.item_knowledge.specs.Written.{IsWritten}
 use Rattle.item_knowledge.proofs.live.LiveRows.union.Goals as goal
 
-pub settle_for-requires-clause-star : goal.settle_for-requires-clause-star
-settle_for-requires-clause-star c = entries_order (fragments_of c.args.others.now) c.args.others_index.now 0 c.requires.right c.requires.right.star
+pub join-requires-clause-left : goal.join-requires-clause-left
+join-requires-clause-left c = subst (λ ws. in_order (pairs ws) ≡ true) (sym c.deref.ensures.value) (vector_order (pairs c.self.inside.star.items) c.self.invariant.0.vector)
 
-pub topped_union-requires-clause-left : goal.topped_union-requires-clause-left
-topped_union-requires-clause-left c = late_side c.settle_for.new.late c.settle_for.new.rows c.args.self.now c.args.index.now c.settle_for.ensures.late (c.settle_for.ensures.shown ∙ c.self.view_is) c.requires.left
+pub join-requires-clause-right : goal.join-requires-clause-right
+join-requires-clause-right c = subst (λ ws. in_order (pairs ws) ≡ true) (sym c.deref-2.ensures.value) (vector_order (pairs c.others.inside.star.items) c.others.invariant.0.vector)
 
-pub topped_union-requires-clause-normal : goal.topped_union-requires-clause-normal
-topped_union-requires-clause-normal c = late_normal c.settle_for.new.late c.settle_for.new.rows c.args.self.now c.settle_for.ensures.late (c.settle_for.ensures.shown ∙ c.self.view_is) c.requires.normal
+pub invariant_of-left : goal.invariant_of-left
+invariant_of-left c = record {
+  whole = c.self.invariant.0.are_rows;
+  excess = subst (λ ws. IsExcess ws c.self.inside.rows) (sym c.deref-3.ensures.value) c.self.invariant.0;
+  side = shown_side c.self.inside.star.items c.self.inside.rows c.args.self.now c.self.invariant.0 c.self.view_is c.args.index.now c.requires.left;
+}
 
-pub invariant_of-out-2 : goal.invariant_of-out-2
-invariant_of-out-2 c =
-    let late = c.settle_for.new.late in
-    let rows = c.settle_for.new.rows in
-    let is = c.settle_for.ensures.shown ∙ c.self.view_is in
-    (waits late rows c.args.self.now (fragments_of c.args.others.now) c.topped_union.new.out c.args.index.now c.args.others_index.now c.in_ok-written.written.items
-    c.settle_for.ensures.late is (late_side late rows c.args.self.now c.args.index.now c.settle_for.ensures.late is c.requires.left) c.requires.right
-    c.settle_for.ensures.untouching c.in_ok-written.ensures.rows c.in_ok-written.ensures.union).waiting
+pub invariant_of-right : goal.invariant_of-right
+invariant_of-right c = record {
+  whole = c.others.invariant.0.are_rows;
+  excess = subst (λ ws. IsExcess ws c.others.inside.rows) (sym c.deref-4.ensures.value) c.others.invariant.0;
+  side = shown_side c.others.inside.star.items c.others.inside.rows c.args.others.now c.others.invariant.0 c.others.view_is c.args.others_index.now c.requires.right;
+}
 
-pub returns-clause-rows : goal.returns-clause-rows
-returns-clause-rows c =
-    let late = c.settle_for.new.late in
-    let rows = c.settle_for.new.rows in
-    let is = c.settle_for.ensures.shown ∙ c.self.view_is in
-    (waits late rows c.args.self.now (fragments_of c.args.others.now) c.topped_union.new.out c.args.index.now c.args.others_index.now c.in_ok-written.written.items
-    c.settle_for.ensures.late is (late_side late rows c.args.self.now c.args.index.now c.settle_for.ensures.late is c.requires.left) c.requires.right
-    c.settle_for.ensures.untouching c.in_ok-written.ensures.rows c.in_ok-written.ensures.union).rows
+pub union-requires-clause-differ : goal.union-requires-clause-differ
+union-requires-clause-differ c = wholes_differ (pairs c.self.inside.star.items) (fragments_of c.self.inside.rows) (subst (λ fs. is_normal fs ≡ true) (shown_are c.self.inside.star.items c.self.inside.rows c.args.self.now c.self.invariant.0 c.self.view_is) c.requires.normal)
 
-pub returns-clause-union : goal.returns-clause-union
-returns-clause-union c =
-    let late = c.settle_for.new.late in
-    let rows = c.settle_for.new.rows in
-    let is = c.settle_for.ensures.shown ∙ c.self.view_is in
-    (waits late rows c.args.self.now (fragments_of c.args.others.now) c.topped_union.new.out c.args.index.now c.args.others_index.now c.in_ok-written.written.items
-    c.settle_for.ensures.late is (late_side late rows c.args.self.now c.args.index.now c.settle_for.ensures.late is c.requires.left) c.requires.right
-    c.settle_for.ensures.untouching c.in_ok-written.ensures.rows c.in_ok-written.ensures.union).union
+pub union-requires-clause-star : goal.union-requires-clause-star
+union-requires-clause-star c =
+    let both = star_joined c.self.inside.star.items c.others.inside.star.items c.deref.result.now c.deref-2.result.now c.join.new.out.items c.self.inside.rows c.others.inside.rows c.self.invariant.0 c.others.invariant.0 c.deref.ensures.value c.deref-2.ensures.value c.in_ok-join.ensures.entries in
+    subst (λ ws. in_order (pairs ws) ≡ true) (sym c.deref-5.ensures.value)
+    (vector_order (pairs c.join.new.out.items) (ap is_vector both ∙ joined_vector (pairs c.self.inside.star.items) (pairs c.others.inside.star.items) c.self.invariant.0.vector c.others.invariant.0.vector))
+
+pub invariant_of-out : goal.invariant_of-out
+invariant_of-out c =
+    let written : IsWritten (pairs c.join.new.out.items) (fragments_of c.self.inside.rows) c.args.index.now (fragments_of c.others.inside.rows) c.args.others_index.now c.union.new.out c.in-Ok.written.items = subst (λ ws. IsWritten (pairs ws) (fragments_of c.self.inside.rows) c.args.index.now (fragments_of c.others.inside.rows) c.args.others_index.now c.union.new.out c.in-Ok.written.items) c.deref-5.ensures.value c.in-Ok.ensures in
+    ((union_made c.self.inside.star.items c.others.inside.star.items c.join.new.out.items c.self.inside.rows c.others.inside.rows c.args.self.now c.args.others.now c.union.new.out c.args.index.now c.args.others_index.now c.in-Ok.written.items c.self.invariant.0 c.self.view_is c.others.invariant.0 c.others.view_is c.in_ok-join.ensures.row (star_joined c.self.inside.star.items c.others.inside.star.items c.deref.result.now c.deref-2.result.now c.join.new.out.items c.self.inside.rows c.others.inside.rows c.self.invariant.0 c.others.invariant.0 c.deref.ensures.value c.deref-2.ensures.value c.in_ok-join.ensures.entries) c.requires.left c.requires.right (subst (λ ws. IsWritten (pairs ws) (fragments_of c.self.inside.rows) c.args.index.now (fragments_of c.others.inside.rows) c.args.others_index.now c.union.new.out c.in-Ok.written.items) c.deref-5.ensures.value c.in-Ok.ensures)).excess, union_seen (pairs c.join.new.out.items) c.self.inside.seen.words.items c.others.inside.seen.words.items c.in_ok-seen.seen.words.items c.self.inside.rows c.others.inside.rows c.union.new.out c.args.index.now c.args.others_index.now (shown_side c.self.inside.star.items c.self.inside.rows c.args.self.now c.self.invariant.0 c.self.view_is c.args.index.now c.requires.left) (shown_side c.others.inside.star.items c.others.inside.rows c.args.others.now c.others.invariant.0 c.others.view_is c.args.others_index.now c.requires.right) c.self.invariant.0.first c.others.invariant.0.first c.self.invariant.1 c.others.invariant.1 c.in_ok-seen.ensures.one c.in_ok-seen.ensures.other written.rows)
+
+pub returns-in-Ok-clause-rows : goal.returns-in-Ok-clause-rows
+returns-in-Ok-clause-rows c = (union_made c.self.inside.star.items c.others.inside.star.items c.join.new.out.items c.self.inside.rows c.others.inside.rows c.args.self.now c.args.others.now c.union.new.out c.args.index.now c.args.others_index.now c.in-Ok.written.items c.self.invariant.0 c.self.view_is c.others.invariant.0 c.others.view_is c.in_ok-join.ensures.row (star_joined c.self.inside.star.items c.others.inside.star.items c.deref.result.now c.deref-2.result.now c.join.new.out.items c.self.inside.rows c.others.inside.rows c.self.invariant.0 c.others.invariant.0 c.deref.ensures.value c.deref-2.ensures.value c.in_ok-join.ensures.entries) c.requires.left c.requires.right (subst (λ ws. IsWritten (pairs ws) (fragments_of c.self.inside.rows) c.args.index.now (fragments_of c.others.inside.rows) c.args.others_index.now c.union.new.out c.in-Ok.written.items) c.deref-5.ensures.value c.in-Ok.ensures)).rows
+
+pub returns-in-Ok-clause-union : goal.returns-in-Ok-clause-union
+returns-in-Ok-clause-union c = (union_made c.self.inside.star.items c.others.inside.star.items c.join.new.out.items c.self.inside.rows c.others.inside.rows c.args.self.now c.args.others.now c.union.new.out c.args.index.now c.args.others_index.now c.in-Ok.written.items c.self.invariant.0 c.self.view_is c.others.invariant.0 c.others.view_is c.in_ok-join.ensures.row (star_joined c.self.inside.star.items c.others.inside.star.items c.deref.result.now c.deref-2.result.now c.join.new.out.items c.self.inside.rows c.others.inside.rows c.self.invariant.0 c.others.invariant.0 c.deref.ensures.value c.deref-2.ensures.value c.in_ok-join.ensures.entries) c.requires.left c.requires.right (subst (λ ws. IsWritten (pairs ws) (fragments_of c.self.inside.rows) c.args.index.now (fragments_of c.others.inside.rows) c.args.others_index.now c.union.new.out c.in-Ok.written.items) c.deref-5.ensures.value c.in-Ok.ensures)).union

@@ -10,14 +10,14 @@ returns-then-not-holds-clause-not_held c = λ e m shows.
     let before = subst (λ (d : Kept). Shows d m) (sym c.unstage.ensures) (shows_staged c.args.self.now None m shows) in
     sym (held-shown c.unstage.new.self m c.args.picture before) ∙ sym c.if-not-holds.ensures
 
-pub returns-in_err-make_next-clause-held : goal.returns-in_err-make_next-clause-held
-returns-in_err-make_next-clause-held c = λ e m shows.
+pub returns-in_err-make-clause-held : goal.returns-in_err-make-clause-held
+returns-in_err-make-clause-held c = λ e m shows.
     let before = subst (λ (d : Kept). Shows d m) (sym c.unstage.ensures) (shows_staged c.args.self.now None m shows) in
     sym (held-shown c.unstage.new.self m c.args.picture before) ∙ sym c.if-not-holds.ensures
 
 pub returns-clause-version : goal.returns-clause-version
 returns-clause-version c = λ m shows.
-    c.in_ok-make_next.ensures.version m (subst (λ (d : Kept). Shows d m) (sym c.unstage.ensures) (shows_staged c.args.self.now None m shows))
+    c.in_ok-make.ensures.version m (subst (λ (d : Kept). Shows d m) (sym c.unstage.ensures) (shows_staged c.args.self.now None m shows))
 
 pub returns-clause-held : goal.returns-clause-held
 returns-clause-held c = λ e m shows.

@@ -1,9 +1,6 @@
-use Rattle.std.proofs.Common.{◌≡◌, ◌++◌, take}
-use Rattle.block_list.specs.Blocks.{joined}
+use Rattle.std.proofs.Common.{◌≡◌, ◌++◌}
 use Rattle.photo_device.proofs.held_set.HeldSet.to_list.Given as goal
 
-abbrev pub invariant-loop-block : goal.invariant-loop-block
-invariant-loop-block l = l.items.items ≡ joined (take l.block-index l.block-items)
-
+-- what was put, and what of the whole is left
 abbrev pub invariant-loop-held : goal.invariant-loop-held
-invariant-loop-held l = l.items.items ≡ joined (take l.block-index l.block-items) ++ take l.held-index l.held-items
+invariant-loop-held l = l.items.items ++ l.held-iterator ≡ l.self

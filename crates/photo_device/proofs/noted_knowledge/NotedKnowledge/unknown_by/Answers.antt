@@ -1,8 +1,12 @@
-use Rattle.std.proofs.Common.{not, arith}
+use Rattle.std.proofs.Common.{◌≡◌, not, ap, ◌∙◌, rules}
+use Rattle.std.specs.Prelude.{filter}
 use Rattle.item_knowledge.specs.Fragments.{knows}
-use Rattle.photo_device.proofs.Order.{in_order-passing}
+use Rattle.photo_device.specs.declared.held.Held.{Held}
+use Rattle.photo_device.specs.Held.{are_in_order}
+use Rattle.photo_device.proofs.Order.{in_order-filter}
 use Rattle.photo_device.proofs.noted_knowledge.NotedKnowledge.unknown_by.Goals as goal
 
 pub returns-clause-ordered : goal.returns-clause-ordered
 returns-clause-ordered c =
-    in_order-passing (λ h. not (knows c.self.inside.knowledge.known h.picture h.version)) c.loop-block.found.items c.args.set.now c.blocks-block-items.result.now c.loop-block.block-index (omega arith) c.blocks-block-items.ensures.value c.blocks-block-items.ensures.ordered c.loop-block.invariant
+    let found : c.loop-held.found.items ≡ filter (λ (h : Held). not (knows c.self.inside.knowledge.known h.picture h.version)) c.args.set.now = search rules in
+    ap are_in_order found ∙ in_order-filter _ c.args.set.now c.iter-held-items.ensures.ordered

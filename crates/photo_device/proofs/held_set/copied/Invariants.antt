@@ -1,6 +1,0 @@
-use Rattle.std.proofs.Common.{◌≡◌, ◌++◌}
-use Rattle.photo_device.proofs.held_set.copied.Given as goal
-
--- what was put, and what of the whole is left
-abbrev pub invariant-loop-held : goal.invariant-loop-held
-invariant-loop-held l = l.copy ++ l.held-iterator ≡ l.items
