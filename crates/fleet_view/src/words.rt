@@ -95,21 +95,27 @@ fn pictures_in(alloc: Global, given: &ArgMatches<'_>) -> Result<Option<Vec<u32>>
 
 /// The program's command line.
 pub fn command_line<'a>(alloc: Global) -> Result<Command<'a>, AllocError> {
-    let command = Command::new(alloc, "fleet_view")
+    let mut commands = Vec::new(alloc);
+    push_commands(alloc, &mut commands)?;
+    Command::new(alloc, "fleet_view")
         .about("Shows where a script's pictures are, a chart of its run, or what is wrong with it")
         .after_help(OVERVIEW)
-        .subcommand_required(true);
-    let command = with(command, where_command(alloc))?;
-    let command = with(command, chart_command(alloc))?;
-    with(command, fault_command(alloc))
+        .subcommand_required(true)
+        .subcommands(commands)
 }
 
-// A command line with one command more.
-fn with<'a>(
-    program: Command<'a>,
+fn push_commands<'a>(alloc: Global, commands: &mut Vec<Command<'a>>) -> Result<(), AllocError> {
+    push_command(commands, where_command(alloc))?;
+    push_command(commands, chart_command(alloc))?;
+    push_command(commands, fault_command(alloc))
+}
+
+fn push_command<'a>(
+    commands: &mut Vec<Command<'a>>,
     command: Result<Command<'a>, AllocError>,
-) -> Result<Command<'a>, AllocError> {
-    program.subcommand(command?)
+) -> Result<(), AllocError> {
+    commands.push(command?)?;
+    Ok(())
 }
 
 // `where FILE [PICTURE]...`

@@ -1,7 +1,5 @@
 //! Scripts whose devices have filters: where versions go, which filters are refused, and the limits of filters.
 use super::memory::runs;
-use std::alloc::Global;
-use std::test::Fail;
 
 const PLACES: &[(&str, &str)] = &[
     (
@@ -49,59 +47,30 @@ fn filters_that_are_refused(rt: HostRuntime) {
     }
 }
 
-// A device whose filter has so many `not` in front of `all`.
-fn high_script(alloc: Global, count: usize) -> Result<String, Fail> {
-    let mut script = String::from_str(alloc, "device a ")?;
-    for _ in 0..count {
-        script.push_str("not ")?;
-    }
-    script.push_str("all\n")?;
-    Ok(script)
-}
+// With `not` 31 times, and 32 times.
+const HIGHEST: &str =
+    "device a not not not not not not not not not not not not not not not not not not not not not not not not not not not not not not not all\n";
+
+const HIGHER: &str =
+    "device a not not not not not not not not not not not not not not not not not not not not not not not not not not not not not not not not all\n";
+
+// Eight words by eight, and five by thirteen.
+const WIDEST: &str =
+    "device a (keyword x0 or keyword x1 or keyword x2 or keyword x3 or keyword x4 or keyword x5 or keyword x6 or keyword x7) and (keyword y0 or keyword y1 or keyword y2 or keyword y3 or keyword y4 or keyword y5 or keyword y6 or keyword y7)\nnew a 1 0 2024-05-01 x7,y0\nnew a 2 0 2024-05-01 x1,x2\n";
+
+const WIDER: &str =
+    "device a (keyword x0 or keyword x1 or keyword x2 or keyword x3 or keyword x4) and (keyword y0 or keyword y1 or keyword y2 or keyword y3 or keyword y4 or keyword y5 or keyword y6 or keyword y7 or keyword y8 or keyword y9 or keyword y10 or keyword y11 or keyword y12)\nnew a 1 0 2024-05-01 x7,y0\nnew a 2 0 2024-05-01 x1,x2\n";
+
+const LIMITS: &[(&str, &str, &str)] = &[
+    (HIGHEST, "", ""),
+    (HIGHER, "", "line 1: F15 BadFilter"),
+    (WIDEST, "1 made a:1 store\n2 made a:2 out\n", ""),
+    (WIDER, "", "line 1: F15 BadFilter"),
+];
 
 #[test]
-fn heights_of_filters(rt: HostRuntime) -> Result<(), Fail> {
-    for (count, error) in [(31, ""), (32, "line 1: F15 BadFilter")] {
-        let script = high_script(rt.alloc(), count)?;
-        assert!(rt; runs(rt, rt.alloc(), script.as_str(), "", error), "{count}");
+fn heights_and_widths_of_filters(rt: HostRuntime) {
+    for (script, output, error) in LIMITS {
+        assert!(rt; runs(rt, rt.alloc(), script, output, error), "{script}");
     }
-    Ok(())
-}
-
-// Puts so many words, joined by `or` and in brackets, behind a text.
-fn push_words(text: &mut String, letter: char, count: usize) -> Result<(), Fail> {
-    text.push('(')?;
-    for i in 0..count {
-        if i > 0 {
-            text.push_str(" or ")?;
-        }
-        write!(text, "keyword {letter}{i}")?;
-    }
-    text.push(')')?;
-    Ok(())
-}
-
-// A device whose filter has so many words by so many, and two pictures.
-fn wide_script(alloc: Global, left: usize, right: usize) -> Result<String, Fail> {
-    let mut script = String::from_str(alloc, "device a ")?;
-    push_words(&mut script, 'x', left)?;
-    script.push_str(" and ")?;
-    push_words(&mut script, 'y', right)?;
-    script.push_str("\nnew a 1 0 2024-05-01 x7,y0\nnew a 2 0 2024-05-01 x1,x2\n")?;
-    Ok(script)
-}
-
-#[test]
-fn widths_of_filters(rt: HostRuntime) -> Result<(), Fail> {
-    for (left, right, output, error) in [
-        (8, 8, "1 made a:1 store\n2 made a:2 out\n", ""),
-        (5, 13, "", "line 1: F15 BadFilter"),
-    ] {
-        let script = wide_script(rt.alloc(), left, right)?;
-        assert!(rt;
-            runs(rt, rt.alloc(), script.as_str(), output, error),
-            "{left} by {right}"
-        );
-    }
-    Ok(())
 }

@@ -51,3 +51,12 @@ fn told(alloc: Global, table: &[(PicNo, Vector)]) -> Result<Knowledge, AllocErro
         Err(error) => Err(error),
     }
 }
+
+/// A knowledge of the first version of every picture alone.
+pub fn star(alloc: Global) -> Result<Knowledge, AllocError> {
+    let mut knowledge = Knowledge::new(alloc)?;
+    match knowledge.learn_own(version(1, 1)) {
+        Ok(()) => Ok(knowledge),
+        Err(error) => Err(error),
+    }
+}

@@ -1,5 +1,5 @@
-use Rattle.knowledge_bench.proofs.TableLemmas.{IsTo}
-use Rattle.knowledge_bench.proofs.table.table.Given as goal
+use Rattle.workbench.proofs.TableLemmas.{IsTo}
+use Rattle.workbench.proofs.table.table.Given as goal
 
 abbrev pub invariant-loop-i : goal.invariant-loop-i
 invariant-loop-i l = record { pictures : IsTo l.i l.table.items }

@@ -1,6 +1,6 @@
 use Rattle.std.proofs.Common.{rules, ◌≡◌, ◌+◌, ◌++◌, ◌∷◌, []}
-use Rattle.knowledge_bench.proofs.TableLemmas.{one_more}
-use Rattle.knowledge_bench.proofs.table.table.Goals as goal
+use Rattle.workbench.proofs.TableLemmas.{one_more}
+use Rattle.workbench.proofs.table.table.Goals as goal
 
 pub loop-i-preserved : goal.loop-i-preserved
 loop-i-preserved c =

@@ -1,0 +1,73 @@
+//! Questions whether a knowledge has a version of a picture.
+use crate::table::{of_table, star, version};
+use item_knowledge::Knowledge;
+use photo_record::PicNo;
+use std::alloc::{AllocError, Global};
+
+/// Asks a knowledge of so many pictures, or one that has a version of every picture, so many times, and counts the answers
+/// yes.
+pub fn ask(alloc: Global, kind: &str, n: u32, times: u32) -> Result<u64, AllocError> {
+    let knowledge = match kind {
+        "knows_of_star" => star(alloc),
+        _ => of_table(alloc, 1, n),
+    };
+    Ok(known(&knowledge?, kind, n, times))
+}
+
+fn known(knowledge: &Knowledge, kind: &str, n: u32, times: u32) -> u64 {
+    match kind {
+        "knows" => known_at_random(knowledge, n, times),
+        "knows_in_order" => known_in_order(knowledge, n, times),
+        _ => known_of_star(knowledge, n, times),
+    }
+}
+
+// Asks of all pictures in turn whether the last of their versions is known, or the one behind it.
+fn known_at_random(knowledge: &Knowledge, n: u32, times: u32) -> u64 {
+    let mut sum = 0u64;
+    let mut seed = 1u32;
+    for i in 0..times {
+        seed = seed.wrapping_mul(1_664_525).wrapping_add(1_013_904_223);
+        let number = (seed >> 8) % n.max(1) + 1;
+        if let Some(picture) = PicNo::new(number) {
+            if knowledge.knows(picture, version(1, number + i % 2)) {
+                sum = sum.wrapping_add(1);
+            }
+        }
+    }
+    sum
+}
+
+// Asks of all pictures in rising order, again and again, whether the last of their versions is known, or the one behind
+// it, each time with the hint of the answer before.
+fn known_in_order(knowledge: &Knowledge, n: u32, times: u32) -> u64 {
+    let mut sum = 0u64;
+    let mut hint = 0;
+    for i in 0..times {
+        let number = i % n.max(1) + 1;
+        if let Some(picture) = PicNo::new(number) {
+            let (known, next) = knowledge.knows_near(hint, picture, version(1, number + i % 2));
+            hint = next;
+            if known {
+                sum = sum.wrapping_add(1);
+            }
+        }
+    }
+    sum
+}
+
+// The same of the first version of every picture, and of the one behind it.
+fn known_of_star(knowledge: &Knowledge, n: u32, times: u32) -> u64 {
+    let mut sum = 0u64;
+    let mut hint = 0;
+    for i in 0..times {
+        if let Some(picture) = PicNo::new(i % n.max(1) + 1) {
+            let (known, next) = knowledge.knows_near(hint, picture, version(1, 1 + i % 2));
+            hint = next;
+            if known {
+                sum = sum.wrapping_add(1);
+            }
+        }
+    }
+    sum
+}

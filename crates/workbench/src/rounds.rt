@@ -1,0 +1,164 @@
+//! The same work with each of some knowledges, in each of so many rounds. What comes of it is kept until the next round, as a
+//! device keeps what it knows.
+ghost use Rattle.std.specs.Prelude.{◌≡◌, true};
+ghost use Rattle.item_knowledge.specs.Tables.{in_order};
+
+use crate::table::{of_table, table};
+use item_knowledge::Knowledge;
+use photo_record::PicNo;
+use photo_version::Vector;
+use std::alloc::{AllocError, Global};
+
+// So many pictures have the knowledges of a round together, whatever a single one has: so a round works on as much memory.
+const PICTURES: u32 = 64_000;
+
+/// How many knowledges a round has where each has so many pictures.
+pub fn count_of(n: u32) -> u32 {
+    PICTURES / n.max(1)
+}
+
+/// Knowledges that know the same of a device, as many as a round has.
+pub fn of_round(alloc: Global, device: u16, n: u32) -> Result<Vec<Knowledge>, AllocError> {
+    let mut all = Vec::new(alloc);
+    for _ in 0..count_of(n) {
+        all.push(of_table(alloc, device, n)?)?;
+    }
+    Ok(all)
+}
+
+// Knowledges that know nothing, each of them to be worked.
+fn unworked(alloc: Global, count: usize) -> Result<Vec<Knowledge>, AllocError> {
+    let mut all = Vec::new(alloc);
+    for _ in 0..count {
+        all.push(Knowledge::new(alloc)?)?;
+    }
+    Ok(all)
+}
+
+/// Copies each of some knowledges, and has it learn what another one knows of the same pictures; gives a number that depends
+/// on it.
+pub fn work(alloc: Global, kind: &str, n: u32, times: u32) -> Result<u64, AllocError> {
+    let mut all = of_round(alloc, 1, n)?;
+    work_all(alloc, kind, &mut all, n, times)
+}
+
+fn work_all(
+    alloc: Global,
+    kind: &str,
+    all: &mut [Knowledge],
+    n: u32,
+    times: u32,
+) -> Result<u64, AllocError> {
+    let device = if kind == "learn_all_again" { 1 } else { 2 };
+    let others = of_round(alloc, device, n)?;
+    work_with(alloc, kind, all, &others, times)
+}
+
+fn work_with(
+    alloc: Global,
+    kind: &str,
+    all: &mut [Knowledge],
+    others: &[Knowledge],
+    times: u32,
+) -> Result<u64, AllocError> {
+    let mut worked = unworked(alloc, all.len())?;
+    work_each(kind, all, others, &mut worked, times)
+}
+
+fn work_each(
+    kind: &str,
+    all: &mut [Knowledge],
+    others: &[Knowledge],
+    worked: &mut [Knowledge],
+    times: u32,
+) -> Result<u64, AllocError> {
+    let mut sum = 0u64;
+    for _ in 0..times {
+        for k in 0..all.len().min(others.len()).min(worked.len()) {
+            work_one(kind, &mut all[k], &others[k], &mut worked[k])?;
+            sum = sum.wrapping_add(worked[k].fragments() as u64);
+        }
+    }
+    Ok(sum)
+}
+
+fn work_one(
+    kind: &str,
+    one: &mut Knowledge,
+    other: &Knowledge,
+    worked: &mut Knowledge,
+) -> Result<(), AllocError> {
+    match kind {
+        "try_clone" => copy(one, worked),
+        "learn_all" => copy_and_learn(one, other, worked),
+        "learn_all_again" => one.learn_all(other),
+        _ => Ok(()),
+    }
+}
+
+fn copy(one: &Knowledge, worked: &mut Knowledge) -> Result<(), AllocError> {
+    *worked = one.try_clone()?;
+    Ok(())
+}
+
+fn copy_and_learn(
+    one: &Knowledge,
+    other: &Knowledge,
+    worked: &mut Knowledge,
+) -> Result<(), AllocError> {
+    copy(one, worked)?;
+    worked.learn_all(other)
+}
+
+/// What a knowledge is told, and the knowledge that learned it last.
+#[derive(Drop)]
+struct Told {
+    table: Vec<(PicNo, Vector)>,
+    ghost in_order: { in_order table.items ≡ true },
+}
+
+// As many tables as a round has knowledges.
+fn told_of_round(alloc: Global, n: u32) -> Result<Vec<Told>, AllocError> {
+    let mut all = Vec::new(alloc);
+    for _ in 0..count_of(n) {
+        all.push(make_told(alloc, n)?)?;
+    }
+    Ok(all)
+}
+
+fn make_told(alloc: Global, n: u32) -> Result<Told, AllocError> {
+    let table = table(alloc, 1, n)?;
+    Ok(Told { table })
+}
+
+/// New knowledges learn a table each.
+pub fn learn_table(alloc: Global, n: u32, times: u32) -> Result<u64, AllocError> {
+    let all = told_of_round(alloc, n)?;
+    learn_tables(alloc, &all, times)
+}
+
+fn learn_tables(alloc: Global, all: &[Told], times: u32) -> Result<u64, AllocError> {
+    let mut worked = unworked(alloc, all.len())?;
+    learn_each_table(alloc, all, &mut worked, times)
+}
+
+fn learn_each_table(
+    alloc: Global,
+    all: &[Told],
+    worked: &mut [Knowledge],
+    times: u32,
+) -> Result<u64, AllocError> {
+    let mut sum = 0u64;
+    for _ in 0..times {
+        for k in 0..all.len().min(worked.len()) {
+            learn_anew(alloc, &all[k], &mut worked[k])?;
+            sum = sum.wrapping_add(worked[k].fragments() as u64);
+        }
+    }
+    Ok(sum)
+}
+
+fn learn_anew(alloc: Global, told: &Told, worked: &mut Knowledge) -> Result<(), AllocError> {
+    *worked = Knowledge::new(alloc)?;
+    worked.learn_table(&told.table)
+}
