@@ -6,7 +6,7 @@ ghost use Rattle.block_list.specs.Blocks.{joined, AreFilled, start_of, IsPlace, 
 use std::alloc::AllocError;
 
 // A block that has so many elements after an insertion is cut in two. An insertion moves the elements behind it in its
-// block, and a cut the blocks behind it: at 100,000 elements this is about where both together cost least.
+// block, and a cut the blocks behind it, so blocks are neither long nor many.
 const LONG: usize = 128;
 
 /// Where element `i` stands: its block, and its place there.

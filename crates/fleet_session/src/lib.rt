@@ -1,4 +1,4 @@
-//! A fleet whose calls have no condition: one that it doesn't take answers why, and changes nothing.
+//! A fleet whose calls have no condition. Its invariant: **whatever is refused, the fleet is as it was**, and the answer says why.
 #![tactic(auto)]
 
 mod fault;

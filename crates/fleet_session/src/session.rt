@@ -14,8 +14,8 @@ use std::marker::Model;
 
 /// A fleet whose calls have no condition. Contracts see the fleet, and say of each call what the fleet's own call says.
 ///
-/// Whatever was refused, the fleet is as it was. `NoDevice` and `Full` come only where they hold, and `NoMemory` where memory was
-/// refused.
+/// Whatever was refused, the fleet is as it was. `NoDevice`, `NoCommand` and `Full` come only where they hold; the only other error
+/// is want of memory.
 #[derive(Debug, Drop)]
 pub struct Session {
     fleet: Fleet,

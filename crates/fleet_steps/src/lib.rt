@@ -1,4 +1,5 @@
-//! What one command does to the devices, and runs of scripts on one thread.
+//! What one command does to the devices, and runs of scripts on one thread. Its invariant: **every run is sound and keeps what is
+//! current**. One call runs one command for all ways to run.
 #![tactic(auto)]
 
 mod command;

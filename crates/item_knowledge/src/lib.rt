@@ -1,4 +1,12 @@
-//! What a device knows: of which picture which versions.
+//! What a device knows: of which picture which versions, as a set of pairs of a picture and a version.
+//!
+//! Its invariant: **fragments are in normal form**. The first one is the star, which is always there, lists no picture and has
+//! what is known of every one. Each other fragment lists at least one picture, in rising order, and its vector has all that the
+//! star has and something more. No two fragments have one vector, no picture stands in two, and they stand in the order of their
+//! first pictures: so there is one list of fragments for each set of pairs. An index leads from each picture to its fragment.
+//! What is staged is in the same form.
+//!
+//! In memory the star stands once, and a row has of its fragment's vector what exceeds the star; each bound in a row has a mark.
 #![tactic(auto)]
 
 mod apart;

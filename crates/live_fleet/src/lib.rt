@@ -1,4 +1,5 @@
-//! A fleet of devices to which commands are given one after another, by hand.
+//! A fleet of devices to which commands are given one after another, by hand. Its invariant: **every fleet came about by
+//! commands** (`CameAbout`), so its devices are sound and nothing that is current is lost.
 #![tactic(auto)]
 
 mod answer;

@@ -1,4 +1,5 @@
-//! Which commands of a script may run side by side, and in which orders its commands may run.
+//! Which commands of a script may run side by side, and in which orders its commands may run. Its invariant: **a plan is the
+//! least one** (`IsPlan`).
 #![tactic(auto)]
 
 mod batches;

@@ -1,4 +1,8 @@
-//! A device of the household: the versions that it made and holds.
+//! A device of the household: the versions that it made and holds, and what it knows.
+//!
+//! Its invariant (`IsDevice`): **a device knows all that it holds, with its history, and of its own author just what it made**. It
+//! knows nothing of later epochs of its own, holds no version twice, and what it holds has of its author just the earlier
+//! versions in its history.
 #![tactic(auto)]
 
 mod anew;

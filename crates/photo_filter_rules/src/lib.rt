@@ -1,4 +1,5 @@
-//! Filters at work: which records a filter matches, by its alternatives.
+//! Filters at work: which records a filter matches, and which filter covers which. Its invariant: **a filter's alternatives are
+//! its tree's**, of which no part is too wide; by them it matches and covers.
 #![tactic(auto)]
 
 mod alternative;

@@ -1,4 +1,5 @@
-//! The filter language: the trees of filters, their reading from text and their printing.
+//! The filter language: the trees of filters, their reading from text and their printing. Its invariant: **a tree that is read
+//! is the grammar's**, of just these tokens, and what is printed has the tree that was printed.
 #![tactic(auto)]
 
 mod fault;

@@ -1,4 +1,5 @@
-//! One pull: a device takes and learns from another what it doesn't know.
+//! One pull: a device takes and learns from another what it doesn't know. Its invariant: **all that may be refused comes before
+//! either device changes**.
 #![tactic(auto)]
 
 mod change;

@@ -1,4 +1,5 @@
-//! Ratings, days, picture numbers, words and records: the values that a photo collection is made of.
+//! Ratings, days, picture numbers, words and records: the values that a photo collection is made of. Its invariant: **a value
+//! is one that a text can denote**, so numbers and days are in range, words in form C, and sets of words in order.
 #![tactic(auto)]
 
 mod day;

@@ -1,5 +1,6 @@
 //! Scripts of a photo collection: which devices there are and what is done on them, in order; and the texts of
-//! the reports on it.
+//! the reports on it. Its invariant (`IsScript`): **a script's commands name its devices**, two different ones where they name
+//! two, **and its records are in range**; devices and commands are no more than the limits.
 #![tactic(auto)]
 
 mod command;

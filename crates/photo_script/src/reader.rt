@@ -413,7 +413,7 @@ impl Reader {
         Ok(Author::at(device, epoch))
     }
 
-    // `AUTHOR:N`, a version of a declared device.
+    // `NAME:N` or `NAME.E:N`, a version of a declared device.
     #[tactic(auto, unfolding(crate::specs::Saying::version_said))]
     fn version(&self, text: &str) -> Result<Version, LineFault>
         ensures { result ≡ version_said (seen self.now) text.now }

@@ -1,4 +1,5 @@
-//! Versions of pictures, their authors, and sets of versions.
+//! Versions of pictures, their authors, and sets of versions. Its invariant: **a vector is a set of versions**, of each author (a
+//! device in an epoch) all up to a bound: it has one entry for each, with a bound above 0, in the order of authors.
 #![tactic(auto)]
 
 mod author;

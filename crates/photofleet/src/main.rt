@@ -1,4 +1,5 @@
-//! Runs scripts of a photo collection and prints the reports, or tells which of their commands can run at once.
+//! Runs scripts of a photo collection and prints the reports, or tells which of their commands can run at once. **Its words, files
+//! and outputs are the system's**; what is done with them `photofleet_serve` says.
 #![tactic(auto)]
 
 mod arguments;

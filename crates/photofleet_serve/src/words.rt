@@ -206,7 +206,7 @@ fn file_argument<'a>(alloc: Global) -> Arg<'a>
         .action(ArgAction::Set)
 }
 
-// Its numbers are read as the values of one use: a use for each would cost more than twice as much.
+// Its numbers are read as the values of one use: a use for each would cost more.
 fn order_argument<'a>(alloc: Global) -> Arg<'a>
     ensures rule { rule_of result ≡ order_argument }
     ensures own { result.global ≡ false }
