@@ -6,6 +6,9 @@ ghost use Rattle.item_knowledge.specs.Rows.{pairs, IsRow, IsAt};
 
 use crate::index::IndexEntry;
 
+/// What the number of a device is multiplied by in its author's word.
+pub(crate) const EPOCHS: u64 = 4_294_967_296;
+
 // How many places one goes forward from a hint before the whole index is searched.
 const STEPS: usize = 32;
 
@@ -152,6 +155,14 @@ pub(crate) fn bound_at(row: &[u64], author: u64) -> u64
     requires order { in_order (pairs row.now) ≡ true }
     ensures { result ≡ bound (pairs row.now) author }
 {
+    // Where each device before it has one entry, an author's stands at its device's number.
+    let mostly = (author / EPOCHS) as usize;
+    if mostly < entry_count(row) {
+        let (word, n) = entry_at(row, mostly);
+        if word == author {
+            return n;
+        }
+    }
     let place = place_of(row, author);
     if place >= entry_count(row) {
         return 0;

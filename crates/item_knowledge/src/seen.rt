@@ -5,12 +5,9 @@ ghost use Rattle.item_knowledge.specs.Seen as spec;
 ghost use Rattle.item_knowledge.specs.Tables.{in_order};
 
 use crate::rows::Rows;
-use crate::search::{bound_at, entry_at, entry_count};
+use crate::search::{EPOCHS, bound_at, entry_at, entry_count};
 use crate::union::entries;
 use std::alloc::{AllocError, Global};
-
-// What the number of a device is multiplied by in its author's word.
-const EPOCHS: u64 = 4_294_967_296;
 
 // So many numbers have words of their own; those behind them come round again.
 const PERIOD: u64 = 8192;
