@@ -1,5 +1,5 @@
 -- A picture comes to the group of its vector: the groups stay in normal form.
-use Rattle.std.proofs.Common.{◌≡◌, ℕ, ◌<◌, ◌≤◌, Bool, true, false, not, ltb, eqb, cond, ◌&&◌, ◌||◌, List, [], ◌∷◌, ◌++◌, refl, ap, ◌∙◌, inl, inr, arith, None, Some}
+use Rattle.std.proofs.Common.{◌≡◌, ℕ, ◌<◌, ◌≤◌, Bool, true, false, not, ltb, eqb, cond, ◌||◌, List, [], ◌∷◌, ◌++◌, refl, ap, ◌∙◌, inl, inr, arith, None, Some}
 use Rattle.std.specs.List.{list_all}
 use Rattle.std.proofs.Math.Bool.{or-false}
 use Rattle.std.proofs.lemmas.List.Folds.{list_any-append, list_all-append}
@@ -8,7 +8,7 @@ use Rattle.item_knowledge.specs.Entries.{Entry, is_vector, leq, same_entries}
 use Rattle.item_knowledge.specs.Fragments.{Fragment, is_empty, first, lists, rises, is_group, goes_before, are_groups, find}
 use Rattle.item_knowledge.specs.Gathering.{add}
 use Rattle.item_knowledge.proofs.PictureLemmas.{lists_head, lists_other, listed}
-use Rattle.item_knowledge.proofs.FragmentLemmas.{entries_decide, GroupParts, groups_parts, find_here, find_later}
+use Rattle.item_knowledge.proofs.FragmentLemmas.{entries_decide, GroupParts, groups_parts, before_parts, find_here, find_later}
 
 -- a vector that a group may have
 pub record IsAbove (star v : List Entry) : Type 0 where
@@ -133,38 +133,31 @@ none_of ps (x ∷ qs) p b h =
     let less = ltb-true x p a.0 in
     and_from _ _ (not_from_false _ (lists_one ps p x ∙ or_from _ _ (not-true _ c.0) (ne_eqb p x (λ s. absurd (omega arith))))) (none_of ps qs p a.1 c.1)
 
--- the three parts of `goes_before`
-before_tests : (g h : Fragment) → goes_before g h ≡ true → (ltb (first g.pictures) (first h.pictures) ≡ true) × (not (same_entries g.entries h.entries) ≡ true) × (list_all (λ p. not (lists g.pictures p)) h.pictures ≡ true)
-before_tests g h b =
-    let x = and_parts (ltb (first g.pictures) (first h.pictures)) (not (same_entries g.entries h.entries) && list_all (λ p. not (lists g.pictures p)) h.pictures) b in
-    let y = and_parts (not (same_entries g.entries h.entries)) (list_all (λ p. not (lists g.pictures p)) h.pictures) x.1 in
-    (x.0, y.0, y.1)
-
-before_from : (g h : Fragment) → ltb (first g.pictures) (first h.pictures) ≡ true → not (same_entries g.entries h.entries) ≡ true → list_all (λ p. not (lists g.pictures p)) h.pictures ≡ true → goes_before g h ≡ true
-before_from g h x y z = and_from _ _ x (and_from _ _ y z)
+before_from : (g h : Fragment) → first g.pictures < first h.pictures → not (same_entries g.entries h.entries) ≡ true → list_all (λ p. not (lists g.pictures p)) h.pictures ≡ true → goes_before g h ≡ true
+before_from g h x y z = and_from _ _ (lt-ltb (first g.pictures) (first h.pictures) x) (and_from _ _ y z)
 
 all_before_grown : (g : Fragment) (hs : List Fragment) (p : ℕ) → is_empty g.pictures ≡ false → all_below p hs ≡ true → list_all (λ (h : Fragment). goes_before g h) hs ≡ true → list_all (λ (h : Fragment). goes_before (with_one g p) h) hs ≡ true
 all_before_grown g [] p s b h = refl
 all_before_grown g (x ∷ hs) p s b h =
     let c = and_parts (below p x) (all_below p hs) b in
     let a = and_parts (goes_before g x) (list_all (λ (y : Fragment). goes_before g y) hs) h in
-    let t = before_tests g x a.0 in
+    let t = before_parts g x a.0 in
     and_from _ _
-    (before_from (with_one g p) x (rw (first_one g.pictures p s) t.0) t.1 (none_of g.pictures x.pictures p c.0 t.2))
+    (before_from (with_one g p) x (rw (first_one g.pictures p s) t.order) t.unlike (none_of g.pictures x.pictures p c.0 t.each))
     (all_before_grown g hs p s c.1 a.1)
 
 all_before_add : (star : List Entry) (g : Fragment) (hs : List Fragment) (p : ℕ) (v : List Entry) → is_empty g.pictures ≡ false → below p g ≡ true → same_entries g.entries v ≡ false → are_groups star hs ≡ true → list_all (λ (h : Fragment). goes_before g h) hs ≡ true → list_all (λ (h : Fragment). goes_before g h) (add p v hs) ≡ true
 all_before_add star g [] p v s b o a h =
     and_from _ _
-    (before_from g (record { pictures = p ∷ []; entries = v }) (lt-ltb (first g.pictures) p (first_below g.pictures p s b)) (not_from_false _ o) (and_from _ _ (not_from_false _ (not_below g.pictures p p b (omega arith))) refl))
+    (before_from g (record { pictures = p ∷ []; entries = v }) (first_below g.pictures p s b) (not_from_false _ o) (and_from _ _ (not_from_false _ (not_below g.pictures p p b (omega arith))) refl))
     refl
 all_before_add star g (x ∷ hs) p v s b o a h =
     let c = and_parts (goes_before g x) (list_all (λ (y : Fragment). goes_before g y) hs) h in
     let parts = groups_parts star x hs a in
-    let t = before_tests g x c.0 in
+    let t = before_parts g x c.0 in
     elim (cases_Bool (same_entries x.entries v)) [
       | inl same ↦ rw (add_here p v x hs same) (and_from _ _
-          (before_from g (with_one x p) (rw (first_one x.pictures p parts.group.some) t.0) t.1 (all_one (λ q. not (lists g.pictures q)) x.pictures p t.2 (not_from_false _ (not_below g.pictures p p b (omega arith)))))
+          (before_from g (with_one x p) (rw (first_one x.pictures p parts.group.some) t.order) t.unlike (all_one (λ q. not (lists g.pictures q)) x.pictures p t.each (not_from_false _ (not_below g.pictures p p b (omega arith)))))
           c.1)
       | inr other ↦ rw (add_later p v x hs other) (and_from _ _ c.0 (all_before_add star g hs p v s b o parts.rest c.1))
     ]
@@ -176,10 +169,7 @@ above_group : (star : List Entry) (g : Fragment) → GroupParts star g → IsAbo
 above_group star g k = record {
   vector = k.vector;
   above = k.above;
-  other = elim (cases_Bool (same_entries star g.entries)) [
-    | inl same ↦ absurd (k.other ((entries_decide star g.entries).0 same))
-    | inr o ↦ o
-  ];
+  other = k.unlike;
 }
 
 pub groups_add : (star : List Entry) (p : ℕ) (v : List Entry) (gs : List Fragment) → 0 < p → IsAbove star v → all_below p gs ≡ true → are_groups star gs ≡ true → are_groups star (add p v gs) ≡ true

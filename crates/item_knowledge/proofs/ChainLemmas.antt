@@ -4,9 +4,10 @@ use Rattle.std.specs.Int.{rotate_left, w64}
 use Rattle.std.proofs.Math.ListN.{get_or-append}
 use Rattle.std.proofs.Math.Seq.{get_or-append_seam}
 use Rattle.std.proofs.lemmas.List.{get_or-set_same, get_or-set_other, get_or-replicate, length-replicate}
-use Rattle.std.proofs.lemmas.Bool.{cases_lt, cases_eq}
+use Rattle.std.proofs.lemmas.Bool.{cases_eq}
 use Rattle.std.proofs.lemmas.Nat.{div_below}
 use Rattle.std.proofs.Math.Nat.{mod-lt, mul-lt-mul_of_pos_right}
+use Rattle.item_knowledge.proofs.MergeLemmas.{snoc_each}
 use Rattle.item_knowledge.specs.Places.{mixed, hashed, share, bucket, IsLast, is_new, IsPlaced}
 
 -- The bucket of a row
@@ -85,13 +86,9 @@ module _ (bucket_of : List ℕ → ℕ) (rows : List (List ℕ)) (row : List ℕ
 
   once_more : ((j k : ℕ) → j < k → k < length rows → get_or rows j [] ≡ get_or rows k [] → ⊥) → is_new rows row → (j k : ℕ) → j < k → k < suc (length rows) → get_or (rows ++ row ∷ []) j [] ≡ get_or (rows ++ row ∷ []) k [] → ⊥
   once_more once new j k l m e =
-      let left : get_or (rows ++ row ∷ []) j [] ≡ get_or rows j [] = get_or-append rows (row ∷ []) [] j (omega arith) in
-      elim (cases_lt k (length rows)) [
-        | inl less ↦ once j k l less (sym left ∙ (e ∙ get_or-append rows (row ∷ []) [] k less))
-        | inr more ↦
-            let end : k ≡ length rows = omega arith in
-            new j (omega arith) (sym left ∙ (e ∙ (ap (λ i. get_or (rows ++ row ∷ []) i []) end ∙ at_end)))
-      ]
+      let before : (i : ℕ) → i < length rows → get_or rows i [] ≡ get_or (rows ++ row ∷ []) i [] = λ i n. sym (get_or-append rows (row ∷ []) [] i n) in
+      let many = length-append rows (row ∷ []) in
+      snoc_each (λ n ws. (i : ℕ) → i < n → get_or (rows ++ row ∷ []) i [] ≡ ws → ⊥) rows row [] (λ n z i y x. once i n y z (before i (omega arith) ∙ x)) (λ i y x. new i y (before i y ∙ x)) k (omega arith) j l e
 
   module _ (heads before : List ℕ) (h : IsPlaced bucket_of heads before rows) (l : bucket_of row < length heads) where
     heads_more : (c : ℕ) → c < length heads → IsLast bucket_of c (rows ++ row ∷ []) (suc (length rows)) (get_or (set heads (bucket_of row) (suc (length rows))) c 0)
@@ -108,19 +105,11 @@ module _ (bucket_of : List ℕ → ℕ) (rows : List (List ℕ)) (row : List ℕ
     before_more k m =
         let head = get_or heads (bucket_of row) 0 in
         let many = h.counted in
-        elim (cases_lt k (length rows)) [
-          | inl less ↦
-              subst (λ ws. IsLast bucket_of (bucket_of ws) (rows ++ row ∷ []) k (get_or (before ++ head ∷ []) k 0)) (sym (get_or-append rows (row ∷ []) [] k less))
-              (subst (IsLast bucket_of (bucket_of (get_or rows k [])) (rows ++ row ∷ []) k) (sym (get_or-append before (head ∷ []) 0 k (omega arith)))
-              (last_more (bucket_of (get_or rows k [])) k (get_or before k 0) (omega arith) (h.earlier k less)))
-          | inr more ↦
-              let end : length rows ≡ k = omega arith in
-              let place : head ≡ get_or (before ++ head ∷ []) (length rows) 0 = sym (get_or-append_seam before head [] 0) ∙ ap (λ j. get_or (before ++ head ∷ []) j 0) many in
-              subst (λ j. IsLast bucket_of (bucket_of (get_or (rows ++ row ∷ []) j [])) (rows ++ row ∷ []) j (get_or (before ++ head ∷ []) j 0)) end
-              (subst (λ ws. IsLast bucket_of (bucket_of ws) (rows ++ row ∷ []) (length rows) (get_or (before ++ head ∷ []) (length rows) 0)) (sym at_end)
-              (subst (IsLast bucket_of (bucket_of row) (rows ++ row ∷ []) (length rows)) place
-              (last_more (bucket_of row) (length rows) head (omega arith) (h.latest (bucket_of row) l))))
-        ]
+        let more = length-append rows (row ∷ []) in
+        let place : head ≡ get_or (before ++ head ∷ []) (length rows) 0 = sym (get_or-append_seam before head [] 0) ∙ ap (λ j. get_or (before ++ head ∷ []) j 0) many in
+        snoc_each (λ j ws. IsLast bucket_of (bucket_of ws) (rows ++ row ∷ []) j (get_or (before ++ head ∷ []) j 0)) rows row []
+        (λ j less. subst (IsLast bucket_of (bucket_of (get_or rows j [])) (rows ++ row ∷ []) j) (sym (get_or-append before (head ∷ []) 0 j (omega arith))) (last_more (bucket_of (get_or rows j [])) j (get_or before j 0) (omega arith) (h.earlier j less)))
+        (subst (IsLast bucket_of (bucket_of row) (rows ++ row ∷ []) (length rows)) place (last_more (bucket_of row) (length rows) head (omega arith) (h.latest (bucket_of row) l))) k (omega arith)
 
     -- what the code holds after a row came to the end
     pub pushed : (heads_new before_new : List ℕ) (rows_new : List (List ℕ)) → is_new rows row → before_new ≡ before ++ get_or heads (bucket_of row) 0 ∷ [] → rows_new ≡ rows ++ row ∷ [] → heads_new ≡ set heads (bucket_of row) (length before_new) → IsPlaced bucket_of heads_new before_new rows_new

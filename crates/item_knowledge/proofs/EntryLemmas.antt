@@ -1,5 +1,5 @@
 -- Vectors are determined by what they denote.
-use Rattle.std.proofs.Common.{◌≡◌, ℕ, zero, suc, ◌<◌, ◌≤◌, true, leb, ltb, ◌&&◌, List, [], ◌∷◌, length, get_or, refl, sym, ◌∙◌, inl, inr, arith}
+use Rattle.std.proofs.Common.{◌≡◌, ℕ, ◌<◌, ◌≤◌, true, leb, ltb, ◌&&◌, List, [], ◌∷◌, refl, sym, ◌∙◌, inl, inr, arith}
 use Rattle.std.specs.List.{list_all}
 use Rattle.std.proofs.lemmas.Bool.{and_parts, and_from, ltb-true, leb-true, le-leb, eq-eqb, ne_eqb, cases_eq, cases_lt, cases_order}
 use Rattle.std.proofs.lemmas.Bool.Decides.{nat_tests}
@@ -8,10 +8,16 @@ use Rattle.photo_version.specs.Author.{author_word, is_author_word, author_of_wo
 use Rattle.photo_version.specs.Version.{Version}
 use Rattle.item_knowledge.specs.Entries.{Entry, denotes, is_entry, is_vector, bound, most_number}
 
-pub entry_positive : (e : Entry) → is_entry e ≡ true → 0 < e.1
-entry_positive e h =
+pub record EntryParts (e : Entry) : Type 0 where
+  pub word : is_author_word e.0 ≡ true
+  pub positive : 0 < e.1
+  pub below : e.1 ≤ most_number
+
+pub entry_parts : (e : Entry) → is_entry e ≡ true → EntryParts e
+entry_parts e h =
     let a = and_parts (is_author_word e.0) (ltb 0 e.1 && leb e.1 most_number) h in
-    ltb-true 0 e.1 (and_parts (ltb 0 e.1) (leb e.1 most_number) a.1).0
+    let b = and_parts (ltb 0 e.1) (leb e.1 most_number) a.1 in
+    record { word = a.0; positive = ltb-true 0 e.1 b.0; below = leb-true e.1 most_number b.1 }
 
 pub record VectorParts (e : Entry) (es : List Entry) : Type 0 where
   pub entry : is_entry e ≡ true
@@ -24,7 +30,7 @@ vector_parts e es h =
     let p = and_parts (in_order (e ∷ es)) (list_all (λ (f : Entry). is_entry f) (e ∷ es)) h in
     let q = and_parts (list_all (λ (f : Entry). ltb e.0 f.0) es) (in_order es) p.0 in
     let r = and_parts (is_entry e) (list_all (λ (f : Entry). is_entry f) es) p.1 in
-    record { entry = r.0; positive = entry_positive e r.0; above = q.0; rest = and_from _ _ q.1 r.1 }
+    record { entry = r.0; positive = (entry_parts e r.0).positive; above = q.0; rest = and_from _ _ q.1 r.1 }
 
 -- an author below all has no bound
 pub bound_below : (es : List Entry) (a b : ℕ) → b ≤ a → list_all (λ (f : Entry). ltb a f.0) es ≡ true → bound es b ≡ 0
@@ -108,22 +114,3 @@ one_by_bounds (x ∷ xs) (y ∷ ys) hx hy h =
 -- what a vector denotes determines it
 pub one_vector : (xs ys : List Entry) → is_vector xs ≡ true → is_vector ys ≡ true → ((v : Version) → denotes xs v ≡ denotes ys v) → xs ≡ ys
 one_vector xs ys hx hy h = one_by_bounds xs ys hx hy (same_bounds xs ys hx hy h)
-
--- An entry of a vector
-
-pub record EntryParts (e : Entry) : Type 0 where
-  pub word : is_author_word e.0 ≡ true
-  pub word_below : e.0 < 281474976710656
-  pub positive : 0 < e.1
-  pub below : e.1 ≤ most_number
-
-pub entry_parts : (e : Entry) → is_entry e ≡ true → EntryParts e
-entry_parts e h =
-    let a = and_parts (is_author_word e.0) (ltb 0 e.1 && leb e.1 most_number) h in
-    let b = and_parts (ltb 0 e.1) (leb e.1 most_number) a.1 in
-    record { word = a.0; word_below = ltb-true e.0 281474976710656 a.0; positive = ltb-true 0 e.1 b.0; below = leb-true e.1 most_number b.1 }
-
-pub entry_of : (es : List Entry) (i : ℕ) → is_vector es ≡ true → i < length es → EntryParts (get_or es i (0, 0))
-entry_of [] i h l = absurd (omega arith)
-entry_of (e ∷ es) zero h l = entry_parts e (vector_parts e es h).entry
-entry_of (e ∷ es) (suc i) h l = entry_of es i (vector_parts e es h).rest (omega arith)

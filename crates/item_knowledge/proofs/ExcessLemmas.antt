@@ -1,5 +1,5 @@
 -- What exceeds a star, and with the star is a whole vector.
-use Rattle.std.proofs.Common.{◌≡◌, ℕ, zero, suc, ◌<◌, ◌≤◌, Bool, true, false, not, ltb, leb, cond, max, ◌&&◌, ◌||◌, List, [], ◌∷◌, length, get_or, refl, sym, subst, ap, ◌∙◌, inl, inr, arith, Option, None, Some}
+use Rattle.std.proofs.Common.{◌≡◌, ℕ, zero, suc, ◌<◌, ◌≤◌, Bool, true, false, not, ltb, leb, cond, max, ◌||◌, List, [], ◌∷◌, length, get_or, refl, sym, subst, ap, ◌∙◌, inl, inr, arith, Option, None, Some}
 use Rattle.std.specs.List.{list_all}
 use Rattle.std.proofs.lemmas.List.{length-map, get_or-map}
 use Rattle.std.proofs.lemmas.Bool.{and_parts, and_from, lt-ltb, ltb-true, eq-eqb, ne_eqb, cases_Bool, cases_eq, cond_both, false≢true}
@@ -157,11 +157,10 @@ all_before : (P : List Entry → Type 0) (more star : List Entry) (g : Fragment)
 all_before P more star g [] m v here b = refl
 all_before P more star g (h ∷ hs) m v here b =
     let a = and_parts (goes_before g h) (list_all (λ (x : Fragment). goes_before g x) hs) b in
-    let x = and_parts (ltb _ _) (not (same_entries g.entries h.entries) && list_all (λ q. not (lists g.pictures q)) h.pictures) a.0 in
-    let y = and_parts (not (same_entries g.entries h.entries)) (list_all (λ q. not (lists g.pictures q)) h.pictures) x.1 in
+    let b = before_parts g h a.0 in
     let differ = not_same (joined g.entries more) (joined h.entries more) (λ same.
-    (before_parts g h a.0).other (m.apart g.entries h.entries v (groups_parts star h hs m.groups).group.vector here (m.each 0 (omega arith)) same)) in
-    and_from _ _ (and_from _ _ x.0 (and_from _ _ differ y.1)) (all_before P more star g hs (later_ones m) v here a.1)
+    b.other (m.apart g.entries h.entries v (groups_parts star h hs m.groups).group.vector here (m.each 0 (omega arith)) same)) in
+    and_from _ _ (and_from _ _ (lt-ltb _ _ b.order) (and_from _ _ differ b.each)) (all_before P more star g hs (later_ones m) v here a.1)
 
 groups_joined : (P : List Entry → Type 0) (more star : List Entry) (gs : List Fragment) → StayApart P more star gs → are_groups (joined star more) (wholes more gs) ≡ true
 groups_joined P more star [] m = refl

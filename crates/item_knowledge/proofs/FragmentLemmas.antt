@@ -25,6 +25,7 @@ pub record GroupParts (star : List Entry) (g : Fragment) : Type 0 where
   pub rising : rises g.pictures ≡ true
   pub vector : is_vector g.entries ≡ true
   pub above : leq star g.entries ≡ true
+  pub unlike : same_entries star g.entries ≡ false
   pub other : star ≡ g.entries → ⊥
 
 pub group_parts : (star : List Entry) (g : Fragment) → is_group star g ≡ true → GroupParts star g
@@ -34,18 +35,22 @@ group_parts star g h =
     let c = and_parts (list_all (λ p. ltb 0 p) g.pictures) (rises g.pictures) b.1 in
     let d = and_parts (is_vector g.entries) (leq star g.entries && not (same_entries star g.entries)) a.1 in
     let e = and_parts (leq star g.entries) (not (same_entries star g.entries)) d.1 in
+    let unlike = not-true (same_entries star g.entries) e.1 in
     record {
       some = not-true (is_empty g.pictures) b.0;
       positive = c.0;
       rising = c.1;
       vector = d.0;
       above = e.0;
-      other = λ s. false≢true (sym (not-true (same_entries star g.entries) e.1) ∙ (entries_decide star g.entries).1 s);
+      unlike = unlike;
+      other = λ s. false≢true (sym unlike ∙ (entries_decide star g.entries).1 s);
     }
 
 pub record BeforeParts (g h : Fragment) : Type 0 where
   pub order : first g.pictures < first h.pictures
+  pub unlike : not (same_entries g.entries h.entries) ≡ true
   pub other : g.entries ≡ h.entries → ⊥
+  pub each : list_all (λ p. not (lists g.pictures p)) h.pictures ≡ true
   pub apart : (p : ℕ) → lists h.pictures p ≡ true → lists g.pictures p ≡ false
 
 pub before_parts : (g h : Fragment) → goes_before g h ≡ true → BeforeParts g h
@@ -54,7 +59,9 @@ before_parts g h b =
     let y = and_parts (not (same_entries g.entries h.entries)) (list_all (λ p. not (lists g.pictures p)) h.pictures) x.1 in
     record {
       order = ltb-true (first g.pictures) (first h.pictures) x.0;
+      unlike = y.0;
       other = λ s. false≢true (sym (not-true (same_entries g.entries h.entries) y.0) ∙ (entries_decide g.entries h.entries).1 s);
+      each = y.1;
       apart = λ p l. not-true (lists g.pictures p) (listed (λ q. not (lists g.pictures q)) h.pictures p y.1 l);
     }
 

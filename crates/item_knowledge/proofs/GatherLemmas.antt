@@ -1,5 +1,5 @@
 -- Groups gathered from a table are in normal form, and have the vectors of the table.
-use Rattle.std.proofs.Common.{◌≡◌, ℕ, ◌<◌, Bool, true, false, ltb, eqb, cond, ◌&&◌, List, [], ◌∷◌, refl, sym, subst, ap, ◌∙◌, inl, inr, arith}
+use Rattle.std.proofs.Common.{◌≡◌, ℕ, Bool, true, false, ltb, eqb, cond, ◌&&◌, List, [], ◌∷◌, refl, sym, subst, ap, ◌∙◌, inl, inr, arith}
 use Rattle.std.specs.List.{list_all}
 use Rattle.std.proofs.lemmas.Bool.{and_parts, and_from, ltb-true, eq-eqb, ne_eqb, cases_Bool, cases_eq}
 use Rattle.item_knowledge.specs.Tables.{keys_pass, in_order, at}
@@ -35,7 +35,6 @@ new_rows p v (r ∷ rs) gs b h =
 
 pub record ReadyParts (star : List Entry) (f : ℕ × ℕ → List Entry) (r : ℕ × (ℕ × ℕ)) (rs : List (ℕ × (ℕ × ℕ))) (gs : List Fragment) : Type 0 where
   pub above : keys_pass (λ q. ltb r.0 q) rs ≡ true
-  pub positive : 0 < r.0
   pub new : all_below r.0 gs ≡ true
   pub next : Ready star f rs (add_unless star r.0 (f r.1) gs)
 
@@ -48,7 +47,6 @@ ready_parts star f r rs gs h =
     let w = and_parts (is_vector (f r.1)) (leq star (f r.1)) v.0 in
     record {
       above = o.0;
-      positive = ltb-true 0 r.0 z.0;
       new = n.0;
       next = elim (cases_Bool (same_entries star (f r.1))) [
         | inl same ↦ subst (Ready star f rs) (sym (unless_same star r.0 (f r.1) gs same)) (record { groups = h.groups; order = o.1; positive = z.1; vectors = v.1; new = n.1 })

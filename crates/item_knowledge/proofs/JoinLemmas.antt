@@ -1,11 +1,11 @@
 -- The join of two vectors.
-use Rattle.std.proofs.Common.{◌≡◌, ℕ, ◌<◌, ◌≤◌, ◌+◌, ◌-◌, Bool, true, leb, max, ◌&&◌, ◌||◌, List, [], ◌∷◌, ◌++◌, length, get_or, drop, length-drop, refl, sym, subst, ap, ◌∙◌, inl, inr, arith, append-nil}
+use Rattle.std.proofs.Common.{◌≡◌, ℕ, ◌<◌, ◌≤◌, ◌+◌, Bool, true, leb, max, ◌&&◌, ◌||◌, List, [], ◌∷◌, ◌++◌, length, get_or, drop, refl, sym, subst, ap, ◌∙◌, inl, inr, arith, append-nil, Option, None, Some, IfSome}
 use Rattle.std.specs.List.{list_all}
-use Rattle.std.proofs.lemmas.Bool.{and_parts, and_from, lt-ltb, le-ltb, le-leb, eq-eqb, ne_eqb, cases_eq, cases_lt}
-use Rattle.std.proofs.lemmas.List.{drop_all}
+use Rattle.std.specs.Option.{is_some}
+use Rattle.std.proofs.lemmas.Bool.{and_parts, and_from, lt-ltb, le-ltb, le-leb, eq-eqb, ne_eqb, cases_eq}
 use Rattle.std.proofs.lemmas.Bool.Decides.{nat_tests}
 use Rattle.std.proofs.Math.Nat.{max-zero, zero-max}
-use Rattle.photo_version.specs.Author.{author_word}
+use Rattle.photo_version.specs.Author.{Author, author_word}
 use Rattle.photo_version.specs.Version.{Version}
 use Rattle.item_knowledge.specs.Tables.{in_order}
 use Rattle.item_knowledge.specs.Entries.{Entry, denotes, is_entry, most_number, is_vector, bound, leq, joined}
@@ -13,10 +13,10 @@ use Rattle.item_knowledge.specs.declared.join.Merging.{Merging}
 use Rattle.item_knowledge.specs.Excess.{exceeding, IsLent}
 use Rattle.item_knowledge.specs.Merging.{left_of}
 use Rattle.item_knowledge.specs.Rows.{pairs, flat}
-use Rattle.item_knowledge.proofs.TableLemmas.{merge_at, merge_order, merge_all}
+use Rattle.item_knowledge.proofs.TableLemmas.{put_length, merge_at, merge_order, merge_all}
 use Rattle.item_knowledge.proofs.EntryLemmas.{entry_parts, vector_parts, bound_below, denotes-bound, one_by_bounds}
 use Rattle.item_knowledge.proofs.FragmentLemmas.{leq_at}
-use Rattle.item_knowledge.proofs.MergeLemmas.{drop_next, all_at}
+use Rattle.item_knowledge.proofs.MergeLemmas.{drop_next}
 use Rattle.item_knowledge.proofs.RowLemmas.{joined_more}
 
 abbrev all_entries : List Entry → Bool
@@ -27,6 +27,11 @@ joined_at xs ys a h g = merge_at (λ n. n) (λ n m. max n m) (λ m. m) 0 0 (λ n
 
 pub joined_bound : (xs ys : List Entry) (a : ℕ) → is_vector xs ≡ true → is_vector ys ≡ true → bound (joined xs ys) a ≡ max (bound xs a) (bound ys a)
 joined_bound xs ys a h g = joined_at xs ys a (and_parts (in_order xs) (all_entries xs) h).0 (and_parts (in_order ys) (all_entries ys) g).0
+
+pub joined_length : (xs ys : List Entry) → length (joined xs ys) ≤ length xs + length ys
+joined_length [] [] = omega arith
+joined_length [] (y ∷ ys) = let rest = joined_length [] ys in omega arith
+joined_length (x ∷ xs) ys = let rest = joined_length xs ys in let one = put_length (λ n. n) (λ n m. max n m) x (joined xs ys) in omega arith
 
 -- the greater bound of two entries of an author
 greater_entry : (x t : Entry) → is_entry x ≡ true → is_entry t ≡ true → is_entry (x.0, max x.1 t.1) ≡ true
@@ -115,23 +120,14 @@ vector_order es h = (and_parts (in_order es) (all_entries es) h).0
 pub lent_vector : (row star : List ℕ) → IsLent row star → is_vector (joined (pairs row) (pairs star)) ≡ true
 lent_vector row star h = joined_vector (pairs row) (pairs star) h.vector h.star
 
-pub entry_there : (es : List Entry) (i : ℕ) → is_vector es ≡ true → i < length es → is_entry (get_or es i (0, 0)) ≡ true
-entry_there es i h l = all_at (λ (e : Entry). is_entry e) es i (0, 0) (and_parts (in_order es) (all_entries es) h).1 l
+-- what comes of entries from a place on is the entry there
+pub record IsNext (es rest : List Entry) (i : ℕ) (found : Option (Author × ℕ)) : Type 0 where
+  pub some : is_some found ≡ true
+  pub is : IfSome found (λ e. (author_word e.0, e.1) ≡ get_or es i (0, 0))
+  pub rest_is : rest ≡ drop (i + 1) es
 
--- where an entry comes next, it stands at this place
-pub came_to : (es now rest : List Entry) (i : ℕ) (e : Entry) → now ≡ e ∷ rest → now ≡ drop i es → (e ≡ get_or es i (0, 0)) × (rest ≡ drop (i + 1) es)
-came_to es now rest i e step is = elim (cases_lt i (length es)) [
-  | inl there ↦ both e (get_or es i (0, 0)) rest (drop (i + 1) es) (sym step ∙ is ∙ drop_next es i (0, 0) there)
-  | inr over ↦ absurd (some e rest (sym step ∙ is ∙ drop_all i es over))
-]
-  where
-    both : (a b : Entry) (xs ys : List Entry) → a ∷ xs ≡ b ∷ ys → (a ≡ b) × (xs ≡ ys)
-    both a b xs ys s = (cc, cc)
-
-    some : (a : Entry) (xs : List Entry) → a ∷ xs ≡ [] → ⊥
-    some a xs s = cc
-
-pub not_over : (es now : List Entry) (i : ℕ) → now ≡ [] → now ≡ drop i es → length es ≤ i
-not_over es now i none is =
-    let long : 0 ≡ length es - i = ap (length {A = Entry}) (sym none ∙ is) ∙ length-drop i es in
-    omega (arith, long)
+pub comes_next : (es now rest : List Entry) (i : ℕ) (found : Option (Author × ℕ)) → now ≡ drop i es → i < length es → IfSome found (λ e. now ≡ (author_word e.0, e.1) ∷ rest) → (found ≡ None → now ≡ []) → IsNext es rest i found
+comes_next es now rest i None is l next none = absurd (nothing (get_or es i (0, 0)) (drop (i + 1) es) (sym (none refl) ∙ is ∙ drop_next es i (0, 0) l)) where
+  nothing : (x : Entry) (xs : List Entry) → [] ≡ x ∷ xs → ⊥
+  nothing x xs e = cc
+comes_next es now rest i (Some e) is l next none = let step = sym next ∙ is ∙ drop_next es i (0, 0) l in record { some = refl; is = cc; rest_is = cc }

@@ -10,7 +10,11 @@ use Rattle.photo_version.specs.Vector.{Bound}
 use Rattle.item_knowledge.specs.Tables.{at}
 use Rattle.item_knowledge.specs.Entries.{Entry, denotes, denotes_one}
 use Rattle.item_knowledge.specs.Fragments.{Fragment, knows, reaches}
-use Rattle.item_knowledge.proofs.TableRowLemmas.{got_drop}
+use Rattle.std.proofs.lemmas.Option.{slice_get_within, get_or_from_slice_get}
+use Rattle.item_knowledge.proofs.MergeLemmas.{drop_next}
+
+got_drop : {X : Type 0} (xs : List X) (i : ℕ) (x : X) → slice_get xs i ≡ Some x → drop i xs ≡ x ∷ drop (i + 1) xs
+got_drop xs i x h = drop_next xs i x (slice_get_within xs i x h) ∙ ap (λ y. y ∷ drop (i + 1) xs) (get_or_from_slice_get xs i x x h)
 
 -- with a version all earlier ones of its author are denoted
 

@@ -105,19 +105,6 @@ wholes_none (f ∷ fs) h =
 pub plain_shown : (rows : List (List ℕ)) → AreRows rows → list_all (λ (f : Fragment). is_vector f.entries) (fragments_of rows) ≡ true → shown [] rows ≡ rows
 plain_shown rows are h = ap rows_of (wholes_none (fragments_of rows) h) ∙ are
 
-pub plain_excess : (star : List ℕ) (rows : List (List ℕ)) → star ≡ [] → AreRows rows → entries_at (fragments_of rows) 0 ≡ [] → list_all (λ (f : Fragment). is_vector f.entries) (fragments_of rows) ≡ true → IsExcess star rows
-plain_excess star rows none are first h = subst (λ s. IsExcess s rows) (sym none) (record {
-  row = refl;
-  vector = refl;
-  are_rows = are;
-  first = first;
-  vectors = λ k. elim (cases_lt k (length (fragments_of rows))) [
-    | inl there ↦ all_at (λ (f : Fragment). is_vector f.entries) (fragments_of rows) k nothing h there
-    | inr past ↦ ap (λ (f : Fragment). is_vector f.entries) (get_or_past (fragments_of rows) k nothing past)
-  ];
-  exceeds = λ k a z. z;
-})
-
 -- A star that rises by one entry
 
 level_at : (fs : List Fragment) (k a b : ℕ) → are_level fs a b ≡ true → k < length fs → bound (entries_at fs k) a ≤ b

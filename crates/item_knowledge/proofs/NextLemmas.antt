@@ -1,9 +1,9 @@
 -- An author's next version, raised in place.
-use Rattle.std.proofs.Common.{◌≡◌, ℕ, ◌+◌, ◌-◌, ◌<◌, ◌≤◌, true, ltb, max, ◌&&◌, ◌||◌, List, [], ◌∷◌, refl, sym, subst, ◌∙◌, inl, inr, arith}
+use Rattle.std.proofs.Common.{◌≡◌, ℕ, ◌+◌, ◌<◌, ◌≤◌, true, ltb, max, ◌&&◌, ◌||◌, List, [], ◌∷◌, refl, sym, subst, ap, ◌∙◌, inl, inr, arith}
 use Rattle.std.proofs.lemmas.Bool.{and_from, lt-ltb, ltb-true, le-leb, cases_lt, false≢true, or_left, or_right}
 use Rattle.photo_version.specs.Author.{Author, author_word, is_author_word}
 use Rattle.photo_version.specs.Version.{Version, version}
-use Rattle.item_knowledge.specs.Entries.{Entry, denotes, is_entry, most_number, is_vector, bound}
+use Rattle.item_knowledge.specs.Entries.{Entry, denotes, most_number, is_vector, bound}
 use Rattle.item_knowledge.specs.Fragments.{Fragment, is_empty, first, lists, reaches, knows, are_groups, is_normal, entries_at}
 use Rattle.item_knowledge.specs.Gathering.{vector_of}
 use Rattle.item_knowledge.specs.Kept.{IsKept, star_bound}
@@ -28,7 +28,7 @@ pub reached : (f : Fragment) (fs : List Fragment) (p : ℕ) (v : Version) → re
 reached f fs p v here denoted = rw (here, denoted) refl
 
 -- no picture above 0 has a version of the author above b
-abbrev Within : List Fragment → Author → ℕ → Type 0
+abbrev pub Within : List Fragment → Author → ℕ → Type 0
 Within fs a b = (p n : ℕ) → 0 < p → knows fs p (version a n) ≡ true → n ≤ b
 
 level_one : (f : Fragment) (fs : List Fragment) (p : ℕ) (a : Author) (b : ℕ) → is_vector f.entries ≡ true → 0 < p → reaches f p ≡ true → Within (f ∷ fs) a b → bound f.entries (author_word a) ≤ b
@@ -50,27 +50,12 @@ level_groups star (g ∷ gs) a b groups each =
     let reach : reaches g p ≡ true = or_right (is_empty g.pictures) (lists g.pictures p) here in
     and_from _ _ (le-leb (bound g.entries (author_word a)) b (level_one g gs p a b parts.group.vector above reach each)) (level_groups star gs a b parts.rest (within_rest g gs a b each))
 
-pub level_known : (fs : List Fragment) (a : Author) (b : ℕ) → is_normal fs ≡ true → Within fs a b → are_level fs (author_word a) b ≡ true
+level_known : (fs : List Fragment) (a : Author) (b : ℕ) → is_normal fs ≡ true → Within fs a b → are_level fs (author_word a) b ≡ true
 level_known [] a b normal each = absurd (false≢true normal)
 level_known (s ∷ gs) a b normal each =
     let parts = normal_parts s gs normal in
     let here : reaches s 1 ≡ true = or_left (is_empty s.pictures) (lists s.pictures 1) parts.star in
     and_from _ _ (le-leb (bound s.entries (author_word a)) b (level_one s gs 1 a b parts.vector (omega arith) here each)) (level_groups s.entries gs a b parts.groups (within_rest s gs a b each))
-
--- the same of a knowledge that is kept
-pub kept_level : (rows : List (List ℕ)) (xs : List (ℕ × ℕ)) (fs : List Fragment) (w : Version) → IsKept rows xs → fragments_of rows ≡ fs → w.number ≡ star_bound fs w.author + 1 → Within fs w.author (star_bound fs w.author) → are_level fs (author_word w.author) (w.number - 1) ≡ true
-kept_level rows xs fs w h same next each =
-    let before : star_bound fs w.author ≡ w.number - 1 = omega arith in
-    subst (λ b. are_level fs (author_word w.author) b ≡ true) before
-    (level_known fs w.author (star_bound fs w.author) (subst (λ gs. is_normal gs ≡ true) same h.normal) each)
-
--- what a knowledge and an author's next version have
-record IsOwn (w : Version) (rows : List (List ℕ)) (xs : List (ℕ × ℕ)) : Type 0 where
-  kept : IsKept rows xs
-  entry : is_entry (author_word w.author, w.number) ≡ true
-  some : 0 < star_bound (fragments_of rows) w.author
-  next : w.number ≡ star_bound (fragments_of rows) w.author + 1
-  level : are_level (fragments_of rows) (author_word w.author) (w.number - 1) ≡ true
 
 -- what a knowledge is that learned it
 pub record IsOwned (w : Version) (fs : List Fragment) (xs : List (ℕ × ℕ)) (out : List (List ℕ)) : Type 0 where
@@ -84,42 +69,24 @@ next_joined w before fs gs new ys known normal next is none j = record {
   learned = λ p v z. j.pairs p v z ∙ ((λ i. knows (known i) p v || denotes (vector_of (is i) (none i) p) v) ∙ next_known fs w p v normal z next);
 }
 
-own_waiting : (w : Version) (rows : List (List ℕ)) (xs : List (ℕ × ℕ)) → IsOwn w rows xs → IsWaiting (author_word w.author, w.number) (fragments_of rows)
-own_waiting w rows xs h =
-    let next : w.number ≡ bound (entries_at (fragments_of rows) 0) (author_word w.author) + 1 = h.next in
-    let before : w.number - 1 ≡ bound (entries_at (fragments_of rows) 0) (author_word w.author) = omega arith in
-    record {
-      normal = h.kept.normal;
-      entry = h.entry;
-      level = subst (λ b. are_level (fragments_of rows) (author_word w.author) b ≡ true) before h.level;
-      some = h.some;
-      most = omega arith;
-    }
-
-owned_by : (w : Version) (rows : List (List ℕ)) (xs : List (ℕ × ℕ)) (out : List (List ℕ)) → IsOwn w rows xs → out ≡ rows_of (all_raised (author_word w.author, w.number) (fragments_of rows)) → IsOwned w (fragments_of rows) xs out
-owned_by w rows xs out h is =
-    let fs = fragments_of rows in
-    let e : Entry = (author_word w.author, w.number) in
-    let made = raised_kept e rows xs out h.kept (own_waiting w rows xs h) is in
-    record {
-      kept = made.kept;
-      next = next_joined w fs fs (star_of_one e) (fragments_of out) [] refl h.kept.normal h.next refl refl (joins rows xs fs (star_of_one e) (fragments_of out) [] xs h.kept refl made.union);
-    }
-
 -- the bound may be raised, and then the version is known
-pub record Owns (w : Version) (rows : List (List ℕ)) (xs : List (ℕ × ℕ)) (fs : List Fragment) (e : Entry) : Type 0 where
-  pub waiting : IsWaiting e (fragments_of rows)
-  pub owned : (out : List (List ℕ)) → out ≡ rows_of (all_raised e (fragments_of rows)) → IsOwned w fs xs out
+module _ (w : Version) (rows : List (List ℕ)) (xs : List (ℕ × ℕ)) (fs : List Fragment) (a n : ℕ) (h : IsKept rows xs) (same : fragments_of rows ≡ fs) (word : a ≡ author_word w.author) (number : n ≡ w.number) (author : is_author_word a ≡ true) (above : 0 < n) (fits : n ≤ most_number)
+    (some : 0 < star_bound fs w.author) (next : w.number ≡ star_bound fs w.author + 1) (level : Within fs w.author (star_bound fs w.author)) where
+  normal : is_normal fs ≡ true
+  normal = subst (λ gs. is_normal gs ≡ true) same h.normal
 
-pub owns : (w : Version) (rows : List (List ℕ)) (xs : List (ℕ × ℕ)) (fs : List Fragment) (a n : ℕ) → IsKept rows xs → fragments_of rows ≡ fs → a ≡ author_word w.author → n ≡ w.number → is_author_word a ≡ true → 0 < n → n ≤ most_number → 0 < star_bound fs w.author → w.number ≡ star_bound fs w.author + 1 → are_level fs (author_word w.author) (w.number - 1) ≡ true → Owns w rows xs fs (a, n)
-owns w rows xs fs a n h same word number author above fits some next level =
-    subst (Owns w rows xs fs) (λ j. (sym word j, sym number j)) (subst (λ gs. Owns w rows xs gs (author_word w.author, w.number)) same (record { waiting = own_waiting w rows xs own; owned = λ out is. owned_by w rows xs out own is }))
-  where
-    own : IsOwn w rows xs
-    own = record {
-      kept = h;
-      entry = subst (λ m. is_entry (author_word w.author, m) ≡ true) number (subst (λ b. is_entry (b, n) ≡ true) word (and_from _ _ author (and_from _ _ (lt-ltb 0 n above) (le-leb n most_number fits))));
-      some = subst (λ gs. 0 < star_bound gs w.author) (sym same) some;
-      next = subst (λ gs. w.number ≡ star_bound gs w.author + 1) (sym same) next;
-      level = subst (λ gs. are_level gs (author_word w.author) (w.number - 1) ≡ true) (sym same) level;
-    }
+  pub own_waiting : IsWaiting (a, n) (fragments_of rows)
+  own_waiting =
+      let here : bound (entries_at fs 0) a ≡ star_bound fs w.author = ap (bound (entries_at fs 0)) word in
+      subst (IsWaiting (a, n)) (sym same) (record {
+        normal = normal;
+        entry = and_from _ _ author (and_from _ _ (lt-ltb 0 n above) (le-leb n most_number fits));
+        level = subst (λ b. are_level fs b (bound (entries_at fs 0) b) ≡ true) (sym word) (level_known fs w.author (star_bound fs w.author) normal level);
+        some = omega arith;
+        most = omega arith;
+      })
+
+  pub owned : (out : List (List ℕ)) → out ≡ rows_of (all_raised (a, n) (fragments_of rows)) → IsOwned w fs xs out
+  owned out is =
+      let made = raised_kept (a, n) rows xs out h own_waiting is in
+      record { kept = made.kept; next = next_joined w fs fs (star_of_one (a, n)) (fragments_of out) [] refl normal next (λ i. star_of_one (word i, number i)) refl (joins rows xs fs (star_of_one (a, n)) (fragments_of out) [] xs h same made.union) }

@@ -1,9 +1,8 @@
 -- The place of the group with a vector, as groups grow.
 use Rattle.std.proofs.Common.{◌≡◌, ℕ, zero, suc, ◌+◌, ◌*◌, ◌<◌, Bool, true, false, cond, List, [], ◌∷◌, ◌++◌, length, get_or, set, slice_set, refl, sym, subst, ap, ◌∙◌, inl, inr, arith, Option, None, Some, length-append, length-set, append_assoc}
 use Rattle.std.proofs.Math.ListN.{get_or-append}
-use Rattle.std.proofs.Math.Seq.{get_or-append_seam}
-use Rattle.std.proofs.lemmas.List.{get_or-map, length-map, map-append}
-use Rattle.std.proofs.lemmas.Bool.{cases_Bool, cases_lt, false≢true}
+use Rattle.std.proofs.lemmas.List.{get_or-map, get_or_default, length-map, map-append}
+use Rattle.std.proofs.lemmas.Bool.{cases_Bool, false≢true}
 use Rattle.item_knowledge.specs.Entries.{Entry, same_entries}
 use Rattle.item_knowledge.specs.Fragments.{Fragment, nothing}
 use Rattle.item_knowledge.specs.Gathering.{add, place, after}
@@ -12,6 +11,7 @@ use Rattle.item_knowledge.specs.Places.{bucket, is_new, vectors_at, IsPlaced, Is
 use Rattle.item_knowledge.specs.Rows.{pairs, flat, IsRow, grouped, rows_of}
 use Rattle.item_knowledge.proofs.ChainLemmas.{pushed}
 use Rattle.item_knowledge.proofs.FragmentLemmas.{entries_decide}
+use Rattle.item_knowledge.proofs.MergeLemmas.{snoc_each}
 use Rattle.item_knowledge.proofs.AddLemmas.{with_one, add_here, add_later}
 
 pub place_here : (g : Fragment) (gs : List Fragment) (v : List Entry) → same_entries g.entries v ≡ true → place (g ∷ gs) v ≡ Some 0
@@ -149,14 +149,9 @@ grown_at (ps ∷ pictures) (ws ∷ rows) (suc k) p new l less is = ap (λ gs. re
 
 pub grown_is : (pictures rows : List (List ℕ)) (row : List ℕ) (k p : ℕ) (old new : List ℕ) → length pictures ≡ length rows → k < length rows → place (grouped pictures rows) (pairs row) ≡ Some k → old ≡ get_or pictures k old → new ≡ old ++ p ∷ [] → grouped (slice_set pictures k new) rows ≡ add p (pairs row) (grouped pictures rows)
 grown_is pictures rows row k p old new l less here at is =
-    let was : old ≡ get_or pictures k [] = at ∙ same_default pictures k old [] (omega arith) in
+    let was : old ≡ get_or pictures k [] = at ∙ get_or_default pictures k old [] (omega arith) in
     grown_at pictures rows k p new l less (is ∙ ap (λ qs. qs ++ p ∷ []) was)
     ∙ add_found p (pairs row) (grouped pictures rows) k nothing here
-  where
-    same_default : (xs : List (List ℕ)) (i : ℕ) (d e : List ℕ) → i < length xs → get_or xs i d ≡ get_or xs i e
-    same_default [] i d e m = absurd (omega arith)
-    same_default (x ∷ xs) zero d e m = refl
-    same_default (x ∷ xs) (suc i) d e m = same_default xs i d e (omega arith)
 
 -- one group more
 pub grouped_more : (pictures rows : List (List ℕ)) (ps row : List ℕ) → length pictures ≡ length rows → grouped (pictures ++ ps ∷ []) (rows ++ row ∷ []) ≡ grouped pictures rows ++ record { pictures = ps; entries = pairs row } ∷ []
@@ -172,13 +167,7 @@ grouped_length (ps ∷ pictures) [] l = refl
 grouped_length (ps ∷ pictures) (ws ∷ rows) l = ap suc (grouped_length pictures rows (omega arith))
 
 pub rows_more : (rows new : List (List ℕ)) (row : List ℕ) → are_rows rows → IsRow row → new ≡ rows ++ row ∷ [] → are_rows new
-rows_more rows new row whole r is = subst are_rows (sym is) (λ k m. elim (cases_lt k (length rows)) [
-  | inl less ↦ subst IsRow (sym (get_or-append rows (row ∷ []) [] k less)) (whole k less)
-  | inr more ↦
-      let many = length-append rows (row ∷ []) in
-      let end : k ≡ length rows = omega arith in
-      subst IsRow (sym (ap (λ j. get_or (rows ++ row ∷ []) j []) end ∙ get_or-append_seam rows row [] [])) r
-])
+rows_more rows new row whole r is = subst are_rows (sym is) (snoc_each (λ _ ws. IsRow ws) rows row [] whole r)
 
 pub counted_more : (pictures rows pictures_new rows_new : List (List ℕ)) (ps row : List ℕ) → length pictures ≡ length rows → pictures_new ≡ pictures ++ ps ∷ [] → rows_new ≡ rows ++ row ∷ [] → length pictures_new ≡ length rows_new
 counted_more pictures rows pictures_new rows_new ps row l is also =
@@ -202,12 +191,6 @@ pub vectors_grown : (rows more : List (List ℕ)) (numbers : List ℕ) → ((k :
 vectors_grown rows more [] h = refl
 vectors_grown rows more (n ∷ numbers) h = λ i. get_or-append rows more [] (2 * n + 1) (h 0 (omega arith)) i ∷ vectors_grown rows more numbers (λ k l. h (suc k) (omega (arith, l))) i
 
-inside_push : (rows : List (List ℕ)) (numbers : List ℕ) (n : ℕ) → ((k : ℕ) → k < length numbers → 2 * get_or numbers k 0 + 1 < length rows) → 2 * n + 1 < length rows → (k : ℕ) → k < length (numbers ++ n ∷ []) → 2 * get_or (numbers ++ n ∷ []) k 0 + 1 < length rows
-inside_push rows [] n h z zero l = z
-inside_push rows [] n h z (suc k) l = absurd (omega (arith, l))
-inside_push rows (m ∷ numbers) n h z zero l = h 0 (omega arith)
-inside_push rows (m ∷ numbers) n h z (suc k) l = inside_push rows numbers n (λ j b. h (suc j) (omega (arith, b))) z k (omega (arith, l))
-
 pub none_placed : (places : Places) (rows pictures : List (List ℕ)) → ((rs : List (List ℕ)) → IsFound places rs) → places.numbers.items ≡ [] → rows ≡ [] → pictures ≡ [] → Placed places rows pictures
 none_placed places rows pictures found n r p =
     let a = ap (length {A = List ℕ}) r in
@@ -228,7 +211,7 @@ placed_more places new rows b n can seed before numbers heads =
           (pushed bucket_of (vectors_at rows places.numbers.items) row places.heads.items places.before.items can.found.placed (can.found.placed.below row) new.heads.items new.before.items (vectors_at rows new.numbers.items) can.new
           (before ∙ ap (λ c. places.before.items ++ get_or places.heads.items c 0 ∷ []) can.in_bucket) (ap (vectors_at rows) numbers ∙ vectors_push rows places.numbers.items n)
           (heads ∙ ap (λ c. set places.heads.items c (length new.before.items)) can.in_bucket));
-      there = subst (λ ns. (k : ℕ) → k < length ns → 2 * get_or ns k 0 + 1 < length rows) (sym numbers) (inside_push rows places.numbers.items n can.found.there can.there);
+      there = subst (λ ns. (k : ℕ) → k < length ns → 2 * get_or ns k 0 + 1 < length rows) (sym numbers) (snoc_each (λ _ m. 2 * m + 1 < length rows) places.numbers.items n 0 can.found.there can.there);
     }
 
 -- the row of a group that comes behind the others

@@ -56,16 +56,6 @@ module _ (p : ℕ) (xs : List (ℕ × ℕ)) (low high i : ℕ) (o : in_order xs 
   pub between_below : p ≤ (get_or xs i (0, 0)).0 → IsBetween p xs low i
   between_below le = record { below = h.below; from = λ k m n. let up = no_fall xs o i k (0, 0) m n in omega arith }
 
--- before a place stands nothing of the number
-pub at_place : (p : ℕ) (xs : List (ℕ × ℕ)) (i : ℕ) → IsBetween p xs i i → at 0 (drop i xs) p ≡ at 0 xs p
-at_place p xs i h = go xs i h.below where
-  go : (ys : List (ℕ × ℕ)) (j : ℕ) → ((k : ℕ) → k < j → (get_or ys k (0, 0)).0 < p) → at 0 (drop j ys) p ≡ at 0 ys p
-  go ys zero f = refl
-  go [] (suc j) f = refl
-  go (y ∷ ys) (suc j) f =
-      let less = f 0 (omega arith) in
-      go ys j (λ k l. f (suc k) (omega arith)) ∙ sym (rw (ne_eqb y.0 p (λ s. absurd (omega arith))) refl)
-
 pub stands_at : (p : ℕ) (xs : List (ℕ × ℕ)) (i : ℕ) → in_order xs ≡ true → IsBetween p xs i i → 0 < at 0 xs p → IsAt xs i p
 stands_at p xs i o h some = elim (cases_lt i (length xs)) [
   | inl there ↦ elim (cases_eq (get_or xs i (0, 0)).0 p) [

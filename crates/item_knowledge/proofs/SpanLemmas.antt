@@ -1,19 +1,18 @@
 -- Runs of the left's fragments.
-use Rattle.std.proofs.Common.{◌≡◌, ℕ, zero, suc, ◌+◌, ◌-◌, ◌*◌, ◌<◌, ◌≤◌, List, [], ◌∷◌, ◌++◌, length, get_or, take, drop, refl, sym, ap, ◌∙◌, arith, append-nil}
+use Rattle.std.proofs.Common.{◌≡◌, ℕ, ◌+◌, ◌-◌, ◌*◌, ◌<◌, ◌≤◌, List, [], ◌∷◌, ◌++◌, length, get_or, take, drop, ap, ◌∙◌, arith, append-nil}
+use Rattle.std.proofs.lemmas.List.{length-drop, get_or-drop, take_more}
 use Rattle.fragment_arena.specs.Arena.{run}
 
 -- A run with one more row
 
 pub run_snoc : (rows : List (List ℕ)) (from to : ℕ) → from ≤ to → to < length rows → run rows from (to + 1) ≡ run rows from to ++ get_or rows to [] ∷ []
-run_snoc [] from to le lt = absurd (omega (arith, lt))
-run_snoc (x ∷ xs) zero zero le lt = refl
-run_snoc (x ∷ xs) zero (suc t) le lt =
-    let all : suc t + 1 - 0 ≡ suc (t + 1 - 0) = omega arith in let rest : suc t - 0 ≡ suc (t - 0) = omega arith in
-    ap (λ k. take k (x ∷ xs)) all ∙ ap (λ ys. x ∷ ys) (run_snoc xs 0 t (omega arith) (omega (arith, lt))) ∙ ap (λ k. take k (x ∷ xs) ++ get_or xs t [] ∷ []) (sym rest)
-run_snoc (x ∷ xs) (suc f) zero le lt = absurd (omega (arith, le))
-run_snoc (x ∷ xs) (suc f) (suc t) le lt =
-    let more : suc t + 1 - suc f ≡ t + 1 - f = omega arith in let same : suc t - suc f ≡ t - f = omega arith in
-    ap (λ k. take k (drop f xs)) more ∙ run_snoc xs f t (omega (arith, le)) (omega (arith, lt)) ∙ ap (λ k. take k (drop f xs) ++ get_or xs t [] ∷ []) (sym same)
+run_snoc rows from to le lt =
+    let long = length-drop from rows in
+    let next : to + 1 - from ≡ (to - from) + 1 = omega arith in
+    let back : from + (to - from) ≡ to = omega arith in
+    ap (λ k. take k (drop from rows)) next
+    ∙ take_more (drop from rows) (to - from) [] (omega (arith, long, lt, le))
+    ∙ ap (λ ws. run rows from to ++ ws ∷ []) (get_or-drop from rows (to - from) [] ∙ ap (λ k. get_or rows k []) back)
 
 pub run_empty : (rows : List (List ℕ)) (to : ℕ) → run rows to to ≡ []
 run_empty rows to = let none : to - to ≡ 0 = omega arith in ap (λ k. take k (drop to rows)) none

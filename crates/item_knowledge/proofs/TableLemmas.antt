@@ -1,5 +1,5 @@
 -- The merge of two lists in order.
-use Rattle.std.proofs.Common.{◌≡◌, ℕ, ◌<◌, ◌≤◌, Bool, true, ltb, eqb, cond, List, [], ◌∷◌, refl, sym, subst, ap, ◌∙◌, inl, inr, arith}
+use Rattle.std.proofs.Common.{◌≡◌, ℕ, suc, ◌<◌, ◌≤◌, Bool, true, ltb, eqb, cond, List, [], ◌∷◌, length, refl, sym, subst, ap, ◌∙◌, inl, inr, arith}
 use Rattle.std.specs.List.{list_all}
 use Rattle.std.proofs.lemmas.Bool.{and_parts, and_from, lt-ltb, le-ltb, ltb-true, eq-eqb, ne_eqb, cases_eq, cases_order}
 use Rattle.item_knowledge.specs.Tables.{keys_pass, in_order, at, put, each, merge}
@@ -42,6 +42,16 @@ put_more alone both x t ts h = rw (le-ltb x.0 t.0 (omega arith), ne_eqb x.0 t.0 
 put_first : {A C : Type 0} (alone : A → C) (both : A → C → C) (x : ℕ × A) (ts : List (ℕ × C)) → keys_pass (λ k. ltb x.0 k) ts ≡ true → put alone both x ts ≡ (x.0, alone x.1) ∷ ts
 put_first alone both x [] h = refl
 put_first alone both x (t ∷ ts) h = put_less alone both x t ts (ltb-true x.0 t.0 (and_parts (ltb x.0 t.0) (keys_pass (λ k. ltb x.0 k) ts) h).0)
+
+pub put_length : {A C : Type 0} (alone : A → C) (both : A → C → C) (x : ℕ × A) (ts : List (ℕ × C)) → length (put alone both x ts) ≤ suc (length ts)
+put_length alone both x [] = omega arith
+put_length alone both x (t ∷ ts) = elim (cases_order x.0 t.0) [
+  | inl same ↦ rw (put_same alone both x t ts same) (omega arith)
+  | inr side ↦ elim side [
+    | inl less ↦ rw (put_less alone both x t ts less) (omega arith)
+    | inr more ↦ let rest = put_length alone both x ts in rw (put_more alone both x t ts more) (omega arith)
+  ]
+]
 
 -- what holds of all rows of both holds of all of the merge
 

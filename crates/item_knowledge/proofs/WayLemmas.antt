@@ -2,7 +2,7 @@
 use Rattle.std.proofs.Common.{◌≡◌, ℕ, suc, ◌+◌, ◌*◌, ◌<◌, ◌≤◌, true, false, ◌⊎◌, List, [], ◌∷◌, ◌++◌, length, get_or, drop, sym, subst, ap, ◌∙◌, inl, inr, arith, append_assoc, append-nil, length-append}
 use Rattle.std.proofs.Math.ListN.{get_or-append}
 use Rattle.std.proofs.Math.Seq.{get_or-append_seam}
-use Rattle.std.proofs.lemmas.Bool.{cases_Bool, cases_lt}
+use Rattle.std.proofs.lemmas.Bool.{cases_Bool}
 use Rattle.fragment_arena.specs.Arena.{run}
 use Rattle.item_knowledge.specs.Apart.{singles, spread_of, FromLeft, IsListed, IsSpread, Stays}
 use Rattle.item_knowledge.specs.Entries.{Entry, same_entries}
@@ -14,6 +14,7 @@ use Rattle.item_knowledge.specs.Pairing.{left_of}
 use Rattle.item_knowledge.specs.Rows.{pairs, flat, IsRow, fragments_of}
 use Rattle.item_knowledge.proofs.ApartLemmas.{singles_same, singles_other, rows_snoc, numbered_snoc, numbered_length}
 use Rattle.item_knowledge.proofs.FragmentLemmas.{entries_decide}
+use Rattle.item_knowledge.proofs.MergeLemmas.{snoc_each}
 use Rattle.item_knowledge.proofs.OnTheWay.{IsOnTheWay}
 use Rattle.item_knowledge.proofs.PlaceLemmas.{of_one}
 use Rattle.item_knowledge.proofs.RowLemmas.{pairs_flat, flat_row, entries_read, rows_read}
@@ -38,17 +39,8 @@ module _ (joined after : List (ℕ × ℕ)) (x : ℕ × ℕ) (pushed : after ≡
   listed_last = let more = counted in record { place = length joined; there = omega (arith, more); is = ap (λ (y : ℕ × ℕ). y.1) at_last }
 
   pub listed_below : (c : ℕ) → x.1 ≡ c → ((m : ℕ) → m < length joined → (get_or joined m (0, 0)).1 < c) → (m : ℕ) → m < length after → (get_or after m (0, 0)).1 < suc c
-  listed_below c e h m l = elim (cases_lt m (length joined)) [
-    | inl less ↦
-        let same = ap (λ (y : ℕ × ℕ). y.1) (at_before m less) in
-        let below = h m less in
-        omega (arith, same, below)
-    | inr over ↦
-        let more = counted in
-        let end : m ≡ length joined = omega (arith, over, l, more) in
-        let last : (get_or after m (0, 0)).1 ≡ x.1 = ap (λ n. (get_or after n (0, 0)).1) end ∙ ap (λ (y : ℕ × ℕ). y.1) at_last in
-        omega (arith, last, e)
-  ]
+  listed_below c e h = subst (λ ns. (m : ℕ) → m < length ns → (get_or ns m (0, 0)).1 < suc c) (sym pushed)
+      (snoc_each (λ _ y. y.1 < suc c) joined x (0, 0) (λ m l. let below = h m l in omega (arith, below)) (omega (arith, e)))
 
 -- What is written, with one fragment more
 
@@ -64,19 +56,13 @@ spread_more left gs rows new index more joined after p row v h written is_row ve
     record {
       rows_are = written ∙ (λ j. (h.rows_are j ++ (p ∷ []) ∷ []) ++ row_is j ∷ []) ∙ sym (rows_snoc (star_first [] gs) p v);
       index_is = pushed ∙ (λ j. h.index_is j ++ (p, number j) ∷ []) ∙ sym (numbered_snoc 1 gs p v);
-      origins = λ k l. elim (cases_lt k (length gs)) [
-        | inl less ↦ widened k (sym (get_or-append gs (of_one p v ∷ []) nothing k less)) (h.origins k less)
-        | inr over ↦
-            let end : length gs ≡ k = omega (arith, over, l, many) in
-            subst (λ n. IsListed after (suc n) ⊎ FromLeft left (get_or (gs ++ of_one p v ∷ []) n nothing)) end
-            (subst (λ g. IsListed after (suc (length gs)) ⊎ FromLeft left g) (sym (get_or-append_seam gs (of_one p v) [] nothing)) origin)
-      ];
+      origins = snoc_each (λ k g. IsListed after (suc k) ⊎ FromLeft left g) gs (of_one p v) nothing (λ k less. widened k (h.origins k less)) origin;
       there = λ m l. subst (λ n. (get_or after m (0, 0)).1 < suc n) (sym many) (below m l);
     }
   where
-    widened : (k : ℕ) {g g' : Fragment} → g ≡ g' → IsListed joined (suc k) ⊎ FromLeft left g → IsListed after (suc k) ⊎ FromLeft left g'
-    widened k e (inl a) = inl (wider (suc k) a)
-    widened k e (inr b) = inr (subst (FromLeft left) e b)
+    widened : (k : ℕ) {g : Fragment} → IsListed joined (suc k) ⊎ FromLeft left g → IsListed after (suc k) ⊎ FromLeft left g
+    widened k (inl a) = inl (wider (suc k) a)
+    widened k (inr b) = inr b
 
 -- On the way
 

@@ -116,9 +116,23 @@ fn stays(
     b == 0 || adds_nothing(entries(right.rows, b), row, star)
 }
 
+// Writes a run of the left's fragments from one number up to another.
+#[tactic(auto, using(crate::proofs::RowLemmas::rows_read))]
+#[inline(always)]
+fn place_run(left: &Rows, from: usize, to: usize, out: &mut Rows) -> Result<(), AllocError>
+    requires left { AreRows left.now }
+    requires order { from ≤ to }
+    requires there { to ≤ length (fragments_of left.now) }
+    ensures { OnOk result (out.new ≡ out.old ++ run left.now (2 * from) (2 * to)) }
+{
+    // For its fact alone: the rows are fewer than 2 ^ 63.
+    let _count = left.rows();
+    out.place_run(left, 2 * from, 2 * to)?;
+    Ok(())
+}
+
 // The left's fragment `a` comes behind a run of others from one number up to another, all of which are still to be
 // written. Where it doesn't follow the last of them the run is written. Gives where the run of `a` begins.
-#[tactic(auto, using(crate::proofs::RowLemmas::rows_read))]
 fn run_to(
     left: &Rows,
     from: usize,
@@ -129,40 +143,14 @@ fn run_to(
     requires left { AreRows left.now }
     requires order { from ≤ to }
     requires end { to ≤ length (fragments_of left.now) }
-    requires there { a < length (fragments_of left.now) }
     ensures order { IfOk result (λ start. start ≤ a) }
     ensures run { IfOk result (λ start. out.new ++ run left.now (2 * start) (2 * a) ≡ out.old ++ run left.now (2 * from) (2 * to)) }
 {
     if a == to {
         return Ok(from);
     }
-    // For its fact alone: the rows are fewer than 2 ^ 63.
-    let _count = left.rows();
-    out.place_run(left, 2 * from, 2 * to)?;
+    place_run(left, from, to, out)?;
     Ok(a)
-}
-
-// Writes a run of the left's fragments from one number up to another, and behind it a fragment of one picture.
-#[tactic(auto, using(crate::proofs::RowLemmas::rows_read))]
-#[inline(always)]
-fn place_behind(
-    left: &Rows,
-    from: usize,
-    to: usize,
-    picture: u32,
-    row: &[u64],
-    out: &mut Rows,
-) -> Result<(), AllocError>
-    requires left { AreRows left.now }
-    requires order { from ≤ to }
-    requires there { to ≤ length (fragments_of left.now) }
-    ensures { OnOk result (out.new ≡ ((out.old ++ run left.now (2 * from) (2 * to)) ++ (picture ∷ []) ∷ []) ++ row.now ∷ []) }
-{
-    // For its fact alone: the rows are fewer than 2 ^ 63.
-    let _count = left.rows();
-    out.place_run(left, 2 * from, 2 * to)?;
-    out.place_fragment(&[u64::from(picture)], row)?;
-    Ok(())
 }
 
 // Writes the fragments of the pictures behind the star, each by itself, and lists them.
@@ -202,13 +190,14 @@ fn spread(
         if is_nothing(row) {
             continue;
         }
-        place_behind(left.rows, from, to, picture, row, out)?;
+        place_run(left.rows, from, to, out)?;
+        out.place_fragment(&[u64::from(picture)], row)?;
         from = to;
         let number = to_u32(lists.index.len() + 1)?;
         lists.index.push((picture, number))?;
         lists.joined.push((picture, number))?;
     }
-    out.place_run(left.rows, 2 * from, 2 * to)?;
+    place_run(left.rows, from, to, out)?;
     Ok(())
 }
 

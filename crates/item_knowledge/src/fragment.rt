@@ -32,11 +32,11 @@ impl<'a> Model for Fragment<'a> {
 impl<'a> Fragment<'a> {
     ghost use Rattle.std.specs.Prelude.{◌≡◌, ◌<◌, true, length, get_or, IfOk};
     ghost use Rattle.photo_version.specs.Author.{author_word, author_of_word};
-    ghost use Rattle.item_knowledge.specs.Entries.{joined, is_entry, is_vector};
+    ghost use Rattle.item_knowledge.specs.Entries.{joined};
     ghost use Rattle.item_knowledge.specs.Excess.{IsLent};
     ghost use Rattle.item_knowledge.specs.Fragments.{is_empty};
     ghost use Rattle.item_knowledge.specs.Rows.{pairs};
-    ghost use Rattle.item_knowledge.specs.TableRows.{bounds_of};
+    ghost use Rattle.item_knowledge.specs.TableRows.{entries_of};
 
     pub(crate) fn new(pictures: &'a [u64], row: &'a [u64], star: &'a [u64]) -> Fragment<'a>
         requires { IsLent row.now star.now }
@@ -67,9 +67,11 @@ impl<'a> Fragment<'a> {
     pub fn len(&self) -> usize
         ensures { result ≡ length self.now.entries }
     {
+        // For its fact alone: how long the row and the star are.
+        let _lengths = (self.row.len(), self.star.len());
         let mut count: usize = 0;
-        let mut merging = Merging::new();
-        while let Some(_) = merging.next(self.row, self.star) {
+        let mut entries = self.entries();
+        while let Some(_) = entries.next_entry() {
             count += 1;
         }
         count
@@ -95,36 +97,23 @@ impl<'a> Fragment<'a> {
         ensures number { result.1 ≡ (get_or self.now.entries i (0, 0)).1 }
         ensures above_zero { 0 < result.1 }
     {
-        let (word, number) = self.entry_of(i);
-        (Author::of_word(word), number as u32)
-    }
-
-    // The entry at a place, as words.
-    fn entry_of(&self, i: usize) -> (u64, u64)
-        requires { i < length self.now.entries }
-        ensures value { result ≡ get_or self.now.entries i (0, 0) }
-        ensures entry { is_entry result ≡ true }
-    {
-        let mut place: usize = 0;
-        let mut merging = Merging::new();
-        while let Some(entry) = merging.next(self.row, self.star) {
-            if place == i {
-                return entry;
-            }
-            place += 1;
+        let mut entries = self.entries();
+        for place in 0..i {
+            let _before = entries.next_entry();
         }
-        (0, 0)
+        entries.next_entry().unwrap()
     }
 
     /// What is known of each of its pictures.
     pub(crate) fn vector(&self, alloc: Global) -> Result<Vector, AllocError>
-        ensures vector { IfOk result (λ vector. vector ≡ bounds_of self.now.entries) }
-        ensures entries { is_vector self.now.entries ≡ true }
+        ensures { IfOk result (λ vector. entries_of vector ≡ self.now.entries) }
     {
+        // For its fact alone: its entries are a vector.
+        let _star = self.star;
         let mut bounds = Vec::new(alloc);
-        let mut merging = Merging::new();
-        while let Some((word, number)) = merging.next(self.row, self.star) {
-            bounds.push((Author::of_word(word), number as u32))?;
+        let mut entries = self.entries();
+        while let Some(bound) = entries.next_entry() {
+            bounds.push(bound)?;
         }
         Vector::from_entries(alloc, bounds)
     }
@@ -164,9 +153,7 @@ impl<'a> FragmentEntries<'a> {
         ensures above_zero { IfSome result (λ e. 0 < e.1) }
         ensures none { result ≡ None → self.old ≡ [] }
     {
-        let Some((word, number)) = self.merging.next(self.row, self.star) else {
-            return None;
-        };
+        let (word, number) = self.merging.next(self.row, self.star)?;
         Some((Author::of_word(word), number as u32))
     }
 }

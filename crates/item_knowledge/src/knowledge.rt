@@ -2,9 +2,9 @@
 use crate::Fragment;
 use crate::index::IndexEntry;
 use crate::known::has_table;
-use crate::live::{LiveRows, is_level, is_within};
+use crate::live::{LiveRows, is_within};
 use crate::search::{number_at, number_near};
-use crate::table_rows::{told, told_one};
+use crate::table_rows::told;
 use photo_record::PicNo;
 use photo_version::{Vector, Version};
 use std::alloc::{AllocError, Global};
@@ -54,7 +54,7 @@ impl Model for Knowledge {
 }
 
 impl Knowledge {
-    ghost use Rattle.std.specs.Prelude.{◌≡◌, ◌↔◌, ℕ, ◌<◌, ◌≤◌, ◌+◌, ◌||◌, ◌&&◌, ◌==◌, ◌-◌, max, if◌then◌else◌, []};
+    ghost use Rattle.std.specs.Prelude.{◌≡◌, ◌↔◌, ℕ, ◌<◌, ◌≤◌, ◌+◌, ◌||◌, ◌&&◌, ◌==◌, max, if◌then◌else◌, []};
     ghost use Rattle.std.specs.Prelude.{true, false, nat_le, IsTrue, length, get_or, None, IfOk, IfSome, OnOk, OnErr};
     ghost use Rattle.std.specs.Option.{is_some};
     ghost use Rattle.photo_version.specs.Author.{Author, same_author, author_word};
@@ -62,12 +62,11 @@ impl Knowledge {
     ghost use Rattle.photo_version.specs.Vector as vectors;
     ghost use Rattle.item_knowledge.specs.Tables.{in_order, at};
     ghost use Rattle.item_knowledge.specs.Entries.{bound};
-    ghost use Rattle.item_knowledge.specs.Raising.{are_level};
     ghost use Rattle.item_knowledge.specs.Fragments as spec;
     ghost use Rattle.item_knowledge.specs.Rows.{AreRows, fragments_of};
     ghost use Rattle.item_knowledge.specs.Gathering.{IsSide};
     ghost use Rattle.item_knowledge.specs.Kept.{nothing_known, star_bound};
-    ghost use Rattle.item_knowledge.specs.Spare.{IsJoined, HasNext};
+    ghost use Rattle.item_knowledge.specs.Spare.{IsJoined};
     ghost use Rattle.item_knowledge.specs.Staged.{settled, IsStagedUnion};
 
     /// Nothing is known. Its only error is want of memory.
@@ -238,20 +237,6 @@ impl Knowledge {
         Ok(())
     }
 
-    // Learns of every picture an author's next version, where no fragment has more than the star. Takes no memory.
-    fn take_next(&mut self, version: Version)
-        requires first { 0 < star_bound self.old.known version.author }
-        requires next { version.number ≡ star_bound self.old.known version.author + 1 }
-        requires level { are_level self.old.known (author_word version.author) (version.number - 1) ≡ true }
-        ensures next { HasNext version self.old.known self.new.known }
-        ensures staged { self.new.staged ≡ None }
-    {
-        self.staged = Staged::Nothing;
-        let author = version.author().word();
-        let n = u64::from(version.n());
-        self.live.raise(author, n);
-    }
-
     /// Learns of the picture all versions of the vector. Its only error is want of memory, which changes nothing that is
     /// known.
     pub fn learn(&mut self, picture: PicNo, vector: &Vector) -> Result<(), AllocError>
@@ -262,9 +247,8 @@ impl Knowledge {
         ensures refused { OnErr result (self.new.known ≡ self.old.known) }
     {
         self.unstage();
-        let picture = picture.value();
-        let rows = told_one(self.alloc, picture, vector)?;
-        self.take_union(&rows, &[(picture, 1)])?;
+        let table = [(picture, vector.try_clone()?)];
+        self.learn_table(&table)?;
         Ok(())
     }
 
@@ -313,14 +297,9 @@ impl Knowledge {
         ensures staged { self.new.staged ≡ None }
         ensures refused { OnErr result (self.new.known ≡ self.old.known) }
     {
-        let author = version.author().word();
-        let n = u64::from(version.n());
-        if n > 1 && is_level(&self.live, author, n - 1) {
-            self.take_next(version);
-            return Ok(());
-        }
         self.unstage();
-        let rows = LiveRows::of_star(self.alloc, &[author, n])?;
+        let entry = [version.author().word(), u64::from(version.n())];
+        let rows = LiveRows::of_star(self.alloc, &entry)?;
         self.take_union(&rows, &[])?;
         Ok(())
     }
@@ -338,9 +317,10 @@ impl Knowledge {
             ≡ (spec.knows self.old.known p v || versions.same_version version v) }
         ensures staged { self.new.staged ≡ None }
     {
-        // For its fact alone: the index is that of the fragments.
-        let _index = &self.index;
-        self.take_next(version);
+        self.staged = Staged::Nothing;
+        let author = version.author().word();
+        let n = u64::from(version.n());
+        self.live.raise(author, n);
     }
 
     /// A knowledge of the same, with nothing staged.

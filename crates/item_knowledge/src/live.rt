@@ -3,7 +3,6 @@ ghost use Rattle.std.specs.Prelude.{◌≡◌, ℕ, ◌<◌, true, length};
 ghost use Rattle.item_knowledge.specs.Fragments.{entries_at};
 ghost use Rattle.item_knowledge.specs.Gathering.{IsSide};
 ghost use Rattle.item_knowledge.specs.Kept.{is_side_within};
-ghost use Rattle.item_knowledge.specs.Raising as raising;
 ghost use Rattle.item_knowledge.specs.Rows.{AreRows, fragments_of};
 ghost use Rattle.item_knowledge.specs.Tables.{in_order};
 
@@ -14,7 +13,7 @@ use crate::rows::Rows;
 use crate::search::{bound_at, entry_at, entry_count, number_near, place_of};
 use crate::seen::{Seen, seen_of, seen_together};
 use crate::side::Side;
-use crate::union::{entries, union};
+use crate::union::{begin, entries, union};
 use std::alloc::{AllocError, Global};
 use std::marker::Model;
 
@@ -74,8 +73,7 @@ impl LiveRows {
     {
         let star = star.to_vec(alloc)?;
         let mut rows = Rows::new(alloc);
-        rows.reserve(2, 0)?;
-        rows.place_fragment(&[], &[])?;
+        begin(0, 0, &mut rows)?;
         Ok(LiveRows {
             star,
             rows,
@@ -252,20 +250,6 @@ impl LiveRows {
         let seen = self.seen.try_clone(alloc)?;
         Ok(LiveRows { star, rows, seen })
     }
-}
-
-/// Whether no fragment has a version of the author above the bound. Takes no memory.
-pub(crate) fn is_level(rows: &LiveRows, author: u64, bound: u64) -> bool
-    requires rows { AreRows rows.now }
-    requires order { (k : ℕ) → k < length (fragments_of rows.now) → in_order (entries_at (fragments_of rows.now) k) ≡ true }
-    ensures { result ≡ raising.are_level (fragments_of rows.now) author bound }
-{
-    for k in 0..rows.len() {
-        if rows.bound(k, author) > bound {
-            return false;
-        }
-    }
-    true
 }
 
 /// Whether each vector of the one side is at most the other's at the same picture. Takes no memory.

@@ -34,7 +34,7 @@ impl Model for Rows {
 
 impl Rows {
     ghost use Rattle.fragment_arena.specs.Arena.{run};
-    ghost use Rattle.std.specs.Prelude.{◌≡◌, ◌<◌, ◌≤◌, [], ◌∷◌, ◌++◌, length, get_or, set, OnOk, OnErr, IfOk};
+    ghost use Rattle.std.specs.Prelude.{◌≡◌, ◌<◌, ◌≤◌, [], ◌∷◌, ◌++◌, length, get_or, OnOk, OnErr, IfOk};
 
     /// No rows. Takes no memory.
     pub(crate) fn new(alloc: Global) -> Rows
@@ -66,19 +66,18 @@ impl Rows {
         self.seed
     }
 
-    /// One row more, at the end; gives its place. A refusal changes nothing.
-    pub(crate) fn place(&mut self, words: &[u64]) -> Result<usize, AllocError>
-        ensures place { IfOk result (λ place. place ≡ length self.old) }
+    /// One row more, at the end. A refusal changes nothing.
+    pub(crate) fn place(&mut self, words: &[u64]) -> Result<(), AllocError>
         ensures placed { OnOk result (self.new ≡ self.old ++ words.now ∷ []) }
         ensures refused { OnErr result (self.new ≡ self.old) }
     {
-        let row = if self.arena.has_reserved(words.len()) {
+        let _row = if self.arena.has_reserved(words.len()) {
             self.arena.place_reserved(words)
         } else {
             self.arena.place(words)?
         };
         self.words = self.words.saturating_add(words.len());
-        Ok(row.place())
+        Ok(())
     }
 
     /// The two rows of a fragment, at the end.
@@ -100,10 +99,9 @@ impl Rows {
         Ok(())
     }
 
-    /// One row more, at the end, of a word and others behind it; gives its place.
-    pub(crate) fn place_first(&mut self, first: u64, others: &[u64]) -> Result<usize, AllocError>
-        ensures place { IfOk result (λ place. place ≡ length self.old) }
-        ensures placed { OnOk result (self.new ≡ self.old ++ (first ∷ others.now) ∷ []) }
+    /// One row more, at the end, of a word and others behind it.
+    pub(crate) fn place_first(&mut self, first: u64, others: &[u64]) -> Result<(), AllocError>
+        ensures { OnOk result (self.new ≡ self.old ++ (first ∷ others.now) ∷ []) }
     {
         if others.is_empty() {
             return self.place(&[first]);
@@ -145,15 +143,6 @@ impl Rows {
         ensures { result.now ≡ get_or self.now place [] }
     {
         self.arena.row(Row::at(place))
-    }
-
-    /// Puts a word into a row, in place of the one that is there. Takes no memory.
-    pub(crate) fn put(&mut self, place: usize, i: usize, word: u64)
-        requires row { place < length self.old }
-        requires inside { i < length (get_or self.old place []) }
-        ensures { self.new ≡ set self.old place (set (get_or self.old place []) i word) }
-    {
-        self.arena.put(Row::at(place), i, word);
     }
 
     /// The number of rows.

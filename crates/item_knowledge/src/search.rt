@@ -132,8 +132,6 @@ pub(crate) fn place_of(row: &[u64], author: u64) -> usize
     requires row { IsRow row.now }
     requires order { in_order (pairs row.now) ≡ true }
     ensures inside { result ≤ length (pairs row.now) }
-    ensures behind { bound (drop result (pairs row.now)) author ≡ bound (pairs row.now) author }
-    ensures there { result < length (pairs row.now) → author ≤ (get_or (pairs row.now) result (0, 0)).0 }
     ensures at { 0 < bound (pairs row.now) author → IsAt (pairs row.now) result author }
 {
     let mut low = 0;

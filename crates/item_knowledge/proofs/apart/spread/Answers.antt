@@ -38,26 +38,8 @@ loop-picture-preserved c =
     let f = union_vector (pairs c.args.star.now) (fragments c.args.left) (fragments c.args.right) in
     let some : same_entries [] (f r.1) ≡ false = ap (λ v. same_entries [] v) (sym c.in_ok-row.ensures.entries) ∙ (sym c.is_nothing.ensures ∙ search rules) in
     let number : c.in_ok-number-2.number ≡ length c.loop-picture.lists.index.items + 1 = c.in_ok-number-2.ensures.value ∙ search rules in
-    on_joined c.args.left.rows.now c.args.right.rows.now c.args.left.index.now c.args.right.index.now (pairs c.args.star.now) c.loop-picture.out c.loop-picture.lists.index.items c.loop-picture.lists.joined.items c.loop-picture.pairing c.loop-picture.from c.loop-picture.to c.loop-picture.invariant c.next.new.self r c.place_behind.new.out c.push-in-Some.new.self.items c.push-in-Some-2.new.self.items c.in_ok-row.row.now c.in-Some.ensures.next c.in_ok-row.ensures.row c.in_ok-row.ensures.entries some (search rules)
+    on_joined c.args.left.rows.now c.args.right.rows.now c.args.left.index.now c.args.right.index.now (pairs c.args.star.now) c.loop-picture.out c.loop-picture.lists.index.items c.loop-picture.lists.joined.items c.loop-picture.pairing c.loop-picture.from c.loop-picture.to c.loop-picture.invariant c.next.new.self r c.place_fragment.new.self c.push-in-Some.new.self.items c.push-in-Some-2.new.self.items c.in_ok-row.row.now c.in-Some.ensures.next c.in_ok-row.ensures.row c.in_ok-row.ensures.entries some (search rules)
     (c.in_ok-push-2.ensures.items ∙ ap (λ n. c.loop-picture.lists.index.items ++ (r.0, n) ∷ []) number) (c.in_ok-push-3.ensures.items ∙ ap (λ n. c.loop-picture.lists.joined.items ++ (r.0, n) ∷ []) number)
 
-pub overflow_mul-from : goal.overflow_mul-from
-overflow_mul-from c =
-    let on = c.loop-picture.invariant in
-    let rows = rows_read c.args.left.rows.now c.args.left.whole in
-    omega (arith, rows, on.order, on.there, c.rows-count.ensures, c.rows-count.type_inv)
-
-pub overflow_mul-to : goal.overflow_mul-to
-overflow_mul-to c =
-    let on = c.loop-picture.invariant in
-    let rows = rows_read c.args.left.rows.now c.args.left.whole in
-    omega (arith, rows, on.there, c.rows-count.ensures, c.rows-count.type_inv)
-
-pub place_run-requires-clause-there : goal.place_run-requires-clause-there
-place_run-requires-clause-there c =
-    let on = c.loop-picture.invariant in
-    let rows = rows_read c.args.left.rows.now c.args.left.whole in
-    omega (arith, rows, on.there)
-
 pub returns : goal.returns
-returns c = on_all c.args.left.rows.now c.args.right.rows.now c.args.left.index.now c.args.right.index.now (pairs c.args.star.now) c.loop-picture.out c.loop-picture.lists.index.items c.loop-picture.lists.joined.items c.loop-picture.pairing c.loop-picture.from c.loop-picture.to c.loop-picture.invariant c.place_run.new.self (c.next.ensures.none (search rules)) (search rules)
+returns c = on_all c.args.left.rows.now c.args.right.rows.now c.args.left.index.now c.args.right.index.now (pairs c.args.star.now) c.loop-picture.out c.loop-picture.lists.index.items c.loop-picture.lists.joined.items c.loop-picture.pairing c.loop-picture.from c.loop-picture.to c.loop-picture.invariant c.place_run-2.new.out (c.next.ensures.none (search rules)) (search rules)

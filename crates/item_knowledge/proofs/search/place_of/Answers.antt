@@ -1,6 +1,6 @@
 use Rattle.std.proofs.Common.{◌≡◌, ◌+◌, ◌-◌, ◌/◌, ℕ, ap, subst, arith}
 use Rattle.item_knowledge.specs.Rows.{pairs}
-use Rattle.item_knowledge.proofs.SearchLemmas.{IsBetween, between_all, between_above, between_below, at_place, stands_at}
+use Rattle.item_knowledge.proofs.SearchLemmas.{IsBetween, between_all, between_above, between_below, stands_at}
 use Rattle.item_knowledge.proofs.search.place_of.Goals as goal
 
 pub loop-low-init : goal.loop-low-init
@@ -27,14 +27,6 @@ loop-low-preserved c =
       order = omega arith;
       inside = omega arith;
     }
-
-pub returns-clause-behind : goal.returns-clause-behind
-returns-clause-behind c =
-    let met : c.loop-low.high ≡ c.loop-low.low = omega arith in
-    at_place c.args.author (pairs c.args.row.now) c.loop-low.low (subst (IsBetween c.args.author (pairs c.args.row.now) c.loop-low.low) met c.loop-low.invariant.between)
-
-pub returns-clause-there : goal.returns-clause-there
-returns-clause-there c = λ l. c.loop-low.invariant.between.from c.loop-low.low (omega arith) l
 
 pub returns-clause-at : goal.returns-clause-at
 returns-clause-at c =

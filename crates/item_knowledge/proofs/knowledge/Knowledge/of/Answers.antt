@@ -1,12 +1,12 @@
-use Rattle.std.proofs.Common.{rules, ◌≡◌, ap, ◌∙◌}
+use Rattle.std.proofs.Common.{rules, ◌≡◌, ap, sym, ◌∙◌}
 use Rattle.std.proofs.lemmas.Result.{IfOk-weaker}
 use Rattle.photo_version.specs.Version.{Version}
 use Rattle.photo_version.specs.Vector as vectors
 use Rattle.item_knowledge.specs.Entries.{denotes}
 use Rattle.item_knowledge.specs.Fragments.{knows, Fragment}
-use Rattle.item_knowledge.specs.TableRows.{bounds_of}
+use Rattle.item_knowledge.specs.TableRows.{entries_of}
 use Rattle.item_knowledge.proofs.KeptLemmas.{is_of}
-use Rattle.item_knowledge.proofs.TableRowLemmas.{bounds_denote}
+use Rattle.item_knowledge.proofs.TableRowLemmas.{entries_denote}
 use Rattle.item_knowledge.proofs.StagedLemmas.{known_of}
 use Rattle.item_knowledge.proofs.knowledge.Knowledge.of.Goals as goal
 
@@ -19,5 +19,5 @@ fragment-requires-clause-vector c = (is_of c.self.inside.live c.self.inside.inde
 pub returns : goal.returns
 returns c =
     let of = is_of c.self.inside.live c.self.inside.index.items c.args.self.now.known c.args.picture c.number_at-number.result.0 c.self.invariant.kept (known_of c.self.view_is) (search rules) in
-    IfOk-weaker c.vector.result (λ bs. bs ≡ bounds_of c.fragment.result.entries) (λ bs. (v : Version) → vectors.denotes bs v ≡ knows c.args.self.now.known c.args.picture v)
-    (λ bs same v. ap (λ cs. vectors.denotes cs v) same ∙ (bounds_denote c.fragment.result.entries v ∙ (ap (λ (f : Fragment). denotes f.entries v) c.fragment.ensures ∙ of.known v))) c.vector.ensures.vector
+    IfOk-weaker c.vector.result (λ bs. entries_of bs ≡ c.fragment.result.entries) (λ bs. (v : Version) → vectors.denotes bs v ≡ knows c.args.self.now.known c.args.picture v)
+    (λ bs same v. sym (entries_denote bs v) ∙ ap (λ es. denotes es v) same ∙ ap (λ (f : Fragment). denotes f.entries v) c.fragment.ensures ∙ of.known v) c.vector.ensures

@@ -8,16 +8,12 @@ use Rattle.item_knowledge.proofs.live.LiveRows.fragment.Goals as goal
 pub overflow_mul-k : goal.overflow_mul-k
 overflow_mul-k c =
     let at = shown_at c.self.inside.star.items c.self.inside.rows c.args.self.now c.self.invariant.0 c.self.view_is c.args.k c.requires.number in
-    let there = at.there in
-    let size = at.size in
-    omega arith
+    omega (arith, at.there, at.size)
 
 pub row-requires : goal.row-requires
 row-requires c =
     let at = shown_at c.self.inside.star.items c.self.inside.rows c.args.self.now c.self.invariant.0 c.self.view_is c.args.k c.requires.number in
-    let there = at.there in
-    let size = at.size in
-    omega arith
+    omega (arith, at.there, at.size)
 
 pub entries-requires-clause-number : goal.entries-requires-clause-number
 entries-requires-clause-number c = (shown_at c.self.inside.star.items c.self.inside.rows c.args.self.now c.self.invariant.0 c.self.view_is c.args.k c.requires.number).there

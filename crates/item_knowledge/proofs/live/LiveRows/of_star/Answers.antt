@@ -7,6 +7,6 @@ use Rattle.item_knowledge.proofs.live.LiveRows.of_star.Goals as goal
 pub returns : goal.returns
 returns c =
     let star : c.in_ok-star.star.items ≡ c.args.star.now = search rules in
-    let rows : c.place_fragment.new.self ≡ [] ∷ [] ∷ [] = search rules in
-    star_shown c.in_ok-star.star.items c.place_fragment.new.self (subst IsRow (sym star) c.requires.row) (subst (λ ws. is_vector (pairs ws) ≡ true) (sym star) c.requires.vector) rows
+    let rows : c.begin.new.out ≡ [] ∷ [] ∷ [] = search rules in
+    star_shown c.in_ok-star.star.items c.begin.new.out (subst IsRow (sym star) c.requires.row) (subst (λ ws. is_vector (pairs ws) ≡ true) (sym star) c.requires.vector) rows
     ∙ (λ i. [] ∷ star i ∷ [])
