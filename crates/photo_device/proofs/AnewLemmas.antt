@@ -1,16 +1,15 @@
 -- What is true of a device that gets any new filter.
-use Rattle.std.proofs.Common.{◌≡◌, ℕ, ◌<◌, Bool, true, false, not, List, [], ◌++◌, refl, sym, ap, ◌∙◌, subst, arith}
+use Rattle.std.proofs.Common.{◌≡◌, ℕ, ◌<◌, Bool, true, false, not, List, [], ◌++◌, refl, sym, ap, ◌∙◌, subst, arith, ◌+◌, ◌/◌}
 use Rattle.std.specs.Prelude.{filter, None}
 use Rattle.std.specs.List.{AllByRecursion}
-use Rattle.std.proofs.lemmas.List.{map-append}
 use Rattle.std.proofs.lemmas.List.Folds.{list_any-append}
-use Rattle.std.proofs.lemmas.Bool.{false≢true}
+use Rattle.std.proofs.lemmas.Bool.{false≢true, and_parts, and_from, lt-ltb, ltb-true, eq-eqb, eqb-true}
 use Rattle.photo_filter_text.specs.Tree.{Tree}
 use Rattle.photo_filter_rules.specs.Matching.{matches}
-use Rattle.photo_version.specs.Author.{Author, epoch_of_author, next_author}
-use Rattle.photo_version.specs.Version.{Version}
+use Rattle.photo_version.specs.Author.{Author, epoch_of_author, next_author, device_of_author, same_device, author_before, is_earlier_epoch}
+use Rattle.photo_version.specs.Version.{Version, version}
 use Rattle.item_knowledge.specs.Fragments.{Fragment, knows}
-use Rattle.item_knowledge.specs.Kept.{nothing_known}
+use Rattle.item_knowledge.specs.Kept.{nothing_known, star_bound}
 use Rattle.photo_device.specs.declared.held.Held.{Held}
 use Rattle.photo_device.specs.Entry.{Entry, put_entries}
 use Rattle.photo_device.specs.Held.{entry_of, entries_of, count_of, put_helds}
@@ -18,16 +17,43 @@ use Rattle.photo_device.specs.Device.{Kept, ModelDevice, Shows, holds}
 use Rattle.photo_device.specs.declared.anew.Anew.{Anew}
 use Rattle.photo_device.specs.Anew.{IsAnew}
 use Rattle.photo_device.specs.Staging.{AreParts}
-use Rattle.photo_device.specs.Own.{HasEarlier, IsKnownBy, IsDevice}
+use Rattle.photo_device.specs.Own.{HasEarlier, IsKnownBy, IsDevice, KnowsItsOwn, KnowsNoLater}
 use Rattle.photo_device.specs.Taking.{AreNewTo, with_side}
 use Rattle.photo_device.specs.Telling.{tell, tells}
 use Rattle.photo_device.specs.Refiltered.{refiltered}
 use Rattle.photo_device.proofs.AllLemmas.{all_append}
 use Rattle.photo_device.proofs.Counts.{count_of-append}
 use Rattle.photo_device.proofs.OwnLemmas.{all_of, none_up_to}
-use Rattle.photo_device.proofs.Changed.{joins_device, entries-filter, entries-put_helds}
-use Rattle.photo_device.proofs.NextEpoch.{begins_next_epoch}
+use Rattle.photo_device.proofs.Changed.{joins_device}
+use Rattle.photo_device.proofs.Shown.{entries-filter, entries-put_helds, held_shown}
 use Rattle.photo_device.proofs.TellingLemmas.{one, tell_entries, told_known, known_told}
+
+-- a device's next epoch is a later one, and what is later than it is later than this one
+
+next_is_later : (a : Author) → epoch_of_author a < 4294967295 → is_earlier_epoch a (next_author a) ≡ true
+next_is_later a h =
+    let same : a.word / 4294967296 ≡ (a.word + 1) / 4294967296 = omega arith in
+    and_from (same_device a (next_author a)) (author_before a (next_author a)) (eq-eqb (device_of_author a) (device_of_author (next_author a)) same) (lt-ltb a.word (a.word + 1) (omega arith))
+
+later_too : (a b : Author) → epoch_of_author a < 4294967295 → is_earlier_epoch (next_author a) b ≡ true → is_earlier_epoch a b ≡ true
+later_too a b h later =
+    let parts = and_parts (same_device (next_author a) b) (author_before (next_author a) b) later in
+    let same = eqb-true (device_of_author (next_author a)) (device_of_author b) parts.0 in
+    let less = ltb-true (a.word + 1) b.word parts.1 in
+    let mine : a.word / 4294967296 ≡ b.word / 4294967296 = omega arith in
+    and_from (same_device a b) (author_before a b) (eq-eqb (device_of_author a) (device_of_author b) mine) (lt-ltb a.word b.word (omega arith))
+
+-- who knows no more than a device did knows no version of its next epoch, nor of any later one
+pub begins_next_epoch : (a : Author) (old new : List Fragment) → epoch_of_author a < 4294967295 → KnowsNoLater a old → star_bound new (next_author a) ≡ 0
+    → ((p : ℕ) (v : Version) → 0 < p → knows new p v ≡ true → knows old p v ≡ true) → KnowsItsOwn (next_author a) 0 new
+begins_next_epoch a old new h none_later star within = record {
+  star = star;
+  own = λ p n above. none p (version (next_author a) n) above (next_is_later a h) ∙ none_up_to n;
+  later = λ p v above later. none p v above (later_too a v.author h later);
+}
+  where
+    none : (p : ℕ) (v : Version) → 0 < p → is_earlier_epoch a v.author ≡ true → knows new p v ≡ false
+    none p v above later = let before = none_later p v above later in let here = within p v above in grind arith
 
 -- a device that holds, knows and has made nothing
 abbrev empty : Author → Tree → Kept
@@ -112,13 +138,10 @@ module _ (tree : Tree) (anew : Anew) (d : Kept) (told : IsAnew tree d.store d.ou
   pub anew_device : epoch_of_author d.author < 4294967295 → AreParts None anew.told.staged (begun tree anew.store anew.out fs d)
   anew_device h = record { device = subst IsDevice (sym whole) (sorted_device h); fits = told.staged }
 
-  held_shown : (m : ModelDevice) → Shows d m → entries_of (d.store ++ d.out) ≡ holds m
-  held_shown m shows = map-append entry_of d.store d.out ∙ (λ i. shows.store i ++ shows.out i)
-
   side_shown : (m : ModelDevice) (q : Entry → Bool) → Shows d m → entries_of (put_helds (filter (λ (h : Held). q (entry_of h)) (d.store ++ d.out)) []) ≡ put_entries (filter q (holds m)) []
   side_shown m q shows =
       entries-put_helds (filter (λ (h : Held). q (entry_of h)) (d.store ++ d.out)) []
-      ∙ ap (λ es. put_entries es []) (entries-filter q (d.store ++ d.out) ∙ ap (filter q) (held_shown m shows))
+      ∙ ap (λ es. put_entries es []) (entries-filter q (d.store ++ d.out) ∙ ap (filter q) (held_shown d m shows))
 
   pub anew_shows : (m : ModelDevice) → Shows d m → Shows (begun tree anew.store anew.out fs d) (refiltered tree m)
   anew_shows m shows = subst (λ (e : Kept). Shows e (refiltered tree m)) (sym whole) (record {
@@ -127,5 +150,5 @@ module _ (tree : Tree) (anew : Anew) (d : Kept) (told : IsAnew tree d.store d.ou
     counter = refl;
     store = side_shown m (λ e. matches tree e.content) shows;
     out = side_shown m (λ e. not (matches tree e.content)) shows;
-    known = λ p above v. all_pairs p v above ∙ tell_entries (d.store ++ d.out) p v ∙ ap (λ es. tell es p v) (held_shown m shows);
+    known = λ p above v. all_pairs p v above ∙ tell_entries (d.store ++ d.out) p v ∙ ap (λ es. tell es p v) (held_shown d m shows);
   })

@@ -1,35 +1,30 @@
 -- How often versions are held.
-use Rattle.std.proofs.Common.{◌≡◌, ℕ, ◌+◌, ◌≤◌, Bool, true, false, cond, List, [], ◌∷◌, ◌++◌, length, refl, ap, ◌∙◌, length-append, arith}
-use Rattle.std.specs.Prelude.{filter}
-use Rattle.std.proofs.lemmas.Bool.{and_parts, and_from, eqb-true, eq-eqb}
+use Rattle.std.proofs.Common.{◌≡◌, ℕ, ◌+◌, ◌≤◌, Bool, true, false, cond, List, [], ◌∷◌, ◌++◌, length, refl, sym, ap, ◌∙◌, length-append, arith}
+use Rattle.std.specs.Prelude.{filter, Option, Some, None, is_some}
+use Rattle.std.specs.List.{list_any}
+use Rattle.std.proofs.lemmas.Bool.{and_parts, eqb-true}
+use Rattle.std.proofs.lemmas.Bool.Decides.{nat_tests}
 use Rattle.std.proofs.lemmas.List.Elements.{filter-append}
-use Rattle.photo_version.specs.Author.{same_author}
+use Rattle.photo_version.specs.Author.{author_of_word}
 use Rattle.photo_version.specs.Version.{Version, version, same_version}
-use Rattle.photo_version.proofs.AuthorLemmas.{same_is, same_from}
 use Rattle.photo_device.specs.declared.held.Held.{Held}
 use Rattle.photo_device.specs.Ordered.{put}
-use Rattle.photo_device.specs.Held.{held_before, count_of}
+use Rattle.photo_device.specs.Held.{held_before, count_of, find_version}
+use Rattle.photo_device.proofs.Putting.{any_found, any_counted, count-cons}
 
 pub same_version_is : (v w : Version) → same_version v w ≡ true → v ≡ w
 same_version_is v w h =
-    let parts = and_parts (same_author v.author w.author) _ h in
-    let author = same_is v.author w.author parts.0 in
-    let number = eqb-true v.number w.number parts.1 in
-    λ i. version (author i) (number i)
+    let parts = and_parts _ _ h in
+    λ i. version (author_of_word (eqb-true v.author.word w.author.word parts.0 i)) (eqb-true v.number w.number parts.1 i)
 
 pub same_version_self : (v : Version) → same_version v v ≡ true
-same_version_self v = and_from _ _ (same_from v.author v.author refl) (eq-eqb v.number v.number refl)
+same_version_self v = grind (arith, nat_tests)
 
 abbrev pub one_of : Version → Held → ℕ
 one_of v h = cond (same_version h.version v) 1 0
 
 pub count_of-cons : (v : Version) (h : Held) (xs : List Held) → count_of v (h ∷ xs) ≡ one_of v h + count_of v xs
-count_of-cons v h xs =
-    let rest : List Held = filter (λ (x : Held). same_version x.version v) xs in
-    elim (same_version h.version v) as (λ b. length (cond b (h ∷ rest) rest) ≡ cond b 1 0 + length rest) [
-      | true ↦ omega arith
-      | false ↦ omega arith
-    ]
+count_of-cons v h xs = count-cons (λ (x : Held). same_version x.version v) h xs
 
 pub count_of-append : (v : Version) (xs ys : List Held) → count_of v (xs ++ ys) ≡ count_of v xs + count_of v ys
 count_of-append v xs ys =
@@ -53,3 +48,18 @@ count_of-filter v q (x ∷ xs) =
       | true ↦ omega (arith, count_of-cons v x (filter q xs), count_of-cons v x xs)
       | false ↦ omega (arith, count_of-cons v x xs)
     ]
+
+-- what counts is found
+
+pub not_found : (v : Version) (xs : List Held) → count_of v xs ≡ 0 → find_version v xs ≡ None
+not_found v xs none = by (find_version v xs) (any_found _ xs ∙ any_counted _ xs ∙ grind (arith, nat_tests))
+  where
+    by : (o : Option Held) → is_some o ≡ false → o ≡ None
+    by None e = refl
+    by (Some x) e = absurd (cc)
+
+pub none_there : (v : Version) (xs : List Held) → list_any (λ h. same_version h.version v) xs ≡ false → count_of v xs ≡ 0
+none_there v xs none = let counted = sym (any_counted (λ (h : Held). same_version h.version v) xs) ∙ none in grind (arith, nat_tests)
+
+pub none_counted : (v : Version) (xs : List Held) → find_version v xs ≡ None → count_of v xs ≡ 0
+none_counted v xs none = none_there v xs (sym (any_found _ xs) ∙ ap is_some none)

@@ -1,9 +1,8 @@
 -- Conflicts, picture by picture.
 use Rattle.std.proofs.Common.{◌≡◌, ℕ, zero, suc, ◌<◌, ◌≤◌, Bool, true, false, not, cond, eqb, ltb, List, [], ◌∷◌, ◌++◌, length, get_or, take, drop, append_assoc, refl, sym, ap, ◌∙◌, subst, inl, inr, arith}
 use Rattle.std.specs.Prelude.{filter, map}
-use Rattle.std.specs.List.{list_all}
 use Rattle.std.specs.List.Sorted.{IsPartitionedBy, IsPartitionPoint}
-use Rattle.std.proofs.lemmas.Bool.{and_parts, cases_Bool, false≢true, eqb-true, eq-eqb, lt-ltb, le-ltb}
+use Rattle.std.proofs.lemmas.Bool.{cases_Bool, false≢true, eqb-true, eq-eqb, lt-ltb, le-ltb}
 use Rattle.std.proofs.lemmas.List.{length-map, length-drop}
 use Rattle.photo_version.specs.Version.{Version}
 use Rattle.photo_device.specs.declared.held.Held.{Held}
@@ -11,29 +10,14 @@ use Rattle.photo_device.specs.declared.conflict.Conflict.{Conflict}
 use Rattle.photo_device.specs.Entry.{Entry, others}
 use Rattle.photo_device.specs.Held.{entry_of, entries_of, are_in_order, held_of_others}
 use Rattle.photo_device.specs.Conflicts.{pictures_of, versions_of, conflicts_in}
-use Rattle.photo_device.proofs.Entries.{entries-others}
+use Rattle.photo_device.proofs.Shown.{entries-others}
 use Rattle.photo_device.proofs.Order.{rises, in_order-filter}
-use Rattle.photo_device.proofs.Putting.{turned, list_all_wider, list_all_filtered, filter_all}
+use Rattle.photo_device.proofs.Putting.{turned, list_all_wider, list_all_filtered, filter_all, filter-swap, map_alike}
 
 -- Of entries in any order: the conflict of the first one's picture, and those of the others
 
 abbrev is_other : ℕ → ℕ → Bool
 is_other p q = not (eqb q p)
-
-filter-swap : {A : Type 0} (q r : A → Bool) (xs : List A) → filter q (filter r xs) ≡ filter r (filter q xs)
-filter-swap q r [] = refl
-filter-swap q r (x ∷ xs) =
-    let rest = filter-swap q r xs in
-    elim (cases_Bool (q x)) [
-      | inl passes ↦ elim (cases_Bool (r x)) [
-        | inl too ↦ rw (too, passes, too) (ap (λ l. x ∷ l) rest)
-        | inr fails ↦ rw (fails, passes, fails) rest
-      ]
-      | inr fails ↦ elim (cases_Bool (r x)) [
-        | inl passes ↦ rw (passes, fails) rest
-        | inr too ↦ rw (too, fails) rest
-      ]
-    ]
 
 pictures-others : (p : ℕ) (es : List Entry) → filter (is_other p) (pictures_of es) ≡ pictures_of (others p es)
 pictures-others p [] = refl
@@ -56,10 +40,6 @@ versions-others p q es other =
   where
     apart : (e : Entry) → eqb e.picture q ≡ true → is_other p e.picture ≡ true
     apart e same = ap (is_other p) (eqb-true e.picture q same) ∙ other
-
-map_alike : {X Y : Type 0} (f g : X → Y) (q : X → Bool) → ((x : X) → q x ≡ true → f x ≡ g x) → (xs : List X) → list_all q xs ≡ true → map f xs ≡ map g xs
-map_alike f g q alike [] h = refl
-map_alike f g q alike (x ∷ xs) h = (λ i. alike x (and_parts _ _ h).0 i ∷ map_alike f g q alike xs (and_parts _ _ h).1 i)
 
 abbrev are_two : Conflict → Bool
 are_two c = ltb 1 (length c.versions)

@@ -1,48 +1,53 @@
--- Held versions in order.
-use Rattle.std.proofs.Common.{◌≡◌, ℕ, ◌<◌, ◌≤◌, Bool, true, false, not, eqb, leb, ltb, ◌||◌, List, [], ◌∷◌, ◌++◌, length, get_or, take, drop, Vec, refl, sym, ap, ◌∙◌, subst, inl, inr, arith}
-use Rattle.std.specs.Prelude.{filter}
-use Rattle.std.specs.List.{list_all}
-use Rattle.std.specs.declared.alloc.Global.{Global}
-use Rattle.std.specs.List.Sorted.{IsNonDecreasingBy, IsPartitionPoint}
-use Rattle.std.proofs.lemmas.Bool.{lt-ltb, le-ltb, lt-leb, le-leb, ltb-true, ltb-false, eqb-false, eq-eqb, ne_eqb, not-true, leb-false, cases_eq, cases_lt, false≢true, cases_order}
-use Rattle.std.proofs.Math.Bool.{or-true}
-use Rattle.std.proofs.lemmas.List.{take_all, take-append-drop}
-use Rattle.std.proofs.lemmas.List.Elements.{filter-append}
-use Rattle.block_list.specs.Blocks.{joined}
+-- Held versions in order: how they stand to one another, what is put among them, and what a search by a test of the code
+-- finds there.
+use Rattle.std.proofs.Common.{◌≡◌, ℕ, ◌<◌, ◌≤◌, Bool, true, false, not, eqb, leb, ltb, ◌&&◌, ◌||◌, List, [], length, get_or, Bor, refl, sym, ap, ◌∙◌, inl, inr, arith}
+use Rattle.std.specs.Prelude.{filter, Option, None, is_some}
+use Rattle.std.specs.List.{find, list_any}
+use Rattle.std.specs.Cmp.{IsStrictWeakOrder}
+use Rattle.std.specs.Fn.{Mut, Called, ComputesKey}
+use Rattle.std.specs.List.Sorted.{IsNonDecreasingBy, IsPartitionedBy}
+use Rattle.std.proofs.lemmas.Bool.{cases_lt}
+use Rattle.std.proofs.lemmas.Bool.Decides.{nat_tests}
+use Rattle.std.proofs.lemmas.Fn.{always_returns_same}
+use Rattle.std.proofs.lemmas.List.MinMax.{IsStrictWeakOrder-by_number}
+use Rattle.block_list.specs.Blocks.{IsReplaced}
+use Rattle.photo_record.specs.declared.record.Record.TheVariants.{Removed}
+use Rattle.photo_version.specs.Author.{author}
+use Rattle.photo_version.specs.Version.{Version, version, version_before, same_version}
 use Rattle.photo_device.specs.declared.held.Held.{Held}
 use Rattle.photo_device.specs.Ordered.{put}
-use Rattle.photo_device.proofs.Lexical.{held_order}
-use Rattle.photo_device.proofs.Putting as putting
 use Rattle.photo_device.specs.Entry.{is_of_other}
-use Rattle.photo_device.specs.Held.{entry_of, held_before, are_in_order, held_of_others, replaced, IsRangeOf}
+use Rattle.photo_device.specs.Held.{entry_of, held_before, stands_before, is_of, are_in_order, replaced, find_version}
+use Rattle.photo_device.proofs.Putting as putting
+use Rattle.photo_device.proofs.Putting.{IsSearch, TurnsAt}
 
--- the test of the order, by the picture numbers where these differ
+-- by a number, and by a second test where the numbers are the same
+by_number : {X : Type 0} (key : X → ℕ) (rest : X → X → Bool) → IsStrictWeakOrder rest → IsStrictWeakOrder (λ x y. ltb (key x) (key y) || (eqb (key x) (key y) && rest x y))
+by_number key rest order = record {
+  one_way = λ x y h. (let o = order.one_way x y in grind (arith, nat_tests));
+  chain = λ x y z h g. (let o = order.chain x y z in grind (arith, nat_tests));
+}
 
-held_before-less : (a b : Held) → a.picture < b.picture → held_before a b ≡ true
-held_before-less a b h = rw (lt-ltb a.picture b.picture h) refl
+pub version_order : IsStrictWeakOrder version_before
+version_order = by_number (λ (v : Version). v.author.word) (λ v w. ltb v.number w.number) (IsStrictWeakOrder-by_number (λ (v : Version). v.number))
 
-held_before-greater : (a b : Held) → b.picture < a.picture → held_before a b ≡ false
-held_before-greater a b h =
-    let no_less = le-ltb a.picture b.picture (omega arith) in
-    let no_equal = ne_eqb a.picture b.picture (λ e. absurd (omega arith)) in
-    rw (no_less, no_equal) refl
+pub held_order : IsStrictWeakOrder held_before
+held_order = by_number (λ (h : Held). h.picture) (λ a b. version_before a.version b.version)
+    (record { one_way = λ a b. version_order.one_way a.version b.version; chain = λ a b c. version_order.chain a.version b.version c.version })
 
-held_before-le : (a b : Held) → held_before a b ≡ true → a.picture ≤ b.picture
-held_before-le a b h = elim (cases_order a.picture b.picture) [
-  | inl e ↦ omega arith
-  | inr o ↦ elim o [
-    | inl less ↦ omega arith
-    | inr greater ↦ absurd (false≢true (sym (held_before-greater a b greater) ∙ h))
-  ]
-]
+-- held versions that are not the same stand one before the other
+pub held_apart : (a b : Held) → same_version a.version b.version ≡ false → (held_before a b || held_before b a) ≡ true
+held_apart a b other = grind (arith, nat_tests)
 
 -- along a list in order the picture numbers don't fall
-
 pub rises : (xs : List Held) → are_in_order xs ≡ true → IsNonDecreasingBy (λ h. h.picture) xs
 rises xs o i j d le l = elim (cases_lt i j) [
-  | inl before ↦ held_before-le (get_or xs i d) (get_or xs j d) (putting.in_order_at held_before xs o i j d before l)
+  | inl before ↦ le_from (get_or xs i d) (get_or xs j d) (putting.in_order_at held_before xs o i j d before l)
   | inr last ↦ let same : i ≡ j = omega arith in rw same (omega arith)
 ]
+  where
+    le_from : (a b : Held) → held_before a b ≡ true → a.picture ≤ b.picture
+    le_from a b h = grind (arith, nat_tests)
 
 -- A list in three parts, as callers above state it: smaller pictures up to `from`, the picture itself up to `to`, and greater ones
 
@@ -51,101 +56,96 @@ pub record Parts (p : ℕ) (xs : List Held) (from to : ℕ) : Type 0 where
   pub here : (k : ℕ) (d : Held) → from ≤ k → k < to → (get_or xs k d).picture ≡ p
   pub above : (k : ℕ) (d : Held) → to ≤ k → k < length xs → p < (get_or xs k d).picture
 
--- the order is kept
+-- The order is kept
 
 pub in_order-filter : (r : Held → Bool) (xs : List Held) → are_in_order xs ≡ true → are_in_order (filter r xs) ≡ true
 in_order-filter r xs o = putting.in_order-filter held_before r xs o
 
--- versions of two pictures stand one before the other
-pictures_apart : (a b : Held) → is_of_other a.picture (entry_of b) ≡ true → (held_before a b || held_before b a) ≡ true
-pictures_apart a b other = elim (cases_order a.picture b.picture) [
-  | inl same ↦ absurd (eqb-false b.picture a.picture (not-true _ other) (sym same))
-  | inr side ↦ elim side [
-    | inl less ↦ ap (λ t. t || held_before b a) (held_before-less a b less)
-    | inr greater ↦ ap (λ t. held_before a b || t) (held_before-less b a greater) ∙ or-true (held_before a b)
-  ]
-]
-
 pub in_order-replaced : (h : Held) (xs : List Held) → are_in_order xs ≡ true → are_in_order (replaced h xs) ≡ true
 in_order-replaced h xs o =
     putting.in_order-put held_order h _ (in_order-filter _ xs o)
-    (putting.list_all_wider (λ x. is_of_other h.picture (entry_of x)) (λ x. held_before h x || held_before x h) (pictures_apart h) _ (putting.list_all_filtered (λ x. is_of_other h.picture (entry_of x)) xs))
-
--- what two binary searches for a picture answer
-
-smaller : (q p : ℕ) → ltb q p ≡ true → not (eqb q p) ≡ true
-smaller q p h = let less = ltb-true q p h in ap not (ne_eqb q p (λ e. absurd (omega arith)))
-
-not_greater : (q p : ℕ) → ltb q p ≡ true → not (not (leb q p)) ≡ true
-not_greater q p h = let less = ltb-true q p h in ap (λ b. not (not b)) (le-leb q p (omega arith))
-
-greater : (q p : ℕ) → not (ltb q p) ≡ true → not (eqb q p) ≡ not (leb q p)
-greater q p h =
-    let most = ltb-false q p (not-true _ h) in
-    elim (cases_eq q p) [
-      | inl e ↦ ap not (eq-eqb q p e ∙ sym (le-leb q p (omega arith)))
-      | inr ne ↦ ap not (ne_eqb q p ne ∙ sym (lt-leb q p (omega arith)))
-    ]
-
-abbrev is_less : ℕ → Held → Bool
-is_less p h = ltb h.picture p
-
-abbrev is_more : ℕ → Held → Bool
-is_more p h = not (leb h.picture p)
-
-abbrev is_apart : ℕ → Held → Bool
-is_apart p h = not (eqb h.picture p)
-
-pub is_range : (p : ℕ) (xs : List Held) (from to : ℕ) → from ≤ length xs → to ≤ length xs → IsPartitionPoint (λ (h : Held). ltb h.picture p ≡ true) (λ (h : Held). ltb h.picture p ≡ false) xs from → IsPartitionPoint (λ (h : Held). leb h.picture p ≡ true) (λ (h : Held). leb h.picture p ≡ false) xs to → IsRangeOf p xs from to
-is_range p xs from to f t less most = record {
-  order = elim (cases_lt to from) [
-    | inl back ↦ some_between back
-    | inr o ↦ o
-  ];
-  within = t;
-  rest = rest;
-  place = λ h e.
-      ap (put held_before h) (ap (λ q. held_of_others q xs) e ∙ rest)
-      ∙ putting.put_between held_order h (take from xs) (drop to xs)
-      (putting.list_all_wider (is_less p) (λ y. held_before y h) (λ y l. let below = ltb-true y.picture p l in held_before-less y h (omega arith)) _ in_front)
-      (putting.list_all_wider (is_more p) (λ y. not (held_before y h)) (λ y g. let above = leb-false y.picture p (not-true _ g) in ap not (held_before-greater y h (omega arith))) _ at_back);
-}
+    (putting.list_all_wider (λ x. is_of_other h.picture (entry_of x)) (λ x. held_before h x || held_before x h) (apart h) _ (putting.list_all_filtered (λ x. is_of_other h.picture (entry_of x)) xs))
   where
-    first : (filter (is_less p) xs ≡ take from xs) × (filter (λ h. not (is_less p h)) xs ≡ drop from xs)
-    first = putting.turned (is_less p) xs from f less
+    apart : (a b : Held) → is_of_other a.picture (entry_of b) ≡ true → (held_before a b || held_before b a) ≡ true
+    apart a b other = grind (arith, nat_tests)
 
-    last : filter (is_more p) xs ≡ drop to xs
-    last = (putting.turned (λ (h : Held). leb h.picture p) xs to t most).1
+-- a version that isn't there stands before or behind each
+pub in_order-inserted : (h : Held) (xs : List Held) → are_in_order xs ≡ true → find_version h.version xs ≡ None → are_in_order (put held_before h xs) ≡ true
+in_order-inserted h xs o none =
+    putting.in_order-put held_order h xs o
+    (putting.list_all_wider (λ x. not (same_version x.version h.version)) (λ x. held_before h x || held_before x h) (apart h) xs
+    (putting.none_passes (λ x. same_version x.version h.version) xs (sym (putting.any_found _ xs) ∙ ap is_some none)))
+  where
+    apart : (a b : Held) → not (same_version b.version a.version) ≡ true → (held_before a b || held_before b a) ≡ true
+    apart a b other = grind (arith, nat_tests)
 
-    in_front : list_all (is_less p) (take from xs) ≡ true
-    in_front = subst (λ l. list_all (is_less p) l ≡ true) first.0 (putting.list_all_filtered (is_less p) xs)
+-- What the code's searches ask: where a picture's versions begin and end, and where a version of a picture stands
 
-    behind : list_all (λ h. not (is_less p h)) (drop from xs) ≡ true
-    behind = subst (λ l. list_all (λ h. not (is_less p h)) l ≡ true) first.1 (putting.list_all_filtered (λ h. not (is_less p h)) xs)
+pub for_picture : (p : ℕ) → IsSearch held_before (λ h. ltb h.picture p) (λ h. eqb h.picture p)
+for_picture p = record { down = λ x y b t. grind (arith, nat_tests); apart = λ x t. grind (arith, nat_tests); alone = λ x y b t q. grind (arith, nat_tests) }
 
-    at_back : list_all (is_more p) (drop to xs) ≡ true
-    at_back = subst (λ l. list_all (is_more p) l ≡ true) last (putting.list_all_filtered (is_more p) xs)
+through_picture : (p : ℕ) (x y : Held) → held_before x y ≡ true → leb y.picture p ≡ true → leb x.picture p ≡ true
+through_picture p x y b t = grind (arith, nat_tests)
 
-    parts : (q : Held → Bool) → filter q xs ≡ filter q (take from xs) ++ filter q (drop from xs)
-    parts q = ap (filter q) (sym (take-append-drop from xs)) ∙ filter-append q (take from xs) (drop from xs)
+pub for_version : (p : ℕ) (v : Version) → IsSearch held_before (λ h. stands_before h p v) (λ h. is_of h p v)
+for_version p v = record { down = λ x y b t. grind (arith, nat_tests); apart = λ x t. grind (arith, nat_tests); alone = λ x y b t q. grind (arith, nat_tests) }
 
-    rest : held_of_others p xs ≡ take from xs ++ drop to xs
-    rest =
-        parts (is_apart p)
-        ∙ (λ i. putting.filter_all (is_apart p) (take from xs) (putting.list_all_wider (is_less p) (is_apart p) (λ h. smaller h.picture p) _ in_front) i
-        ++ putting.filter_alike (λ h. not (is_less p h)) (is_apart p) (is_more p) (λ h. greater h.picture p) (drop from xs) behind i)
-        ∙ ap (λ l. take from xs ++ l) (sym (parts (is_more p) ∙ ap (λ l. l ++ filter (is_more p) (drop from xs)) (putting.filter_none (is_more p) (take from xs) (putting.list_all_wider (is_less p) (λ h. not (is_more p h)) (λ h. not_greater h.picture p) _ in_front))) ∙ last)
+-- a version of a picture of which nothing else counts
+abbrev pub one_of_picture : ℕ → Held
+one_of_picture p = record { picture = p; version = version (author 0) 1; made_with = []; content = Removed }
 
-    some_between : to < from → from ≤ to
-    some_between back = elim xs as (λ l. l ≡ xs → from ≤ to) [
-      | [] ↦ λ e. let none = ap length e in absurd (omega arith)
-      | x ∷ more ↦ λ e.
-          let low = ltb-true _ _ (less.0 to x (omega arith) back) in
-          let high = leb-false _ _ (most.1 to x (omega arith) (omega arith)) in
-          absurd (omega arith)
-    ] refl
+-- where a picture's versions stand, by the turns of two tests
+pub range_cut : (h : Held) (xs : List Held) (from to : ℕ) → from ≤ length xs → to ≤ length xs → TurnsAt (λ x. ltb x.picture h.picture) xs from → TurnsAt (λ x. leb x.picture h.picture) xs to
+    → putting.IsCut held_before (λ x. is_of_other h.picture (entry_of x)) h xs from to
+range_cut h = putting.cut held_before (λ x. ltb x.picture h.picture) (λ x. leb x.picture h.picture) (λ x. is_of_other h.picture (entry_of x)) h (front h) (back h) (gone h)
+  where
+    front : (h y : Held) → ltb y.picture h.picture ≡ true → (is_of_other h.picture (entry_of y) ≡ true) × (held_before y h ≡ true)
+    front h y t = (grind (arith, nat_tests), grind (arith, nat_tests))
 
--- what passes in all blocks of a set in order
-pub in_order-passing : (p : Held → Bool) (items set : List Held) (blocks : List (Vec Held Global)) (k : ℕ) → length blocks ≤ k → joined blocks ≡ set → are_in_order set ≡ true → items ≡ filter p (joined (take k blocks)) → are_in_order items ≡ true
-in_order-passing p items set blocks k all of_set order passing =
-    ap are_in_order (passing ∙ ap (λ l. filter p (joined l)) (take_all k blocks all) ∙ ap (filter p) of_set) ∙ in_order-filter p set order
+    back : (h y : Held) → leb y.picture h.picture ≡ false → (is_of_other h.picture (entry_of y) ≡ true) × (held_before y h ≡ false)
+    back h y t = (grind (arith, nat_tests), grind (arith, nat_tests))
+
+    gone : (h y : Held) → ltb y.picture h.picture ≡ false → leb y.picture h.picture ≡ true → is_of_other h.picture (entry_of y) ≡ false
+    gone h y t u = grind (arith, nat_tests)
+
+-- What calls with a test of the code tell
+
+module _ (xs : List Held) (ordered : are_in_order xs ≡ true) {F : Type 0} {f : Mut F (Bor Held × Unit {0}) Bool} {before : F} where
+  pub found_by_search : (t q : Held → Bool) (found : Option Held) → IsSearch held_before t q → ((p : Held → Bool) → ComputesKey f p before → IsPartitionedBy p xs → found ≡ find (λ h. not (p h)) xs)
+      → ((a : Bor Held × Unit {0}) (r : Bool) (f' : F) → Called f before a r f' → (r ≡ t a.0.now) × (f' ≡ before))
+      → putting.passing q found ≡ find q xs
+  found_by_search t q found search clause calls =
+      ap (putting.passing q) (clause t (always_returns_same f (λ a r. r ≡ t a.0.now) before calls) (putting.turning held_before t search.down xs ordered))
+      ∙ putting.found_first held_before t q search xs ordered
+
+  pub told_by_search : (t q : Held → Bool) (found : Option Held) → IsSearch held_before t q → ((p : Held → Bool) → ComputesKey f p before → IsPartitionedBy p xs → found ≡ find (λ h. not (p h)) xs)
+      → ((a : Bor Held × Unit {0}) (r : Bool) (f' : F) → Called f before a r f' → (r ≡ t a.0.now) × (f' ≡ before))
+      → is_some (putting.passing q found) ≡ list_any q xs
+  told_by_search t q found search clause calls = ap is_some (found_by_search t q found search clause calls) ∙ putting.any_found q xs
+
+  pub inserted_by_test : (h : Held) (new : List Held) → ((t : Held → Bool) → ComputesKey f t before → IsPartitionedBy t xs → IsReplaced t t xs h new)
+      → ((a : Bor Held × Unit {0}) (r : Bool) (f' : F) → Called f before a r f' → (r ≡ stands_before a.0.now h.picture h.version) × (f' ≡ before))
+      → new ≡ put held_before h xs
+  inserted_by_test h new clause less =
+      let test = λ (x : Held). held_before x h in
+      let r = clause test (always_returns_same f (λ a r. r ≡ test a.0.now) before less) (putting.turning held_before test (for_version h.picture h.version).down xs ordered) in
+      let order = r.between.order in
+      let within = r.between.within in
+      let at = putting.cut held_before test test (λ _. true) h (λ y t. (refl, t)) (λ y t. (refl, t)) (λ y t u. grind arith) xs r.from r.to (omega arith) within r.between.first r.between.last in
+      r.list ∙ sym at.place ∙ ap (put held_before h) (putting.filter_true xs)
+
+  pub replaced_by_tests : (h : Held) (new : List Held) → {G : Type 0} {g : Mut G (Bor Held × Unit {0}) Bool} {through : G}
+      → ((t u : Held → Bool) → ComputesKey f t before → ComputesKey g u through → IsPartitionedBy t xs → IsPartitionedBy u xs → ((y : Held) → t y ≡ true → u y ≡ true) → IsReplaced t u xs h new)
+      → ((a : Bor Held × Unit {0}) (r : Bool) (f' : F) → Called f before a r f' → (r ≡ ltb a.0.now.picture h.picture) × (f' ≡ before))
+      → ((a : Bor Held × Unit {0}) (r : Bool) (g' : G) → Called g through a r g' → (r ≡ leb a.0.now.picture h.picture) × (g' ≡ through))
+      → new ≡ replaced h xs
+  replaced_by_tests h new {g = g} {through = through} clause less most =
+      let r = clause (λ x. ltb x.picture h.picture) (λ x. leb x.picture h.picture)
+      (always_returns_same f (λ a r. r ≡ ltb a.0.now.picture h.picture) before less)
+      (always_returns_same g (λ a r. r ≡ leb a.0.now.picture h.picture) through most)
+      (putting.turning held_before _ (for_picture h.picture).down xs ordered)
+      (putting.turning held_before _ (through_picture h.picture) xs ordered)
+      (λ y l. grind (arith, nat_tests)) in
+      let order = r.between.order in
+      let within = r.between.within in
+      r.list ∙ sym (range_cut h xs r.from r.to (omega arith) within r.between.first r.between.last).place

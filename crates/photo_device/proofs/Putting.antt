@@ -1,90 +1,149 @@
 -- Lists in the order of a test: what is put into them, and what a filter leaves of them.
-use Rattle.std.proofs.Common.{◌≡◌, ℕ, zero, suc, ◌<◌, ◌≤◌, Bool, true, false, not, cond, ◌||◌, List, [], ◌∷◌, ◌++◌, length, get_or, take, drop, refl, sym, ap, ◌∙◌, inl, inr, arith}
-use Rattle.std.specs.Prelude.{filter}
-use Rattle.std.specs.List.{list_all}
+use Rattle.std.proofs.Common.{◌≡◌, ℕ, zero, suc, ◌+◌, ◌<◌, ◌≤◌, Bool, true, false, not, cond, ltb, ◌&&◌, ◌||◌, List, [], ◌∷◌, ◌++◌, length, get_or, slice_get, take, drop, refl, sym, ap, ◌∙◌, inl, inr, arith}
+use Rattle.std.proofs.lemmas.List.Elements.{filter_agree}
+use Rattle.std.proofs.Math.Bool.{and_comm}
+use Rattle.std.specs.Prelude.{map, filter, Option, Some, None, is_some}
+use Rattle.std.specs.List.{list_all, list_any, find}
 use Rattle.std.specs.List.Sorted.{IsPartitionedBy, IsPartitionPoint}
 use Rattle.std.specs.Cmp.{IsStrictWeakOrder}
-use Rattle.std.proofs.lemmas.Bool.{and_parts, and_from, cases_Bool, cases_lt, false≢true, not-true}
+use Rattle.std.proofs.lemmas.Bool.{and_parts, and_from, cases_Bool, cases_lt, false≢true, lt-ltb, or_cases}
+use Rattle.std.proofs.lemmas.Bool.Decides.{nat_tests}
+use Rattle.std.proofs.lemmas.Option.{same_Some, none-some}
 use Rattle.photo_device.specs.Ordered.{put, in_order}
 
+-- where a test turns
+abbrev pub TurnsAt : {A : Type 0} → (A → Bool) → List A → ℕ → Type 0
+TurnsAt q xs n = IsPartitionPoint (λ y. q y ≡ true) (λ y. q y ≡ false) xs n
+
 module _ {A : Type 0} where
+  pub any_found : (q : A → Bool) (xs : List A) → is_some (find q xs) ≡ list_any q xs
+  any_found q [] = refl
+  any_found q (x ∷ xs) = elim (cases_Bool (q x)) [
+    | inl passes ↦ rw passes refl
+    | inr fails ↦ rw fails (any_found q xs)
+  ]
+
+  pub any_counted : (q : A → Bool) (xs : List A) → list_any q xs ≡ ltb 0 (length (filter q xs))
+  any_counted q [] = refl
+  any_counted q (x ∷ xs) = elim (cases_Bool (q x)) [
+    | inl passes ↦ rw passes (sym (lt-ltb 0 (suc (length (filter q xs))) (omega arith)))
+    | inr fails ↦ rw fails (any_counted q xs)
+  ]
+
+  pub any_wider : (q r : A → Bool) → ((x : A) → q x ≡ true → r x ≡ true) → (xs : List A) → list_any q xs ≡ true → list_any r xs ≡ true
+  any_wider q r wider [] h = h
+  any_wider q r wider (x ∷ xs) h = let here = wider x in let rest = any_wider q r wider xs in grind arith
+
+  pub count-cons : (q : A → Bool) (x : A) (xs : List A) → length (filter q (x ∷ xs)) ≡ cond (q x) 1 0 + length (filter q xs)
+  count-cons q x xs = elim (cases_Bool (q x)) [
+    | inl passes ↦ rw passes (omega arith)
+    | inr fails ↦ rw fails (omega arith)
+  ]
+
+  pub none_out : (q : A → Bool) (xs : List A) → list_any q xs ≡ false → filter (λ x. not (q x)) xs ≡ xs
+  none_out q [] none = refl
+  none_out q (x ∷ xs) none = elim (cases_Bool (q x)) [
+    | inl passes ↦ absurd (false≢true (sym none ∙ rw passes refl))
+    | inr fails ↦ rw fails (ap (λ l. x ∷ l) (none_out q xs (rw fails at none)))
+  ]
+
+  -- the only one that passes is the one that is found, and without it the others are left
+  pub only_one : (q : A → Bool) (xs : List A) (i : ℕ) (x : A) → length (filter q xs) ≤ 1 → slice_get xs i ≡ Some x → q x ≡ true → (Some x ≡ find q xs) × (take i xs ++ drop (i + 1) xs ≡ filter (λ y. not (q y)) xs)
+  only_one q [] i x once at passes = absurd (none-some x at)
+  only_one q (y ∷ ys) zero x once at passes =
+      let is : q y ≡ true = ap q (same_Some y x at) ∙ passes in
+      let counted = rw is at once in
+      let none : list_any q ys ≡ false = any_counted q ys ∙ grind (arith, nat_tests) in
+      (rw is (sym at), rw is (sym (none_out q ys none)))
+  only_one q (y ∷ ys) (suc i) x once at passes = elim (cases_Bool (q y)) [
+    | inl too ↦
+        let counted = rw too at once in
+        let some = any_there q ys i x at passes in
+        absurd (grind (arith, nat_tests, any_counted q ys))
+    | inr fails ↦
+        let rest = only_one q ys i x (rw fails at once) at passes in
+        let next : suc i + 1 ≡ suc (i + 1) = omega arith in
+        (rw fails rest.0, rw (next, fails) (ap (λ l. y ∷ l) rest.1))
+  ]
+    where
+      any_there : (q : A → Bool) (xs : List A) (i : ℕ) (x : A) → slice_get xs i ≡ Some x → q x ≡ true → list_any q xs ≡ true
+      any_there q [] i x at passes = absurd (none-some x at)
+      any_there q (y ∷ ys) zero x at passes = rw (ap q (same_Some y x at) ∙ passes) refl
+      any_there q (y ∷ ys) (suc i) x at passes = let rest = any_there q ys i x at passes in grind arith
+
+  -- what is found is found still, where it stays
+  pub found_still : (q r : A → Bool) → ((x : A) → q x ≡ true → r x ≡ true) → (xs : List A) → find q (filter r xs) ≡ find q xs
+  found_still q r stays [] = refl
+  found_still q r stays (x ∷ xs) = elim (cases_Bool (q x)) [
+    | inl passes ↦ rw (stays x passes, passes) refl
+    | inr fails ↦ elim (cases_Bool (r x)) [
+      | inl left ↦ rw (left, fails) (found_still q r stays xs)
+      | inr gone ↦ rw (gone, fails) (found_still q r stays xs)
+    ]
+  ]
+
   pub list_all-filter : (q r : A → Bool) (xs : List A) → list_all q xs ≡ true → list_all q (filter r xs) ≡ true
   list_all-filter q r [] h = refl
-  list_all-filter q r (x ∷ xs) h =
-      elim (r x) as (λ b. list_all q (cond b (x ∷ filter r xs) (filter r xs)) ≡ true) [
-        | true ↦ and_from _ _ (and_parts _ _ h).0 (list_all-filter q r xs (and_parts _ _ h).1)
-        | false ↦ list_all-filter q r xs (and_parts _ _ h).1
-      ]
+  list_all-filter q r (x ∷ xs) h = let rest = list_all-filter q r xs in grind arith
 
   pub list_all_filtered : (q : A → Bool) (xs : List A) → list_all q (filter q xs) ≡ true
   list_all_filtered q [] = refl
-  list_all_filtered q (x ∷ xs) = elim (cases_Bool (q x)) [
-    | inl passes ↦ rw passes (and_from _ _ passes (list_all_filtered q xs))
-    | inr fails ↦ rw fails (list_all_filtered q xs)
-  ]
+  list_all_filtered q (x ∷ xs) = let rest = list_all_filtered q xs in grind arith
 
   -- what one test tells of each, another may too
   pub list_all_wider : (q r : A → Bool) → ((x : A) → q x ≡ true → r x ≡ true) → (xs : List A) → list_all q xs ≡ true → list_all r xs ≡ true
   list_all_wider q r wider [] h = refl
   list_all_wider q r wider (x ∷ xs) h = and_from _ _ (wider x (and_parts _ _ h).0) (list_all_wider q r wider xs (and_parts _ _ h).1)
 
+  pub none_passes : (q : A → Bool) (xs : List A) → list_any q xs ≡ false → list_all (λ x. not (q x)) xs ≡ true
+  none_passes q [] none = refl
+  none_passes q (x ∷ xs) none = let rest = none_passes q xs in grind arith
+
+  pub filter_true : (xs : List A) → filter (λ _. true) xs ≡ xs
+  filter_true [] = refl
+  filter_true (x ∷ xs) = ap (λ l. x ∷ l) (filter_true xs)
+
   pub filter_all : (q : A → Bool) (xs : List A) → list_all q xs ≡ true → filter q xs ≡ xs
   filter_all q [] h = refl
-  filter_all q (x ∷ xs) h =
-      let passes : q x ≡ true = (and_parts _ _ h).0 in
-      rw passes (ap (λ l. x ∷ l) (filter_all q xs (and_parts _ _ h).1))
+  filter_all q (x ∷ xs) h = let rest = filter_all q xs in grind arith
 
-  pub filter_none : (q : A → Bool) (xs : List A) → list_all (λ x. not (q x)) xs ≡ true → filter q xs ≡ []
-  filter_none q [] h = refl
-  filter_none q (x ∷ xs) h =
-      let fails : q x ≡ false = not-true _ (and_parts _ _ h).0 in
-      rw fails (filter_none q xs (and_parts _ _ h).1)
+  turns_next : (q : A → Bool) (ys : List A) (y : A) → TurnsAt q (y ∷ ys) zero → TurnsAt q ys zero
+  turns_next q ys y t = (λ j d z u. absurd (omega arith), λ j d u v. t.1 (suc j) d (omega arith) (omega arith))
 
-  -- two tests that are alike where a third passes
-  pub filter_alike : (s q r : A → Bool) → ((x : A) → s x ≡ true → q x ≡ r x) → (xs : List A) → list_all s xs ≡ true → filter q xs ≡ filter r xs
-  filter_alike s q r same [] h = refl
-  filter_alike s q r same (x ∷ xs) h =
-      let rest = filter_alike s q r same xs (and_parts _ _ h).1 in
-      λ i. cond (same x (and_parts _ _ h).0 i) (x ∷ rest i) (rest i)
+  turns_later : (q : A → Bool) (ys : List A) (y : A) (n : ℕ) → TurnsAt q (y ∷ ys) (suc n) → TurnsAt q ys n
+  turns_later q ys y n t = (λ j d z u. t.0 (suc j) d (omega arith) (omega arith), λ j d u v. t.1 (suc j) d (omega arith) (omega arith))
 
-  -- where a test turns, those that pass end and the others begin
-  pub turned : (q : A → Bool) (xs : List A) (n : ℕ) → n ≤ length xs → IsPartitionPoint (λ y. q y ≡ true) (λ y. q y ≡ false) xs n → (filter q xs ≡ take n xs) × (filter (λ y. not (q y)) xs ≡ drop n xs)
-  turned q [] zero l point = (refl, refl)
-  turned q [] (suc n) l point = absurd (omega arith)
-  turned q (x ∷ xs) zero l point =
-      let fails : q x ≡ false = point.1 0 x (omega arith) (omega arith) in
-      let rest = turned q xs zero (omega arith) (λ j d z u. absurd (omega arith), λ j d u v. point.1 (suc j) d (omega arith) (omega arith)) in
-      (rw fails rest.0, rw fails (ap (λ l. x ∷ l) rest.1))
-  turned q (x ∷ xs) (suc n) l point =
-      let passes : q x ≡ true = point.0 0 x (omega arith) (omega arith) in
-      let rest = turned q xs n (omega arith) (λ j d z u. point.0 (suc j) d (omega arith) (omega arith), λ j d u v. point.1 (suc j) d (omega arith) (omega arith)) in
-      (rw passes (ap (λ l. x ∷ l) rest.0), rw passes rest.1)
+  -- elements that pass p stand in front, those that fail q at the back, and those between don't pass keep: x comes between
+  pub record IsCut (before : A → A → Bool) (keep : A → Bool) (x : A) (xs : List A) (from to : ℕ) : Type 0 where
+    pub order : from ≤ to
+    pub rest : filter keep xs ≡ take from xs ++ drop to xs
+    pub place : put before x (filter keep xs) ≡ take from xs ++ x ∷ drop to xs
+
+  pub cut : (before : A → A → Bool) (p q keep : A → Bool) (x : A) → ((y : A) → p y ≡ true → (keep y ≡ true) × (before y x ≡ true)) → ((y : A) → q y ≡ false → (keep y ≡ true) × (before y x ≡ false))
+      → ((y : A) → p y ≡ false → q y ≡ true → keep y ≡ false) → (xs : List A) (from to : ℕ) → from ≤ length xs → to ≤ length xs → TurnsAt p xs from → TurnsAt q xs to → IsCut before keep x xs from to
+  cut before p q keep x front back gone [] from to l m first last = (let f : from ≡ zero = omega arith in let t : to ≡ zero = omega arith in rw (f, t) (record { order = omega arith; rest = refl; place = refl }))
+  cut before p q keep x front back gone (y ∷ ys) (suc from) zero l m first last = absurd (false≢true (sym (back y (last.1 0 y (omega arith) (omega arith))).1 ∙ (front y (first.0 0 y (omega arith) (omega arith))).1))
+  cut before p q keep x front back gone (y ∷ ys) zero zero l m first last =
+      let here = back y (last.1 0 y (omega arith) (omega arith)) in
+      let rest = cut before p q keep x front back gone ys zero zero (omega arith) (omega arith) (turns_next p ys y first) (turns_next q ys y last) in
+      record { order = omega arith; rest = rw here.0 (ap (λ l. y ∷ l) rest.rest); place = rw here.0 (rw here.1 (ap (λ l. x ∷ y ∷ l) rest.rest)) }
+  cut before p q keep x front back gone (y ∷ ys) zero (suc to) l m first last =
+      let here = gone y (first.1 0 y (omega arith) (omega arith)) (last.0 0 y (omega arith) (omega arith)) in
+      let rest = cut before p q keep x front back gone ys zero to (omega arith) (omega arith) (turns_next p ys y first) (turns_later q ys y to last) in
+      record { order = omega arith; rest = rw here rest.rest; place = rw here rest.place }
+  cut before p q keep x front back gone (y ∷ ys) (suc from) (suc to) l m first last =
+      let here = front y (first.0 0 y (omega arith) (omega arith)) in
+      let rest = cut before p q keep x front back gone ys from to (omega arith) (omega arith) (turns_later p ys y from first) (turns_later q ys y to last) in
+      record { order = (let o = rest.order in omega arith); rest = rw here.0 (ap (λ l. y ∷ l) rest.rest); place = rw here.0 (rw here.1 (ap (λ l. y ∷ l) rest.place)) }
 
   module _ (before : A → A → Bool) where
     pub in_order-filter : (r : A → Bool) (xs : List A) → in_order before xs ≡ true → in_order before (filter r xs) ≡ true
     in_order-filter r [] h = refl
-    in_order-filter r (x ∷ xs) h =
-        elim (r x) as (λ b. in_order before (cond b (x ∷ filter r xs) (filter r xs)) ≡ true) [
-          | true ↦ and_from _ _ (list_all-filter _ r xs (and_parts _ _ h).0) (in_order-filter r xs (and_parts _ _ h).1)
-          | false ↦ in_order-filter r xs (and_parts _ _ h).1
-        ]
+    in_order-filter r (x ∷ xs) h = let rest = in_order-filter r xs in let all = list_all-filter (before x) r xs in grind arith
 
-    pub list_all-put : (q : A → Bool) (x : A) (xs : List A) → q x ≡ true → list_all q xs ≡ true → list_all q (put before x xs) ≡ true
-    list_all-put q x [] p a = and_from _ _ p refl
-    list_all-put q x (y ∷ ys) p a =
-        elim (before y x) as (λ b. list_all q (cond b (y ∷ put before x ys) (x ∷ y ∷ ys)) ≡ true) [
-          | true ↦ and_from _ _ (and_parts _ _ a).0 (list_all-put q x ys p (and_parts _ _ a).1)
-          | false ↦ and_from _ _ p a
-        ]
-
-    -- what a test leaves out, a put changes nothing of
-    pub filter-put_out : (q : A → Bool) (x : A) (xs : List A) → q x ≡ false → filter q (put before x xs) ≡ filter q xs
-    filter-put_out q x [] f = rw f refl
-    filter-put_out q x (y ∷ ys) f =
-        elim (before y x) as (λ b. filter q (cond b (y ∷ put before x ys) (x ∷ y ∷ ys)) ≡ filter q (y ∷ ys)) [
-          | true ↦ ap (λ l. cond (q y) (y ∷ l) l) (filter-put_out q x ys f)
-          | false ↦ rw f refl
-        ]
+    list_all-put : (q : A → Bool) (x : A) (xs : List A) → q x ≡ true → list_all q xs ≡ true → list_all q (put before x xs) ≡ true
+    list_all-put q x [] p a = grind arith
+    list_all-put q x (y ∷ ys) p a = let rest = list_all-put q x ys in grind arith
 
   pub list_all_get : (q : A → Bool) (xs : List A) → list_all q xs ≡ true → (j : ℕ) (d : A) → j < length xs → q (get_or xs j d) ≡ true
   list_all_get q [] a j d l = absurd (omega arith)
@@ -107,53 +166,77 @@ module _ {A : Type 0} where
       let rest = in_order_next before chain (y ∷ ys) (λ k d l. next (suc k) d (omega arith)) in
       and_from _ _ (and_from _ _ first (list_all_wider (before y) (before x) (λ z h. chain x y z first h) ys (and_parts _ _ rest).0)) rest
 
+  -- a search in a list in order: those that pass t stand in front, and the first behind them is the only one that may pass q
+  pub record IsSearch (before : A → A → Bool) (t q : A → Bool) : Type 0 where
+    pub down : (x y : A) → before x y ≡ true → t y ≡ true → t x ≡ true
+    pub apart : (x : A) → t x ≡ true → q x ≡ false
+    pub alone : (x y : A) → before x y ≡ true → t x ≡ false → q x ≡ false → q y ≡ false
+
+  pub turning : (before : A → A → Bool) (t : A → Bool) → ((x y : A) → before x y ≡ true → t y ≡ true → t x ≡ true) → (xs : List A) → in_order before xs ≡ true → IsPartitionedBy t xs
+  turning before t down xs o i j d le l h = elim (cases_lt i j) [
+    | inl less ↦ down _ _ (in_order_at before xs o i j d less l) h
+    | inr same ↦ let at : i ≡ j = omega arith in rw at h
+  ]
+
+  abbrev pub passing : (A → Bool) → Option A → Option A
+  passing q None = None
+  passing q (Some x) = cond (q x) (Some x) None
+
+  pub told_if : (q : A → Bool) (x : A) → q x ≡ is_some (passing q (Some x))
+  told_if q x = elim (cases_Bool (q x)) [
+    | inl passes ↦ rw passes refl
+    | inr fails ↦ rw fails refl
+  ]
+
+  pub found_first : (before : A → A → Bool) (t q : A → Bool) → IsSearch before t q → (xs : List A) → in_order before xs ≡ true → passing q (find (λ x. not (t x)) xs) ≡ find q xs
+  found_first before t q search [] o = refl
+  found_first before t q search (x ∷ xs) o = elim (cases_Bool (t x)) [
+    | inl front ↦ rw (front, search.apart x front) (found_first before t q search xs (and_parts _ _ o).1)
+    | inr here ↦ elim (cases_Bool (q x)) [
+      | inl is ↦ rw (here, is) refl
+      | inr other ↦ rw (here, other) (sym (none x here other xs (and_parts _ _ o).0))
+    ]
+  ]
+    where
+      none : (x : A) → t x ≡ false → q x ≡ false → (ys : List A) → list_all (before x) ys ≡ true → find q ys ≡ None
+      none x here other [] later = refl
+      none x here other (y ∷ ys) later = rw (search.alone x y (and_parts _ _ later).0 here other) (none x here other ys (and_parts _ _ later).1)
+
+  pub filter-filter : (q r : A → Bool) (xs : List A) → filter q (filter r xs) ≡ filter (λ x. r x && q x) xs
+  filter-filter q r [] = refl
+  filter-filter q r (x ∷ xs) = elim (cases_Bool (r x)) [
+    | inl left ↦ rw left (ap (λ l. cond (q x) (x ∷ l) l) (filter-filter q r xs))
+    | inr gone ↦ rw gone (filter-filter q r xs)
+  ]
+
+  pub filter-swap : (q r : A → Bool) (xs : List A) → filter q (filter r xs) ≡ filter r (filter q xs)
+  filter-swap q r xs = filter-filter q r xs ∙ filter_agree _ _ (λ x. and_comm (r x) (q x)) xs ∙ sym (filter-filter r q xs)
+
+  pub map_alike : {B : Type 0} (f g : A → B) (q : A → Bool) → ((x : A) → q x ≡ true → f x ≡ g x) → (xs : List A) → list_all q xs ≡ true → map f xs ≡ map g xs
+  map_alike f g q alike [] h = refl
+  map_alike f g q alike (x ∷ xs) h = (λ i. alike x (and_parts _ _ h).0 i ∷ map_alike f g q alike xs (and_parts _ _ h).1 i)
+
+  -- where a test turns, those that pass end and the others begin
+  pub turned : (q : A → Bool) (xs : List A) (n : ℕ) → n ≤ length xs → TurnsAt q xs n → (filter q xs ≡ take n xs) × (filter (λ y. not (q y)) xs ≡ drop n xs)
+  turned q [] n l point = (let none : n ≡ zero = omega arith in rw none (refl, refl))
+  turned q (x ∷ xs) zero l point =
+      let fails : q x ≡ false = point.1 0 x (omega arith) (omega arith) in
+      let rest = turned q xs zero (omega arith) (turns_next q xs x point) in
+      (rw fails rest.0, rw fails (ap (λ l. x ∷ l) rest.1))
+  turned q (x ∷ xs) (suc n) l point =
+      let passes : q x ≡ true = point.0 0 x (omega arith) (omega arith) in
+      let rest = turned q xs n (omega arith) (turns_later q xs x n point) in
+      (rw passes (ap (λ l. x ∷ l) rest.0), rw passes rest.1)
+
   module _ {before : A → A → Bool} (order : IsStrictWeakOrder before) where
     -- along the order
     pub follows : (x y z : A) → before x y ≡ true → before y z ≡ true → before x z ≡ true
-    follows x y z h g = elim (cases_Bool (before x z)) [
-      | inl yes_before ↦ yes_before
-      | inr not_before ↦ absurd (false≢true (sym (order.chain x z y not_before (order.one_way y z g)) ∙ h))
-    ]
-
-    -- what stands before the first stands before all
-    pub before_all : (x y : A) (ys : List A) → before x y ≡ true → list_all (before y) ys ≡ true → list_all (before x) ys ≡ true
-    before_all x y ys l a = list_all_wider (before y) (before x) (λ z h. follows x y z l h) ys a
-
-    -- nothing behind one that doesn't stand before x does
-    none_before : (x y z : A) → before y x ≡ false → before y z ≡ true → before z x ≡ false
-    none_before x y z h g = order.chain z y x (order.one_way y z g) h
+    follows x y z h g = let back = order.one_way y z g in let chain = order.chain x z y in grind arith
 
     -- what is put before the first
     pub put_first : (x : A) (xs : List A) → list_all (λ z. not (before z x)) xs ≡ true → put before x xs ≡ x ∷ xs
     put_first x [] h = refl
-    put_first x (y ∷ ys) h =
-        let after : before y x ≡ false = not-true _ (and_parts _ _ h).0 in
-        rw after refl
-
-    -- and what is put between those that stand before it and the others
-    pub put_between : (x : A) (ys zs : List A) → list_all (λ y. before y x) ys ≡ true → list_all (λ z. not (before z x)) zs ≡ true → put before x (ys ++ zs) ≡ ys ++ x ∷ zs
-    put_between x [] zs first last = put_first x zs last
-    put_between x (y ∷ ys) zs first last =
-        let less : before y x ≡ true = (and_parts _ _ first).0 in
-        rw less (ap (λ l. y ∷ l) (put_between x ys zs (and_parts _ _ first).1 last))
-
-    none_behind : (x y : A) (ys : List A) → before y x ≡ false → list_all (before y) ys ≡ true → list_all (λ z. not (before z x)) (y ∷ ys) ≡ true
-    none_behind x y ys h a =
-        and_from (not (before y x)) _ (ap not h) (list_all_wider (before y) (λ z. not (before z x)) (λ z g. ap not (none_before x y z h g)) ys a)
-
-    -- what passes a test may be put before or after the filter
-    pub filter-put : (q : A → Bool) (x : A) (xs : List A) → q x ≡ true → in_order before xs ≡ true → filter q (put before x xs) ≡ put before x (filter q xs)
-    filter-put q x [] p o = rw p refl
-    filter-put q x (y ∷ ys) p o = elim (cases_Bool (before y x)) [
-      | inl less ↦ rw less (passed (q y) (filter-put q x ys p (and_parts _ _ o).1) less)
-      | inr not_less ↦
-          let alone : put before x (filter q (y ∷ ys)) ≡ x ∷ filter q (y ∷ ys) = put_first x (filter q (y ∷ ys)) (list_all-filter _ q (y ∷ ys) (none_behind x y ys not_less (and_parts _ _ o).0)) in
-          rw (not_less, p) (sym alone)
-    ]
-      where
-        passed : (b : Bool) → filter q (put before x ys) ≡ put before x (filter q ys) → before y x ≡ true → cond b (y ∷ filter q (put before x ys)) (filter q (put before x ys)) ≡ put before x (cond b (y ∷ filter q ys) (filter q ys))
-        passed true e less = rw less (ap (λ l. y ∷ l) e)
-        passed false e less = e
+    put_first x (y ∷ ys) h = grind arith
 
     -- where each stands before or behind x, the order stays
     pub in_order-put : (x : A) (xs : List A) → in_order before xs ≡ true → list_all (λ y. before x y || before y x) xs ≡ true → in_order before (put before x xs) ≡ true
@@ -161,51 +244,25 @@ module _ {A : Type 0} where
     in_order-put x (y ∷ ys) o e = elim (cases_Bool (before y x)) [
       | inl less ↦ rw less (and_from _ _ (list_all-put before (before y) x ys less (and_parts _ _ o).0) (in_order-put x ys (and_parts _ _ o).1 (and_parts _ _ e).1))
       | inr not_less ↦
-          let first : before x y ≡ true = or_false (before x y) (before y x) not_less (and_parts _ _ e).0 in
-          rw not_less (and_from _ _ (and_from _ _ first (before_all x y ys first (and_parts _ _ o).0)) o)
-    ]
-      where
-        or_false : (a b : Bool) → b ≡ false → (a || b) ≡ true → a ≡ true
-        or_false true b f h = refl
-        or_false false b f h = sym f ∙ h
-
-    -- along a list in order, the test against x turns once
-
-    first_before : (x y : A) (ys : List A) (j : ℕ) (d : A) → list_all (before y) ys ≡ true → j < length ys → before (get_or ys j d) x ≡ true → before y x ≡ true
-    first_before x y [] j d a l h = absurd (omega arith)
-    first_before x y (z ∷ zs) zero d a l h = follows y z x (and_parts _ _ a).0 h
-    first_before x y (z ∷ zs) (suc j) d a l h = first_before x y zs j d (and_parts _ _ a).1 (omega arith) h
-
-    pub partitioned : (x : A) (xs : List A) → in_order before xs ≡ true → IsPartitionedBy (λ y. before y x) xs
-    partitioned x [] o i j d le l h = absurd (omega arith)
-    partitioned x (y ∷ ys) o zero zero d le l h = h
-    partitioned x (y ∷ ys) o zero (suc j) d le l h = first_before x y ys j d (and_parts _ _ o).0 (omega arith) h
-    partitioned x (y ∷ ys) o (suc i) zero d le l h = absurd (omega arith)
-    partitioned x (y ∷ ys) o (suc i) (suc j) d le l h = partitioned x ys (and_parts _ _ o).1 i j d (omega arith) (omega arith) h
-
-    -- the same of a list in which one may stand twice
-    pub partitioned_rising : (x : A) (xs : List A) → in_order (λ y z. not (before z y)) xs ≡ true → IsPartitionedBy (λ y. before y x) xs
-    partitioned_rising x xs o i j d le l h = elim (cases_lt i j) [
-      | inl less ↦ elim (cases_Bool (before (get_or xs i d) x)) [
-        | inl first ↦ first
-        | inr not_first ↦ absurd (false≢true (sym (order.chain (get_or xs j d) (get_or xs i d) x (not-true _ (in_order_at (λ y z. not (before z y)) xs o i j d less l)) not_first) ∙ h))
-      ]
-      | inr same ↦ let at : i ≡ j = omega arith in rw at h
+          let first : before x y ≡ true = grind arith in
+          rw not_less (and_from _ _ (and_from _ _ first (list_all_wider (before y) (before x) (λ z. follows x y z first) ys (and_parts _ _ o).0)) o)
     ]
 
-  -- x goes where the test turns
-  pub put_at : (before : A → A → Bool) (x : A) (xs : List A) (i : ℕ) → i ≤ length xs → IsPartitionPoint (λ y. before y x ≡ true) (λ y. before y x ≡ false) xs i → put before x xs ≡ take i xs ++ x ∷ drop i xs
-  put_at before x [] zero l point = refl
-  put_at before x [] (suc i) l point = absurd (omega arith)
-  put_at before x (y ∷ ys) zero l point = rw (point.1 0 y (omega arith) (omega arith)) refl
-  put_at before x (y ∷ ys) (suc i) l point =
-      rw (point.0 0 y (omega arith) (omega arith))
-      (ap (λ l. y ∷ l) (put_at before x ys i (omega arith) (λ j d z u. point.0 (suc j) d (omega arith) (omega arith), λ j d u v. point.1 (suc j) d (omega arith) (omega arith))))
+    -- two puts in either order
+    swap_less : (x y : A) (zs : List A) → before x y ≡ true → put before x (put before y zs) ≡ put before y (put before x zs)
+    swap_less x y [] less = let back = order.one_way x y less in rw (less, back) refl
+    swap_less x y (z ∷ zs) less =
+        let back = order.one_way x y less in
+        elim (cases_Bool (before z x)) [
+          | inl first ↦ let too = follows z x y first less in simp (too, first) (ap (λ l. z ∷ l) (swap_less x y zs less))
+          | inr behind ↦ elim (cases_Bool (before z y)) [
+            | inl between ↦ simp (between, behind, less)
+            | inr last ↦ simp (last, behind, less, back)
+          ]
+        ]
 
-  -- two places at which a test turns are one
-  pub turns_once : (q : A → Bool) (xs : List A) (i j : ℕ) → i ≤ j → j ≤ length xs → IsPartitionPoint (λ y. q y ≡ true) (λ y. q y ≡ false) xs i → IsPartitionPoint (λ y. q y ≡ true) (λ y. q y ≡ false) xs j → i ≡ j
-  turns_once q [] i j o l p r = omega arith
-  turns_once q (x ∷ xs) i j o l p r = elim (cases_lt i j) [
-    | inl less ↦ absurd (false≢true (sym (p.1 i x (omega arith) (omega arith)) ∙ r.0 i x (omega arith) less))
-    | inr same ↦ omega arith
-  ]
+    pub put-put : (x y : A) (zs : List A) → (before x y || before y x) ≡ true → put before x (put before y zs) ≡ put before y (put before x zs)
+    put-put x y zs apart = elim (or_cases _ _ apart) [
+      | inl less ↦ swap_less x y zs less
+      | inr more ↦ sym (swap_less y x zs more)
+    ]

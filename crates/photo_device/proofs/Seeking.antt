@@ -1,14 +1,15 @@
 -- A version among versions in order.
 use Rattle.std.proofs.Common.{◌≡◌, ℕ, suc, ◌+◌, ◌-◌, ◌<◌, ◌≤◌, true, false, not, List, length, get_or, sym, ap, ◌∙◌, inl, inr, arith}
 use Rattle.std.specs.List.Sorted.{IsPartitionedBy, IsPartitionPoint}
-use Rattle.std.proofs.lemmas.Bool.{cases_Bool, cases_lt, false≢true, not-true}
+use Rattle.std.proofs.lemmas.Bool.{cases_Bool, cases_lt, not-true}
+use Rattle.std.proofs.lemmas.Bool.Decides.{nat_tests}
 use Rattle.std.proofs.lemmas.List.{get_or_default}
 use Rattle.std.proofs.lemmas.List.Folds.{list_any_at, list_any_none}
 use Rattle.photo_version.specs.Version.{Version, same_version, version_before}
 use Rattle.photo_device.specs.Rising.{are_rising}
 use Rattle.photo_device.specs.Held.{is_listed}
-use Rattle.photo_device.proofs.Lexical.{version_order, version_same, before_other, behind_other, behind_first}
-use Rattle.photo_device.proofs.Putting.{in_order_at, in_order_next, partitioned_rising}
+use Rattle.photo_device.proofs.Order.{version_order}
+use Rattle.photo_device.proofs.Putting.{in_order_at, in_order_next, turning}
 
 pub rising_next : (versions : List Version) → ((k : ℕ) (d : Version) → suc k < length versions → version_before (get_or versions (suc k) d) (get_or versions k d) ≡ false) → are_rising versions ≡ true
 rising_next versions next =
@@ -17,22 +18,26 @@ rising_next versions next =
     versions (λ k d l. ap not (next k d l))
 
 pub rising_partitioned : (versions : List Version) (w : Version) → are_rising versions ≡ true → IsPartitionedBy (λ v. version_before v w) versions
-rising_partitioned versions w o = partitioned_rising version_order w versions o
+rising_partitioned versions w o = turning (λ v u. not (version_before u v)) (λ v. version_before v w) (λ v u rising h. by v u rising h) versions o
+  where
+    by : (v u : Version) → not (version_before u v) ≡ true → version_before u w ≡ true → version_before v w ≡ true
+    by v u rising h = grind (arith, nat_tests)
 
 -- which one stands where those before w end
 module _ (versions : List Version) (w : Version) (n : ℕ) (o : are_rising versions ≡ true) (point : IsPartitionPoint (λ v. version_before v w ≡ true) (λ v. version_before v w ≡ false) versions n) where
+  in_front : (v : Version) → version_before v w ≡ true → same_version v w ≡ false
+  in_front v h = grind (arith, nat_tests)
+
+  at_back : (v u : Version) → version_before v w ≡ false → same_version v w ≡ false → not (version_before u v) ≡ true → same_version u w ≡ false
+  at_back v u h other rising = grind (arith, nat_tests)
+
   others : (k : ℕ) (d : Version) → k < length versions → (n < length versions → same_version (get_or versions n d) w ≡ false) → same_version (get_or versions k d) w ≡ false
   others k d l other = elim (cases_lt k n) [
-    | inl before ↦ before_other version_before same_version version_same _ w (point.0 k d (omega arith) before)
+    | inl before ↦ in_front _ (point.0 k d (omega arith) before)
     | inr from ↦ elim (cases_lt n k) [
       | inl later ↦
           let at : n < length versions = omega arith in
-          let turn = behind_first version_before same_version version_same (get_or versions n d) w (point.1 n d (omega arith) at) (other at) in
-          let rising = not-true _ (in_order_at (λ v w. not (version_before w v)) versions o n k d later l) in
-          elim (cases_Bool (version_before w (get_or versions k d))) [
-            | inl behind ↦ behind_other version_before same_version version_same _ w behind
-            | inr none ↦ absurd (false≢true (sym (version_order.chain w (get_or versions k d) (get_or versions n d) none rising) ∙ turn))
-          ]
+          at_back (get_or versions n d) (get_or versions k d) (point.1 n d (omega arith) at) (other at) (in_order_at (λ v u. not (version_before u v)) versions o n k d later l)
       | inr same ↦ let here : k ≡ n = omega arith in rw here (other (omega arith))
     ]
   ]

@@ -1,76 +1,105 @@
--- What a device shows after it made a version.
-use Rattle.std.proofs.Common.{◌≡◌, ℕ, ◌+◌, ◌<◌, Bool, true, false, not, ◌||◌, cond, List, refl, ap, ◌∙◌}
-use Rattle.std.specs.Prelude.{None}
+-- What held versions show as entries, and a device after it made a version.
+use Rattle.std.proofs.Common.{◌≡◌, ℕ, ◌+◌, Bool, true, false, not, eqb, ◌||◌, cond, List, [], ◌∷◌, ◌++◌, refl, sym, ap, ◌∙◌, arith}
+use Rattle.std.specs.Prelude.{filter, Some}
+use Rattle.std.specs.List.{list_any}
+use Rattle.std.specs.Option.{option_map}
+use Rattle.std.proofs.lemmas.List.{map-append}
+use Rattle.std.proofs.lemmas.List.Folds.{list_any-append}
 use Rattle.photo_record.specs.declared.record.Record.{Record}
 use Rattle.photo_filter_rules.specs.Matching.{matches}
-use Rattle.photo_device.specs.declared.held.Held.{Held}
-use Rattle.photo_device.specs.declared.place.Place.{Place}
-use Rattle.photo_device.specs.declared.place.Place.TheVariants.{Store, Out}
 use Rattle.photo_version.specs.Version.{Version, version, same_version}
-use Rattle.photo_version.specs.Vector.{Bound, denotes}
-use Rattle.item_knowledge.specs.Fragments.{Fragment, knows}
-use Rattle.photo_device.specs.Entry.{put_entry_if, others}
-use Rattle.photo_device.specs.Held.{entry_of, entries_of}
-use Rattle.photo_device.specs.Device.{ModelDevice, Kept, Shows, made, next_version, new_entry, place_for, held_at}
-use Rattle.photo_device.proofs.Entries.{entries-replaced, entries-others}
+use Rattle.photo_device.specs.declared.held.Held.{Held}
+use Rattle.photo_device.specs.declared.place.Place.TheVariants.{Store, Out}
+use Rattle.photo_device.specs.Ordered.{put}
+use Rattle.photo_device.specs.Entry.{Entry, is_of_other, others, put_entry, put_entry_if, put_entries, without, find_entry}
+use Rattle.photo_device.specs.Held.{entry_of, entries_of, held_before, held_of_others, replaced, put_helds, helds_without, has_picture, is_of, find_version_of}
+use Rattle.photo_device.specs.Device.{ModelDevice, Kept, Shows, made, next_version, new_entry, place_for, held_at, holds, is_held}
+use Rattle.photo_device.specs.Own.{HasMade}
 
-abbrev pub held : ℕ → Version → List Bound → Record → Held
-held picture v history content = record { picture = picture; version = v; made_with = history; content = content }
+pub entries-filter : (q : Entry → Bool) (xs : List Held) → entries_of (filter (λ h. q (entry_of h)) xs) ≡ filter q (entries_of xs)
+entries-filter q [] = refl
+entries-filter q (x ∷ xs) =
+    elim (q (entry_of x)) as (λ b. entries_of (cond b (x ∷ filter (λ h. q (entry_of h)) xs) (filter (λ h. q (entry_of h)) xs)) ≡ cond b (entry_of x ∷ filter q (entries_of xs)) (filter q (entries_of xs))) [
+      | true ↦ ap (λ l. entry_of x ∷ l) (entries-filter q xs)
+      | false ↦ entries-filter q xs
+    ]
 
--- the history of a new version is what was known of its picture, and after it the version is known of every picture
-pub record IsLearned (p : ℕ) (v : Version) (history : List Bound) (before after : List Fragment) : Type 0 where
-  pub picture : 0 < p
-  pub known : (w : Version) → denotes history w ≡ knows before p w
-  pub learned : (q : ℕ) (w : Version) → 0 < q → knows after q w ≡ (knows before q w || same_version v w)
+pub entries-others : (p : ℕ) (xs : List Held) → entries_of (held_of_others p xs) ≡ others p (entries_of xs)
+entries-others p xs = entries-filter (is_of_other p) xs
+
+pub entries-without : (drops : List Version) (xs : List Held) → entries_of (helds_without drops xs) ≡ without drops (entries_of xs)
+entries-without drops xs = entries-filter (λ (e : Entry). not (list_any (λ v. same_version v e.version) drops)) xs
+
+entries-put : (h : Held) (xs : List Held) → entries_of (put held_before h xs) ≡ put_entry (entry_of h) (entries_of xs)
+entries-put h [] = refl
+entries-put h (x ∷ xs) =
+    elim (held_before x h) as (λ b. entries_of (cond b (x ∷ put held_before h xs) (h ∷ x ∷ xs)) ≡ cond b (entry_of x ∷ put_entry (entry_of h) (entries_of xs)) (entry_of h ∷ entry_of x ∷ entries_of xs)) [
+      | true ↦ ap (λ l. entry_of x ∷ l) (entries-put h xs)
+      | false ↦ refl
+    ]
+
+pub entries-put_helds : (xs helds : List Held) → entries_of (put_helds xs helds) ≡ put_entries (entries_of xs) (entries_of helds)
+entries-put_helds [] helds = refl
+entries-put_helds (h ∷ xs) helds = entries-put h (put_helds xs helds) ∙ ap (put_entry (entry_of h)) (entries-put_helds xs helds)
+
+entries-replaced : (h : Held) (xs : List Held) → entries_of (replaced h xs) ≡ put_entry (entry_of h) (others h.picture (entries_of xs))
+entries-replaced h xs = entries-put h _ ∙ ap (put_entry (entry_of h)) (entries-others h.picture xs)
+
+-- all that a device holds
+
+pub held_shown : (d : Kept) (m : ModelDevice) → Shows d m → entries_of (d.store ++ d.out) ≡ holds m
+held_shown d m shows = map-append entry_of d.store d.out ∙ (λ i. shows.store i ++ shows.out i)
+
+-- of which pictures it holds a version
+pub pictures_shown : (d : Kept) (m : ModelDevice) (p : ℕ) → Shows d m → (has_picture p d.store || has_picture p d.out) ≡ is_held m p
+pictures_shown d m p shows =
+    sym (list_any-append (λ (h : Held). eqb h.picture p) d.store d.out) ∙ by (d.store ++ d.out) ∙ ap (list_any (λ (e : Entry). eqb e.picture p)) (held_shown d m shows)
+  where
+    by : (xs : List Held) → has_picture p xs ≡ list_any (λ (e : Entry). eqb e.picture p) (entries_of xs)
+    by [] = refl
+    by (x ∷ xs) = ap (λ b. eqb x.picture p || b) (by xs)
+
+-- what is found shows the entry that is found
+pub found_shown : (d : Kept) (m : ModelDevice) (picture : ℕ) (version : Version) → Shows d m → option_map entry_of (find_version_of picture version (d.store ++ d.out)) ≡ find_entry picture version (holds m)
+found_shown d m picture version shows = by (d.store ++ d.out) ∙ ap (find_entry picture version) (held_shown d m shows)
+  where
+    by : (xs : List Held) → option_map entry_of (find_version_of picture version xs) ≡ find_entry picture version (entries_of xs)
+    by [] = refl
+    by (x ∷ xs) =
+        elim (is_of x picture version) as (λ b. option_map entry_of (cond b (Some x) (find_version_of picture version xs)) ≡ cond b (Some (entry_of x)) (find_entry picture version (entries_of xs))) [
+          | true ↦ refl
+          | false ↦ by xs
+        ]
 
 -- what is held where a test of the filter says so
-store_at : (b : Bool) (d : Kept) (h : Held) → entries_of (held_at (cond b Store Out) h d).store ≡ put_entry_if b (entry_of h) (others h.picture (entries_of d.store))
-store_at true d h = entries-replaced h d.store
-store_at false d h = entries-others h.picture d.store
-
-out_at : (b : Bool) (d : Kept) (h : Held) → entries_of (held_at (cond b Store Out) h d).out ≡ put_entry_if (not b) (entry_of h) (others h.picture (entries_of d.out))
-out_at true d h = entries-others h.picture d.out
-out_at false d h = entries-replaced h d.out
-
-same_at : (b : Bool) (d : Kept) (h : Held) → (held_at (cond b Store Out) h d).author ≡ d.author
-same_at true d h = refl
-same_at false d h = refl
-
-same_tree : (b : Bool) (d : Kept) (h : Held) → (held_at (cond b Store Out) h d).tree ≡ d.tree
-same_tree true d h = refl
-same_tree false d h = refl
+sets_at : (b : Bool) (d : Kept) (h : Held) → (entries_of (held_at (cond b Store Out) h d).store ≡ put_entry_if b (entry_of h) (others h.picture (entries_of d.store)))
+    × (entries_of (held_at (cond b Store Out) h d).out ≡ put_entry_if (not b) (entry_of h) (others h.picture (entries_of d.out)))
+sets_at true d h = (entries-replaced h d.store, entries-others h.picture d.out)
+sets_at false d h = (entries-others h.picture d.store, entries-replaced h d.out)
 
 or_swap : (a b c : Bool) → ((a || b) || c) ≡ ((a || c) || b)
-or_swap true b c = refl
-or_swap false true true = refl
-or_swap false true false = refl
-or_swap false false true = refl
-or_swap false false false = refl
+or_swap a b c = grind arith
 
 -- the new version held at its place, counted and known
-pub shows_made : (d after : Kept) (m : ModelDevice) (p : ℕ) (content copy : Record) (v : Version) (history : List Bound) (knowledge : List Fragment) (place : Place)
-    → v ≡ version d.author (d.counter + 1) → copy ≡ content → place ≡ place_for d.tree content → after ≡ held_at place (held p v history copy) d
-    → IsLearned p v history d.knowledge knowledge → Shows d m → Shows (record after { counter = d.counter + 1; knowledge = knowledge; staged = None }) (made m p content)
-shows_made d after m p content copy v history knowledge place v_is copy_is place_is held_is learned shows =
-    let new_is : v ≡ next_version m = v_is ∙ (λ j. version (shows.author j) (shows.counter j + 1)) in
-    let same : entry_of (held p v history copy) ≡ new_entry m p content = λ i. record {
-      picture = p;
+pub shows_made : (d new : Kept) (m : ModelDevice) (h : Held) (content : Record) → h.content ≡ content → HasMade (place_for d.tree content) h d new → Shows d m → Shows new (made m h.picture content)
+shows_made d new m h content content_is has shows =
+    let next = has.next in
+    let new_is : h.version ≡ next_version m = next.next ∙ (λ j. version (shows.author j) (shows.counter j + 1)) in
+    let same : entry_of h ≡ new_entry m h.picture content = λ i. record {
+      picture = h.picture;
       version = new_is i;
-      history = λ w. (learned.known w ∙ shows.known p learned.picture w) i;
-      content = copy_is i;
+      history = λ w. (next.history w ∙ shows.known h.picture next.above w) i;
+      content = content_is i;
     } in
-    let kept = matches d.tree content in
-    let after_is : after ≡ held_at (cond kept Store Out) (held p v history copy) d = held_is ∙ ap (λ (x : Place). held_at x (held p v history copy) d) place_is in
+    let sets = sets_at (matches d.tree content) d h in
     record {
-      author = ap (λ (k : Kept). k.author) after_is ∙ same_at kept d (held p v history copy) ∙ shows.author;
-      tree = ap (λ (k : Kept). k.tree) after_is ∙ same_tree kept d (held p v history copy) ∙ shows.tree;
-      counter = ap (λ n. n + 1) shows.counter;
-      store = ap (λ (k : Kept). entries_of k.store) after_is ∙ store_at kept d (held p v history copy)
-          ∙ (λ i. put_entry_if (matches (shows.tree i) content) (same i) (others p (shows.store i)));
-      out = ap (λ (k : Kept). entries_of k.out) after_is ∙ out_at kept d (held p v history copy)
-          ∙ (λ i. put_entry_if (not (matches (shows.tree i) content)) (same i) (others p (shows.out i)));
+      author = ap (λ (k : Kept). k.author) has.rest ∙ shows.author;
+      tree = ap (λ (k : Kept). k.tree) has.rest ∙ shows.tree;
+      counter = ap (λ (k : Kept). k.counter) has.rest ∙ ap (λ n. n + 1) shows.counter;
+      store = ap (λ (k : Kept). entries_of k.store) has.rest ∙ sets.0 ∙ (λ i. put_entry_if (matches (shows.tree i) content) (same i) (others h.picture (shows.store i)));
+      out = ap (λ (k : Kept). entries_of k.out) has.rest ∙ sets.1 ∙ (λ i. put_entry_if (not (matches (shows.tree i) content)) (same i) (others h.picture (shows.out i)));
       known = λ q above w.
-          learned.learned q w above
+          has.learned q w above
           ∙ (λ i. shows.known q above w i || same_version (new_is i) w)
           ∙ or_swap (m.every w) (m.of q w) (same_version (next_version m) w);
     }

@@ -1,9 +1,9 @@
 -- Tables of what is told of pictures.
 use Rattle.std.proofs.Common.{◌≡◌, ℕ, ◌+◌, ◌<◌, ◌≤◌, Bool, true, false, cond, eqb, ltb, leb, ◌&&◌, ◌||◌, List, [], ◌∷◌, ◌++◌, length, get_or, take, refl, sym, ap, ◌∙◌, subst, inl, inr, arith}
-use Rattle.std.proofs.Math.Bool.{or-false}
+use Rattle.std.proofs.Math.Bool.{or-false, and-true}
 use Rattle.std.proofs.lemmas.Bool.{and_parts, and_from, eqb-true, eqb-false, eq-eqb, ne_eqb, lt-ltb, le-leb, leb-true, ltb-true, cases_eq}
 use Rattle.std.proofs.lemmas.List.{get_or_default}
-use Rattle.std.proofs.lemmas.List.Folds.{list_any_more}
+use Rattle.std.proofs.lemmas.List.Folds.{list_any_more, list_all-append}
 use Rattle.photo_version.specs.Version.{Version}
 use Rattle.photo_version.specs.Vector.{Bound, denotes}
 use Rattle.item_knowledge.specs.Tables.{in_order, keys_pass, at}
@@ -59,33 +59,18 @@ at_end (r ∷ front) q x p all =
       | inr ne ↦ rw (ne_eqb r.0 p ne) (at_end front q x p parts.1)
     ]
 
+keys_end : (f : ℕ → Bool) (front : Table) (q : ℕ) (x : List Bound) → keys_pass f (front ++ (q, x) ∷ []) ≡ (keys_pass f front && f q)
+keys_end f front q x = list_all-append (λ (r : ℕ × List Bound). f r.0) front ((q, x) ∷ []) ∙ ap (λ b. keys_pass f front && b) (and-true (f q))
+
 pass_end : (f : ℕ → Bool) (front : Table) (q : ℕ) (x : List Bound) → keys_pass f front ≡ true → f q ≡ true → keys_pass f (front ++ (q, x) ∷ []) ≡ true
-pass_end f [] q x all h = and_from (f q) true h refl
-pass_end f (r ∷ front) q x all h = let parts = and_parts (f r.0) (keys_pass f front) all in and_from (f r.0) (keys_pass f (front ++ (q, x) ∷ [])) parts.0 (pass_end f front q x parts.1 h)
+pass_end f front q x all h = keys_end f front q x ∙ and_from _ _ all h
 
-order_end : (front : Table) (q : ℕ) (x : List Bound) → in_order front ≡ true → keys_pass (λ k. ltb k q) front ≡ true → in_order (front ++ (q, x) ∷ []) ≡ true
-order_end [] q x order all = refl
-order_end (r ∷ front) q x order all =
-    let parts = and_parts (ltb r.0 q) (keys_pass (λ k. ltb k q) front) all in
-    let orders = and_parts (keys_pass (λ k. ltb r.0 k) front) (in_order front) order in
-    and_from (keys_pass (λ k. ltb r.0 k) (front ++ (q, x) ∷ [])) (in_order (front ++ (q, x) ∷ [])) (pass_end (λ k. ltb r.0 k) front q x orders.0 parts.0) (order_end front q x orders.1 parts.1)
-
--- of a table that ends in a row
-
-front_order : (front : Table) (q : ℕ) (x : List Bound) → in_order (front ++ (q, x) ∷ []) ≡ true → (in_order front ≡ true) × (keys_pass (λ k. ltb k q) front ≡ true)
-front_order [] q x order = (refl, refl)
-front_order (r ∷ front) q x order =
-    let orders = and_parts (keys_pass (λ k. ltb r.0 k) (front ++ (q, x) ∷ [])) (in_order (front ++ (q, x) ∷ [])) order in
-    let rest = front_order front q x orders.1 in
-    let both = front_pass (λ k. ltb r.0 k) front q x orders.0 in
-    (and_from _ _ both.0 rest.0, and_from _ _ both.1 rest.1)
+order_end : (front : Table) (q : ℕ) (x : List Bound) → in_order (front ++ (q, x) ∷ []) ≡ (in_order front && keys_pass (λ k. ltb k q) front)
+order_end [] q x = refl
+order_end (r ∷ front) q x = (λ i. keys_end (λ k. ltb r.0 k) front q x i && order_end front q x i) ∙ by (keys_pass (λ k. ltb r.0 k) front) (ltb r.0 q) (in_order front) (keys_pass (λ k. ltb k q) front)
   where
-    front_pass : (f : ℕ → Bool) (front : Table) (q : ℕ) (x : List Bound) → keys_pass f (front ++ (q, x) ∷ []) ≡ true → (keys_pass f front ≡ true) × (f q ≡ true)
-    front_pass f [] q x all = (refl, (and_parts (f q) true all).0)
-    front_pass f (r ∷ front) q x all =
-        let parts = and_parts (f r.0) (keys_pass f (front ++ (q, x) ∷ [])) all in
-        let rest = front_pass f front q x parts.1 in
-        (and_from (f r.0) (keys_pass f front) parts.0 rest.0, rest.1)
+    by : (a b c d : Bool) → ((a && b) && (c && d)) ≡ ((a && c) && (b && d))
+    by a b c d = grind arith
 
 -- a row more, of a picture above all
 pub record IsAdded (table new : Table) (picture : ℕ) (vector : List Bound) : Type 0 where
@@ -98,7 +83,7 @@ below_le q table all = keys_pass-weaker (λ k. ltb k q) (λ k. leb k q) (λ k h.
 
 pub added_row : (table : Table) (picture : ℕ) (vector : List Bound) → in_order table ≡ true → keys_pass (λ k. ltb k picture) table ≡ true → IsAdded table (table ++ (picture, vector) ∷ []) picture vector
 added_row table picture vector order all = record {
-  order = order_end table picture vector order all;
+  order = order_end table picture vector ∙ and_from _ _ order all;
   last = pass_end (λ k. leb k picture) table picture vector (below_le picture table all) (le-leb picture picture (omega arith));
   told = λ p v. ap (λ l. denotes l v) (at_end table picture vector p all) ∙ elim (cases_eq picture p) [
     | inl e ↦ rw (eq-eqb picture p e, none_at table p picture all (omega arith)) refl
@@ -109,9 +94,9 @@ added_row table picture vector order all = record {
 -- the last row is of that picture
 pub joined_row : (front : Table) (picture : ℕ) (known vector both : List Bound) → in_order (front ++ (picture, known) ∷ []) ≡ true → ((v : Version) → denotes both v ≡ (denotes known v || denotes vector v)) → IsAdded (front ++ (picture, known) ∷ []) (front ++ (picture, both) ∷ []) picture vector
 joined_row front picture known vector both order is =
-    let parts = front_order front picture known order in
+    let parts = and_parts _ _ (sym (order_end front picture known) ∙ order) in
     record {
-      order = order_end front picture both parts.0 parts.1;
+      order = order_end front picture both ∙ and_from _ _ parts.0 parts.1;
       last = pass_end (λ k. leb k picture) front picture both (below_le picture front parts.1) (le-leb picture picture (omega arith));
       told = λ p v. ap (λ l. denotes l v) (at_end front picture both p parts.1) ∙ elim (cases_eq picture p) [
         | inl e ↦ rw (at_end front picture known p parts.1, eq-eqb picture p e) (is v)
@@ -122,15 +107,11 @@ joined_row front picture known vector both order is =
 -- a table whose last row is of another picture has only lesser ones
 pub below_all : (front : Table) (q : ℕ) (x : List Bound) (picture : ℕ) → in_order (front ++ (q, x) ∷ []) ≡ true → keys_pass (λ k. leb k picture) (front ++ (q, x) ∷ []) ≡ true → (q ≡ picture → ⊥) → keys_pass (λ k. ltb k picture) (front ++ (q, x) ∷ []) ≡ true
 below_all front q x picture order all ne =
-    let parts = front_order front q x order in
-    let last = leb-true q picture (last_pass front all) in
+    let parts = and_parts _ _ (sym (order_end front q x) ∙ order) in
+    let last = leb-true q picture (and_parts _ _ (sym (keys_end (λ k. leb k picture) front q x) ∙ all)).1 in
     pass_end (λ k. ltb k picture) front q x
     (keys_pass-weaker (λ k. ltb k q) (λ k. ltb k picture) (λ k h. let less = ltb-true k q h in lt-ltb k picture (omega arith)) front parts.1)
     (lt-ltb q picture (omega arith))
-  where
-    last_pass : (xs : Table) → keys_pass (λ k. leb k picture) (xs ++ (q, x) ∷ []) ≡ true → leb q picture ≡ true
-    last_pass [] h = (and_parts (leb q picture) true h).0
-    last_pass (r ∷ xs) h = last_pass xs (and_parts (leb r.0 picture) (keys_pass (λ k. leb k picture) (xs ++ (q, x) ∷ [])) h).1
 
 -- as a row goes out and comes back
 

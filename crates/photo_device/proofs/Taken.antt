@@ -1,212 +1,242 @@
--- What a set takes, and how it gives it back.
-use Rattle.std.proofs.Common.{◌≡◌, ℕ, ◌+◌, ◌≤◌, length, Bool, true, false, not, cond, ◌||◌, List, [], ◌∷◌, ◌++◌, refl, sym, ap, ◌∙◌, ◌⊎◌, subst, inl, inr, arith}
-use Rattle.std.specs.Prelude.{filter, Some, None}
-use Rattle.std.specs.Cmp.{IsStrictWeakOrder}
-use Rattle.std.proofs.lemmas.Bool.{cases_Bool, false≢true}
-use Rattle.photo_filter_text.specs.Tree.{Tree}
+-- What sets of held versions take, give up and hand over.
+use Rattle.std.proofs.Common.{◌≡◌, ℕ, ◌+◌, ◌<◌, ◌≤◌, ◌==◌, Bool, true, false, not, cond, ◌&&◌, ◌||◌, List, [], ◌∷◌, ◌++◌, length, get_or, drop, refl, sym, ap, ◌∙◌, ◌⊎◌, append_assoc, append-nil, Bor, inl, inr, arith}
+use Rattle.std.specs.Prelude.{filter, Option, Some, None, IfSome, IfNone}
+use Rattle.std.specs.List.{cons_option, list_any}
+use Rattle.std.specs.Fn.{Mut, Called, ComputesKey}
+use Rattle.std.proofs.lemmas.Bool.{cases_Bool}
+use Rattle.std.proofs.lemmas.Bool.Decides.{nat_tests}
+use Rattle.std.proofs.lemmas.Fn.{always_returns_same}
+use Rattle.std.proofs.lemmas.List.{drop_more}
+use Rattle.std.proofs.lemmas.List.Elements.{filter_agree, filter-append}
+use Rattle.block_list.specs.Taken.{IsTakenOut}
+use Rattle.block_list.specs.Room.{Reserved}
 use Rattle.photo_version.specs.Version.{Version, same_version}
 use Rattle.photo_device.specs.declared.held.Held.{Held}
 use Rattle.photo_device.specs.Ordered.{put}
-use Rattle.photo_device.specs.Held.{held_before, count_of, find_version, is_listed, helds_without, put_helds}
-use Rattle.photo_device.specs.Taking.{is_on_side, AreNewTo, with_side}
-use Rattle.photo_device.proofs.Counts.{one_of, count_of-cons, count_of-append, count_of-put, count_of-filter, same_version_is, same_version_self}
-use Rattle.photo_device.proofs.Lexical.{held_order, held_apart}
-use Rattle.photo_device.proofs.Putting.{follows}
+use Rattle.photo_device.specs.Held.{held_before, has_version_of, count_of, times_in, find_version, is_listed, helds_without, helds_at, put_helds, RoomyHelds}
+use Rattle.photo_device.specs.Taking.{AreNewTo, HasRoomFor, HasTaken, MayTake, with_those}
+use Rattle.photo_device.proofs.Counts.{one_of, count_of-cons, count_of-append, count_of-put, count_of-filter, not_found, same_version_self}
+use Rattle.photo_device.proofs.Order.{held_order, held_apart}
+use Rattle.photo_device.proofs.Putting.{any_counted, any_wider, filter_true, count-cons, none_out, only_one, found_still, filter-filter, put-put}
 
-module _ {A : Type 0} {before : A → A → Bool} (order : IsStrictWeakOrder before) where
-  put_past : (x z : A) (zs : List A) → before z x ≡ true → put before x (z ∷ zs) ≡ z ∷ put before x zs
-  put_past x z zs h = ap (λ b. cond b (z ∷ put before x zs) (x ∷ z ∷ zs)) h
+-- What is taken
 
-  put_here : (x z : A) (zs : List A) → before z x ≡ false → put before x (z ∷ zs) ≡ x ∷ z ∷ zs
-  put_here x z zs h = ap (λ b. cond b (z ∷ put before x zs) (x ∷ z ∷ zs)) h
-
-  swap_less : (x y : A) (zs : List A) → before x y ≡ true → put before x (put before y zs) ≡ put before y (put before x zs)
-  swap_less x y [] less = put_here x y [] (order.one_way x y less) ∙ sym (put_past y x [] less)
-  swap_less x y (z ∷ zs) less =
-      elim (cases_Bool (before z x)) [
-        | inl first ↦
-            let too : before z y ≡ true = follows order z x y first less in
-            ap (put before x) (put_past y z zs too) ∙ put_past x z (put before y zs) first
-            ∙ ap (λ l. z ∷ l) (swap_less x y zs less)
-            ∙ sym (ap (put before y) (put_past x z zs first) ∙ put_past y z (put before x zs) too)
-        | inr behind ↦ elim (cases_Bool (before z y)) [
-          | inl between ↦
-              ap (put before x) (put_past y z zs between) ∙ put_here x z (put before y zs) behind
-              ∙ sym (ap (put before y) (put_here x z zs behind) ∙ put_past y x (z ∷ zs) less ∙ ap (λ l. x ∷ l) (put_past y z zs between))
-          | inr last ↦
-              ap (put before x) (put_here y z zs last) ∙ put_here x y (z ∷ zs) (order.one_way x y less)
-              ∙ sym (ap (put before y) (put_here x z zs behind) ∙ put_past y x (z ∷ zs) less ∙ ap (λ l. x ∷ l) (put_here y z zs last))
-        ]
-      ]
-
-  pub put-put : (x y : A) (zs : List A) → (before x y || before y x) ≡ true → put before x (put before y zs) ≡ put before y (put before x zs)
-  put-put x y zs apart =
-      elim (cases_Bool (before x y)) [
-        | inl less ↦ swap_less x y zs less
-        | inr not_less ↦ sym (swap_less y x zs (other (before x y) (before y x) not_less apart))
-      ]
-    where
-      other : (a b : Bool) → a ≡ false → (a || b) ≡ true → b ≡ true
-      other true b e f = absurd (false≢true (sym e))
-      other false b e f = f
-
--- how many there are of a version, and whether it is found
-
-pub not_found : (v : Version) (xs : List Held) → count_of v xs ≡ 0 → find_version v xs ≡ None
-not_found v [] none = refl
-not_found v (x ∷ xs) none =
-    let here = count_of-cons v x xs in
-    elim (cases_Bool (same_version x.version v)) [
-      | inl same ↦ let one : one_of v x ≡ 1 = rw same refl in absurd (omega arith)
-      | inr apart ↦ rw apart (not_found v xs (let zero : one_of v x ≡ 0 = rw apart refl in omega arith))
-    ]
-
-pub none_counted : (v : Version) (xs : List Held) → find_version v xs ≡ None → count_of v xs ≡ 0
-none_counted v [] none = refl
-none_counted v (x ∷ xs) none =
-    elim (cases_Bool (same_version x.version v)) [
-      | inl same ↦ absurd (found_none (rw same at none))
-      | inr apart ↦ rw apart (none_counted v xs (rw apart at none))
-    ]
-  where
-    found_none : {A : Type 0} {y : A} → Some y ≡ None → ⊥
-    found_none e = cc
-
-pub count_of-put_helds : (v : Version) (takes helds : List Held) → count_of v (put_helds takes helds) ≡ count_of v (takes ++ helds)
-count_of-put_helds v [] helds = refl
+pub count_of-put_helds : (v : Version) (takes helds : List Held) → count_of v (put_helds takes helds) ≡ count_of v takes + count_of v helds
+count_of-put_helds v [] helds = omega arith
 count_of-put_helds v (h ∷ takes) helds =
     let rest = count_of-put_helds v takes helds in
     let one = count_of-cons v h (put_helds takes helds) in
-    let other = count_of-cons v h (takes ++ helds) in
+    let other = count_of-cons v h takes in
     count_of-put v h (put_helds takes helds) ∙ (omega arith)
 
--- those that are new to a set
+-- one that comes to a set isn't there
+pub is_new : (h : Held) (helds : List Held) → AreNewTo helds (h ∷ []) → find_version h.version helds ≡ None
+is_new h helds new =
+    not_found h.version helds
+    (let once = new.once h.version in let one : one_of h.version h ≡ 1 = rw (same_version_self h.version) refl in omega (arith, count_of-cons h.version h helds))
 
-pub first_new : (h : Held) (takes helds : List Held) → AreNewTo helds (h ∷ takes) → count_of h.version (takes ++ helds) ≡ 0
-first_new h takes helds new =
-    let once = new.once h.version in
-    let all = count_of-cons h.version h (takes ++ helds) in
-    let one : one_of h.version h ≡ 1 = rw (same_version_self h.version) refl in
-    omega arith
+put_helds-append : (xs ys zs : List Held) → put_helds (xs ++ ys) zs ≡ put_helds xs (put_helds ys zs)
+put_helds-append [] ys zs = refl
+put_helds-append (x ∷ xs) ys zs = ap (put held_before x) (put_helds-append xs ys zs)
 
-pub rest_new : (h : Held) (takes helds : List Held) → AreNewTo helds (h ∷ takes) → AreNewTo helds takes
-rest_new h takes helds new = record {
-  once = λ v.
-      let once = new.once v in
-      let all = count_of-cons v h (takes ++ helds) in
-      omega arith;
-}
-
-pub put_new : (h : Held) (takes helds : List Held) → AreNewTo helds (h ∷ takes) → AreNewTo (put held_before h helds) takes
-put_new h takes helds new = record {
-  once = λ v.
-      let once = new.once v in
-      let all = count_of-cons v h (takes ++ helds) in
-      let before = count_of-append v takes helds in
-      let after = count_of-append v takes (put held_before h helds) in
-      let here = count_of-put v h helds ∙ count_of-cons v h helds in
-      omega arith;
-}
-
--- one after another they come as all at once
-
-abbrev pub put_one_by_one : List Held → List Held → List Held
-put_one_by_one [] helds = helds
-put_one_by_one (h ∷ takes) helds = put_one_by_one takes (put held_before h helds)
-
+-- one more before all others, or after them
 put_through : (h : Held) (takes helds : List Held) → count_of h.version takes ≡ 0 → put_helds takes (put held_before h helds) ≡ put held_before h (put_helds takes helds)
 put_through h [] helds none = refl
 put_through h (g ∷ takes) helds none =
     let all = count_of-cons h.version g takes in
-    ap (put held_before g) (put_through h takes helds (omega arith))
-    ∙ put-put held_order g h (put_helds takes helds) (held_apart g h (apart (cases_Bool (same_version g.version h.version)) all))
+    let apart : same_version g.version h.version ≡ false = elim (cases_Bool (same_version g.version h.version)) [
+      | inl same ↦ let one : one_of h.version g ≡ 1 = rw same refl in absurd (omega arith)
+      | inr other ↦ other
+    ] in
+    ap (put held_before g) (put_through h takes helds (omega arith)) ∙ put-put held_order g h (put_helds takes helds) (held_apart g h apart)
+
+-- what comes in two parts
+
+pub new_first : (xs ys helds : List Held) → AreNewTo helds (xs ++ ys) → AreNewTo helds xs
+new_first xs ys helds new = record {
+  once = λ v. let once = new.once v in omega (arith, count_of-append v (xs ++ ys) helds, count_of-append v xs ys, count_of-append v xs helds);
+}
+
+pub new_then : (q : Held → Bool) (xs ys helds : List Held) → AreNewTo helds (xs ++ ys) → AreNewTo (with_those q xs helds) ys
+new_then q xs ys helds new = record {
+  once = λ v.
+      let once = new.once v in
+      let all = count_of-append v (xs ++ ys) helds in
+      let parts = count_of-append v xs ys in
+      let those = count_of-append v ys (with_those q xs helds) in
+      let put = count_of-put_helds v (filter q xs) helds in
+      let some = count_of-filter v q xs in
+      omega arith;
+}
+
+-- a set with room that takes versions: those that are left, and what it has now
+pub record IsTaking (q : Held → Bool) (coming : List Held) (before : RoomyHelds) (left : List Held) (now : RoomyHelds) : Type 0 where
+  pub done : with_those q left now.helds ≡ with_those q coming before.helds
+  pub new : AreNewTo now.helds left
+  pub room : length left ≤ now.more
+  pub used : before.more + length left ≤ now.more + length coming
+
+pub none_taken : (q : Held → Bool) (coming : List Held) (before : RoomyHelds) → HasRoomFor coming before → IsTaking q coming before coming before
+none_taken q coming before has = record { done = refl; new = has.new; room = has.room; used = omega arith }
+
+pub has_room : (q : Held → Bool) (coming : List Held) (before : RoomyHelds) (h : Held) (left : List Held) (now : RoomyHelds) → IsTaking q coming before (h ∷ left) now → HasRoomFor (h ∷ []) now
+has_room q coming before h left now is = record { new = new_first (h ∷ []) left now.helds is.new; room = (let room = is.room in omega arith) }
+
+pub one_taken : (q : Held → Bool) (coming : List Held) (before : RoomyHelds) (h : Held) (left : List Held) (now next : RoomyHelds) → IsTaking q coming before (h ∷ left) now → HasTaken q (h ∷ []) now next
+    → IsTaking q coming before left next
+one_taken q coming before h left now next is has =
+    let room = is.room in
+    let used = is.used in
+    let more = has.more in
+    record {
+      done = ap (with_those q left) has.helds ∙ both (cases_Bool (q h)) ∙ is.done;
+      new = rw has.helds (new_then q (h ∷ []) left now.helds is.new);
+      room = omega arith;
+      used = omega arith;
+    }
   where
-    apart : (same_version g.version h.version ≡ true) ⊎ (same_version g.version h.version ≡ false) → count_of h.version (g ∷ takes) ≡ one_of h.version g + count_of h.version takes → same_version g.version h.version ≡ false
-    apart (inl same) all = let one : one_of h.version g ≡ 1 = rw same refl in absurd (omega arith)
-    apart (inr other) all = other
+    none : count_of h.version (filter q left) ≡ 0
+    none =
+        let once = is.new.once h.version in
+        let all = count_of-cons h.version h (left ++ now.helds) in
+        let one : one_of h.version h ≡ 1 = rw (same_version_self h.version) refl in
+        omega (arith, count_of-append h.version left now.helds, count_of-filter h.version q left)
 
-pub one_by_one : (takes helds : List Held) → ((v : Version) → count_of v takes ≤ 1) → put_one_by_one takes helds ≡ put_helds takes helds
-one_by_one [] helds once = refl
-one_by_one (h ∷ takes) helds once =
-    one_by_one takes (put held_before h helds) (λ v. let all = count_of-cons v h takes in let here = once v in omega arith)
-    ∙ put_through h takes helds
-    (let all = count_of-cons h.version h takes in let here = once h.version in let one : one_of h.version h ≡ 1 = rw (same_version_self h.version) refl in omega arith)
+    both : (q h ≡ true) ⊎ (q h ≡ false) → with_those q left (with_those q (h ∷ []) now.helds) ≡ with_those q (h ∷ left) now.helds
+    both (inl side) = simp side (put_through h (filter q left) now.helds none)
+    both (inr other) = simp other
 
--- what a set gives up
+pub all_taken : (q : Held → Bool) (coming : List Held) (before now : RoomyHelds) → IsTaking q coming before [] now → HasTaken q coming before now
+all_taken q coming before now is = (let used = is.used in record { helds = is.done; more = omega arith })
+
+-- the same where all come
+pub all_put : (coming : List Held) (before now : RoomyHelds) → IsTaking (λ _. true) coming before [] now → now.helds ≡ put_helds coming before.helds
+all_put coming before now is = is.done ∙ ap (λ (l : List Held). put_helds l before.helds) (filter_true coming)
+
+-- a set that is opened takes two lists, one after the other
+
+pub first_fits : (handed takes helds : List Held) (room : Reserved) (set : RoomyHelds) → MayTake helds handed takes room → set.helds ≡ helds → set.more ≡ room.more → HasRoomFor handed set
+first_fits handed takes helds room set may is more = (let enough = may.more in record { new = rw is (new_first handed takes helds may.new); room = omega arith })
+
+pub then_fits : (q : Held → Bool) (handed takes helds : List Held) (room : Reserved) (set next : RoomyHelds) → MayTake helds handed takes room → set.helds ≡ helds → set.more ≡ room.more → HasTaken q handed set next → HasRoomFor takes next
+then_fits q handed takes helds room set next may is more has =
+    let enough = may.more in
+    let left = has.more in
+    record { new = rw (has.helds, is) (new_then q handed takes helds may.new); room = omega arith }
+
+pub both_taken : (q : Held → Bool) (handed takes helds : List Held) (set next last : RoomyHelds) → set.helds ≡ helds → HasTaken q handed set next → HasTaken q takes next last → last.helds ≡ with_those q (takes ++ handed) helds
+both_taken q handed takes helds set next last is first second =
+    second.helds ∙ ap (with_those q takes) (first.helds ∙ ap (with_those q handed) is)
+    ∙ sym (ap (λ l. put_helds l helds) (filter-append q takes handed)
+    ∙ put_helds-append (filter q takes) (filter q handed) helds)
+
+-- What is given up
 
 pub without_none : (xs : List Held) → helds_without [] xs ≡ xs
 without_none [] = refl
 without_none (x ∷ xs) = ap (λ l. x ∷ l) (without_none xs)
 
+pub without_empty : (versions : List Version) (xs : List Held) → (length versions == 0) ≡ true → xs ≡ helds_without versions xs
+without_empty [] xs none = sym (without_none xs)
+without_empty (v ∷ versions) xs none = absurd (grind (arith, nat_tests))
+
 -- one version after another, or all at once
 pub without-cons : (v : Version) (versions : List Version) (xs : List Held) → helds_without versions (helds_without (v ∷ []) xs) ≡ helds_without (v ∷ versions) xs
-without-cons v versions [] = refl
-without-cons v versions (x ∷ xs) =
-    let rest = without-cons v versions xs in
-    elim (same_version v x.version) as (λ b. helds_without versions (cond (not (b || false)) (x ∷ helds_without (v ∷ []) xs) (helds_without (v ∷ []) xs)) ≡ cond (not (b || is_listed versions x.version)) (x ∷ helds_without (v ∷ versions) xs) (helds_without (v ∷ versions) xs)) [
-      | true ↦ rest
-      | false ↦ elim (not (is_listed versions x.version)) as (λ b. cond b (x ∷ helds_without versions (helds_without (v ∷ []) xs)) (helds_without versions (helds_without (v ∷ []) xs)) ≡ cond b (x ∷ helds_without (v ∷ versions) xs) (helds_without (v ∷ versions) xs)) [
-        | true ↦ ap (λ l. x ∷ l) rest
-        | false ↦ rest
-      ]
-    ]
+without-cons v versions xs = filter-filter _ _ xs ∙ filter_agree _ _ (λ h. by (same_version v h.version) (is_listed versions h.version)) xs
+  where
+    by : (a b : Bool) → (not (a || false) && not b) ≡ not (a || b)
+    by a b = grind arith
 
-pub same_back : (v w : Version) → same_version v w ≡ true → same_version w v ≡ true
-same_back v w same = subst (λ u. same_version u v ≡ true) (same_version_is v w same) (same_version_self v)
+without_one : (v : Version) (xs : List Held) → helds_without (v ∷ []) xs ≡ filter (λ h. not (same_version h.version v)) xs
+without_one v xs = filter_agree _ _ (λ h. turned h.version v) xs
+  where
+    turned : (w v : Version) → not (same_version v w || false) ≡ not (same_version w v)
+    turned w v = grind (arith, nat_tests)
 
-pub without_other : (v : Version) (xs : List Held) → count_of v xs ≡ 0 → helds_without (v ∷ []) xs ≡ xs
-without_other v [] none = refl
-without_other v (x ∷ xs) none =
-    let here = count_of-cons v x xs in
-    elim (cases_Bool (same_version v x.version)) [
-      | inl same ↦ let one : one_of v x ≡ 1 = rw (same_back v x.version same) refl in absurd (omega arith)
+-- where one of two sets has it, the other has none to give up
+pub other_kept : (picture : ℕ) (v : Version) (xs ys : List Held) → count_of v xs + count_of v ys ≤ 1 → has_version_of picture v xs ≡ true → ys ≡ helds_without (v ∷ []) ys
+other_kept picture v xs ys once has =
+    let test = λ (h : Held). same_version h.version v in
+    let here = sym (any_counted test xs) ∙ any_wider _ test (λ h is. grind arith) xs has in
+    let none : list_any test ys ≡ false = any_counted test ys ∙ grind (arith, nat_tests) in
+    sym (without_one v ys ∙ none_out test ys none)
+
+-- some are gone from the two sets, and others are left to be given up
+pub record AreGoing (versions : List Version) (store out : List Held) (left : List Version) (store_now out_now : List Held) : Type 0 where
+  pub once : (v : Version) → count_of v store_now + count_of v out_now ≤ 1
+  pub stored : helds_without left store_now ≡ helds_without versions store
+  pub waiting : helds_without left out_now ≡ helds_without versions out
+
+pub one_gone : (versions : List Version) (store out : List Held) (v : Version) (left : List Version) (store_now out_now : List Held) → AreGoing versions store out (v ∷ left) store_now out_now
+    → AreGoing versions store out left (helds_without (v ∷ []) store_now) (helds_without (v ∷ []) out_now)
+one_gone versions store out v left store_now out_now are = record {
+  once = λ w. let was = are.once w in omega (arith, count_of-filter w (λ (h : Held). not (is_listed (v ∷ []) h.version)) store_now, count_of-filter w (λ (h : Held). not (is_listed (v ∷ []) h.version)) out_now);
+  stored = without-cons v left store_now ∙ are.stored;
+  waiting = without-cons v left out_now ∙ are.waiting;
+}
+
+-- What is handed over
+
+-- what a search by the code's test took out
+pub told_by_test : (v : Version) (old shown new : List Held) (found : Option Held) {F : Type 0} {f : Mut F (Bor Held × Unit {0}) Bool} {pred : F} → IfNone found (new ≡ old) → IfNone found ((p : Held → Bool) → ComputesKey f p pred → list_any p old ≡ false)
+    → IfSome found (λ x. (p : Held → Bool) → ComputesKey f p pred → IsTakenOut p old x new) → old ≡ shown → count_of v shown ≤ 1
+    → ((a : Bor Held × Unit {0}) (r : Bool) (f' : F) → Called f pred a r f' → (r ≡ same_version a.0.now.version v) × (f' ≡ pred))
+    → (found ≡ find_version v shown) × (new ≡ helds_without (v ∷ []) shown)
+told_by_test v old shown new None {f = f} {pred = pred} kept absent taken is once same =
+    let test = λ (h : Held). same_version h.version v in
+    let none = rw is at (absent test (always_returns_same f (λ a r. r ≡ test a.0.now) pred same)) in
+    let zero : count_of v shown ≡ 0 = (let counted = sym (any_counted test shown) ∙ none in grind (arith, nat_tests)) in
+    (sym (not_found v shown zero), kept ∙ is ∙ sym (without_one v shown ∙ none_out test shown none))
+told_by_test v old shown new (Some x) {f = f} {pred = pred} kept absent taken is once same =
+    let test = λ (h : Held). same_version h.version v in
+    let out = rw is at (taken test (always_returns_same f (λ a r. r ≡ test a.0.now) pred same)) in
+    let only = only_one test shown out.place x once out.at out.passes in
+    (only.0, out.rest ∙ only.1 ∙ sym (without_one v shown))
+
+abbrev one_in : Version → Version → ℕ
+one_in v w = cond (same_version w v) 1 0
+
+found_all_still : (v : Version) (left : List Version) (xs : List Held) → times_in v left ≡ 0 → helds_at left (helds_without (v ∷ []) xs) ≡ helds_at left xs
+found_all_still v [] xs none = refl
+found_all_still v (w ∷ left) xs none =
+    let all = count-cons (λ u. same_version u v) w left in
+    elim (cases_Bool (same_version w v)) [
+      | inl same ↦ let one : one_in v w ≡ 1 = rw same refl in absurd (omega arith)
       | inr apart ↦
-          ap (λ b. cond (not (b || false)) (x ∷ helds_without (v ∷ []) xs) (helds_without (v ∷ []) xs)) apart
-          ∙ ap (λ l. x ∷ l) (without_other v xs (omega arith))
+          (λ i. cons_option (found_still (λ (h : Held). same_version h.version w) (λ h. not (is_listed (v ∷ []) h.version)) (other apart) xs i) (found_all_still v left xs (omega arith) i))
     ]
+  where
+    other : same_version w v ≡ false → (h : Held) → same_version h.version w ≡ true → not (same_version v h.version || false) ≡ true
+    other apart h is = grind (arith, nat_tests)
 
--- a set that takes them one after another: those that are left, and what it has now
-pub record IsTaking (matched : Bool) (tree : Tree) (takes before left now : List Held) : Type 0 where
-  pub done : put_one_by_one (filter (is_on_side matched tree) left) now ≡ put_one_by_one (filter (is_on_side matched tree) takes) before
-  pub new : AreNewTo now left
+-- a set that hands versions over: those that are left to be asked for, what it has now, and what the list has now
+pub record IsHanding (versions : List Version) (before list_before : List Held) (left : List Version) (now handed : List Held) : Type 0 where
+  pub once : (v : Version) → count_of v now ≤ 1
+  pub distinct : (v : Version) → times_in v left ≤ 1
+  pub rest : helds_without left now ≡ helds_without versions before
+  pub list : handed ++ helds_at left now ≡ list_before ++ helds_at versions before
 
-pub is_starting : (matched : Bool) (tree : Tree) (takes before : List Held) → AreNewTo before takes → IsTaking matched tree takes before takes before
-is_starting matched tree takes before new = record { done = refl; new = new }
+pub has_ended : (versions : List Version) (before list_before now handed : List Held) → IsHanding versions before list_before [] now handed → (now ≡ helds_without versions before) × (handed ≡ list_before ++ helds_at versions before)
+has_ended versions before list_before now handed is = (sym (without_none now) ∙ is.rest, sym (append-nil handed) ∙ is.list)
 
-pub has_put : (matched : Bool) (tree : Tree) (takes before left now : List Held) (h : Held) → IsTaking matched tree takes before (h ∷ left) now → is_on_side matched tree h ≡ true → IsTaking matched tree takes before left (put held_before h now)
-has_put matched tree takes before left now h taking side = record {
-  done = ap (λ b. put_one_by_one (cond b (h ∷ filter (is_on_side matched tree) left) (filter (is_on_side matched tree) left)) now) (sym side) ∙ taking.done;
-  new = put_new h left now taking.new;
-}
+-- one version more, of which that was found
+pub has_handed : (versions : List Version) (before list_before : List Held) (v : Version) (left : List Version) (now handed more : List Held) → IsHanding versions before list_before (v ∷ left) now handed
+    → more ≡ cons_option (find_version v now) [] → IsHanding versions before list_before left (helds_without (v ∷ []) now) (handed ++ more)
+has_handed versions before list_before v left now handed more is found =
+    let here = is.distinct v in
+    let self = same_version_self v in
+    let none : times_in v left ≡ 0 = (let one : one_in v v ≡ 1 = rw self refl in omega (arith, count-cons (λ u. same_version u v) v left)) in
+    record {
+      once = λ w. let was = is.once w in omega (arith, count_of-filter w (λ (h : Held). not (is_listed (v ∷ []) h.version)) now);
+      distinct = λ w. let was = is.distinct w in omega (arith, count-cons (λ u. same_version u w) v left);
+      rest = without-cons v left now ∙ is.rest;
+      list = append_assoc handed more _ ∙ (λ i. handed ++ (found i ++ found_all_still v left now none i)) ∙ ap (λ l. handed ++ l) (joined (find_version v now) (helds_at left now)) ∙ is.list;
+    }
+  where
+    joined : (o : Option Held) (l : List Held) → cons_option o [] ++ l ≡ cons_option o l
+    joined None l = refl
+    joined (Some x) l = refl
 
-pub has_skipped : (matched : Bool) (tree : Tree) (takes before left now : List Held) (h : Held) → IsTaking matched tree takes before (h ∷ left) now → is_on_side matched tree h ≡ false → IsTaking matched tree takes before left now
-has_skipped matched tree takes before left now h taking side = record {
-  done = ap (λ b. put_one_by_one (cond b (h ∷ filter (is_on_side matched tree) left) (filter (is_on_side matched tree) left)) now) (sym side) ∙ taking.done;
-  new = rest_new h left now taking.new;
-}
-
-pub has_taken : (matched : Bool) (tree : Tree) (takes before now : List Held) → AreNewTo before takes → IsTaking matched tree takes before [] now → now ≡ with_side matched tree takes before
-has_taken matched tree takes before now new taking =
-    taking.done ∙ one_by_one (filter (is_on_side matched tree) takes) before
-    (λ v. let once = new.once v in let both = count_of-append v takes before in let some = count_of-filter v (is_on_side matched tree) takes in omega arith)
-
-pub next_new : (h : Held) (left now : List Held) → AreNewTo now (h ∷ left) → find_version h.version now ≡ None
-next_new h left now new =
-    not_found h.version now
-    (let all = first_new h left now new in let both = count_of-append h.version left now in omega arith)
-
--- a set that takes all of them, with room
-
-pub record IsPutting (coming before left now : List Held) (more : ℕ) : Type 0 where
-  pub done : put_one_by_one left now ≡ put_one_by_one coming before
-  pub new : AreNewTo now left
-  pub room : length left ≤ more
-
-pub next_putting : (coming before left now next : List Held) (h : Held) (more less : ℕ) → IsPutting coming before (h ∷ left) now more → next ≡ put held_before h now → less + 1 ≡ more → IsPutting coming before left next less
-next_putting coming before left now next h more less putting is fewer =
-    let room = putting.room in
-    subst (λ l. IsPutting coming before left l less) (sym is) (record { done = putting.done; new = put_new h left now putting.new; room = omega arith })
-
-pub all_put_in : (coming before now : List Held) (more : ℕ) → AreNewTo before coming → IsPutting coming before [] now more → now ≡ put_helds coming before
-all_put_in coming before now more new putting =
-    putting.done ∙ one_by_one coming before (λ v. let once = new.once v in let both = count_of-append v coming before in omega arith)
+-- the next of them
+pub next_asked : (versions : List Version) (i : ℕ) (v : Version) → i < length versions → v ≡ get_or versions i v → drop i versions ≡ v ∷ drop (i + 1) versions
+next_asked versions i v within is = drop_more versions i v within ∙ ap (λ w. w ∷ drop (i + 1) versions) (sym is)

@@ -1,28 +1,24 @@
 -- The worked examples: what a number or a version stands for computes, and what holds of all is shown.
-use Rattle.std.proofs.Common.{◌≡◌, ℕ, ◌≤◌, Bool, true, false, cond, eqb, ltb, leb, ◌/◌, ◌&&◌, ◌||◌, List, [], ◌∷◌, length, refl, sym, ap, ◌∙◌, inl, inr, arith, subst}
+use Rattle.std.proofs.Common.{◌≡◌, ℕ, ◌≤◌, Bool, true, false, cond, eqb, ltb, leb, ◌/◌, ◌&&◌, ◌||◌, List, [], ◌∷◌, length, refl, sym, ap, ◌∙◌, arith}
 use Rattle.std.specs.Prelude.{Option, Some, None, is_some}
-use Rattle.std.proofs.lemmas.Bool.{and_parts, leb-true, ltb-true, eqb-true, ne_eqb, lt-leb, le-leb, le-ltb, cases_lt, cases_Bool, false≢true}
+use Rattle.std.proofs.lemmas.Bool.{and_parts, leb-true, ltb-true, eqb-true, ne_eqb, false≢true}
+use Rattle.std.proofs.lemmas.Bool.Decides.{nat_tests}
 use Rattle.photo_version.specs.Author.{author, author_at, is_earlier_epoch, device_of_author}
 use Rattle.photo_version.specs.Version.{Version, version, same_version}
 use Rattle.item_knowledge.specs.Entries.{denotes_one}
 use Rattle.item_knowledge.specs.Fragments.{Fragment, knows, lists}
-use Rattle.photo_device.specs.declared.held.Held.{Held}
 use Rattle.photo_device.specs.Held.{count_of}
 use Rattle.photo_device.specs.Device.{Kept, Staging}
 use Rattle.photo_device.specs.Own.{HasEarlier, IsKnownBy}
 use Rattle.photo_device.specs.Examples.{bound, nth, first, edited, other, gain, learned, MayStageAsTold, HasStagedAsTold, MayHandAsTold}
-use Rattle.photo_device.proofs.Counts.{one_of, count_of-cons, same_version_is}
+use Rattle.photo_device.proofs.Counts.{count_of-cons, count_of-append}
 
 no : false ≡ true → ⊥
 no e = false≢true e
 
 -- an author's first version has none before it
 before_first : (n : ℕ) → false ≡ (leb 1 n && ltb n 1)
-before_first n =
-    elim (cases_lt n 1) [
-      | inl none ↦ rw (lt-leb 1 n none) refl
-      | inr some ↦ rw (le-leb 1 n some, le-ltb n 1 some) refl
-    ]
+before_first n = grind (arith, nat_tests)
 
 edited_earlier : HasEarlier edited
 edited_earlier = record { own = before_first }
@@ -32,94 +28,63 @@ other_earlier = record { own = before_first }
 
 -- where the first of two is, one of them is
 first_of_two : (a b : Bool) → (a || false) ≡ true → ((a || (b || false)) || false) ≡ true
-first_of_two true b e = refl
-first_of_two false b e = absurd (no e)
+first_of_two a b e = grind arith
 
 edited_known : IsKnownBy gain edited
-edited_known = record {
-  above = omega arith;
-  itself = refl;
-  history = λ v e. first_of_two (denotes_one (bound 0 1) v) (denotes_one (bound 1 1) v) e;
-}
+edited_known = record { above = omega arith; itself = refl; history = λ v e. first_of_two (denotes_one (bound 0 1) v) (denotes_one (bound 1 1) v) e }
 
 other_known : IsKnownBy learned other
 other_known = record { above = omega arith; itself = refl; history = λ v e. absurd (no e) }
 
 -- of the camera's versions the first alone is learned, of picture 7
 own_part : (l m a : Bool) → ((l && (a || false)) || ((m && false) || false)) ≡ true → a ≡ true
-own_part true m true e = refl
-own_part true true false e = e
-own_part true false false e = e
-own_part false true a e = absurd (no e)
-own_part false false a e = absurd (no e)
+own_part l m a e = grind arith
 
 -- no version of a later epoch of the camera is learned
-
-record IsOther (v : Version) : Type 0 where
-  first : eqb 0 v.author.word ≡ false
-  second : eqb 4294967296 v.author.word ≡ false
-  third : eqb 8589934592 v.author.word ≡ false
-
-other_word : (v : Version) → is_earlier_epoch (author 0) v.author ≡ true → IsOther v
-other_word v later =
+none_later : (l m : Bool) (v : Version) → is_earlier_epoch (author 0) v.author ≡ true
+    → ((l && (denotes_one (bound 0 1) v || (denotes_one (bound 1 1) v || false))) || ((m && (denotes_one (bound 2 1) v || false)) || false)) ≡ false
+none_later l m v later =
     let parts = and_parts (eqb 0 (device_of_author v.author)) (ltb 0 v.author.word) later in
     let device : 0 ≡ v.author.word / 4294967296 = eqb-true 0 (device_of_author v.author) parts.0 in
     let less = ltb-true 0 v.author.word parts.1 in
-    record {
-      first = ne_eqb 0 v.author.word (λ e. omega arith);
-      second = ne_eqb 4294967296 v.author.word (λ e. omega arith);
-      third = ne_eqb 8589934592 v.author.word (λ e. omega arith);
-    }
-
-none_later : (l m : Bool) (v : Version) → IsOther v → ((l && (denotes_one (bound 0 1) v || (denotes_one (bound 1 1) v || false))) || ((m && (denotes_one (bound 2 1) v || false)) || false)) ≡ false
-none_later l m v other = rw (other.first, other.second, other.third) (nothing l m)
+    rw (ne_eqb 0 v.author.word (λ e. omega arith), ne_eqb 4294967296 v.author.word (λ e. omega arith), ne_eqb 8589934592 v.author.word (λ e. omega arith)) (nothing l m)
   where
     nothing : (a b : Bool) → ((a && (false || (false || false))) || ((b && (false || false)) || false)) ≡ false
-    nothing true true = refl
-    nothing true false = refl
-    nothing false true = refl
-    nothing false false = refl
+    nothing a b = grind arith
 
-abbrev number : Bool → ℕ
-number b = cond b 1 0
-
-one_or_none : (b : Bool) → number b ≤ 1
-one_or_none true = omega arith
-one_or_none false = omega arith
-
--- one version is there once, and each of three, that are different, too
-alone : (v : Version) (h : Held) → count_of v (h ∷ []) ≤ 1
-alone v h = omega (arith, count_of-cons v h [], one_or_none (same_version h.version v))
-
+-- each of three versions that are different is there once
 three : (v : Version) → count_of v (other ∷ edited ∷ first ∷ []) ≤ 1
-three v =
-    elim (cases_Bool (same_version other.version v)) [
-      | inl is ↦ subst (λ w. count_of w (other ∷ edited ∷ first ∷ []) ≤ 1) (same_version_is other.version v is) (omega arith)
-      | inr not_other ↦ elim (cases_Bool (same_version edited.version v)) [
-        | inl is ↦ subst (λ w. count_of w (other ∷ edited ∷ first ∷ []) ≤ 1) (same_version_is edited.version v is) (omega arith)
-        | inr not_edited ↦
-            let skips : one_of v other ≡ 0 = ap number not_other in
-            let skips_next : one_of v edited ≡ 0 = ap number not_edited in
-            omega (arith, count_of-cons v other (edited ∷ first ∷ []), count_of-cons v edited (first ∷ []), skips, skips_next, alone v first)
-      ]
-    ]
+three v = by (same_version other.version v) (same_version edited.version v) (same_version first.version v) (grind (arith, nat_tests)) (grind (arith, nat_tests)) (grind (arith, nat_tests))
+  where
+    by : (a b c : Bool) → (a && b) ≡ false → (a && c) ≡ false → (b && c) ≡ false
+        → length (cond a (other ∷ cond b (edited ∷ cond c (first ∷ []) []) (cond c (first ∷ []) [])) (cond b (edited ∷ cond c (first ∷ []) []) (cond c (first ∷ []) []))) ≤ 1
+    by true false false e f g = omega arith
+    by false true false e f g = omega arith
+    by false false true e f g = omega arith
+    by false false false e f g = omega arith
+    by true true c e f g = absurd (no (sym e))
+    by true false true e f g = absurd (no (sym f))
+    by false true true e f g = absurd (no (sym g))
 
 two : (v : Version) → count_of v (edited ∷ first ∷ []) ≤ 1
 two v = omega (arith, count_of-cons v other (edited ∷ first ∷ []), three v)
+
+alone : (v : Version) → count_of v (edited ∷ []) ≤ 1
+alone v = omega (arith, count_of-append v (edited ∷ []) (first ∷ []), two v)
 
 pub may_stage_as_told : MayStageAsTold
 may_stage_as_told = record {
   edit = record {
     held = (refl, tt);
     new = (refl, tt);
-    distinct = λ v. alone v edited;
+    distinct = λ v. alone v;
     earlier = (edited_earlier, tt);
     known = (edited_known, tt);
     own = record {
       own = λ p n above e.
           let there : (leb 1 n && leb n 1) ≡ true = own_part (lists (7 ∷ []) p) (lists (9 ∷ []) p) (leb 1 n && leb n 1) e in
           leb-true n 1 (and_parts (leb 1 n) (leb n 1) there).1;
-      later = λ p v above later. none_later (lists (7 ∷ []) p) (lists (9 ∷ []) p) v (other_word v later);
+      later = λ p v above later. none_later (lists (7 ∷ []) p) (lists (9 ∷ []) p) v later;
     };
   };
   none = record { held = tt; new = tt; distinct = λ v. omega arith; earlier = tt; known = tt; own = record { own = λ p n above e. absurd (no e); later = λ p v above later. refl } };
@@ -139,8 +104,7 @@ may_stage_as_told = record {
 -- what will be known is what is known and what is gained, of a picture that is 7 (l), 9 (m) or neither
 joined : (a b c l m : Bool) → ((a || false) || ((l && (a || (b || false))) || ((m && (a || (c || false))) || false)))
     ≡ (((a || false) || false) || ((l && (a || (b || false))) || ((m && (c || false)) || false)))
-joined true b c l m = refl
-joined false b c l m = refl
+joined a b c l m = grind arith
 
 -- what is staged, by its parts
 abbrev room_of : Option Staging → ℕ

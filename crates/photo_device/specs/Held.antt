@@ -50,7 +50,6 @@ pub record IsRangeOf (picture : ℕ) (helds : List Held) (from to : ℕ) : Type 
   pub order : from ≤ to
   pub within : to ≤ length helds
   pub rest : held_of_others picture helds ≡ take from helds ++ drop to helds
-  pub place : (held : Held) → held.picture ≡ picture → replaced held helds ≡ take from helds ++ held ∷ drop to helds
 
 -- a version of the picture is among them
 abbrev pub has_picture : ℕ → List Held → Bool

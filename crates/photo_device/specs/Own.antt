@@ -46,6 +46,7 @@ pub record IsNext (held : Held) (d : Kept) : Type 0 where
 
 -- the device's next version is held at a place, counted, and known of every picture, and nothing is staged
 pub record HasMade (place : Place) (h : Held) (old new : Kept) : Type 0 where
+  pub next : IsNext h old
   pub rest : new ≡ record (held_at place h old) { counter = old.counter + 1; knowledge = new.knowledge; staged = None }
   pub learned : (picture : ℕ) (v : Version) → 0 < picture → knows new.knowledge picture v ≡ (knows old.knowledge picture v || same_version h.version v)
 

@@ -1,5 +1,5 @@
 -- A change that is staged on a device, and committed later together with versions that are handed over.
-use Rattle.std.specs.Prelude.{◌≡◌, ℕ, ◌+◌, ◌≤◌, ◌<◌, true, ◌||◌, List, ◌++◌, length, Option, None, Some, is_some, IfSome}
+use Rattle.std.specs.Prelude.{◌≡◌, ℕ, ◌+◌, ◌≤◌, ◌<◌, true, ◌||◌, List, [], ◌++◌, length, Option, None, Some, is_some}
 use Rattle.std.specs.List.{AllByRecursion}
 use Rattle.photo_version.specs.Version.{Version}
 use Rattle.item_knowledge.specs.Fragments.{Fragment, knows}
@@ -39,12 +39,18 @@ pub record MayStage (drops : List Version) (takes : List Held) (gain : List Frag
 
 -- Machinery of the proofs: what a device keeps for a change that is staged
 
+-- what will be known
+abbrev pub known_then : Option (List Fragment) → List Fragment
+known_then None = []
+known_then (Some knowledge) = knowledge
+
 -- what contracts see of it
+abbrev pub staging : Prepared → Option (List Fragment) → Staging
+staging p knowledge = record { drops = p.drops; takes = p.takes; knowledge = known_then knowledge; room = p.room }
+
 abbrev pub staging_of : Option Prepared → Option (List Fragment) → Option Staging
 staging_of None knowledge = None
-staging_of (Some p) None = None
-staging_of (Some p) (Some knowledge) =
-    Some (record { drops = p.drops; takes = p.takes; knowledge = knowledge; room = p.room })
+staging_of (Some p) knowledge = Some (staging p knowledge)
 
 -- what will be known has all that is known, and what is taken with its history, and of the device's own versions no further
 -- ones
@@ -56,7 +62,7 @@ pub record IsAhead (knowledge : List Fragment) (takes : List Held) (d : Kept) : 
 -- what is prepared fits the device
 pub record IsPrepared (p : Prepared) (knowledge : Option (List Fragment)) (d : Kept) : Type 0 where
   pub there : is_some knowledge ≡ true
-  pub ahead : IfSome knowledge (λ fs. IsAhead fs p.takes d)
+  pub ahead : IsAhead (known_then knowledge) p.takes d
   pub once : (v : Version) → count_of v (p.takes ++ (d.store ++ d.out)) ≤ 1
   pub earlier : AllByRecursion HasEarlier p.takes
   pub store : length d.store ≤ p.in_store.most

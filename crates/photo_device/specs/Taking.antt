@@ -1,11 +1,11 @@
 -- Machinery of the proofs: what a set takes of versions.
-use Rattle.std.specs.Prelude.{◌≤◌, ◌+◌, Bool, true, false, not, List, ◌++◌, length, filter}
+use Rattle.std.specs.Prelude.{◌≡◌, ◌≤◌, ◌+◌, Bool, true, false, not, List, ◌++◌, length, filter}
 use Rattle.block_list.specs.Room.{Reserved}
 use Rattle.photo_filter_text.specs.Tree.{Tree}
 use Rattle.photo_filter_rules.specs.Matching.{matches}
 use Rattle.photo_version.specs.Version.{Version}
 use Rattle.photo_device.specs.declared.held.Held.{Held}
-use Rattle.photo_device.specs.Held.{count_of, put_helds}
+use Rattle.photo_device.specs.Held.{count_of, put_helds, RoomyHelds}
 
 -- it is among those that the tree matches, or among the others
 abbrev pub is_on_side : Bool → Tree → Held → Bool
@@ -16,12 +16,26 @@ is_on_side false tree held = not (matches tree held.content)
 pub record AreNewTo (helds takes : List Held) : Type 0 where
   pub once : (v : Version) → count_of v (takes ++ helds) ≤ 1
 
+-- a set with room may take them
+pub record HasRoomFor (coming : List Held) (set : RoomyHelds) : Type 0 where
+  pub new : AreNewTo set.helds coming
+  pub room : length coming ≤ set.more
+
 -- a set may take two lists of versions in that room
 pub record MayTake (helds handed takes : List Held) (room : Reserved) : Type 0 where
   pub new : AreNewTo helds (handed ++ takes)
   pub most : length helds ≤ room.most
   pub more : length takes + length handed ≤ room.more
 
+-- a set with those that pass
+abbrev pub with_those : (Held → Bool) → List Held → List Held → List Held
+with_those passes takes helds = put_helds (filter passes takes) helds
+
 -- a set with those of one side
 abbrev pub with_side : Bool → Tree → List Held → List Held → List Held
-with_side matched tree takes helds = put_helds (filter (is_on_side matched tree) takes) helds
+with_side matched tree takes helds = with_those (is_on_side matched tree) takes helds
+
+-- it has taken those that pass, and its room is less by no more than came
+pub record HasTaken (passes : Held → Bool) (coming : List Held) (old new : RoomyHelds) : Type 0 where
+  pub helds : new.helds ≡ with_those passes coming old.helds
+  pub more : old.more ≤ new.more + length coming

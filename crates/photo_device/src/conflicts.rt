@@ -1,11 +1,10 @@
 //! The pictures of which two or more versions are held.
-ghost use Rattle.std.specs.Prelude.{◌≡◌, ◌<◌, ◌≤◌, ◌++◌, true, map, length, IfOk};
+ghost use Rattle.std.specs.Prelude.{◌≡◌, ◌<◌, ◌++◌, true, map, length, IfOk};
 ghost use Rattle.photo_device.specs.Held.{entries_of, are_in_order, put_helds};
 ghost use Rattle.photo_device.specs.Taking.{AreNewTo};
 ghost use Rattle.photo_device.specs.Conflicts.{conflicts_in};
 
 use crate::anew::listed;
-use crate::roomy_set::RoomySet;
 use crate::{Conflict, HeldSet, SharedHeld, VersionList};
 use std::alloc::{AllocError, Global};
 
@@ -25,23 +24,13 @@ fn joined(store: &HeldSet, out: &HeldSet) -> Result<HeldSet, AllocError>
     requires { AreNewTo out.now store.now }
     ensures { IfOk result (λ all. all ≡ put_helds store.now out.now) }
 {
-    let coming = store.to_list()?;
-    let mut all = out.try_clone()?;
-    let room = all.room(coming.len())?;
-    let mut all = all.open(room);
-    put_each(coming.into_vec(), &mut all);
-    Ok(all.close())
-}
-
-// Puts versions among others, where there is room for them.
-fn put_each(coming: Vec<SharedHeld>, set: &mut RoomySet)
-    requires new { AreNewTo set.old.helds coming.items }
-    requires room { length coming.items ≤ set.old.more }
-    ensures { set.new.helds ≡ put_helds coming.items set.old.helds }
-{
-    for held in coming {
-        set.insert(held);
+    let mut copy = out.try_clone()?;
+    let room = copy.room(store.len())?;
+    let mut all = copy.open(room);
+    for held in store {
+        all.insert(held.try_clone()?);
     }
+    Ok(all.close())
 }
 
 // The conflicts of versions in order.

@@ -541,7 +541,7 @@ impl Device {
 
     // Whether a version of a picture is held, in the store or in the out.
     fn holds(&self, picture: PicNo) -> bool
-        ensures { result ≡ (has_picture picture self.now.store || has_picture picture self.now.out) }
+        ensures { (m : ModelDevice) → Shows self.now m → result ≡ is_held m picture }
     {
         self.store.has_picture(picture) || self.out.has_picture(picture)
     }

@@ -26,8 +26,9 @@ impl Model for RoomySet {
 }
 
 impl RoomySet {
-    ghost use Rattle.std.specs.Prelude.{◌≡◌, ◌<◌, ◌+◌, true, None};
-    ghost use Rattle.photo_device.specs.Held.{are_in_order, find_version, held_before};
+    ghost use Rattle.std.specs.Prelude.{◌≡◌, ◌+◌, ◌∷◌, [], true};
+    ghost use Rattle.photo_device.specs.Held.{are_in_order, held_before};
+    ghost use Rattle.photo_device.specs.Taking.{HasRoomFor};
     ghost use Rattle.photo_device.specs.Ordered.{put};
 
     /// The set of a list in order, with its room.
@@ -41,8 +42,7 @@ impl RoomySet {
 
     /// Puts a version among the others, of which none is of that version. It takes no memory.
     pub(crate) fn insert(&mut self, held: SharedHeld)
-        requires new { find_version held.version self.old.helds ≡ None }
-        requires room { 0 < self.old.more }
+        requires { HasRoomFor (held ∷ []) self.old }
         ensures helds { self.new.helds ≡ put held_before held self.old.helds }
         ensures more { self.new.more + 1 ≡ self.old.more }
     {

@@ -1,7 +1,6 @@
 // Versions that come into the store and the out of a device.
-ghost use Rattle.std.specs.Prelude.{◌≡◌, ◌+◌, ◌<◌, ◌≤◌, ◌++◌, true, false, [], ◌∷◌, length, None, IfOk, OnOk, OnErr};
-ghost use Rattle.photo_device.specs.Held.{find_version};
-ghost use Rattle.photo_device.specs.Taking.{with_side, AreNewTo, MayTake};
+ghost use Rattle.std.specs.Prelude.{◌≡◌, ◌≤◌, ◌++◌, true, false, [], ◌∷◌, length, IfOk, OnOk, OnErr};
+ghost use Rattle.photo_device.specs.Taking.{is_on_side, with_side, AreNewTo, HasRoomFor, HasTaken, MayTake};
 
 use crate::roomy_set::RoomySet;
 use crate::{HeldSet, SharedHeld};
@@ -64,14 +63,10 @@ pub(crate) fn take_in(
 
 // Puts versions into the store, where the filter matches them, and into the out otherwise.
 fn put_all(wanted: &Filter, coming: Vec<SharedHeld>, store: &mut RoomySet, out: &mut RoomySet)
-    requires store { AreNewTo store.old.helds coming.items }
-    requires out { AreNewTo out.old.helds coming.items }
-    requires store_room { length coming.items ≤ store.old.more }
-    requires out_room { length coming.items ≤ out.old.more }
-    ensures store { store.new.helds ≡ with_side true wanted.now coming.items store.old.helds }
-    ensures out { out.new.helds ≡ with_side false wanted.now coming.items out.old.helds }
-    ensures store_left { store.old.more ≤ store.new.more + length coming.items }
-    ensures out_left { out.old.more ≤ out.new.more + length coming.items }
+    requires store { HasRoomFor coming.items store.old }
+    requires out { HasRoomFor coming.items out.old }
+    ensures store { HasTaken (is_on_side true wanted.now) coming.items store.old store.new }
+    ensures out { HasTaken (is_on_side false wanted.now) coming.items out.old out.new }
 {
     for held in coming {
         put_one(wanted, held, store, out);
@@ -80,14 +75,10 @@ fn put_all(wanted: &Filter, coming: Vec<SharedHeld>, store: &mut RoomySet, out: 
 
 // Puts a version into the store, where the filter matches it, and into the out otherwise.
 fn put_one(wanted: &Filter, held: SharedHeld, store: &mut RoomySet, out: &mut RoomySet)
-    requires store { find_version held.version store.old.helds ≡ None }
-    requires out { find_version held.version out.old.helds ≡ None }
-    requires store_room { 0 < store.old.more }
-    requires out_room { 0 < out.old.more }
-    ensures store { store.new.helds ≡ with_side true wanted.now (held ∷ []) store.old.helds }
-    ensures out { out.new.helds ≡ with_side false wanted.now (held ∷ []) out.old.helds }
-    ensures store_left { store.old.more ≤ store.new.more + 1 }
-    ensures out_left { out.old.more ≤ out.new.more + 1 }
+    requires store { HasRoomFor (held ∷ []) store.old }
+    requires out { HasRoomFor (held ∷ []) out.old }
+    ensures store { HasTaken (is_on_side true wanted.now) (held ∷ []) store.old store.new }
+    ensures out { HasTaken (is_on_side false wanted.now) (held ∷ []) out.old out.new }
 {
     if wanted.matches(held.content()) {
         store.insert(held);

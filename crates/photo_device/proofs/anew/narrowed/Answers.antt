@@ -1,6 +1,6 @@
 use Rattle.std.proofs.Common.{◌++◌, true, ◌∙◌}
 use Rattle.photo_device.specs.Taking.{with_side}
-use Rattle.photo_device.proofs.Narrowed.{kept_anew, new_alone}
+use Rattle.photo_device.proofs.Changed.{kept_anew, new_alone}
 use Rattle.photo_device.proofs.anew.narrowed.Goals as goal
 
 pub sort_in-requires-clause-store_new : goal.sort_in-requires-clause-store_new

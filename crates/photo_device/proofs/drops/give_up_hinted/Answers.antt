@@ -1,7 +1,6 @@
 use Rattle.std.proofs.Common.{◌≡◌, ◌+◌, ◌<◌, true, List, length, drop, subst, rules}
 use Rattle.photo_version.specs.Version.{Version}
-use Rattle.photo_device.proofs.GivenUp.{AreGoing, one_gone}
-use Rattle.photo_device.proofs.Handed.{next_asked}
+use Rattle.photo_device.proofs.Taken.{AreGoing, one_gone, next_asked}
 use Rattle.photo_device.proofs.drops.give_up_hinted.Goals as goal
 
 pub loop-i-preserved : goal.loop-i-preserved

@@ -1,5 +1,5 @@
 use Rattle.std.proofs.Common.{drop}
-use Rattle.photo_device.proofs.GivenUp.{AreGoing}
+use Rattle.photo_device.proofs.Taken.{AreGoing}
 use Rattle.photo_device.proofs.drops.give_up_hinted.Given as goal
 
 abbrev pub invariant-loop-i : goal.invariant-loop-i

@@ -1,6 +1,6 @@
 use Rattle.std.proofs.Common.{◌+◌, ◌≤◌, sym, ◌∙◌, arith}
 use Rattle.photo_device.specs.Held.{count_of}
-use Rattle.photo_device.proofs.GivenUp.{other_kept}
+use Rattle.photo_device.proofs.Taken.{other_kept}
 use Rattle.photo_device.proofs.drops.give_up_one.Goals as goal
 
 pub returns-then-drop_version_of-clause-out : goal.returns-then-drop_version_of-clause-out

@@ -1,8 +1,7 @@
-use Rattle.std.proofs.Common.{sym, ap, ◌∙◌, subst}
+use Rattle.std.proofs.Common.{refl, sym, ap, ◌∙◌, subst}
 use Rattle.photo_version.specs.Version.{Version}
 use Rattle.photo_device.specs.Device.{Kept}
 use Rattle.photo_device.specs.Own.{IsNext}
-use Rattle.photo_device.specs.Staging.{staging_of}
 use Rattle.photo_device.proofs.OwnLemmas.{next_known, makes_device, has_made, next_unstaged}
 use Rattle.photo_device.proofs.Staged.{none_prepared}
 use Rattle.photo_device.proofs.device.Device.add.Goals as goal
@@ -20,7 +19,7 @@ invariant_of-self-2 c =
     let next = subst (IsNext c.args.held) (sym c.self.view_is) c.requires.next in
     let counter = c.n-self-inside.ensures.value ∙ ap (λ (x : Version). x.number) (c.version-version.ensures ∙ next.next) in
     let is = rw c.make_place.ensures at c.in_ok-hold_next.ensures.ok in
-    let none = none_prepared c.self.inside.prepared c.self.inside.knowledge.staged _ c.self.invariant (ap (λ (d : Kept). d.staged) c.self.view_is ∙ c.requires.unstaged) in
+    let none = none_prepared c.self.inside.prepared c.self.inside.knowledge.staged (ap (λ (d : Kept). d.staged) c.self.view_is ∙ c.requires.unstaged) in
     rw (none, counter, is.store, is.out) (record { device = makes_device c.args.place c.args.held _ c.hold_next.new.knowledge.known (next_unstaged c.args.held _ next) is.learned c.self.invariant.device; fits = is.staged })
 
 pub returns-clause-ok : goal.returns-clause-ok
@@ -28,14 +27,6 @@ returns-clause-ok c =
     let next = subst (IsNext c.args.held) (sym c.self.view_is) c.requires.next in
     let counter = c.n-self-inside.ensures.value ∙ ap (λ (x : Version). x.number) (c.version-version.ensures ∙ next.next) in
     let is = rw c.make_place.ensures at c.in_ok-hold_next.ensures.ok in
-    let none = none_prepared c.self.inside.prepared c.self.inside.knowledge.staged _ c.self.invariant (ap (λ (d : Kept). d.staged) c.self.view_is ∙ c.requires.unstaged) in
-    has_made c.args.place c.args.held _ _ _ c.self.view_is
-    (λ i. record {
-      author = c.self.inside.author;
-      tree = c.self.inside.filter;
-      counter = counter i;
-      store = is.store i;
-      out = is.out i;
-      knowledge = c.hold_next.new.knowledge.known;
-      staged = staging_of (none i) c.hold_next.new.knowledge.staged;
-    }) is.learned
+    let none = none_prepared c.self.inside.prepared c.self.inside.knowledge.staged (ap (λ (d : Kept). d.staged) c.self.view_is ∙ c.requires.unstaged) in
+    has_made c.args.place c.args.held _ _ _ c.self.view_is c.requires.next
+    (rw (none, counter, is.store, is.out) refl) is.learned

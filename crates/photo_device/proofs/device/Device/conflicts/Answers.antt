@@ -3,7 +3,7 @@ use Rattle.photo_device.specs.Entry.{put_entries}
 use Rattle.photo_device.specs.Held.{entries_of}
 use Rattle.photo_device.specs.Conflicts.{conflicts_in}
 use Rattle.photo_device.specs.Device.{Kept}
-use Rattle.photo_device.proofs.Changed.{entries-put_helds}
+use Rattle.photo_device.proofs.Shown.{entries-put_helds}
 use Rattle.photo_device.proofs.device.Device.conflicts.Goals as goal
 
 pub conflicts_of-requires : goal.conflicts_of-requires

@@ -1,9 +1,8 @@
-use Rattle.std.proofs.Common.{sym, ap, ◌∙◌, subst, arith}
-use Rattle.std.specs.Prelude.{None}
-use Rattle.photo_device.specs.Device.{Kept, Shows}
+use Rattle.std.proofs.Common.{ap, ◌∙◌, arith}
+use Rattle.photo_device.specs.Device.{Kept}
 use Rattle.photo_device.proofs.Counts.{count_of-append}
 use Rattle.photo_device.proofs.Changed.{shows_without, drops_device}
-use Rattle.photo_device.proofs.Staged.{shows_staged, none_fits}
+use Rattle.photo_device.proofs.Staged.{shows_unstaged, none_fits}
 use Rattle.photo_device.proofs.device.Device.hand_over.Goals as goal
 
 pub hand_over-requires-clause-once : goal.hand_over-requires-clause-once
@@ -19,5 +18,4 @@ invariant_of-self c =
 
 pub returns-clause-shows : goal.returns-clause-shows
 returns-clause-shows c = λ m shows.
-    let before = subst (λ (d : Kept). Shows d m) (sym (c.self.view_is ∙ c.unstage.ensures)) (shows_staged c.args.self.now None m shows) in
-    rw c.hand_over.ensures.rest (shows_without c.args.asked.now _ m before)
+    rw c.hand_over.ensures.rest (shows_without c.args.asked.now _ m (shows_unstaged _ _ m (c.self.view_is ∙ c.unstage.ensures) shows))

@@ -1,10 +1,9 @@
-use Rattle.std.proofs.Common.{◌-◌, length, arith, sym, ap, ◌∙◌, subst}
+use Rattle.std.proofs.Common.{◌-◌, length, arith, ap, ◌∙◌}
 use Rattle.photo_filter_rules.specs.Matching.{matches}
 use Rattle.photo_device.specs.declared.held.Held.{Held}
-use Rattle.photo_device.specs.Device.{Kept, Shows}
-use Rattle.photo_device.proofs.Narrowed.{shorter, narrows_device, shows_narrowed, moved_away}
-use Rattle.std.specs.Prelude.{None}
-use Rattle.photo_device.proofs.Staged.{shows_staged, none_fits}
+use Rattle.photo_device.specs.Device.{Kept}
+use Rattle.photo_device.proofs.Changed.{shorter, narrows_device, shows_narrowed, moved_away}
+use Rattle.photo_device.proofs.Staged.{shows_unstaged, none_fits}
 use Rattle.photo_device.proofs.device.Device.narrow.Goals as goal
 
 pub overflow_sub-gone : goal.overflow_sub-gone
@@ -22,12 +21,10 @@ invariant_of-self-2 c =
 pub returns-clause-shows : goal.returns-clause-shows
 returns-clause-shows c =
     λ m shows.
-    let before = subst (λ (d : Kept). Shows d m) (sym (c.self.view_is ∙ c.unstage.ensures)) (shows_staged c.args.self.now None m shows) in
-    rw (c.in-Ok.ensures.kept, c.in-Ok.ensures.out) (shows_narrowed c.args.filter _ m before)
+    rw (c.in-Ok.ensures.kept, c.in-Ok.ensures.out) (shows_narrowed c.args.filter _ m (shows_unstaged _ _ m (c.self.view_is ∙ c.unstage.ensures) shows))
 
 pub returns-clause-moved : goal.returns-clause-moved
 returns-clause-moved c =
     λ m shows.
     let kept = c.len-2.ensures ∙ ap length c.in-Ok.ensures.kept in
-    let before = subst (λ (d : Kept). Shows d m) (sym (c.self.view_is ∙ c.unstage.ensures)) (shows_staged c.args.self.now None m shows) in
-    (λ i. c.len.ensures i - kept i) ∙ moved_away c.args.filter _ m before
+    (λ i. c.len.ensures i - kept i) ∙ moved_away c.args.filter _ m (shows_unstaged _ _ m (c.self.view_is ∙ c.unstage.ensures) shows)

@@ -1,5 +1,4 @@
 use Rattle.std.proofs.Common.{◌≡◌, ◌+◌, length, refl, sym, ap, ◌∙◌, subst, rules}
-use Rattle.std.specs.Prelude.{None}
 use Rattle.item_knowledge.specs.Staged.{IsStagedUnion}
 use Rattle.photo_device.specs.Device.{Kept, unstaged}
 use Rattle.photo_device.specs.Staging.{MayStage}
@@ -20,12 +19,4 @@ pub returns-clause-staged : goal.returns-clause-staged
 returns-clause-staged c =
     has_staged c.stage.new.self.staged (record { drops = c.args.drops; pictures = c.args.pictures; takes = c.args.takes; room = c.args.room; in_store = c.in-Ok.rooms.0; in_out = c.in-Ok.rooms.1 }) c.args.gain.now.known c.args.self.now _
     (subst (λ (d : Kept). IsStagedUnion c.stage.new.self.staged d.knowledge c.args.gain.now.known) (c.self.view_is ∙ c.unstage.ensures) c.in_default-stage.ensures.staged) refl
-    ((λ i. record {
-      author = c.self.inside.author;
-      tree = c.self.inside.filter;
-      counter = c.self.inside.counter;
-      store = c.in-Ok.ensures.store_kept i;
-      out = c.in-Ok.ensures.out_kept i;
-      knowledge = c.stage.ensures.known i;
-      staged = None;
-    }) ∙ ap (λ (d : Kept). record d { staged = None }) (c.self.view_is ∙ c.unstage.ensures))
+    (rw (c.in-Ok.ensures.store_kept, c.in-Ok.ensures.out_kept, c.stage.ensures.known) (ap unstaged (c.self.view_is ∙ c.unstage.ensures)))

@@ -1,5 +1,4 @@
 use Rattle.std.proofs.Common.{◌≡◌, refl, ap, ◌∙◌}
-use Rattle.std.specs.Prelude.{None}
 use Rattle.item_knowledge.specs.Staged.{Knowing, settled}
 use Rattle.photo_device.specs.Device.{unstaged}
 use Rattle.photo_device.proofs.device.Device.try_clone.Goals as goal
@@ -12,12 +11,4 @@ invariant_of-result c =
 pub returns : goal.returns
 returns c =
     let known : c.new.result ≡ settled c.self.inside.knowledge.known = c.new.ensures ∙ c.in_ok-knowledge.ensures ∙ ap (λ (k : Knowing). settled k.known) c.as_knowledge.ensures in
-    (λ i. record {
-      author = c.self.inside.author;
-      tree = c.in_ok-filter.ensures i;
-      counter = c.self.inside.counter;
-      store = c.in_ok-store.ensures i;
-      out = c.in_ok-out.ensures i;
-      knowledge = (known i).known;
-      staged = None;
-    }) ∙ ap unstaged c.self.view_is
+    rw (known, c.in_ok-filter.ensures, c.in_ok-store.ensures, c.in_ok-out.ensures) (ap unstaged c.self.view_is)

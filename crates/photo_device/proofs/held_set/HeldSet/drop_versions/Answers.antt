@@ -4,11 +4,11 @@ use Rattle.std.proofs.lemmas.Fn.{always_returns_same}
 use Rattle.photo_device.specs.declared.held.Held.{Held}
 use Rattle.photo_device.specs.Held.{held_before, is_listed}
 use Rattle.photo_device.proofs.Putting.{in_order-filter}
-use Rattle.photo_device.proofs.Inserting.{without_none}
+use Rattle.photo_device.proofs.Taken.{without_empty}
 use Rattle.photo_device.proofs.held_set.HeldSet.drop_versions.Goals as goal
 
 pub returns-then-is_empty : goal.returns-then-is_empty
-returns-then-is_empty c = without_none c.args.versions.now c.args.self.now (sym c.is_empty.ensures ∙ c.if-is_empty.true)
+returns-then-is_empty c = without_empty c.args.versions.now c.args.self.now (sym c.is_empty.ensures ∙ c.if-is_empty.true)
 
 pub invariant_of-self : goal.invariant_of-self
 invariant_of-self c =

@@ -1,7 +1,10 @@
-use Rattle.std.proofs.Common.{◌+◌, List, length, drop, subst, sym, ap, ◌∙◌, arith}
+use Rattle.std.proofs.Common.{◌+◌, List, [], ◌∷◌, append-nil, length, drop, subst, sym, ap, ◌∙◌, arith}
 use Rattle.std.proofs.lemmas.List.{drop_all}
+use Rattle.std.specs.List.{cons_option}
 use Rattle.photo_version.specs.Version.{Version}
-use Rattle.photo_device.proofs.Handed.{IsHanding, next_asked, has_handed_one, has_handed_none, has_ended}
+use Rattle.photo_device.specs.declared.held.Held.{Held}
+use Rattle.photo_device.specs.Held.{helds_without}
+use Rattle.photo_device.proofs.Taken.{IsHanding, next_asked, has_handed, has_ended}
 use Rattle.photo_device.proofs.held_set.HeldSet.hand_over.Goals.{in-Some, in_default}
 use Rattle.photo_device.proofs.held_set.HeldSet.hand_over.Goals as goal
 
@@ -18,12 +21,12 @@ loop-version-preserved c =
     let found = sym c.take_version-found.ensures.found in
     elim c.match-found.branch [
       | in-Some w ↦ rw (c.take_version-found.ensures.rest, w.handed-is, w.push_reserved.ensures.items, w.push_reserved.ensures.capacity) (
-        has_handed_one versions _ _ c.version-item.result left now handed w.in-Some.held is (found ∙ w.in-Some.is),
+        has_handed versions _ _ c.version-item.result left now handed _ is (ap (λ o. cons_option o []) (sym (found ∙ w.in-Some.is))),
         omega (arith, w.push_reserved.ensures.len, c.loop-version.invariant.1),
         c.loop-version.invariant.2,
       )
       | in_default w ↦ rw (c.take_version-found.ensures.rest, w.handed-is) (
-        has_handed_none versions _ _ c.version-item.result left now handed is (found ∙ w.in_default.is),
+        subst (λ (l : List Held). IsHanding versions c.args.self.now c.args.handed.now.items left (helds_without (c.version-item.result ∷ []) now) l) (append-nil handed) (has_handed versions _ _ c.version-item.result left now handed [] is (ap (λ o. cons_option o []) (sym (found ∙ w.in_default.is)))),
         omega (arith, c.loop-version.invariant.1),
         c.loop-version.invariant.2,
       )

@@ -1,6 +1,6 @@
 use Rattle.std.proofs.Common.{◌≡◌, ◌+◌, ◌≤◌, drop, length}
 use Rattle.std.specs.Prelude.{vec_len, vec_capacity}
-use Rattle.photo_device.proofs.Handed.{IsHanding}
+use Rattle.photo_device.proofs.Taken.{IsHanding}
 use Rattle.photo_device.proofs.held_set.HeldSet.hand_over.Given as goal
 
 abbrev pub invariant-loop-version : goal.invariant-loop-version

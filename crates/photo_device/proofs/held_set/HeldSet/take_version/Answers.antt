@@ -1,16 +1,16 @@
-use Rattle.std.proofs.Common.{rules}
-use Rattle.photo_device.proofs.Handed.{told_by_test, in_order_still}
+use Rattle.std.proofs.Common.{not, ◌∷◌, [], rules}
+use Rattle.photo_device.specs.declared.held.Held.{Held}
+use Rattle.photo_device.specs.Held.{is_listed}
+use Rattle.photo_device.proofs.Order.{in_order-filter}
+use Rattle.photo_device.proofs.Taken.{told_by_test}
 use Rattle.photo_device.proofs.held_set.HeldSet.take_version.Goals as goal
 
 pub invariant_of-self : goal.invariant_of-self
 invariant_of-self c =
     let told = told_by_test c.args.version c.self.inside.items c.args.self.now c.take_near.new.self c.take_near.result.0 c.take_near.ensures.none c.take_near.ensures.absent c.take_near.ensures.taken c.self.view_is c.requires (λ a r f h. search rules) in
-    in_order_still c.args.version c.self.inside.items c.args.self.now c.take_near.new.self c.self.invariant c.self.view_is told.1
+    rw (told.1, ← c.self.view_is) (in_order-filter (λ (h : Held). not (is_listed (c.args.version ∷ []) h.version)) c.self.inside.items c.self.invariant)
 
-pub returns-clause-found : goal.returns-clause-found
-returns-clause-found c =
-    (told_by_test c.args.version c.self.inside.items c.args.self.now c.take_near.new.self c.take_near.result.0 c.take_near.ensures.none c.take_near.ensures.absent c.take_near.ensures.taken c.self.view_is c.requires (λ a r f h. search rules)).0
-
-pub returns-clause-rest : goal.returns-clause-rest
-returns-clause-rest c =
-    (told_by_test c.args.version c.self.inside.items c.args.self.now c.take_near.new.self c.take_near.result.0 c.take_near.ensures.none c.take_near.ensures.absent c.take_near.ensures.taken c.self.view_is c.requires (λ a r f h. search rules)).1
+pub returns : goal.returns
+returns c =
+    let told = told_by_test c.args.version c.self.inside.items c.args.self.now c.take_near.new.self c.take_near.result.0 c.take_near.ensures.none c.take_near.ensures.absent c.take_near.ensures.taken c.self.view_is c.requires (λ a r f h. search rules) in
+    record { found = told.0; rest = told.1 }
