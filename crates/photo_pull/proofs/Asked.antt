@@ -1,61 +1,56 @@
 -- What a change of the target asks of what it gives up, takes and learns.
-use Rattle.std.proofs.Common.{◌≡◌, ℕ, ◌<◌, ◌≤◌, Bool, true, false, cond, ◌&&◌, ◌||◌, eqb, List, [], ◌∷◌, ◌++◌, length, Option, Some, None, refl, sym, ap, ◌∙◌, inl, inr, ◌⊎◌, length-append, arith}
+use Rattle.std.proofs.Common.{◌≡◌, ℕ, ◌+◌, ◌<◌, ◌≤◌, Bool, true, false, ◌&&◌, ◌||◌, List, [], ◌∷◌, ◌++◌, Option, Some, None, refl, sym, ap, ◌∙◌, inl, inr, length, arith}
 use Rattle.std.specs.Prelude.{filter}
 use Rattle.std.specs.Option.{is_some}
-use Rattle.std.specs.List.{AllByRecursion}
-use Rattle.std.proofs.lemmas.Bool.{cases_Bool, and_parts, and_from, eq-eqb, not-true}
-use Rattle.std.proofs.lemmas.List.Elements.{filter-append}
+use Rattle.std.specs.List.{AllByRecursion, cons_option}
+use Rattle.std.proofs.lemmas.Bool.{and_parts, or_cases, or_left, or_right, not-true}
+use Rattle.std.proofs.lemmas.List.{length-map}
 use Rattle.photo_version.specs.Version.{Version, same_version}
-use Rattle.photo_version.specs.Vector.{denotes}
 use Rattle.item_knowledge.specs.Fragments.{Fragment, knows}
 use Rattle.photo_device.specs.declared.held.Held.{Held}
-use Rattle.photo_device.specs.Held.{find_version, count_of}
-use Rattle.photo_device.specs.Device.{Kept}
+use Rattle.photo_device.specs.Held.{find_version, count_of, times_in, helds_at}
+use Rattle.photo_device.specs.Device.{Kept, unstaged}
 use Rattle.photo_device.specs.Own.{HasEarlier, IsKnownBy, KnowsNoMore}
 use Rattle.photo_device.specs.Telling.{tells}
-use Rattle.photo_device.proofs.AllLemmas.{all_append}
+use Rattle.photo_device.proofs.AllLemmas.{all_append, all_filter}
+use Rattle.photo_device.proofs.Changed.{all_new}
+use Rattle.photo_device.proofs.Counts.{count_of-append, count_of-filter, same_version_self}
 use Rattle.photo_device.proofs.OwnLemmas.{no_more_of}
-use Rattle.photo_device.proofs.TellingLemmas.{one, told_known}
-use Rattle.photo_pull.specs.OnHeld.{is_new, new_waiting, learns, is_dropped, is_over, dropped_stored, dropped_waiting, is_selected, is_heard, new_stored, heard, taken_stored, versions, gains}
-use Rattle.photo_pull.proofs.Members.{In, in_left, in_right, in_any, all_at, all_map, all_passing, all_of, found_some, found_in, only_one, find_one}
-use Rattle.photo_pull.proofs.Ready.{AreReady, known_target, known_source, found_source, same_itself, same_is}
-use Rattle.photo_pull.proofs.Told.{or_intro, or_other}
-use Rattle.photo_pull.proofs.Changes.{drops, takes}
+use Rattle.photo_device.proofs.TellingLemmas.{told_known, known_told}
+use Rattle.photo_pull.specs.OnHeld.{is_new, new_waiting, learns, is_dropped, is_over, is_selected, is_heard, new_stored, heard, taken_stored, versions, drops}
+use Rattle.photo_pull.specs.Findings.{AreReady, IsGained}
+use Rattle.photo_pull.proofs.Members.{In, in_left, in_right, in_filtered, all_map, all_of, filter_mapped, found_some, found_in, only_one, find_one}
+use Rattle.photo_pull.proofs.Ready.{known_here, found_here, same_is}
+use Rattle.photo_pull.proofs.Changes.{takes}
 
--- a filter keeps no more of any kind
-few : (p q : Held → Bool) (xs : List Held) → length (filter q (filter p xs)) ≤ length (filter q xs)
-few p q [] = omega arith
-few p q (x ∷ xs) =
-    let rest = few p q xs in
-    elim (p x) as (λ b. length (filter q (cond b (x ∷ filter p xs) (filter p xs))) ≤ length (cond (q x) (x ∷ filter q xs) (filter q xs))) [
-      | true ↦ elim (q x) as (λ d. length (cond d (x ∷ filter q (filter p xs)) (filter q (filter p xs))) ≤ length (cond d (x ∷ filter q xs) (filter q xs))) [ true ↦ omega arith | false ↦ omega arith ]
-      | false ↦ elim (q x) as (λ d. length (filter q (filter p xs)) ≤ length (cond d (x ∷ filter q xs) (filter q xs))) [ true ↦ omega arith | false ↦ omega arith ]
-    ]
+-- what holds of all that the source holds, holds of what the target hears of
+all_heard : (P : Held → Type 0) (t s : Kept) → AllByRecursion P s.store → AllByRecursion P (heard t s)
+all_heard P t s all = all_filter P (is_heard t s) (new_stored t s) (all_filter P (is_new t.knowledge) s.store all)
 
-in_filtered : (p : Held → Bool) (x : Held) (xs : List Held) → In x (filter p xs) → In x xs × (p x ≡ true)
-in_filtered p x xs here = all_at (λ y. In y xs × (p y ≡ true)) x (filter p xs) (all_passing (λ y. In y xs × (p y ≡ true)) p xs (λ y h passes. (h, passes))) here
+-- those of a list that are found are what is asked for
+all_found : (hs helds : List Held) → AllByRecursion (λ h. find_version h.version helds ≡ Some h) hs → helds_at (versions hs) helds ≡ hs
+all_found [] helds all = refl
+all_found (h ∷ hs) helds all = (λ i. cons_option (all.0 i) (helds_at (versions hs) helds)) ∙ ap (λ l. h ∷ l) (all_found hs helds all.1)
 
 module _ (t s : Kept) (ready : AreReady t s) where
-  -- what is taken stands at the source, and is new
+  pub heard_earlier : AllByRecursion HasEarlier (heard t s)
+  heard_earlier = all_heard HasEarlier t s ready.source.store
 
-  from_heard : (w : Held) → In w (heard t s) → In w s.store × (is_new t.knowledge w ≡ true)
-  from_heard w here = in_filtered (is_new t.knowledge) w s.store ((in_filtered (is_heard t s) w (new_stored t s) here).0)
+  pub waiting_earlier : AllByRecursion HasEarlier (new_waiting t s)
+  waiting_earlier = all_filter HasEarlier (is_new t.knowledge) s.out ready.source.out
 
-  from_taken : (w : Held) → In w (taken_stored t s) → In w (heard t s)
-  from_taken w here = (in_filtered (is_selected t.tree) w (heard t s) here).0
+  heard_known : AllByRecursion (IsKnownBy s.knowledge) (heard t s)
+  heard_known = all_heard (IsKnownBy s.knowledge) t s ready.source.store_known
 
-  from_waiting : (w : Held) → In w (new_waiting t s) → In w s.out × (is_new t.knowledge w ≡ true)
-  from_waiting w here = in_filtered (is_new t.knowledge) w s.out here
-
-  all_takes : (P : Held → Type 0) → ((w : Held) → In w (heard t s) → P w) → ((w : Held) → In w (new_waiting t s) → P w) → AllByRecursion P (takes t s)
-  all_takes P of_heard of_waiting = all_append P (taken_stored t s) (new_waiting t s) (all_of P (taken_stored t s) (λ w here. of_heard w (from_taken w here))) (all_of P (new_waiting t s) of_waiting)
+  waiting_known : AllByRecursion (IsKnownBy s.knowledge) (new_waiting t s)
+  waiting_known = all_filter (IsKnownBy s.knowledge) (is_new t.knowledge) s.out ready.source.out_known
 
   pub drops_held : AllByRecursion (λ v. is_some (find_version v (t.store ++ t.out)) ≡ true) (drops t s)
-  drops_held =
-      let P : Version → Type 0 = λ v. is_some (find_version v (t.store ++ t.out)) ≡ true in
-      all_append P (versions (dropped_stored t s)) (versions (dropped_waiting t s))
-      (all_map P (λ (h : Held). h.version) (dropped_stored t s) (all_passing (λ h. P h.version) (is_dropped t s) t.store (λ h here _. found_some (λ (g : Held). same_version g.version h.version) h (t.store ++ t.out) (in_left h t.store t.out here) (same_itself h.version))))
-      (all_map P (λ (h : Held). h.version) (dropped_waiting t s) (all_passing (λ h. P h.version) (is_over t s) t.out (λ h here _. found_some (λ (g : Held). same_version g.version h.version) h (t.store ++ t.out) (in_right h t.store t.out here) (same_itself h.version))))
+  drops_held = all_append _ _ _ (of_filter (is_dropped t s) t.store (λ h. in_left h t.store t.out)) (of_filter (is_over t s) t.out (λ h. in_right h t.store t.out))
+    where
+      of_filter : (q : Held → Bool) (xs : List Held) → ((h : Held) → In h xs → In h (t.store ++ t.out)) → AllByRecursion (λ v. is_some (find_version v (t.store ++ t.out)) ≡ true) (versions (filter q xs))
+      of_filter q xs inside = all_map (λ v. is_some (find_version v (t.store ++ t.out)) ≡ true) (λ (h : Held). h.version) (filter q xs) (all_of _ (filter q xs) (λ h here.
+          found_some (λ (g : Held). same_version g.version h.version) h (t.store ++ t.out) (inside h (in_filtered q h xs here).0) (same_version_self h.version)))
 
   -- what the source holds and the target doesn't know, the target doesn't hold
   not_held : (w : Held) → In w (s.store ++ s.out) → is_new t.knowledge w ≡ true → find_version w.version (t.store ++ t.out) ≡ None
@@ -66,81 +61,81 @@ module _ (t s : Kept) (ready : AreReady t s) where
       by (Some g) e =
           let found = found_in (λ (h : Held). same_version h.version w.version) g (t.store ++ t.out) e in
           let same : g.version ≡ w.version = same_is g.version w.version found.1 in
-          let picture : g.picture ≡ w.picture = ready.one w.version g w e (found_source t s ready w here) in
-          let known : knows t.knowledge w.picture w.version ≡ true = (λ i. knows t.knowledge (sym picture i) (sym same i)) ∙ (known_target t s ready g found.0).itself in
+          let picture : g.picture ≡ w.picture = ready.may.one w.version g w e (found_here s ready.source w here) in
+          let known : knows t.knowledge w.picture w.version ≡ true = (λ i. knows t.knowledge (sym picture i) (sym same i)) ∙ (known_here t ready.target g found.0).itself in
           let unknown : knows t.knowledge w.picture w.version ≡ false = not-true (knows t.knowledge w.picture w.version) new in
           cc
 
-  pub takes_new : AllByRecursion (λ h. find_version h.version (t.store ++ t.out) ≡ None) (takes t s)
-  takes_new = all_takes (λ h. find_version h.version (t.store ++ t.out) ≡ None)
-      (λ w here. let from = from_heard w here in not_held w (in_left w s.store s.out from.0) from.1)
-      (λ w here. let from = from_waiting w here in not_held w (in_right w s.store s.out from.0) from.1)
+  heard_new : AllByRecursion (λ h. find_version h.version (t.store ++ t.out) ≡ None) (heard t s)
+  heard_new = all_of _ (heard t s) (λ w here.
+      let from = in_filtered (is_new t.knowledge) w s.store (in_filtered (is_heard t s) w (new_stored t s) here).0 in
+      not_held w (in_left w s.store s.out from.0) from.1)
 
-  pub takes_distinct : (v : Version) → count_of v (takes t s) ≤ 1
-  takes_distinct v =
-      let q : Held → Bool = λ h. same_version h.version v in
-      let one = few (is_selected t.tree) q (heard t s) in
-      let two = few (is_heard t s) q (new_stored t s) in
-      let three = few (is_new t.knowledge) q s.store in
-      let four = few (is_new t.knowledge) q s.out in
-      let sum = ap (length {A = Held}) (filter-append q (taken_stored t s) (new_waiting t s)) ∙ length-append (filter q (taken_stored t s)) (filter q (new_waiting t s)) in
-      let all = ap (length {A = Held}) (filter-append q s.store s.out) ∙ length-append (filter q s.store) (filter q s.out) in
+  waiting_new : AllByRecursion (λ h. find_version h.version (t.store ++ t.out) ≡ None) (new_waiting t s)
+  waiting_new = all_of _ (new_waiting t s) (λ w here. let from = in_filtered (is_new t.knowledge) w s.out here in not_held w (in_right w s.store s.out from.0) from.1)
+
+  pub taken_new : AllByRecursion (λ h. find_version h.version (t.store ++ t.out) ≡ None) (taken_stored t s)
+  taken_new = all_filter _ (is_selected t.tree) (heard t s) heard_new
+
+  -- no version is taken, handed over or held twice
+  pub taken_once : (v : Version) → count_of v (taken_stored t s) + count_of v (new_waiting t s) + count_of v t.store + count_of v t.out ≤ 1
+  taken_once v =
+      let distinct : (v : Version) → count_of v (takes t s) ≤ 1 = λ v.
+      let kept = count_of-filter v (is_selected t.tree) (heard t s) in
+      let told = count_of-filter v (is_heard t s) (new_stored t s) in
+      let stored = count_of-filter v (is_new t.knowledge) s.store in
+      let waiting = count_of-filter v (is_new t.knowledge) s.out in
+      let both = count_of-append v (taken_stored t s) (new_waiting t s) in
+      let all = count_of-append v s.store s.out in
       let once = ready.source.once v in
+      omega arith in
+      let once = (all_new (takes t s) (unstaged t) (all_append _ (taken_stored t s) (new_waiting t s) taken_new waiting_new) distinct ready.target).once v in
+      let all = count_of-append v (takes t s) (t.store ++ t.out) in
+      let parts = count_of-append v (taken_stored t s) (new_waiting t s) in
+      let both = count_of-append v t.store t.out in
       omega arith
 
-  pub takes_earlier : AllByRecursion HasEarlier (takes t s)
-  takes_earlier = all_takes HasEarlier
-      (λ w here. all_at HasEarlier w s.store ready.source.store (from_heard w here).0)
-      (λ w here. all_at HasEarlier w s.out ready.source.out (from_waiting w here).0)
+  pub asked_once : (v : Version) → times_in v (versions (new_waiting t s)) ≤ 1
+  asked_once v =
+      let once = taken_once v in
+      let same = ap length (filter_mapped (λ w. same_version w v) (λ (h : Held). h.version) (new_waiting t s)) in
+      let mapped = length-map (filter (λ (h : Held). same_version h.version v) (new_waiting t s)) (λ (h : Held). h.version) in
+      omega arith
 
-  pub heard_earlier : AllByRecursion HasEarlier (heard t s)
-  heard_earlier = all_of HasEarlier (heard t s) (λ w here. all_at HasEarlier w s.store ready.source.store (from_heard w here).0)
-
-  pub waiting_earlier : AllByRecursion HasEarlier (new_waiting t s)
-  waiting_earlier = all_of HasEarlier (new_waiting t s) (λ w here. all_at HasEarlier w s.out ready.source.out (from_waiting w here).0)
-
-  -- each that waits is the one of its version in the out
-  pub waiting_found : AllByRecursion (λ w. find_version w.version s.out ≡ Some w) (new_waiting t s)
-  waiting_found = all_of (λ w. find_version w.version s.out ≡ Some w) (new_waiting t s) (λ w here.
-      let there = (from_waiting w here).0 in
-      let q : Held → Bool = λ g. same_version g.version w.version in
-      let all = ap (length {A = Held}) (filter-append q s.store s.out) ∙ length-append (filter q s.store) (filter q s.out) in
+  -- what is asked for is what waits
+  pub handed_are : helds_at (versions (new_waiting t s)) s.out ≡ new_waiting t s
+  handed_are = all_found (new_waiting t s) s.out (all_of _ (new_waiting t s) (λ w here.
       let once = ready.source.once w.version in
-      find_one q w s.out (only_one q w s.out there (same_itself w.version) (omega arith)))
-
-  known_here : (hs : List Held) → ((w : Held) → In w hs → In w (s.store ++ s.out)) → AllByRecursion (IsKnownBy s.knowledge) hs
-  known_here hs inside = all_of (IsKnownBy s.knowledge) hs (λ w here. known_source t s ready w (inside w here))
+      let all = count_of-append w.version s.store s.out in
+      let same : Held → Bool = λ g. same_version g.version w.version in
+      find_one same w s.out (only_one same w s.out (in_filtered (is_new t.knowledge) w s.out here).0 (same_version_self w.version) (omega arith))))
 
   pub told_is_known : (p : ℕ) (v : Version) → (tells (heard t s) p v || tells (new_waiting t s) p v) ≡ true → knows s.knowledge p v ≡ true
-  told_is_known p v h = by (cases_Bool (tells (heard t s) p v)) h
-    where
-      by : (tells (heard t s) p v ≡ true) ⊎ (tells (heard t s) p v ≡ false) → (tells (heard t s) p v || tells (new_waiting t s) p v) ≡ true → knows s.knowledge p v ≡ true
-      by (inl told) e = told_known s.knowledge (heard t s) p v (known_here (heard t s) (λ w here. in_left w s.store s.out (from_heard w here).0)) told
-      by (inr none) e = told_known s.knowledge (new_waiting t s) p v (known_here (new_waiting t s) (λ w here. in_right w s.store s.out (from_waiting w here).0)) (sym (ap (λ b. b || tells (new_waiting t s) p v) none) ∙ e)
+  told_is_known p v h = elim (or_cases (tells (heard t s) p v) _ h) [
+    | inl told ↦ told_known s.knowledge (heard t s) p v heard_known told
+    | inr told ↦ told_known s.knowledge (new_waiting t s) p v waiting_known told
+  ]
 
-  module _ (gain : List Fragment) (gain_is : (p : ℕ) (v : Version) → 0 < p → knows gain p v ≡ gains t s p v) where
-    each_told : (hs : List Held) (w : Held) → In w hs → 0 < w.picture → ((p : ℕ) (v : Version) → tells hs p v ≡ true → gains t s p v ≡ true) → IsKnownBy gain w
-    each_told hs w here above told =
-        let tells_of : (v : Version) → (denotes w.made_with v || same_version w.version v) ≡ true → knows gain w.picture v ≡ true =
-        λ v h. gain_is w.picture v above ∙ told w.picture v (in_any (one w.picture v) w hs here (and_from (eqb w.picture w.picture) _ (eq-eqb w.picture w.picture refl) h)) in
-        record {
-          above = above;
-          itself = tells_of w.version (or_other (denotes w.made_with w.version) _ (same_itself w.version));
-          history = λ v h. tells_of v (or_intro (denotes w.made_with v) _ h);
-        }
+  module _ (gain : List Fragment) (gained : IsGained t s gain) where
+    gains_told : (p : ℕ) (v : Version) → 0 < p → (tells (heard t s) p v || tells (new_waiting t s) p v) ≡ true → knows gain p v ≡ true
+    gains_told p v above told = gained p v above ∙ or_right (learns t s && knows s.knowledge p v) _ told
 
-    pub takes_known : AllByRecursion (IsKnownBy gain) (takes t s)
-    takes_known = all_takes (IsKnownBy gain)
-        (λ w here. each_told (heard t s) w here ((known_source t s ready w (in_left w s.store s.out (from_heard w here).0)).above) (λ p v h. or_other (learns t s && knows s.knowledge p v) _ (or_intro (tells (heard t s) p v) _ h)))
-        (λ w here. each_told (new_waiting t s) w here ((known_source t s ready w (in_right w s.store s.out (from_waiting w here).0)).above) (λ p v h. or_other (learns t s && knows s.knowledge p v) _ (or_other (tells (heard t s) p v) _ h)))
+    known_by_gain : (hs : List Held) → AllByRecursion (IsKnownBy s.knowledge) hs → ((p : ℕ) (v : Version) → tells hs p v ≡ true → (tells (heard t s) p v || tells (new_waiting t s) p v) ≡ true) → AllByRecursion (IsKnownBy gain) hs
+    known_by_gain hs known told = known_told gain hs (all_weaker hs known) (λ p v above h. gains_told p v above (told p v h))
+      where
+        all_weaker : (hs : List Held) → AllByRecursion (IsKnownBy s.knowledge) hs → AllByRecursion (λ h. 0 < h.picture) hs
+        all_weaker [] all = tt
+        all_weaker (h ∷ hs) all = (all.0.above, all_weaker hs all.1)
+
+    pub heard_gained : AllByRecursion (IsKnownBy gain) (heard t s)
+    heard_gained = known_by_gain (heard t s) heard_known (λ p v h. or_left (tells (heard t s) p v) _ h)
+
+    pub waiting_gained : AllByRecursion (IsKnownBy gain) (new_waiting t s)
+    waiting_gained = known_by_gain (new_waiting t s) waiting_known (λ p v h. or_right (tells (heard t s) p v) _ h)
 
     -- what is gained, the source knows
-    gain_within : (p : ℕ) (v : Version) → 0 < p → knows gain p v ≡ true → knows s.knowledge p v ≡ true
-    gain_within p v above h = by (cases_Bool (learns t s && knows s.knowledge p v)) (sym (gain_is p v above) ∙ h)
-      where
-        by : ((learns t s && knows s.knowledge p v) ≡ true) ⊎ ((learns t s && knows s.knowledge p v) ≡ false) → gains t s p v ≡ true → knows s.knowledge p v ≡ true
-        by (inl learned) e = (and_parts (learns t s) (knows s.knowledge p v) learned).1
-        by (inr not_so) e = told_is_known p v (sym (ap (λ b. b || (tells (heard t s) p v || tells (new_waiting t s) p v)) not_so) ∙ e)
-
-    pub gain_own : KnowsNoMore t.author t.counter s.knowledge → KnowsNoMore t.author t.counter gain
-    gain_own own = no_more_of t.author t.counter gain s.knowledge gain_within own
+    pub gain_own : KnowsNoMore t.author t.counter gain
+    gain_own = no_more_of t.author t.counter gain s.knowledge (λ p v above h. elim (or_cases (learns t s && knows s.knowledge p v) _ (sym (gained p v above) ∙ h)) [
+      | inl taught ↦ (and_parts (learns t s) _ taught).1
+      | inr told ↦ told_is_known p v told
+    ]) ready.may.own

@@ -7,7 +7,4 @@ mod KeepingLemmas
 pub mod Shown
 pub mod Changes
 pub mod Asked
-pub mod Findings
-pub mod Moved
-mod Committed
 mod StagedFound

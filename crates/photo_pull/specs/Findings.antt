@@ -1,29 +1,36 @@
 -- Machinery of the proofs: what the code finds between two devices is what `OnHeld` says, and is staged on one of them.
-use Rattle.std.specs.Prelude.{◌≡◌, ℕ, ◌<◌, true, List, ◌++◌}
+use Rattle.std.specs.Prelude.{◌≡◌, ℕ, ◌<◌, true, List}
 use Rattle.std.specs.List.{AllByRecursion}
 use Rattle.std.specs.List.Sorted.{IsPermutation}
 use Rattle.photo_version.specs.Version.{Version}
 use Rattle.item_knowledge.specs.Fragments.{Fragment, knows}
 use Rattle.photo_device.specs.Held.{are_in_order}
-use Rattle.photo_device.specs.Device.{Kept, ModelDevice, Shows}
-use Rattle.photo_device.specs.Own.{HasEarlier}
+use Rattle.photo_device.specs.Device.{Kept, ModelDevice, Shows, unstaged}
+use Rattle.photo_device.specs.Own.{HasEarlier, IsDevice}
 use Rattle.photo_device.specs.Staging.{HasStaged}
 use Rattle.photo_pull.specs.declared.counts.PullCounts.{PullCounts}
+use Rattle.photo_pull.specs.MayPull.{MayPull}
 use Rattle.photo_pull.specs.Pull.{pulled, handed_over, counts_of}
-use Rattle.photo_pull.specs.OnHeld.{IsOrdered, new_stored, new_waiting, dropped_stored, dropped_waiting, heard, taken_stored, gains, learns, versions}
+use Rattle.photo_pull.specs.OnHeld.{IsOrdered, new_stored, new_waiting, dropped_stored, dropped_waiting, heard, taken_stored, gains, learns, drops}
 use Rattle.photo_pull.specs.declared.part.Part.{Part}
 use Rattle.photo_pull.specs.declared.hearing.Hearing.{Hearing}
 
+-- two devices between which a pull may be
+pub record AreReady (t s : Kept) : Type 0 where
+  pub target : IsDevice (unstaged t)
+  pub source : IsDevice (unstaged s)
+  pub may : MayPull t s
+
 -- news are what the target doesn't know of what the source holds
 pub record AreNews (t s : Kept) (news : Part) : Type 0 where
+  pub ready : AreReady t s
   pub stored : news.stored.items ≡ new_stored t s
   pub waiting : news.waiting.items ≡ new_waiting t s
   pub order : IsOrdered news
-  pub stored_earlier : AllByRecursion HasEarlier news.stored.items
-  pub waiting_earlier : AllByRecursion HasEarlier news.waiting.items
 
 -- a target hears of what is to be heard
 pub record IsHearing (t s : Kept) (h : Hearing) : Type 0 where
+  pub ready : AreReady t s
   pub learned : h.learned ≡ learns t s
   pub dropped_stored : h.dropped.stored.items ≡ dropped_stored t s
   pub dropped_waiting : h.dropped.waiting.items ≡ dropped_waiting t s
@@ -34,13 +41,17 @@ pub record IsHearing (t s : Kept) (h : Hearing) : Type 0 where
   pub heard_earlier : AllByRecursion HasEarlier h.heard.items
   pub handed_earlier : AllByRecursion HasEarlier h.handed.items
 
+-- a knowledge has what the target learns
+abbrev pub IsGained : Kept → Kept → List Fragment → Type 0
+IsGained t s gain = (p : ℕ) (v : Version) → 0 < p → knows gain p v ≡ gains t s p v
+
 -- the change that a pull makes of the target is staged on it
 pub record HasStagedPull (t s : Kept) (room : ℕ) (new : Kept) : Type 0 where
-  pub drops : List Version
-  pub permuted : IsPermutation (versions (dropped_stored t s) ++ versions (dropped_waiting t s)) drops
+  pub given_up : List Version
+  pub permuted : IsPermutation (drops t s) given_up
   pub gain : List Fragment
-  pub gained : (p : ℕ) (v : Version) → 0 < p → knows gain p v ≡ gains t s p v
-  pub staged : HasStaged drops (taken_stored t s) gain room t new
+  pub gained : IsGained t s gain
+  pub staged : HasStaged given_up (taken_stored t s) gain room t new
 
 -- two devices after a pull, and its counts
 pub record HavePulled (t s after_t after_s : Kept) (counts : PullCounts) : Type 0 where

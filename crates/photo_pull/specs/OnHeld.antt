@@ -1,5 +1,5 @@
 -- Machinery of the proofs: a pull on the held versions of two devices, as the code finds them. What a pull is says `Pull`.
-use Rattle.std.specs.Prelude.{◌≡◌, ℕ, Bool, true, not, ◌&&◌, ◌||◌, ◌==◌, List, map, filter}
+use Rattle.std.specs.Prelude.{◌≡◌, ℕ, Bool, true, not, ◌&&◌, ◌||◌, ◌==◌, List, ◌++◌, map, filter}
 use Rattle.std.specs.List.{list_any}
 use Rattle.photo_version.specs.Version.{Version, Versions, same_version}
 use Rattle.photo_version.specs.Vector.{denotes}
@@ -93,6 +93,9 @@ taken_stored t s = filter (is_selected t.tree) (heard t s)
 
 abbrev pub versions : List Held → List Version
 versions hs = map (λ h. h.version) hs
+
+abbrev pub drops : Kept → Kept → List Version
+drops t s = versions (dropped_stored t s) ++ versions (dropped_waiting t s)
 
 -- what the target learns
 abbrev pub gains : Kept → Kept → ℕ → Versions

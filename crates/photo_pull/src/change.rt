@@ -1,11 +1,9 @@
 //! What a target is to drop, to take and to learn, and its staging.
-ghost use Rattle.std.specs.Prelude.{◌≡◌, ◌+◌, ◌≤◌, ◌++◌, None, [], length, filter, vec_len, vec_capacity, IfOk, OnOk, OnErr};
+ghost use Rattle.std.specs.Prelude.{◌≡◌, ◌+◌, ◌≤◌, ◌++◌, None, [], length, vec_len, vec_capacity, IfOk, OnOk, OnErr};
 ghost use Rattle.std.specs.List.Sorted.{IsPermutation};
 ghost use Rattle.photo_device.specs.Device.{IsAsItWas};
-ghost use Rattle.photo_device.specs.Staging.{HasStaged, MayStage};
-ghost use Rattle.photo_pull.specs.OnHeld.{is_selected, versions};
-ghost use Rattle.photo_pull.specs.MayPull.{MayPull};
-ghost use Rattle.photo_pull.specs.Findings.{IsHearing, HasStagedPull};
+ghost use Rattle.photo_pull.specs.OnHeld.{versions};
+ghost use Rattle.photo_pull.specs.Findings.{IsGained, IsHearing, HasStagedPull};
 
 use crate::filtered::{push_versions, taken_of};
 use crate::hearing::Hearing;
@@ -72,21 +70,24 @@ pub(crate) fn handed_of(
     Ok((asked, handed))
 }
 
-// Stages a change by which a device drops some versions, takes what its filter matches of what it heard of, and learns what
-// it is lent.
+// Stages what was found, where what the target learns is lent. The source is there for the contract alone.
 fn stage_heard(
-    drops: VersionList,
-    pictures: Vec<PicNo>,
-    heard: Vec<SharedHeld>,
+    alloc: Global,
+    hearing: Hearing,
     gain: &Knowledge,
     target: &mut Device,
+    source: &Device,
     room: usize,
 ) -> Result<(), AllocError>
-    requires { MayStage drops (filter (is_selected target.old.tree) heard.items) gain.now.known target.old }
-    ensures staged { OnOk result (HasStaged drops (filter (is_selected target.old.tree) heard.items) gain.now.known room target.old target.new) }
+    requires hearing { IsHearing target.old source.now hearing }
+    requires gained { IsGained target.old source.now gain.now.known }
+    requires unstaged { target.old.staged ≡ None }
+    ensures staged { OnOk result (HasStagedPull target.old source.now room target.new) }
     ensures err { OnErr result (IsAsItWas target.old target.new) }
     ensures unstaged { OnErr result (target.new.staged ≡ None) }
 {
+    let Hearing { dropped, heard, .. } = hearing;
+    let (drops, pictures) = drops_of(alloc, target, &dropped.stored, &dropped.waiting)?;
     let takes = SharedList::new(taken_of(target.filter(), heard));
     if let Err((_, _, refused)) = target.stage_lent(drops, pictures, takes, gain, room) {
         return Err(refused);
@@ -104,25 +105,14 @@ pub(crate) fn stage_found(
     room: usize,
 ) -> Result<(), AllocError>
     requires hearing { IsHearing target.old source.now hearing }
-    requires may { MayPull target.old source.now }
     requires unstaged { target.old.staged ≡ None }
     ensures staged { OnOk result (HasStagedPull target.old source.now room target.new) }
     ensures err { OnErr result (IsAsItWas target.old target.new) }
     ensures unstaged { OnErr result (target.new.staged ≡ None) }
 {
-    // For their facts alone: what is true of every device.
-    let _target = target.knowledge();
-    let taught = source.knowledge();
-    let Hearing {
-        learned,
-        dropped,
-        heard,
-        handed,
-    } = hearing;
-    let (drops, pictures) = drops_of(alloc, target, &dropped.stored, &dropped.waiting)?;
-    if learned {
-        return stage_heard(drops, pictures, heard, taught, target, room);
+    if hearing.learned {
+        return stage_heard(alloc, hearing, source.knowledge(), target, source, room);
     }
-    let gain = gain_of(alloc, &heard, &handed)?;
-    stage_heard(drops, pictures, heard, &gain, target, room)
+    let gain = gain_of(alloc, &hearing.heard, &hearing.handed)?;
+    stage_heard(alloc, hearing, &gain, target, source, room)
 }

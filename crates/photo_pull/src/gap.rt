@@ -1,25 +1,34 @@
-// Pictures of which nothing is new.
+// What was found of news at a picture.
 use photo_record::PicNo;
 
-/// Pictures of which a device is told nothing new: from the first up to before the second.
+/// A picture of which news was looked for. Of it and of those up to before `end` there is none; those that are no smaller
+/// begin at a place in the store's news, and at one in the out's.
 #[derive(Clone, Copy, Debug)]
 pub(crate) struct Gap {
     pub from: u32,
     pub end: u32,
+    pub stored: usize,
+    pub waiting: usize,
 }
 
 impl Gap {
     ghost use Rattle.std.specs.Prelude.{◌≡◌, ◌&&◌, nat_le, nat_lt};
 
-    /// No picture.
+    /// Before any was looked for.
     pub fn none() -> Gap
-        ensures from { result.from ≡ 0 }
         ensures end { result.end ≡ 0 }
+        ensures stored { result.stored ≡ 0 }
+        ensures waiting { result.waiting ≡ 0 }
     {
-        Gap { from: 0, end: 0 }
+        Gap {
+            from: 0,
+            end: 0,
+            stored: 0,
+            waiting: 0,
+        }
     }
 
-    /// Whether a picture is one of them.
+    /// Whether a picture is one of those without news.
     pub fn has(&self, picture: PicNo) -> bool
         ensures { result ≡ (nat_le self.now.from picture && nat_lt picture self.now.end) }
     {

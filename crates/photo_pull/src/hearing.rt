@@ -68,7 +68,7 @@ pub(crate) fn heard_between(
 }
 
 impl Hearing {
-    ghost use Rattle.std.specs.Prelude.{◌≡◌, ℕ, ◌+◌, ◌<◌, ◌&&◌, ◌==◌, true, [], length, filter};
+    ghost use Rattle.std.specs.Prelude.{◌≡◌, ℕ, ◌+◌, ◌<◌, true, [], length, filter};
     ghost use Rattle.photo_version.specs.Version.{Version};
     ghost use Rattle.item_knowledge.specs.Fragments.{knows};
     ghost use Rattle.photo_pull.specs.OnHeld.{is_selected};
@@ -91,14 +91,6 @@ impl Hearing {
         }
     }
 
-    /// Whether no version is heard of, handed over or dropped.
-    pub fn is_empty(&self) -> bool
-        ensures { result ≡ ((length self.now.heard.items == 0) && ((length self.now.handed.items == 0)
-            && ((length self.now.dropped.stored.items == 0) && (length self.now.dropped.waiting.items == 0)))) }
-    {
-        self.heard.is_empty() && (self.handed.is_empty() && self.dropped.is_empty())
-    }
-
     /// Whether nothing is heard of, handed over or dropped, and what the source may teach is known.
     pub fn is_nothing(&self, known: &Knowledge, taught: &Knowledge) -> bool
         ensures heard { result ≡ true → self.now.heard.items ≡ [] }
@@ -108,9 +100,7 @@ impl Hearing {
         ensures known { result ≡ true → self.now.learned ≡ true → (p : ℕ) (v : Version) → 0 < p → knows taught.now.known p v ≡ true
             → knows known.now.known p v ≡ true }
     {
-        if !self.is_empty() {
-            return false;
-        }
-        !self.learned || known.has_all(taught)
+        let none = self.heard.is_empty() && self.handed.is_empty() && self.dropped.is_empty();
+        none && (!self.learned || known.has_all(taught))
     }
 }

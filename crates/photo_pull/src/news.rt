@@ -1,5 +1,6 @@
 // What is new to a target of what a source holds.
 ghost use Rattle.std.specs.Prelude.{◌≡◌, IfOk};
+ghost use Rattle.photo_pull.specs.MayPull.{MayPull};
 ghost use Rattle.photo_pull.specs.Findings.{AreNews};
 
 use crate::part::Part;
@@ -13,9 +14,12 @@ pub(crate) fn news_of(
     target: &mut Device,
     source: &Device,
 ) -> Result<Part, AllocError>
+    requires { MayPull target.old source.now }
     ensures news { IfOk result (λ news. AreNews target.old source.now news) }
     ensures kept { target.new ≡ target.old }
 {
+    // For its fact alone: what is true of every device.
+    let _target = target.knowledge();
     let stored = target.unknown_of(alloc, source.store())?;
     let waiting = target.unknown_of(alloc, source.out())?;
     Ok(Part { stored, waiting })
@@ -23,8 +27,11 @@ pub(crate) fn news_of(
 
 /// The same, where the target may not be changed: it notes nothing.
 pub(crate) fn news_by(alloc: Global, target: &Device, source: &Device) -> Result<Part, AllocError>
+    requires { MayPull target.now source.now }
     ensures { IfOk result (λ news. AreNews target.now source.now news) }
 {
+    // For its fact alone: what is true of every device.
+    let _target = target.knowledge();
     let stored = target.unknown_by(alloc, source.store())?;
     let waiting = target.unknown_by(alloc, source.out())?;
     Ok(Part { stored, waiting })

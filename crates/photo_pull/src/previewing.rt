@@ -18,9 +18,6 @@ pub fn preview(alloc: Global, target: &Device, source: &Device) -> Result<PullCo
     requires { MayPull target.now source.now }
     ensures { IfOk result (λ counts. (t s : ModelDevice) → Shows target.now t → Shows source.now s → counts ≡ counts_of t s) }
 {
-    // For their facts alone: what is true of every device.
-    let _target = target.knowledge();
-    let _source = source.knowledge();
     let news = news_by(alloc, target, source)?;
     let hearing = heard_between(alloc, news, target, source)?;
     Ok(hearing.counts(target.filter()))

@@ -49,7 +49,6 @@ fn pull_news(
     source: &mut Device,
 ) -> Result<PullCounts, AllocError>
     requires news { AreNews target.old source.old news }
-    requires may { MayPull target.old source.old }
     requires target_unstaged { target.old.staged ≡ None }
     requires source_unstaged { source.old.staged ≡ None }
     ensures done { IfOk result (λ counts. HavePulled target.old source.old target.new source.new counts) }

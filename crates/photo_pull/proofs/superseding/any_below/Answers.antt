@@ -1,16 +1,14 @@
-use Rattle.std.proofs.Common.{ap, ◌∙◌}
-use Rattle.std.specs.Prelude.{◌==◌, Bool, List, filter}
-use Rattle.std.specs.List.{list_any}
-use Rattle.photo_version.specs.Vector.{Bound, denotes}
-use Rattle.photo_device.specs.declared.held.Held.{Held}
-use Rattle.photo_pull.proofs.Ranges.{below_of}
+use Rattle.std.proofs.Common.{◌<◌, sym, ◌∙◌, arith, rules}
+use Rattle.photo_pull.proofs.Along.{below_of, greater_from}
 use Rattle.photo_pull.proofs.superseding.any_below.Goals as goal
 
-pub returns : goal.returns
-returns c =
-    let within : List Held → Bool = λ l. list_any (λ (h : Held). denotes c.args.newer.now.made_with h.version) l in
-    c.any_within.ensures
-    ∙ ap (λ (v : List Bound). list_any (λ (h : Held). denotes v h.version) c.of_picture.result.now) c.made_with.ensures
-    ∙ ap within c.of_picture.ensures
-    ∙ ap (λ p. within (filter (λ (h : Held). h.picture == p) c.args.list.now)) c.picture.ensures
-    ∙ below_of c.args.list.now c.args.newer.now
+pub loop-place-init : goal.loop-place-init
+loop-place-init c = record {
+  same = c.first_of-place.ensures.below c.args.newer.now (omega (arith, c.picture.ensures));
+}
+
+pub returns-then-lt : goal.returns-then-lt
+returns-then-lt c =
+    let greater : c.args.newer.now.picture < c.index-list-place.result.picture = search rules in
+    sym (greater_from _ _ (below_of c.args.newer.now) c.args.list.now c.loop-place.place c.index-list-place.result c.requires c.loop-place-test.true c.index-list-place.is greater)
+    ∙ c.loop-place.invariant.same
