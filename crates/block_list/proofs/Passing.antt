@@ -1,20 +1,14 @@
 -- Elements that pass a test, and lists in blocks that have none.
 use Rattle.std.proofs.Common.{◌≡◌, ℕ, suc, ◌+◌, ◌<◌, ◌≤◌, Bool, true, false, ◌||◌, List, [], ◌∷◌, ◌++◌, length, get_or, slice_get, Some, take, drop, Vec, refl, sym, ap, subst, ◌∙◌, inl, inr, arith}
-use Rattle.std.specs.Prelude.{Option, None, IfNone}
 use Rattle.std.specs.List.{list_any}
 use Rattle.std.specs.declared.alloc.Global.{Global}
-use Rattle.std.proofs.lemmas.Bool.{cases_lt}
+use Rattle.std.proofs.lemmas.Bool.{cases_eq}
 use Rattle.std.proofs.lemmas.List.{get_or_default}
 use Rattle.std.proofs.lemmas.List.Folds.{list_any-append, list_any_more}
 use Rattle.std.proofs.lemmas.Option.{same_Some, slice_get_within, slice_get-get_or, get_or_from_slice_get}
-use Rattle.block_list.specs.Blocks.{joined, start_of, IsElement}
+use Rattle.block_list.specs.Blocks.{joined, start_of}
 use Rattle.block_list.specs.Taken.{IsTakenOut}
 use Rattle.block_list.proofs.Joined.{read_at}
-
--- where nothing was found at all
-pub absent_then : {A : Type 0} {P Q : Type 0} (o : Option A) → IfNone o P → (P → Q) → IfNone o Q
-absent_then None none more = more none
-absent_then (Some x) none more = tt
 
 module _ {T : Type 0} where
   -- an element that was read
@@ -28,21 +22,13 @@ module _ {T : Type 0} where
       ∙ ap (λ b. b || p (get_or xs i read)) none
       ∙ ap p (sym is) ∙ fails
 
-  -- an element of a block is an element of the list
-  pub element_in : (blocks : List (Vec T Global)) (b k : ℕ) (v : Vec T Global) → b < length blocks → v ≡ get_or blocks b v → k < length v.items → IsElement blocks (start_of blocks b + k) b k
-  element_in blocks b k v inside is within = record {
-    block = inside;
-    start = refl;
-    within = λ d. subst (λ (w : Vec T Global). k < length w.items) (is ∙ get_or_default blocks b v d inside) within;
-  }
-
   -- what was found in a block, in the list
   pub found_in_list : (p : T → Bool) (blocks : List (Vec T Global)) (b k : ℕ) (v : Vec T Global) (items : List T) (x : T) → b < length blocks → v ≡ get_or blocks b v → items ≡ v.items → k < length items → ((y : T) → slice_get items k ≡ Some y → p y ≡ true) → slice_get (joined blocks) (start_of blocks b + k) ≡ Some x → p x ≡ true
   found_in_list p blocks b k v items x inside is items_is within passes at =
       let here_within : k < length v.items = subst (λ l. k < length l) items_is within in
       let y = get_or v.items k x in
       let here : slice_get items k ≡ Some y = ap (λ l. slice_get l k) items_is ∙ slice_get-get_or v.items k x here_within in
-      let there : slice_get (joined blocks) (start_of blocks b + k) ≡ Some y = read_at blocks (start_of blocks b + k) b k v y (element_in blocks b k v inside is here_within) is (get_or_default v.items k x y here_within) in
+      let there : slice_get (joined blocks) (start_of blocks b + k) ≡ Some y = read_at blocks b k v y inside here_within is (get_or_default v.items k x y here_within) in
       ap p (same_Some x y (sym at ∙ there)) ∙ passes y here
 
   -- in no block one passes
@@ -53,16 +39,12 @@ module _ {T : Type 0} where
       ∙ ap (λ b. b || list_any p (joined blocks)) (none 0 v (omega arith))
       ∙ none_in_blocks p blocks (λ j d within. none (suc j) d (omega arith))
 
-  -- from a block on to the end none passes, and none in the blocks before it
-  pub none_on_both : (p : T → Bool) (blocks : List (Vec T Global)) (near : ℕ) → ((j : ℕ) (d : Vec T Global) → near ≤ j → j < length blocks → list_any p (get_or blocks j d).items ≡ false) → ((j : ℕ) (d : Vec T Global) → 0 ≤ j → j < near → list_any p (get_or blocks j d).items ≡ false) → list_any p (joined blocks) ≡ false
-  none_on_both p blocks near behind before = none_in_blocks p blocks (λ j d within. elim (cases_lt j near) [
-    | inl less ↦ before j d (omega arith) less
-    | inr further ↦ behind j d (omega arith) within
-  ])
-
-  -- a block without one of its elements
-  pub left_in_block : (blocks : List (Vec T Global)) (b k : ℕ) (v d : Vec T Global) → d ≡ get_or blocks b d → v.items ≡ take k d.items ++ drop (k + 1) d.items → v.items ≡ take k (get_or blocks b d).items ++ drop (k + 1) (get_or blocks b d).items
-  left_in_block blocks b k v d is items = items ∙ ap (λ (w : Vec T Global). take k w.items ++ drop (k + 1) w.items) is
+  -- none passes in one block more, of those from a block on to the end and then from the first on
+  pub none_in_turn : (p : T → Bool) (blocks : List (Vec T Global)) (from i block : ℕ) (v : Vec T Global) → block < length blocks → i < length blocks → (from + i < length blocks → block ≡ from + i) → (length blocks ≤ from + i → block + length blocks ≡ from + i) → v ≡ get_or blocks block v → list_any p v.items ≡ false → ((b : ℕ) (d : Vec T Global) → b < length blocks → (from ≤ b → b < from + i) → (b < from → b + length blocks < from + i) → list_any p (get_or blocks b d).items ≡ false) → (b : ℕ) (d : Vec T Global) → b < length blocks → (from ≤ b → b < from + (i + 1)) → (b < from → b + length blocks < from + (i + 1)) → list_any p (get_or blocks b d).items ≡ false
+  none_in_turn p blocks from i block v inside within behind before is none earlier b d h l u = elim (cases_eq b block) [
+    | inl same ↦ ap (λ n. list_any p (get_or blocks n d).items) same ∙ ap (λ (w : Vec T Global). list_any p w.items) (get_or_default blocks block d v inside ∙ sym is) ∙ none
+    | inr other ↦ earlier b d h (λ a. grind arith) (λ a. grind arith)
+  ]
 
   -- an element that was found, and is taken out
   pub taken_out : (p : T → Bool) (old new : List T) (blocks at : List (Vec T Global)) (b k : ℕ) (x : T) → at ≡ blocks → joined blocks ≡ old → ((y : T) → slice_get (joined at) (start_of at b + k) ≡ Some y → p y ≡ true) → slice_get (joined blocks) (start_of blocks b + k) ≡ Some x → new ≡ take (start_of blocks b + k) (joined blocks) ++ drop (start_of blocks b + k + 1) (joined blocks) → IsTakenOut p old x new

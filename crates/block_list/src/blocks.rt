@@ -1,7 +1,8 @@
 //! The work on the blocks of a list. None of them is empty.
-ghost use Rattle.std.specs.Prelude.{◌≡◌, ◌+◌, ◌<◌, ◌≤◌, ◌++◌, length, take, drop, slice_set, OnOk, OnErr};
+ghost use Rattle.std.specs.Prelude.{◌≡◌, ℕ, ◌+◌, ◌<◌, ◌≤◌, ◌++◌, length, take, drop, slice_set, slice_index_or, Vec, OnOk, OnErr};
+ghost use Rattle.std.specs.declared.alloc.Global.{Global};
 ghost use Rattle.std.specs.List.{insert};
-ghost use Rattle.block_list.specs.Blocks.{joined, AreFilled, start_of, IsPlace, IsElement};
+ghost use Rattle.block_list.specs.Blocks.{joined, AreFilled, start_of, IsAt};
 
 use std::alloc::AllocError;
 
@@ -12,7 +13,8 @@ const LONG: usize = 128;
 /// Where element `i` stands: its block, and its place there.
 pub fn element_at<T>(blocks: &[Vec<T>], i: usize) -> (usize, usize)
     requires { i < length (joined blocks.now) }
-    ensures { IsElement blocks.now i result.0 result.1 }
+    ensures place { IsAt blocks.now result.0 result.1 1 }
+    ensures start { start_of blocks.now result.0 + result.1 ≡ i }
 {
     let mut block = 0;
     let mut place = i;
@@ -27,15 +29,14 @@ pub fn element_at<T>(blocks: &[Vec<T>], i: usize) -> (usize, usize)
 fn place_of<T>(blocks: &[Vec<T>], i: usize) -> (usize, usize)
     requires some { 0 < length blocks.now }
     requires in_range { i ≤ length (joined blocks.now) }
-    ensures { IsPlace blocks.now i result.0 result.1 }
+    ensures place { IsAt blocks.now result.0 result.1 0 }
+    ensures start { start_of blocks.now result.0 + result.1 ≡ i }
 {
-    let mut block = 0;
-    let mut place = i;
-    while blocks[block].len() < place {
-        place -= blocks[block].len();
-        block += 1;
+    if i == 0 {
+        return (0, 0);
     }
-    (block, place)
+    let (block, place) = element_at(blocks, i - 1);
+    (block, place + 1)
 }
 
 // Cuts a block in two where it is long and memory allows it. The list stays.
@@ -93,7 +94,7 @@ pub fn insert_in<T: Drop>(
     item: T,
 ) -> Result<(), AllocError>
     requires filled { AreFilled blocks.old.items }
-    requires place { IsPlace blocks.old.items (start_of blocks.old.items block + place) block place }
+    requires place { IsAt blocks.old.items block place 0 }
     ensures ok { OnOk result (joined blocks.new.items ≡ insert (joined blocks.old.items) (start_of blocks.old.items block + place) item) }
     ensures err { OnErr result (joined blocks.new.items ≡ joined blocks.old.items) }
     ensures filled { AreFilled blocks.new.items }
@@ -103,25 +104,26 @@ pub fn insert_in<T: Drop>(
     Ok(())
 }
 
-/// Puts an element in the place of element `i`.
-pub fn set_at<T: Drop>(blocks: &mut Vec<Vec<T>>, i: usize, item: T)
-    requires filled { AreFilled blocks.old.items }
-    requires in_range { i < length (joined blocks.old.items) }
-    ensures set { joined blocks.new.items ≡ slice_set (joined blocks.old.items) i item }
-    ensures filled { AreFilled blocks.new.items }
-{
-    let (block, place) = element_at(blocks, i);
-    blocks[block][place] = item;
-}
-
 /// Puts an element in the place of one in a block.
 pub fn set_in<T: Drop>(blocks: &mut Vec<Vec<T>>, block: usize, place: usize, item: T)
     requires filled { AreFilled blocks.old.items }
-    requires element { IsElement blocks.old.items (start_of blocks.old.items block + place) block place }
+    requires element { IsAt blocks.old.items block place 1 }
     ensures set { joined blocks.new.items ≡ slice_set (joined blocks.old.items) (start_of blocks.old.items block + place) item }
     ensures filled { AreFilled blocks.new.items }
 {
     blocks[block][place] = item;
+}
+
+/// Gives up a block if it is empty. The others aren't.
+pub fn drop_if_empty<T: Drop>(blocks: &mut Vec<Vec<T>>, block: usize)
+    requires in_range { block < length blocks.old.items }
+    requires others { (b : ℕ) (d : Vec T Global) → b < length blocks.old.items → (b ≡ block → ⊥) → 0 < length (slice_index_or blocks.old.items b d).items }
+    ensures same { joined blocks.new.items ≡ joined blocks.old.items }
+    ensures filled { AreFilled blocks.new.items }
+{
+    if blocks[block].is_empty() {
+        blocks.remove(block);
+    }
 }
 
 // Gives up the elements of a block from place `from` up to before place `to`.
@@ -146,9 +148,7 @@ fn remove_some<T: Drop>(blocks: &mut Vec<Vec<T>>, i: usize, count: usize) -> usi
     let (block, place) = element_at(blocks, i);
     let gone = count.min(blocks[block].len() - place);
     remove_part(&mut blocks[block], place, place + gone);
-    if blocks[block].is_empty() {
-        blocks.remove(block);
-    }
+    drop_if_empty(blocks, block);
     gone
 }
 

@@ -11,9 +11,9 @@ use std::marker::Model;
 #[derive(Drop)]
 pub struct Iter<'a, T> {
     // What is left of a block, and the blocks behind it.
-    block: &'a [T],
-    blocks: &'a [Vec<T>],
-    len: usize,
+    pub(crate) block: &'a [T],
+    pub(crate) blocks: &'a [Vec<T>],
+    pub(crate) len: usize,
 }
 
 impl<'a, T> Model for Iter<'a, T> {
@@ -25,22 +25,6 @@ impl<'a, T> Model for Iter<'a, T> {
     ghost view = { λ it. it.block.now ++ joined it.blocks.now };
 
     ghost invariant = { λ it. AreFilled it.blocks.now × (it.len ≡ length (it.block.now ++ joined it.blocks.now)) };
-}
-
-impl<'a, T> Iter<'a, T> {
-    ghost use Rattle.block_list.specs.Blocks.{joined, IsKept};
-
-    /// All elements of those blocks, of which none is empty, and which together have `len` elements.
-    pub(crate) fn new(blocks: &'a [Vec<T>], len: usize) -> Iter<'a, T>
-        requires { IsKept blocks.now len }
-        ensures { result ≡ joined blocks.now }
-    {
-        Iter {
-            block: &[],
-            blocks,
-            len,
-        }
-    }
 }
 
 impl<'a, T> Iterator for Iter<'a, T> {

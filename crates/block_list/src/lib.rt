@@ -5,12 +5,10 @@
 mod block_list;
 mod blocks;
 mod elements;
-mod gather;
 mod kept;
 pub mod laws;
 mod placed;
 mod room;
-mod roomy;
 mod search;
 mod spare;
 mod spot;
@@ -18,6 +16,5 @@ mod taken;
 
 pub use block_list::BlockList;
 pub use elements::Iter;
-pub use room::Room;
-pub use roomy::Roomy;
+pub use room::{Room, Roomy};
 pub use spot::Spot;

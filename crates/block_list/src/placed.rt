@@ -1,13 +1,11 @@
-//! Insertions that take no memory. Where a block is full they open a spare one, and without that they gather all
-//! elements in the block that is kept for them.
-ghost use Rattle.std.specs.Prelude.{◌≡◌, ℕ, ◌+◌, ◌<◌, ◌≤◌, Bool, [], ◌∷◌, ◌++◌, length, vec_len, vec_capacity};
+//! Insertions that take no memory.
+ghost use Rattle.std.specs.Prelude.{◌≡◌, ◌+◌, ◌<◌, ◌≤◌, Bool, [], ◌∷◌, ◌++◌, length, vec_len, vec_capacity};
 ghost use Rattle.std.specs.List.{insert, All};
 ghost use Rattle.std.specs.List.Sorted.{IsPartitionedBy};
 ghost use Rattle.std.specs.Fn.{ComputesKey};
-ghost use Rattle.block_list.specs.Blocks.{joined, AreFilled, start_of, IsPlace, IsReplaced};
-ghost use Rattle.block_list.specs.Spares.{HaveRoom, IsAlone, IsSpare};
+ghost use Rattle.block_list.specs.Blocks.{joined, AreFilled, start_of, IsAt, IsReplaced};
+ghost use Rattle.block_list.specs.Spares.{IsSpare};
 
-use crate::gather::gather;
 use crate::search::spot_of;
 use crate::spare::open_spare;
 
@@ -50,6 +48,7 @@ fn place_first<T: Drop>(blocks: &mut Vec<Vec<T>>, spare: &mut Vec<Vec<T>>, block
     ensures list { joined blocks.new.items ≡ insert (joined blocks.old.items) (start_of blocks.old.items block) item }
     ensures filled { AreFilled blocks.new.items }
     ensures spares { All IsSpare spare.new.items }
+    ensures capacity { vec_capacity spare.new ≡ vec_capacity spare.old }
 {
     if block < blocks.len() && blocks[block].len() < blocks[block].capacity() {
         place_within(&mut blocks[block], 0, item);
@@ -70,7 +69,7 @@ fn place_in<T: Drop>(
     place: usize,
     item: T,
 )
-    requires place { IsPlace blocks.old.items (start_of blocks.old.items block + place) block place }
+    requires place { IsAt blocks.old.items block place 0 }
     requires filled { AreFilled blocks.old.items }
     requires places { vec_len blocks.old < vec_capacity blocks.old }
     requires some { 0 < length spare.old.items }
@@ -78,6 +77,7 @@ fn place_in<T: Drop>(
     ensures list { joined blocks.new.items ≡ insert (joined blocks.old.items) (start_of blocks.old.items block + place) item }
     ensures filled { AreFilled blocks.new.items }
     ensures spares { All IsSpare spare.new.items }
+    ensures capacity { vec_capacity spare.new ≡ vec_capacity spare.old }
 {
     if blocks[block].len() < blocks[block].capacity() {
         place_within(&mut blocks[block], place, item);
@@ -87,8 +87,8 @@ fn place_in<T: Drop>(
     place_first(blocks, spare, block + 1, last);
 }
 
-// Puts an element behind those that pass the test, where there are a spare block and a place for it.
-fn place_between<T: Drop, P: Fn(&T) -> bool>(
+/// Puts an element behind those that pass the test, where there are a spare block and a place for it.
+pub fn place_between<T: Drop, P: Fn(&T) -> bool>(
     blocks: &mut Vec<Vec<T>>,
     spare: &mut Vec<Vec<T>>,
     before: P,
@@ -104,6 +104,7 @@ fn place_between<T: Drop, P: Fn(&T) -> bool>(
     ensures longer { length (joined blocks.new.items) ≡ length (joined blocks.old.items) + 1 }
     ensures filled { AreFilled blocks.new.items }
     ensures spares { All IsSpare spare.new.items }
+    ensures capacity { vec_capacity spare.new ≡ vec_capacity spare.old }
 {
     if blocks.is_empty() {
         place_first(blocks, spare, 0, item);
@@ -113,47 +114,15 @@ fn place_between<T: Drop, P: Fn(&T) -> bool>(
     place_in(blocks, spare, block, place, item);
 }
 
-// Puts an element behind those that pass the test, into the only block.
-fn place_alone<T: Drop, P: Fn(&T) -> bool>(blocks: &mut Vec<Vec<T>>, before: P, item: T)
+/// Puts an element behind those that pass the test, into the block that has room for all.
+pub fn place_alone<T: Drop, P: Fn(&T) -> bool>(whole: &mut Vec<T>, before: P, item: T)
     requires callable { P.IsAlwaysCallable before }
-    requires room { IsAlone blocks.old.items (length (joined blocks.old.items) + 1) }
-    ensures list { (p : T → Bool) → ComputesKey P.FnMut p before → IsPartitionedBy p (joined blocks.old.items)
-        → IsReplaced p p (joined blocks.old.items) item (joined blocks.new.items) }
-    ensures longer { length (joined blocks.new.items) ≡ length (joined blocks.old.items) + 1 }
-    ensures filled { AreFilled blocks.new.items }
-    ensures room { (most : ℕ) → IsAlone blocks.old.items most → IsAlone blocks.new.items most }
+    requires room { vec_len whole.old < vec_capacity whole.old }
+    ensures list { (p : T → Bool) → ComputesKey P.FnMut p before → IsPartitionedBy p whole.old.items
+        → IsReplaced p p whole.old.items item whole.new.items }
+    ensures longer { length whole.new.items ≡ length whole.old.items + 1 }
+    ensures capacity { vec_capacity whole.old ≤ vec_capacity whole.new }
 {
-    let place = blocks[0].partition_point(before);
-    place_within(&mut blocks[0], place, item);
-}
-
-/// Puts an element behind those that pass the test, in a list where those that pass stand before those that fail.
-pub fn place_behind<T: Drop, P: Fn(&T) -> bool>(
-    blocks: &mut Vec<Vec<T>>,
-    spare: &mut Vec<Vec<T>>,
-    whole: &mut Vec<Vec<T>>,
-    before: P,
-    item: T,
-)
-    requires callable { P.IsAlwaysCallable before }
-    requires filled { AreFilled blocks.old.items }
-    requires spares { All IsSpare spare.old.items }
-    requires room { HaveRoom blocks.old.items whole.old.items (length (joined blocks.old.items) + 1) }
-    ensures list { (p : T → Bool) → ComputesKey P.FnMut p before → IsPartitionedBy p (joined blocks.old.items)
-        → IsReplaced p p (joined blocks.old.items) item (joined blocks.new.items) }
-    ensures longer { length (joined blocks.new.items) ≡ length (joined blocks.old.items) + 1 }
-    ensures filled { AreFilled blocks.new.items }
-    ensures spares { All IsSpare spare.new.items }
-    ensures room { (most : ℕ) → HaveRoom blocks.old.items whole.old.items most → HaveRoom blocks.new.items whole.new.items most }
-{
-    if whole.is_empty() {
-        place_alone(blocks, before, item);
-        return;
-    }
-    if !spare.is_empty() && blocks.len() < blocks.capacity() {
-        place_between(blocks, spare, before, item);
-        return;
-    }
-    gather(blocks, whole);
-    place_alone(blocks, before, item);
+    let place = whole.partition_point(before);
+    place_within(whole, place, item);
 }

@@ -1,7 +1,7 @@
-//! Room that is taken before a list grows.
-use crate::Roomy;
-use crate::spare::{spare_blocks, spares_for, whole_block};
-use std::alloc::{AllocError, Global};
+//! Room that is taken before a list grows, and a list that grows in it.
+use crate::BlockList;
+use crate::placed::{place_alone, place_between};
+use crate::spare::gather;
 use std::marker::Model;
 
 /// Room that is taken before a list grows, so that growing takes no memory.
@@ -10,68 +10,91 @@ use std::marker::Model;
 /// come.
 #[derive(Debug, Drop)]
 pub struct Room<T> {
-    whole: Vec<Vec<T>>,
-    spare: Vec<Vec<T>>,
-    most: usize,
-    more: usize,
+    // Blocks that may be put between others, and an empty one with room for all elements.
+    pub(crate) spare: Vec<Vec<T>>,
+    pub(crate) whole: Vec<T>,
+    pub(crate) most: usize,
+    pub(crate) more: usize,
 }
 
 impl<T> Model for Room<T> {
+    ghost use Rattle.std.specs.Prelude.{◌≡◌, ◌+◌, []};
     ghost use Rattle.block_list.specs.Room.{Reserved};
-    ghost use Rattle.block_list.specs.Spares.{IsRoom};
+    ghost use Rattle.block_list.specs.Spares.{HasRoom};
 
     ghost Value = { Reserved };
 
     ghost view = { λ r. record { most = r.most; more = r.more } };
 
-    ghost invariant = { λ r. IsRoom r.whole.items r.spare.items r.most r.more };
+    ghost invariant = { λ r. (r.whole.items ≡ []) × HasRoom r.spare r.whole (r.most + r.more) };
 }
 
-impl<T: Drop> Room<T> {
-    ghost use Rattle.std.specs.Prelude.{◌≡◌, ◌≤◌, IfOk};
-    ghost use Rattle.block_list.specs.Blocks.{joined, IsKept};
+/// A list with room for elements that are to come. It is seen as its elements, and how many more there is room for.
+#[derive(Debug, Drop)]
+pub struct Roomy<T> {
+    // The elements are in blocks, or all in the block with room for them: the last ones where the spare blocks ran out.
+    pub(crate) blocks: Vec<Vec<T>>,
+    pub(crate) spare: Vec<Vec<T>>,
+    pub(crate) whole: Vec<T>,
+    pub(crate) len: usize,
+    pub(crate) more: usize,
+}
 
-    /// Room for `more` elements in a list that has `most`, in so many blocks. The only error is want of memory.
-    pub(crate) fn new(
-        alloc: Global,
-        most: usize,
-        blocks: usize,
-        more: usize,
-    ) -> Result<Room<T>, AllocError>
-        ensures most { IfOk result (λ room. room.most ≡ most) }
-        ensures more { IfOk result (λ room. room.more ≡ more) }
+impl<T> Model for Roomy<T> {
+    ghost use Rattle.std.specs.Prelude.{◌++◌};
+    ghost use Rattle.block_list.specs.Blocks.{joined};
+    ghost use Rattle.block_list.specs.Room.{Growing};
+    ghost use Rattle.block_list.specs.Spares.{IsRoomy};
+
+    ghost Value = { Growing T };
+
+    ghost view = { λ r. record { items = r.whole.items ++ joined r.blocks.items; more = r.more } };
+
+    ghost invariant = { λ r. IsRoomy r.blocks.items r.spare r.whole r.len r.more };
+}
+
+impl<T: Drop> Roomy<T> {
+    ghost use Rattle.std.specs.Prelude.{◌≡◌, ◌+◌, ◌<◌, Bool};
+    ghost use Rattle.std.specs.List.Sorted.{IsPartitionedBy};
+    ghost use Rattle.std.specs.Fn.{ComputesKey};
+    ghost use Rattle.block_list.specs.Blocks.{IsReplaced};
+
+    /// Puts an element behind those that pass the test, in a list where those that pass stand before those that fail.
+    /// It takes no memory.
+    pub fn insert_behind<P: Fn(&T) -> bool>(&mut self, before: P, item: T)
+        requires before { P.IsAlwaysCallable before }
+        requires room { 0 < self.old.more }
+        ensures list { (p : T → Bool) → ComputesKey P.FnMut p before → IsPartitionedBy p self.old.items
+            → IsReplaced p p self.old.items item self.new.items }
+        ensures room { self.new.more + 1 ≡ self.old.more }
     {
-        let Some(all) = most.checked_add(more) else {
-            return Err(AllocError);
-        };
-        let whole = whole_block(alloc, all)?;
-        let spare = spare_blocks(alloc, spares_for(blocks, more));
-        Ok(Room {
-            whole,
-            spare,
-            most,
-            more,
-        })
+        self.len += 1;
+        self.more -= 1;
+        let has_place = self.blocks.len() < self.blocks.capacity();
+        if has_place && self.whole.is_empty() && !self.spare.is_empty() {
+            place_between(&mut self.blocks, &mut self.spare, before, item);
+            return;
+        }
+        gather(&mut self.blocks, &mut self.whole);
+        place_alone(&mut self.whole, before, item);
     }
 
-    /// How many blocks it may add to a list.
-    pub(crate) fn spares(&self) -> usize {
-        self.spare.len()
-    }
-
-    /// The list that those blocks are, with the room. They have `len` elements.
-    pub(crate) fn open(self, blocks: Vec<Vec<T>>, len: usize) -> Roomy<T>
-        requires kept { IsKept blocks.items len }
-        requires fits { len ≤ self.most }
-        ensures items { result.items ≡ joined blocks.items }
-        ensures more { result.more ≡ self.more }
+    /// The list alone. It takes no memory, and room that was not used is given back.
+    pub fn close(self) -> BlockList<T>
+        ensures { result ≡ self.items }
     {
-        let Room {
+        let Roomy {
+            blocks,
+            mut spare,
             whole,
-            spare,
-            most: _,
-            more,
+            len,
+            more: _,
         } = self;
-        Roomy::new(blocks, spare, whole, len, more)
+        if whole.is_empty() {
+            return BlockList { blocks, len };
+        }
+        spare.clear();
+        spare.push_reserved(whole);
+        BlockList { blocks: spare, len }
     }
 }

@@ -1,9 +1,9 @@
 //! The binary search over the blocks of a list.
-ghost use Rattle.std.specs.Prelude.{◌≡◌, ◌+◌, ◌^◌, ◌<◌, ◌≤◌, Bool, true, false, length, slice_get, Some};
+ghost use Rattle.std.specs.Prelude.{◌≡◌, ℕ, ◌+◌, ◌^◌, ◌<◌, ◌≤◌, Bool, true, false, length, slice_get, slice_index_or, Some, IfSome, IfNone};
 ghost use Rattle.std.specs.Option.{option_copied};
 ghost use Rattle.std.specs.List.Sorted.{IsPartitionedBy, IsPartitionPoint};
 ghost use Rattle.std.specs.Fn.{ComputesKey};
-ghost use Rattle.block_list.specs.Blocks.{joined, AreFilled, start_of, IsPlace, IsElement, IsTurn};
+ghost use Rattle.block_list.specs.Blocks.{joined, AreFilled, start_of, IsAt, IsTurn};
 
 // How many elements stand before block `block`.
 #[tactic(auto, using(crate::proofs::Joined::start_more))]
@@ -24,7 +24,8 @@ fn turn_of<T, P: Fn(&T) -> bool>(blocks: &[Vec<T>], pred: &P) -> usize
     requires callable { P.IsAlwaysCallable pred.now }
     requires filled { AreFilled blocks.now }
     ensures bound { result ≤ length blocks.now }
-    ensures turn { (p : T → Bool) → ComputesKey P.FnMut p pred.now → IsTurn p blocks.now result result }
+    ensures turn { (p : T → Bool) → ComputesKey P.FnMut p pred.now → IsPartitionedBy p (joined blocks.now)
+        → IsTurn p blocks.now result result }
 {
     let mut low = 0;
     let mut high = blocks.len();
@@ -45,7 +46,7 @@ pub fn spot_of<T, P: Fn(&T) -> bool>(blocks: &[Vec<T>], pred: P) -> (usize, usiz
     requires callable { P.IsAlwaysCallable pred }
     requires filled { AreFilled blocks.now }
     requires some { 0 < length blocks.now }
-    ensures place { IsPlace blocks.now (start_of blocks.now result.0 + result.1) result.0 result.1 }
+    ensures place { IsAt blocks.now result.0 result.1 0 }
     ensures partitioned { (p : T → Bool) → ComputesKey P.FnMut p pred → IsPartitionedBy p (joined blocks.now)
         → IsPartitionPoint (λ y. p y ≡ true) (λ y. p y ≡ false) (joined blocks.now)
         (start_of blocks.now result.0 + result.1) }
@@ -75,7 +76,7 @@ pub fn first_failing<T, P: Fn(&T) -> bool>(blocks: &[Vec<T>], pred: P) -> usize
 
 /// The place in the list of a place in a block.
 pub fn index_of<T>(blocks: &[Vec<T>], block: usize, place: usize) -> usize
-    requires place { IsPlace blocks.now (start_of blocks.now block + place) block place }
+    requires place { IsAt blocks.now block place 0 }
     requires fits { length (joined blocks.now) < 2 ^ 64 }
     ensures value { result ≡ start_of blocks.now block + place }
     ensures bound { result ≤ length (joined blocks.now) }
@@ -86,7 +87,7 @@ pub fn index_of<T>(blocks: &[Vec<T>], block: usize, place: usize) -> usize
 /// The element at a place in a block, or behind its last the first of the next one.
 pub fn element_behind<T>(blocks: &[Vec<T>], block: usize, place: usize) -> Option<&T>
     requires filled { AreFilled blocks.now }
-    requires place { IsPlace blocks.now (start_of blocks.now block + place) block place }
+    requires place { IsAt blocks.now block place 0 }
     ensures { option_copied result ≡ slice_get (joined blocks.now) (start_of blocks.now block + place) }
 {
     let here = &blocks[block];
@@ -99,8 +100,8 @@ pub fn element_behind<T>(blocks: &[Vec<T>], block: usize, place: usize) -> Optio
     None
 }
 
-/// Whether there is an element behind a place in a block, and it passes the test.
-pub fn passes_behind<T, P: Fn(&T) -> bool>(
+// Whether there is an element behind a place in a block, and it passes the test.
+fn passes_behind<T, P: Fn(&T) -> bool>(
     blocks: &[Vec<T>],
     block: usize,
     place: usize,
@@ -108,7 +109,7 @@ pub fn passes_behind<T, P: Fn(&T) -> bool>(
 ) -> bool
     requires callable { P.IsAlwaysCallable pred.now }
     requires filled { AreFilled blocks.now }
-    requires place { IsPlace blocks.now (start_of blocks.now block + place) block place }
+    requires place { IsAt blocks.now block place 0 }
     ensures some { result ≡ true → start_of blocks.now block + place < length (joined blocks.now) }
     ensures passes { (p : T → Bool) → ComputesKey P.FnMut p pred.now → (x : T)
         → slice_get (joined blocks.now) (start_of blocks.now block + place) ≡ Some x → p x ≡ result }
@@ -119,23 +120,31 @@ pub fn passes_behind<T, P: Fn(&T) -> bool>(
     }
 }
 
-/// Whether the element behind a place stands in its block, and the one behind that is the first to fail the test, or
-/// there is none.
-pub fn is_alone<T, P: Fn(&T) -> bool>(
+/// How many elements from a place on pass the test, where all before it do: none, or one that stands in the block. Else
+/// `None`: there is one, and perhaps more.
+pub fn passing_from<T, P: Fn(&T) -> bool>(
     blocks: &[Vec<T>],
     block: usize,
     place: usize,
     pred: &P,
-) -> bool
+) -> Option<usize>
     requires callable { P.IsAlwaysCallable pred.now }
     requires filled { AreFilled blocks.now }
-    requires place { IsPlace blocks.now (start_of blocks.now block + place) block place }
-    ensures inside { result ≡ true → IsElement blocks.now (start_of blocks.now block + place) block place }
-    ensures last { result ≡ true → (p : T → Bool) → ComputesKey P.FnMut p pred.now → (x : T)
-        → slice_get (joined blocks.now) (start_of blocks.now block + (place + 1)) ≡ Some x → p x ≡ false }
+    requires place { IsAt blocks.now block place 0 }
+    ensures more { IfNone result ((p : T → Bool) → ComputesKey P.FnMut p pred.now → (to : ℕ)
+        → IsPartitionPoint (λ y. p y ≡ true) (λ y. p y ≡ false) (joined blocks.now) to → start_of blocks.now block + place < to) }
+    ensures few { IfSome result (λ n. n ≤ 1) }
+    ensures place { IfSome result (λ n. IsAt blocks.now block place n) }
+    ensures turn { IfSome result (λ n. (p : T → Bool) → ComputesKey P.FnMut p pred.now → IsPartitionedBy p (joined blocks.now)
+        → ((k : ℕ) (x : T) → k < start_of blocks.now block + place → p (slice_index_or (joined blocks.now) k x) ≡ true)
+        → IsPartitionPoint (λ y. p y ≡ true) (λ y. p y ≡ false) (joined blocks.now)
+        (start_of blocks.now block + (place + n))) }
 {
-    if place >= blocks[block].len() {
-        return false;
+    if !passes_behind(blocks, block, place, pred) {
+        return Some(0);
     }
-    !passes_behind(blocks, block, place + 1, pred)
+    if place < blocks[block].len() && !passes_behind(blocks, block, place + 1, pred) {
+        return Some(1);
+    }
+    None
 }

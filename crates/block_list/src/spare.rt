@@ -1,9 +1,11 @@
 //! Blocks that are there before the elements come.
-ghost use Rattle.std.specs.Prelude.{◌≡◌, ◌+◌, ◌<◌, [], ◌∷◌, length, IfOk};
+ghost use Rattle.std.specs.Prelude.{◌≡◌, ◌+◌, ◌<◌, ◌≤◌, ◌++◌, [], ◌∷◌, length, vec_capacity, IfOk};
 ghost use Rattle.std.specs.List.{All};
-ghost use Rattle.block_list.specs.Spares.{IsSpare, IsWhole};
+ghost use Rattle.block_list.specs.Blocks.{joined};
+ghost use Rattle.block_list.specs.Spares.{IsSpare};
 
 use std::alloc::{AllocError, Global};
+use std::mem::replace;
 
 // How many elements a spare block has room for. Many are opened for a few elements, so it isn't a long one.
 const SPARE_LEN: usize = 32;
@@ -12,33 +14,28 @@ const SPARE_LEN: usize = 32;
 ///
 /// A full block opens a spare one behind it, and another one when that is full too: one for each block that an element
 /// may come to, and at most two for each spare block that is filled.
-pub fn spares_for(blocks: usize, more: usize) -> usize {
+pub fn spares_for(blocks: usize, more: usize) -> usize
+    ensures { 0 < result }
+{
     (more / (SPARE_LEN / 2) + 1).saturating_add(blocks.min(more))
 }
 
-/// So many empty blocks, or as many as memory allows.
-pub fn spare_blocks<T: Drop>(alloc: Global, count: usize) -> Vec<Vec<T>>
-    ensures { All IsSpare result.items }
+/// So many empty blocks, or as many as memory allows, and a place for one at least. The only error is want of memory.
+pub fn spare_blocks<T: Drop>(alloc: Global, count: usize) -> Result<Vec<Vec<T>>, AllocError>
+    requires { 0 < count }
+    ensures spares { IfOk result (λ spare. All IsSpare spare.items) }
+    ensures place { IfOk result (λ spare. 0 < vec_capacity spare) }
 {
     let Ok(mut blocks) = Vec::with_capacity(alloc, count) else {
-        return Vec::new(alloc);
+        return Vec::with_capacity(alloc, 1);
     };
     for i in 0..count {
         let Ok(block) = Vec::with_capacity(alloc, SPARE_LEN) else {
-            return blocks;
+            return Ok(blocks);
         };
         blocks.push_reserved(block);
     }
-    blocks
-}
-
-/// One empty block for so many elements. Its only error is want of memory.
-pub fn whole_block<T: Drop>(alloc: Global, most: usize) -> Result<Vec<Vec<T>>, AllocError>
-    ensures { IfOk result (λ whole. IsWhole whole.items most) }
-{
-    let mut whole = Vec::with_capacity(alloc, 1)?;
-    whole.push_reserved(Vec::with_capacity(alloc, most)?);
-    Ok(whole)
+    Ok(blocks)
 }
 
 /// One of the spare blocks, with an element in it.
@@ -47,10 +44,27 @@ pub fn open_spare<T: Drop>(spare: &mut Vec<Vec<T>>, item: T) -> Vec<T>
     requires spares { All IsSpare spare.old.items }
     ensures item { result.items ≡ item ∷ [] }
     ensures spares { All IsSpare spare.new.items }
+    ensures capacity { vec_capacity spare.new ≡ vec_capacity spare.old }
 {
     let Some(mut block) = spare.pop() else {
         unreachable!()
     };
     block.push_reserved(item);
     block
+}
+
+/// Moves the elements of all blocks into one block with room for them, behind those that it has.
+pub fn gather<T: Drop>(blocks: &mut Vec<Vec<T>>, whole: &mut Vec<T>)
+    requires { length whole.old.items + length (joined blocks.old.items) ≤ vec_capacity whole.old }
+    ensures none { blocks.new.items ≡ [] }
+    ensures items { whole.new.items ≡ whole.old.items ++ joined blocks.old.items }
+    ensures capacity { vec_capacity whole.old ≤ vec_capacity whole.new }
+{
+    let none = Vec::new(*blocks.allocator());
+    for mut block in replace(blocks, none) {
+        match whole.append(&mut block) {
+            Ok(()) => {}
+            Err(_) => unreachable!(),
+        }
+    }
 }

@@ -1,10 +1,10 @@
 //! Taking one element out of the blocks of a list. None of them is empty.
-ghost use Rattle.std.specs.Prelude.{◌≡◌, ℕ, ◌+◌, ◌<◌, ◌≤◌, Bool, true, false, ◌++◌, length, take, drop, slice_get};
-ghost use Rattle.std.specs.Prelude.{slice_index_or, Some, IfNone, IfSome, Vec};
+ghost use Rattle.std.specs.Prelude.{◌≡◌, ◌+◌, ◌<◌, ◌≤◌, Bool, true, false, ◌++◌, length, take, drop, slice_get, Some, IfNone, IfSome};
 ghost use Rattle.std.specs.List.{list_any};
 ghost use Rattle.std.specs.Fn.{ComputesKey};
-ghost use Rattle.std.specs.declared.alloc.Global.{Global};
-ghost use Rattle.block_list.specs.Blocks.{joined, AreFilled, start_of, IsElement};
+ghost use Rattle.block_list.specs.Blocks.{joined, AreFilled, start_of, IsAt};
+
+use crate::blocks::drop_if_empty;
 
 /// Where an element stands that passes the test, if there is one: its block, and its place there. It is looked for from
 /// block `near` on to the end, then in the blocks before that.
@@ -14,39 +14,30 @@ pub fn spot_passing<T, P: Fn(&T) -> bool>(
     pred: P,
 ) -> Option<(usize, usize)>
     requires { P.IsAlwaysCallable pred }
-    ensures element { IfSome result (λ spot. IsElement blocks.now (start_of blocks.now spot.0 + spot.1) spot.0 spot.1) }
+    ensures element { IfSome result (λ spot. IsAt blocks.now spot.0 spot.1 1) }
     ensures passes { IfSome result (λ spot. (p : T → Bool) → ComputesKey P.FnMut p pred → (x : T)
         → slice_get (joined blocks.now) (start_of blocks.now spot.0 + spot.1) ≡ Some x → p x ≡ true) }
     ensures absent { IfNone result ((p : T → Bool) → ComputesKey P.FnMut p pred → list_any p (joined blocks.now) ≡ false) }
 {
-    let near = near.min(blocks.len());
-    if let Some(spot) = passing_between(blocks, near, blocks.len(), &pred) {
-        return Some(spot);
-    }
-    passing_between(blocks, 0, near, &pred)
-}
-
-// The first element that passes the test in the blocks from block `from` up to before block `to`.
-fn passing_between<T, P: Fn(&T) -> bool>(
-    blocks: &[Vec<T>],
-    from: usize,
-    to: usize,
-    pred: &P,
-) -> Option<(usize, usize)>
-    requires callable { P.IsAlwaysCallable pred.now }
-    requires in_range { to ≤ length blocks.now }
-    ensures element { IfSome result (λ spot. IsElement blocks.now (start_of blocks.now spot.0 + spot.1) spot.0 spot.1) }
-    ensures passes { IfSome result (λ spot. (p : T → Bool) → ComputesKey P.FnMut p pred.now → (x : T)
-        → slice_get (joined blocks.now) (start_of blocks.now spot.0 + spot.1) ≡ Some x → p x ≡ true) }
-    ensures absent { IfNone result ((p : T → Bool) → ComputesKey P.FnMut p pred.now
-        → (b : ℕ) (d : Vec T Global) → from ≤ b → b < to → list_any p (slice_index_or blocks.now b d).items ≡ false) }
-{
-    for block in from..to {
-        if let Some(place) = first_passing(&blocks[block], pred) {
+    let from = near.min(blocks.len());
+    for i in 0..blocks.len() {
+        let block = in_turn(from, blocks.len(), i);
+        if let Some(place) = first_passing(&blocks[block], &pred) {
             return Some((block, place));
         }
     }
     None
+}
+
+// Where one is after `i` steps from place `from` on to the end, and then on from the first.
+fn in_turn(from: usize, len: usize, i: usize) -> usize
+    requires from { from ≤ len }
+    requires i { i < len }
+    ensures behind { from + i < len → result ≡ from + i }
+    ensures before { len ≤ from + i → result + len ≡ from + i }
+{
+    let behind = len - from;
+    if i < behind { from + i } else { i - behind }
 }
 
 // The place of the first element that passes the test.
@@ -68,15 +59,13 @@ fn first_passing<T, P: Fn(&T) -> bool>(items: &[T], pred: &P) -> Option<usize>
 /// Takes out an element of a block. The block goes with it where it is the last there.
 pub fn take_at<T: Drop>(blocks: &mut Vec<Vec<T>>, block: usize, place: usize) -> T
     requires filled { AreFilled blocks.old.items }
-    requires element { IsElement blocks.old.items (start_of blocks.old.items block + place) block place }
+    requires element { IsAt blocks.old.items block place 1 }
     ensures item { slice_get (joined blocks.old.items) (start_of blocks.old.items block + place) ≡ Some result }
     ensures rest { joined blocks.new.items ≡ take (start_of blocks.old.items block + place) (joined blocks.old.items)
         ++ drop (start_of blocks.old.items block + place + 1) (joined blocks.old.items) }
     ensures filled { AreFilled blocks.new.items }
 {
     let item = blocks[block].remove(place);
-    if blocks[block].is_empty() {
-        blocks.remove(block);
-    }
+    drop_if_empty(blocks, block);
     item
 }

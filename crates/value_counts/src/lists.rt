@@ -14,7 +14,7 @@ fn list_of(alloc: Global, n: u32) -> Option<BlockList<u32>> {
     Some(list)
 }
 
-/// The calls of a list by their groups: `set` and the readers; `remove_range`, `retain` and `take_near`, a round of which takes
+/// The calls of a list by their groups: the readers; `remove_range`, `retain` and `take_near`, a round of which takes
 /// the first number away, and one from the middle; and `insert`, which takes memory where a block has grown long and is halved.
 pub fn answer(alloc: Global, group: &str, times: u32) -> Option<bool> {
     match list_of(alloc, 2_500) {
@@ -37,18 +37,13 @@ fn answer_of(alloc: Global, list: &mut BlockList<u32>, group: &str, times: u32) 
     true
 }
 
-fn reads(alloc: Global, list: &mut BlockList<u32>) -> bool {
+fn reads(alloc: Global, list: &BlockList<u32>) -> bool {
     let is_there = BlockList::<u32>::new(alloc).is_empty() && !list.as_blocks().is_empty();
-    is_there && sets(list) && finds(list)
+    is_there && has_all(list) && finds(list)
 }
 
-// Puts a number in the place of one of them.
-fn sets(list: &mut BlockList<u32>) -> bool {
-    if list.len() != 2_500 {
-        return false;
-    }
-    list.set(700, 700);
-    *list.get(700) == 700 && list.iter().all(|x| *x < 2_500)
+fn has_all(list: &BlockList<u32>) -> bool {
+    list.len() == 2_500 && *list.get(700) == 700 && list.iter().all(|x| *x < 2_500)
 }
 
 fn finds(list: &BlockList<u32>) -> bool {

@@ -189,15 +189,7 @@ fn is_searched(list: &mut BlockList<u32>) -> bool {
         return false;
     }
     list.remove_range(275, 2_000);
-    finds_each(list) && sets(list)
-}
-
-fn sets(list: &mut BlockList<u32>) -> bool {
-    if list.len() != 275 {
-        return false;
-    }
-    list.set(127, 7);
-    *list.get(127) == 7 && *list.get(126) == 126
+    finds_each(list)
 }
 
 fn grows_and_is_searched(alloc: Global) -> bool {

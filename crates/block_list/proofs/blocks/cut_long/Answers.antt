@@ -1,7 +1,8 @@
-use Rattle.std.proofs.Common.{◌≤◌, ◌+◌, ◌<◌, length, set, subst, sym, arith}
+use Rattle.std.proofs.Common.{◌<◌, length, subst, sym, arith}
 use Rattle.std.proofs.lemmas.Grind.{common_steps}
-use Rattle.block_list.specs.Blocks.{AreFilled}
-use Rattle.block_list.proofs.Joined.{joined-cut, filled-insert, filled-set}
+use Rattle.std.proofs.lemmas.List.Elements.{All-set}
+use Rattle.block_list.specs.Blocks.{AreFilled, IsFilled}
+use Rattle.block_list.proofs.Joined.{joined-cut, filled-insert}
 use Rattle.block_list.proofs.blocks.cut_long.Goals as goal
 
 pub returns-clause-same : goal.returns-clause-same
@@ -11,12 +12,5 @@ pub returns-clause-filled : goal.returns-clause-filled
 returns-clause-filled g c =
     let front : 0 < length c.split_off.new.self.items = grind (arith, common_steps) in
     let back : 0 < length c.in-Ok.back.items = grind (arith, common_steps) in
-    let place : c.args.block + 1 ≤ length (set c.reserve.new.self.items c.args.block c.split_off.new.self) = grind (arith, common_steps) in
     let first : AreFilled c.reserve.new.self.items = subst AreFilled (sym c.reserve.ensures.items) c.requires.filled in
-    subst AreFilled (sym c.in-Ok-insert.ensures.items) (filled-insert _ _ _ place back (filled-set _ _ _ front first))
-
-pub split_off-requires : goal.split_off-requires
-split_off-requires g c = grind (arith, common_steps)
-
-pub returns-in_default-clause-same : goal.returns-in_default-clause-same
-returns-in_default-clause-same g c = grind (arith, common_steps)
+    subst AreFilled (sym c.in-Ok-insert.ensures.items) (filled-insert _ _ _ back (All-set IsFilled _ _ _ front first))
