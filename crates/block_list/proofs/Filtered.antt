@@ -1,31 +1,26 @@
 -- Blocks of which the elements that pass a test are kept.
-use Rattle.std.proofs.Common.{◌≡◌, ℕ, suc, ◌+◌, ◌<◌, Bool, true, false, not, cond, eqb, List, [], ◌∷◌, ◌++◌, length, get_or, set, take, drop, Vec, refl, sym, ap, ◌∙◌, length-append, arith}
+use Rattle.std.proofs.Common.{◌≡◌, ℕ, suc, ◌+◌, ◌<◌, ◌≤◌, Bool, not, eqb, List, [], ◌∷◌, ◌++◌, length, get_or, set, take, drop, Vec, refl, sym, ap, ◌∙◌, length-append, arith}
 use Rattle.std.specs.Prelude.{filter}
 use Rattle.std.specs.declared.alloc.Global.{Global}
-use Rattle.std.proofs.lemmas.Bool.{ne_eqb}
 use Rattle.std.proofs.lemmas.List.Elements.{filter-append}
+use Rattle.std.proofs.lemmas.Grind.{common_steps}
 use Rattle.block_list.specs.Blocks.{joined}
-use Rattle.block_list.proofs.Joined.{joined-set, parts, up_to}
+use Rattle.block_list.proofs.Joined.{joined_set, parts, up_to}
 
 module _ {T : Type 0} where
   abbrev filled_only : List (Vec T Global) → List (Vec T Global)
   filled_only blocks = filter (λ (block : Vec T Global). not (eqb (length block.items) 0)) blocks
 
-  -- an element more
-  with_first : (p : T → Bool) (x : T) (xs : List T) (b : Bool) → p x ≡ b → filter p xs ≡ xs → filter p (cond b (x ∷ xs) xs) ≡ cond b (x ∷ xs) xs
-  with_first p x xs true passes rest = rw passes (ap (λ l. x ∷ l) rest)
-  with_first p x xs false fails rest = rest
-
   filter_twice : (p : T → Bool) (xs : List T) → filter p (filter p xs) ≡ filter p xs
   filter_twice p [] = refl
-  filter_twice p (x ∷ xs) = with_first p x (filter p xs) (p x) refl (filter_twice p xs)
+  filter_twice p (x ∷ xs) = grind (arith, filter_twice p xs)
 
   -- a block is filtered: what passes stays the same
-  pub filter-set : (p : T → Bool) (blocks : List (Vec T Global)) (b : ℕ) (v d : Vec T Global) → b < length blocks → d ≡ get_or blocks b d → v.items ≡ filter p d.items → filter p (joined (set blocks b v)) ≡ filter p (joined blocks)
-  filter-set p blocks b v d h is e =
+  pub filter_set : (p : T → Bool) (blocks : List (Vec T Global)) (b : ℕ) (v d : Vec T Global) → b < length blocks → d ≡ get_or blocks b d → v.items ≡ filter p d.items → filter p (joined (set blocks b v)) ≡ filter p (joined blocks)
+  filter_set p blocks b v d h is e =
       let front = joined (take b blocks) in
       let back = joined (drop (suc b) blocks) in
-      rw (joined-set blocks b v h, parts blocks b d h is, filter-append p front (v.items ++ back), filter-append p front (d.items ++ back), filter-append p v.items back, filter-append p d.items back)
+      rw (joined_set blocks b v h, parts blocks b d h is, filter-append p front (v.items ++ back), filter-append p front (d.items ++ back), filter-append p v.items back, filter-append p d.items back)
       (ap (λ l. filter p front ++ (l ++ filter p back)) (ap (filter p) e ∙ filter_twice p d.items))
 
   -- and there is one block more of which all pass
@@ -33,16 +28,15 @@ module _ {T : Type 0} where
   passing_more p blocks b v items h e all = rw (up_to blocks b v h) (filter-append p (joined (take b blocks)) v.items ∙ (λ i. all i ++ (ap (filter p) e ∙ filter_twice p items ∙ sym e) i))
 
   -- how many elements there are
-  pub length-set_block : (blocks : List (Vec T Global)) (b : ℕ) (v d : Vec T Global) → b < length blocks → d ≡ get_or blocks b d → length (joined (set blocks b v)) + length d.items ≡ length (joined blocks) + length v.items
-  length-set_block blocks b v d h is =
-      rw (joined-set blocks b v h, parts blocks b d h is) (simp length-append (omega arith))
+  pub length_set_block : (blocks : List (Vec T Global)) (b : ℕ) (v d : Vec T Global) → b < length blocks → d ≡ get_or blocks b d → length (joined (set blocks b v)) + length d.items ≡ length (joined blocks) + length v.items
+  length_set_block blocks b v d h is =
+      rw (joined_set blocks b v h, parts blocks b d h is) (simp length-append (omega arith))
+
+  pub part_within : (blocks : List (Vec T Global)) (b : ℕ) (d : Vec T Global) → b < length blocks → d ≡ get_or blocks b d → length d.items ≤ length (joined blocks)
+  part_within blocks b d h is = omega (arith, length_set_block blocks b d d h is, ap length (parts blocks b d h is), length-append (joined (take b blocks)) (d.items ++ joined (drop (suc b) blocks)), length-append d.items (joined (drop (suc b) blocks)))
 
   -- without the empty blocks
 
-  filled_first : (x : Vec T Global) (xs : List (Vec T Global)) (items : List T) → x.items ≡ items → joined (filled_only xs) ≡ joined xs → joined (cond (not (eqb (length items) 0)) (x ∷ filled_only xs) (filled_only xs)) ≡ x.items ++ joined xs
-  filled_first x xs [] e rest = rw e rest
-  filled_first x xs (y ∷ ys) e rest = rw (ne_eqb (length (y ∷ ys)) 0 (λ none. absurd (omega arith))) (ap (λ l. x.items ++ l) rest)
-
   pub joined-filled : (blocks : List (Vec T Global)) → joined (filter (λ (block : Vec T Global). not (eqb (length block.items) 0)) blocks) ≡ joined blocks
   joined-filled [] = refl
-  joined-filled (x ∷ xs) = filled_first x xs x.items refl (joined-filled xs)
+  joined-filled (x ∷ xs) = grind (arith, common_steps, joined-filled xs)

@@ -1,15 +1,14 @@
 -- Blocks as one list.
-use Rattle.std.proofs.Common.{slice_get, Some, ◌≡◌, ℕ, zero, suc, ◌+◌, ◌<◌, ◌≤◌, List, [], ◌∷◌, ◌++◌, length, get_or, set, take, drop, Vec, refl, sym, ap, ◌∙◌, append_assoc, append-nil, arith}
+use Rattle.std.proofs.Common.{slice_get, Some, None, ◌≡◌, ℕ, zero, suc, ◌+◌, ◌<◌, ◌≤◌, List, [], ◌∷◌, ◌++◌, length, get_or, set, take, drop, Vec, refl, sym, ap, ◌∙◌, append_assoc, append-nil, arith}
 use Rattle.std.specs.List.{insert, remove}
 use Rattle.std.specs.declared.alloc.Global.{Global}
-use Rattle.std.proofs.lemmas.List.{set_split, set-get_or, length-take-le, take_at, drop_at, drop-drop, drop-set-lt, take_more_set, take-append-drop, take-append-le, drop-append-le}
+use Rattle.std.proofs.lemmas.List.{set_split, set-get_or, length-take-le, take_at, drop_at, drop-drop, drop-set-lt, take_more_set, take-append-drop, take-append-le, drop-append-le, take_all}
 use Rattle.std.proofs.lemmas.List.Concat.{get_or-flat_map, flat_map-append}
-use Rattle.std.proofs.lemmas.List.Edits.{length-insert}
 use Rattle.std.proofs.lemmas.List.Folds.{length-flat_map-take}
-use Rattle.std.proofs.lemmas.Option.{slice_get_read}
+use Rattle.std.proofs.lemmas.Option.{slice_get-get_or, slice_get_past}
 use Rattle.std.proofs.lemmas.List.Elements.{All-take, All-drop, All-append, All-cons}
 use Rattle.std.proofs.lemmas.Grind.{common_steps}
-use Rattle.block_list.specs.Blocks.{joined, IsFilled, AreFilled, IsKept, start_of, IsAt}
+use Rattle.block_list.specs.Blocks.{joined, IsFilled, AreFilled, start_of, IsAt}
 
 -- the elements of the middle list from k up to before j are replaced, which are those from i up to before m of the whole
 spliced : {T : Type 0} (front items back new : List T) (i m k j : ℕ) → length front + k ≡ i → length front + j ≡ m → k ≤ j → j ≤ length items → front ++ ((take k items ++ (new ++ drop j items)) ++ back) ≡ take i (front ++ (items ++ back)) ++ (new ++ drop m (front ++ (items ++ back)))
@@ -29,16 +28,16 @@ removed_more xs from at r n h e =
 
 module _ {T : Type 0} where
   -- the list where a block is replaced: what stands before it, the block, and what stands behind it
-  pub joined-set : (blocks : List (Vec T Global)) (b : ℕ) (v : Vec T Global) → b < length blocks → joined (set blocks b v) ≡ joined (take b blocks) ++ (v.items ++ joined (drop (suc b) blocks))
-  joined-set blocks b v h = ap joined (set_split blocks b v h) ∙ flat_map-append (λ block. block.items) (take b blocks) (v ∷ drop (suc b) blocks)
+  pub joined_set : (blocks : List (Vec T Global)) (b : ℕ) (v : Vec T Global) → b < length blocks → joined (set blocks b v) ≡ joined (take b blocks) ++ (v.items ++ joined (drop (suc b) blocks))
+  joined_set blocks b v h = ap joined (set_split blocks b v h) ∙ flat_map-append (λ block. block.items) (take b blocks) (v ∷ drop (suc b) blocks)
 
   -- the same of the list as it is
   pub parts : (blocks : List (Vec T Global)) (b : ℕ) (d : Vec T Global) → b < length blocks → d ≡ get_or blocks b d → joined blocks ≡ joined (take b blocks) ++ (d.items ++ joined (drop (suc b) blocks))
-  parts blocks b d h is = ap joined (sym (set-get_or blocks b d) ∙ ap (set blocks b) (sym is)) ∙ joined-set blocks b d h
+  parts blocks b d h is = ap joined (sym (set-get_or blocks b d) ∙ ap (set blocks b) (sym is)) ∙ joined_set blocks b d h
 
   -- a block that is replaced by an equal one
-  pub joined-same : (blocks : List (Vec T Global)) (b : ℕ) (v d : Vec T Global) → b < length blocks → d ≡ get_or blocks b d → v.items ≡ d.items → joined (set blocks b v) ≡ joined blocks
-  joined-same blocks b v d h is e = joined-set blocks b v h ∙ ap (λ l. joined (take b blocks) ++ (l ++ joined (drop (suc b) blocks))) e ∙ sym (parts blocks b d h is)
+  pub joined_same : (blocks : List (Vec T Global)) (b : ℕ) (v d : Vec T Global) → b < length blocks → d ≡ get_or blocks b d → v.items ≡ d.items → joined (set blocks b v) ≡ joined blocks
+  joined_same blocks b v d h is e = joined_set blocks b v h ∙ ap (λ l. joined (take b blocks) ++ (l ++ joined (drop (suc b) blocks))) e ∙ sym (parts blocks b d h is)
 
   -- what stands at a place, in the block that was read
   pub at_read : (blocks : List (Vec T Global)) (b k n : ℕ) (d : Vec T Global) → IsAt blocks b k n → d ≡ get_or blocks b d → k + n ≤ length d.items
@@ -53,20 +52,27 @@ module _ {T : Type 0} where
 
   pub edited : (blocks : List (Vec T Global)) (i m b k j : ℕ) (new : List T) (v d : Vec T Global) → b < length blocks → k ≤ j → j ≤ length d.items → start_of blocks b + k ≡ i → start_of blocks b + j ≡ m → d ≡ get_or blocks b d → v.items ≡ take k d.items ++ (new ++ drop j d.items) → joined (set blocks b v) ≡ take i (joined blocks) ++ (new ++ drop m (joined blocks))
   edited blocks i m b k j new v d h order within from to is e =
-      joined-set blocks b v h
+      joined_set blocks b v h
       ∙ ap (λ l. joined (take b blocks) ++ (l ++ joined (drop (suc b) blocks))) e
       ∙ around blocks i m b k j new d h order within from to is
 
-  pub joined-insert : (blocks : List (Vec T Global)) (b k : ℕ) (x : T) (v d : Vec T Global) → IsAt blocks b k 0 → d ≡ get_or blocks b d → v.items ≡ insert d.items k x → joined (set blocks b v) ≡ insert (joined blocks) (start_of blocks b + k) x
-  joined-insert blocks b k x v d at is e = edited blocks (start_of blocks b + k) (start_of blocks b + k) b k k (x ∷ []) v d at.block (omega arith) (omega (arith, at_read blocks b k 0 d at is)) refl refl is e
+  -- those elements go
+  pub joined_drop : (blocks : List (Vec T Global)) (i m b k j : ℕ) (v d : Vec T Global) → d ≡ get_or blocks b d → v.items ≡ take k d.items ++ drop j d.items → b < length blocks → k ≤ j → j ≤ length d.items → start_of blocks b + k ≡ i → start_of blocks b + j ≡ m → joined (set blocks b v) ≡ take i (joined blocks) ++ drop m (joined blocks)
+  joined_drop blocks i m b k j v d is e h order within from to = edited blocks i m b k j [] v d h order within from to is e
+
+  pub joined_insert : (blocks : List (Vec T Global)) (b k i : ℕ) (x : T) (v d : Vec T Global) → d ≡ get_or blocks b d → v.items ≡ insert d.items k x → b < length blocks → k ≤ length d.items → start_of blocks b + k ≡ i → joined (set blocks b v) ≡ insert (joined blocks) i x
+  joined_insert blocks b k i x v d is e h within at = edited blocks i i b k k (x ∷ []) v d h (omega arith) within at at is e
+
+  pub joined_first : (blocks : List (Vec T Global)) (b : ℕ) (x : T) (v d : Vec T Global) → d ≡ get_or blocks b d → v.items ≡ x ∷ d.items → b < length blocks → joined (set blocks b v) ≡ insert (joined blocks) (start_of blocks b) x
+  joined_first blocks b x v d is e h = joined_insert blocks b 0 (start_of blocks b) x v d is e h (omega arith) (omega arith)
 
   -- what stands at a place is within the list
   pub at_within : (blocks : List (Vec T Global)) (b k n : ℕ) → IsAt blocks b k n → start_of blocks b + (k + n) ≤ length (joined blocks)
   at_within [] b k n at = let inside = at.block in absurd (omega arith)
   at_within (d ∷ ds) b k n at = let within = at.within d in omega (arith, length-flat_map-take (λ block. block.items) (d ∷ ds) b d at.block)
 
-  pub joined-write : (blocks : List (Vec T Global)) (b k : ℕ) (x : T) (v d : Vec T Global) → IsAt blocks b k 1 → d ≡ get_or blocks b d → v.items ≡ set d.items k x → joined (set blocks b v) ≡ set (joined blocks) (start_of blocks b + k) x
-  joined-write blocks b k x v d at is e =
+  pub joined_write : (blocks : List (Vec T Global)) (b k : ℕ) (x : T) (v d : Vec T Global) → IsAt blocks b k 1 → d ≡ get_or blocks b d → v.items ≡ set d.items k x → joined (set blocks b v) ≡ set (joined blocks) (start_of blocks b + k) x
+  joined_write blocks b k x v d at is e =
       let inside : k < length d.items = omega (arith, at_read blocks b k 1 d at is) in
       edited blocks (start_of blocks b + k) (suc (start_of blocks b + k)) b k (suc k) (x ∷ []) v d at.block (omega arith) inside refl (omega arith) is (e ∙ set_split d.items k x inside)
       ∙ sym (set_split (joined blocks) (start_of blocks b + k) x (omega (arith, at_within blocks b k 1 at)))
@@ -79,8 +85,8 @@ module _ {T : Type 0} where
   behind : (blocks : List (Vec T Global)) (b : ℕ) (v : Vec T Global) → drop (b + 1) (set blocks b v) ≡ drop (suc b) blocks
   behind blocks b v = let next : b + 1 ≡ suc b = omega arith in rw next (drop-set-lt (suc b) blocks b v (omega arith))
 
-  pub joined-cut : (blocks : List (Vec T Global)) (b : ℕ) (v w d : Vec T Global) → b < length blocks → d ≡ get_or blocks b d → v.items ++ w.items ≡ d.items → joined (insert (set blocks b v) (b + 1) w) ≡ joined blocks
-  joined-cut blocks b v w d h is e =
+  pub joined_cut : (blocks : List (Vec T Global)) (b : ℕ) (v w d : Vec T Global) → b < length blocks → d ≡ get_or blocks b d → v.items ++ w.items ≡ d.items → joined (insert (set blocks b v) (b + 1) w) ≡ joined blocks
+  joined_cut blocks b v w d h is e =
       flat_map-append (λ block. block.items) (take (b + 1) (set blocks b v)) (w ∷ drop (b + 1) (set blocks b v))
       ∙ (λ i. up_to blocks b v h i ++ (w.items ++ joined (behind blocks b v i)))
       ∙ append_assoc (joined (take b blocks)) v.items (w.items ++ joined (drop (suc b) blocks))
@@ -88,34 +94,48 @@ module _ {T : Type 0} where
       ∙ sym (parts blocks b d h is)
 
   -- without an empty block
-  pub joined-remove : (blocks : List (Vec T Global)) (b : ℕ) (d : Vec T Global) → b < length blocks → (get_or blocks b d).items ≡ [] → joined (remove blocks b) ≡ joined blocks
-  joined-remove [] b d h e = absurd (omega arith)
-  joined-remove (x ∷ xs) zero d h e = ap (λ l. l ++ joined xs) (sym e)
-  joined-remove (x ∷ xs) (suc b) d h e = ap (λ l. x.items ++ l) (joined-remove xs b d (omega arith) e)
+  pub joined_remove : (blocks : List (Vec T Global)) (b : ℕ) (d : Vec T Global) → b < length blocks → (get_or blocks b d).items ≡ [] → joined (remove blocks b) ≡ joined blocks
+  joined_remove [] b d h e = absurd (omega arith)
+  joined_remove (x ∷ xs) zero d h e = ap (λ l. l ++ joined xs) (sym e)
+  joined_remove (x ∷ xs) (suc b) d h e = ap (λ l. x.items ++ l) (joined_remove xs b d (omega arith) e)
 
   -- blocks that are filled stay so
 
-  pub filled-insert : (blocks : List (Vec T Global)) (b : ℕ) (v : Vec T Global) → 0 < length v.items → AreFilled blocks → AreFilled (insert blocks b v)
-  filled-insert blocks b v n f = All-append IsFilled _ _ (All-take IsFilled b blocks f) (All-cons IsFilled v _ n (All-drop IsFilled b blocks f))
+  pub filled_insert : (blocks : List (Vec T Global)) (b : ℕ) (v : Vec T Global) → 0 < length v.items → AreFilled blocks → AreFilled (insert blocks b v)
+  filled_insert blocks b v n f = All-append IsFilled _ _ (All-take IsFilled b blocks f) (All-cons IsFilled v _ n (All-drop IsFilled b blocks f))
 
   -- one block further
   pub start_more : (blocks : List (Vec T Global)) (b : ℕ) (d : Vec T Global) → b < length blocks → (start_of blocks (b + 1) ≡ start_of blocks b + length (get_or blocks b d).items) × (start_of blocks b + length (get_or blocks b d).items ≤ length (joined blocks))
   start_more blocks b d h = (grind (arith, common_steps), length-flat_map-take (λ block. block.items) blocks b d h)
 
   -- a read within a block
+  pub block_read : (blocks : List (Vec T Global)) (b k : ℕ) (v : Vec T Global) → b < length blocks → k < length (get_or blocks b v).items → slice_get (joined blocks) (start_of blocks b + k) ≡ slice_get (get_or blocks b v).items k
+  block_read blocks b k v h l = by (get_or blocks b v).items refl
+    where
+      by : (items : List T) → items ≡ (get_or blocks b v).items → slice_get (joined blocks) (start_of blocks b + k) ≡ slice_get (get_or blocks b v).items k
+      by [] e = absurd (omega (arith, ap length e))
+      by (x ∷ rest) e =
+          slice_get-get_or (joined blocks) (start_of blocks b + k) x (omega (arith, length-flat_map-take (λ block. block.items) blocks b v h))
+          ∙ ap Some (get_or-flat_map (λ block. block.items) blocks b k v x h l)
+          ∙ sym (slice_get-get_or (get_or blocks b v).items k x l)
+
   pub read_at : (blocks : List (Vec T Global)) (b k : ℕ) (v : Vec T Global) (x : T) → b < length blocks → k < length v.items → v ≡ get_or blocks b v → x ≡ get_or v.items k x → slice_get (joined blocks) (start_of blocks b + k) ≡ Some x
   read_at blocks b k v x h l read item =
       let inner : k < length (get_or blocks b v).items = omega (arith, ap (λ (w : Vec T Global). length w.items) read) in
-      slice_get_read (joined blocks) (length (joined blocks)) (start_of blocks b + k) x refl
-      (omega (arith, length-flat_map-take (λ block. block.items) blocks b v h))
-      (item ∙ (λ j. get_or (read j).items k x) ∙ sym (get_or-flat_map (λ block. block.items) blocks b k v x h inner))
+      block_read blocks b k v h inner ∙ ap (λ (w : Vec T Global). slice_get w.items k) (sym read) ∙ slice_get-get_or v.items k x l ∙ ap Some (sym item)
 
-  -- one element more
-  pub kept_more : (old new : List (Vec T Global)) (i len : ℕ) (x : T) → IsKept old len → i ≤ length (joined old) → joined new ≡ insert (joined old) i x → AreFilled new → IsKept new (len + 1)
-  kept_more old new i len x kept within is filled = record {
-    filled = filled;
-    len_is = ap (λ n. n + 1) kept.len_is ∙ sym (length-insert (joined old) i x within) ∙ sym (ap length is);
-  }
+  -- behind the last element of a block
+
+  pub read_behind : (blocks : List (Vec T Global)) (b k : ℕ) (v w : Vec T Global) (x : T) → IsAt blocks b k 0 → AreFilled blocks → v ≡ get_or blocks b v → length v.items ≤ k → w ≡ get_or blocks (b + 1) w → x ≡ get_or w.items 0 x → b + 1 < length blocks → slice_get (joined blocks) (start_of blocks b + k) ≡ Some x
+  read_behind blocks b k v w x at filled is end w_is x_is h =
+      let len = ap (λ (u : Vec T Global). length u.items) is in
+      let place : start_of blocks b + k ≡ start_of blocks (b + 1) + 0 = omega (arith, at_read blocks b k 0 v at is, (start_more blocks b v at.block).0) in
+      rw place (read_at blocks (b + 1) 0 w x h (omega (arith, filled (b + 1) w h, ap (λ (u : Vec T Global). length u.items) w_is)) w_is x_is)
+
+  pub read_past : (blocks : List (Vec T Global)) (b k : ℕ) (v : Vec T Global) → IsAt blocks b k 0 → v ≡ get_or blocks b v → length v.items ≤ k → length blocks ≤ b + 1 → slice_get (joined blocks) (start_of blocks b + k) ≡ None
+  read_past blocks b k v at is end h =
+      let len = ap (λ (u : Vec T Global). length u.items) is in
+      slice_get_past (joined blocks) (start_of blocks b + k) (omega (arith, (start_more blocks b v at.block).0, ap (λ l. length (joined l)) (take_all (b + 1) blocks h)))
 
   -- an element between two parts of a list
   insert_between : (front back : List T) (x : T) → front ++ x ∷ back ≡ insert (front ++ back) (length front) x
@@ -123,21 +143,21 @@ module _ {T : Type 0} where
   insert_between (y ∷ front) back x = ap (λ l. y ∷ l) (insert_between front back x)
 
   -- a block of one element before another, or behind all
-  pub joined-open : (blocks : List (Vec T Global)) (b : ℕ) (x : T) (w : Vec T Global) → w.items ≡ x ∷ [] → joined (insert blocks b w) ≡ insert (joined blocks) (start_of blocks b) x
-  joined-open blocks b x w e =
+  pub joined_open : (blocks : List (Vec T Global)) (b : ℕ) (x : T) (w : Vec T Global) → w.items ≡ x ∷ [] → joined (insert blocks b w) ≡ insert (joined blocks) (start_of blocks b) x
+  joined_open blocks b x w e =
       flat_map-append (λ block. block.items) (take b blocks) (w ∷ drop b blocks)
       ∙ ap (λ l. joined (take b blocks) ++ (l ++ joined (drop b blocks))) e
       ∙ insert_between (joined (take b blocks)) (joined (drop b blocks)) x
       ∙ ap (λ l. insert l (start_of blocks b) x) (sym (flat_map-append (λ block. block.items) (take b blocks) (drop b blocks)) ∙ ap joined (take-append-drop b blocks))
 
   -- an element is put into a block, and the last one goes before the next block
-  pub joined-push_out : (blocks new : List (Vec T Global)) (b k : ℕ) (x last : T) (v d : Vec T Global) → IsAt blocks b k 0 → d ≡ get_or blocks b d → v.items ++ last ∷ [] ≡ insert d.items k x → joined new ≡ insert (joined (set blocks b v)) (start_of (set blocks b v) (b + 1)) last → joined new ≡ insert (joined blocks) (start_of blocks b + k) x
-  joined-push_out blocks new b k x last v d at is e new_is =
+  pub joined_push_out : (blocks new : List (Vec T Global)) (b k : ℕ) (x last : T) (v d : Vec T Global) → IsAt blocks b k 0 → d ≡ get_or blocks b d → v.items ++ last ∷ [] ≡ insert d.items k x → joined new ≡ insert (joined (set blocks b v)) (start_of (set blocks b v) (b + 1)) last → joined new ≡ insert (joined blocks) (start_of blocks b + k) x
+  joined_push_out blocks new b k x last v d at is e new_is =
       let front = joined (take b blocks) in
       let back = joined (drop (suc b) blocks) in
       new_is
       ∙ ap (λ l. insert (joined (set blocks b v)) (length l) last) (up_to blocks b v at.block)
-      ∙ ap (λ l. insert l (length (front ++ v.items)) last) (joined-set blocks b v at.block ∙ sym (append_assoc front v.items back))
+      ∙ ap (λ l. insert l (length (front ++ v.items)) last) (joined_set blocks b v at.block ∙ sym (append_assoc front v.items back))
       ∙ sym (insert_between (front ++ v.items) back last)
       ∙ append_assoc front v.items (last ∷ back)
       ∙ ap (λ l. front ++ l) (sym (append_assoc v.items (last ∷ []) back) ∙ ap (λ l. l ++ back) e)

@@ -1,5 +1,5 @@
 -- Lists that are kept in blocks.
-use Rattle.std.specs.Prelude.{◌≡◌, ℕ, ◌+◌, ◌<◌, ◌≤◌, Bool, true, false, List, ◌∷◌, ◌++◌, length, take, drop, slice_index_or, Vec}
+use Rattle.std.specs.Prelude.{◌≡◌, ℕ, ◌+◌, ◌<◌, ◌≤◌, Bool, true, false, Option, Some, None, List, ◌∷◌, ◌++◌, length, take, drop, slice_index_or, Vec}
 use Rattle.std.specs.List.{flat_map, All}
 use Rattle.std.specs.List.Sorted.{IsPartitionPoint}
 use Rattle.std.specs.declared.alloc.Global.{Global}
@@ -30,10 +30,10 @@ module _ {T : Type 0} where
     pub block : b < length blocks
     pub within : (d : Vec T Global) → k + n ≤ length (slice_index_or blocks b d).items
 
-  -- the elements up to the first of the block before `low` pass p, and those from block `high` on fail
-  pub record IsTurn (p : T → Bool) (blocks : List (Vec T Global)) (low high : ℕ) : Type 0 where
-    pub below : (b k : ℕ) (x : T) → b + 1 ≡ low → k ≤ start_of blocks b → p (slice_index_or (joined blocks) k x) ≡ true
-    pub above : (k : ℕ) (x : T) → start_of blocks high ≤ k → k < length (joined blocks) → p (slice_index_or (joined blocks) k x) ≡ false
+  -- whether there is an element, and it passes p
+  abbrev pub passes : (T → Bool) → Option T → Bool
+  passes p None = false
+  passes p (Some x) = p x
 
   -- the elements that fail p and pass q stand from the first place up to before the second
   pub record AreBetween (p q : T → Bool) (xs : List T) (from to : ℕ) : Type 0 where

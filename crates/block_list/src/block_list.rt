@@ -1,5 +1,5 @@
 //! The list in blocks: what it is seen as, and its calls.
-use crate::blocks::{element_at, insert_at, insert_in, remove_between, set_in};
+use crate::blocks::{element_at, insert_at, insert_in, remove_some, set_in};
 use crate::kept::retain_in;
 use crate::search::{element_behind, first_failing, index_of, passing_from, spot_of};
 use crate::spare::{spare_blocks, spares_for};
@@ -62,6 +62,7 @@ impl<T> BlockList<T> {
     }
 
     /// The element at place `i`, from 0. To go over all of them, take `as_blocks`.
+    #[tactic(auto, using(std::proofs::lemmas::Grind::common_steps, crate::proofs::Joined::at_read, crate::proofs::Joined::read_at))]
     pub fn get(&self, i: usize) -> &T
         requires { i < length self.now }
         ensures { slice_get self.now i ≡ Some result.now }
@@ -197,6 +198,7 @@ impl<T: Drop> BlockList<T> {
     ///
     /// Where what is sought stands behind what was taken before, each with the hint that the one before gave, the work
     /// for one is small.
+    #[tactic(auto, using(crate::proofs::Passing::taken_out))]
     pub fn take_near<P: Fn(&T) -> bool>(&mut self, near: Spot, pred: P) -> (Option<T>, Spot)
         requires { P.IsAlwaysCallable pred }
         ensures none { IfNone result.0 (self.new ≡ self.old) }
@@ -213,12 +215,16 @@ impl<T: Drop> BlockList<T> {
     }
 
     /// Gives up the elements from place `from` up to before place `to`. It takes no memory.
+    #[tactic(auto, using(std::proofs::lemmas::Grind::common_steps, crate::proofs::Joined::removed_more))]
     pub fn remove_range(&mut self, from: usize, to: usize)
         requires order { from ≤ to }
         requires in_range { to ≤ length self.old }
         ensures { self.new ≡ take from self.old ++ drop to self.old }
     {
-        remove_between(&mut self.blocks, from, to);
+        let mut left = to - from;
+        while left > 0 {
+            left -= remove_some(&mut self.blocks, from, left);
+        }
         self.len -= to - from;
     }
 

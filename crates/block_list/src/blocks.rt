@@ -87,6 +87,7 @@ pub fn insert_at<T: Drop>(blocks: &mut Vec<Vec<T>>, i: usize, item: T) -> Result
 }
 
 /// Puts an element before a place in a block, or behind its last. An error leaves the list as it was.
+#[tactic(auto, using(crate::proofs::Joined::joined_same, crate::proofs::Joined::joined_insert))]
 pub fn insert_in<T: Drop>(
     blocks: &mut Vec<Vec<T>>,
     block: usize,
@@ -105,6 +106,7 @@ pub fn insert_in<T: Drop>(
 }
 
 /// Puts an element in the place of one in a block.
+#[tactic(auto, using(crate::proofs::Joined::joined_write))]
 pub fn set_in<T: Drop>(blocks: &mut Vec<Vec<T>>, block: usize, place: usize, item: T)
     requires filled { AreFilled blocks.old.items }
     requires element { IsAt blocks.old.items block place 1 }
@@ -115,6 +117,7 @@ pub fn set_in<T: Drop>(blocks: &mut Vec<Vec<T>>, block: usize, place: usize, ite
 }
 
 /// Gives up a block if it is empty. The others aren't.
+#[tactic(auto, using(std::proofs::lemmas::Grind::common_steps, crate::proofs::Joined::joined_remove))]
 pub fn drop_if_empty<T: Drop>(blocks: &mut Vec<Vec<T>>, block: usize)
     requires in_range { block < length blocks.old.items }
     requires others { (b : ℕ) (d : Vec T Global) → b < length blocks.old.items → (b ≡ block → ⊥) → 0 < length (slice_index_or blocks.old.items b d).items }
@@ -135,8 +138,9 @@ fn remove_part<T: Drop>(block: &mut Vec<T>, from: usize, to: usize)
     block.drain(from..to);
 }
 
-// Gives up elements from element `i` on, at most `count` of them: those that stand in its block. Says how many.
-fn remove_some<T: Drop>(blocks: &mut Vec<Vec<T>>, i: usize, count: usize) -> usize
+/// Gives up elements from element `i` on, at most `count` of them: those that stand in its block. Says how many.
+#[tactic(auto, using(std::proofs::lemmas::Grind::common_steps, crate::proofs::Joined::joined_drop))]
+pub fn remove_some<T: Drop>(blocks: &mut Vec<Vec<T>>, i: usize, count: usize) -> usize
     requires filled { AreFilled blocks.old.items }
     requires some { 0 < count }
     requires in_range { i + count ≤ length (joined blocks.old.items) }
@@ -150,18 +154,4 @@ fn remove_some<T: Drop>(blocks: &mut Vec<Vec<T>>, i: usize, count: usize) -> usi
     remove_part(&mut blocks[block], place, place + gone);
     drop_if_empty(blocks, block);
     gone
-}
-
-/// Gives up the elements from place `from` up to before place `to`, block by block.
-pub fn remove_between<T: Drop>(blocks: &mut Vec<Vec<T>>, from: usize, to: usize)
-    requires filled { AreFilled blocks.old.items }
-    requires order { from ≤ to }
-    requires in_range { to ≤ length (joined blocks.old.items) }
-    ensures rest { joined blocks.new.items ≡ take from (joined blocks.old.items) ++ drop to (joined blocks.old.items) }
-    ensures filled { AreFilled blocks.new.items }
-{
-    let mut left = to - from;
-    while left > 0 {
-        left -= remove_some(blocks, from, left);
-    }
 }

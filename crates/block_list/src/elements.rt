@@ -1,6 +1,7 @@
 //! Going over a list in blocks.
-ghost use Rattle.std.specs.Prelude.{◌≡◌, ◌++◌, []};
-ghost use Rattle.std.specs.Iterator.{YieldsFirstRef, item_count};
+ghost use Rattle.std.specs.Prelude.{◌≡◌, ◌++◌, [], length, Some, IfSome};
+ghost use Rattle.std.specs.Iterator.{YieldsFirstRef, UpTo, item_count};
+ghost use Rattle.std.specs.Iterator.SizeHint.{IsWithinCount};
 ghost use Rattle.block_list.specs.Blocks.{joined, AreFilled};
 
 use crate::BlockList;
@@ -43,7 +44,11 @@ impl<'a, T> Iterator for Iter<'a, T> {
         Some(item)
     }
 
-    fn size_hint(&self) -> (usize, Option<usize>) {
+    fn size_hint(&self) -> (usize, Option<usize>)
+        ensures lower { IsWithinCount result.0 (item_count (λ left. left) self.now) }
+        ensures upper { IfSome result.1 (UpTo (item_count (λ left. left) self.now)) }
+        ensures exact { result ≡ (length self.now, Some (length self.now)) }
+    {
         (self.len, Some(self.len))
     }
 }

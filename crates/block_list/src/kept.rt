@@ -14,20 +14,6 @@ fn retain_block<T: Drop, P: Fn(&T) -> bool>(block: &mut Vec<T>, pred: &P) -> usi
     len - block.len()
 }
 
-// Keeps the elements that pass the test, in blocks of which some may then be empty. Says how many go.
-fn retain_each<T: Drop, P: Fn(&T) -> bool>(blocks: &mut Vec<Vec<T>>, pred: P) -> usize
-    requires callable { P.IsAlwaysCallable pred }
-    requires fits { length (joined blocks.old.items) < 2 ^ 64 }
-    ensures items { (p : T → Bool) → ComputesKey P.FnMut p pred → joined blocks.new.items ≡ filter p (joined blocks.old.items) }
-    ensures count { result + length (joined blocks.new.items) ≡ length (joined blocks.old.items) }
-{
-    let mut gone = 0;
-    for i in 0..blocks.len() {
-        gone += retain_block(&mut blocks[i], &pred);
-    }
-    gone
-}
-
 // Gives up the blocks that are empty. The list stays.
 fn drop_empty<T: Drop>(blocks: &mut Vec<Vec<T>>)
     ensures same { joined blocks.new.items ≡ joined blocks.old.items }
@@ -37,6 +23,7 @@ fn drop_empty<T: Drop>(blocks: &mut Vec<Vec<T>>)
 }
 
 /// Keeps the elements that pass the test. Says how many go.
+#[tactic(auto, using(std::proofs::lemmas::Grind::common_steps, crate::proofs::Filtered::filter_set, crate::proofs::Filtered::passing_more, crate::proofs::Filtered::length_set_block, crate::proofs::Filtered::part_within))]
 pub fn retain_in<T: Drop, P: Fn(&T) -> bool>(blocks: &mut Vec<Vec<T>>, pred: P) -> usize
     requires callable { P.IsAlwaysCallable pred }
     requires fits { length (joined blocks.old.items) < 2 ^ 64 }
@@ -44,7 +31,10 @@ pub fn retain_in<T: Drop, P: Fn(&T) -> bool>(blocks: &mut Vec<Vec<T>>, pred: P) 
     ensures count { result + length (joined blocks.new.items) ≡ length (joined blocks.old.items) }
     ensures filled { AreFilled blocks.new.items }
 {
-    let gone = retain_each(blocks, pred);
+    let mut gone = 0;
+    for i in 0..blocks.len() {
+        gone += retain_block(&mut blocks[i], &pred);
+    }
     drop_empty(blocks);
     gone
 }

@@ -6,7 +6,6 @@ mod block_list;
 mod blocks;
 mod elements;
 mod kept;
-pub mod laws;
 mod placed;
 mod room;
 mod search;

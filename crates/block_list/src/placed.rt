@@ -39,6 +39,7 @@ fn push_out<T: Drop>(block: &mut Vec<T>, place: usize, item: T) -> T
 }
 
 // Puts an element before those of a block, or behind all blocks: into that block, or a spare one before it.
+#[tactic(auto, using(crate::proofs::Joined::joined_first, crate::proofs::Joined::joined_open, crate::proofs::Joined::filled_insert))]
 fn place_first<T: Drop>(blocks: &mut Vec<Vec<T>>, spare: &mut Vec<Vec<T>>, block: usize, item: T)
     requires in_range { block ≤ length blocks.old.items }
     requires filled { AreFilled blocks.old.items }
@@ -62,6 +63,7 @@ fn place_first<T: Drop>(blocks: &mut Vec<Vec<T>>, spare: &mut Vec<Vec<T>>, block
 }
 
 // Puts an element before a place in a block, or behind its last. Where the block is full its last element gives way.
+#[tactic(auto, using(crate::proofs::Joined::joined_insert, crate::proofs::Joined::joined_push_out))]
 fn place_in<T: Drop>(
     blocks: &mut Vec<Vec<T>>,
     spare: &mut Vec<Vec<T>>,

@@ -3,7 +3,7 @@ ghost use Rattle.std.specs.Prelude.{◌≡◌, ℕ, ◌+◌, ◌^◌, ◌<◌, �
 ghost use Rattle.std.specs.Option.{option_copied};
 ghost use Rattle.std.specs.List.Sorted.{IsPartitionedBy, IsPartitionPoint};
 ghost use Rattle.std.specs.Fn.{ComputesKey};
-ghost use Rattle.block_list.specs.Blocks.{joined, AreFilled, start_of, IsAt, IsTurn};
+ghost use Rattle.block_list.specs.Blocks.{joined, AreFilled, start_of, IsAt, passes};
 
 // How many elements stand before block `block`.
 #[tactic(auto, using(crate::proofs::Joined::start_more))]
@@ -19,25 +19,15 @@ fn count_before<T>(blocks: &[Vec<T>], block: usize) -> usize
     count
 }
 
-// A block whose first element fails the test while that of the block before passes it.
-fn turn_of<T, P: Fn(&T) -> bool>(blocks: &[Vec<T>], pred: &P) -> usize
-    requires callable { P.IsAlwaysCallable pred.now }
-    requires filled { AreFilled blocks.now }
-    ensures bound { result ≤ length blocks.now }
-    ensures turn { (p : T → Bool) → ComputesKey P.FnMut p pred.now → IsPartitionedBy p (joined blocks.now)
-        → IsTurn p blocks.now result result }
+/// Whether there is an element, and it passes the test.
+pub fn passes<T, P: Fn(&T) -> bool>(found: Option<&T>, pred: &P) -> bool
+    requires { P.IsAlwaysCallable pred.now }
+    ensures { (p : T → Bool) → ComputesKey P.FnMut p pred.now → result ≡ passes p (option_copied found.entry) }
 {
-    let mut low = 0;
-    let mut high = blocks.len();
-    while low < high {
-        let middle = low + (high - low) / 2;
-        if pred(&blocks[middle][0]) {
-            low = middle + 1;
-        } else {
-            high = middle;
-        }
+    match found {
+        Some(item) => pred(item),
+        None => false,
     }
-    low
 }
 
 /// Where the first element that fails the test stands, in a list where those that pass stand before it: a block, and a
@@ -51,7 +41,11 @@ pub fn spot_of<T, P: Fn(&T) -> bool>(blocks: &[Vec<T>], pred: P) -> (usize, usiz
         → IsPartitionPoint (λ y. p y ≡ true) (λ y. p y ≡ false) (joined blocks.now)
         (start_of blocks.now result.0 + result.1) }
 {
-    let turn = turn_of(blocks, &pred);
+    let turn = blocks.partition_point(
+        |block|
+            requires { P.IsAlwaysCallable pred }
+        { passes(block.first(), &pred) },
+    );
     if turn == 0 {
         return (0, 0);
     }
@@ -85,6 +79,7 @@ pub fn index_of<T>(blocks: &[Vec<T>], block: usize, place: usize) -> usize
 }
 
 /// The element at a place in a block, or behind its last the first of the next one.
+#[tactic(auto, using(std::proofs::lemmas::Grind::common_steps, crate::proofs::Joined::read_at, crate::proofs::Joined::read_behind, crate::proofs::Joined::read_past))]
 pub fn element_behind<T>(blocks: &[Vec<T>], block: usize, place: usize) -> Option<&T>
     requires filled { AreFilled blocks.now }
     requires place { IsAt blocks.now block place 0 }
@@ -100,28 +95,9 @@ pub fn element_behind<T>(blocks: &[Vec<T>], block: usize, place: usize) -> Optio
     None
 }
 
-// Whether there is an element behind a place in a block, and it passes the test.
-fn passes_behind<T, P: Fn(&T) -> bool>(
-    blocks: &[Vec<T>],
-    block: usize,
-    place: usize,
-    pred: &P,
-) -> bool
-    requires callable { P.IsAlwaysCallable pred.now }
-    requires filled { AreFilled blocks.now }
-    requires place { IsAt blocks.now block place 0 }
-    ensures some { result ≡ true → start_of blocks.now block + place < length (joined blocks.now) }
-    ensures passes { (p : T → Bool) → ComputesKey P.FnMut p pred.now → (x : T)
-        → slice_get (joined blocks.now) (start_of blocks.now block + place) ≡ Some x → p x ≡ result }
-{
-    match element_behind(blocks, block, place) {
-        Some(item) => pred(item),
-        None => false,
-    }
-}
-
 /// How many elements from a place on pass the test, where all before it do: none, or one that stands in the block. Else
 /// `None`: there is one, and perhaps more.
+#[tactic(auto, using(crate::proofs::Turn::turns_at))]
 pub fn passing_from<T, P: Fn(&T) -> bool>(
     blocks: &[Vec<T>],
     block: usize,
@@ -140,10 +116,10 @@ pub fn passing_from<T, P: Fn(&T) -> bool>(
         → IsPartitionPoint (λ y. p y ≡ true) (λ y. p y ≡ false) (joined blocks.now)
         (start_of blocks.now block + (place + n))) }
 {
-    if !passes_behind(blocks, block, place, pred) {
+    if !passes(element_behind(blocks, block, place), pred) {
         return Some(0);
     }
-    if place < blocks[block].len() && !passes_behind(blocks, block, place + 1, pred) {
+    if place < blocks[block].len() && !passes(element_behind(blocks, block, place + 1), pred) {
         return Some(1);
     }
     None

@@ -2,12 +2,14 @@
 ghost use Rattle.std.specs.Prelude.{◌≡◌, ◌+◌, ◌<◌, ◌≤◌, Bool, true, false, ◌++◌, length, take, drop, slice_get, Some, IfNone, IfSome};
 ghost use Rattle.std.specs.List.{list_any};
 ghost use Rattle.std.specs.Fn.{ComputesKey};
-ghost use Rattle.block_list.specs.Blocks.{joined, AreFilled, start_of, IsAt};
+ghost use Rattle.block_list.specs.Blocks.{joined, AreFilled, start_of, IsAt, passes};
 
 use crate::blocks::drop_if_empty;
+use crate::search::passes;
 
 /// Where an element stands that passes the test, if there is one: its block, and its place there. It is looked for from
 /// block `near` on to the end, then in the blocks before that.
+#[tactic(auto, using(std::proofs::lemmas::Grind::common_steps, crate::proofs::Passing::none_in_turn, crate::proofs::Passing::found_in_list, crate::proofs::Passing::none_in_blocks))]
 pub fn spot_passing<T, P: Fn(&T) -> bool>(
     blocks: &[Vec<T>],
     near: usize,
@@ -15,8 +17,8 @@ pub fn spot_passing<T, P: Fn(&T) -> bool>(
 ) -> Option<(usize, usize)>
     requires { P.IsAlwaysCallable pred }
     ensures element { IfSome result (λ spot. IsAt blocks.now spot.0 spot.1 1) }
-    ensures passes { IfSome result (λ spot. (p : T → Bool) → ComputesKey P.FnMut p pred → (x : T)
-        → slice_get (joined blocks.now) (start_of blocks.now spot.0 + spot.1) ≡ Some x → p x ≡ true) }
+    ensures passes { IfSome result (λ spot. (p : T → Bool) → ComputesKey P.FnMut p pred
+        → passes p (slice_get (joined blocks.now) (start_of blocks.now spot.0 + spot.1)) ≡ true) }
     ensures absent { IfNone result ((p : T → Bool) → ComputesKey P.FnMut p pred → list_any p (joined blocks.now) ≡ false) }
 {
     let from = near.min(blocks.len());
@@ -44,12 +46,12 @@ fn in_turn(from: usize, len: usize, i: usize) -> usize
 fn first_passing<T, P: Fn(&T) -> bool>(items: &[T], pred: &P) -> Option<usize>
     requires { P.IsAlwaysCallable pred.now }
     ensures bound { IfSome result (λ place. place < length items.now) }
-    ensures passes { IfSome result (λ place. (p : T → Bool) → ComputesKey P.FnMut p pred.now → (x : T)
-        → slice_get items.now place ≡ Some x → p x ≡ true) }
+    ensures passes { IfSome result (λ place. (p : T → Bool) → ComputesKey P.FnMut p pred.now
+        → passes p (slice_get items.now place) ≡ true) }
     ensures absent { IfNone result ((p : T → Bool) → ComputesKey P.FnMut p pred.now → list_any p items.now ≡ false) }
 {
     for place in 0..items.len() {
-        if pred(&items[place]) {
+        if passes(Some(&items[place]), pred) {
             return Some(place);
         }
     }
@@ -57,6 +59,7 @@ fn first_passing<T, P: Fn(&T) -> bool>(items: &[T], pred: &P) -> Option<usize>
 }
 
 /// Takes out an element of a block. The block goes with it where it is the last there.
+#[tactic(auto, using(crate::proofs::Joined::read_at, crate::proofs::Joined::joined_drop))]
 pub fn take_at<T: Drop>(blocks: &mut Vec<Vec<T>>, block: usize, place: usize) -> T
     requires filled { AreFilled blocks.old.items }
     requires element { IsAt blocks.old.items block place 1 }

@@ -1,6 +1,6 @@
 use Rattle.std.proofs.Common.{◌≡◌, ◌+◌, refl, arith}
 use Rattle.block_list.specs.Blocks.{start_of}
-use Rattle.block_list.proofs.Replaced.{put}
+use Rattle.block_list.proofs.Turn.{put}
 use Rattle.block_list.proofs.placed.place_between.Goals as goal
 
 pub returns-clause-list : goal.returns-clause-list

@@ -1,7 +1,7 @@
 use Rattle.std.proofs.Common.{◌+◌, ◌∙◌, slice_get, ap, arith}
 use Rattle.block_list.specs.Blocks.{joined, start_of}
 use Rattle.block_list.proofs.Joined.{at_within}
-use Rattle.block_list.proofs.Replaced.{found_at_turn}
+use Rattle.block_list.proofs.Turn.{found_at_turn}
 use Rattle.block_list.proofs.block_list.BlockList.find_failing_at.Goals as goal
 
 pub returns : goal.returns

@@ -2,7 +2,7 @@ use Rattle.std.proofs.Common.{◌≡◌, suc, ◌+◌, ◌<◌, ◌∙◌, lengt
 use Rattle.std.proofs.lemmas.List.{set_split}
 use Rattle.block_list.specs.Blocks.{joined, start_of}
 use Rattle.block_list.proofs.Joined.{at_within}
-use Rattle.block_list.proofs.Replaced.{put, replaced}
+use Rattle.block_list.proofs.Turn.{put, replaced}
 use Rattle.block_list.proofs.block_list.BlockList.replace_between.Goals as goal
 
 pub returns-in_default-clause-ok : goal.returns-in_default-clause-ok

@@ -2,7 +2,7 @@ use Rattle.std.proofs.Common.{◌≡◌, ◌+◌, Bool, length, take}
 use Rattle.std.specs.Prelude.{filter}
 use Rattle.std.specs.Fn.{ComputesKey}
 use Rattle.block_list.specs.Blocks.{joined}
-use Rattle.block_list.proofs.kept.retain_each.Given as goal
+use Rattle.block_list.proofs.kept.retain_in.Given as goal
 
 -- in the blocks so far all pass, and what passes is still there
 abbrev pub invariant-loop-i : goal.invariant-loop-i
