@@ -14,7 +14,7 @@ use Rattle.photo_device.specs.Held.{find_version, entry_of, entries_of}
 use Rattle.photo_device.specs.Device.{Kept, ModelDevice, Shows, holds, known, opening}
 use Rattle.photo_pull.specs.Pull.{handed_over}
 use Rattle.photo_script.specs.Runs.{effect, device_at, with_second}
-use Rattle.photo_pull.proofs.Ready.{same_is}
+use Rattle.photo_device.proofs.Counts.{same_version_is}
 use Rattle.fleet_steps.specs.Members.{In, here, there}
 use Rattle.photo_script.specs.declared.command.Command.{Command}
 use Rattle.photo_script.specs.declared.command.Command.TheVariants as command
@@ -32,7 +32,7 @@ record IsFound (v : Version) (helds : List Held) (h : Held) : Type 0 where
 
 found : (v : Version) (helds : List Held) (h : Held) → find_version v helds ≡ Some h → IsFound v helds h
 found v [] h e = cc
-found v (x ∷ xs) h e = by_test (same_version x.version v) (same_is x.version v) (found v xs h) e
+found v (x ∷ xs) h e = by_test (same_version x.version v) (same_version_is x.version v) (found v xs h) e
   where
     by_test : (b : Bool) → (b ≡ true → x.version ≡ v) → (find_version v xs ≡ Some h → IsFound v xs h) → cond b (Some x) (find_version v xs) ≡ Some h → IsFound v (x ∷ xs) h
     by_test true here_is more e =

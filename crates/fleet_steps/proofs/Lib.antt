@@ -1,4 +1,5 @@
 mod Logged
+mod Ranges
 pub mod Zipped
 pub mod Shown
 pub mod KnownLemmas

@@ -1,27 +1,36 @@
--- What a change of the target asks of what it gives up, takes and learns.
-use Rattle.std.proofs.Common.{◌≡◌, ℕ, ◌+◌, ◌<◌, ◌≤◌, Bool, true, false, ◌&&◌, ◌||◌, List, [], ◌∷◌, ◌++◌, Option, Some, None, refl, sym, ap, ◌∙◌, inl, inr, length, arith}
-use Rattle.std.specs.Prelude.{filter}
+-- What a change of the target asks of what it gives up, takes and learns; it may be staged, and is committed with what the source handed over.
+use Rattle.std.proofs.Common.{◌≡◌, ℕ, ◌+◌, ◌<◌, ◌≤◌, Bool, true, false, ◌&&◌, ◌||◌, List, [], ◌∷◌, ◌++◌, Option, Some, None, refl, sym, ap, ◌∙◌, inl, inr, length, arith, not, subst}
+use Rattle.std.specs.Prelude.{filter, Option, IfSome, is_some}
 use Rattle.std.specs.Option.{is_some}
 use Rattle.std.specs.List.{AllByRecursion, cons_option}
+use Rattle.std.specs.List.Sorted.{IsPermutation}
 use Rattle.std.proofs.lemmas.Bool.{and_parts, or_cases, or_left, or_right, not-true}
 use Rattle.std.proofs.lemmas.List.{length-map}
-use Rattle.photo_version.specs.Version.{Version, same_version}
+use Rattle.std.proofs.Math.Bool.{or-true}
+use Rattle.std.proofs.lemmas.List.Elements.{All-from_recursion, recursion_from_All}
+use Rattle.std.proofs.lemmas.List.Sorted.{list_any-IsPermutation, All-permutation}
+use Rattle.photo_version.specs.Version.{Version, same_version, Versions}
 use Rattle.item_knowledge.specs.Fragments.{Fragment, knows}
 use Rattle.photo_device.specs.declared.held.Held.{Held}
-use Rattle.photo_device.specs.Held.{find_version, count_of, times_in, helds_at}
-use Rattle.photo_device.specs.Device.{Kept, unstaged}
+use Rattle.photo_device.specs.Held.{find_version, count_of, times_in, helds_at, entries_of}
+use Rattle.photo_device.specs.Device.{Kept, unstaged, Staging, ModelDevice, Shows, selects, changed}
 use Rattle.photo_device.specs.Own.{HasEarlier, IsKnownBy, KnowsNoMore}
 use Rattle.photo_device.specs.Telling.{tells}
+use Rattle.photo_device.specs.Entry.{Entry, without, put_entries}
+use Rattle.photo_device.specs.Staging.{MayHand, MayStage}
 use Rattle.photo_device.proofs.AllLemmas.{all_append, all_filter}
 use Rattle.photo_device.proofs.Changed.{all_new}
-use Rattle.photo_device.proofs.Counts.{count_of-append, count_of-filter, same_version_self}
-use Rattle.photo_device.proofs.OwnLemmas.{no_more_of}
+use Rattle.photo_device.proofs.Counts.{count_of-append, count_of-filter, same_version_self, same_version_is}
+use Rattle.photo_device.proofs.OwnLemmas.{no_more_of, known_later}
 use Rattle.photo_device.proofs.TellingLemmas.{told_known, known_told}
+use Rattle.photo_device.proofs.Staged.{shows_alike}
 use Rattle.photo_pull.specs.OnHeld.{is_new, new_waiting, learns, is_dropped, is_over, is_selected, is_heard, new_stored, heard, taken_stored, versions, drops}
-use Rattle.photo_pull.specs.Findings.{AreReady, IsGained}
+use Rattle.photo_pull.specs.Findings.{AreReady, IsGained, IsHearing, HasStagedPull}
+use Rattle.photo_pull.specs.declared.hearing.Hearing.{Hearing}
+use Rattle.photo_pull.specs.Pull.{pulled}
 use Rattle.photo_pull.proofs.Members.{In, in_left, in_right, in_filtered, all_map, all_of, filter_mapped, found_some, found_in, only_one, find_one}
-use Rattle.photo_pull.proofs.Ready.{known_here, found_here, same_is}
-use Rattle.photo_pull.proofs.Changes.{takes}
+use Rattle.photo_pull.proofs.Told.{known_here, found_here}
+use Rattle.photo_pull.proofs.Shown.{takes, shows_pulled}
 
 -- what holds of all that the source holds, holds of what the target hears of
 all_heard : (P : Held → Type 0) (t s : Kept) → AllByRecursion P s.store → AllByRecursion P (heard t s)
@@ -60,7 +69,7 @@ module _ (t s : Kept) (ready : AreReady t s) where
       by None e = refl
       by (Some g) e =
           let found = found_in (λ (h : Held). same_version h.version w.version) g (t.store ++ t.out) e in
-          let same : g.version ≡ w.version = same_is g.version w.version found.1 in
+          let same : g.version ≡ w.version = same_version_is g.version w.version found.1 in
           let picture : g.picture ≡ w.picture = ready.may.one w.version g w e (found_here s ready.source w here) in
           let known : knows t.knowledge w.picture w.version ≡ true = (λ i. knows t.knowledge (sym picture i) (sym same i)) ∙ (known_here t ready.target g found.0).itself in
           let unknown : knows t.knowledge w.picture w.version ≡ false = not-true (knows t.knowledge w.picture w.version) new in
@@ -139,3 +148,79 @@ module _ (t s : Kept) (ready : AreReady t s) where
       | inl taught ↦ (and_parts (learns t s) _ taught).1
       | inr told ↦ told_is_known p v told
     ]) ready.may.own
+
+-- versions in another order: what leaves by them is the same
+without_moved : (vs ws : List Version) → IsPermutation vs ws → (es : List Entry) → without ws es ≡ without vs es
+without_moved vs ws moved es = λ i. filter (λ e. not (sym (list_any-IsPermutation (λ v. same_version v e.version) vs ws moved) i)) es
+
+changed_moved : (vs ws : List Version) → IsPermutation vs ws → (takes : List Entry) (gain : ℕ → Versions) (m : ModelDevice) → changed ws takes gain m ≡ changed vs takes gain m
+changed_moved vs ws moved takes gain m = λ i. record m {
+  store = put_entries (filter (selects m) takes) (without_moved vs ws moved m.store i);
+  out = put_entries (filter (λ e. not (selects m e)) takes) (without_moved vs ws moved m.out i);
+  of = λ picture v. m.of picture v || gain picture v;
+}
+
+module _ (t s : Kept) (ready : AreReady t s) where
+  -- where it learns all that the source knows, that has all of it
+  pub gained_all : learns t s ≡ true → (gain : List Fragment) → gain ≡ s.knowledge → IsGained t s gain
+  gained_all learned gain is p v above = ap (λ fs. knows fs p v) is ∙ (let told = told_is_known t s ready p v in grind arith)
+
+  module _ (room : ℕ) (new : Kept) (has : HasStagedPull t s room new) (handed : List Held) (handed_is : handed ≡ new_waiting t s) where
+    -- what is handed over may be taken with the change that was staged
+    pub may_hand : length handed ≤ room → IfSome new.staged (λ st. MayHand handed st new)
+    may_hand few =
+        let taken : List Held = taken_stored t s in
+        subst (λ (o : Option Staging). IfSome o (λ st. MayHand handed st new)) (sym has.staged.staged) (record {
+          few = few;
+          once = λ v.
+              let once = taken_once t s ready v in
+              let store : count_of v new.store ≡ count_of v t.store = ap (λ (k : Kept). count_of v k.store) has.staged.rest in
+              let out : count_of v new.out ≡ count_of v t.out = ap (λ (k : Kept). count_of v k.out) has.staged.rest in
+              let handed_same : count_of v handed ≡ count_of v (new_waiting t s) = ap (count_of v) handed_is in
+              let all = count_of-append v handed (taken ++ (new.store ++ new.out)) in
+              let some = count_of-append v taken (new.store ++ new.out) in
+              let both = count_of-append v new.store new.out in
+              omega arith;
+          earlier = subst (AllByRecursion HasEarlier) (sym handed_is) (waiting_earlier t s ready);
+          known = known_later has.gain has.staged.knowledge (λ p v above here. has.staged.learned p v above ∙ ap (λ b. knows t.knowledge p v || b) here ∙ or-true (knows t.knowledge p v)) handed
+              (subst (AllByRecursion (IsKnownBy has.gain)) (sym handed_is) (waiting_gained t s ready has.gain has.gained));
+        })
+
+    pub shows_found : (after : Kept) → IfSome new.staged (λ st. (m : ModelDevice) → Shows new m → Shows after (changed st.drops (entries_of (st.takes ++ handed)) (knows st.knowledge) m))
+        → (tm sm : ModelDevice) → Shows t tm → Shows s sm → Shows after (pulled tm sm)
+    shows_found after clause tm sm shows_t shows_s =
+        let done : (m : ModelDevice) → Shows new m → Shows after (changed has.given_up (entries_of (taken_stored t s ++ handed)) (knows has.staged.knowledge) m) =
+        subst (λ (o : Option Staging). IfSome o (λ st. (m : ModelDevice) → Shows new m → Shows after (changed st.drops (entries_of (st.takes ++ handed)) (knows st.knowledge) m))) has.staged.staged clause in
+        let is = done tm (shows_alike t new tm has.staged.rest shows_t) in
+        let gained : Shows after (changed has.given_up (entries_of (taken_stored t s ++ handed)) (knows has.gain) tm) = record {
+          author = is.author;
+          tree = is.tree;
+          counter = is.counter;
+          store = is.store;
+          out = is.out;
+          known = λ p above v. is.known p above v ∙ known_twice _ _ _ _ (has.staged.learned p v above) (shows_t.known p above v);
+        } in
+        shows_pulled t s ready tm sm shows_t shows_s after (knows has.gain) has.gained
+        (subst (λ l. Shows after (changed (drops t s) (entries_of (taken_stored t s ++ l)) (knows has.gain) tm)) handed_is
+        (subst (Shows after) (changed_moved (drops t s) has.given_up has.permuted (entries_of (taken_stored t s ++ handed)) (knows has.gain) tm) gained))
+      where
+        known_twice : (e o g k : Bool) {known : Bool} → known ≡ (k || g) → k ≡ (e || o) → (e || (o || known)) ≡ (e || (o || g))
+        known_twice e o g k is was = grind arith
+
+-- what the code found
+module _ (t s : Kept) (h : Hearing) (hearing : IsHearing t s h) where
+  module _ (ds : List Version) (of_drops : IsPermutation (versions h.dropped.stored.items ++ versions h.dropped.waiting.items) ds) (gain : List Fragment) (gained : IsGained t s gain) where
+    permuted : IsPermutation (drops t s) ds
+    permuted = subst (λ l. IsPermutation l ds) (λ i. versions (hearing.dropped_stored i) ++ versions (hearing.dropped_waiting i)) of_drops
+
+    pub may_stage : MayStage ds (filter (is_selected t.tree) h.heard.items) gain t
+    may_stage = subst (λ l. MayStage ds (filter (is_selected t.tree) l) gain t) (sym hearing.heard) (record {
+      held =
+          let P : Version → Type 0 = λ v. is_some (find_version v (t.store ++ t.out)) ≡ true in
+          recursion_from_All P ds (All-permutation P (drops t s) ds permuted (All-from_recursion P (drops t s) (drops_held t s hearing.ready)));
+      new = taken_new t s hearing.ready;
+      distinct = λ v. let once = taken_once t s hearing.ready v in omega arith;
+      earlier = all_filter HasEarlier (is_selected t.tree) (heard t s) (heard_earlier t s hearing.ready);
+      known = all_filter (IsKnownBy gain) (is_selected t.tree) (heard t s) (heard_gained t s hearing.ready gain gained);
+      own = gain_own t s hearing.ready gain gained;
+    })

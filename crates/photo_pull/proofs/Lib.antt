@@ -1,10 +1,5 @@
-pub mod Along
 pub mod Members
-pub mod Ranges
-pub mod Ready
-pub mod Told
-mod KeepingLemmas
-pub mod Shown
-pub mod Changes
-pub mod Asked
-mod StagedFound
+mod Along
+mod Told
+mod Shown
+mod Asked

@@ -1,28 +1,32 @@
--- What a pull tells and takes, on the model devices that two devices show.
-use Rattle.std.proofs.Common.{◌≡◌, ℕ, ◌+◌, ◌≤◌, Bool, true, false, not, ◌&&◌, ◌||◌, eqb, List, [], ◌∷◌, ◌++◌, length, map, refl, sym, ap, ◌∙◌, arith}
+-- What a pull tells and takes, on the model devices that two devices show; what they show after it, and its counts.
+use Rattle.std.proofs.Common.{◌≡◌, ℕ, ◌+◌, ◌≤◌, Bool, true, false, not, ◌&&◌, ◌||◌, eqb, List, [], ◌∷◌, ◌++◌, length, map, refl, sym, ap, subst, ◌∙◌, arith, ◌<◌}
 use Rattle.std.specs.Prelude.{filter}
 use Rattle.std.specs.List.{list_any}
 use Rattle.std.proofs.Math.Bool.{or-false}
 use Rattle.std.proofs.lemmas.Bool.{eq-eqb}
-use Rattle.std.proofs.lemmas.List.{map-append}
+use Rattle.std.proofs.lemmas.List.{map-append, length-map}
 use Rattle.std.proofs.lemmas.List.Folds.{list_any-append}
-use Rattle.photo_version.specs.Version.{Version, same_version}
+use Rattle.std.proofs.lemmas.List.Filters.{length-filter_both}
+use Rattle.photo_version.specs.Version.{Version, same_version, Versions}
+use Rattle.item_knowledge.specs.Fragments.{knows}
+use Rattle.item_knowledge.specs.Staged.{Knowing}
 use Rattle.photo_filter_text.specs.Tree.{Tree}
 use Rattle.photo_filter_rules.specs.Matching.{matches}
 use Rattle.photo_filter_rules.specs.Covers.{covers}
 use Rattle.photo_device.specs.declared.held.Held.{Held}
-use Rattle.photo_device.specs.Entry.{Entry, supersedes, superseded_by, without}
+use Rattle.photo_device.specs.Entry.{Entry, supersedes, superseded_by, without, put_entries}
 use Rattle.photo_device.specs.Held.{entry_of, entries_of, count_of}
-use Rattle.photo_device.specs.Device.{Kept, ModelDevice, Shows, holds, knows_entry, selects, unstaged}
+use Rattle.photo_device.specs.Device.{Kept, ModelDevice, Shows, holds, knows_entry, selects, unstaged, changed, without_waiting}
 use Rattle.photo_device.specs.Own.{IsDevice}
 use Rattle.photo_device.specs.Telling.{tell, tells}
 use Rattle.photo_device.proofs.Counts.{count_of-append, same_version_self}
-use Rattle.photo_pull.specs.Findings.{AreReady}
-use Rattle.photo_pull.specs.Pull.{taken, handed, noticed, told, learns_all, is_stale, leaves_store, leaves_out}
-use Rattle.photo_pull.specs.OnHeld.{is_new, new_stored, new_waiting, learns, is_over, is_stale_held, is_dropped, dropped_stored, dropped_waiting, is_selected, is_heard, heard, taken_stored, versions, drops}
+use Rattle.photo_pull.specs.Findings.{AreReady, IsHearing, IsNothing}
+use Rattle.photo_pull.specs.Pull.{taken, handed, noticed, told, learns_all, is_stale, leaves_store, leaves_out, pulled, handed_over, counts_of}
+use Rattle.photo_pull.specs.OnHeld.{is_new, new_stored, new_waiting, learns, is_over, is_stale_held, is_dropped, dropped_stored, dropped_waiting, is_selected, is_heard, heard, taken_stored, versions, drops, gains}
+use Rattle.photo_pull.specs.declared.counts.PullCounts.{PullCounts}
+use Rattle.photo_pull.specs.declared.hearing.Hearing.{Hearing}
 use Rattle.photo_pull.proofs.Members.{In, in_left, in_right, any_same, filter_alike, filter_filter, any_map, any_swap, filter_mapped, no_more, only_one}
-use Rattle.photo_pull.proofs.Ready.{known_here, same_picture}
-use Rattle.photo_pull.proofs.Told.{is_notice, notices, heard_as, any_told, over_is}
+use Rattle.photo_pull.proofs.Told.{known_here, same_picture, is_notice, notices, heard_as, any_told, over_is}
 
 -- a test of entries keeps the entries of those that a test of held versions keeps
 filter_shown : (f : Entry → Bool) (g : Held → Bool) (hs : List Held) (es : List Entry) → entries_of hs ≡ es → ((h : Held) → In h hs → f (entry_of h) ≡ g h) → filter f es ≡ entries_of (filter g hs)
@@ -54,7 +58,22 @@ among h q xs more is = any_map (λ v. same_version v h.version) (λ (g : Held). 
 once_in : (d : Kept) → IsDevice (unstaged d) → (v : Version) → count_of v d.store + count_of v d.out ≤ 1
 once_in d is v = let once = is.once v in let all = count_of-append v d.store d.out in omega arith
 
-module _ (t s : Kept) (tm sm : ModelDevice) (ready : AreReady t s) (shows_t : Shows t tm) (shows_s : Shows s sm) where
+-- what was known of every picture and of this one, and what is learned of both
+regroup : (e o l every of told : Bool) → (e || (o || ((l && (every || of)) || told))) ≡ ((e || (l && every)) || (o || (told || (l && of))))
+regroup e o l every of told = grind arith
+
+-- what is known stays where nothing else is learned
+nothing_more : (e o k l taught : Bool) → k ≡ (e || o) → (l ≡ true → taught ≡ true → k ≡ true) → k ≡ (e || (o || (l && taught)))
+nothing_more e o k l taught known more = grind arith
+
+abbrev pub takes : Kept → Kept → List Held
+takes t s = taken_stored t s ++ new_waiting t s
+
+filter_all : (es : List Entry) → filter (λ e. true) es ≡ es
+filter_all [] = refl
+filter_all (e ∷ es) = ap (λ l. e ∷ l) (filter_all es)
+
+module _ (t s : Kept) (ready : AreReady t s) (tm sm : ModelDevice) (shows_t : Shows t tm) (shows_s : Shows s sm) where
   new_shown : (w : Held) → In w (s.store ++ s.out) → not (knows_entry tm (entry_of w)) ≡ is_new t.knowledge w
   new_shown w here = ap not (sym (shows_t.known w.picture (known_here s ready.source w here).above w.version))
 
@@ -144,3 +163,69 @@ module _ (t s : Kept) (tm sm : ModelDevice) (ready : AreReady t s) (shows_t : Sh
 
   pub dropped_waiting_shown : filter (leaves_out tm sm) tm.out ≡ entries_of (dropped_waiting t s)
   dropped_waiting_shown = filter_shown (leaves_out tm sm) (is_over t s) t.out tm.out shows_t.out leaves_out_shown
+
+  -- the target, after a change by what is told
+  pub shows_pulled : (after : Kept) (gain : ℕ → Versions) → ((p : ℕ) (v : Version) → 0 < p → gain p v ≡ gains t s p v) → Shows after (changed (drops t s) (entries_of (takes t s)) gain tm) → Shows after (pulled tm sm)
+  shows_pulled after gain gain_is shows =
+      let new : entries_of (takes t s) ≡ taken tm sm ++ handed tm sm = map-append entry_of (taken_stored t s) (new_waiting t s) ∙ sym (λ i. taken_shown i ++ handed_shown i) in
+      record {
+        author = shows.author;
+        tree = shows.tree;
+        counter = shows.counter;
+        store = shows.store ∙ (λ i. put_entries (filter (selects tm) (new i)) (stored_left i));
+        out = shows.out ∙ (λ i. put_entries (filter (λ e. not (selects tm e)) (new i)) (waiting_left i));
+        known = λ p above v.
+            let told_is = sym (tell_shown p v) in
+            let learned : gain p v ≡ ((learns_all tm sm && (sm.every v || sm.of p v)) || tell (told tm sm) p v) =
+            gain_is p v above ∙ (λ i. (sym (learns_shown) i && shows_s.known p above v i) || told_is i) in
+            shows.known p above v
+            ∙ ap (λ b. tm.every v || (tm.of p v || b)) learned
+            ∙ regroup (tm.every v) (tm.of p v) (learns_all tm sm) (sm.every v) (sm.of p v) (tell (told tm sm) p v);
+      }
+
+  -- the source, without what it handed over
+  pub shows_handed : (after : Kept) → Shows after (without_waiting (versions (new_waiting t s)) sm) → Shows after (handed_over tm sm)
+  shows_handed after shows = subst (λ out. Shows after (record sm { out = out })) handed_left shows
+
+-- what the code found
+module _ (t s : Kept) (h : Hearing) (hearing : IsHearing t s h) (tm sm : ModelDevice) (shows_t : Shows t tm) (shows_s : Shows s sm) where
+  -- where nothing was found, both are as they were
+
+  pub nothing_pulled : (known taught : Knowing) → known.known ≡ t.knowledge → taught.known ≡ s.knowledge → IsNothing h known taught → Shows t (pulled tm sm)
+  nothing_pulled known taught known_is taught_is none =
+      let no_drops : drops t s ≡ [] = λ i. versions ((sym hearing.dropped_stored ∙ none.dropped_stored) i) ++ versions ((sym hearing.dropped_waiting ∙ none.dropped_waiting) i) in
+      let no_takes : takes t s ≡ [] = λ i. filter (λ (w : Held). matches t.tree w.content) ((sym hearing.heard ∙ none.heard) i) ++ (sym hearing.handed ∙ none.handed) i in
+      shows_pulled t s hearing.ready tm sm shows_t shows_s t (λ p v. learns t s && knows s.knowledge p v)
+      (λ p v above. sym ((λ i. (learns t s && knows s.knowledge p v) || (tells ((sym hearing.heard ∙ none.heard) i) p v || tells ((sym hearing.handed ∙ none.handed) i) p v)) ∙ or-false (learns t s && knows s.knowledge p v)))
+      (record {
+        author = shows_t.author;
+        tree = shows_t.tree;
+        counter = shows_t.counter;
+        store = shows_t.store ∙ sym ((λ i. put_entries (filter (selects tm) (entries_of (no_takes i))) (without (no_drops i) tm.store)) ∙ filter_all tm.store);
+        out = shows_t.out ∙ sym ((λ i. put_entries (filter (λ e. not (selects tm e)) (entries_of (no_takes i))) (without (no_drops i) tm.out)) ∙ filter_all tm.out);
+        known = λ p above v. nothing_more (tm.every v) (tm.of p v) _ (learns t s) (knows s.knowledge p v) (shows_t.known p above v) (λ l h. sym (ap (λ fs. knows fs p v) known_is) ∙ none.teaches_none (hearing.learned ∙ l) p v above (ap (λ fs. knows fs p v) taught_is ∙ h));
+      })
+
+  pub nothing_handed : h.handed.items ≡ [] → Shows s (handed_over tm sm)
+  nothing_handed none =
+      let kept : without (versions (new_waiting t s)) sm.out ≡ sm.out = ap (λ hs. without (versions hs) sm.out) (sym hearing.handed ∙ none) ∙ filter_all sm.out in
+      shows_handed t s hearing.ready tm sm shows_t shows_s s (subst (λ out. Shows s (record sm { out = out })) (sym kept) shows_s)
+
+  pub counts_found : (counts : PullCounts) → counts.taken ≡ length (filter (is_selected t.tree) h.heard.items) → counts.handed ≡ length h.handed.items
+      → counts.notices + counts.taken ≡ length h.heard.items → counts.dropped ≡ length h.dropped.stored.items + length h.dropped.waiting.items → counts.learned ≡ h.learned → counts ≡ counts_of tm sm
+  counts_found counts taken_is handed_is notices_are dropped_is learned_is =
+      let sel : Held → Bool = is_selected t.tree in
+      let as_taken : counts.taken ≡ length (taken_stored t s) = taken_is ∙ ap (λ hs. length (filter sel hs)) hearing.heard in
+      let both = length-filter_both sel (λ w. not (sel w)) (λ w. refl) (heard t s) in
+      let all = ap length hearing.heard in
+      let as_notices : counts.notices ≡ length (notices t s) = omega arith in
+      λ i. record {
+        taken = (as_taken ∙ sym (sized _ _ (taken_shown t s hearing.ready tm sm shows_t shows_s))) i;
+        handed = (handed_is ∙ ap length hearing.handed ∙ sym (sized _ _ (handed_shown t s hearing.ready tm sm shows_t shows_s))) i;
+        notices = (as_notices ∙ sym (sized _ _ (noticed_shown t s hearing.ready tm sm shows_t shows_s))) i;
+        dropped = (dropped_is ∙ (λ j. (ap length hearing.dropped_stored ∙ sym (sized _ _ (dropped_stored_shown t s hearing.ready tm sm shows_t shows_s))) j + (ap length hearing.dropped_waiting ∙ sym (sized _ _ (dropped_waiting_shown t s hearing.ready tm sm shows_t shows_s))) j)) i;
+        learned = (learned_is ∙ hearing.learned ∙ sym (learns_shown t s hearing.ready tm sm shows_t shows_s)) i;
+      }
+    where
+      sized : (es : List Entry) (hs : List Held) → es ≡ entries_of hs → length es ≡ length hs
+      sized es hs e = ap length e ∙ length-map hs entry_of

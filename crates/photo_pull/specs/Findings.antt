@@ -1,9 +1,10 @@
 -- Machinery of the proofs: what the code finds between two devices is what `OnHeld` says, and is staged on one of them.
-use Rattle.std.specs.Prelude.{◌≡◌, ℕ, ◌<◌, true, List}
+use Rattle.std.specs.Prelude.{◌≡◌, ℕ, ◌<◌, true, List, []}
 use Rattle.std.specs.List.{AllByRecursion}
 use Rattle.std.specs.List.Sorted.{IsPermutation}
 use Rattle.photo_version.specs.Version.{Version}
 use Rattle.item_knowledge.specs.Fragments.{Fragment, knows}
+use Rattle.item_knowledge.specs.Staged.{Knowing}
 use Rattle.photo_device.specs.Held.{are_in_order}
 use Rattle.photo_device.specs.Device.{Kept, ModelDevice, Shows, unstaged}
 use Rattle.photo_device.specs.Own.{HasEarlier, IsDevice}
@@ -40,6 +41,14 @@ pub record IsHearing (t s : Kept) (h : Hearing) : Type 0 where
   pub handed_order : are_in_order h.handed.items ≡ true
   pub heard_earlier : AllByRecursion HasEarlier h.heard.items
   pub handed_earlier : AllByRecursion HasEarlier h.handed.items
+
+-- nothing is heard of, handed over or dropped, and what the source may teach is known
+pub record IsNothing (h : Hearing) (known taught : Knowing) : Type 0 where
+  pub heard : h.heard.items ≡ []
+  pub handed : h.handed.items ≡ []
+  pub dropped_stored : h.dropped.stored.items ≡ []
+  pub dropped_waiting : h.dropped.waiting.items ≡ []
+  pub teaches_none : h.learned ≡ true → (p : ℕ) (v : Version) → 0 < p → knows taught.known p v ≡ true → knows known.known p v ≡ true
 
 -- a knowledge has what the target learns
 abbrev pub IsGained : Kept → Kept → List Fragment → Type 0

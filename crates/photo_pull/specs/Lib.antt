@@ -2,4 +2,3 @@ pub mod Pull
 pub mod MayPull
 pub mod OnHeld
 pub mod Findings
-pub mod Gaps

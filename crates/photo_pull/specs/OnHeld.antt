@@ -1,5 +1,5 @@
 -- Machinery of the proofs: a pull on the held versions of two devices, as the code finds them. What a pull is says `Pull`.
-use Rattle.std.specs.Prelude.{◌≡◌, ℕ, Bool, true, not, ◌&&◌, ◌||◌, ◌==◌, List, ◌++◌, map, filter}
+use Rattle.std.specs.Prelude.{◌≡◌, ℕ, ◌≤◌, ◌<◌, Bool, true, false, not, ◌&&◌, ◌||◌, ◌==◌, List, ◌++◌, map, filter, drop}
 use Rattle.std.specs.List.{list_any}
 use Rattle.photo_version.specs.Version.{Version, Versions, same_version}
 use Rattle.photo_version.specs.Vector.{denotes}
@@ -11,6 +11,7 @@ use Rattle.photo_device.specs.declared.held.Held.{Held}
 use Rattle.photo_device.specs.Held.{are_in_order}
 use Rattle.photo_device.specs.Device.{Kept}
 use Rattle.photo_device.specs.Telling.{tells}
+use Rattle.photo_pull.specs.declared.gap.Gap.{Gap}
 use Rattle.photo_pull.specs.declared.part.Part.{Part}
 
 -- not known
@@ -36,6 +37,12 @@ part_above part h = has_above part.stored.items h || has_above part.waiting.item
 -- w supersedes one of a part
 abbrev pub part_below : Part → Held → Bool
 part_below part w = has_below part.stored.items w || has_below part.waiting.items w
+
+-- of its pictures nothing in a part supersedes a version, and of later ones only what stands from its places on
+pub record IsGap (part : Part) (gap : Gap) : Type 0 where
+  pub none : (h : Held) → gap.from ≤ h.picture → h.picture < gap.end → part_above part h ≡ false
+  pub stored : (h : Held) → gap.from ≤ h.picture → has_above (drop gap.stored part.stored.items) h ≡ has_above part.stored.items h
+  pub waiting : (h : Held) → gap.from ≤ h.picture → has_above (drop gap.waiting part.waiting.items) h ≡ has_above part.waiting.items h
 
 -- a part is in the order of its pictures
 pub record IsOrdered (part : Part) : Type 0 where

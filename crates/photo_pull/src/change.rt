@@ -97,6 +97,7 @@ fn stage_heard(
 
 /// Stages on the target what was found, with room for so many versions that are handed over. What all the source knows is
 /// lent, and isn't copied. Its only error is want of memory, which leaves nothing staged.
+#[tactic(auto, using(crate::proofs::Asked::gained_all))]
 pub(crate) fn stage_found(
     alloc: Global,
     hearing: Hearing,

@@ -2,8 +2,7 @@
 ghost use Rattle.std.specs.Prelude.{◌≡◌, ◌≤◌, ◌++◌, ◌&&◌, ◌||◌, not, true, length, filter, IfOk, OnOk};
 ghost use Rattle.item_knowledge.specs.Fragments.{knows};
 ghost use Rattle.photo_device.specs.Held.{are_in_order};
-ghost use Rattle.photo_pull.specs.OnHeld.{is_gone, is_selected, has_same, part_below, versions, IsOrdered};
-ghost use Rattle.photo_pull.specs.Gaps.{IsGap};
+ghost use Rattle.photo_pull.specs.OnHeld.{is_gone, is_selected, has_same, part_below, versions, IsOrdered, IsGap};
 
 use crate::gap::Gap;
 use crate::keeping::{Along, is_kept_along};
@@ -47,6 +46,7 @@ fn is_dropped(
 }
 
 /// Copies of those of a set that something new supersedes, or that a device has given up whose keeping is followed.
+#[tactic(auto, using(std::proofs::lemmas::Grind::common_steps, crate::proofs::Along::filtered_in_order))]
 pub(crate) fn dropped_of(
     alloc: Global,
     news: &Part,
@@ -94,14 +94,9 @@ pub(crate) fn count_of(wanted: &Filter, list: &[SharedHeld]) -> usize
     ensures count { result ≡ length (filter (is_selected wanted.now) list.now) }
     ensures fewer { result ≤ length list.now }
 {
-    let mut count = 0;
-    for held in list {
-        if !wanted.matches(held.content()) {
-            continue;
-        }
-        count += 1;
-    }
-    count
+    list.iter()
+        .filter(|held| wanted.matches(held.content()))
+        .count()
 }
 
 /// Puts the versions of those of a list behind others.

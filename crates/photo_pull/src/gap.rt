@@ -16,9 +16,7 @@ impl Gap {
 
     /// Before any was looked for.
     pub fn none() -> Gap
-        ensures end { result.end ≡ 0 }
-        ensures stored { result.stored ≡ 0 }
-        ensures waiting { result.waiting ≡ 0 }
+        ensures { result ≡ record { from = 0; end = 0; stored = 0; waiting = 0 } }
     {
         Gap {
             from: 0,

@@ -8,7 +8,7 @@ use crate::filtered::{count_of, dropped_of, heard_of};
 use crate::part::Part;
 use item_knowledge::Knowledge;
 use photo_device::{Device, SharedHeld};
-use photo_filter_rules::{Filter, covers};
+use photo_filter_rules::covers;
 use std::alloc::{AllocError, Global};
 
 /// What a target hears of from a source, of which it takes what its filter matches and only notices the rest.
@@ -68,20 +68,17 @@ pub(crate) fn heard_between(
 }
 
 impl Hearing {
-    ghost use Rattle.std.specs.Prelude.{◌≡◌, ℕ, ◌+◌, ◌<◌, true, [], length, filter};
-    ghost use Rattle.photo_version.specs.Version.{Version};
-    ghost use Rattle.item_knowledge.specs.Fragments.{knows};
-    ghost use Rattle.photo_pull.specs.OnHeld.{is_selected};
+    ghost use Rattle.std.specs.Prelude.{◌≡◌, true};
+    ghost use Rattle.photo_device.specs.Device.{ModelDevice, Shows};
+    ghost use Rattle.photo_pull.specs.Pull.{counts_of};
+    ghost use Rattle.photo_pull.specs.Findings.{IsHearing, IsNothing};
 
-    /// What the pull moves and tells, where the filter is the target's.
-    pub fn counts(&self, wanted: &Filter) -> PullCounts
-        ensures taken { result.taken ≡ length (filter (is_selected wanted.now) self.now.heard.items) }
-        ensures handed { result.handed ≡ length self.now.handed.items }
-        ensures notices { result.notices + result.taken ≡ length self.now.heard.items }
-        ensures dropped { result.dropped ≡ length self.now.dropped.stored.items + length self.now.dropped.waiting.items }
-        ensures learned { result.learned ≡ self.now.learned }
+    /// What the pull moves and tells. The source is there for the contract alone.
+    pub fn counts(&self, target: &Device, source: &Device) -> PullCounts
+        requires { IsHearing target.now source.now self.now }
+        ensures { (t s : ModelDevice) → Shows target.now t → Shows source.now s → result ≡ counts_of t s }
     {
-        let taken = count_of(wanted, &self.heard);
+        let taken = count_of(target.filter(), &self.heard);
         PullCounts {
             taken: taken as u64,
             handed: self.handed.len() as u64,
@@ -93,12 +90,7 @@ impl Hearing {
 
     /// Whether nothing is heard of, handed over or dropped, and what the source may teach is known.
     pub fn is_nothing(&self, known: &Knowledge, taught: &Knowledge) -> bool
-        ensures heard { result ≡ true → self.now.heard.items ≡ [] }
-        ensures handed { result ≡ true → self.now.handed.items ≡ [] }
-        ensures dropped_stored { result ≡ true → self.now.dropped.stored.items ≡ [] }
-        ensures dropped_waiting { result ≡ true → self.now.dropped.waiting.items ≡ [] }
-        ensures known { result ≡ true → self.now.learned ≡ true → (p : ℕ) (v : Version) → 0 < p → knows taught.now.known p v ≡ true
-            → knows known.now.known p v ≡ true }
+        ensures { result ≡ true → IsNothing self.now known.now taught.now }
     {
         let none = self.heard.is_empty() && self.handed.is_empty() && self.dropped.is_empty();
         none && (!self.learned || known.has_all(taught))

@@ -61,6 +61,7 @@ fn place_from(part: &[SharedHeld], from: usize, held: &SharedHeld) -> usize {
 
 /// Whether a version is seen to stand in a set. Any place to look next will do; where versions are asked in the order of the
 /// set, each with the place that the one before left, the work for all is one walk along the set.
+#[tactic(auto, using(crate::proofs::Along::kept_in))]
 pub(crate) fn is_kept_along(set: &HeldSet, along: &mut Along, held: &SharedHeld) -> bool
     ensures { result ≡ true → has_same set.now held.now ≡ true }
 {

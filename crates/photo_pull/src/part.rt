@@ -15,8 +15,7 @@ pub(crate) struct Part {
 
 impl Part {
     ghost use Rattle.std.specs.Prelude.{◌≡◌, ◌&&◌, ◌==◌, length};
-    ghost use Rattle.photo_pull.specs.OnHeld.{IsOrdered, part_above, part_below};
-    ghost use Rattle.photo_pull.specs.Gaps.{IsGap};
+    ghost use Rattle.photo_pull.specs.OnHeld.{IsOrdered, part_above, part_below, IsGap};
 
     /// Whether there is none.
     pub fn is_empty(&self) -> bool

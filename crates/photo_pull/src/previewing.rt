@@ -20,5 +20,5 @@ pub fn preview(alloc: Global, target: &Device, source: &Device) -> Result<PullCo
 {
     let news = news_by(alloc, target, source)?;
     let hearing = heard_between(alloc, news, target, source)?;
-    Ok(hearing.counts(target.filter()))
+    Ok(hearing.counts(target, source))
 }

@@ -58,7 +58,7 @@ fn pull_news(
     ensures source_still { source.new.staged ≡ None }
 {
     let hearing = heard_between(alloc, news, target, source)?;
-    let counts = hearing.counts(target.filter());
+    let counts = hearing.counts(target, source);
     if hearing.is_nothing(target.knowledge(), source.knowledge()) {
         return Ok(counts);
     }

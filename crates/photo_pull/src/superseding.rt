@@ -24,6 +24,7 @@ pub(crate) fn first_of(list: &[SharedHeld], picture: PicNo) -> usize
 }
 
 /// The picture at a place, or more than any: of those from there on none is of a smaller one.
+#[tactic(auto, using(crate::proofs::Along::above_none))]
 pub(crate) fn picture_at(list: &[SharedHeld], place: usize) -> u32
     requires { are_in_order list.now ≡ true }
     ensures { (h : spec.Held) → h.picture < result → has_above (drop place list.now) h ≡ false }
@@ -35,6 +36,7 @@ pub(crate) fn picture_at(list: &[SharedHeld], place: usize) -> u32
 }
 
 /// Whether one of those from a place on supersedes the version.
+#[tactic(auto, using(crate::proofs::Along::above_none))]
 pub(crate) fn any_above(list: &[SharedHeld], from: usize, held: &SharedHeld) -> bool
     requires { are_in_order list.now ≡ true }
     ensures { result ≡ has_above (drop from list.now) held.now }
@@ -53,6 +55,7 @@ pub(crate) fn any_above(list: &[SharedHeld], from: usize, held: &SharedHeld) -> 
 }
 
 /// Whether the version supersedes one of them.
+#[tactic(auto, using(crate::proofs::Along::below_none))]
 pub(crate) fn any_below(list: &[SharedHeld], newer: &SharedHeld) -> bool
     requires { are_in_order list.now ≡ true }
     ensures { result ≡ has_below list.now newer.now }

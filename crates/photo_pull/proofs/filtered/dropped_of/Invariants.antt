@@ -1,7 +1,6 @@
 use Rattle.std.proofs.Common.{◌≡◌, ◌++◌}
 use Rattle.std.specs.Prelude.{filter}
-use Rattle.photo_pull.specs.OnHeld.{is_gone}
-use Rattle.photo_pull.specs.Gaps.{IsGap}
+use Rattle.photo_pull.specs.OnHeld.{is_gone, IsGap}
 use Rattle.photo_pull.proofs.filtered.dropped_of.Given as goal
 
 abbrev pub invariant-loop-held : goal.invariant-loop-held

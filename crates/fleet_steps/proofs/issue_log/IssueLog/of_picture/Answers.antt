@@ -1,7 +1,7 @@
 use Rattle.std.proofs.Common.{◌≤◌, ltb, leb, rules, sym, arith}
 use Rattle.std.proofs.lemmas.List.Sorted.{IsPartitionedBy-ltb, IsPartitionedBy-leb, IsPartitionPoint-from_clause}
 use Rattle.photo_device.specs.declared.held.Held.{Held}
-use Rattle.photo_pull.proofs.Ranges.{no_turn, of_range}
+use Rattle.fleet_steps.proofs.Ranges.{no_turn, of_range}
 use Rattle.fleet_steps.proofs.Logged.{of_index, part_in_order}
 use Rattle.fleet_steps.proofs.issue_log.IssueLog.of_picture.Goals as goal
 
