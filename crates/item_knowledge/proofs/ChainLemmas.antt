@@ -78,17 +78,11 @@ module _ (bucket_of : List ℕ → ℕ) (rows : List (List ℕ)) (row : List ℕ
       record {
         within = omega arith;
         there = more.there;
-        none_later = λ k f t e. elim (cases_eq k (length rows)) [
-          | inl here ↦ other (sym e ∙ ap (λ j. bucket_of (get_or (rows ++ row ∷ []) j [])) here ∙ ap bucket_of at_end)
-          | inr away ↦ more.none_later k f (omega arith) e
-        ];
+        none_later = λ k f t e. grind (arith, more.none_later k f, at_end);
       }
 
   once_more : ((j k : ℕ) → j < k → k < length rows → get_or rows j [] ≡ get_or rows k [] → ⊥) → is_new rows row → (j k : ℕ) → j < k → k < suc (length rows) → get_or (rows ++ row ∷ []) j [] ≡ get_or (rows ++ row ∷ []) k [] → ⊥
-  once_more once new j k l m e =
-      let before : (i : ℕ) → i < length rows → get_or rows i [] ≡ get_or (rows ++ row ∷ []) i [] = λ i n. sym (get_or-append rows (row ∷ []) [] i n) in
-      let many = length-append rows (row ∷ []) in
-      snoc_each (λ n ws. (i : ℕ) → i < n → get_or (rows ++ row ∷ []) i [] ≡ ws → ⊥) rows row [] (λ n z i y x. once i n y z (before i (omega arith) ∙ x)) (λ i y x. new i y (before i y ∙ x)) k (omega arith) j l e
+  once_more once new j k l m e = grind (arith, get_or-append rows (row ∷ []) [] j, get_or-append rows (row ∷ []) [] k, at_end, once j k, new j)
 
   module _ (heads before : List ℕ) (h : IsPlaced bucket_of heads before rows) (l : bucket_of row < length heads) where
     heads_more : (c : ℕ) → c < length heads → IsLast bucket_of c (rows ++ row ∷ []) (suc (length rows)) (get_or (set heads (bucket_of row) (suc (length rows))) c 0)

@@ -1,118 +1,320 @@
--- Groups gathered from a table are in normal form, and have the vectors of the table.
-use Rattle.std.proofs.Common.{◌≡◌, ℕ, Bool, true, false, ltb, eqb, cond, ◌&&◌, List, [], ◌∷◌, refl, sym, subst, ap, ◌∙◌, inl, inr, arith}
-use Rattle.std.specs.List.{list_all}
-use Rattle.std.proofs.lemmas.Bool.{and_parts, and_from, ltb-true, eq-eqb, ne_eqb, cases_Bool, cases_eq}
-use Rattle.item_knowledge.specs.Tables.{keys_pass, in_order, at}
-use Rattle.item_knowledge.specs.Entries.{Entry, is_vector, leq, same_entries}
-use Rattle.item_knowledge.specs.Fragments.{Fragment, are_groups, find, or_star}
-use Rattle.item_knowledge.specs.Gathering.{add, add_unless, gathered}
-use Rattle.item_knowledge.proofs.FragmentLemmas.{entries_decide}
-use Rattle.item_knowledge.proofs.AddLemmas.{all_below, below_add, none_below, find_added, find_others, groups_add}
+-- Pictures of a table that are gathered in the groups of their vectors.
+use Rattle.std.proofs.Common.{◌≡◌, ℕ, zero, suc, ◌+◌, ◌<◌, ◌≤◌, Bool, true, false, not, ltb, eqb, ◌&&◌, List, [], ◌∷◌, ◌++◌, length, get_or, set, map, refl, sym, subst, ap, ◌∙◌, inl, inr, arith, append-nil, length-set}
+use Rattle.std.specs.List.{list_all, filter, position_or_len}
+use Rattle.std.proofs.lemmas.List.Folds.{list_all-append, list_all-map}
+use Rattle.std.proofs.lemmas.Bool.{and_parts, and_from, or_right, not-true, lt-ltb, eq-eqb, ne_eqb, eqb-true, cases_lt, true≢false}
+use Rattle.std.proofs.lemmas.Bool.Decides.{nat_tests}
+use Rattle.std.proofs.lemmas.Grind.{common_steps}
+use Rattle.std.proofs.lemmas.List.Sums.{passes_at_first, fails_before_first}
+use Rattle.std.proofs.Math.Path.{transport}
+use Rattle.item_knowledge.specs.Tables.{keys_pass, in_order, at, each}
+use Rattle.item_knowledge.specs.Entries.{Entry, is_vector, same_entries}
+use Rattle.item_knowledge.specs.Excess.{AllDiffer}
+use Rattle.item_knowledge.specs.Fragments.{Fragment, is_empty, first, lists, rises, is_group, goes_before, are_groups, is_normal, find, or_star, known, nothing, entries_at}
+use Rattle.item_knowledge.specs.Gathering.{IsIndex, table_of, pictures_of, pictures_at, star_first, IsGathered, IsAdded}
+use Rattle.item_knowledge.proofs.FragmentLemmas.{entries_decide, find_here, find_later}
+use Rattle.item_knowledge.proofs.PictureLemmas.{lists_head, first_listed}
+use Rattle.item_knowledge.proofs.TableLemmas.{at_above, each_at}
 
--- beside each picture of a table a vector that is not below the star's
-abbrev pub good : List Entry → (ℕ × ℕ → List Entry) → ℕ × (ℕ × ℕ) → Bool
-good star f r = is_vector (f r.1) && leq star (f r.1)
+abbrev pub of_one : ℕ → List Entry → Fragment
+of_one p v = record { pictures = p ∷ []; entries = v }
 
--- what groups on the way to the end must be, for the rows that are left
-pub record Ready (star : List Entry) (f : ℕ × ℕ → List Entry) (rs : List (ℕ × (ℕ × ℕ))) (gs : List Fragment) : Type 0 where
-  pub groups : are_groups star gs ≡ true
-  pub order : in_order rs ≡ true
-  pub positive : keys_pass (λ p. ltb 0 p) rs ≡ true
-  pub vectors : list_all (λ r. good star f r) rs ≡ true
-  pub new : keys_pass (λ p. all_below p gs) rs ≡ true
+-- Lists of pairs in order
 
-pub unless_same : (star : List Entry) (p : ℕ) (v : List Entry) (gs : List Fragment) → same_entries star v ≡ true → add_unless star p v gs ≡ gs
-unless_same star p v gs h = rw h refl
+all_from : {X : Type 0} (test : X → Bool) (xs : List X) (d : X) → ((k : ℕ) → k < length xs → test (get_or xs k d) ≡ true) → list_all test xs ≡ true
+all_from test [] d h = refl
+all_from test (x ∷ xs) d h = and_from _ _ (h 0 (omega arith)) (all_from test xs d (λ k l. h (suc k) (omega (arith, l))))
 
-pub unless_other : (star : List Entry) (p : ℕ) (v : List Entry) (gs : List Fragment) → same_entries star v ≡ false → add_unless star p v gs ≡ add p v gs
-unless_other star p v gs h = rw h refl
+all_kept : {X : Type 0} (test keep : X → Bool) (xs : List X) → list_all test xs ≡ true → list_all test (filter keep xs) ≡ true
+all_kept test keep [] h = refl
+all_kept test keep (x ∷ xs) h =
+    let rest = all_kept test keep xs (and_parts _ _ h).1 in
+    grind arith
 
-new_rows : (p : ℕ) (v : List Entry) (rs : List (ℕ × (ℕ × ℕ))) (gs : List Fragment) → all_below p gs ≡ true → keys_pass (λ q. ltb p q) rs ≡ true → keys_pass (λ q. all_below q (add p v gs)) rs ≡ true
-new_rows p v [] gs b h = refl
-new_rows p v (r ∷ rs) gs b h =
-    let a = and_parts (ltb p r.0) (keys_pass (λ q. ltb p q) rs) h in
-    and_from _ _ (below_add p r.0 v gs (ltb-true p r.0 a.0) b) (new_rows p v rs gs b a.1)
+order_kept : {A : Type 0} (keep : ℕ × A → Bool) (xs : List (ℕ × A)) → in_order xs ≡ true → in_order (filter keep xs) ≡ true
+order_kept keep [] h = refl
+order_kept keep (x ∷ xs) h =
+    let all = all_kept (λ y. ltb x.0 y.0) keep xs (and_parts _ _ h).0 in
+    let rest = order_kept keep xs (and_parts _ _ h).1 in
+    grind arith
 
-pub record ReadyParts (star : List Entry) (f : ℕ × ℕ → List Entry) (r : ℕ × (ℕ × ℕ)) (rs : List (ℕ × (ℕ × ℕ))) (gs : List Fragment) : Type 0 where
-  pub above : keys_pass (λ q. ltb r.0 q) rs ≡ true
-  pub new : all_below r.0 gs ≡ true
-  pub next : Ready star f rs (add_unless star r.0 (f r.1) gs)
+each_keys : {B C : Type 0} (other : B → C) (test : ℕ → Bool) (ys : List (ℕ × B)) → keys_pass test (each other ys) ≡ keys_pass test ys
+each_keys other test [] = refl
+each_keys other test (y ∷ ys) = ap (λ b. test y.0 && b) (each_keys other test ys)
 
-pub ready_parts : (star : List Entry) (f : ℕ × ℕ → List Entry) (r : ℕ × (ℕ × ℕ)) (rs : List (ℕ × (ℕ × ℕ))) (gs : List Fragment) → Ready star f (r ∷ rs) gs → ReadyParts star f r rs gs
-ready_parts star f r rs gs h =
-    let o = and_parts (keys_pass (λ q. ltb r.0 q) rs) (in_order rs) h.order in
-    let z = and_parts (ltb 0 r.0) (keys_pass (λ p. ltb 0 p) rs) h.positive in
-    let v = and_parts (good star f r) (list_all (λ x. good star f x) rs) h.vectors in
-    let n = and_parts (all_below r.0 gs) (keys_pass (λ p. all_below p gs) rs) h.new in
-    let w = and_parts (is_vector (f r.1)) (leq star (f r.1)) v.0 in
+each_order : {B C : Type 0} (other : B → C) (ys : List (ℕ × B)) → in_order (each other ys) ≡ in_order ys
+each_order other [] = refl
+each_order other (y ∷ ys) = λ i. each_keys other (λ k. ltb y.0 k) ys i && each_order other ys i
+
+each_append : {B C : Type 0} (other : B → C) (xs ys : List (ℕ × B)) → each other (xs ++ ys) ≡ each other xs ++ each other ys
+each_append other [] ys = refl
+each_append other (x ∷ xs) ys = ap (λ zs. (x.0, other x.1) ∷ zs) (each_append other xs ys)
+
+-- what stands before another is below it
+order_below : {A : Type 0} (xs : List (ℕ × A)) (y : ℕ × A) (ys : List (ℕ × A)) → in_order (xs ++ y ∷ ys) ≡ true → keys_pass (λ k. ltb k y.0) xs ≡ true
+order_below [] y ys h = refl
+order_below (x ∷ xs) y ys h =
+    let rest = order_below xs y ys (and_parts _ _ h).1 in
+    let each_of = list_all-append (λ (z : ℕ × _). ltb x.0 z.0) xs (y ∷ ys) in
+    grind arith
+
+-- A table of vectors
+
+pub table_others : (f : ℕ × ℕ → List Entry) (rs : List (ℕ × (ℕ × ℕ))) → list_all (λ t. not (same_entries [] t.1)) (table_of [] f rs) ≡ true
+table_others f rs = kept (each f rs) where
+  kept : (ts : List (ℕ × List Entry)) → list_all (λ t. not (same_entries [] t.1)) (filter (λ t. not (same_entries [] t.1)) ts) ≡ true
+  kept [] = refl
+  kept (t ∷ ts) = let rest = kept ts in grind arith
+
+module _ (f : ℕ × ℕ → List Entry) (rs : List (ℕ × (ℕ × ℕ))) (order : in_order rs ≡ true) where
+  pub table_order : in_order (table_of [] f rs) ≡ true
+  table_order = order_kept (λ t. not (same_entries [] t.1)) (each f rs) (each_order f rs ∙ order)
+
+  pub table_pass : (test : ℕ → Bool) → keys_pass test rs ≡ true → keys_pass test (table_of [] f rs) ≡ true
+  table_pass test h = all_kept (λ t. test t.0) (λ t. not (same_entries [] t.1)) (each f rs) (each_keys f test rs ∙ h)
+
+  pub table_at : (p : ℕ) → [] ≡ f (0, 0) → at [] (table_of [] f rs) p ≡ f (at (0, 0) rs p)
+  table_at p none = kept (each f rs) (each_order f rs ∙ order) ∙ ap (λ d. at d (each f rs) p) none ∙ each_at f (0, 0) rs p where
+    kept : (ts : List (ℕ × List Entry)) → in_order ts ≡ true → at [] (filter (λ t. not (same_entries [] t.1)) ts) p ≡ at [] ts p
+    kept [] o = refl
+    kept (t ∷ ts) o =
+        let rest = kept ts (and_parts _ _ o).1 in
+        let none = at_above [] ts t.0 (and_parts _ _ o).0 in
+        let same = (entries_decide [] t.1).0 in
+        grind (arith, nat_tests)
+
+-- One picture more
+
+pub none_gathered : (table left : List (ℕ × List Entry)) (gs : List Fragment) (index : List (ℕ × ℕ)) → left ≡ table → gs ≡ [] → index ≡ [] → IsGathered table left gs index
+none_gathered table left gs index all g n = transport (λ i. IsGathered table left (sym g i) (sym n i))
+    (record { vectors = all; range = refl; pictures = λ k. refl; some = λ k l. absurd (omega (arith, l)); order = λ j k l m. absurd (omega (arith, m)) })
+
+-- the group is there
+pub group_grown : (p : ℕ) (v : List Entry) (gs more : List Fragment) (place : ℕ) → place < length gs → entries_at gs place ≡ v → more ≡ set gs place (record { pictures = pictures_at gs place ++ p ∷ []; entries = entries_at gs place }) → IsAdded p v gs more place
+group_grown p v gs more place inside is grown = record {
+  inside = grind (arith, common_steps);
+  vector = grind (arith, common_steps);
+  kept = λ k l. grind (arith, common_steps);
+  longer = grind (arith, common_steps);
+  pictures = λ k. grind (arith, common_steps);
+  new = λ k l m. let long = ap (length {A = Fragment}) grown ∙ length-set gs place _ in absurd (omega (arith, l, m, long));
+}
+
+-- it begins at the end
+pub group_begun : (p : ℕ) (v : List Entry) (gs more : List Fragment) (place : ℕ) → place ≡ length gs → more ≡ gs ++ of_one p v ∷ [] → IsAdded p v gs more place
+group_begun p v gs more place end begun =
+    let long : length more ≡ length gs + 1 = grind (arith, common_steps) in
     record {
-      above = o.0;
-      new = n.0;
-      next = elim (cases_Bool (same_entries star (f r.1))) [
-        | inl same ↦ subst (Ready star f rs) (sym (unless_same star r.0 (f r.1) gs same)) (record { groups = h.groups; order = o.1; positive = z.1; vectors = v.1; new = n.1 })
-        | inr other ↦ subst (Ready star f rs) (sym (unless_other star r.0 (f r.1) gs other)) (record {
-          groups = groups_add star r.0 (f r.1) gs (ltb-true 0 r.0 z.0) (record { vector = w.0; above = w.1; other = other }) n.0 h.groups;
-          order = o.1;
-          positive = z.1;
-          vectors = v.1;
-          new = new_rows r.0 (f r.1) rs gs n.0 o.0;
-        })
-      ];
+      inside = omega (arith, long, end);
+      vector = grind (arith, common_steps);
+      kept = λ k l. grind (arith, common_steps);
+      longer = omega (arith, long);
+      pictures = λ k. grind (arith, common_steps);
+      new = λ k l m. (omega (arith, l, m, long, end), grind (arith, common_steps));
     }
 
-pub gathered_groups : (star : List Entry) (f : ℕ × ℕ → List Entry) (rs : List (ℕ × (ℕ × ℕ))) (gs : List Fragment) → Ready star f rs gs → are_groups star (gathered star f rs gs) ≡ true
-gathered_groups star f [] gs h = h.groups
-gathered_groups star f (r ∷ rs) gs h = gathered_groups star f rs _ (ready_parts star f r rs gs h).next
+some_more : (ps qs : List ℕ) → is_empty ps ≡ false → (is_empty (ps ++ qs) ≡ false) × (first (ps ++ qs) ≡ first ps)
+some_more [] qs h = absurd (true≢false h)
+some_more (p ∷ ps) qs h = (refl, refl)
 
--- the vector of a picture after one row
-after_row : (star : List Entry) (p : ℕ) (v : List Entry) (gs : List Fragment) → all_below p gs ≡ true → or_star star (find (add_unless star p v gs) p) ≡ v
-after_row star p v gs b = elim (cases_Bool (same_entries star v)) [
-  | inl same ↦
-      ap (λ hs. or_star star (find hs p)) (unless_same star p v gs same)
-      ∙ (ap (or_star star) (none_below gs p p (omega arith) b) ∙ (entries_decide star v).0 same)
-  | inr other ↦
-      ap (λ hs. or_star star (find hs p)) (unless_other star p v gs other) ∙ ap (or_star star) (find_added p v gs b)
+listed_below : (p : ℕ) (ps : List ℕ) → list_all (λ q. ltb q p) ps ≡ true → is_empty ps ≡ false → first ps < p
+listed_below p [] h s = absurd (true≢false s)
+listed_below p (q ∷ ps) h s = grind (arith, nat_tests)
+
+range_wider : (n m : ℕ) (zs : List (ℕ × ℕ)) → n ≤ m → list_all (λ z. ltb z.1 n) zs ≡ true → list_all (λ z. ltb z.1 m) zs ≡ true
+range_wider n m [] l h = refl
+range_wider n m (z ∷ zs) l h =
+    let rest = range_wider n m zs l (and_parts _ _ h).1 in
+    grind (arith, nat_tests)
+
+each_same : (f g : ℕ → List Entry) (n : ℕ) (zs : List (ℕ × ℕ)) → ((k : ℕ) → k < n → f k ≡ g k) → list_all (λ z. ltb z.1 n) zs ≡ true → each f zs ≡ each g zs
+each_same f g n [] e h = refl
+each_same f g n (z ∷ zs) e h =
+    let rest = each_same f g n zs e (and_parts _ _ h).1 in
+    let here = e z.1 in
+    grind (arith, nat_tests)
+
+module _ {table now left : List (ℕ × List Entry)} {gs : List Fragment} {index : List (ℕ × ℕ)} {p : ℕ} {v : List Entry} (h : IsGathered table now gs index) (next : now ≡ (p, v) ∷ left) (order : in_order table ≡ true)
+    (new : List Fragment) (place : ℕ) (more : List (ℕ × ℕ)) (a : IsAdded p v gs new place) (other : same_entries [] v ≡ false) (pushed : more ≡ index ++ (p, place + 1) ∷ []) where
+  below : (k : ℕ) → k < length gs → first (pictures_at gs k) < p
+  below k l =
+      let all : keys_pass (λ q. ltb q p) index ≡ true = sym (each_keys (entries_at (nothing ∷ gs)) (λ q. ltb q p) index) ∙ order_below (each (entries_at (nothing ∷ gs)) index) (p, v) left (subst (λ ts. in_order ts ≡ true) (sym h.vectors ∙ ap (λ ts. each (entries_at (nothing ∷ gs)) index ++ ts) next) order) in
+      let each_of : list_all (λ q. ltb q p) (pictures_of (suc k) index) ≡ true = list_all-map (λ q. ltb q p) (λ (z : ℕ × ℕ). z.0) (filter (λ z. eqb z.1 (suc k)) index) ∙ all_kept (λ z. ltb z.0 p) (λ z. eqb z.1 (suc k)) index all in
+      listed_below p (pictures_at gs k) (subst (λ qs. list_all (λ q. ltb q p) qs ≡ true) (sym (h.pictures k)) each_of) (h.some k l).0
+
+  still : (k : ℕ) → k < length gs → (is_empty (pictures_at new k) ≡ false) × (first (pictures_at new k) ≡ first (pictures_at gs k))
+  still k l = subst (λ ps. (is_empty ps ≡ false) × (first ps ≡ first (pictures_at gs k))) (sym (a.pictures k)) (some_more (pictures_at gs k) (pictures_of (suc k) ((p, suc place) ∷ [])) (h.some k l).0)
+
+  begun : (k : ℕ) → length gs ≤ k → k < length new → pictures_at new k ≡ p ∷ []
+  begun k l m = let is = a.new k l m in let now = a.pictures k in grind (arith, common_steps)
+
+  stays : (n : ℕ) → n < suc (length gs) → entries_at (nothing ∷ new) n ≡ entries_at (nothing ∷ gs) n
+  stays zero l = refl
+  stays (suc n) l = a.kept n (omega (arith, l))
+
+  pub one_gathered : IsGathered table left new more
+  one_gathered = record {
+    vectors =
+        let each_of = each_append (entries_at (nothing ∷ new)) index ((p, suc place) ∷ []) in
+        let same = each_same (entries_at (nothing ∷ new)) (entries_at (nothing ∷ gs)) (suc (length gs)) index stays h.range in
+        let was = h.vectors in
+        let here = a.vector in
+        grind (arith, common_steps);
+    range =
+        let wider = range_wider (suc (length gs)) (suc (length new)) index (omega (arith, a.longer)) h.range in
+        let inside = a.inside in
+        grind (arith, common_steps);
+    pictures = λ k. let was = h.pictures k in let now = a.pictures k in grind (arith, common_steps);
+    some = λ k l. elim (cases_lt k (length gs)) [
+      | inl before ↦ ((still k before).0, ap (same_entries []) (a.kept k before) ∙ (h.some k before).1)
+      | inr past ↦
+          let now = begun k past l in
+          let is = a.new k past l in
+          let here = a.vector in
+          grind arith
+    ];
+    order = λ j k l m. elim (cases_lt k (length gs)) [
+      | inl before ↦
+          let was = h.order j k l before in
+          omega (arith, was, (still j (omega (arith, l, before))).1, (still k before).1)
+      | inr past ↦ elim (cases_lt j (length gs)) [
+        | inl before ↦ let less = below j before in omega (arith, less, (still j before).1, ap first (begun k past m))
+        | inr also ↦ absurd (omega (arith, l, (a.new j also (omega (arith, l, m))).0, (a.new k past m).0))
+      ]
+    ];
+  }
+
+-- The next picture of a table
+
+pub left_is : {table now left : List (ℕ × List Entry)} {gs : List Fragment} {index : List (ℕ × ℕ)} → now ≡ left → IsGathered table now gs index → IsGathered table left gs index
+left_is {table} {now} {left} {gs} {index} is h = subst (λ ts. IsGathered table ts gs index) is h
+
+module _ (f : ℕ × ℕ → List Entry) {now rest : List (ℕ × (ℕ × ℕ))} {r : ℕ × (ℕ × ℕ)} (next : now ≡ r ∷ rest) where
+  pub table_same : same_entries [] (f r.1) ≡ true → table_of [] f now ≡ table_of [] f rest
+  table_same same = ap (table_of [] f) next ∙ rw same refl
+
+  pub table_other : same_entries [] (f r.1) ≡ false → table_of [] f now ≡ (r.0, f r.1) ∷ table_of [] f rest
+  table_other other = ap (table_of [] f) next ∙ rw other refl
+
+-- What is gathered is a normal form
+
+rise : {A : Type 0} (zs : List (ℕ × A)) → in_order zs ≡ true → rises (map (λ z. z.0) zs) ≡ true
+rise [] h = refl
+rise (z ∷ zs) h =
+    let rest = rise zs (and_parts _ _ h).1 in
+    let each_of = list_all-map (λ q. ltb z.0 q) (λ (y : ℕ × _). y.0) zs in
+    grind arith
+
+-- a picture is in the group of its number
+number_lists : (k : ℕ) (zs : List (ℕ × ℕ)) (p : ℕ) → in_order zs ≡ true → lists (pictures_of (suc k) zs) p ≡ eqb (at 0 zs p) (suc k)
+number_lists k [] p h = grind (arith, nat_tests)
+number_lists k (z ∷ zs) p h =
+    let rest = number_lists k zs p (and_parts _ _ h).1 in
+    let none = at_above 0 zs z.0 (and_parts _ _ h).0 in
+    grind (arith, nat_tests)
+
+find_number : (gs : List Fragment) (n p : ℕ) → ((k : ℕ) → k < length gs → n ≡ suc k → lists (get_or gs k nothing).pictures p ≡ true) → ((k : ℕ) → k < length gs → (n ≡ suc k → ⊥) → lists (get_or gs k nothing).pictures p ≡ false) → or_star [] (find gs p) ≡ entries_at (nothing ∷ gs) n
+find_number [] zero p here other = refl
+find_number [] (suc n) p here other = refl
+find_number (g ∷ gs) (suc zero) p here other = ap (or_star []) (find_here g gs p (here 0 (omega arith) refl))
+find_number (g ∷ gs) zero p here other =
+    ap (or_star []) (find_later g gs p (other 0 (omega arith) (λ e. absurd (omega (arith, e)))))
+    ∙ find_number gs zero p (λ k l e. absurd (omega (arith, e))) (λ k l e. other (suc k) (omega (arith, l)) (λ d. absurd (omega (arith, d))))
+find_number (g ∷ gs) (suc (suc n)) p here other =
+    ap (or_star []) (find_later g gs p (other 0 (omega arith) (λ e. absurd (omega (arith, e)))))
+    ∙ find_number gs (suc n) p (λ k l e. here (suc k) (omega (arith, l)) (ap suc e)) (λ k l e. other (suc k) (omega (arith, l)) (λ d. e (omega (arith, d))))
+
+groups_from : (gs : List Fragment) → ((k : ℕ) → k < length gs → is_group [] (get_or gs k nothing) ≡ true) → ((j k : ℕ) → j < k → k < length gs → goes_before (get_or gs j nothing) (get_or gs k nothing) ≡ true) → are_groups [] gs ≡ true
+groups_from [] each before = refl
+groups_from (g ∷ gs) each before =
+    and_from _ _ (and_from _ _ (each 0 (omega arith)) (all_from (λ (h : Fragment). goes_before g h) gs nothing (λ k l. before 0 (suc k) (omega arith) (omega (arith, l)))))
+    (groups_from gs (λ k l. each (suc k) (omega (arith, l))) (λ j k l m. before (suc j) (suc k) (omega (arith, l)) (omega (arith, m))))
+
+all_listed : (test : ℕ → Bool) (ps : List ℕ) → ((p : ℕ) → lists ps p ≡ true → test p ≡ true) → list_all test ps ≡ true
+all_listed test [] h = refl
+all_listed test (p ∷ ps) h = and_from _ _ (h p (lists_head p ps)) (all_listed test ps (λ q l. h q (or_right (eqb p q) (lists ps q) l)))
+
+module _ {table : List (ℕ × List Entry)} {gs : List Fragment} {index : List (ℕ × ℕ)} (h : IsGathered table [] gs index) (differ : AllDiffer gs) (order : in_order table ≡ true) (positive : keys_pass (λ p. ltb 0 p) table ≡ true) (vectors : (p : ℕ) → is_vector (at [] table p) ≡ true) where
+  abbrev us : List Fragment
+  us = star_first [] gs
+
+  reads : each (entries_at us) index ≡ table
+  reads = sym (append-nil (each (entries_at us) index)) ∙ h.vectors
+
+  index_order : in_order index ≡ true
+  index_order = sym (each_order (entries_at us) index) ∙ ap in_order reads ∙ order
+
+  index_positive : keys_pass (λ p. ltb 0 p) index ≡ true
+  index_positive = sym (each_keys (entries_at us) (λ p. ltb 0 p) index) ∙ ap (keys_pass (λ p. ltb 0 p)) reads ∙ positive
+
+  vector_at : (p : ℕ) → entries_at us (at 0 index p) ≡ at [] table p
+  vector_at p = sym (each_at (entries_at us) 0 index p) ∙ ap (λ ts. at [] ts p) reads
+
+  listed_at : (k p : ℕ) → lists (pictures_at gs k) p ≡ eqb (at 0 index p) (suc k)
+  listed_at k p = ap (λ ps. lists ps p) (h.pictures k) ∙ number_lists k index p index_order
+
+  number_is : (k p : ℕ) → lists (pictures_at gs k) p ≡ true → at 0 index p ≡ suc k
+  number_is k p l = eqb-true (at 0 index p) (suc k) (sym (listed_at k p) ∙ l)
+
+  pub gathered_named : (k : ℕ) → k < length gs → entries_at gs k ≡ at [] table (first (pictures_at gs k))
+  gathered_named k l = ap (entries_at us) (sym (number_is k (first (pictures_at gs k)) (first_listed (pictures_at gs k) (h.some k l).0))) ∙ vector_at (first (pictures_at gs k))
+
+  is_one : (k : ℕ) → k < length gs → is_group [] (get_or gs k nothing) ≡ true
+  is_one k l =
+      let some = h.some k l in
+      let pictures = h.pictures k in
+      let rising = rise (filter (λ z. eqb z.1 (suc k)) index) (order_kept (λ z. eqb z.1 (suc k)) index index_order) in
+      let above = list_all-map (λ p. ltb 0 p) (λ (z : ℕ × ℕ). z.0) (filter (λ z. eqb z.1 (suc k)) index) ∙ all_kept (λ z. ltb 0 z.0) (λ z. eqb z.1 (suc k)) index index_positive in
+      let vector = ap is_vector (gathered_named k l) ∙ vectors (first (pictures_at gs k)) in
+      grind arith
+
+  are_apart : (j k : ℕ) → j < k → k < length gs → goes_before (get_or gs j nothing) (get_or gs k nothing) ≡ true
+  are_apart j k l m =
+      let none : (p : ℕ) → lists (pictures_at gs k) p ≡ true → not (lists (pictures_at gs j) p) ≡ true = λ p there.
+      let number = number_is k p there in
+      let lists_is = listed_at j p in
+      grind (arith, nat_tests) in
+      let other : not (same_entries (entries_at gs j) (entries_at gs k)) ≡ true =
+      let same = (entries_decide (entries_at gs j) (entries_at gs k)).0 in
+      let apart = differ j k l m in
+      grind (arith, nat_tests) in
+      and_from _ _ (lt-ltb _ _ (h.order j k l m)) (and_from _ _ other (all_listed _ (pictures_at gs k) none))
+
+  pub gathered_normal : is_normal us ≡ true
+  gathered_normal = and_from _ _ refl (groups_from gs is_one are_apart)
+
+  known_is : (p : ℕ) → known us p ≡ entries_at us (at 0 index p)
+  known_is p = find_number gs (at 0 index p) p (λ k l e. listed_at k p ∙ eq-eqb (at 0 index p) (suc k) e) (λ k l e. listed_at k p ∙ ne_eqb (at 0 index p) (suc k) e)
+
+  pub gathered_index : IsIndex index us
+  gathered_index = record { order = index_order; positive = index_positive; range = h.range; vectors = λ p. sym (known_is p) }
+
+  pub gathered_known : (p : ℕ) → known us p ≡ at [] table p
+  gathered_known p = known_is p ∙ vector_at p
+
+-- Every table is gathered
+
+pub groups_of : (table left : List (ℕ × List Entry)) (gs : List Fragment) (index : List (ℕ × ℕ)) → in_order table ≡ true → list_all (λ t. not (same_entries [] t.1)) left ≡ true → IsGathered table left gs index → AllDiffer gs
+    → (us : List Fragment) × (zs : List (ℕ × ℕ)) × IsGathered table [] us zs × AllDiffer us
+groups_of table [] gs index order others h differ = (gs, index, h, differ)
+groups_of table (t ∷ left) gs index order others h differ = elim (cases_lt place (length gs)) [
+  | inl there ↦
+      let here = (entries_decide (entries_at gs place) t.1).0 (passes_at_first (λ g. same_entries g.entries t.1) gs nothing there) in
+      let added = group_grown t.0 t.1 gs _ place there here refl in
+      let long = length-set gs place (record { pictures = pictures_at gs place ++ t.0 ∷ []; entries = entries_at gs place }) in
+      groups_of table left _ (index ++ (t.0, place + 1) ∷ []) order (and_parts _ _ others).1 (one_gathered h refl order _ place _ added other refl)
+      (λ j k l m e. differ j k l (omega (arith, long, m)) (sym (added.kept j (omega (arith, long, l, m))) ∙ e ∙ added.kept k (omega (arith, long, m))))
+  | inr past ↦
+      groups_of table left (gs ++ of_one t.0 t.1 ∷ []) (index ++ (t.0, length gs + 1) ∷ []) order (and_parts _ _ others).1 (one_gathered h refl order _ (length gs) _ (group_begun t.0 t.1 gs _ (length gs) refl refl) other refl)
+      (λ j k l m e.
+      let was = differ j k l in
+      let unlike = fails_before_first (λ g. same_entries g.entries t.1) gs j nothing in
+      let decide = (entries_decide (entries_at gs j) t.1).1 in
+      grind (arith, common_steps))
 ]
+  where
+    place : ℕ
+    place = position_or_len (λ g. same_entries g.entries t.1) gs
 
-after_other : (star : List Entry) (p q : ℕ) (v : List Entry) (gs : List Fragment) → (p ≡ q → ⊥) → find (add_unless star p v gs) q ≡ find gs q
-after_other star p q v gs n = elim (cases_Bool (same_entries star v)) [
-  | inl same ↦ ap (λ hs. find hs q) (unless_same star p v gs same)
-  | inr other ↦ ap (λ hs. find hs q) (unless_other star p v gs other) ∙ find_others p q v gs n
-]
-
--- the vector of a picture in the table, or else d
-abbrev pub row_vector : (ℕ × ℕ → List Entry) → List (ℕ × (ℕ × ℕ)) → ℕ → List Entry → List Entry
-row_vector f [] q d = d
-row_vector f (r ∷ rs) q d = cond (eqb r.0 q) (f r.1) (row_vector f rs q d)
-
-pub row_none : (f : ℕ × ℕ → List Entry) (rs : List (ℕ × (ℕ × ℕ))) (p : ℕ) (d : List Entry) → keys_pass (λ q. ltb p q) rs ≡ true → row_vector f rs p d ≡ d
-row_none f [] p d h = refl
-row_none f (r ∷ rs) p d h =
-    let a = and_parts (ltb p r.0) (keys_pass (λ q. ltb p q) rs) h in
-    let less = ltb-true p r.0 a.0 in
-    rw (ne_eqb r.0 p (λ s. absurd (omega arith))) (row_none f rs p d a.1)
-
-pub gathered_find : (star : List Entry) (f : ℕ × ℕ → List Entry) (rs : List (ℕ × (ℕ × ℕ))) (gs : List Fragment) (q : ℕ) → Ready star f rs gs → or_star star (find (gathered star f rs gs) q) ≡ row_vector f rs q (or_star star (find gs q))
-gathered_find star f [] gs q h = refl
-gathered_find star f (r ∷ rs) gs q h =
-    let parts = ready_parts star f r rs gs h in
-    let next = add_unless star r.0 (f r.1) gs in
-    let rest = gathered_find star f rs next q parts.next in
-    elim (cases_eq r.0 q) [
-      | inl same ↦
-          rest
-          ∙ (row_none f rs q (or_star star (find next q)) (subst (λ n. keys_pass (λ k. ltb n k) rs ≡ true) same parts.above)
-          ∙ (subst (λ n. or_star star (find next n) ≡ f r.1) same (after_row star r.0 (f r.1) gs parts.new)
-          ∙ rw (eq-eqb r.0 q same) refl))
-      | inr other ↦
-          rest
-          ∙ (ap (λ o. row_vector f rs q (or_star star o)) (after_other star r.0 q (f r.1) gs other)
-          ∙ rw (ne_eqb r.0 q other) refl)
-    ]
-
-pub row_vector_at : (f : ℕ × ℕ → List Entry) (rs : List (ℕ × (ℕ × ℕ))) (q : ℕ) → row_vector f rs q (f (0, 0)) ≡ f (at (0, 0) rs q)
-row_vector_at f [] q = refl
-row_vector_at f (r ∷ rs) q = elim (cases_eq r.0 q) [
-  | inl same ↦ rw (eq-eqb r.0 q same) refl
-  | inr other ↦ rw (ne_eqb r.0 q other) (row_vector_at f rs q)
-]
+    other : same_entries [] t.1 ≡ false
+    other = not-true _ (and_parts _ _ others).0

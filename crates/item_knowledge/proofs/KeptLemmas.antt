@@ -1,19 +1,19 @@
 -- What is kept denotes what is known.
-use Rattle.std.proofs.Common.{◌≡◌, ℕ, ◌+◌, ◌<◌, Bool, true, false, leb, eqb, max, cond, ◌&&◌, ◌||◌, List, [], ◌∷◌, length, refl, sym, subst, ap, ◌∙◌, inl, inr, arith}
+use Rattle.std.proofs.Common.{◌≡◌, ℕ, ◌+◌, ◌<◌, Bool, true, leb, ltb, max, cond, ◌||◌, ◌↔◌, List, [], ◌∷◌, length, refl, sym, subst, ap, ◌∙◌, arith}
 use Rattle.std.specs.List.{list_all}
-use Rattle.std.proofs.Math.Bool.{or_comm}
-use Rattle.std.proofs.lemmas.Bool.{and_parts, and_from, le-leb, eq-eqb, ne_eqb, cases_Bool, cases_eq, false≢true}
+use Rattle.std.proofs.Math.Bool.{or-true, or_comm}
+use Rattle.std.proofs.lemmas.Bool.{and_parts, and_from, false≢true}
 use Rattle.std.proofs.lemmas.Bool.Decides.{nat_tests}
 use Rattle.photo_version.specs.Author.{Author, same_author, author_word}
 use Rattle.photo_version.specs.Version.{Version, same_version}
-use Rattle.item_knowledge.specs.Tables.{at}
+use Rattle.item_knowledge.specs.Tables.{keys_pass, in_order, at}
 use Rattle.item_knowledge.specs.Entries.{Entry, denotes, is_vector, bound, leq}
 use Rattle.item_knowledge.specs.Fragments.{Fragment, knows, is_normal, entries_at}
 use Rattle.item_knowledge.specs.Rows.{fragments_of}
 use Rattle.item_knowledge.specs.Gathering.{vector_of, IsSide, IsUnion}
 use Rattle.item_knowledge.specs.Spare.{IsJoined}
 use Rattle.item_knowledge.specs.Kept.{IsKept, is_side_within, star_bound}
-use Rattle.item_knowledge.proofs.EntryLemmas.{denotes-bound}
+use Rattle.item_knowledge.proofs.EntryLemmas.{bound_by, denotes-bound}
 use Rattle.item_knowledge.proofs.FragmentLemmas.{normal_parts, leq_at, leq_denotes, star_of_every}
 use Rattle.item_knowledge.proofs.JoinLemmas.{leq_from}
 use Rattle.item_knowledge.proofs.ExcessLemmas.{at_number}
@@ -28,24 +28,6 @@ number_below fs xs p h = at_number xs (length fs) p h.star h.range
 pub kept_knows : (rows : List (List ℕ)) (xs : List (ℕ × ℕ)) (p : ℕ) (v : Version) → IsKept rows xs → knows (fragments_of rows) p v ≡ denotes (vector_of (fragments_of rows) xs p) v
 kept_knows rows xs p v h = knows_vector (fragments_of rows) p v h.normal ∙ ap (λ es. denotes es v) (sym (h.index.vectors p))
 
-pub kept_bound : (rows : List (List ℕ)) (xs : List (ℕ × ℕ)) (p : ℕ) (v : Version) → IsKept rows xs → 0 < v.number → knows (fragments_of rows) p v ≡ leb v.number (bound (vector_of (fragments_of rows) xs p) (author_word v.author))
-kept_bound rows xs p v h z =
-    kept_knows rows xs p v h
-    ∙ (denotes-bound (vector_of (fragments_of rows) xs p) v (side_vector (fragments_of rows) xs p (kept_side rows xs h))
-    ∙ positive v.number (bound (vector_of (fragments_of rows) xs p) (author_word v.author)) z)
-  where
-    positive : (n b : ℕ) → 0 < n → (leb 1 n && leb n b) ≡ leb n b
-    positive n b z = grind (arith, nat_tests)
-
--- the same, of what is known and by the number that was found
-pub number_known : (rows : List (List ℕ)) (xs : List (ℕ × ℕ)) (now : List Fragment) (p n : ℕ) → IsKept rows xs → fragments_of rows ≡ now → n ≡ at 0 xs p → n < length now
-number_known rows xs now p n h is e = subst (λ fs. n < length fs) is (subst (λ m. m < length (fragments_of rows)) (sym e) (number_below (fragments_of rows) xs p (kept_side rows xs h)))
-
-pub has_known : (rows : List (List ℕ)) (xs : List (ℕ × ℕ)) (now : List Fragment) (p n : ℕ) (v : Version) → IsKept rows xs → fragments_of rows ≡ now → n ≡ at 0 xs p → 0 < v.number → leb v.number (bound (entries_at now n) (author_word v.author)) ≡ knows now p v
-has_known rows xs now p n v h is e z =
-    (λ i. leb v.number (bound (entries_at (sym is i) (e i)) (author_word v.author)))
-    ∙ (sym (kept_bound rows xs p v h z) ∙ ap (λ fs. knows fs p v) is)
-
 -- the fragment to which the index leads
 pub record IsOf (fs now : List Fragment) (p n : ℕ) : Type 0 where
   pub there : n < length fs
@@ -58,6 +40,16 @@ is_of rows xs now p n h is e = subst (IsOf (fragments_of rows) now p) (sym e) (r
   vector = side_vector (fragments_of rows) xs p (kept_side rows xs h);
   known = λ v. sym (kept_knows rows xs p v h) ∙ ap (λ fs. knows fs p v) is;
 })
+
+-- the same by what is known
+pub number_known : (rows : List (List ℕ)) (xs : List (ℕ × ℕ)) (now : List Fragment) (p n : ℕ) → IsKept rows xs → fragments_of rows ≡ now → n ≡ at 0 xs p → n < length now
+number_known rows xs now p n h is e = subst (λ fs. n < length fs) is (is_of rows xs now p n h is e).there
+
+pub has_known : (rows : List (List ℕ)) (xs : List (ℕ × ℕ)) (now : List Fragment) (p n : ℕ) (v : Version) → IsKept rows xs → fragments_of rows ≡ now → n ≡ at 0 xs p → 0 < v.number → leb v.number (bound (entries_at now n) (author_word v.author)) ≡ knows now p v
+has_known rows xs now p n v h is e z =
+    let of = is_of rows xs now p n h is e in
+    subst (λ fs. leb v.number (bound (entries_at fs n) (author_word v.author)) ≡ knows now p v) is
+    (grind (arith, nat_tests, of.known v, denotes-bound (entries_at (fragments_of rows) n) v of.vector))
 
 -- the vector of a fragment
 pub kept_vector : (rows : List (List ℕ)) (xs : List (ℕ × ℕ)) (k : ℕ) → IsKept rows xs → k < length (fragments_of rows) → is_vector (entries_at (fragments_of rows) k) ≡ true
@@ -73,21 +65,13 @@ joins rows xs now gs us ys zs h is u = subst (λ fs. IsJoined fs gs ys us) is (r
 -- Inclusion
 
 pub leq_trans : (xs ys zs : List Entry) → is_vector xs ≡ true → leq xs ys ≡ true → leq ys zs ≡ true → leq xs zs ≡ true
-leq_trans xs ys zs h l m = leq_from xs zs h (λ a.
-    let p = leq_at xs ys a l in
-    let q = leq_at ys zs a m in
-    omega arith)
+leq_trans xs ys zs h l m = leq_from xs zs h (λ a. omega (arith, leq_at xs ys a l, leq_at ys zs a m))
 
 leq_along : (fs gs : List Fragment) (ys : List (ℕ × ℕ)) (p : ℕ) (xs : List (ℕ × ℕ)) → list_all (λ r. leq (entries_at fs r.1) (vector_of gs ys r.0)) xs ≡ true → leq (entries_at fs 0) (vector_of gs ys p) ≡ true → leq (entries_at fs (at 0 xs p)) (vector_of gs ys p) ≡ true
 leq_along fs gs ys p [] h s = s
-leq_along fs gs ys p (x ∷ xs) h s =
-    let a = and_parts (leq (entries_at fs x.1) (vector_of gs ys x.0)) (list_all (λ r. leq (entries_at fs r.1) (vector_of gs ys r.0)) xs) h in
-    elim (cases_eq x.0 p) [
-      | inl same ↦ rw (eq-eqb x.0 p same) (subst (λ n. leq (entries_at fs x.1) (vector_of gs ys n) ≡ true) same a.0)
-      | inr other ↦ rw (ne_eqb x.0 p other) (leq_along fs gs ys p xs a.1 s)
-    ]
+leq_along fs gs ys p (x ∷ xs) h s = grind (arith, nat_tests, leq_along fs gs ys p xs)
 
-pub within_leq : (fs gs : List Fragment) (xs ys : List (ℕ × ℕ)) (p : ℕ) → IsSide fs xs → IsSide gs ys → is_side_within fs xs gs ys ≡ true → leq (vector_of fs xs p) (vector_of gs ys p) ≡ true
+within_leq : (fs gs : List Fragment) (xs ys : List (ℕ × ℕ)) (p : ℕ) → IsSide fs xs → IsSide gs ys → is_side_within fs xs gs ys ≡ true → leq (vector_of fs xs p) (vector_of gs ys p) ≡ true
 within_leq fs gs xs ys p h g w =
     let a = and_parts (leq (entries_at fs 0) (entries_at gs 0)) (list_all (λ r. leq (entries_at fs r.1) (vector_of gs ys r.0)) xs) w in
     leq_along fs gs ys p xs a.1
@@ -101,53 +85,57 @@ within_knows rows others xs ys h g w p v =
     let s = kept_side rows xs h in
     let t = kept_side others ys g in
     let e = leq_denotes (vector_of gs ys p) (vector_of fs xs p) v (side_vector gs ys p t) (side_vector fs xs p s) (within_leq gs fs ys xs p t s w) in
-    let both : (knows fs p v || knows gs p v) ≡ (denotes (vector_of fs xs p) v || denotes (vector_of gs ys p) v) = (λ i. kept_knows rows xs p v h i || kept_knows others ys p v g i) in
-    kept_knows rows xs p v h ∙ (sym e ∙ (or_comm (denotes (vector_of gs ys p) v) (denotes (vector_of fs xs p) v) ∙ sym both))
+    rw (kept_knows rows xs p v h, kept_knows others ys p v g) (sym e ∙ or_comm (denotes (vector_of gs ys p) v) (denotes (vector_of fs xs p) v))
 
--- The star's next version
+-- a vector is at most another that denotes all that it denotes
+leq_by : (xs ys : List Entry) → is_vector xs ≡ true → is_vector ys ≡ true → ((v : Version) → denotes xs v ≡ true → denotes ys v ≡ true) → leq xs ys ≡ true
+leq_by xs ys hx hy h = leq_from xs ys hx (λ a. bound_by xs ys hx hy h a)
 
-next_one : (n m b : ℕ) → m ≡ b + 1 → (leb 1 n && leb n b) ≡ false → ((leb 1 n && leb n m) || false) ≡ eqb m n
-next_one n m b e h = grind (arith, nat_tests)
+-- a test of all rows of a table in order is one of all that stand beside a number
+each_row : (test : ℕ × ℕ → Bool) (xs : List (ℕ × ℕ)) (m : ℕ) → keys_pass (λ k. ltb m k) xs ≡ true → in_order xs ≡ true → ((r : ℕ × ℕ) → m < r.0 → at 0 xs r.0 ≡ r.1 → test r ≡ true) → list_all test xs ≡ true
+each_row test [] m k o h = refl
+each_row test (x ∷ xs) m k o h = grind (arith, nat_tests, h x, each_row test xs x.0, (λ (r : ℕ × ℕ) (l : x.0 < r.0) (e : at 0 xs r.0 ≡ r.1). h r (grind (arith, nat_tests)) (grind (arith, nat_tests))))
 
+-- the star's vector, and what it has
 pub star_vector : (fs : List Fragment) → is_normal fs ≡ true → is_vector (entries_at fs 0) ≡ true
 star_vector [] h = absurd (false≢true h)
 star_vector (s ∷ gs) h = (normal_parts s gs h).vector
+
+within_from : (rows others : List (List ℕ)) (xs ys : List (ℕ × ℕ)) → IsKept rows xs → IsKept others ys → ((p : ℕ) (v : Version) → 0 < p → knows (fragments_of others) p v ≡ true → knows (fragments_of rows) p v ≡ true) → is_side_within (fragments_of others) ys (fragments_of rows) xs ≡ true
+within_from rows others xs ys h g all =
+    let fs = fragments_of rows in
+    let gs = fragments_of others in
+    and_from _ _
+    (leq_by (entries_at gs 0) (entries_at fs 0) (star_vector gs g.normal) (star_vector fs h.normal) (λ v d. (star_of_every fs h.normal v).1 (λ p z. all p v z ((star_of_every gs g.normal v).0 d p z))))
+    (each_row (λ r. leq (entries_at gs r.1) (vector_of fs xs r.0)) ys 0 g.index.positive g.index.order (λ r z e.
+    subst (λ n. leq (entries_at gs n) (vector_of fs xs r.0) ≡ true) e
+    (leq_by (vector_of gs ys r.0) (vector_of fs xs r.0) (side_vector gs ys r.0 (kept_side others ys g)) (side_vector fs xs r.0 (kept_side rows xs h))
+    (λ v d. sym (kept_knows rows xs r.0 v h) ∙ all r.0 v z (kept_knows others ys r.0 v g ∙ d)))))
+
+pub within_pairs : (rows others : List (List ℕ)) (xs ys : List (ℕ × ℕ)) → IsKept rows xs → IsKept others ys → (is_side_within (fragments_of others) ys (fragments_of rows) xs ≡ true) ↔ ((p : ℕ) (v : Version) → 0 < p → knows (fragments_of others) p v ≡ true → knows (fragments_of rows) p v ≡ true)
+within_pairs rows others xs ys h g = (
+  λ w p v z k. within_knows rows others xs ys h g w p v ∙ (ap (λ b. knows (fragments_of rows) p v || b) k ∙ or-true (knows (fragments_of rows) p v)),
+  λ all. within_from rows others xs ys h g all,
+)
+
+-- The star's next version
 
 -- what the star has is known of every picture
 pub star_has : (rows : List (List ℕ)) (xs : List (ℕ × ℕ)) (now : List Fragment) (p : ℕ) (v : Version) → IsKept rows xs → fragments_of rows ≡ now → 0 < v.number → 0 < p → leb v.number (bound (entries_at now 0) (author_word v.author)) ≡ true → knows now p v ≡ true
 star_has rows xs now p v h is above z l =
     let normal = subst (λ fs. is_normal fs ≡ true) is h.normal in
-    (star_of_every now normal v).0
-    (denotes-bound (entries_at now 0) v (star_vector now normal) ∙ and_from _ _ (le-leb 1 v.number (omega arith)) l) p z
+    (star_of_every now normal v).0 (grind (arith, nat_tests, denotes-bound (entries_at now 0) v (star_vector now normal))) p z
 
 -- an author's versions up to the next one are those that the star has, and the next one
 pub next_known : (fs : List Fragment) (w : Version) (p : ℕ) (v : Version) → is_normal fs ≡ true → 0 < p → w.number ≡ star_bound fs w.author + 1 → (knows fs p v || denotes ((author_word w.author, w.number) ∷ []) v) ≡ (knows fs p v || same_version w v)
-next_known fs w p v h z e = by (knows fs p v) refl
-  where
-    by : (b : Bool) → knows fs p v ≡ b → (b || denotes ((author_word w.author, w.number) ∷ []) v) ≡ (b || same_version w v)
-    by true k = refl
-    by false k =
-        let none : denotes (entries_at fs 0) v ≡ false = elim (cases_Bool (denotes (entries_at fs 0) v)) [
-          | inl d ↦ absurd (false≢true (sym k ∙ (star_of_every fs h v).0 d p z))
-          | inr n ↦ n
-        ] in
-        let bounds : (leb 1 v.number && leb v.number (bound (entries_at fs 0) (author_word v.author))) ≡ false = sym (denotes-bound (entries_at fs 0) v (star_vector fs h)) ∙ none in
-        elim (cases_eq (author_word w.author) (author_word v.author)) [
-          | inl same ↦ rw (eq-eqb (author_word w.author) (author_word v.author) same) (next_one v.number w.number (bound (entries_at fs 0) (author_word v.author)) (e ∙ ap (λ a. bound (entries_at fs 0) a + 1) same) bounds)
-          | inr other ↦ rw (ne_eqb (author_word w.author) (author_word v.author) other) refl
-        ]
+next_known fs w p v h z e =
+    let every : denotes (entries_at fs 0) v ≡ true → knows fs p v ≡ true = λ d. (star_of_every fs h v).0 d p z in
+    grind (arith, nat_tests, every, denotes-bound (entries_at fs 0) v (star_vector fs h))
 
 -- The star's bounds
 
 pub star_within : (fs gs : List Fragment) (xs ys : List (ℕ × ℕ)) (a : Author) → is_side_within fs xs gs ys ≡ true → star_bound gs a ≡ max (star_bound gs a) (star_bound fs a)
-star_within fs gs xs ys a w =
-    let le = leq_at (entries_at fs 0) (entries_at gs 0) (author_word a) (and_parts (leq (entries_at fs 0) (entries_at gs 0)) (list_all (λ r. leq (entries_at fs r.1) (vector_of gs ys r.0)) xs) w).0 in
-    omega arith
+star_within fs gs xs ys a w = grind (arith, nat_tests, leq_at (entries_at fs 0) (entries_at gs 0) (author_word a))
 
 pub star_next : (fs : List Fragment) (w a : Author) (n : ℕ) → n ≡ star_bound fs w + 1 → max (star_bound fs a) (bound ((author_word w, n) ∷ []) (author_word a)) ≡ cond (same_author w a) n (star_bound fs a)
-star_next fs w a n e = elim (cases_eq (author_word w) (author_word a)) [
-  | inl same ↦
-      let here : star_bound fs w ≡ star_bound fs a = ap (λ k. bound (entries_at fs 0) k) same in
-      rw (eq-eqb (author_word w) (author_word a) same) (omega arith)
-  | inr other ↦ rw (ne_eqb (author_word w) (author_word a) other) (omega arith)
-]
+star_next fs w a n e = grind (arith, nat_tests)

@@ -5,18 +5,14 @@ pub mod TableLemmas
 pub mod MergeLemmas
 pub mod JoinLemmas
 pub mod RowLemmas
-pub mod AddLemmas
 pub mod GatherLemmas
 pub mod ChainLemmas
 pub mod PlaceLemmas
 pub mod OnTheWay
-pub mod IndexLemmas
 pub mod UnionLemmas
-pub mod RaiseLemmas
 pub mod SearchLemmas
 pub mod KeptLemmas
 pub mod StagedLemmas
-pub mod WithinLemmas
 pub mod TableRowLemmas
 pub mod KnownLemmas
 pub mod NextLemmas
@@ -25,6 +21,5 @@ pub mod LiveLemmas
 pub mod SeenLemmas
 pub mod NormalLemmas
 pub mod ApartLemmas
-pub mod SpanLemmas
 pub mod WayLemmas
 pub mod StagedExamples

@@ -1,27 +1,52 @@
--- An author's next version, raised in place.
-use Rattle.std.proofs.Common.{◌≡◌, ℕ, ◌+◌, ◌<◌, ◌≤◌, true, ltb, max, ◌&&◌, ◌||◌, List, [], ◌∷◌, refl, sym, subst, ap, ◌∙◌, inl, inr, arith}
-use Rattle.std.proofs.lemmas.Bool.{and_from, lt-ltb, ltb-true, le-leb, cases_lt, false≢true, or_left, or_right}
+-- An author's next version, raised in place: where no fragment has the author above the star, that keeps the normal form.
+use Rattle.std.proofs.Common.{◌≡◌, ℕ, ◌+◌, ◌<◌, ◌≤◌, true, leb, ltb, max, ◌||◌, List, [], ◌∷◌, length, refl, sym, subst, ap, ◌∙◌, arith}
+use Rattle.std.proofs.lemmas.Bool.{and_from, lt-ltb, le-leb, false≢true, or_right}
+use Rattle.std.proofs.lemmas.Bool.Decides.{nat_tests}
 use Rattle.photo_version.specs.Author.{Author, author_word, is_author_word}
 use Rattle.photo_version.specs.Version.{Version, version}
-use Rattle.item_knowledge.specs.Entries.{Entry, denotes, most_number, is_vector, bound}
-use Rattle.item_knowledge.specs.Fragments.{Fragment, is_empty, first, lists, reaches, knows, are_groups, is_normal, entries_at}
-use Rattle.item_knowledge.specs.Gathering.{vector_of}
+use Rattle.item_knowledge.specs.Entries.{Entry, denotes, most_number, is_vector, bound, joined}
+use Rattle.item_knowledge.specs.Fragments.{Fragment, first, reaches, knows, are_groups, is_normal, nothing, entries_at}
+use Rattle.item_knowledge.specs.Gathering.{vector_of, IsIndex, IsUnion}
 use Rattle.item_knowledge.specs.Kept.{IsKept, star_bound}
 use Rattle.item_knowledge.specs.Raising.{IsWaiting, are_level, all_raised, star_of_one}
 use Rattle.item_knowledge.specs.Spare.{IsJoined, HasNext}
 use Rattle.item_knowledge.specs.Rows.{fragments_of, rows_of}
-use Rattle.item_knowledge.proofs.EntryLemmas.{denotes-bound}
-use Rattle.item_knowledge.proofs.FragmentLemmas.{groups_parts, normal_parts}
+use Rattle.item_knowledge.proofs.EntryLemmas.{denotes-bound, one_by_bounds}
+use Rattle.item_knowledge.proofs.ExcessLemmas.{entries_wholes, joined_normal, wholes_known, wholes_index}
+use Rattle.item_knowledge.proofs.FragmentLemmas.{groups_parts, normal_parts, leq_at}
+use Rattle.item_knowledge.proofs.JoinLemmas.{joined_bound, joined_denotes}
 use Rattle.item_knowledge.proofs.KeptLemmas.{joins, next_known, star_next}
+use Rattle.item_knowledge.proofs.MergeLemmas.{all_at}
 use Rattle.item_knowledge.proofs.PictureLemmas.{listed, first_listed}
-use Rattle.item_knowledge.proofs.RaiseLemmas.{raised_kept}
+use Rattle.item_knowledge.proofs.RowLemmas.{fragments_rows}
+use Rattle.item_knowledge.proofs.UnionLemmas.{above, knows_vector, normal_side, side_vector}
+
+-- Raised fragments are the union with the star of one entry
+
+-- vectors with the same bound of the author stay apart
+apart : (xs ys : List Entry) (e : Entry) → is_vector xs ≡ true → is_vector ys ≡ true → is_vector (e ∷ []) ≡ true → bound xs e.0 ≡ bound ys e.0 → joined xs (e ∷ []) ≡ joined ys (e ∷ []) → xs ≡ ys
+apart xs ys e hx hy he level h = one_by_bounds xs ys hx hy (λ c.
+    grind (arith, nat_tests, joined_bound xs (e ∷ []) c hx he, joined_bound ys (e ∷ []) c hy he, ap (λ es. bound es c) h))
+
+raised_union : (e : Entry) (fs : List Fragment) (xs : List (ℕ × ℕ)) → IsIndex xs fs → IsWaiting e fs → IsUnion fs xs (star_of_one e) [] (all_raised e fs) xs
+raised_union e fs xs i w =
+    let h = w.normal in
+    let one : is_vector (e ∷ []) ≡ true = and_from _ _ refl (and_from _ _ w.entry refl) in
+    let side = normal_side fs xs h i in
+    let level : (k : ℕ) → k < length fs → bound (entries_at fs k) e.0 ≡ bound (entries_at fs 0) e.0 = λ k l.
+    grind (arith, nat_tests, leq_at (entries_at fs 0) (entries_at fs k) e.0 (above fs xs k side l).above, all_at (λ (f : Fragment). leb (bound f.entries e.0) (bound (entries_at fs 0) e.0)) fs k nothing w.level l) in
+    let normal = joined_normal (λ es. bound es e.0 ≡ bound (entries_at fs 0) e.0) (e ∷ []) fs one h level (λ xs ys f g p q. apart xs ys e f g one (p ∙ sym q)) in
+    record {
+      normal = normal;
+      index = wholes_index (e ∷ []) fs xs h i;
+      star = λ a. ap (λ es. bound es a) (entries_wholes (e ∷ []) fs 0 side.star) ∙ joined_bound (entries_at fs 0) (e ∷ []) a (above fs xs 0 side side.star).vector one;
+      pairs = λ p v z.
+          knows_vector (all_raised e fs) p v normal
+          ∙ (ap (λ es. denotes es v) (wholes_known (e ∷ []) fs p h ∙ ap (λ es. joined es (e ∷ [])) (sym (i.vectors p)))
+          ∙ joined_denotes (vector_of fs xs p) (e ∷ []) v (side_vector fs xs p side) one);
+    }
 
 -- Where no version that is known has a number above b, no bound is above b
-
-last_denoted : (es : List Entry) (a : Author) → is_vector es ≡ true → 0 < bound es (author_word a) → denotes es (version a (bound es (author_word a))) ≡ true
-last_denoted es a h z =
-    let n = bound es (author_word a) in
-    denotes-bound es (version a n) h ∙ and_from _ _ (le-leb 1 (bound es (author_word a)) (omega arith)) (le-leb (bound es (author_word a)) (bound es (author_word a)) (omega arith))
 
 -- what is denoted by a fragment of a picture is known of it
 pub reached : (f : Fragment) (fs : List Fragment) (p : ℕ) (v : Version) → reaches f p ≡ true → denotes f.entries v ≡ true → knows (f ∷ fs) p v ≡ true
@@ -31,31 +56,25 @@ reached f fs p v here denoted = rw (here, denoted) refl
 abbrev pub Within : List Fragment → Author → ℕ → Type 0
 Within fs a b = (p n : ℕ) → 0 < p → knows fs p (version a n) ≡ true → n ≤ b
 
-level_one : (f : Fragment) (fs : List Fragment) (p : ℕ) (a : Author) (b : ℕ) → is_vector f.entries ≡ true → 0 < p → reaches f p ≡ true → Within (f ∷ fs) a b → bound f.entries (author_word a) ≤ b
-level_one f fs p a b vector z here each = elim (cases_lt 0 (bound f.entries (author_word a))) [
-  | inl some ↦ each p (bound f.entries (author_word a)) z (reached f fs p (version a (bound f.entries (author_word a))) here (last_denoted f.entries a vector some))
-  | inr none ↦ omega arith
-]
-
-within_rest : (f : Fragment) (fs : List Fragment) (a : Author) (b : ℕ) → Within (f ∷ fs) a b → Within fs a b
-within_rest f fs a b each = λ p n z h. each p n z (or_right (reaches f p && denotes f.entries (version a n)) (knows fs p (version a n)) h)
+level_one : (f : Fragment) (fs : List Fragment) (p : ℕ) (a : Author) (b : ℕ) → is_vector f.entries ≡ true → 0 < p → reaches f p ≡ true → Within (f ∷ fs) a b → leb (bound f.entries (author_word a)) b ≡ true
+level_one f fs p a b vector z here each =
+    let n = bound f.entries (author_word a) in
+    grind (arith, nat_tests, reached f fs p (version a n) here, each p n z, denotes-bound f.entries (version a n) vector)
 
 level_groups : (star : List Entry) (gs : List Fragment) (a : Author) (b : ℕ) → are_groups star gs ≡ true → Within gs a b → are_level gs (author_word a) b ≡ true
 level_groups star [] a b groups each = refl
 level_groups star (g ∷ gs) a b groups each =
-    let parts = groups_parts star g gs groups in
+    let group = (groups_parts star g gs groups).group in
     let p = first g.pictures in
-    let here = first_listed g.pictures parts.group.some in
-    let above = ltb-true 0 p (listed (λ q. ltb 0 q) g.pictures p parts.group.positive here) in
-    let reach : reaches g p ≡ true = or_right (is_empty g.pictures) (lists g.pictures p) here in
-    and_from _ _ (le-leb (bound g.entries (author_word a)) b (level_one g gs p a b parts.group.vector above reach each)) (level_groups star gs a b parts.rest (within_rest g gs a b each))
+    let here = first_listed g.pictures group.some in
+    and_from _ _ (level_one g gs p a b group.vector (grind (arith, nat_tests, listed (λ q. ltb 0 q) g.pictures p group.positive here)) (or_right _ _ here) each)
+    (level_groups star gs a b (groups_parts star g gs groups).rest (λ p n z h. each p n z (or_right _ _ h)))
 
 level_known : (fs : List Fragment) (a : Author) (b : ℕ) → is_normal fs ≡ true → Within fs a b → are_level fs (author_word a) b ≡ true
 level_known [] a b normal each = absurd (false≢true normal)
 level_known (s ∷ gs) a b normal each =
     let parts = normal_parts s gs normal in
-    let here : reaches s 1 ≡ true = or_left (is_empty s.pictures) (lists s.pictures 1) parts.star in
-    and_from _ _ (le-leb (bound s.entries (author_word a)) b (level_one s gs 1 a b parts.vector (omega arith) here each)) (level_groups s.entries gs a b parts.groups (within_rest s gs a b each))
+    and_from _ _ (level_one s gs 1 a b parts.vector (omega arith) (rw parts.star refl) each) (level_groups s.entries gs a b parts.groups (λ p n z h. each p n z (or_right _ _ h)))
 
 -- what a knowledge is that learned it
 pub record IsOwned (w : Version) (fs : List Fragment) (xs : List (ℕ × ℕ)) (out : List (List ℕ)) : Type 0 where
@@ -88,5 +107,9 @@ module _ (w : Version) (rows : List (List ℕ)) (xs : List (ℕ × ℕ)) (fs : L
 
   pub owned : (out : List (List ℕ)) → out ≡ rows_of (all_raised (a, n) (fragments_of rows)) → IsOwned w fs xs out
   owned out is =
-      let made = raised_kept (a, n) rows xs out h own_waiting is in
-      record { kept = made.kept; next = next_joined w fs fs (star_of_one (a, n)) (fragments_of out) [] refl normal next (λ i. star_of_one (word i, number i)) refl (joins rows xs fs (star_of_one (a, n)) (fragments_of out) [] xs h same made.union) }
+      let fragments : fragments_of out ≡ all_raised (a, n) (fragments_of rows) = ap fragments_of is ∙ fragments_rows (all_raised (a, n) (fragments_of rows)) in
+      let made : IsUnion (fragments_of rows) xs (star_of_one (a, n)) [] (fragments_of out) xs = subst (λ us. IsUnion (fragments_of rows) xs (star_of_one (a, n)) [] us xs) (sym fragments) (raised_union (a, n) (fragments_of rows) xs h.index own_waiting) in
+      record {
+        kept = record { rows = ap rows_of fragments ∙ sym is; normal = made.normal; index = made.index };
+        next = next_joined w fs fs (star_of_one (a, n)) (fragments_of out) [] refl normal next (λ i. star_of_one (word i, number i)) refl (joins rows xs fs (star_of_one (a, n)) (fragments_of out) [] xs h same made);
+      }

@@ -1,18 +1,18 @@
 -- Whatever is known of every picture, and of some besides, has a normal form: it is the union of what is known of each.
-use Rattle.std.proofs.Common.{◌≡◌, ℕ, ◌<◌, Bool, true, ltb, eqb, ◌&&◌, ◌||◌, List, [], ◌∷◌, refl, sym, ap, ◌∙◌, inl, inr, arith}
+use Rattle.std.proofs.Common.{◌≡◌, ℕ, ◌<◌, Bool, true, ltb, eqb, ◌&&◌, ◌||◌, List, [], ◌∷◌, refl, sym, ap, ◌∙◌, arith}
 use Rattle.std.specs.List.{list_any, list_all}
 use Rattle.std.proofs.Math.Bool.{or-false, or_assoc, or_comm}
-use Rattle.std.proofs.lemmas.Bool.{and_parts, and_from, eq-eqb, ne_eqb, cases_eq}
+use Rattle.std.proofs.lemmas.Bool.{and_parts, and_from}
+use Rattle.std.proofs.lemmas.Bool.Decides.{nat_tests}
 use Rattle.photo_version.specs.Version.{Version}
 use Rattle.item_knowledge.specs.Entries.{Entry, denotes, is_vector}
 use Rattle.item_knowledge.specs.Excess.{wholes}
 use Rattle.item_knowledge.specs.Fragments.{Fragment, knows, is_normal, nothing, entries_at}
 use Rattle.item_knowledge.specs.Gathering.{IsSide, IsIndex, vector_of}
 use Rattle.item_knowledge.specs.Laws.{is_told, pairs_of, IsTheNormalForm}
-use Rattle.item_knowledge.specs.Written.{index_of}
 use Rattle.item_knowledge.proofs.FragmentLemmas.{one_normal}
-use Rattle.item_knowledge.proofs.JoinLemmas.{joined_denotes, joined_left, joined_vector}
-use Rattle.item_knowledge.proofs.UnionLemmas.{normal_side, knows_vector, union_of, union_normal, union_index, whole_union}
+use Rattle.item_knowledge.proofs.JoinLemmas.{joined_denotes, joined_left, joined_vector, vector_order}
+use Rattle.item_knowledge.proofs.UnionLemmas.{normal_side, knows_vector, beyond, whole_union}
 
 -- what is known of one picture
 
@@ -34,13 +34,9 @@ one_side t h =
     }
 
 one_denoted : (t : ℕ × List Entry) (p : ℕ) (v : Version) → is_told t ≡ true → denotes (vector_of (wholes [] (one t)) (one_index t) p) v ≡ (eqb t.0 p && denotes t.1 v)
-one_denoted t p v h = elim (cases_eq t.0 p) [
-  | inl same ↦ rw (eq-eqb t.0 p same) (ap (λ es. denotes es v) (joined_left t.1 [] (and_parts (ltb 0 t.0) (is_vector t.1) h).1 refl refl))
-  | inr other ↦ rw (ne_eqb t.0 p other) refl
-]
-
-between : (a b c : Bool) → ((a || b) || c) ≡ (a || (c || b))
-between a b c = or_assoc a b c ∙ ap (λ x. a || x) (or_comm b c)
+one_denoted t p v h =
+    let same = joined_left t.1 (vector_order t.1 (and_parts (ltb 0 t.0) (is_vector t.1) h).1) in
+    grind (arith, nat_tests, ap (λ es. denotes es v) same)
 
 -- fragments that are, with the star, a normal form of some pairs
 record Form (every : List Entry) (pairs : ℕ → Version → Bool) : Type 0 where
@@ -69,13 +65,15 @@ form_of every (t ∷ some) h g =
     let made = form_of every some h parts.1 in
     let fs = made.fragments in
     let index = made.index in
+    let rest = λ (p : ℕ) (v : Version). list_any (λ u. eqb u.0 p && denotes u.1 v) some in
     let other = one_side t parts.0 in
-    let union = whole_union every fs (one t) index (one_index t) made.side other made.first refl every [] h refl (sym (joined_left every [] h refl refl)) in
+    let both = beyond every fs (one t) index (one_index t) made.side other made.first refl in
+    let union = whole_union every fs (one t) index (one_index t) made.side other made.first refl both.0 both.1 both.2 every [] h refl (sym (joined_left every (vector_order every h))) in
     record {
-      fragments = union_of every fs (one t) index (one_index t) made.side other made.first refl;
-      index = index_of every fs (one t) index (one_index t);
-      first = refl;
-      side = normal_side _ _ (union_normal every fs (one t) index (one_index t) made.side other made.first refl) (union_index every fs (one t) index (one_index t) made.side other made.first refl);
+      fragments = both.0;
+      index = both.1;
+      first = both.2.first;
+      side = normal_side both.0 both.1 both.2.normal both.2.index;
       normal = union.normal;
       indexed = union.index;
       denoted = λ p v z.
@@ -83,7 +81,7 @@ form_of every (t ∷ some) h g =
           ap (λ es. denotes es v) (made.indexed.vectors p) ∙ (sym (knows_vector (wholes every fs) p v made.normal) ∙ made.denoted p v z) in
           union.pairs p v z
           ∙ ((λ i. left i || one_denoted t p v parts.0 i)
-          ∙ between (denotes every v) (list_any (λ u. eqb u.0 p && denotes u.1 v) some) (eqb t.0 p && denotes t.1 v));
+          ∙ (or_assoc (denotes every v) (rest p v) (eqb t.0 p && denotes t.1 v) ∙ ap (λ b. denotes every v || b) (or_comm (rest p v) (eqb t.0 p && denotes t.1 v))));
     }
 
 pub has_one : (every : List Entry) (some : List (ℕ × List Entry)) → is_vector every ≡ true → list_all (λ t. is_told t) some ≡ true → (fs : List Fragment) × IsTheNormalForm fs (pairs_of every some)

@@ -5,15 +5,9 @@ use Rattle.item_knowledge.specs.Apart.{singles, spread_of, IsSpread}
 use Rattle.item_knowledge.specs.Entries.{Entry}
 use Rattle.item_knowledge.specs.Excess.{union_vector}
 use Rattle.item_knowledge.specs.Fragments.{Fragment}
-use Rattle.item_knowledge.specs.Gathering.{gathered, indexed}
 use Rattle.item_knowledge.specs.declared.pairing.Pairing.{Pairing}
 use Rattle.item_knowledge.specs.Pairing.{left_of}
 use Rattle.item_knowledge.specs.Rows.{fragments_of}
-
--- a table on the way: the groups so far with their index, and the rows that are left
-pub record IsGathered (star : List Entry) (f : ℕ × ℕ → List Entry) (rows : List (ℕ × (ℕ × ℕ))) (gs : List Fragment) (numbers : List (ℕ × ℕ)) (all : List Fragment) (every : List (ℕ × ℕ)) : Type 0 where
-  pub rest : gathered star f rows gs ≡ all
-  pub index : numbers ++ indexed star f rows gs ≡ every
 
 -- a union on the way: what is written, with a run of the left's fragments that is still to be written, and the rows that are left
 pub record IsOnTheWay (left right : List (List ℕ)) (xs ys : List (ℕ × ℕ)) (star : List Entry) (out : List (List ℕ)) (index joined : List (ℕ × ℕ)) (at : Pairing) (from to : ℕ) : Type 0 where

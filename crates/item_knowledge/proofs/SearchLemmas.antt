@@ -1,26 +1,26 @@
 -- Searches in tables.
-use Rattle.std.proofs.Common.{rules, ◌≡◌, ℕ, zero, suc, ◌+◌, ◌<◌, ◌≤◌, true, false, ltb, List, [], ◌∷◌, length, get_or, drop, refl, sym, subst, ap, ◌∙◌, inl, inr, arith, add-one}
+use Rattle.std.proofs.Common.{rules, ◌≡◌, ℕ, zero, suc, ◌+◌, ◌<◌, ◌≤◌, true, false, ltb, List, [], ◌∷◌, length, get_or, drop, refl, subst, ap, ◌∙◌, inl, inr, arith, drop-cons}
 use Rattle.std.specs.List.Sorted.{IsNonDecreasingBy, IsPartitionPoint}
-use Rattle.std.proofs.lemmas.Bool.{and_parts, and_from, lt-ltb, ltb-true, ltb-false, eq-eqb, ne_eqb, cases_lt, cases_eq}
+use Rattle.std.proofs.lemmas.Bool.{and_parts, ltb-true, ltb-false, cases_lt}
+use Rattle.std.proofs.lemmas.Bool.Decides.{nat_tests}
 use Rattle.std.proofs.lemmas.List.{drop_all}
 use Rattle.item_knowledge.specs.Tables.{keys_pass, in_order, at, merge}
-use Rattle.item_knowledge.specs.Rows.{IsAt}
 use Rattle.item_knowledge.proofs.MergeLemmas.{drop_next, all_at}
 use Rattle.item_knowledge.proofs.TableLemmas.{at_above, above_all, merge_left, merge_right, merge_both}
 
--- along a table in order the numbers don't fall
+-- along a table in order the numbers rise
 
 pub first_below : (k : ℕ) (xs : List (ℕ × ℕ)) (j : ℕ) (d : ℕ × ℕ) → keys_pass (λ n. ltb k n) xs ≡ true → j < length xs → k < (get_or xs j d).0
 first_below k xs j d h l = ltb-true k (get_or xs j d).0 (all_at (λ (x : ℕ × ℕ). ltb k x.0) xs j d h l)
 
+pub rise : (xs : List (ℕ × ℕ)) → in_order xs ≡ true → (i j : ℕ) (d : ℕ × ℕ) → i < j → j < length xs → (get_or xs i d).0 < (get_or xs j d).0
+rise [] h i j d le l = absurd (omega arith)
+rise (x ∷ xs) h i zero d le l = absurd (omega arith)
+rise (x ∷ xs) h zero (suc j) d le l = grind (arith, nat_tests, first_below x.0 xs j d)
+rise (x ∷ xs) h (suc i) (suc j) d le l = rise xs (and_parts (keys_pass (λ n. ltb x.0 n) xs) (in_order xs) h).1 i j d (omega arith) (omega arith)
+
 pub no_fall : (xs : List (ℕ × ℕ)) → in_order xs ≡ true → IsNonDecreasingBy (λ r. r.0) xs
-no_fall [] h i j d le l = absurd (omega arith)
-no_fall (x ∷ xs) h zero zero d le l = omega arith
-no_fall (x ∷ xs) h zero (suc j) d le l =
-    let less = first_below x.0 xs j d (and_parts (keys_pass (λ n. ltb x.0 n) xs) (in_order xs) h).0 (omega arith) in
-    omega arith
-no_fall (x ∷ xs) h (suc i) zero d le l = absurd (omega arith)
-no_fall (x ∷ xs) h (suc i) (suc j) d le l = no_fall xs (and_parts (keys_pass (λ n. ltb x.0 n) xs) (in_order xs) h).1 i j d (omega arith) (omega arith)
+no_fall xs h i j d le l = grind (arith, rise xs h i j d)
 
 -- smaller numbers stand before the first place, and none from the second on
 pub record IsBetween (p : ℕ) (xs : List (ℕ × ℕ)) (low high : ℕ) : Type 0 where
@@ -30,13 +30,13 @@ pub record IsBetween (p : ℕ) (xs : List (ℕ × ℕ)) (low high : ℕ) : Type 
 pub absent_at : (xs : List (ℕ × ℕ)) (p i : ℕ) → in_order xs ≡ true → IsBetween p xs i i → (i < length xs → (get_or xs i (0, 0)).0 ≡ p → ⊥) → at 0 xs p ≡ 0
 absent_at [] p i o h n = refl
 absent_at (x ∷ xs) p zero o h n =
-    let a = and_parts (keys_pass (λ k. ltb x.0 k) xs) (in_order xs) o in
     let le = h.from 0 (omega arith) (omega arith) in
-    rw (ne_eqb x.0 p (n (omega arith))) (at_above 0 xs p (above_all p x.0 xs le a.0))
+    let other = n (omega arith) in
+    grind (arith, nat_tests, at_above 0 xs p, above_all p x.0 xs)
 absent_at (x ∷ xs) p (suc i) o h n =
-    let a = and_parts (keys_pass (λ k. ltb x.0 k) xs) (in_order xs) o in
     let less = h.below 0 (omega arith) in
-    rw (ne_eqb x.0 p (λ same. absurd (omega arith))) (absent_at xs p i a.1 (record { below = λ k g. h.below (suc k) (omega arith); from = λ k g m. h.from (suc k) (omega arith) (omega arith) }) (λ l. n (omega arith)))
+    let rest : IsBetween p xs i i = record { below = λ k g. h.below (suc k) (omega arith); from = λ k g m. h.from (suc k) (omega arith) (omega arith) } in
+    grind (arith, nat_tests, absent_at xs p i (and_parts (keys_pass (λ k. ltb x.0 k) xs) (in_order xs) o).1 rest (λ l. n (omega arith)))
 
 pub is_place : (p : ℕ) (xs : List (ℕ × ℕ)) (i : ℕ) → IsPartitionPoint (λ r. ltb r.0 p ≡ true) (λ r. ltb r.0 p ≡ false) xs i → IsBetween p xs i i
 is_place p xs i h = record {
@@ -44,30 +44,9 @@ is_place p xs i h = record {
   from = λ k l m. ltb-false (get_or xs k (0, 0)).0 p (search (rules, h.1));
 }
 
--- The search by halves
-
-pub between_all : (p : ℕ) (xs : List (ℕ × ℕ)) (n : ℕ) → n ≡ length xs → IsBetween p xs 0 n
-between_all p xs n e = record { below = λ k l. absurd (omega arith); from = λ k l m. absurd (omega arith) }
-
-module _ (p : ℕ) (xs : List (ℕ × ℕ)) (low high i : ℕ) (o : in_order xs ≡ true) (h : IsBetween p xs low high) (l : i < length xs) where
-  pub between_above : (get_or xs i (0, 0)).0 < p → IsBetween p xs (i + 1) high
-  between_above less = record { below = λ k m. let up = no_fall xs o k i (0, 0) (omega arith) l in omega arith; from = h.from }
-
-  pub between_below : p ≤ (get_or xs i (0, 0)).0 → IsBetween p xs low i
-  between_below le = record { below = h.below; from = λ k m n. let up = no_fall xs o i k (0, 0) m n in omega arith }
-
-pub stands_at : (p : ℕ) (xs : List (ℕ × ℕ)) (i : ℕ) → in_order xs ≡ true → IsBetween p xs i i → 0 < at 0 xs p → IsAt xs i p
-stands_at p xs i o h some = elim (cases_lt i (length xs)) [
-  | inl there ↦ elim (cases_eq (get_or xs i (0, 0)).0 p) [
-    | inl same ↦ record { inside = there; author_is = same }
-    | inr other ↦ let none = absent_at xs p i o h (λ _. other) in absurd (omega arith)
-  ]
-  | inr over ↦ let none = absent_at xs p i o h (λ l. absurd (omega (arith, l))) in absurd (omega arith)
-]
-
 -- A table, from a place on
 
-pub order_from : (xs : List (ℕ × ℕ)) (i : ℕ) → in_order xs ≡ true → in_order (drop i xs) ≡ true
+order_from : (xs : List (ℕ × ℕ)) (i : ℕ) → in_order xs ≡ true → in_order (drop i xs) ≡ true
 order_from xs zero h = h
 order_from [] (suc i) h = refl
 order_from (x ∷ xs) (suc i) h = order_from xs i (and_parts (keys_pass (λ k. ltb x.0 k) xs) (in_order xs) h).1
@@ -80,27 +59,21 @@ above_next xs i d h l =
 
 pub none_from : (xs : List (ℕ × ℕ)) (i p : ℕ) (d : ℕ × ℕ) → in_order xs ≡ true → i < length xs → p < (get_or xs i d).0 → at 0 (drop i xs) p ≡ 0
 none_from xs i p d h l less =
-    ap (λ zs. at 0 zs p) (drop_next xs i d l)
-    ∙ at_above 0 (get_or xs i d ∷ drop (i + 1) xs) p (and_from _ _ (lt-ltb p (get_or xs i d).0 less) (above_all p (get_or xs i d).0 (drop (i + 1) xs) (omega arith) (above_next xs i d h l)))
+    let next = above_next xs i d h l in
+    grind (arith, nat_tests, drop_next xs i d l, at_above 0 (drop (i + 1) xs) p, above_all p (get_or xs i d).0 (drop (i + 1) xs))
 
 -- where a place has no greater number, nothing before it counts
 at_from : (xs : List (ℕ × ℕ)) (i q : ℕ) (d : ℕ × ℕ) → in_order xs ≡ true → i < length xs → (get_or xs i d).0 ≤ q → at 0 (drop i xs) q ≡ at 0 xs q
 at_from xs zero q d h l le = refl
 at_from [] (suc i) q d h l le = absurd (omega arith)
-at_from (x ∷ xs) (suc i) q d h l le =
-    let a = and_parts (keys_pass (λ k. ltb x.0 k) xs) (in_order xs) h in
-    let less = first_below x.0 xs i d a.0 (omega arith) in
-    at_from xs i q d a.1 (omega arith) le ∙ sym (rw (ne_eqb x.0 q (λ s. absurd (omega arith))) refl)
-
-passed_from : (xs : List (ℕ × ℕ)) (i q : ℕ) (d : ℕ × ℕ) → i < length xs → ((get_or xs i d).0 ≡ q → ⊥) → at 0 (drop i xs) q ≡ at 0 (drop (i + 1) xs) q
-passed_from xs i q d l n = ap (λ zs. at 0 zs q) (drop_next xs i d l) ∙ rw (ne_eqb (get_or xs i d).0 q n) refl
+at_from (x ∷ xs) (suc i) q d h l le = grind (arith, nat_tests, first_below x.0 xs i d, at_from xs i q d)
 
 pub found_there : (xs : List (ℕ × ℕ)) (p i : ℕ) (d : ℕ × ℕ) → in_order xs ≡ true → i < length xs → (get_or xs i d).0 ≡ p → (get_or xs i d).1 ≡ at 0 xs p
-found_there xs p i d h l s = sym (sym (at_from xs i p d h l (omega arith)) ∙ (ap (λ zs. at 0 zs p) (drop_next xs i d l) ∙ rw (eq-eqb (get_or xs i d).0 p s) refl))
+found_there xs p i d h l s = grind (arith, nat_tests, at_from xs i p d h l, drop_next xs i d l)
 
 -- where a place has a smaller number, nothing up to it counts
 pub behind_from : (xs : List (ℕ × ℕ)) (i q : ℕ) (d : ℕ × ℕ) → in_order xs ≡ true → i < length xs → (get_or xs i d).0 < q → at 0 (drop (suc i) xs) q ≡ at 0 xs q
-behind_from xs i q d h l less = rw (← add-one) (sym (passed_from xs i q d l (λ s. absurd (omega arith))) ∙ at_from xs i q d h l (omega arith))
+behind_from xs i q d h l less = grind (arith, nat_tests, at_from xs i q d h l, drop-cons xs i d l)
 
 -- What comes next of two tables that are gone along together
 
@@ -109,9 +82,9 @@ above_from : (n : ℕ) (xs : List (ℕ × ℕ)) (i : ℕ) (d : ℕ × ℕ) → i
 above_from n xs i d h f = elim (cases_lt i (length xs)) [
   | inl more ↦
       let less = f more in
-      subst (λ zs. keys_pass (λ k. ltb n k) zs ≡ true) (sym (drop_next xs i d more))
-      (and_from _ _ (lt-ltb n (get_or xs i d).0 less) (above_all n (get_or xs i d).0 (drop (i + 1) xs) (omega (arith, less)) (above_next xs i d h more)))
-  | inr over ↦ subst (λ zs. keys_pass (λ k. ltb n k) zs ≡ true) (sym (drop_all i xs over)) refl
+      let next = above_next xs i d h more in
+      grind (arith, nat_tests, drop_next xs i d more, above_all n (get_or xs i d).0 (drop (i + 1) xs))
+  | inr over ↦ rw (drop_all i xs over) refl
 ]
 
 module _ {C : Type 0} (alone : ℕ → C) (both : ℕ → C → C) (other : ℕ → C) (xs ys : List (ℕ × ℕ)) (i j : ℕ) (d e : ℕ × ℕ) (h : in_order xs ≡ true) (g : in_order ys ≡ true) where

@@ -1,5 +1,5 @@
 -- What is known and what is staged, as a knowledge keeps them.
-use Rattle.std.proofs.Common.{◌≡◌, ℕ, true, ◌||◌, List, Option, None, Some, IfSome, refl, sym, subst, ap, ◌∙◌}
+use Rattle.std.proofs.Common.{◌≡◌, ℕ, true, ◌||◌, List, Option, None, Some, IfSome, refl, sym, ap, ◌∙◌}
 use Rattle.std.specs.Option.{is_some}
 use Rattle.std.proofs.lemmas.Bool.{false≢true}
 use Rattle.item_knowledge.specs.Fragments.{Fragment, knows}
@@ -8,14 +8,11 @@ use Rattle.item_knowledge.specs.Gathering.{vector_of}
 use Rattle.item_knowledge.specs.Rows.{fragments_of}
 use Rattle.item_knowledge.specs.Kept.{IsKept, is_side_within}
 use Rattle.item_knowledge.specs.Spare.{IsJoined}
-use Rattle.item_knowledge.specs.Staged.{Knowing, settled, IsStagedUnion}
+use Rattle.item_knowledge.specs.Staged.{Knowing, IsStagedUnion}
 use Rattle.item_knowledge.proofs.KeptLemmas.{within_knows, star_within, kept_knows}
 
 pub known_of : {k l : Knowing} → k ≡ l → k.known ≡ l.known
 known_of e = ap (λ k. k.known) e
-
-pub staged_is : {k l : Knowing} → k ≡ l → k.staged ≡ l.staged
-staged_is e = ap (λ k. k.staged) e
 
 -- where all that the other knows is known, what is known is the union
 pub within_union : (rows others : List (List ℕ)) (xs ys : List (ℕ × ℕ)) → IsKept rows xs → IsKept others ys → is_side_within (fragments_of others) ys (fragments_of rows) xs ≡ true → IsStagedUnion (Some (fragments_of rows)) (fragments_of rows) (fragments_of others)
@@ -33,16 +30,3 @@ side_union (Some s) left others ys items g e there joined = record {
   star = joined.star;
   pairs = λ p v z. joined.pairs p v z ∙ ap (λ b. knows left p v || b) (ap (λ xs. denotes (vector_of (fragments_of others) xs p) v) e ∙ sym (kept_knows others ys p v g));
 }
-
--- what holds of what is staged holds of it once it is known
-pub committed : (staged : Option (List Fragment)) (then : Knowing) (P : List Fragment → Type 0) → is_some staged ≡ true → IfSome staged (λ s. then ≡ settled s) → IfSome staged P → P then.known
-committed None then P h e p = absurd (false≢true h)
-committed (Some s) then P h e p = subst P (sym (known_of e)) p
-
-pub committed_staged : (staged : Option (List Fragment)) (then : Knowing) → is_some staged ≡ true → IfSome staged (λ s. then ≡ settled s) → then.staged ≡ None
-committed_staged None then h e = absurd (false≢true h)
-committed_staged (Some s) then h e = staged_is e
-
-pub committed_union : (staged : Option (List Fragment)) (then : Knowing) (left right : List Fragment) → IsStagedUnion staged left right → IfSome staged (λ s. then ≡ settled s) → IsStagedUnion (Some then.known) left right
-committed_union None then left right h e = absurd (false≢true h.there)
-committed_union (Some s) then left right h e = subst (λ fs. IsStagedUnion (Some fs) left right) (sym (known_of e)) h

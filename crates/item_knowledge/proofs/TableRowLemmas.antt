@@ -1,5 +1,5 @@
 -- What is told of pictures, as rows.
-use Rattle.std.proofs.Common.{◌≡◌, ℕ, suc, ◌+◌, ◌<◌, ◌≤◌, Bool, true, ltb, max, ◌&&◌, ◌||◌, List, [], ◌∷◌, ◌++◌, length, take, refl, sym, subst, ap, ◌∙◌, inl, inr, arith, append_assoc, append-nil, Some}
+use Rattle.std.proofs.Common.{◌≡◌, ℕ, suc, ◌+◌, ◌<◌, ◌≤◌, Bool, true, ltb, max, ◌||◌, List, [], ◌∷◌, ◌++◌, length, take, refl, sym, subst, ap, ◌∙◌, arith, append_assoc, append-nil, Some}
 use Rattle.std.specs.List.{list_all, slice_get}
 use Rattle.std.proofs.lemmas.List.{length-append, length-map, map-append, take_more}
 use Rattle.std.proofs.lemmas.List.Folds.{list_all-append, list_all-map}
@@ -7,7 +7,8 @@ use Rattle.std.proofs.lemmas.Option.{slice_get_within, get_or_from_slice_get}
 use Rattle.std.proofs.Math.ListN.{get_or-append}
 use Rattle.std.proofs.Math.Seq.{get_or-append_seam}
 use Rattle.std.proofs.Math.Nat.{max-zero}
-use Rattle.std.proofs.lemmas.Bool.{and_parts, and_from, lt-ltb, eq-eqb, ne_eqb, cases_eq}
+use Rattle.std.proofs.lemmas.Bool.{and_from, lt-ltb}
+use Rattle.std.proofs.lemmas.Bool.Decides.{nat_tests}
 use Rattle.photo_version.specs.Author.{Author, author_word, author_before}
 use Rattle.photo_version.specs.Version.{Version}
 use Rattle.photo_version.specs.Vector as versions
@@ -35,27 +36,17 @@ words_above b bs = list_all-map (λ (e : Entry). ltb (author_word b.0) e.0) (λ 
 
 words_order : (bs : List Bound) → versions.is_vector bs ≡ true → in_order (entries_of bs) ≡ true
 words_order [] h = refl
-words_order (b ∷ bs) h =
-    let a = and_parts (ltb 0 b.1) (list_all (λ (c : Bound). author_before b.0 c.0) bs && versions.is_vector bs) h in
-    let r = and_parts (list_all (λ (c : Bound). author_before b.0 c.0) bs) (versions.is_vector bs) a.1 in
-    and_from _ _ (words_above b bs ∙ r.0) (words_order bs r.1)
+words_order (b ∷ bs) h = grind (arith, nat_tests, words_above b bs, words_order bs)
 
 pub bounds_vector : (bs : List Bound) → is_vector (entries_of bs) ≡ true → versions.is_vector bs ≡ true
 bounds_vector [] h = refl
 bounds_vector (b ∷ bs) h =
     let p = vector_parts (author_word b.0, b.1) (entries_of bs) h in
-    and_from _ _ (lt-ltb 0 b.1 p.positive) (and_from _ _ (sym (words_above b bs) ∙ p.above) (bounds_vector bs p.rest))
+    grind (arith, nat_tests, words_above b bs, bounds_vector bs)
 
 pub entries_denote : (bs : List Bound) (v : Version) → denotes (entries_of bs) v ≡ versions.denotes bs v
 entries_denote [] v = refl
 entries_denote (b ∷ bs) v = ap (λ r. versions.reaches b v || r) (entries_denote bs v)
-
-pub bounds_more : (out new : List Bound) (b : Bound) (now rest all : List Entry) → now ≡ (author_word b.0, b.1) ∷ rest → new ≡ out ++ b ∷ [] → entries_of out ++ now ≡ all → entries_of new ++ rest ≡ all
-bounds_more out new b now rest all step is h =
-    ap (λ bs. entries_of bs ++ rest) is
-    ∙ ap (λ es. es ++ rest) (map-append (λ (c : Bound). (author_word c.0, c.1)) out (b ∷ []))
-    ∙ append_assoc (entries_of out) ((author_word b.0, b.1) ∷ []) rest
-    ∙ ap (λ es. entries_of out ++ es) (sym step) ∙ h
 
 -- A row of all entries
 
@@ -95,30 +86,25 @@ one_told ts t rows new numbers more n h is pushed number z v =
 
 numbered_pass : (test : ℕ → Bool) (n : ℕ) (table : List (ℕ × List Bound)) → keys_pass test table ≡ true → keys_pass test (numbered n (told table)) ≡ true
 numbered_pass test n [] h = refl
-numbered_pass test n (t ∷ table) h =
-    let a = and_parts (test t.0) (keys_pass test table) h in
-    and_from _ _ a.0 (numbered_pass test (suc n) table a.1)
+numbered_pass test n (t ∷ table) h = grind (arith, nat_tests, numbered_pass test (suc n) table)
 
 numbered_order : (n : ℕ) (table : List (ℕ × List Bound)) → in_order table ≡ true → in_order (numbered n (told table)) ≡ true
 numbered_order n [] h = refl
-numbered_order n (t ∷ table) h =
-    let a = and_parts (keys_pass (λ k. ltb t.0 k) table) (in_order table) h in
-    and_from _ _ (numbered_pass (λ k. ltb t.0 k) (suc n) table a.0) (numbered_order (suc n) table a.1)
+numbered_order n (t ∷ table) h = grind (arith, nat_tests, numbered_pass (λ k. ltb t.0 k) (suc n) table, numbered_order (suc n) table)
 
 numbered_range : (n m : ℕ) (gs : List Fragment) → n + length gs ≤ m → list_all (λ (r : ℕ × ℕ). ltb r.1 m) (numbered n gs) ≡ true
 numbered_range n m [] l = refl
-numbered_range n m (g ∷ gs) l = and_from _ _ (lt-ltb n m (omega arith)) (numbered_range (suc n) m gs (omega arith))
+numbered_range n m (g ∷ gs) l = grind (arith, nat_tests, numbered_range (suc n) m gs)
 
 -- the vector of a picture that is told, which has none where it isn't
 found_told : (gs : List Fragment) (n : ℕ) (table : List (ℕ × List Bound)) (p : ℕ) → n ≡ length gs → 0 < n → entries_at gs 0 ≡ [] → entries_at (gs ++ told table) (at 0 (numbered n (told table)) p) ≡ entries_of (at [] table p)
 found_told gs n [] p e z s = ap (λ hs. entries_at hs 0) (append-nil gs) ∙ s
-found_told gs n (t ∷ table) p e z s = elim (cases_eq t.0 p) [
-  | inl same ↦ rw (eq-eqb t.0 p same) (ap (λ k. entries_at (gs ++ told_one t ∷ told table) k) e ∙ ap (λ (f : Fragment). f.entries) (get_or-append_seam gs (told_one t) (told table) nothing))
-  | inr other ↦ rw (ne_eqb t.0 p other)
-      (let many = length-append gs (told_one t ∷ []) in
-      ap (λ hs. entries_at hs (at 0 (numbered (suc n) (told table)) p)) (sym (append_assoc gs (told_one t ∷ []) (told table)))
-      ∙ found_told (gs ++ told_one t ∷ []) (suc n) table p (omega arith) (omega arith) (ap (λ (f : Fragment). f.entries) (get_or-append gs (told_one t ∷ []) nothing 0 (omega arith)) ∙ s))
-]
+found_told gs n (t ∷ table) p e z s =
+    let one = told_one t in
+    let here = ap (λ (f : Fragment). f.entries) (get_or-append_seam gs one (told table) nothing) in
+    let first = ap (λ (f : Fragment). f.entries) (get_or-append gs (one ∷ []) nothing 0 (omega arith)) ∙ s in
+    let rest = found_told (gs ++ one ∷ []) (suc n) table p (omega (arith, length-append gs (one ∷ []))) (omega arith) first in
+    grind (arith, nat_tests, append_assoc gs (one ∷ []) (told table))
 
 -- What is learned of a table
 
@@ -153,7 +139,7 @@ module _ {table : List (ℕ × List Bound)} {rows : List (List ℕ)} {numbers : 
     where
       above : (gs : List Fragment) → list_all (λ (f : Fragment). is_vector f.entries) gs ≡ true → list_all (λ (f : Fragment). is_above [] f) gs ≡ true
       above [] v = refl
-      above (g ∷ gs) v = let a = and_parts (is_vector g.entries) (list_all (λ (f : Fragment). is_vector f.entries) gs) v in and_from _ _ (and_from _ _ a.0 refl) (above gs a.1)
+      above (g ∷ gs) v = grind (arith, nat_tests, above gs)
 
   pub told_learned : (before known new : List Fragment) (xs : List (ℕ × ℕ)) → before ≡ known → xs ≡ numbers → IsJoined before (fragments_of rows) xs new → IsLearned table known new
   told_learned before known new xs same index j = record {

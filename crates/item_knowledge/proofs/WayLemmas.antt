@@ -1,46 +1,65 @@
 -- A union in which each picture has a fragment of its own, on the way along two indexes.
-use Rattle.std.proofs.Common.{◌≡◌, ℕ, suc, ◌+◌, ◌*◌, ◌<◌, ◌≤◌, true, false, ◌⊎◌, List, [], ◌∷◌, ◌++◌, length, get_or, drop, sym, subst, ap, ◌∙◌, inl, inr, arith, append_assoc, append-nil, length-append}
+use Rattle.std.proofs.Common.{◌≡◌, ℕ, suc, ◌+◌, ◌-◌, ◌*◌, ◌<◌, ◌≤◌, false, ◌⊎◌, List, [], ◌∷◌, ◌++◌, length, get_or, take, drop, refl, sym, subst, ap, ◌∙◌, inl, inr, arith, append_assoc, append-nil, length-append}
 use Rattle.std.proofs.Math.ListN.{get_or-append}
 use Rattle.std.proofs.Math.Seq.{get_or-append_seam}
 use Rattle.std.proofs.lemmas.Bool.{cases_Bool}
+use Rattle.std.proofs.lemmas.List.{length-drop, get_or-drop, take_more}
 use Rattle.fragment_arena.specs.Arena.{run}
-use Rattle.item_knowledge.specs.Apart.{singles, spread_of, FromLeft, IsListed, IsSpread, Stays}
+use Rattle.item_knowledge.specs.Apart.{singles, FromLeft, IsListed, IsSpread, Stays}
 use Rattle.item_knowledge.specs.Entries.{Entry, same_entries}
 use Rattle.item_knowledge.specs.Excess.{union_vector, IsExcess, AllDiffer}
 use Rattle.item_knowledge.specs.Fragments.{Fragment, nothing, entries_at}
-use Rattle.item_knowledge.specs.Gathering.{paired, star_first}
+use Rattle.item_knowledge.specs.Gathering.{star_first}
 use Rattle.item_knowledge.specs.declared.pairing.Pairing.{Pairing}
 use Rattle.item_knowledge.specs.Pairing.{left_of}
 use Rattle.item_knowledge.specs.Rows.{pairs, flat, IsRow, fragments_of}
-use Rattle.item_knowledge.proofs.ApartLemmas.{singles_same, singles_other, rows_snoc, numbered_snoc, numbered_length}
+use Rattle.item_knowledge.proofs.ApartLemmas.{rows_snoc, numbered_snoc, numbered_length}
 use Rattle.item_knowledge.proofs.FragmentLemmas.{entries_decide}
 use Rattle.item_knowledge.proofs.MergeLemmas.{snoc_each}
 use Rattle.item_knowledge.proofs.OnTheWay.{IsOnTheWay}
-use Rattle.item_knowledge.proofs.PlaceLemmas.{of_one}
+use Rattle.item_knowledge.proofs.GatherLemmas.{of_one}
 use Rattle.item_knowledge.proofs.RowLemmas.{pairs_flat, flat_row, entries_read, rows_read}
-use Rattle.item_knowledge.proofs.SpanLemmas.{run_more, nothing_pending}
+
+-- Runs of the left's fragments
+
+run_snoc : (rows : List (List ℕ)) (from to : ℕ) → from ≤ to → to < length rows → run rows from (to + 1) ≡ run rows from to ++ get_or rows to [] ∷ []
+run_snoc rows from to le lt =
+    let long = length-drop from rows in
+    let next : to + 1 - from ≡ (to - from) + 1 = omega arith in
+    let back : from + (to - from) ≡ to = omega arith in
+    ap (λ k. take k (drop from rows)) next
+    ∙ take_more (drop from rows) (to - from) [] (omega (arith, long, lt, le))
+    ∙ ap (λ ws. run rows from to ++ ws ∷ []) (get_or-drop from rows (to - from) [] ∙ ap (λ k. get_or rows k []) back)
+
+run_empty : (rows : List (List ℕ)) (to : ℕ) → run rows to to ≡ []
+run_empty rows to = let none : to - to ≡ 0 = omega arith in ap (λ k. take k (drop to rows)) none
+
+-- a run of fragments with one more
+run_more : (rows : List (List ℕ)) (from a : ℕ) → from ≤ a → 2 * a + 1 < length rows
+    → run rows (2 * from) (2 * (a + 1)) ≡ (run rows (2 * from) (2 * a) ++ get_or rows (2 * a) [] ∷ []) ++ get_or rows (2 * a + 1) [] ∷ []
+run_more rows from a le lt =
+    let e : 2 * (a + 1) ≡ (2 * a + 1) + 1 = omega arith in
+    ap (λ n. run rows (2 * from) n) e ∙ run_snoc rows (2 * from) (2 * a + 1) (omega (arith, le)) (omega (arith, lt))
+    ∙ ap (λ rs. rs ++ get_or rows (2 * a + 1) [] ∷ []) (run_snoc rows (2 * from) (2 * a) (omega (arith, le)) (omega (arith, lt)))
+
+nothing_pending : (left out : List (List ℕ)) (to : ℕ) → out ++ run left to to ≡ out
+nothing_pending left out to = ap (λ rs. out ++ rs) (run_empty left to) ∙ append-nil out
 
 -- What is listed, with one more
 
-module _ (joined after : List (ℕ × ℕ)) (x : ℕ × ℕ) (pushed : after ≡ joined ++ x ∷ []) where
-  at_before : (m : ℕ) → m < length joined → get_or after m (0, 0) ≡ get_or joined m (0, 0)
-  at_before m l = ap (λ (ns : List (ℕ × ℕ)). get_or ns m (0, 0)) pushed ∙ get_or-append joined (x ∷ []) (0, 0) m l
+listed_wider : (joined : List (ℕ × ℕ)) (x : ℕ × ℕ) (n : ℕ) → IsListed joined n → IsListed (joined ++ x ∷ []) n
+listed_wider joined x n h = record {
+  place = h.place;
+  there = omega (arith, length-append joined (x ∷ []), h.there);
+  is = ap (λ (y : ℕ × ℕ). y.1) (get_or-append joined (x ∷ []) (0, 0) h.place h.there) ∙ h.is;
+}
 
-  at_last : get_or after (length joined) (0, 0) ≡ x
-  at_last = ap (λ (ns : List (ℕ × ℕ)). get_or ns (length joined) (0, 0)) pushed ∙ get_or-append_seam joined x [] (0, 0)
-
-  counted : length after ≡ suc (length joined)
-  counted = ap (length {A = ℕ × ℕ}) pushed ∙ length-append joined (x ∷ []) ∙ (omega arith)
-
-  pub listed_wider : (n : ℕ) → IsListed joined n → IsListed after n
-  listed_wider n h = let more = counted in record { place = h.place; there = omega (arith, more, h.there); is = ap (λ (y : ℕ × ℕ). y.1) (at_before h.place h.there) ∙ h.is }
-
-  pub listed_last : IsListed after x.1
-  listed_last = let more = counted in record { place = length joined; there = omega (arith, more); is = ap (λ (y : ℕ × ℕ). y.1) at_last }
-
-  pub listed_below : (c : ℕ) → x.1 ≡ c → ((m : ℕ) → m < length joined → (get_or joined m (0, 0)).1 < c) → (m : ℕ) → m < length after → (get_or after m (0, 0)).1 < suc c
-  listed_below c e h = subst (λ ns. (m : ℕ) → m < length ns → (get_or ns m (0, 0)).1 < suc c) (sym pushed)
-      (snoc_each (λ _ y. y.1 < suc c) joined x (0, 0) (λ m l. let below = h m l in omega (arith, below)) (omega (arith, e)))
+listed_last : (joined : List (ℕ × ℕ)) (x : ℕ × ℕ) → IsListed (joined ++ x ∷ []) x.1
+listed_last joined x = record {
+  place = length joined;
+  there = omega (arith, length-append joined (x ∷ []));
+  is = ap (λ (y : ℕ × ℕ). y.1) (get_or-append_seam joined x [] (0, 0));
+}
 
 -- What is written, with one fragment more
 
@@ -66,42 +85,18 @@ spread_more left gs rows new index more joined after p row v h written is_row ve
 
 -- On the way
 
-pub on_first : (left right : List (List ℕ)) (xs ys : List (ℕ × ℕ)) (star : List Entry) (out : List (List ℕ)) (index joined : List (ℕ × ℕ)) (at : Pairing) → 0 < length (fragments_of left) → at.left ≡ 0 → at.right ≡ 0 → out ≡ [] ∷ [] ∷ [] → index ≡ [] → joined ≡ []
-    → IsOnTheWay left right xs ys star out index joined at 1 1
-on_first left right xs ys star out index joined at some l r o n j = record {
-  gs = [];
-  rest = λ i. singles [] (union_vector star (fragments_of left) (fragments_of right)) (paired (drop (l i) xs) (drop (r i) ys));
-  spread = record {
-    rows_are = nothing_pending left out 2 ∙ o;
-    index_is = n;
-    origins = λ k l. absurd (omega (arith, l));
-    there = λ m l. let none = ap (length {A = ℕ × ℕ}) j in absurd (omega (arith, l, none));
-  };
-  order = omega arith;
-  there = some;
-}
-
 module _ (left right : List (List ℕ)) (xs ys : List (ℕ × ℕ)) (star : List Entry) (out : List (List ℕ)) (index joined : List (ℕ × ℕ)) (at : Pairing) (from to : ℕ) (h : IsOnTheWay left right xs ys star out index joined at from to) where
   abbrev f : ℕ × ℕ → List Entry
   f = union_vector star (fragments_of left) (fragments_of right)
-
-  -- a picture with no more than the star is passed over
-  pub on_star : (then : Pairing) (r : ℕ × (ℕ × ℕ)) → left_of at xs ys ≡ r ∷ left_of then xs ys → same_entries [] (f r.1) ≡ true → IsOnTheWay left right xs ys star out index joined then from to
-  on_star then r step same = record {
-    gs = h.gs;
-    rest = ap (λ hs. h.gs ++ hs) (sym (ap (singles [] f) step ∙ singles_same [] f r (left_of then xs ys) same)) ∙ h.rest;
-    spread = h.spread;
-    order = h.order;
-    there = h.there;
-  }
 
   -- one more
   on_more : (then : Pairing) (r : ℕ × (ℕ × ℕ)) (new : List (List ℕ)) (more after : List (ℕ × ℕ)) (start end : ℕ) → left_of at xs ys ≡ r ∷ left_of then xs ys → same_entries [] (f r.1) ≡ false
       → IsSpread left (h.gs ++ of_one r.0 (f r.1) ∷ []) (new ++ run left (2 * start) (2 * end)) more after → start ≤ end → end ≤ length (fragments_of left) → IsOnTheWay left right xs ys star new more after then start end
   on_more then r new more after start end step other spread order there = record {
     gs = h.gs ++ of_one r.0 (f r.1) ∷ [];
-    rest = append_assoc h.gs (of_one r.0 (f r.1) ∷ []) (singles [] f (left_of then xs ys))
-        ∙ ap (λ hs. h.gs ++ hs) (sym (ap (singles [] f) step ∙ singles_other [] f r (left_of then xs ys) other)) ∙ h.rest;
+    rest =
+        let now : singles [] f (left_of at xs ys) ≡ of_one r.0 (f r.1) ∷ singles [] f (left_of then xs ys) = ap (singles [] f) step ∙ rw other refl in
+        append_assoc h.gs (of_one r.0 (f r.1) ∷ []) (singles [] f (left_of then xs ys)) ∙ ap (λ hs. h.gs ++ hs) (sym now) ∙ h.rest;
     spread = spread;
     order = order;
     there = there;
@@ -112,13 +107,14 @@ module _ (left right : List (List ℕ)) (xs ys : List (ℕ × ℕ)) (star : List
       → new ≡ ((out ++ run left (2 * from) (2 * to)) ++ (r.0 ∷ []) ∷ []) ++ row ∷ [] → more ≡ index ++ (r.0, length index + 1) ∷ [] → after ≡ joined ++ (r.0, length index + 1) ∷ []
       → IsOnTheWay left right xs ys star new more after then to to
   on_joined then r new more after row step is_row vector other placed pushed listed =
-      let long : length index + 1 ≡ suc (length h.gs) = let e = ap (length {A = ℕ × ℕ}) h.spread.index_is ∙ numbered_length 1 h.gs in omega (arith, e) in
-      on_more then r new more after to to step other
-      (spread_more left h.gs (out ++ run left (2 * from) (2 * to)) (new ++ run left (2 * to) (2 * to)) index more joined after r.0 row (f r.1) h.spread (nothing_pending left new (2 * to) ∙ placed) is_row vector pushed
-      (listed_wider joined after (r.0, length index + 1) listed)
-      (inl (subst (IsListed after) long (listed_last joined after (r.0, length index + 1) listed)))
-      (listed_below joined after (r.0, length index + 1) listed (suc (length h.gs)) long h.spread.there))
-      (omega arith) h.there
+      let x : ℕ × ℕ = (r.0, length index + 1) in
+      let long : length index + 1 ≡ suc (length h.gs) = omega (arith, ap (length {A = ℕ × ℕ}) h.spread.index_is, numbered_length 1 h.gs) in
+      subst (λ ns. IsOnTheWay left right xs ys star new more ns then to to) (sym listed) (on_more then r new more (joined ++ x ∷ []) to to step other
+      (spread_more left h.gs (out ++ run left (2 * from) (2 * to)) (new ++ run left (2 * to) (2 * to)) index more joined (joined ++ x ∷ []) r.0 row (f r.1) h.spread (nothing_pending left new (2 * to) ∙ placed) is_row vector pushed
+      (listed_wider joined x)
+      (inl (subst (IsListed (joined ++ x ∷ [])) long (listed_last joined x)))
+      (snoc_each (λ _ y. y.1 < suc (suc (length h.gs))) joined x (0, 0) (λ m l. omega (arith, h.spread.there m l)) (omega (arith, long))))
+      (omega arith) h.there)
 
   pub on_stays : (then : Pairing) (r : ℕ × (ℕ × ℕ)) (new : List (List ℕ)) (more : List (ℕ × ℕ)) (start : ℕ) (words : List ℕ) → IsExcess words left → AllDiffer (fragments_of left) → left_of at xs ys ≡ r ∷ left_of then xs ys → Stays star left right r.0 r.1 → r.1.0 < length (fragments_of left)
       → start ≤ r.1.0 → new ++ run left (2 * start) (2 * r.1.0) ≡ out ++ run left (2 * from) (2 * to) → more ≡ index ++ (r.0, length index + 1) ∷ []
@@ -141,7 +137,7 @@ module _ (left right : List (List ℕ)) (xs ys : List (ℕ × ℕ)) (star : List
       (spread_more left h.gs (out ++ run left (2 * from) (2 * to)) (new ++ run left (2 * start) (2 * (a + 1))) index more joined joined r.0 row (f r.1) h.spread placed is_row (entries ∙ sym s.joint) pushed
       (λ n listed. listed)
       (inr (record { number = a; there = there_a; alone = s.alone; is = sym s.joint }))
-      (λ m l. let below = h.spread.there m l in omega (arith, below)))
+      (λ m l. omega (arith, h.spread.there m l)))
       (omega (arith, begins)) (omega (arith, there_a))
     where
       some : same_entries [] (entries_at (fragments_of left) r.1.0) ≡ false
@@ -149,10 +145,3 @@ module _ (left right : List (List ℕ)) (xs ys : List (ℕ × ℕ)) (star : List
         | inl e ↦ absurd (differ 0 r.1.0 s.beside there_a (excess.first ∙ (entries_decide [] (entries_at (fragments_of left) r.1.0)).0 e))
         | inr e ↦ e
       ]
-
-  pub on_all : (new : List (List ℕ)) → left_of at xs ys ≡ [] → new ≡ out ++ run left (2 * from) (2 * to) → IsSpread left (spread_of star (fragments_of left) (fragments_of right) xs ys) new index joined
-  on_all new none written =
-      let whole : h.gs ≡ spread_of star (fragments_of left) (fragments_of right) xs ys =
-      sym (append-nil h.gs) ∙ ap (λ rs. h.gs ++ singles [] f rs) (sym none) ∙ h.rest in
-      subst (λ rs. IsSpread left (spread_of star (fragments_of left) (fragments_of right) xs ys) rs index joined) (sym written)
-      (subst (λ gs. IsSpread left gs (out ++ run left (2 * from) (2 * to)) index joined) whole h.spread)

@@ -1,17 +1,15 @@
 -- Machinery of the proofs: a union in which each picture that is listed has a fragment of its own.
-use Rattle.std.specs.Prelude.{◌≡◌, ℕ, suc, true, ◌+◌, ◌*◌, ◌<◌, ◌⊎◌, if◌then◌else◌, List, [], ◌∷◌, length, get_or}
-use Rattle.item_knowledge.specs.Entries.{Entry, same_entries}
+use Rattle.std.specs.Prelude.{◌≡◌, ℕ, suc, true, ◌+◌, ◌*◌, ◌<◌, ◌⊎◌, List, [], ◌∷◌, length, get_or, map}
+use Rattle.item_knowledge.specs.Entries.{Entry}
 use Rattle.item_knowledge.specs.Excess.{union_vector}
 use Rattle.item_knowledge.specs.Fragments.{Fragment, first, nothing, entries_at}
-use Rattle.item_knowledge.specs.Gathering.{paired, star_first}
+use Rattle.item_knowledge.specs.Gathering.{paired, star_first, table_of}
 use Rattle.item_knowledge.specs.Rows.{fragments_of, rows_of}
 use Rattle.item_knowledge.specs.Seen.{has_unseen}
 
 -- the pictures of a table, each in a fragment of its own, but for those with the star's vector
 abbrev pub singles : List Entry → (ℕ × ℕ → List Entry) → List (ℕ × (ℕ × ℕ)) → List Fragment
-singles star vector [] = []
-singles star vector (r ∷ rs) =
-    if same_entries star (vector r.1) then singles star vector rs else record { pictures = r.0 ∷ []; entries = vector r.1 } ∷ singles star vector rs
+singles star vector rs = map (λ t. record { pictures = t.0 ∷ []; entries = t.1 }) (table_of star vector rs)
 
 -- beside the first picture of each fragment its number
 abbrev pub numbered : ℕ → List Fragment → List (ℕ × ℕ)

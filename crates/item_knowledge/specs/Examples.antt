@@ -69,8 +69,9 @@ pub record TheEpochs : Type 0 where
   pub turned_round : is_normal (of [] (later 0 1 1 ∷ entry 0 2 ∷ []) ∷ []) ≡ false
   pub its_first : knows (of [] (entry 0 2 ∷ later 0 1 1 ∷ []) ∷ []) 7 (version (author_at 0 1) 1) ≡ true
   pub not_its_second : knows (of [] (entry 0 2 ∷ later 0 1 1 ∷ []) ∷ []) 7 (version (author_at 0 1) 2) ≡ false
-  -- its marks are those of the device so many places behind
-  pub shared : has_unseen (0 ∷ 2 ∷ 1 ∷ []) [] (later 0 1 1 ∷ []) ≡ false
+  -- its marks have words of their own, which meet those of the first epoch only far behind
+  pub unshared : has_unseen (0 ∷ 2 ∷ 1 ∷ []) [] (later 0 1 2 ∷ []) ≡ true
+  pub shared : has_unseen (0 ∷ 2 ∷ 1 ∷ []) [] (later 0 1 7173 ∷ []) ≡ false
 
 -- of picture 8 the first version of device 1
 abbrev other : List Fragment

@@ -1,10 +1,10 @@
 -- Machinery of the proofs: the union of two lists of fragments, picture by picture, as the code gathers it.
-use Rattle.std.specs.Prelude.{◌≡◌, ℕ, Bool, suc, ◌<◌, true, ◌&&◌, ◌||◌, max, nat_lt, if◌then◌else◌, List, [], ◌∷◌, ◌++◌, length, Option, None, Some}
-use Rattle.std.specs.List.{list_all}
+use Rattle.std.specs.Prelude.{◌≡◌, ℕ, Bool, suc, ◌<◌, ◌≤◌, true, false, not, ◌&&◌, ◌||◌, ◌==◌, max, nat_lt, List, [], ◌∷◌, ◌++◌, length, get_or, map}
+use Rattle.std.specs.List.{list_all, filter}
 use Rattle.photo_version.specs.Version.{Version}
-use Rattle.item_knowledge.specs.Tables.{merge, at, in_order, keys_pass}
+use Rattle.item_knowledge.specs.Tables.{merge, each, at, in_order, keys_pass}
 use Rattle.item_knowledge.specs.Entries.{Entry, denotes, is_vector, bound, leq, same_entries, joined}
-use Rattle.item_knowledge.specs.Fragments.{Fragment, knows, is_normal, known, entries_at}
+use Rattle.item_knowledge.specs.Fragments.{Fragment, is_empty, first, knows, is_normal, known, nothing, entries_at}
 
 -- the vector to which an index leads, the star's where it leads nowhere
 abbrev pub vector_of : List Fragment → List (ℕ × ℕ) → ℕ → List Entry
@@ -36,44 +36,37 @@ paired xs ys = merge (λ a. (a, 0)) (λ a b. (a, b.1)) (λ b. (0, b)) xs ys
 abbrev pub pair_vector : List Fragment → List Fragment → ℕ × ℕ → List Entry
 pair_vector fs gs k = joined (entries_at fs k.0) (entries_at gs k.1)
 
--- a picture comes to the group of its vector
-abbrev pub add : ℕ → List Entry → List Fragment → List Fragment
-add p v [] = record { pictures = p ∷ []; entries = v } ∷ []
-add p v (g ∷ gs) =
-    if same_entries g.entries v then record { pictures = g.pictures ++ p ∷ []; entries = g.entries } ∷ gs else g ∷ add p v gs
+-- the pictures of a table with their vectors, but for those with the star's
+abbrev pub table_of : List Entry → (ℕ × ℕ → List Entry) → List (ℕ × (ℕ × ℕ)) → List (ℕ × List Entry)
+table_of star f rs = filter (λ t. not (same_entries star t.1)) (each f rs)
 
--- a picture with the star's vector is in no group
-abbrev pub add_unless : List Entry → ℕ → List Entry → List Fragment → List Fragment
-add_unless star p v gs = if same_entries star v then gs else add p v gs
+-- the pictures with a number in an index
+abbrev pub pictures_of : ℕ → List (ℕ × ℕ) → List ℕ
+pictures_of n index = map (λ z. z.0) (filter (λ z. z.1 == n) index)
 
--- the pictures of a table in the groups of their vectors
-abbrev pub gathered : List Entry → (ℕ × ℕ → List Entry) → List (ℕ × (ℕ × ℕ)) → List Fragment → List Fragment
-gathered star vector [] gs = gs
-gathered star vector (r ∷ rs) gs = gathered star vector rs (add_unless star r.0 (vector r.1) gs)
-
-abbrev pub after : Option ℕ → Option ℕ
-after None = None
-after (Some k) = Some (suc k)
-
--- the place of the group with a vector
-abbrev pub place : List Fragment → List Entry → Option ℕ
-place [] v = None
-place (g ∷ gs) v = if same_entries g.entries v then Some 0 else after (place gs v)
-
--- the number of the fragment with a vector, where the star comes first
-abbrev pub number : Option ℕ → ℕ
-number None = 0
-number (Some k) = suc k
-
--- beside each picture of a group the number of its fragment
-abbrev pub indexed : List Entry → (ℕ × ℕ → List Entry) → List (ℕ × (ℕ × ℕ)) → List Fragment → List (ℕ × ℕ)
-indexed star vector [] gs = []
-indexed star vector (r ∷ rs) gs =
-    if same_entries star (vector r.1) then indexed star vector rs gs
-    else (r.0, number (place (add r.0 (vector r.1) gs) (vector r.1))) ∷ indexed star vector rs (add r.0 (vector r.1) gs)
+-- the pictures of the fragment at a place
+abbrev pub pictures_at : List Fragment → ℕ → List ℕ
+pictures_at gs k = (get_or gs k nothing).pictures
 
 abbrev pub star_first : List Entry → List Fragment → List Fragment
 star_first star gs = record { pictures = []; entries = star } ∷ gs
+
+-- pictures of a table in the groups of their vectors, in order and with their index, and what is left of the table
+pub record IsGathered (table left : List (ℕ × List Entry)) (gs : List Fragment) (index : List (ℕ × ℕ)) : Type 0 where
+  pub vectors : each (entries_at (star_first [] gs)) index ++ left ≡ table
+  pub range : list_all (λ z. nat_lt z.1 (suc (length gs))) index ≡ true
+  pub pictures : (k : ℕ) → pictures_at gs k ≡ pictures_of (suc k) index
+  pub some : (k : ℕ) → k < length gs → (is_empty (pictures_at gs k) ≡ false) × (same_entries [] (entries_at gs k) ≡ false)
+  pub order : (j k : ℕ) → j < k → k < length gs → first (pictures_at gs j) < first (pictures_at gs k)
+
+-- a picture comes to the group at a place, which has its vector and is the last one where it is new
+pub record IsAdded (p : ℕ) (v : List Entry) (gs more : List Fragment) (place : ℕ) : Type 0 where
+  pub inside : place < length more
+  pub vector : entries_at more place ≡ v
+  pub kept : (k : ℕ) → k < length gs → entries_at more k ≡ entries_at gs k
+  pub longer : length gs ≤ length more
+  pub pictures : (k : ℕ) → pictures_at more k ≡ pictures_at gs k ++ pictures_of (suc k) ((p, suc place) ∷ [])
+  pub new : (k : ℕ) → length gs ≤ k → k < length more → (k ≡ place) × (pictures_at gs k ≡ [])
 
 -- what holds of the union of two sides
 pub record IsUnion (fs : List Fragment) (xs : List (ℕ × ℕ)) (gs : List Fragment) (ys : List (ℕ × ℕ)) (us : List Fragment) (zs : List (ℕ × ℕ)) : Type 0 where

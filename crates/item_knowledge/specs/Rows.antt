@@ -1,6 +1,7 @@
 -- Machinery of the proofs: rows of words, of each fragment its pictures, then its entries with two words each, author and
 -- number.
 use Rattle.std.specs.Prelude.{◌≡◌, ℕ, ◌<◌, List, [], ◌∷◌, length, get_or}
+use Rattle.std.specs.Simd.Lanes.{zip2}
 use Rattle.item_knowledge.specs.Entries.{Entry}
 use Rattle.item_knowledge.specs.Fragments.{Fragment}
 
@@ -33,9 +34,7 @@ rows_of (f ∷ fs) = f.pictures ∷ flat f.entries ∷ rows_of fs
 
 -- fragments by their pictures and their rows
 abbrev pub grouped : List (List ℕ) → List (List ℕ) → List Fragment
-grouped [] rows = []
-grouped (ps ∷ pictures) [] = []
-grouped (ps ∷ pictures) (ws ∷ rows) = record { pictures = ps; entries = pairs ws } ∷ grouped pictures rows
+grouped pictures rows = zip2 (λ ps ws. record { pictures = ps; entries = pairs ws }) pictures rows
 
 -- the rows are those of whole fragments
 abbrev pub AreRows : List (List ℕ) → Type 0

@@ -1,18 +1,22 @@
 -- Machinery of the proofs: marks of the bounds that stand in rows, so that a row with a bound that has no mark is none of them.
-use Rattle.std.specs.Prelude.{◌≡◌, ℕ, ◌<◌, Bool, true, not, ◌&&◌, ◌==◌, ◌+◌, ◌/◌, ◌%◌, nat_lt, List, length, get_or}
+use Rattle.std.specs.Prelude.{◌≡◌, ℕ, ◌<◌, Bool, true, not, ◌&&◌, ◌==◌, ◌+◌, ◌*◌, ◌/◌, ◌%◌, nat_lt, List, length, get_or}
 use Rattle.std.specs.Int.{bit_at}
 use Rattle.std.specs.List.{list_any}
 use Rattle.item_knowledge.specs.Entries.{Entry, bound}
 use Rattle.item_knowledge.specs.Fragments.{entries_at}
 use Rattle.item_knowledge.specs.Rows.{fragments_of}
 
--- the bit of an author by its word: devices one after another, each with its later epochs behind it. They come round again
+-- the bit of an author by its word: that of its device. They come round again
 abbrev pub bit_of : ℕ → ℕ
-bit_of a = (a / 4294967296 + a % 4294967296) % 64
+bit_of a = a / 4294967296 % 64
 
--- a bound has the word of its number, and there the bit of its author; they come round again
+-- the word of a bound: that of its number, those of each epoch further behind. They come round again
+abbrev pub word_of : ℕ → ℕ → ℕ
+word_of a n = (n % 8192 + a % 4294967296 * 1021) % 8192
+
+-- a bound has its word, and there the bit of its author
 abbrev pub is_marked : List ℕ → ℕ → ℕ → Bool
-is_marked words a n = bit_at (get_or words (n % 8192) 0) (bit_of a) == 1
+is_marked words a n = bit_at (get_or words (word_of a n) 0) (bit_of a) == 1
 
 -- what has a mark among the first words has one among the second
 abbrev pub HasMarks : List ℕ → List ℕ → Type 0

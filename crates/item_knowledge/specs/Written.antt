@@ -1,20 +1,27 @@
 -- Machinery of the proofs: the union of two sides beyond its star, as the code writes it.
-use Rattle.std.specs.Prelude.{◌≡◌, ℕ, List, []}
+use Rattle.std.specs.Prelude.{◌≡◌, ℕ, suc, ◌<◌, true, List, [], length}
+use Rattle.item_knowledge.specs.Tables.{at}
 use Rattle.item_knowledge.specs.Entries.{Entry}
 use Rattle.item_knowledge.specs.Excess.{union_vector}
-use Rattle.item_knowledge.specs.Fragments.{Fragment}
-use Rattle.item_knowledge.specs.Gathering.{gathered, indexed, paired, star_first}
+use Rattle.item_knowledge.specs.Fragments.{Fragment, is_normal, known, entries_at}
+use Rattle.item_knowledge.specs.Gathering.{IsIndex, paired, table_of}
 use Rattle.item_knowledge.specs.Rows.{rows_of}
 
--- the groups of the union of two sides
-abbrev pub groups_of : List Entry → List Fragment → List Fragment → List (ℕ × ℕ) → List (ℕ × ℕ) → List Fragment
-groups_of star fs gs xs ys = gathered [] (union_vector star fs gs) (paired xs ys) []
+-- what two sides have beyond the star of their union: a normal form with its index, in which each picture has what its two
+-- fragments give together, and each fragment what some picture has
+pub record IsBeyond (star : List Entry) (fs : List Fragment) (xs : List (ℕ × ℕ)) (gs : List Fragment) (ys : List (ℕ × ℕ)) (us : List Fragment) (zs : List (ℕ × ℕ)) : Type 0 where
+  pub first : entries_at us 0 ≡ []
+  pub normal : is_normal us ≡ true
+  pub index : IsIndex zs us
+  pub vectors : (p : ℕ) → known us p ≡ union_vector star fs gs (at 0 xs p, at 0 ys p)
+  pub named : (k : ℕ) → suc k < length us → (p : ℕ) × (entries_at us (suc k) ≡ union_vector star fs gs (at 0 xs p, at 0 ys p))
 
--- and their index
-abbrev pub index_of : List Entry → List Fragment → List Fragment → List (ℕ × ℕ) → List (ℕ × ℕ) → List (ℕ × ℕ)
-index_of star fs gs xs ys = indexed [] (union_vector star fs gs) (paired xs ys) []
-
--- they stand in rows behind a star without entries, with their index
+-- it stands in rows
 pub record IsWritten (star : List Entry) (fs : List Fragment) (xs : List (ℕ × ℕ)) (gs : List Fragment) (ys : List (ℕ × ℕ)) (out : List (List ℕ)) (index : List (ℕ × ℕ)) : Type 0 where
-  pub rows : out ≡ rows_of (star_first [] (groups_of star fs gs xs ys))
-  pub numbers : index ≡ index_of star fs gs xs ys
+  pub us : List Fragment
+  pub rows : out ≡ rows_of us
+  pub union : IsBeyond star fs xs gs ys us index
+
+-- the pictures of two sides with what they have beyond the star of the union
+abbrev pub union_table : List Entry → List Fragment → List Fragment → List (ℕ × ℕ) → List (ℕ × ℕ) → List (ℕ × List Entry)
+union_table star fs gs xs ys = table_of [] (union_vector star fs gs) (paired xs ys)

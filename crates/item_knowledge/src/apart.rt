@@ -3,7 +3,7 @@
 ghost use Rattle.std.specs.Prelude.{◌≡◌, ◌+◌, ◌*◌, ◌<◌, ◌≤◌, [], ◌∷◌, ◌++◌, true, false, length, get_or, IfOk, IfSome, OnOk};
 ghost use Rattle.fragment_arena.specs.Arena.{run};
 ghost use Rattle.item_knowledge.specs.Apart.{Stays, AreThere, AreApart, AreUnseen, AreTold, IsSpread, spread_of};
-ghost use Rattle.item_knowledge.specs.Excess.{AllDiffer, exceeds_all, is_covered};
+ghost use Rattle.item_knowledge.specs.Excess.{AllDiffer, exceeding, exceeds_all, is_covered};
 ghost use Rattle.item_knowledge.specs.Fragments.{entries_at};
 ghost use Rattle.item_knowledge.specs.Written.{IsWritten};
 ghost use Rattle.item_knowledge.specs.Rows.{pairs, IsRow, AreRows, fragments_of};
@@ -11,12 +11,13 @@ ghost use Rattle.item_knowledge.specs.Tables.{in_order};
 ghost use Rattle.item_knowledge.specs.Seen.{IsSeen};
 ghost use Rattle.item_knowledge.specs.Sides.{fragments};
 
-use crate::gather::{is_nothing, same_row};
+use crate::gather::is_nothing;
 use crate::index::{IndexEntry, to_u32};
+use crate::join::join;
 use crate::pairing::{Pairing, pictures_together};
 use crate::places::Places;
 use crate::rows::Rows;
-use crate::search::{bound_at, entry_at, entry_count};
+use crate::search::{bound_at, bound_near, entry_at, entry_count};
 use crate::seen::Seen;
 use crate::side::Side;
 use crate::union::{begin, entries, pair};
@@ -38,9 +39,12 @@ fn exceeds(row: &[u64], star: &[u64]) -> bool
     requires star { in_order (pairs star.now) ≡ true }
     ensures { result ≡ exceeds_all (pairs star.now) (pairs row.now) }
 {
+    let mut hint = 0;
     for i in 0..entry_count(row) {
         let (author, n) = entry_at(row, i);
-        if n <= bound_at(star, author) {
+        let (least, next) = bound_near(star, hint, author);
+        hint = next;
+        if n <= least {
             return false;
         }
     }
@@ -57,9 +61,12 @@ fn adds_nothing(row: &[u64], other: &[u64], star: &[u64]) -> bool
     requires star { in_order (pairs star.now) ≡ true }
     ensures { result ≡ is_covered (pairs star.now) (pairs other.now) (pairs row.now) }
 {
+    let mut hint = 0;
     for i in 0..entry_count(row) {
         let (author, n) = entry_at(row, i);
-        if n > bound_at(other, author) && n > bound_at(star, author) {
+        let (most, next) = bound_near(other, hint, author);
+        hint = next;
+        if n > most && n > bound_at(star, author) {
             return false;
         }
     }
@@ -83,13 +90,13 @@ fn is_alone(rows: &Rows, number: usize, picture: u32) -> bool
 }
 
 // Whether the left's fragment comes as it stands for a picture: the picture is alone in it, all of it is beyond the star, and the
-// right's has nothing beyond both.
+// right's has nothing beyond both. What of the star is beyond the left's is given: all else of it the left's fragment exceeds.
 #[inline(always)]
 fn stays(
     left: Side<'_>,
     right: Side<'_>,
     star: &[u64],
-    is_raised: bool,
+    risen: &[u64],
     picture: u32,
     numbers: (usize, usize),
 ) -> bool
@@ -97,7 +104,8 @@ fn stays(
     requires b { numbers.1 < length (fragments right) }
     requires star_row { IsRow star.now }
     requires star { in_order (pairs star.now) ≡ true }
-    requires raised { is_raised ≡ false → pairs star.now ≡ pairs left.star.now }
+    requires risen_row { IsRow risen.now }
+    requires risen { pairs risen.now ≡ exceeding (pairs left.star.now) (pairs star.now) }
     ensures { result ≡ true → Stays (pairs star.now) left.entry.rows.now right.entry.rows.now picture numbers }
 {
     let (a, b) = numbers;
@@ -108,8 +116,8 @@ fn stays(
         return false;
     }
     let row = entries(left.rows, a);
-    if is_raised {
-        if !exceeds(row, star) {
+    if !risen.is_empty() {
+        if !exceeds(row, risen) {
             return false;
         }
     }
@@ -155,10 +163,10 @@ fn run_to(
 
 // Writes the fragments of the pictures behind the star, each by itself, and lists them.
 fn spread(
+    alloc: Global,
     left: Side<'_>,
     right: Side<'_>,
     star: &[u64],
-    room: &mut Vec<u64>,
     lists: &mut Lists,
     out: &mut Rows,
 ) -> Result<(), AllocError>
@@ -174,19 +182,21 @@ fn spread(
 {
     // For its fact alone: the rows are fewer than 2 ^ 63.
     let _count = left.rows.rows();
-    let is_raised = !same_row(star, left.star);
+    let mut risen = Vec::new(alloc);
+    join(star, &[], left.star, &mut risen)?;
+    let mut room = Vec::new(alloc);
     let mut from = 1;
     let mut to = 1;
     let mut pairing = Pairing::new();
     while let Some((picture, numbers)) = pairing.next(left, right) {
-        if stays(left, right, star, is_raised, picture, numbers) {
+        if stays(left, right, star, &risen, picture, numbers) {
             from = run_to(left.rows, from, to, numbers.0, out)?;
             to = numbers.0 + 1;
             let number = to_u32(lists.index.len() + 1)?;
             lists.index.push((picture, number))?;
             continue;
         }
-        let row = pair(left, right, numbers, star, room)?;
+        let row = pair(left, right, numbers, star, &mut room)?;
         if is_nothing(row) {
             continue;
         }
@@ -301,7 +311,7 @@ pub(crate) fn apart(
         .max(right.rows.words())
         .saturating_add(count.saturating_mul(2));
     begin(count, words, out)?;
-    spread(left, right, star, &mut Vec::new(alloc), &mut lists, out)?;
+    spread(alloc, left, right, star, &mut lists, out)?;
     if are_told_apart(alloc, left.rows, seen, out, &lists.index, &lists.joined)? {
         return Ok(Some(lists.index));
     }

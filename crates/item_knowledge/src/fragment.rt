@@ -50,6 +50,7 @@ impl<'a> Fragment<'a> {
     }
 
     /// Whether this is the star.
+    #[tactic(auto, using(crate::proofs::PictureLemmas::empty_length))]
     pub fn star(&self) -> bool
         ensures { result ≡ is_empty self.now.pictures }
     {
@@ -64,6 +65,7 @@ impl<'a> Fragment<'a> {
     }
 
     /// The number of entries, one for each author of whom a version is known. They are counted.
+    #[tactic(auto, using(crate::proofs::RowLemmas::row_length, crate::proofs::JoinLemmas::joined_length))]
     pub fn len(&self) -> usize
         ensures { result ≡ length self.now.entries }
     {
@@ -90,6 +92,7 @@ impl<'a> Fragment<'a> {
 
     /// The author at place `i`, from 0, in order, and up to which number, above 0, its versions are known. It goes over those
     /// before: whoever wants all takes [`Fragment::entries`].
+    #[tactic(auto, using(crate::proofs::JoinLemmas::entry_next))]
     pub fn entry(&self, i: usize) -> (Author, u32)
         requires { i < length self.now.entries }
         ensures author { result.0 ≡ author_of_word (get_or self.now.entries i (0, 0)).0 }
@@ -148,6 +151,7 @@ impl<'a> FragmentEntries<'a> {
     ghost use Rattle.photo_version.specs.Author.{author_word, author_of_word};
 
     /// The next author, in order, and up to which number, above 0, its versions are known; none behind the last one.
+    #[tactic(auto, using(crate::proofs::JoinLemmas::vector_order))]
     pub fn next_entry(&mut self) -> Option<(Author, u32)>
         ensures next { IfSome result (λ e. self.old ≡ (author_word e.0, e.1) ∷ self.new) }
         ensures above_zero { IfSome result (λ e. 0 < e.1) }

@@ -1,7 +1,7 @@
 // Pictures that come to the group of their vector.
-ghost use Rattle.std.specs.Prelude.{◌≡◌, ◌<◌, [], length, OnOk, IfOk, Some};
+ghost use Rattle.std.specs.Prelude.{◌≡◌, ◌<◌, [], length, OnOk, IfOk};
 ghost use Rattle.item_knowledge.specs.Entries.{same_entries};
-ghost use Rattle.item_knowledge.specs.Gathering as spec;
+ghost use Rattle.item_knowledge.specs.Gathering.{IsAdded};
 ghost use Rattle.item_knowledge.specs.Places.{Placed, vectors_at};
 ghost use Rattle.item_knowledge.specs.Rows.{pairs, IsRow, grouped};
 
@@ -38,12 +38,10 @@ pub(crate) fn add(
 ) -> Result<usize, AllocError>
     requires placed { Placed places.old vectors.old groups.old.items }
     requires row { IsRow row.now }
-    ensures groups { OnOk result (grouped groups.new.items (vectors_at vectors.new places.new.numbers.items)
-        ≡ spec.add picture (pairs row.now) (grouped groups.old.items (vectors_at vectors.old places.old.numbers.items))) }
+    ensures added { IfOk result (λ k. IsAdded picture (pairs row.now) (grouped groups.old.items (vectors_at vectors.old places.old.numbers.items))
+        (grouped groups.new.items (vectors_at vectors.new places.new.numbers.items)) k) }
     ensures placed { OnOk result (Placed places.new vectors.new groups.new.items) }
     ensures below { IfOk result (λ k. k < length groups.new.items) }
-    ensures place { IfOk result (λ k. spec.place (grouped groups.new.items (vectors_at vectors.new places.new.numbers.items)) (pairs row.now)
-        ≡ Some k) }
 {
     let (bucket, found) = places.find(vectors, row);
     if let Some(k) = found {

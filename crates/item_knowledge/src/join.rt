@@ -6,7 +6,7 @@ ghost use Rattle.item_knowledge.specs.Excess.{exceeding};
 ghost use Rattle.item_knowledge.specs.Merging as spec;
 ghost use Rattle.item_knowledge.specs.Rows.{pairs, IsRow};
 
-use crate::search::{bound_at, entry_at, entry_count};
+use crate::search::{bound_near, entry_at, entry_count};
 use std::alloc::AllocError;
 
 /// How far two rows have been gone along together.
@@ -30,6 +30,7 @@ impl Merging {
     }
 
     /// The next entry of the join: an author of either row, and the greater of its bounds.
+    #[tactic(auto, using(crate::proofs::SearchLemmas::next_left, crate::proofs::SearchLemmas::next_right, crate::proofs::SearchLemmas::next_both))]
     #[inline(always)]
     pub(crate) fn next(&mut self, xs: &[u64], ys: &[u64]) -> Option<(u64, u64)>
         requires left_row { IsRow xs.now }
@@ -87,8 +88,11 @@ pub(crate) fn join(
 {
     out.clear();
     let mut merging = Merging::new();
+    let mut hint = 0;
     while let Some((author, n)) = merging.next(xs, ys) {
-        if bound_at(star, author) < n {
+        let (least, next) = bound_near(star, hint, author);
+        hint = next;
+        if least < n {
             out.push(author)?;
             out.push(n)?;
         }

@@ -85,6 +85,7 @@ impl Knowledge {
     }
 
     /// Whether of the picture the version is known. Takes no memory.
+    #[tactic(auto, using(crate::proofs::KeptLemmas::number_known, crate::proofs::KeptLemmas::has_known, crate::proofs::KeptLemmas::star_has))]
     pub fn knows(&self, picture: PicNo, version: Version) -> bool
         ensures { result ≡ spec.knows self.now.known picture version }
     {
@@ -99,6 +100,7 @@ impl Knowledge {
 
     /// Whether of the picture the version is known, and a hint for the next question. Takes no memory. Any hint will do;
     /// where pictures are asked in rising order, each with the hint that the one before gave, the work for one is small.
+    #[tactic(auto, using(crate::proofs::KeptLemmas::number_known, crate::proofs::KeptLemmas::has_known))]
     #[inline(always)]
     pub fn knows_near(&self, hint: usize, picture: PicNo, version: Version) -> (bool, usize)
         ensures { result.0 ≡ spec.knows self.now.known picture version }
@@ -108,6 +110,7 @@ impl Knowledge {
     }
 
     // Whether the fragment of a number has a version. What the star has is known of every picture.
+    #[tactic(auto, using(crate::proofs::KeptLemmas::kept_vector, crate::proofs::JoinLemmas::vector_order))]
     #[inline(always)]
     fn has_at(&self, number: usize, version: Version) -> bool
         requires { number < length self.now.known }
@@ -125,6 +128,7 @@ impl Knowledge {
     }
 
     /// The fragment of a number, from 0, which is the star. It is lent, and copies nothing.
+    #[tactic(auto, using(crate::proofs::KeptLemmas::kept_vector))]
     pub fn fragment(&self, k: usize) -> Fragment<'_>
         requires { k < length self.now.known }
         ensures { result ≡ get_or self.now.known k spec.nothing }
@@ -145,6 +149,7 @@ impl Knowledge {
     }
 
     /// Whether all that the other knows is known here too. Takes no memory.
+    #[tactic(auto, using(crate::proofs::KeptLemmas::kept_side))]
     pub fn has_all(&self, other: &Knowledge) -> bool
         ensures { IsTrue result ↔ ((p : ℕ) (v : versions.Version) → 0 < p → spec.knows other.now.known p v ≡ true
             → spec.knows self.now.known p v ≡ true) }
@@ -161,6 +166,7 @@ impl Knowledge {
     }
 
     // Stages what is known and what a side denotes.
+    #[tactic(auto, using(crate::proofs::KeptLemmas::kept_side))]
     fn stage_union(&mut self, rows: &LiveRows, index: &[IndexEntry]) -> Result<(), AllocError>
         requires rows { AreRows rows.now }
         requires side { IsSide (fragments_of rows.now) index.now }
@@ -179,6 +185,7 @@ impl Knowledge {
 
     /// Prepares to learn all that the other knows: what is known stays, and what is staged is the union. Its only error
     /// is want of memory, which leaves nothing staged; none is wanted where the other knows nothing more.
+    #[tactic(auto, using(crate::proofs::KeptLemmas::kept_side))]
     pub fn stage(&mut self, other: &Knowledge) -> Result<(), AllocError>
         ensures known { self.new.known ≡ self.old.known }
         ensures staged { OnOk result (IsStagedUnion self.new.staged self.old.known other.now.known) }

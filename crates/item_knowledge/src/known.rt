@@ -10,6 +10,7 @@ use photo_record::PicNo;
 use photo_version::{Vector, Version};
 
 // Whether of the picture all versions of the vector are known, and a hint for a later picture. Takes no memory.
+#[tactic(auto, using(crate::proofs::KnownLemmas::bound_had))]
 fn has_vector(knowledge: &Knowledge, hint: usize, picture: PicNo, vector: &Vector) -> (bool, usize)
     ensures { result.0 ≡ true → (v : versions.Version) → vectors.denotes vector.now v ≡ true → knows knowledge.now.known picture v ≡ true }
 {

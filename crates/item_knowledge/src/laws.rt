@@ -3,26 +3,31 @@ ghost use Rattle.item_knowledge.specs.Laws.{VectorsAreOne, NormalFormsAreOne, St
 ghost use Rattle.item_knowledge.specs.Examples.{TheLibrary, TheNormalForms, TheVectors, TheStaged, TheMarks, TheEpochs, TheExcess};
 
 /// A vector is determined by the versions that it denotes.
+#[tactic(auto, using(crate::proofs::EntryLemmas::one_vector))]
 pub fn vectors_are_one()
     ensures { VectorsAreOne }
 {}
 
 /// A normal form is determined by the pairs that it denotes.
+#[tactic(auto, using(crate::proofs::FragmentLemmas::one_normal))]
 pub fn normal_forms_are_one()
     ensures { NormalFormsAreOne }
 {}
 
 /// What is known of every picture, and of some pictures besides, has exactly one normal form.
+#[tactic(auto, using(crate::proofs::NormalLemmas::has_one))]
 pub fn each_has_one_normal_form()
     ensures { EachHasOneNormalForm }
 {}
 
 /// The star is what is known of every picture.
+#[tactic(auto, using(crate::proofs::FragmentLemmas::star_of_every))]
 pub fn star_is_of_every()
     ensures { StarIsOfEvery }
 {}
 
 /// The definitions at some fragments.
+#[tactic(auto, using(crate::proofs::StagedExamples::the_staged))]
 pub fn examples()
     ensures library { TheLibrary }
     ensures normal_forms { TheNormalForms }

@@ -10,7 +10,7 @@ use crate::Fragment;
 use crate::index::IndexEntry;
 use crate::join::join;
 use crate::rows::Rows;
-use crate::search::{bound_at, entry_at, entry_count, number_near, place_of};
+use crate::search::{bound_at, bound_near, entry_at, entry_count, number_near};
 use crate::seen::{Seen, seen_of, seen_together};
 use crate::side::Side;
 use crate::union::{begin, entries, union};
@@ -82,6 +82,7 @@ impl LiveRows {
     }
 
     /// The rows of fragments of which the first is a star without entries.
+    #[tactic(auto, using(crate::proofs::LiveLemmas::plain_shown))]
     pub(crate) fn of_rows(alloc: Global, rows: Rows) -> Result<LiveRows, AllocError>
         requires rows { AreRows rows }
         requires star { entries_at (fragments_of rows) 0 ≡ [] }
@@ -97,6 +98,7 @@ impl LiveRows {
     }
 
     /// The number of fragments.
+    #[tactic(auto, using(crate::proofs::LiveLemmas::shown_size))]
     pub(crate) fn len(&self) -> usize
         requires { AreRows self.now }
         ensures { result ≡ length (fragments_of self.now) }
@@ -105,6 +107,7 @@ impl LiveRows {
     }
 
     /// The bound of an author in the fragment of a number, 0 where it has none.
+    #[tactic(auto, using(crate::proofs::LiveLemmas::shown_count, crate::proofs::JoinLemmas::vector_order))]
     #[inline(always)]
     pub(crate) fn bound(&self, k: usize, author: u64) -> u64
         requires rows { AreRows self.now }
@@ -112,7 +115,7 @@ impl LiveRows {
         requires order { in_order (entries_at (fragments_of self.now) k) ≡ true }
         ensures { result ≡ bound (entries_at (fragments_of self.now) k) author }
     {
-        let beyond = bound_at(entries(&self.rows, k), author);
+        let (beyond, _place) = bound_near(entries(&self.rows, k), 0, author);
         if beyond > 0 {
             return beyond;
         }
@@ -120,6 +123,7 @@ impl LiveRows {
     }
 
     /// The fragment of a number. It is lent, and copies nothing.
+    #[tactic(auto, using(crate::proofs::LiveLemmas::shown_size, crate::proofs::LiveLemmas::shown_count))]
     pub(crate) fn fragment(&self, k: usize) -> Fragment<'_>
         requires rows { AreRows self.now }
         requires number { k < length (fragments_of self.now) }
@@ -150,6 +154,7 @@ impl LiveRows {
     }
 
     /// Whether each bound of the star is at most that of another's star.
+    #[tactic(auto, using(crate::proofs::LiveLemmas::shown_star))]
     pub(crate) fn is_star_leq(&self, others: &LiveRows) -> bool
         requires rows { AreRows self.now }
         requires others { AreRows others.now }
@@ -163,6 +168,7 @@ impl LiveRows {
 
     /// Whether each bound of the fragment of a number is at most that of another's of its number, whose star has those of the
     /// star here.
+    #[tactic(auto, using(crate::proofs::LiveLemmas::shown_count, crate::proofs::LiveLemmas::leq_beyond))]
     #[inline(always)]
     pub(crate) fn is_leq(&self, k: usize, others: &LiveRows, l: usize) -> bool
         requires rows { AreRows self.now }
@@ -178,12 +184,13 @@ impl LiveRows {
 
     /// Raises the author's bound to `n` in each fragment, where each has one and none more than the star. It takes no memory,
     /// and touches no row.
+    #[tactic(auto, using(crate::proofs::JoinLemmas::vector_order))]
     pub(crate) fn raise(&mut self, author: u64, n: u64)
         requires rows { AreRows self.old }
         requires waiting { IsWaiting (author, n) (fragments_of self.old) }
         ensures { self.new ≡ rows_of (all_raised (author, n) (fragments_of self.old)) }
     {
-        let place = place_of(&self.star, author);
+        let (_bound, place) = bound_near(&self.star, 0, author);
         self.star[2 * place + 1] = n;
     }
 
@@ -197,6 +204,7 @@ impl LiveRows {
     }
 
     /// Writes the normal form of what either side denotes, and gives its index. An error leaves no rows.
+    #[tactic(auto, using(crate::proofs::JoinLemmas::vector_order))]
     pub(crate) fn union(
         &self,
         alloc: Global,
@@ -253,6 +261,7 @@ impl LiveRows {
 }
 
 /// Whether each vector of the one side is at most the other's at the same picture. Takes no memory.
+#[tactic(auto, using(crate::proofs::UnionLemmas::entries_order, crate::proofs::KeptLemmas::number_below))]
 pub(crate) fn is_within(
     rows: &LiveRows,
     index: &[IndexEntry],

@@ -31,7 +31,7 @@ impl Pairing {
     }
 
     /// The next picture that the index of either side names, and beside it the numbers of its fragments on both, 0 for the star.
-    #[tactic(auto, using(crate::proofs::UnionLemmas::side_at))]
+    #[tactic(auto, using(crate::proofs::UnionLemmas::side_at, crate::proofs::SearchLemmas::next_left, crate::proofs::SearchLemmas::next_right, crate::proofs::SearchLemmas::next_both))]
     #[inline(always)]
     pub(crate) fn next(&mut self, left: Side<'_>, right: Side<'_>) -> Option<(u32, (usize, usize))>
         ensures next { IfSome result (λ r. spec.left_of self.old left.entry.index.now right.entry.index.now

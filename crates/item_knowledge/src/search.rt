@@ -12,6 +12,9 @@ pub(crate) const EPOCHS: u64 = 4_294_967_296;
 // How many places one goes forward from a hint before the whole index is searched.
 const STEPS: usize = 32;
 
+// How many entries one goes forward from a hint before the whole row is searched.
+const FEW: usize = 8;
+
 /// The number of the fragment to which an index leads from a picture, 0 for the star, and the place in the index at which
 /// the picture stands or would stand.
 pub(crate) fn number_at(index: &[IndexEntry], picture: u32) -> (usize, usize)
@@ -116,7 +119,7 @@ pub(crate) fn entry_count(row: &[u64]) -> usize
 }
 
 /// The entry at place `i` of a row: the author's word, and the bound.
-#[tactic(auto, using(crate::proofs::RowLemmas::row_length))]
+#[tactic(auto, using(crate::proofs::RowLemmas::row_length, crate::proofs::RowLemmas::row_entry))]
 pub(crate) fn entry_at(row: &[u64], i: usize) -> (u64, u64)
     requires row { IsRow row.now }
     requires place { i < length (pairs row.now) }
@@ -127,12 +130,9 @@ pub(crate) fn entry_at(row: &[u64], i: usize) -> (u64, u64)
     (row[2 * i], row[2 * i + 1])
 }
 
-/// The first place of a row of entries in order whose author is this one or a later one.
-pub(crate) fn place_of(row: &[u64], author: u64) -> usize
-    requires row { IsRow row.now }
-    requires order { in_order (pairs row.now) ≡ true }
-    ensures inside { result ≤ length (pairs row.now) }
-    ensures at { 0 < bound (pairs row.now) author → IsAt (pairs row.now) result author }
+// About the first place of a row of entries in order whose author is this one or a later one. It is a hint.
+fn place_of(row: &[u64], author: u64) -> usize
+    requires { IsRow row.now }
 {
     let mut low = 0;
     let mut high = entry_count(row);
@@ -147,7 +147,74 @@ pub(crate) fn place_of(row: &[u64], author: u64) -> usize
     low
 }
 
+// Whether all entries before a place in a row have earlier authors than this one.
+fn are_earlier(row: &[u64], place: usize, author: u64) -> bool
+    requires row { IsRow row.now }
+    requires order { in_order (pairs row.now) ≡ true }
+    ensures { result ≡ true → bound (drop place (pairs row.now)) author ≡ bound (pairs row.now) author }
+{
+    if place == 0 {
+        return true;
+    }
+    if place > entry_count(row) {
+        return false;
+    }
+    entry_at(row, place - 1).0 < author
+}
+
+// Whether an author can be seen, in a row, a few places from this one at the latest.
+fn is_close(row: &[u64], place: usize, author: u64) -> bool
+    requires { IsRow row.now }
+{
+    let last = place.saturating_add(FEW);
+    last >= entry_count(row) || author <= entry_at(row, last).0
+}
+
+// From which place of a row on an author is looked for, by a hint.
+#[inline(always)]
+fn start_near(row: &[u64], hint: usize, author: u64) -> usize
+    requires row { IsRow row.now }
+    requires order { in_order (pairs row.now) ≡ true }
+    ensures { bound (drop result (pairs row.now)) author ≡ bound (pairs row.now) author }
+{
+    if is_close(row, hint, author) {
+        if are_earlier(row, hint, author) {
+            return hint;
+        }
+    }
+    let place = place_of(row, author);
+    if are_earlier(row, place, author) {
+        return place;
+    }
+    0
+}
+
+/// The bound of an author in a row of entries in order, 0 where it has none, and the place at which it stands or would stand,
+/// which is a hint for a later author. The work is small where the hint is that of an earlier author close by; the bound is
+/// right with any hint.
+#[inline(always)]
+pub(crate) fn bound_near(row: &[u64], hint: usize, author: u64) -> (u64, usize)
+    requires row { IsRow row.now }
+    requires order { in_order (pairs row.now) ≡ true }
+    ensures bound { result.0 ≡ bound (pairs row.now) author }
+    ensures at { 0 < bound (pairs row.now) author → IsAt (pairs row.now) result.1 author }
+{
+    let mut place = start_near(row, hint, author);
+    while place < entry_count(row) {
+        let (word, n) = entry_at(row, place);
+        if author < word {
+            return (0, place);
+        }
+        if word == author {
+            return (n, place);
+        }
+        place += 1;
+    }
+    (0, place)
+}
+
 /// The bound of an author in a row of entries in order, 0 where it has none.
+#[tactic(auto, using(crate::proofs::SearchLemmas::found_there))]
 pub(crate) fn bound_at(row: &[u64], author: u64) -> u64
     requires row { IsRow row.now }
     requires order { in_order (pairs row.now) ≡ true }
@@ -161,13 +228,5 @@ pub(crate) fn bound_at(row: &[u64], author: u64) -> u64
             return n;
         }
     }
-    let place = place_of(row, author);
-    if place >= entry_count(row) {
-        return 0;
-    }
-    let (word, n) = entry_at(row, place);
-    if word != author {
-        return 0;
-    }
-    n
+    bound_near(row, place_of(row, author), author).0
 }

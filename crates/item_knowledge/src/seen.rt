@@ -9,25 +9,37 @@ use crate::search::{EPOCHS, bound_at, entry_at, entry_count};
 use crate::union::entries;
 use std::alloc::{AllocError, Global};
 
-// So many numbers have words of their own; those behind them come round again.
+// So many words there are at most; those of greater numbers come round again.
 const PERIOD: u64 = 8192;
+
+// How far behind those of one epoch the words of the next one begin.
+const EPOCH_STEP: u64 = 1021;
 
 /// Marks of the bounds that stand in rows: a bound without a mark stands in none of them. One with a mark may stand in none as
 /// well, since marks stay, and are shared.
 ///
-/// Each number has a word, and in it each author a bit.
+/// Each number has a word, in each epoch another one, and in it each device a bit.
 #[derive(Debug, Drop)]
 pub(crate) struct Seen {
     pub(crate) words: Vec<u64>,
 }
 
-// The bit of an author, by its word.
+// The bit of an author, by its word: that of its device.
 #[inline(always)]
 fn bit_of(author: u64) -> u32
     ensures value { result ≡ spec.bit_of author }
     ensures bound { result < 64 }
 {
-    ((author / EPOCHS + author % EPOCHS) % 64) as u32
+    ((author / EPOCHS) % 64) as u32
+}
+
+// At which place the word of a bound of an author stands.
+#[inline(always)]
+fn word_of(author: u64, n: u64) -> usize
+    ensures value { result ≡ spec.word_of author n }
+    ensures bound { result < 8192 }
+{
+    ((n % PERIOD + author % EPOCHS * EPOCH_STEP) % PERIOD) as usize
 }
 
 impl Seen {
@@ -48,7 +60,7 @@ impl Seen {
     fn has(&self, author: u64, n: u64) -> bool
         ensures { result ≡ spec.is_marked self.now.words.items author n }
     {
-        let place = (n % PERIOD) as usize;
+        let place = word_of(author, n);
         if place >= self.words.len() {
             return false;
         }
@@ -73,13 +85,14 @@ impl Seen {
         ensures marked { OnOk result (spec.is_marked self.new.words.items author n ≡ true) }
         ensures kept { OnOk result (spec.HasMarks self.old.words.items self.new.words.items) }
     {
-        let place = (n % PERIOD) as usize;
+        let place = word_of(author, n);
         self.make_word(place)?;
         self.words[place] = self.words[place] | (1u64 << bit_of(author));
         Ok(())
     }
 
     // Marks the entries of a row.
+    #[tactic(auto, using(crate::proofs::SeenLemmas::marked_entries))]
     fn mark_row(&mut self, row: &[u64]) -> Result<(), AllocError>
         requires { IsRow row.now }
         ensures marked { OnOk result (spec.AreMarked self.new.words.items (pairs row.now)) }
@@ -136,6 +149,7 @@ impl Seen {
 }
 
 /// Marks of all entries of rows.
+#[tactic(auto, using(crate::proofs::RowLemmas::rows_read, crate::proofs::SeenLemmas::marked_rows, crate::proofs::SeenLemmas::all_seen))]
 pub(crate) fn seen_of(alloc: Global, rows: &Rows) -> Result<Seen, AllocError>
     requires rows { AreRows rows.now }
     ensures { IfOk result (λ seen. spec.IsSeen seen.words.items rows.now) }

@@ -27,6 +27,7 @@ fn write_row(vector: &Vector, row: &mut Vec<u64>) -> Result<(), AllocError>
 }
 
 /// The rows of what is told of pictures, with their index.
+#[tactic(auto, using(crate::proofs::TableRowLemmas::none_told, crate::proofs::TableRowLemmas::told_star))]
 pub(crate) fn told(
     alloc: Global,
     table: &[(PicNo, Vector)],

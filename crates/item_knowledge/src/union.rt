@@ -2,8 +2,8 @@
 ghost use Rattle.std.specs.Prelude.{◌≡◌, ℕ, List, ◌+◌, ◌*◌, ◌<◌, [], ◌∷◌, true, length, get_or, IfOk, OnOk};
 ghost use Rattle.item_knowledge.specs.Excess.{AllDiffer, union_vector};
 ghost use Rattle.item_knowledge.specs.Fragments.{entries_at};
-ghost use Rattle.item_knowledge.specs.Gathering.{star_first};
-ghost use Rattle.item_knowledge.specs.Written.{IsWritten, groups_of, index_of};
+ghost use Rattle.item_knowledge.specs.Gathering.{star_first, IsGathered};
+ghost use Rattle.item_knowledge.specs.Written.{IsWritten, union_table};
 ghost use Rattle.item_knowledge.specs.Places.{IsFound, Placed, vectors_at};
 ghost use Rattle.item_knowledge.specs.Rows.{pairs, IsRow, AreRows, fragments_of, rows_of, grouped};
 ghost use Rattle.item_knowledge.specs.Seen.{IsSeen};
@@ -107,10 +107,9 @@ fn groups(
     requires none { places.old.numbers.items ≡ [] }
     requires found { (rows : List (List ℕ)) → IsFound places.old rows }
     ensures placed { IfOk result (λ all. Placed places.new vectors.new all.0.items) }
-    ensures groups { IfOk result (λ all. grouped all.0.items (vectors_at vectors.new places.new.numbers.items)
-        ≡ groups_of (pairs star.now) (fragments left.entry) (fragments right.entry) left.entry.index.now right.entry.index.now) }
-    ensures index { IfOk result (λ all. all.1.items
-        ≡ index_of (pairs star.now) (fragments left.entry) (fragments right.entry) left.entry.index.now right.entry.index.now) }
+    ensures gathered { IfOk result (λ all. IsGathered
+        (union_table (pairs star.now) (fragments left.entry) (fragments right.entry) left.entry.index.now right.entry.index.now)
+        [] (grouped all.0.items (vectors_at vectors.new places.new.numbers.items)) all.1.items) }
 {
     let mut groups = Vec::new(alloc);
     let mut index = Vec::with_capacity(alloc, pictures_together(left.index, right.index))?;

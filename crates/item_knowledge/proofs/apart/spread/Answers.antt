@@ -1,18 +1,18 @@
-use Rattle.std.proofs.Common.{rules, ◌≡◌, ℕ, ◌+◌, true, false, [], ◌∷◌, ◌++◌, length, sym, ap, ◌∙◌, arith}
+use Rattle.std.proofs.Common.{rules, ◌≡◌, ℕ, ◌+◌, false, [], ◌∷◌, ◌++◌, length, sym, ap, ◌∙◌, arith}
 use Rattle.item_knowledge.specs.Entries.{same_entries}
-use Rattle.item_knowledge.specs.Excess.{union_vector}
+use Rattle.item_knowledge.specs.Excess.{exceeding, union_vector}
 use Rattle.item_knowledge.specs.Rows.{pairs}
 use Rattle.item_knowledge.specs.Sides.{fragments}
-use Rattle.item_knowledge.proofs.FragmentLemmas.{entries_decide}
+use Rattle.item_knowledge.proofs.JoinLemmas.{joined_left, vector_order}
 use Rattle.item_knowledge.proofs.RowLemmas.{rows_read}
-use Rattle.item_knowledge.proofs.WayLemmas.{on_first, on_star, on_stays, on_joined, on_all}
+use Rattle.item_knowledge.proofs.WayLemmas.{on_stays, on_joined}
 use Rattle.item_knowledge.proofs.apart.spread.Goals as goal
 
-pub loop-picture-init : goal.loop-picture-init
-loop-picture-init c = on_first c.args.left.rows.now c.args.right.rows.now c.args.left.index.now c.args.right.index.now (pairs c.args.star.now) c.args.out.now c.args.lists.now.index.items c.args.lists.now.joined.items c.new-pairing.result c.args.left.side.star c.new-pairing.ensures.left c.new-pairing.ensures.right c.requires.out c.requires.index c.requires.joined
+pub join-requires-clause-star : goal.join-requires-clause-star
+join-requires-clause-star c = vector_order (pairs c.args.left.star.now) c.args.left.excess.vector
 
-pub stays-requires-clause-raised : goal.stays-requires-clause-raised
-stays-requires-clause-raised c = λ level. (entries_decide (pairs c.args.star.now) (pairs c.args.left.star.now)).0 (sym c.same_row-is_raised.ensures ∙ search rules)
+pub stays-requires-clause-risen : goal.stays-requires-clause-risen
+stays-requires-clause-risen c = ap pairs c.deref.ensures.value ∙ c.in_ok-join.ensures.entries ∙ ap (exceeding (pairs c.args.left.star.now)) (joined_left (pairs c.args.star.now) c.requires.star)
 
 pub overflow_add-to : goal.overflow_add-to
 overflow_add-to c =
@@ -25,13 +25,6 @@ loop-picture-preserved-then-stays c =
     on_stays c.args.left.rows.now c.args.right.rows.now c.args.left.index.now c.args.right.index.now (pairs c.args.star.now) c.loop-picture.out c.loop-picture.lists.index.items c.loop-picture.lists.joined.items c.loop-picture.pairing c.loop-picture.from c.loop-picture.to c.loop-picture.invariant c.next.new.self r c.run_to.new.out c.push.new.self.items c.in_ok-from.from c.args.left.star.now c.args.left.excess c.requires.differ c.in-Some.ensures.next (c.stays.ensures c.if-stays.true) c.in-Some.ensures.left c.in_ok-from.ensures.order c.in_ok-from.ensures.run
     (c.in_ok-push.ensures.items ∙ ap (λ n. c.loop-picture.lists.index.items ++ (r.0, n) ∷ []) (c.in_ok-number.ensures.value ∙ search rules))
 
-pub loop-picture-preserved-then-is_nothing : goal.loop-picture-preserved-then-is_nothing
-loop-picture-preserved-then-is_nothing c =
-    let r : ℕ × (ℕ × ℕ) = (c.in-Some.picture, c.in-Some.numbers) in
-    let f = union_vector (pairs c.args.star.now) (fragments c.args.left) (fragments c.args.right) in
-    let none : same_entries [] (f r.1) ≡ true = ap (λ v. same_entries [] v) (sym c.in_ok-row.ensures.entries) ∙ (sym c.is_nothing.ensures ∙ search rules) in
-    on_star c.args.left.rows.now c.args.right.rows.now c.args.left.index.now c.args.right.index.now (pairs c.args.star.now) c.loop-picture.out c.loop-picture.lists.index.items c.loop-picture.lists.joined.items c.loop-picture.pairing c.loop-picture.from c.loop-picture.to c.loop-picture.invariant c.next.new.self r c.in-Some.ensures.next none
-
 pub loop-picture-preserved : goal.loop-picture-preserved
 loop-picture-preserved c =
     let r : ℕ × (ℕ × ℕ) = (c.in-Some.picture, c.in-Some.numbers) in
@@ -40,6 +33,3 @@ loop-picture-preserved c =
     let number : c.in_ok-number-2.number ≡ length c.loop-picture.lists.index.items + 1 = c.in_ok-number-2.ensures.value ∙ search rules in
     on_joined c.args.left.rows.now c.args.right.rows.now c.args.left.index.now c.args.right.index.now (pairs c.args.star.now) c.loop-picture.out c.loop-picture.lists.index.items c.loop-picture.lists.joined.items c.loop-picture.pairing c.loop-picture.from c.loop-picture.to c.loop-picture.invariant c.next.new.self r c.place_fragment.new.self c.push-in-Some.new.self.items c.push-in-Some-2.new.self.items c.in_ok-row.row.now c.in-Some.ensures.next c.in_ok-row.ensures.row c.in_ok-row.ensures.entries some (search rules)
     (c.in_ok-push-2.ensures.items ∙ ap (λ n. c.loop-picture.lists.index.items ++ (r.0, n) ∷ []) number) (c.in_ok-push-3.ensures.items ∙ ap (λ n. c.loop-picture.lists.joined.items ++ (r.0, n) ∷ []) number)
-
-pub returns : goal.returns
-returns c = on_all c.args.left.rows.now c.args.right.rows.now c.args.left.index.now c.args.right.index.now (pairs c.args.star.now) c.loop-picture.out c.loop-picture.lists.index.items c.loop-picture.lists.joined.items c.loop-picture.pairing c.loop-picture.from c.loop-picture.to c.loop-picture.invariant c.place_run-2.new.out (c.next.ensures.none (search rules)) (search rules)

@@ -2,21 +2,8 @@ use Rattle.std.proofs.Common.{◌<◌, length, get_or, sym, subst}
 use Rattle.item_knowledge.specs.Fragments.{entries_at}
 use Rattle.item_knowledge.specs.Rows.{fragments_of}
 use Rattle.item_knowledge.proofs.KeptLemmas.{leq_trans, number_below}
-use Rattle.item_knowledge.proofs.UnionLemmas.{above, entries_order}
+use Rattle.item_knowledge.proofs.UnionLemmas.{above}
 use Rattle.item_knowledge.proofs.live.is_within.Goals as goal
-
-pub is_star_leq-requires-clause-order : goal.is_star_leq-requires-clause-order
-is_star_leq-requires-clause-order c = entries_order (fragments_of c.args.others.now) c.args.others_index.now 0 c.requires.right c.requires.right.star
-
-pub is_leq-requires-clause-other : goal.is_leq-requires-clause-other
-is_leq-requires-clause-other c =
-    subst (λ n. n < length (fragments_of c.args.others.now)) (sym c.number_near-other.ensures)
-    (number_below (fragments_of c.args.others.now) c.args.others_index.now (get_or c.args.index.now c.loop-i.i (0, 0)).0 c.requires.right)
-
-pub is_leq-requires-clause-order : goal.is_leq-requires-clause-order
-is_leq-requires-clause-order c =
-    let below = subst (λ n. n < length (fragments_of c.args.others.now)) (sym c.number_near-other.ensures) (number_below (fragments_of c.args.others.now) c.args.others_index.now (get_or c.args.index.now c.loop-i.i (0, 0)).0 c.requires.right) in
-    entries_order (fragments_of c.args.others.now) c.args.others_index.now c.number_near-other.result.0 c.requires.right below
 
 pub is_leq-requires-clause-star : goal.is_leq-requires-clause-star
 is_leq-requires-clause-star c =

@@ -4,11 +4,8 @@ use Rattle.std.proofs.lemmas.List.{length-take-le, take_all}
 use Rattle.std.proofs.lemmas.Option.{slice_get-get_or}
 use Rattle.item_knowledge.specs.Rows.{flat}
 use Rattle.item_knowledge.specs.TableRows.{entries_of, IsTold}
-use Rattle.item_knowledge.proofs.TableRowLemmas.{got_take, none_told, one_told, told_are_rows, told_are_vectors, told_star}
+use Rattle.item_knowledge.proofs.TableRowLemmas.{got_take, one_told, told_are_rows, told_are_vectors}
 use Rattle.item_knowledge.proofs.table_rows.told.Goals as goal
-
-pub loop-i-init : goal.loop-i-init
-loop-i-init c = record { told = none_told c.begin.new.out c.in_ok-index.index.items (search rules) c.in_ok-index.ensures.items }
 
 pub loop-i-preserved : goal.loop-i-preserved
 loop-i-preserved c =
@@ -36,6 +33,3 @@ of_rows-requires-clause-rows c = told_are_rows c.loop-i.invariant.told
 
 pub of_rows-requires-clause-vectors : goal.of_rows-requires-clause-vectors
 of_rows-requires-clause-vectors c = told_are_vectors c.loop-i.invariant.told
-
-pub of_rows-requires-clause-star : goal.of_rows-requires-clause-star
-of_rows-requires-clause-star c = told_star c.loop-i.invariant.told

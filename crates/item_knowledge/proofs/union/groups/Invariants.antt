@@ -1,17 +1,17 @@
 use Rattle.std.proofs.Common.{[]}
 use Rattle.item_knowledge.specs.Excess.{union_vector}
+use Rattle.item_knowledge.specs.Gathering.{table_of, IsGathered}
 use Rattle.item_knowledge.specs.Pairing.{left_of, to_come}
 use Rattle.item_knowledge.specs.Places.{Placed, vectors_at}
 use Rattle.item_knowledge.specs.Rows.{pairs, grouped}
 use Rattle.item_knowledge.specs.Sides.{fragments}
-use Rattle.item_knowledge.specs.Written.{groups_of, index_of}
-use Rattle.item_knowledge.proofs.OnTheWay.{IsGathered}
+use Rattle.item_knowledge.specs.Written.{union_table}
 use Rattle.item_knowledge.proofs.union.groups.Given as goal
 
 abbrev pub invariant-loop-picture : goal.invariant-loop-picture
 invariant-loop-picture l = record {
-  gathered : IsGathered [] (union_vector (pairs l.star) (fragments l.left) (fragments l.right)) (left_of l.pairing l.left.index.now l.right.index.now) (grouped l.groups.items (vectors_at l.vectors l.places.numbers.items)) l.index.items
-      (groups_of (pairs l.star) (fragments l.left) (fragments l.right) l.left.index.now l.right.index.now) (index_of (pairs l.star) (fragments l.left) (fragments l.right) l.left.index.now l.right.index.now);
+  gathered : IsGathered (union_table (pairs l.star) (fragments l.left) (fragments l.right) l.left.index.now l.right.index.now)
+      (table_of [] (union_vector (pairs l.star) (fragments l.left) (fragments l.right)) (left_of l.pairing l.left.index.now l.right.index.now)) (grouped l.groups.items (vectors_at l.vectors l.places.numbers.items)) l.index.items;
   placed : Placed l.places l.vectors l.groups.items;
 }
 

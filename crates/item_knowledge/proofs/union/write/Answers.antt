@@ -1,12 +1,19 @@
-use Rattle.std.proofs.Common.{rules, ◌≡◌, [], ◌∷◌, ◌++◌, ap, ◌∙◌}
+use Rattle.std.proofs.Common.{◌<◌, [], length, arith}
+use Rattle.std.proofs.lemmas.Grind.{common_steps}
 use Rattle.item_knowledge.specs.Places.{vectors_at}
-use Rattle.item_knowledge.proofs.PlaceLemmas.{interleaved, interleaved_rows}
+use Rattle.item_knowledge.proofs.MergeLemmas.{drop_next}
 use Rattle.item_knowledge.proofs.union.write.Goals as goal
 
-pub loop-k-init : goal.loop-k-init
-loop-k-init c =
-    let rows : c.begin.new.out ≡ [] ∷ [] ∷ [] = search rules in
-    record {
-      rest = ap (λ rs. rs ++ interleaved c.args.groups.now (vectors_at c.args.vectors.now c.args.places.now.numbers.items)) rows
-          ∙ ap (λ rs. [] ∷ [] ∷ rs) (interleaved_rows c.args.groups.now (vectors_at c.args.vectors.now c.args.places.now.numbers.items) c.requires.whole);
-    }
+pub loop-k-preserved : goal.loop-k-preserved
+loop-k-preserved c =
+    let k = c.loop-k.k in
+    let rows = vectors_at c.args.vectors.now c.args.places.now.numbers.items in
+    let less : k < length c.args.groups.now = omega arith in
+    let inside : k < length rows = omega (arith, less, c.requires.counted) in
+    let groups_left = drop_next c.args.groups.now k c.index-groups-k.result less in
+    let rows_left = drop_next rows k [] inside in
+    let row = c.requires.whole k inside in
+    let group = c.in_ok-place.ensures in
+    let vector = c.in_ok-place-2.ensures.placed in
+    let before = c.loop-k.invariant.rest in
+    record { rest = grind (arith, common_steps) }

@@ -8,6 +8,3 @@ invariant_of-result c = (
   c.self.invariant,
   ap is_vector (at_first c.new.result c.self.inside.row.now c.self.inside.star.now c.new.ensures.left c.new.ensures.right) ∙ lent_vector c.self.inside.row.now c.self.inside.star.now c.self.invariant,
 )
-
-pub returns : goal.returns
-returns c = at_first c.new.result c.self.inside.row.now c.self.inside.star.now c.new.ensures.left c.new.ensures.right ∙ ap (λ f. f.entries) c.self.view_is

@@ -1,18 +1,10 @@
-use Rattle.std.proofs.Common.{◌≡◌, sym, subst, ap, ◌∙◌}
+use Rattle.std.proofs.Common.{◌≡◌, sym, ap, ◌∙◌}
 use Rattle.item_knowledge.specs.Fragments.{knows}
 use Rattle.item_knowledge.specs.Rows.{fragments_of}
-use Rattle.item_knowledge.specs.Gathering.{IsSide}
 use Rattle.item_knowledge.specs.Kept.{is_side_within}
-use Rattle.item_knowledge.proofs.KeptLemmas.{kept_side}
-use Rattle.item_knowledge.proofs.WithinLemmas.{within_pairs}
+use Rattle.item_knowledge.proofs.KeptLemmas.{within_pairs}
 use Rattle.item_knowledge.proofs.StagedLemmas.{known_of}
 use Rattle.item_knowledge.proofs.knowledge.Knowledge.has_all.Goals as goal
-
-pub is_within-requires-clause-left : goal.is_within-requires-clause-left
-is_within-requires-clause-left c = subst (IsSide (fragments_of c.other.inside.live)) (sym c.deref.ensures.value) (kept_side c.other.inside.live c.other.inside.index.items c.other.invariant.kept)
-
-pub is_within-requires-clause-right : goal.is_within-requires-clause-right
-is_within-requires-clause-right c = subst (IsSide (fragments_of c.self.inside.live)) (sym c.deref-2.ensures.value) (kept_side c.self.inside.live c.self.inside.index.items c.self.invariant.kept)
 
 pub returns : goal.returns
 returns c =

@@ -1,17 +1,9 @@
 use Rattle.std.proofs.Common.{◌≡◌, true, Some, sym, subst, ◌∙◌}
 use Rattle.item_knowledge.specs.Rows.{fragments_of}
-use Rattle.item_knowledge.specs.Gathering.{IsSide}
 use Rattle.item_knowledge.specs.Kept.{is_side_within}
 use Rattle.item_knowledge.specs.Staged.{IsStagedUnion}
-use Rattle.item_knowledge.proofs.KeptLemmas.{kept_side}
 use Rattle.item_knowledge.proofs.StagedLemmas.{known_of, within_union, side_union}
 use Rattle.item_knowledge.proofs.knowledge.Knowledge.stage.Goals as goal
-
-pub is_within-requires-clause-left : goal.is_within-requires-clause-left
-is_within-requires-clause-left c = subst (IsSide (fragments_of c.other.inside.live)) (sym c.deref.ensures.value) (kept_side c.other.inside.live c.other.inside.index.items c.other.invariant.kept)
-
-pub is_within-requires-clause-right : goal.is_within-requires-clause-right
-is_within-requires-clause-right c = subst (IsSide (fragments_of c.self.inside.live)) (sym c.deref-2.ensures.value) (kept_side c.self.inside.live c.self.inside.index.items c.self.invariant.kept)
 
 pub returns-then-is_within-clause-staged : goal.returns-then-is_within-clause-staged
 returns-then-is_within-clause-staged c =
@@ -21,9 +13,6 @@ returns-then-is_within-clause-staged c =
     let union = within_union c.self.inside.live c.other.inside.live c.self.inside.index.items c.other.inside.index.items c.self.invariant.kept c.other.invariant.kept within in
     subst (λ fs. IsStagedUnion (Some (fragments_of c.self.inside.live)) fs c.args.other.now.known) (known_of c.self.view_is)
     (subst (λ fs. IsStagedUnion (Some (fragments_of c.self.inside.live)) (fragments_of c.self.inside.live) fs) (known_of c.other.view_is) union)
-
-pub stage_union-requires-clause-side : goal.stage_union-requires-clause-side
-stage_union-requires-clause-side c = subst (IsSide (fragments_of c.other.inside.live)) (sym c.deref-3.ensures.value) (kept_side c.other.inside.live c.other.inside.index.items c.other.invariant.kept)
 
 pub returns-clause-staged : goal.returns-clause-staged
 returns-clause-staged c =

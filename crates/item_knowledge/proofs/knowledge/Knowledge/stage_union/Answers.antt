@@ -1,12 +1,9 @@
-use Rattle.std.proofs.Common.{rules, sym, subst}
+use Rattle.std.proofs.Common.{rules, subst}
 use Rattle.item_knowledge.specs.Rows.{fragments_of}
-use Rattle.item_knowledge.specs.Gathering.{IsSide, IsUnion}
-use Rattle.item_knowledge.proofs.KeptLemmas.{kept_side, joins}
+use Rattle.item_knowledge.specs.Gathering.{IsUnion}
+use Rattle.item_knowledge.proofs.KeptLemmas.{joins}
 use Rattle.item_knowledge.proofs.StagedLemmas.{known_of}
 use Rattle.item_knowledge.proofs.knowledge.Knowledge.stage_union.Goals as goal
-
-pub union-requires-clause-left : goal.union-requires-clause-left
-union-requires-clause-left c = subst (IsSide (fragments_of c.self.inside.live)) (sym c.deref.ensures.value) (kept_side c.self.inside.live c.self.inside.index.items c.self.invariant.kept)
 
 pub returns-clause-joined : goal.returns-clause-joined
 returns-clause-joined c =

@@ -1,25 +1,9 @@
-use Rattle.std.proofs.Common.{sym, ◌∙◌, arith}
+use Rattle.std.proofs.Common.{sym, ◌∙◌}
 use Rattle.item_knowledge.specs.Entries.{joined}
 use Rattle.item_knowledge.specs.Rows.{pairs}
-use Rattle.item_knowledge.proofs.LiveLemmas.{shown_at, lent_at}
+use Rattle.item_knowledge.proofs.LiveLemmas.{shown_at}
 use Rattle.item_knowledge.proofs.RowLemmas.{pictures_read}
 use Rattle.item_knowledge.proofs.live.LiveRows.fragment.Goals as goal
-
-pub overflow_mul-k : goal.overflow_mul-k
-overflow_mul-k c =
-    let at = shown_at c.self.inside.star.items c.self.inside.rows c.args.self.now c.self.invariant.0 c.self.view_is c.args.k c.requires.number in
-    omega (arith, at.there, at.size)
-
-pub row-requires : goal.row-requires
-row-requires c =
-    let at = shown_at c.self.inside.star.items c.self.inside.rows c.args.self.now c.self.invariant.0 c.self.view_is c.args.k c.requires.number in
-    omega (arith, at.there, at.size)
-
-pub entries-requires-clause-number : goal.entries-requires-clause-number
-entries-requires-clause-number c = (shown_at c.self.inside.star.items c.self.inside.rows c.args.self.now c.self.invariant.0 c.self.view_is c.args.k c.requires.number).there
-
-pub new-requires : goal.new-requires
-new-requires c = lent_at c.self.inside.star.items c.self.inside.rows c.args.self.now c.self.invariant.0 c.self.view_is c.args.k c.entries.result.now c.deref.result.now c.entries.ensures.row c.entries.ensures.entries c.deref.ensures.value
 
 pub returns : goal.returns
 returns c =

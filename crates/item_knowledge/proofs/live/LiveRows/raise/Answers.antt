@@ -1,29 +1,24 @@
-use Rattle.std.proofs.Common.{◌≡◌, ◌<◌, true, length, refl, sym, subst, ap, arith}
+use Rattle.std.proofs.Common.{◌<◌, length, refl, subst, ap, arith}
 use Rattle.item_knowledge.specs.Entries.{bound}
 use Rattle.item_knowledge.specs.Rows.{pairs, IsAt}
-use Rattle.item_knowledge.specs.Tables.{in_order}
-use Rattle.item_knowledge.proofs.JoinLemmas.{vector_order}
 use Rattle.item_knowledge.proofs.LiveLemmas.{raised_inside, raised_star}
 use Rattle.item_knowledge.proofs.live.LiveRows.raise.Goals as goal
 
-pub place_of-place-requires-clause-order : goal.place_of-place-requires-clause-order
-place_of-place-requires-clause-order c = subst (λ ws. in_order (pairs ws) ≡ true) (sym c.deref.ensures.value) (vector_order (pairs c.self.inside.star.items) c.self.invariant.0.vector)
-
 pub overflow_mul-place : goal.overflow_mul-place
-overflow_mul-place c = let inside = raised_inside c.self.inside.star.items c.self.inside.rows c.args.self.now c.args.author c.args.n c.place_of-place.result c.self.invariant.0 c.self.view_is c.requires.waiting (subst (λ ws. 0 < bound (pairs ws) c.args.author → IsAt (pairs ws) c.place_of-place.result c.args.author) c.deref.ensures.value c.place_of-place.ensures.at) in omega arith
+overflow_mul-place c = let inside = raised_inside c.self.inside.star.items c.self.inside.rows c.args.self.now c.args.author c.args.n c.bound_near-bound.result.1 c.self.invariant.0 c.self.view_is c.requires.waiting (subst (λ ws. 0 < bound (pairs ws) c.args.author → IsAt (pairs ws) c.bound_near-bound.result.1 c.args.author) c.deref.ensures.value c.bound_near-bound.ensures.at) in omega arith
 
 pub overflow_add-place : goal.overflow_add-place
-overflow_add-place c = let inside = raised_inside c.self.inside.star.items c.self.inside.rows c.args.self.now c.args.author c.args.n c.place_of-place.result c.self.invariant.0 c.self.view_is c.requires.waiting (subst (λ ws. 0 < bound (pairs ws) c.args.author → IsAt (pairs ws) c.place_of-place.result c.args.author) c.deref.ensures.value c.place_of-place.ensures.at) in omega arith
+overflow_add-place c = let inside = raised_inside c.self.inside.star.items c.self.inside.rows c.args.self.now c.args.author c.args.n c.bound_near-bound.result.1 c.self.invariant.0 c.self.view_is c.requires.waiting (subst (λ ws. 0 < bound (pairs ws) c.args.author → IsAt (pairs ws) c.bound_near-bound.result.1 c.args.author) c.deref.ensures.value c.bound_near-bound.ensures.at) in omega arith
 
 pub index_mut-requires : goal.index_mut-requires
 index_mut-requires c =
-    let inside = raised_inside c.self.inside.star.items c.self.inside.rows c.args.self.now c.args.author c.args.n c.place_of-place.result c.self.invariant.0 c.self.view_is c.requires.waiting (subst (λ ws. 0 < bound (pairs ws) c.args.author → IsAt (pairs ws) c.place_of-place.result c.args.author) c.deref.ensures.value c.place_of-place.ensures.at) in
+    let inside = raised_inside c.self.inside.star.items c.self.inside.rows c.args.self.now c.args.author c.args.n c.bound_near-bound.result.1 c.self.invariant.0 c.self.view_is c.requires.waiting (subst (λ ws. 0 < bound (pairs ws) c.args.author → IsAt (pairs ws) c.bound_near-bound.result.1 c.args.author) c.deref.ensures.value c.bound_near-bound.ensures.at) in
     let long = c.deref.ensures.len in
     let same = ap length c.deref.ensures.value in
     omega arith
 
 pub invariant_of-self : goal.invariant_of-self
-invariant_of-self c = ((raised_star c.self.inside.star.items c.self.inside.rows c.args.self.now c.args.author c.args.n c.place_of-place.result c.self.invariant.0 c.self.view_is c.requires.waiting (subst (λ ws. 0 < bound (pairs ws) c.args.author → IsAt (pairs ws) c.place_of-place.result c.args.author) c.deref.ensures.value c.place_of-place.ensures.at) _ refl).excess, c.self.invariant.1)
+invariant_of-self c = ((raised_star c.self.inside.star.items c.self.inside.rows c.args.self.now c.args.author c.args.n c.bound_near-bound.result.1 c.self.invariant.0 c.self.view_is c.requires.waiting (subst (λ ws. 0 < bound (pairs ws) c.args.author → IsAt (pairs ws) c.bound_near-bound.result.1 c.args.author) c.deref.ensures.value c.bound_near-bound.ensures.at) _ refl).excess, c.self.invariant.1)
 
 pub returns : goal.returns
-returns c = (raised_star c.self.inside.star.items c.self.inside.rows c.args.self.now c.args.author c.args.n c.place_of-place.result c.self.invariant.0 c.self.view_is c.requires.waiting (subst (λ ws. 0 < bound (pairs ws) c.args.author → IsAt (pairs ws) c.place_of-place.result c.args.author) c.deref.ensures.value c.place_of-place.ensures.at) _ refl).shown
+returns c = (raised_star c.self.inside.star.items c.self.inside.rows c.args.self.now c.args.author c.args.n c.bound_near-bound.result.1 c.self.invariant.0 c.self.view_is c.requires.waiting (subst (λ ws. 0 < bound (pairs ws) c.args.author → IsAt (pairs ws) c.bound_near-bound.result.1 c.args.author) c.deref.ensures.value c.bound_near-bound.ensures.at) _ refl).shown

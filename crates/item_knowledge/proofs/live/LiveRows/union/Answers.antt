@@ -10,12 +10,6 @@ use Rattle.item_knowledge.proofs.LiveLemmas.{shown_are, shown_side, star_joined,
 use Rattle.item_knowledge.specs.Written.{IsWritten}
 use Rattle.item_knowledge.proofs.live.LiveRows.union.Goals as goal
 
-pub join-requires-clause-left : goal.join-requires-clause-left
-join-requires-clause-left c = subst (λ ws. in_order (pairs ws) ≡ true) (sym c.deref.ensures.value) (vector_order (pairs c.self.inside.star.items) c.self.invariant.0.vector)
-
-pub join-requires-clause-right : goal.join-requires-clause-right
-join-requires-clause-right c = subst (λ ws. in_order (pairs ws) ≡ true) (sym c.deref-2.ensures.value) (vector_order (pairs c.others.inside.star.items) c.others.invariant.0.vector)
-
 pub invariant_of-left : goal.invariant_of-left
 invariant_of-left c = record {
   whole = c.self.invariant.0.are_rows;
@@ -42,7 +36,7 @@ union-requires-clause-star c =
 pub invariant_of-out : goal.invariant_of-out
 invariant_of-out c =
     let written : IsWritten (pairs c.join.new.out.items) (fragments_of c.self.inside.rows) c.args.index.now (fragments_of c.others.inside.rows) c.args.others_index.now c.union.new.out c.in-Ok.written.items = subst (λ ws. IsWritten (pairs ws) (fragments_of c.self.inside.rows) c.args.index.now (fragments_of c.others.inside.rows) c.args.others_index.now c.union.new.out c.in-Ok.written.items) c.deref-5.ensures.value c.in-Ok.ensures in
-    ((union_made c.self.inside.star.items c.others.inside.star.items c.join.new.out.items c.self.inside.rows c.others.inside.rows c.args.self.now c.args.others.now c.union.new.out c.args.index.now c.args.others_index.now c.in-Ok.written.items c.self.invariant.0 c.self.view_is c.others.invariant.0 c.others.view_is c.in_ok-join.ensures.row (star_joined c.self.inside.star.items c.others.inside.star.items c.deref.result.now c.deref-2.result.now c.join.new.out.items c.self.inside.rows c.others.inside.rows c.self.invariant.0 c.others.invariant.0 c.deref.ensures.value c.deref-2.ensures.value c.in_ok-join.ensures.entries) c.requires.left c.requires.right (subst (λ ws. IsWritten (pairs ws) (fragments_of c.self.inside.rows) c.args.index.now (fragments_of c.others.inside.rows) c.args.others_index.now c.union.new.out c.in-Ok.written.items) c.deref-5.ensures.value c.in-Ok.ensures)).excess, union_seen (pairs c.join.new.out.items) c.self.inside.seen.words.items c.others.inside.seen.words.items c.in_ok-seen.seen.words.items c.self.inside.rows c.others.inside.rows c.union.new.out c.args.index.now c.args.others_index.now (shown_side c.self.inside.star.items c.self.inside.rows c.args.self.now c.self.invariant.0 c.self.view_is c.args.index.now c.requires.left) (shown_side c.others.inside.star.items c.others.inside.rows c.args.others.now c.others.invariant.0 c.others.view_is c.args.others_index.now c.requires.right) c.self.invariant.0.first c.others.invariant.0.first c.self.invariant.1 c.others.invariant.1 c.in_ok-seen.ensures.one c.in_ok-seen.ensures.other written.rows)
+    ((union_made c.self.inside.star.items c.others.inside.star.items c.join.new.out.items c.self.inside.rows c.others.inside.rows c.args.self.now c.args.others.now c.union.new.out c.args.index.now c.args.others_index.now c.in-Ok.written.items c.self.invariant.0 c.self.view_is c.others.invariant.0 c.others.view_is c.in_ok-join.ensures.row (star_joined c.self.inside.star.items c.others.inside.star.items c.deref.result.now c.deref-2.result.now c.join.new.out.items c.self.inside.rows c.others.inside.rows c.self.invariant.0 c.others.invariant.0 c.deref.ensures.value c.deref-2.ensures.value c.in_ok-join.ensures.entries) c.requires.left c.requires.right (subst (λ ws. IsWritten (pairs ws) (fragments_of c.self.inside.rows) c.args.index.now (fragments_of c.others.inside.rows) c.args.others_index.now c.union.new.out c.in-Ok.written.items) c.deref-5.ensures.value c.in-Ok.ensures)).excess, union_seen (pairs c.join.new.out.items) c.self.inside.seen.words.items c.others.inside.seen.words.items c.in_ok-seen.seen.words.items c.self.inside.rows c.others.inside.rows c.union.new.out c.args.index.now c.args.others_index.now c.in-Ok.written.items (shown_side c.self.inside.star.items c.self.inside.rows c.args.self.now c.self.invariant.0 c.self.view_is c.args.index.now c.requires.left) (shown_side c.others.inside.star.items c.others.inside.rows c.args.others.now c.others.invariant.0 c.others.view_is c.args.others_index.now c.requires.right) c.self.invariant.0.first c.others.invariant.0.first c.self.invariant.1 c.others.invariant.1 c.in_ok-seen.ensures.one c.in_ok-seen.ensures.other written)
 
 pub returns-in-Ok-clause-rows : goal.returns-in-Ok-clause-rows
 returns-in-Ok-clause-rows c = (union_made c.self.inside.star.items c.others.inside.star.items c.join.new.out.items c.self.inside.rows c.others.inside.rows c.args.self.now c.args.others.now c.union.new.out c.args.index.now c.args.others_index.now c.in-Ok.written.items c.self.invariant.0 c.self.view_is c.others.invariant.0 c.others.view_is c.in_ok-join.ensures.row (star_joined c.self.inside.star.items c.others.inside.star.items c.deref.result.now c.deref-2.result.now c.join.new.out.items c.self.inside.rows c.others.inside.rows c.self.invariant.0 c.others.invariant.0 c.deref.ensures.value c.deref-2.ensures.value c.in_ok-join.ensures.entries) c.requires.left c.requires.right (subst (λ ws. IsWritten (pairs ws) (fragments_of c.self.inside.rows) c.args.index.now (fragments_of c.others.inside.rows) c.args.others_index.now c.union.new.out c.in-Ok.written.items) c.deref-5.ensures.value c.in-Ok.ensures)).rows
