@@ -1,28 +1,32 @@
 -- What is true of a device that took versions, or gave up some.
-use Rattle.std.proofs.Common.{◌≡◌, ℕ, ◌+◌, ◌≤◌, ◌<◌, Bool, true, false, not, cond, ◌||◌, List, [], ◌∷◌, ◌++◌, refl, sym, ap, ◌∙◌, inl, inr, arith, subst, ◌-◌, length}
+use Rattle.std.proofs.Common.{◌≡◌, ℕ, ◌+◌, ◌≤◌, ◌<◌, Bool, true, false, not, ◌||◌, List, [], ◌∷◌, ◌++◌, refl, sym, ap, ◌∙◌, ◌⊎◌, inl, inr, arith, subst, ◌-◌, length}
 use Rattle.std.specs.Prelude.{filter, None}
 use Rattle.std.specs.List.{AllByRecursion, list_any}
 use Rattle.std.proofs.lemmas.Bool.{cases_Bool, false≢true, and_parts}
+use Rattle.std.proofs.lemmas.Bool.Decides.{nat_tests}
+use Rattle.std.proofs.Math.Bool.{or-true}
 use Rattle.std.proofs.lemmas.List.{append-nil, length-map}
 use Rattle.std.proofs.lemmas.List.Filters.{length-filter_both}
 use Rattle.photo_filter_text.specs.Tree.{Tree}
 use Rattle.photo_filter_rules.specs.Matching.{matches}
-use Rattle.photo_version.specs.Version.{Version, same_version}
+use Rattle.photo_version.specs.Version.{Version, version, same_version}
 use Rattle.item_knowledge.specs.Fragments.{Fragment, knows}
 use Rattle.photo_device.specs.declared.held.Held.{Held}
-use Rattle.photo_device.specs.Entry.{without, Entry, put_entries}
+use Rattle.photo_device.specs.Entry.{is_of_other, without, Entry, put_entries}
 use Rattle.photo_device.specs.Held.{held_before, count_of, find_version, is_listed, helds_without, put_helds, entry_of, entries_of, are_in_order}
-use Rattle.photo_device.specs.Device.{Kept, ModelDevice, Shows, without_waiting, narrowed, moved}
-use Rattle.photo_device.specs.Own.{HasEarlier, IsKnownBy, IsDevice, KnowsItsOwn}
+use Rattle.photo_device.specs.Device.{Kept, ModelDevice, Shows, held_at, without_waiting, narrowed, moved}
+use Rattle.photo_device.specs.declared.place.Place.{Place}
+use Rattle.photo_device.specs.declared.place.Place.TheVariants.{Store, Out}
+use Rattle.photo_device.specs.Learning.{IsOwnLearned}
+use Rattle.photo_device.specs.Own.{HasEarlier, IsKnownBy, IsDevice, IsNext, KnowsItsOwn}
 use Rattle.photo_device.specs.Taking.{is_on_side, AreNewTo, with_side}
-use Rattle.photo_device.specs.Ordered.{put}
-use Rattle.photo_device.proofs.AllLemmas.{all_filter, all_put}
-use Rattle.photo_device.proofs.Counts.{count_of-cons, count_of-append, count_of-filter, same_version_is, none_there, none_counted}
-use Rattle.photo_device.proofs.Shown.{entries-without, entries-filter, entries-put_helds}
-use Rattle.photo_device.proofs.OwnLemmas.{known_later}
+use Rattle.photo_device.proofs.AllLemmas.{all_append, all_back, all_filter, all_front, all_put}
+use Rattle.photo_device.proofs.Counts.{one_of, count_of-cons, count_of-append, count_of-filter, same_version_is, same_version_self, none_there, none_counted}
+use Rattle.photo_device.proofs.Shown.{entries-without, entries-filter, entries-put_those}
+use Rattle.photo_device.proofs.OwnLemmas.{known_later, none_of_next, own_learned}
 use Rattle.photo_device.proofs.Taken.{count_of-put_helds, without_none}
 use Rattle.photo_device.proofs.Order.{held_order}
-use Rattle.photo_device.proofs.Putting.{list_all_wider, put_first, in_order-filter}
+use Rattle.photo_device.proofs.Putting.{list_all_wider, put_first, in_order-filter, filter_true}
 
 pub all_put_helds : (P : Held → Type 0) (takes helds : List Held) → AllByRecursion P takes → AllByRecursion P helds → AllByRecursion P (put_helds takes helds)
 all_put_helds P [] helds these those = those
@@ -36,29 +40,13 @@ filters_device d q r is = record {
   out = all_filter HasEarlier r d.out is.out;
   store_known = all_filter (IsKnownBy d.knowledge) q d.store is.store_known;
   out_known = all_filter (IsKnownBy d.knowledge) r d.out is.out_known;
-  once = λ v.
-      let before = is.once v in
-      let both = count_of-append v d.store d.out in
-      let after = count_of-append v (filter q d.store) (filter r d.out) in
-      let here = count_of-filter v q d.store in
-      let there = count_of-filter v r d.out in
-      omega arith;
+  once = λ v. omega (arith, is.once v, count_of-append, count_of-filter);
 }
 
 -- each take is on one side
 pub both_sides : (v : Version) (tree : Tree) (takes : List Held) → count_of v (filter (is_on_side true tree) takes) + count_of v (filter (is_on_side false tree) takes) ≡ count_of v takes
 both_sides v tree [] = refl
-both_sides v tree (h ∷ takes) =
-    let rest = both_sides v tree takes in
-    let matched = filter (is_on_side true tree) takes in
-    let others = filter (is_on_side false tree) takes in
-    let all = count_of-cons v h takes in
-    let first = count_of-cons v h matched in
-    let second = count_of-cons v h others in
-    elim (matches tree h.content) as (λ b. count_of v (cond b (h ∷ matched) matched) + count_of v (cond (not b) (h ∷ others) others) ≡ count_of v (h ∷ takes)) [
-      | true ↦ omega arith
-      | false ↦ omega arith
-    ]
+both_sides v tree (h ∷ takes) = let rest = both_sides v tree takes in grind (arith, nat_tests)
 
 -- what may be taken is new to the device
 pub all_new : (takes : List Held) (d : Kept) → AllByRecursion (λ h. find_version h.version (d.store ++ d.out) ≡ None) takes → ((v : Version) → count_of v takes ≤ 1) → IsDevice d
@@ -77,34 +65,40 @@ all_new takes d new distinct is = record {
     new_counted : (v : Version) (helds takes : List Held) → AllByRecursion (λ h. find_version h.version helds ≡ None) takes → list_any (λ h. same_version h.version v) takes ≡ true → count_of v helds ≡ 0
     new_counted v helds [] all some = absurd (false≢true some)
     new_counted v helds (h ∷ more) all some =
-        elim (cases_Bool (same_version h.version v)) [
-          | inl same ↦ subst (λ w. count_of w helds ≡ 0) (same_version_is h.version v same) (none_counted h.version helds all.0)
-          | inr apart ↦ new_counted v helds more all.1 (sym (ap (λ b. b || list_any (λ x. same_version x.version v) more) apart) ∙ some)
-        ]
+        let rest = new_counted v helds more all.1 in
+        let none = none_counted h.version helds all.0 in
+        grind (arith, nat_tests, same_version_is)
 
--- a device that takes versions, and knows more
+-- a device that takes versions into its store and its out, and knows more
+puts_device : (ins outs : List Held) (new : List Fragment) (counter : ℕ) (tree : Tree) (d : Kept) → AreNewTo (d.store ++ d.out) (ins ++ outs) → AllByRecursion HasEarlier (ins ++ outs) → KnowsItsOwn d.author counter new
+    → ((p : ℕ) (w : Version) → 0 < p → knows d.knowledge p w ≡ true → knows new p w ≡ true) → AllByRecursion (IsKnownBy new) (ins ++ outs) → IsDevice d
+    → IsDevice (record d { tree = tree; counter = counter; store = put_helds ins d.store; out = put_helds outs d.out; knowledge = new })
+puts_device ins outs new counter tree d once earlier own later known is = record {
+  knows = own;
+  store = all_put_helds HasEarlier ins d.store (all_front HasEarlier ins outs earlier) is.store;
+  out = all_put_helds HasEarlier outs d.out (all_back HasEarlier ins outs earlier) is.out;
+  store_known = all_put_helds (IsKnownBy new) ins d.store (all_front (IsKnownBy new) ins outs known) (known_later d.knowledge new later d.store is.store_known);
+  out_known = all_put_helds (IsKnownBy new) outs d.out (all_back (IsKnownBy new) ins outs known) (known_later d.knowledge new later d.out is.out_known);
+  once = λ v. omega (arith, once.once v, count_of-append, count_of-put_helds);
+}
+
+-- a device that takes versions, each into its place
 pub joins_device : (takes : List Held) (new : List Fragment) (d : Kept) → AreNewTo (d.store ++ d.out) takes → AllByRecursion HasEarlier takes → KnowsItsOwn d.author d.counter new
     → ((p : ℕ) (w : Version) → 0 < p → knows d.knowledge p w ≡ true → knows new p w ≡ true) → AllByRecursion (IsKnownBy new) takes → IsDevice d
     → IsDevice (record d { store = with_side true d.tree takes d.store; out = with_side false d.tree takes d.out; knowledge = new })
-joins_device takes new d once earlier own later known is = record {
-  knows = own;
-  store = side HasEarlier true d.store earlier is.store;
-  out = side HasEarlier false d.out earlier is.out;
-  store_known = side (IsKnownBy new) true d.store known (known_later d.knowledge new later d.store is.store_known);
-  out_known = side (IsKnownBy new) false d.out known (known_later d.knowledge new later d.out is.out_known);
-  once = λ v.
-      let before = once.once v in
-      let all = count_of-append v takes (d.store ++ d.out) in
-      let both = count_of-append v d.store d.out in
-      let after = count_of-append v (with_side true d.tree takes d.store) (with_side false d.tree takes d.out) in
-      let here = count_of-put_helds v (filter (is_on_side true d.tree) takes) d.store in
-      let there = count_of-put_helds v (filter (is_on_side false d.tree) takes) d.out in
-      let split = both_sides v d.tree takes in
-      omega arith;
-}
+joins_device takes new d once earlier own later known is = puts_device ins outs new d.counter d.tree d apart (both HasEarlier earlier) own later (both (IsKnownBy new) known) is
   where
-    side : (P : Held → Type 0) (matched : Bool) (helds : List Held) → AllByRecursion P takes → AllByRecursion P helds → AllByRecursion P (with_side matched d.tree takes helds)
-    side P matched helds these those = all_put_helds P _ helds (all_filter P (is_on_side matched d.tree) takes these) those
+    ins : List Held
+    ins = filter (is_on_side true d.tree) takes
+
+    outs : List Held
+    outs = filter (is_on_side false d.tree) takes
+
+    apart : AreNewTo (d.store ++ d.out) (ins ++ outs)
+    apart = record { once = λ v. omega (arith, once.once v, both_sides v d.tree takes, count_of-append) }
+
+    both : (P : Held → Type 0) → AllByRecursion P takes → AllByRecursion P (ins ++ outs)
+    both P all = all_append P ins outs (all_filter P (is_on_side true d.tree) takes all) (all_filter P (is_on_side false d.tree) takes all)
 
 -- some versions leave the out
 pub shows_without : (versions : List Version) (d : Kept) (m : ModelDevice) → Shows d m → Shows (record d { out = helds_without versions d.out }) (without_waiting versions m)
@@ -123,23 +117,73 @@ drops_device versions d is =
     subst (λ store. IsDevice (record d { store = store; out = helds_without versions d.out })) (without_none d.store)
     (filters_device d (λ h. not (is_listed [] h.version)) (λ h. not (is_listed versions h.version)) is)
 
+-- What is true of a device that made a version.
+
+pub makes_device : (place : Place) (h : Held) (d : Kept) (new : List Fragment) → IsNext h d → IsOwnLearned h.version d.knowledge new → IsDevice d
+    → IsDevice (record (held_at place h d) { counter = d.counter + 1; knowledge = new })
+makes_device place h d new next learned is = by place
+  where
+    other : Held → Bool
+    other x = is_of_other h.picture (entry_of x)
+
+    less : Kept
+    less = record d { store = filter other d.store; out = filter other d.out }
+
+    made_earlier : HasEarlier h
+    made_earlier = record {
+      own = λ n.
+          next.history (version h.version.author n)
+          ∙ ap (λ (x : Version). knows d.knowledge h.picture (version x.author n)) next.next
+          ∙ is.knows.own h.picture n next.above
+          ∙ rw next.next (grind (arith, nat_tests));
+    }
+
+    later : (p : ℕ) (w : Version) → 0 < p → knows d.knowledge p w ≡ true → knows new p w ≡ true
+    later p w above here = learned.learned p w above ∙ ap (λ b. b || same_version h.version w) here
+
+    itself_known : IsKnownBy new h
+    itself_known = record {
+      above = next.above;
+      itself = learned.learned h.picture h.version next.above ∙ ap (λ b. knows d.knowledge h.picture h.version || b) (same_version_self h.version) ∙ or-true (knows d.knowledge h.picture h.version);
+      history = λ v has. later h.picture v next.above (sym (next.history v) ∙ has);
+    }
+
+    alone : (v : Version) → (same_version h.version v ≡ true) ⊎ (same_version h.version v ≡ false) → one_of v h + (count_of v d.store + count_of v d.out) ≤ 1
+    alone v (inl same) =
+        let is_next = sym (same_version_is h.version v same) ∙ next.next in
+        let none_there = none_of_next d.author d.counter d.knowledge v d.store is_next is.knows is.store_known in
+        let none_waiting = none_of_next d.author d.counter d.knowledge v d.out is_next is.knows is.out_known in
+        let one : one_of v h ≡ 1 = rw same refl in
+        omega arith
+    alone v (inr apart) =
+        let before = is.once v in
+        let none : one_of v h ≡ 0 = rw apart refl in
+        omega (arith, count_of-append v d.store d.out)
+
+    once : AreNewTo (less.store ++ less.out) (h ∷ [])
+    once = record {
+      once = λ v. omega (arith, alone v (cases_Bool (same_version h.version v)), count_of-cons v h (less.store ++ less.out), count_of-append, count_of-filter);
+    }
+
+    puts : (ins outs : List Held) → ins ++ outs ≡ h ∷ [] → IsDevice (record less { counter = d.counter + 1; store = put_helds ins less.store; out = put_helds outs less.out; knowledge = new })
+    puts ins outs all =
+        puts_device ins outs new (d.counter + 1) d.tree less (rw all once) (rw all (made_earlier, tt)) (own_learned d.author d.counter h.version d.knowledge new next.next learned is.knows) later (rw all (itself_known, tt))
+        (filters_device d other other is)
+
+    by : (to : Place) → IsDevice (record (held_at to h d) { counter = d.counter + 1; knowledge = new })
+    by Store = puts (h ∷ []) [] refl
+    by Out = puts [] (h ∷ []) refl
+
 -- What is true of a device that narrowed.
 
 pub narrows_device : (tree : Tree) (d : Kept) → IsDevice d → IsDevice (record d { tree = tree; store = filter (λ h. matches tree h.content) d.store; out = with_side false tree d.store d.out })
-narrows_device tree d is = record {
-  knows = is.knows;
-  store = all_filter HasEarlier (λ h. matches tree h.content) d.store is.store;
-  out = all_put_helds HasEarlier _ d.out (all_filter HasEarlier (is_on_side false tree) d.store is.store) is.out;
-  store_known = all_filter (IsKnownBy d.knowledge) (λ h. matches tree h.content) d.store is.store_known;
-  out_known = all_put_helds (IsKnownBy d.knowledge) _ d.out (all_filter (IsKnownBy d.knowledge) (is_on_side false tree) d.store is.store_known) is.out_known;
-  once = λ v.
-      let before = is.once v in
-      let both = count_of-append v d.store d.out in
-      let after = count_of-append v (filter (is_on_side true tree) d.store) (with_side false tree d.store d.out) in
-      let there = count_of-put_helds v (filter (is_on_side false tree) d.store) d.out in
-      let split = both_sides v tree d.store in
-      omega arith;
-}
+narrows_device tree d is =
+    puts_device [] (filter (is_on_side false tree) d.store) d.knowledge d.counter tree (record d { store = filter (is_on_side true tree) d.store }) apart
+    (all_filter HasEarlier (is_on_side false tree) d.store is.store) is.knows (λ p w above known. known) (all_filter (IsKnownBy d.knowledge) (is_on_side false tree) d.store is.store_known)
+    (subst (λ out. IsDevice (record d { store = filter (is_on_side true tree) d.store; out = out })) (filter_true d.out) (filters_device d (is_on_side true tree) (λ _. true) is))
+  where
+    apart : AreNewTo (filter (is_on_side true tree) d.store ++ d.out) (filter (is_on_side false tree) d.store)
+    apart = record { once = λ v. omega (arith, is.once v, both_sides v tree d.store, count_of-append) }
 
 pub shows_narrowed : (tree : Tree) (d : Kept) (m : ModelDevice) → Shows d m → Shows (record d { tree = tree; store = filter (λ h. matches tree h.content) d.store; out = with_side false tree d.store d.out }) (narrowed tree m)
 shows_narrowed tree d m shows = record {
@@ -148,8 +192,7 @@ shows_narrowed tree d m shows = record {
   counter = shows.counter;
   store = entries-filter (λ (e : Entry). matches tree e.content) d.store ∙ ap (filter (λ e. matches tree e.content)) shows.store;
   out =
-      entries-put_helds (filter (is_on_side false tree) d.store) d.out
-      ∙ (λ i. put_entries (entries-filter (λ (e : Entry). not (matches tree e.content)) d.store i) (entries_of d.out))
+      entries-put_those (λ (e : Entry). not (matches tree e.content)) d.store d.out
       ∙ (λ i. put_entries (filter (λ e. not (matches tree e.content)) (shows.store i)) (shows.out i));
   known = shows.known;
 }
@@ -160,9 +203,10 @@ moved_away tree d m shows =
     let q = λ (e : Entry). matches tree e.content in
     let split = length-filter_both q (λ e. not (q e)) (λ e. refl) (entries_of d.store) in
     let all = length-map d.store entry_of in
-    let left = sym (length-map (filter (λ h. matches tree h.content) d.store) entry_of) ∙ ap length (entries-filter q d.store) in
-    let gone : length d.store - length (filter (λ h. matches tree h.content) d.store) ≡ length (filter (λ (e : Entry). not (matches tree e.content)) (entries_of d.store)) = omega arith in
-    gone ∙ ap (λ es. length (filter (λ (e : Entry). not (matches tree e.content)) es)) shows.store
+    let some = length-map (filter (λ h. matches tree h.content) d.store) entry_of in
+    let left = entries-filter q d.store in
+    let store = shows.store in
+    grind arith
 
 pub shorter : (q : Held → Bool) (xs : List Held) → length (filter q xs) ≤ length xs
 shorter q xs = let both = length-filter_both q (λ h. not (q h)) (λ h. refl) xs in omega arith
@@ -170,24 +214,16 @@ shorter q xs = let both = length-filter_both q (λ h. not (q h)) (λ h. refl) xs
 -- a set in order, put together anew
 put_in_none : (xs : List Held) → are_in_order xs ≡ true → put_helds xs [] ≡ xs
 put_in_none [] o = refl
-put_in_none (x ∷ xs) o =
-    ap (put held_before x) (put_in_none xs (and_parts _ _ o).1)
-    ∙ put_first held_order x xs (list_all_wider (held_before x) (λ z. not (held_before z x)) (λ z h. ap not (held_order.one_way x z h)) xs (and_parts _ _ o).0)
+put_in_none (x ∷ xs) o = let rest = put_in_none xs in grind (arith, and_parts, put_first, held_order, list_all_wider)
 
 -- what the tree matches of a set in order
 pub kept_anew : (tree : Tree) (xs ys zs : List Held) → are_in_order xs ≡ true → ys ≡ [] → zs ≡ [] → with_side true tree (xs ++ ys) zs ≡ filter (λ h. matches tree h.content) xs
-kept_anew tree xs ys zs o none empty =
-    (λ i. with_side true tree (xs ++ none i) (empty i))
-    ∙ ap (λ l. with_side true tree l []) (append-nil xs)
-    ∙ put_in_none (filter (is_on_side true tree) xs) (in_order-filter held_before (is_on_side true tree) xs o)
+kept_anew tree xs ys zs o none empty = grind (arith, append-nil, put_in_none, in_order-filter)
 
--- what is new to a set is new to an empty one
+-- versions of which none is there twice are new to an empty set
+pub new_to_empty : (takes : List Held) → ((v : Version) → count_of v takes ≤ 1) → AreNewTo [] takes
+new_to_empty takes once = record { once = λ v. let none : count_of v [] ≡ 0 = refl in let each = once v in omega (arith, count_of-append v takes []) }
+
+-- and so is what is new to a set
 pub new_alone : (takes helds : List Held) → AreNewTo helds takes → AreNewTo [] takes
-new_alone takes helds new = record {
-  once = λ v.
-      let once = new.once v in
-      let both = count_of-append v takes helds in
-      let alone = count_of-append v takes [] in
-      let nothing : count_of v [] ≡ 0 = refl in
-      omega arith;
-}
+new_alone takes helds new = new_to_empty takes (λ v. let once = new.once v in omega (arith, count_of-append v takes helds))

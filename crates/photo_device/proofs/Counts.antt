@@ -2,20 +2,16 @@
 use Rattle.std.proofs.Common.{◌≡◌, ℕ, ◌+◌, ◌≤◌, Bool, true, false, cond, List, [], ◌∷◌, ◌++◌, length, refl, sym, ap, ◌∙◌, length-append, arith}
 use Rattle.std.specs.Prelude.{filter, Option, Some, None, is_some}
 use Rattle.std.specs.List.{list_any}
-use Rattle.std.proofs.lemmas.Bool.{and_parts, eqb-true}
 use Rattle.std.proofs.lemmas.Bool.Decides.{nat_tests}
 use Rattle.std.proofs.lemmas.List.Elements.{filter-append}
-use Rattle.photo_version.specs.Author.{author_of_word}
-use Rattle.photo_version.specs.Version.{Version, version, same_version}
+use Rattle.photo_version.specs.Version.{Version, same_version}
 use Rattle.photo_device.specs.declared.held.Held.{Held}
 use Rattle.photo_device.specs.Ordered.{put}
 use Rattle.photo_device.specs.Held.{held_before, count_of, find_version}
 use Rattle.photo_device.proofs.Putting.{any_found, any_counted, count-cons}
 
 pub same_version_is : (v w : Version) → same_version v w ≡ true → v ≡ w
-same_version_is v w h =
-    let parts = and_parts _ _ h in
-    λ i. version (author_of_word (eqb-true v.author.word w.author.word parts.0 i)) (eqb-true v.number w.number parts.1 i)
+same_version_is v w h = grind (arith, nat_tests)
 
 pub same_version_self : (v : Version) → same_version v v ≡ true
 same_version_self v = grind (arith, nat_tests)
@@ -32,22 +28,11 @@ count_of-append v xs ys =
 
 pub count_of-put : (v : Version) (h : Held) (xs : List Held) → count_of v (put held_before h xs) ≡ count_of v (h ∷ xs)
 count_of-put v h [] = refl
-count_of-put v h (x ∷ xs) =
-    elim (held_before x h) as (λ b. count_of v (cond b (x ∷ put held_before h xs) (h ∷ x ∷ xs)) ≡ count_of v (h ∷ x ∷ xs)) [
-      | true ↦
-          let rest = count_of-put v h xs in
-          omega (arith, count_of-cons v x (put held_before h xs), count_of-cons v h (x ∷ xs), count_of-cons v x xs, count_of-cons v h xs)
-      | false ↦ refl
-    ]
+count_of-put v h (x ∷ xs) = let rest = count_of-put v h xs in grind (arith, nat_tests)
 
 pub count_of-filter : (v : Version) (q : Held → Bool) (xs : List Held) → count_of v (filter q xs) ≤ count_of v xs
 count_of-filter v q [] = omega arith
-count_of-filter v q (x ∷ xs) =
-    let rest = count_of-filter v q xs in
-    elim (q x) as (λ b. count_of v (cond b (x ∷ filter q xs) (filter q xs)) ≤ count_of v (x ∷ xs)) [
-      | true ↦ omega (arith, count_of-cons v x (filter q xs), count_of-cons v x xs)
-      | false ↦ omega (arith, count_of-cons v x xs)
-    ]
+count_of-filter v q (x ∷ xs) = let rest = count_of-filter v q xs in grind (arith, nat_tests)
 
 -- what counts is found
 

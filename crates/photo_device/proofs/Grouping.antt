@@ -1,8 +1,9 @@
 -- Conflicts, picture by picture.
-use Rattle.std.proofs.Common.{◌≡◌, ℕ, zero, suc, ◌<◌, ◌≤◌, Bool, true, false, not, cond, eqb, ltb, List, [], ◌∷◌, ◌++◌, length, get_or, take, drop, append_assoc, refl, sym, ap, ◌∙◌, subst, inl, inr, arith}
+use Rattle.std.proofs.Common.{◌≡◌, ℕ, ◌<◌, ◌≤◌, Bool, true, not, cond, eqb, ltb, List, [], ◌∷◌, ◌++◌, length, get_or, take, drop, append_assoc, refl, sym, ap, ◌∙◌, subst, inl, inr, arith}
 use Rattle.std.specs.Prelude.{filter, map}
-use Rattle.std.specs.List.Sorted.{IsPartitionedBy, IsPartitionPoint}
-use Rattle.std.proofs.lemmas.Bool.{cases_Bool, false≢true, eqb-true, eq-eqb, lt-ltb, le-ltb}
+use Rattle.std.specs.List.Sorted.{IsPartitionedBy}
+use Rattle.std.proofs.lemmas.Bool.{cases_lt, false≢true, eqb-true, eq-eqb}
+use Rattle.std.proofs.lemmas.Bool.Decides.{nat_tests}
 use Rattle.std.proofs.lemmas.List.{length-map, length-drop}
 use Rattle.photo_version.specs.Version.{Version}
 use Rattle.photo_device.specs.declared.held.Held.{Held}
@@ -12,7 +13,7 @@ use Rattle.photo_device.specs.Held.{entry_of, entries_of, are_in_order, held_of_
 use Rattle.photo_device.specs.Conflicts.{pictures_of, versions_of, conflicts_in}
 use Rattle.photo_device.proofs.Shown.{entries-others}
 use Rattle.photo_device.proofs.Order.{rises, in_order-filter}
-use Rattle.photo_device.proofs.Putting.{turned, list_all_wider, list_all_filtered, filter_all, filter-swap, map_alike}
+use Rattle.photo_device.proofs.Putting.{TurnsAt, turned, list_all_wider, list_all_filtered, filter_all, filter-swap, map_alike}
 
 -- Of entries in any order: the conflict of the first one's picture, and those of the others
 
@@ -23,23 +24,15 @@ pictures-others : (p : ℕ) (es : List Entry) → filter (is_other p) (pictures_
 pictures-others p [] = refl
 pictures-others p (e ∷ es) =
     let rest = pictures-others p es in
-    elim (cases_Bool (eqb e.picture p)) [
-      | inl same ↦
-          let is : e.picture ≡ p = eqb-true e.picture p same in
-          rw same (ap (λ q. filter (is_other p) (filter (is_other q) (pictures_of es))) is
-          ∙ filter_all (is_other p) _ (list_all_filtered (is_other p) (pictures_of es)) ∙ rest)
-      | inr other ↦ rw other (ap (λ l. e.picture ∷ l) (filter-swap (is_other p) (is_other e.picture) (pictures_of es) ∙ ap (filter (is_other e.picture)) rest))
-    ]
+    grind (arith, nat_tests, filter_all, list_all_filtered, filter-swap)
 
 -- another picture has its versions among the others
 versions-others : (p q : ℕ) (es : List Entry) → is_other p q ≡ true → versions_of es q ≡ versions_of (others p es) q
 versions-others p q es other =
     ap (λ l. record { picture = q; versions = map (λ (e : Entry). e.version) l })
     (sym (filter-swap (λ (e : Entry). eqb e.picture q) (λ (e : Entry). is_other p e.picture) es
-    ∙ filter_all (λ (e : Entry). is_other p e.picture) _ (list_all_wider (λ (e : Entry). eqb e.picture q) (λ (e : Entry). is_other p e.picture) apart _ (list_all_filtered (λ (e : Entry). eqb e.picture q) es))))
-  where
-    apart : (e : Entry) → eqb e.picture q ≡ true → is_other p e.picture ≡ true
-    apart e same = ap (is_other p) (eqb-true e.picture q same) ∙ other
+    ∙ filter_all (λ (e : Entry). is_other p e.picture) _ (list_all_wider (λ (e : Entry). eqb e.picture q) (λ (e : Entry). is_other p e.picture) (λ e same. ap (is_other p) (eqb-true e.picture q same) ∙ other) _
+    (list_all_filtered (λ (e : Entry). eqb e.picture q) es))))
 
 abbrev are_two : Conflict → Bool
 are_two c = ltb 1 (length c.versions)
@@ -57,7 +50,7 @@ first_conflict e es =
 
 -- Of held versions in order: those of the first one's picture stand in front
 
-abbrev is_at : ℕ → Held → Bool
+abbrev pub is_at : ℕ → Held → Bool
 is_at p h = eqb h.picture p
 
 abbrev pub conflict_of : ℕ → List Held → Conflict
@@ -68,10 +61,7 @@ versions-held p hs = ap (λ vs. record { picture = p; versions = vs }) (by hs)
   where
     by : (hs : List Held) → map (λ (e : Entry). e.version) (filter (λ (e : Entry). eqb e.picture p) (entries_of hs)) ≡ map (λ (h : Held). h.version) (filter (is_at p) hs)
     by [] = refl
-    by (h ∷ hs) = elim (cases_Bool (eqb h.picture p)) [
-      | inl same ↦ rw same (ap (λ l. h.version ∷ l) (by hs))
-      | inr other ↦ rw other (by hs)
-    ]
+    by (h ∷ hs) = let rest = by hs in grind (arith, nat_tests)
 
 -- the first picture's versions, and the others
 pub record IsFirstRun (p : ℕ) (hs run rest : List Held) : Type 0 where
@@ -83,32 +73,24 @@ first_at : (h : Held) (hs : List Held) → are_in_order (h ∷ hs) ≡ true → 
 first_at h hs o i j d le l here =
     let first = rises (h ∷ hs) o 0 i d (omega arith) (omega arith) in
     let up = rises (h ∷ hs) o i j d le l in
-    let same = eqb-true (get_or (h ∷ hs) j d).picture h.picture here in
-    eq-eqb (get_or (h ∷ hs) i d).picture h.picture (omega arith)
+    grind (arith, nat_tests)
 
-abbrev pub TurnsAt : ℕ → List Held → ℕ → Type 0
-TurnsAt p hs n = IsPartitionPoint (λ (h : Held). eqb h.picture p ≡ true) (λ (h : Held). eqb h.picture p ≡ false) hs n
-
-pub first_partitioned : (p : ℕ) (hs : List Held) (x : Held) → 0 < length hs → x ≡ get_or hs 0 x → p ≡ x.picture → are_in_order hs ≡ true → IsPartitionedBy (λ (h : Held). eqb h.picture p) hs
-first_partitioned p [] x some is same o = absurd (omega arith)
-first_partitioned p (h ∷ hs) x some is same o = subst (λ q. IsPartitionedBy (is_at q) (h ∷ hs)) (sym (same ∙ ap (λ (y : Held). y.picture) is)) (first_at h hs o)
-
-pub first_run : (p : ℕ) (hs run rest : List Held) (x : Held) (n : ℕ) → 0 < length hs → x ≡ get_or hs 0 x → p ≡ x.picture → are_in_order hs ≡ true → n ≤ length hs → TurnsAt p hs n → run ≡ take n hs → rest ≡ drop n hs
+pub first_run : (p : ℕ) (hs run rest : List Held) (x : Held) (n : ℕ) → 0 < length hs → x ≡ get_or hs 0 x → p ≡ x.picture → are_in_order hs ≡ true → n ≤ length hs → (IsPartitionedBy (is_at p) hs → TurnsAt (is_at p) hs n) → run ≡ take n hs → rest ≡ drop n hs
     → IsFirstRun p hs run rest
 first_run p [] run rest x n some is same o within turns run_is rest_is = absurd (omega arith)
 first_run p (h ∷ hs) run rest x n some is same o within turns run_is rest_is =
     let first = same ∙ ap (λ (y : Held). y.picture) is in
-    subst (λ q. IsFirstRun q (h ∷ hs) run rest) (sym first) (by (subst (λ q. TurnsAt q (h ∷ hs) n) first turns))
+    subst (λ q. IsFirstRun q (h ∷ hs) run rest) (sym first) (by (subst (λ q. IsPartitionedBy (is_at q) (h ∷ hs) → TurnsAt (is_at q) (h ∷ hs) n) first turns (first_at h hs o)))
   where
-    by : TurnsAt h.picture (h ∷ hs) n → IsFirstRun h.picture (h ∷ hs) run rest
+    by : TurnsAt (is_at h.picture) (h ∷ hs) n → IsFirstRun h.picture (h ∷ hs) run rest
     by point =
         let p = h.picture in
         let parts = turned (is_at p) (h ∷ hs) n within point in
         let left : held_of_others p (h ∷ hs) ≡ rest = parts.1 ∙ sym rest_is in
-        let some_first : 0 < n = elim n as (λ m. TurnsAt p (h ∷ hs) m → 0 < m) [
-          | zero ↦ λ t. absurd (false≢true (sym (t.1 0 h (omega arith) (omega arith)) ∙ eq-eqb p p refl))
-          | suc m ↦ λ t. omega arith
-        ] point in
+        let some_first : 0 < n = elim (cases_lt 0 n) [
+          | inl some ↦ some
+          | inr none ↦ absurd (false≢true (sym (point.1 0 h none (omega arith)) ∙ eq-eqb p p refl))
+        ] in
         record {
           conflicts = first_conflict (entry_of h) (entries_of hs)
               ∙ (λ i. first_and ((versions-held p (h ∷ hs) ∙ ap (conflict_of p) (parts.0 ∙ sym run_is)) i) ((sym (entries-others p (h ∷ hs)) ∙ ap entries_of left) i));
@@ -126,10 +108,10 @@ split_first p run rest = ap (λ n. cond (ltb 1 n) (conflict_of p run ∷ conflic
 pub run_two : (p : ℕ) (hs run rest : List Held) (old new : List Conflict) (versions : List Version) → IsFirstRun p hs run rest → 1 < length run → versions ≡ map (λ (h : Held). h.version) run → new ≡ old ++ record { picture = p; versions = versions } ∷ []
     → new ++ conflicts_in (entries_of rest) ≡ old ++ conflicts_in (entries_of hs)
 run_two p hs run rest old new versions first two versions_is new_is =
-    ap (λ l. l ++ conflicts_in (entries_of rest)) (new_is ∙ ap (λ vs. old ++ record { picture = p; versions = vs } ∷ []) versions_is)
-    ∙ append_assoc old (conflict_of p run ∷ []) (conflicts_in (entries_of rest))
-    ∙ ap (λ l. old ++ l) (sym (first.conflicts ∙ split_first p run rest ∙ ap (λ b. cond b (conflict_of p run ∷ conflicts_in (entries_of rest)) (conflicts_in (entries_of rest))) (lt-ltb 1 (length run) two)))
+    let c = first.conflicts in
+    let parts = split_first p run rest in
+    let group = append_assoc old (conflict_of p run ∷ []) (conflicts_in (entries_of rest)) in
+    grind (arith, nat_tests)
 
 pub run_one : (p : ℕ) (hs run rest : List Held) (old : List Conflict) → IsFirstRun p hs run rest → length run ≤ 1 → old ++ conflicts_in (entries_of rest) ≡ old ++ conflicts_in (entries_of hs)
-run_one p hs run rest old first one =
-    ap (λ l. old ++ l) (sym (first.conflicts ∙ split_first p run rest ∙ ap (λ b. cond b (conflict_of p run ∷ conflicts_in (entries_of rest)) (conflicts_in (entries_of rest))) (le-ltb 1 (length run) one)))
+run_one p hs run rest old first one = let c = first.conflicts in let parts = split_first p run rest in grind (arith, nat_tests)

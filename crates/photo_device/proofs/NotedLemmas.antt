@@ -1,28 +1,21 @@
 -- What is noted, after one more was noted or places were made.
-use Rattle.std.proofs.Common.{◌≡◌, ℕ, zero, suc, ◌+◌, ◌*◌, ◌<◌, true, List, [], ◌∷◌, ◌++◌, length, get_or, set, replicate, Vec, refl, sym, ap, ◌∙◌, inl, inr, subst, arith, length-append}
+use Rattle.std.proofs.Common.{◌≡◌, ℕ, zero, suc, ◌<◌, true, List, [], ◌∷◌, ◌++◌, length, get_or, set, replicate, Vec, refl, sym, ◌∙◌, inl, inr, subst, arith, length-append}
 use Rattle.std.specs.declared.alloc.Global.{Global}
 use Rattle.std.proofs.Math.ListN.{length-set, get_or-append}
 use Rattle.std.proofs.Math.Seq.{get_or-append_seam}
-use Rattle.std.proofs.lemmas.Bool.{cases_eq, cases_lt}
+use Rattle.std.proofs.lemmas.Bool.{cases_lt}
 use Rattle.std.proofs.lemmas.List.{get_or_default, get_or-set_same, get_or-set_other}
-use Rattle.photo_version.specs.Author.{Author, author, device_of_author, epoch_of_author, author_of_word}
 use Rattle.photo_version.specs.Version.{Version, version}
 use Rattle.item_knowledge.specs.Fragments.{Fragment, knows}
-use Rattle.photo_device.specs.Noted.{IsRow, AreKnown}
+use Rattle.photo_device.specs.Noted.{author_of_row, IsRow, AreKnown}
 
 -- another row, and a row with one place written, with places behind it, and a new one
 
 known_set : (known : List Fragment) (rows : List (Vec ℕ Global)) (a : ℕ) (new : Vec ℕ Global) → AreKnown known rows → IsRow known a new.items → AreKnown known (set rows a new)
-known_set known rows a new old row b d within = elim (cases_eq b a) [
-  | inl same ↦ rw (same, get_or-set_same rows a new d (let long = length-set rows a new in omega arith)) row
-  | inr other ↦ rw (get_or-set_other rows a b new d other) (old b d (let long = length-set rows a new in omega arith))
-]
+known_set known rows a new old row b d within = let was = old b d in grind (arith, get_or-set_same, get_or-set_other, length-set)
 
-row_set : (known : List Fragment) (a i picture : ℕ) (row : List ℕ) → i < length row → IsRow known a row → knows known picture (version (author a) i) ≡ true → IsRow known a (set row i picture)
-row_set known a i picture row inside old there n = elim (cases_eq n i) [
-  | inl same ↦ rw (same, get_or-set_same row i picture 0 inside) (λ some. there)
-  | inr other ↦ rw (get_or-set_other row i n picture 0 other) (old n)
-]
+row_set : (known : List Fragment) (a i picture : ℕ) (row : List ℕ) → i < length row → IsRow known a row → knows known picture (version (author_of_row a) i) ≡ true → IsRow known a (set row i picture)
+row_set known a i picture row inside old there n = let was = old n in grind (arith, get_or-set_same, get_or-set_other)
 
 nothing_behind : (row : List ℕ) (k n : ℕ) → get_or (row ++ replicate k 0) n 0 ≡ get_or row n 0
 nothing_behind [] zero n = refl
@@ -39,26 +32,17 @@ known_behind known rows new empty old a d within = elim (cases_lt a (length rows
       rw (here, get_or-append_seam rows new [] d, empty) (λ n some. absurd (omega arith))
 ]
 
--- the author of a device in its first epoch
-pub first_epoch : (b c : Author) (a : ℕ) → b ≡ c → a ≡ device_of_author b → epoch_of_author b ≡ 0 → author a ≡ c
-first_epoch b c a same of_device none =
-    let word : a * 4294967296 + 0 ≡ b.word = omega arith in
-    ap author_of_word word ∙ same
-
 -- what a look, a note and more places come to
 
 is_row : (known : List Fragment) (rows : List (Vec ℕ Global)) (a : ℕ) (row : Vec ℕ Global) → a < length rows → row ≡ get_or rows a row → AreKnown known rows → IsRow known a row.items
 is_row known rows a row within is all = rw is (all a row within)
 
-pub known_here : (known : List Fragment) (rows : List (Vec ℕ Global)) (a n at picture : ℕ) (row : Vec ℕ Global) (v : Version) → a < length rows → row ≡ get_or rows a row → n < length row.items → at ≡ get_or row.items n at → at ≡ picture → 0 < picture → author a ≡ v.author → n ≡ v.number → AreKnown known rows → knows known picture v ≡ true
-known_here known rows a n at picture row v within of_rows inside of_row is above of_author of_number all =
-    let there : get_or row.items n 0 ≡ picture = get_or_default row.items n 0 at inside ∙ sym of_row ∙ is in
-    let known_there = is_row known rows a row within of_rows all n (subst (λ q. 0 < q) (sym there) above) in
-    sym (λ i. knows known (there i) (version (of_author i) (of_number i))) ∙ known_there
+pub known_here : (known : List Fragment) (rows : List (Vec ℕ Global)) (a n at picture : ℕ) (row : Vec ℕ Global) (v : Version) → a < length rows → row ≡ get_or rows a row → n < length row.items → at ≡ get_or row.items n at → at ≡ picture → 0 < picture → author_of_row a ≡ v.author → n ≡ v.number → AreKnown known rows → knows known picture v ≡ true
+known_here known rows a n at picture row v within of_rows inside of_row is above of_author of_number all = grind (arith, get_or_default, is_row)
 
-pub noted_more : (known : List Fragment) (rows : List (Vec ℕ Global)) (a n q picture : ℕ) (row new : Vec ℕ Global) (v : Version) → a < length rows → row ≡ get_or rows a row → n < length row.items → new.items ≡ set row.items n q → q ≡ picture → author a ≡ v.author → n ≡ v.number → knows known picture v ≡ true → AreKnown known rows → AreKnown known (set rows a new)
+pub noted_more : (known : List Fragment) (rows : List (Vec ℕ Global)) (a n q picture : ℕ) (row new : Vec ℕ Global) (v : Version) → a < length rows → row ≡ get_or rows a row → n < length row.items → new.items ≡ set row.items n q → q ≡ picture → author_of_row a ≡ v.author → n ≡ v.number → knows known picture v ≡ true → AreKnown known rows → AreKnown known (set rows a new)
 noted_more known rows a n q picture row new v within of_rows inside is of_picture of_author of_number there all =
-    let known_there : knows known q (version (author a) n) ≡ true = (λ i. knows known (of_picture i) (version (of_author i) (of_number i))) ∙ there in
+    let known_there : knows known q (version (author_of_row a) n) ≡ true = (λ i. knows known (of_picture i) (version (of_author i) (of_number i))) ∙ there in
     known_set known rows a new all (subst (IsRow known a) (sym is) (row_set known a n q row.items inside (is_row known rows a row within of_rows all) known_there))
 
 pub known_still : (known : List Fragment) (rows : List (Vec ℕ Global)) (a k : ℕ) (row new : Vec ℕ Global) → a < length rows → row ≡ get_or rows a row → new.items ≡ row.items ++ replicate k 0 → AreKnown known rows → AreKnown known (set rows a new)

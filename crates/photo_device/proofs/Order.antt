@@ -42,12 +42,9 @@ held_apart a b other = grind (arith, nat_tests)
 -- along a list in order the picture numbers don't fall
 pub rises : (xs : List Held) → are_in_order xs ≡ true → IsNonDecreasingBy (λ h. h.picture) xs
 rises xs o i j d le l = elim (cases_lt i j) [
-  | inl before ↦ le_from (get_or xs i d) (get_or xs j d) (putting.in_order_at held_before xs o i j d before l)
+  | inl before ↦ let up = putting.in_order_at held_before xs o i j d before l in grind (arith, nat_tests)
   | inr last ↦ let same : i ≡ j = omega arith in rw same (omega arith)
 ]
-  where
-    le_from : (a b : Held) → held_before a b ≡ true → a.picture ≤ b.picture
-    le_from a b h = grind (arith, nat_tests)
 
 -- A list in three parts, as callers above state it: smaller pictures up to `from`, the picture itself up to `to`, and greater ones
 
@@ -64,20 +61,14 @@ in_order-filter r xs o = putting.in_order-filter held_before r xs o
 pub in_order-replaced : (h : Held) (xs : List Held) → are_in_order xs ≡ true → are_in_order (replaced h xs) ≡ true
 in_order-replaced h xs o =
     putting.in_order-put held_order h _ (in_order-filter _ xs o)
-    (putting.list_all_wider (λ x. is_of_other h.picture (entry_of x)) (λ x. held_before h x || held_before x h) (apart h) _ (putting.list_all_filtered (λ x. is_of_other h.picture (entry_of x)) xs))
-  where
-    apart : (a b : Held) → is_of_other a.picture (entry_of b) ≡ true → (held_before a b || held_before b a) ≡ true
-    apart a b other = grind (arith, nat_tests)
+    (putting.list_all_wider (λ x. is_of_other h.picture (entry_of x)) (λ x. held_before h x || held_before x h) (λ x other. grind (arith, nat_tests)) _ (putting.list_all_filtered (λ x. is_of_other h.picture (entry_of x)) xs))
 
 -- a version that isn't there stands before or behind each
 pub in_order-inserted : (h : Held) (xs : List Held) → are_in_order xs ≡ true → find_version h.version xs ≡ None → are_in_order (put held_before h xs) ≡ true
 in_order-inserted h xs o none =
     putting.in_order-put held_order h xs o
-    (putting.list_all_wider (λ x. not (same_version x.version h.version)) (λ x. held_before h x || held_before x h) (apart h) xs
+    (putting.list_all_wider (λ x. not (same_version x.version h.version)) (λ x. held_before h x || held_before x h) (λ x other. grind (arith, nat_tests)) xs
     (putting.none_passes (λ x. same_version x.version h.version) xs (sym (putting.any_found _ xs) ∙ ap is_some none)))
-  where
-    apart : (a b : Held) → not (same_version b.version a.version) ≡ true → (held_before a b || held_before b a) ≡ true
-    apart a b other = grind (arith, nat_tests)
 
 -- What the code's searches ask: where a picture's versions begin and end, and where a version of a picture stands
 
@@ -97,16 +88,9 @@ one_of_picture p = record { picture = p; version = version (author 0) 1; made_wi
 -- where a picture's versions stand, by the turns of two tests
 pub range_cut : (h : Held) (xs : List Held) (from to : ℕ) → from ≤ length xs → to ≤ length xs → TurnsAt (λ x. ltb x.picture h.picture) xs from → TurnsAt (λ x. leb x.picture h.picture) xs to
     → putting.IsCut held_before (λ x. is_of_other h.picture (entry_of x)) h xs from to
-range_cut h = putting.cut held_before (λ x. ltb x.picture h.picture) (λ x. leb x.picture h.picture) (λ x. is_of_other h.picture (entry_of x)) h (front h) (back h) (gone h)
-  where
-    front : (h y : Held) → ltb y.picture h.picture ≡ true → (is_of_other h.picture (entry_of y) ≡ true) × (held_before y h ≡ true)
-    front h y t = (grind (arith, nat_tests), grind (arith, nat_tests))
-
-    back : (h y : Held) → leb y.picture h.picture ≡ false → (is_of_other h.picture (entry_of y) ≡ true) × (held_before y h ≡ false)
-    back h y t = (grind (arith, nat_tests), grind (arith, nat_tests))
-
-    gone : (h y : Held) → ltb y.picture h.picture ≡ false → leb y.picture h.picture ≡ true → is_of_other h.picture (entry_of y) ≡ false
-    gone h y t u = grind (arith, nat_tests)
+range_cut h =
+    putting.cut held_before (λ x. ltb x.picture h.picture) (λ x. leb x.picture h.picture) (λ x. is_of_other h.picture (entry_of x)) h
+    (λ y t. (grind (arith, nat_tests), grind (arith, nat_tests))) (λ y t. (grind (arith, nat_tests), grind (arith, nat_tests))) (λ y t u. grind (arith, nat_tests))
 
 -- What calls with a test of the code tell
 

@@ -1,10 +1,9 @@
 -- What a device knows of its own versions, after it made one more.
-use Rattle.std.proofs.Common.{◌≡◌, ℕ, ◌+◌, ◌<◌, Bool, true, false, cond, eqb, ltb, leb, ◌&&◌, ◌||◌, List, [], ◌∷◌, ◌++◌, refl, sym, ap, ◌∙◌, inl, inr, ◌⊎◌, arith, subst, ◌≤◌}
-use Rattle.std.specs.Prelude.{filter, None, max}
+use Rattle.std.proofs.Common.{◌≡◌, ℕ, ◌+◌, ◌<◌, Bool, true, false, cond, eqb, leb, ◌&&◌, ◌||◌, List, [], ◌∷◌, refl, sym, ap, ◌∙◌, arith, subst, ◌≤◌}
+use Rattle.std.specs.Prelude.{None, max}
 use Rattle.std.specs.List.{AllByRecursion}
-use Rattle.std.proofs.lemmas.Bool.{leb-true, and_parts, cases_Bool, and_from, le-leb, cases_lt, false≢true}
+use Rattle.std.proofs.lemmas.Bool.{leb-true, and_parts, false≢true}
 use Rattle.std.proofs.lemmas.Bool.Decides.{nat_tests}
-use Rattle.std.proofs.Math.Bool.{or-true}
 use Rattle.photo_version.specs.Author.{Author, same_author, is_earlier_epoch}
 use Rattle.photo_version.specs.Version.{Version, version, same_version}
 use Rattle.item_knowledge.specs.Fragments.{Fragment, knows, is_normal, is_empty, are_groups, entries_at}
@@ -14,22 +13,15 @@ use Rattle.item_knowledge.proofs.EntryLemmas.{denotes-bound}
 use Rattle.item_knowledge.proofs.FragmentLemmas.{star_of_every}
 use Rattle.photo_device.specs.declared.held.Held.{Held}
 use Rattle.photo_device.specs.declared.place.Place.{Place}
-use Rattle.photo_device.specs.declared.place.Place.TheVariants.{Store, Out}
-use Rattle.photo_device.specs.Ordered.{put}
-use Rattle.photo_device.specs.Entry.{is_of_other}
-use Rattle.photo_device.specs.Held.{entry_of, held_before, count_of}
+use Rattle.photo_device.specs.Held.{count_of}
 use Rattle.photo_device.specs.Device.{Kept, held_at, unstaged}
-use Rattle.photo_device.specs.Own.{HasEarlier, KnowsItsOwn, KnowsNoMore, IsKnownBy, IsNext, HasMade, IsDevice}
+use Rattle.photo_device.specs.Own.{KnowsItsOwn, KnowsNoMore, IsKnownBy, IsNext, HasMade}
 use Rattle.photo_device.specs.Learning.{IsNextKnown, IsOwnLearned}
-use Rattle.photo_device.proofs.AllLemmas.{all_filter, all_put}
-use Rattle.photo_device.proofs.Counts.{one_of, count_of-cons, count_of-append, count_of-put, count_of-filter, same_version_is, same_version_self}
+use Rattle.photo_device.proofs.Counts.{same_version_is}
 
 -- the numbers from 1 to k, with k + 1
 pub one_more : (n k : ℕ) → ((leb 1 n && leb n k) || eqb (k + 1) n) ≡ (leb 1 n && leb n (k + 1))
 one_more n k = grind (arith, nat_tests)
-
-up_to : (n k : ℕ) → (leb 1 n && leb n k) ≡ (leb 1 n && ltb n (k + 1))
-up_to n k = grind (arith, nat_tests)
 
 -- there is no number from 1 to 0
 pub none_up_to : (n : ℕ) → false ≡ (leb 1 n && leb n 0)
@@ -42,10 +34,6 @@ up_to_one b n = grind (arith, nat_tests)
 same_self : (a : Author) → same_author a a ≡ true
 same_self a = grind (arith, nat_tests)
 
--- an author isn't of a later epoch than itself
-not_itself : (v w : Version) → is_earlier_epoch v.author w.author ≡ true → same_version v w ≡ false
-not_itself v w later = grind (arith, nat_tests)
-
 -- who knows no more than another, knows no more of an author's versions either
 pub no_more_of : (a : Author) (k : ℕ) (gain fs : List Fragment) → ((p : ℕ) (v : Version) → 0 < p → knows gain p v ≡ true → knows fs p v ≡ true) → KnowsNoMore a k fs → KnowsNoMore a k gain
 no_more_of a k gain fs within no_more = record {
@@ -54,7 +42,7 @@ no_more_of a k gain fs within no_more = record {
 }
 
 -- the next version is known of every picture
-own_learned : (a : Author) (k : ℕ) (v : Version) (old new : List Fragment) → v ≡ version a (k + 1) → IsOwnLearned v old new → KnowsItsOwn a k old → KnowsItsOwn a (k + 1) new
+pub own_learned : (a : Author) (k : ℕ) (v : Version) (old new : List Fragment) → v ≡ version a (k + 1) → IsOwnLearned v old new → KnowsItsOwn a k old → KnowsItsOwn a (k + 1) new
 own_learned a k v old new v_is learned own = record {
   star = learned.star a ∙ ap (λ (x : Version). cond (same_author x.author a) x.number (star_bound old a)) v_is ∙ ap (λ b. cond b (k + 1) (star_bound old a)) (same_self a);
   own = λ p n above.
@@ -65,7 +53,7 @@ own_learned a k v old new v_is learned own = record {
   later = λ p w above later.
       learned.learned p w above
       ∙ (λ i. own.later p w above later i || same_version v w)
-      ∙ not_itself v w (subst (λ b. is_earlier_epoch b w.author ≡ true) (sym (ap (λ (x : Version). x.author) v_is)) later);
+      ∙ (let later_than : is_earlier_epoch v.author w.author ≡ true = rw v_is later in grind (arith, nat_tests));
 }
 
 -- what a device knows of its own versions, before it makes the next one
@@ -96,81 +84,13 @@ known_later k l more xs all =
     }) xs all
 
 -- the next version isn't held
-none_of_next : (a : Author) (k : ℕ) (fs : List Fragment) (v : Version) (xs : List Held) → v ≡ version a (k + 1) → KnowsItsOwn a k fs → AllByRecursion (IsKnownBy fs) xs → count_of v xs ≡ 0
+pub none_of_next : (a : Author) (k : ℕ) (fs : List Fragment) (v : Version) (xs : List Held) → v ≡ version a (k + 1) → KnowsItsOwn a k fs → AllByRecursion (IsKnownBy fs) xs → count_of v xs ≡ 0
 none_of_next a k fs v [] next own all = refl
 none_of_next a k fs v (x ∷ xs) next own all =
-    elim (cases_Bool (same_version x.version v)) [
-      | inl same ↦
-          let within = own_within a k (k + 1) fs x.picture own all.0.above (ap (knows fs x.picture) (sym (same_version_is x.version v same ∙ next)) ∙ all.0.itself) in
-          absurd (omega arith)
-      | inr apart ↦ rw apart (none_of_next a k fs v xs next own all.1)
-    ]
-
--- what is so of a version and of all that is held is so of all with it
-held_too : (P : Held → Type 0) (place : Place) (h : Held) (d : Kept) → P h → AllByRecursion P d.store → AllByRecursion P d.out
-    → AllByRecursion P (held_at place h d).store × AllByRecursion P (held_at place h d).out
-held_too P Store h d new store out = (all_put P held_before h _ new (all_filter P _ d.store store), all_filter P _ d.out out)
-held_too P Out h d new store out = (all_filter P _ d.store store, all_put P held_before h _ new (all_filter P _ d.out out))
-
-held_once : (place : Place) (h : Held) (d : Kept) (v : Version) → one_of v h + (count_of v d.store + count_of v d.out) ≤ 1
-    → count_of v ((held_at place h d).store ++ (held_at place h d).out) ≤ 1
-held_once place h d v once = by place
-  where
-    other : Held → Bool
-    other x = is_of_other h.picture (entry_of x)
-
-    counts : (xs : List Held) → count_of v (put held_before h (filter other xs)) ≤ one_of v h + count_of v xs
-    counts xs = omega (arith, count_of-put v h (filter other xs), count_of-cons v h (filter other xs), count_of-filter v other xs)
-
-    by : (to : Place) → count_of v ((held_at to h d).store ++ (held_at to h d).out) ≤ 1
-    by Store = omega (arith, counts d.store, count_of-filter v other d.out, count_of-append v (held_at Store h d).store (held_at Store h d).out)
-    by Out = omega (arith, counts d.out, count_of-filter v other d.store, count_of-append v (held_at Out h d).store (held_at Out h d).out)
-
-pub makes_device : (place : Place) (h : Held) (d : Kept) (new : List Fragment) → IsNext h d → IsOwnLearned h.version d.knowledge new → IsDevice d
-    → IsDevice (record (held_at place h d) { counter = d.counter + 1; knowledge = new })
-makes_device place h d new next learned is =
-    let earlier = held_too HasEarlier place h d made_earlier is.store is.out in
-    let known = held_too (IsKnownBy new) place h d itself_known (known_later d.knowledge new later d.store is.store_known) (known_later d.knowledge new later d.out is.out_known) in
-    record {
-      knows = own_learned d.author d.counter h.version d.knowledge new next.next learned is.knows;
-      store = earlier.0;
-      out = earlier.1;
-      store_known = known.0;
-      out_known = known.1;
-      once = λ v. held_once place h d v (once v (cases_Bool (same_version h.version v)));
-    }
-  where
-    made_earlier : HasEarlier h
-    made_earlier = record {
-      own = λ n.
-          next.history (version h.version.author n)
-          ∙ ap (λ (x : Version). knows d.knowledge h.picture (version x.author n)) next.next
-          ∙ is.knows.own h.picture n next.above
-          ∙ up_to n d.counter
-          ∙ ap (λ (x : Version). leb 1 n && ltb n x.number) (sym next.next);
-    }
-
-    later : (p : ℕ) (w : Version) → 0 < p → knows d.knowledge p w ≡ true → knows new p w ≡ true
-    later p w above here = learned.learned p w above ∙ ap (λ b. b || same_version h.version w) here
-
-    itself_known : IsKnownBy new h
-    itself_known = record {
-      above = next.above;
-      itself = learned.learned h.picture h.version next.above ∙ ap (λ b. knows d.knowledge h.picture h.version || b) (same_version_self h.version) ∙ or-true (knows d.knowledge h.picture h.version);
-      history = λ v has. later h.picture v next.above (sym (next.history v) ∙ has);
-    }
-
-    once : (v : Version) → (same_version h.version v ≡ true) ⊎ (same_version h.version v ≡ false) → one_of v h + (count_of v d.store + count_of v d.out) ≤ 1
-    once v (inl same) =
-        let is_next = sym (same_version_is h.version v same) ∙ next.next in
-        let none_there = none_of_next d.author d.counter d.knowledge v d.store is_next is.knows is.store_known in
-        let none_waiting = none_of_next d.author d.counter d.knowledge v d.out is_next is.knows is.out_known in
-        let one : one_of v h ≡ 1 = rw same refl in
-        omega arith
-    once v (inr apart) =
-        let before = is.once v in
-        let none : one_of v h ≡ 0 = rw apart refl in
-        omega (arith, count_of-append v d.store d.out)
+    let rest = none_of_next a k fs v xs next own all.1 in
+    let within = own_within a k (k + 1) fs x.picture own all.0.above in
+    let itself = all.0.itself in
+    grind (arith, nat_tests, same_version_is)
 
 pub has_made : (place : Place) (h : Held) (d old after : Kept) → d ≡ old → IsNext h old → after ≡ record (held_at place h d) { counter = d.counter + 1; knowledge = after.knowledge; staged = None } → IsOwnLearned h.version d.knowledge after.knowledge → HasMade place h old after
 has_made place h d old after same next rest learned = subst (λ (e : Kept). HasMade place h e after) same (record { next = subst (IsNext h) (sym same) next; rest = rest; learned = learned.learned })
@@ -199,25 +119,17 @@ star_is_vector (s ∷ gs) normal = (and_parts (is_empty s.pictures) (is_vector s
 star_at_most : (fs : List Fragment) (a : Author) (k : ℕ) → is_normal fs ≡ true → ((p n : ℕ) → 0 < p → knows fs p (version a n) ≡ true → n ≤ k) → star_bound fs a ≤ k
 star_at_most fs a k normal own =
     let n = star_bound fs a in
-    elim (cases_lt n 1) [
-      | inl none ↦ omega arith
-      | inr some ↦
-          let denoted : denotes (entries_at fs 0) (version a n) ≡ true = denotes-bound (entries_at fs 0) (version a n) (star_is_vector fs normal) ∙ and_from (leb 1 n) (leb n n) (le-leb 1 n some) (le-leb n n (omega arith)) in
-          own 1 n (omega arith) ((star_of_every fs normal (version a n)).0 denoted 1 (omega arith))
-    ]
+    let denoted = denotes-bound (entries_at fs 0) (version a n) (star_is_vector fs normal) in
+    let every = (star_of_every fs normal (version a n)).0 in
+    let most = own 1 n in
+    grind (arith, nat_tests)
 
 pub own_still : (a : Author) (k : ℕ) (gain old new : List Fragment) → is_normal gain ≡ true → KnowsNoMore a k gain → ((b : Author) → star_bound new b ≡ max (star_bound old b) (star_bound gain b))
     → ((p : ℕ) (w : Version) → 0 < p → knows new p w ≡ (knows old p w || knows gain p w)) → KnowsItsOwn a k old → KnowsItsOwn a k new
 own_still a k gain old new normal none star learned own = record {
   star =
       let below = star_at_most gain a k normal none.own in
-      star a ∙ ap (λ n. max n (star_bound gain a)) own.star ∙ greater k (star_bound gain a) below;
-  own = λ p n above. learned p (version a n) above ∙ ap (λ b. b || knows gain p (version a n)) (own.own p n above) ∙ by p n above;
+      star a ∙ ap (λ n. max n (star_bound gain a)) own.star ∙ omega arith;
+  own = λ p n above. learned p (version a n) above ∙ ap (λ b. b || knows gain p (version a n)) (own.own p n above) ∙ (let up = known_above gain p (version a n) in let most = none.own p n above in grind (arith, nat_tests));
   later = λ p v above later. learned p v above ∙ (λ i. own.later p v above later i || none.later p v above later i);
 }
-  where
-    greater : (m n : ℕ) → n ≤ m → max m n ≡ m
-    greater m n h = omega arith
-
-    by : (p n : ℕ) → 0 < p → ((leb 1 n && leb n k) || knows gain p (version a n)) ≡ (leb 1 n && leb n k)
-    by p n above = let up = known_above gain p (version a n) in let most = none.own p n above in grind (arith, nat_tests)

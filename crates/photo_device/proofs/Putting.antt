@@ -1,13 +1,15 @@
 -- Lists in the order of a test: what is put into them, and what a filter leaves of them.
-use Rattle.std.proofs.Common.{◌≡◌, ℕ, zero, suc, ◌+◌, ◌<◌, ◌≤◌, Bool, true, false, not, cond, ltb, ◌&&◌, ◌||◌, List, [], ◌∷◌, ◌++◌, length, get_or, slice_get, take, drop, refl, sym, ap, ◌∙◌, inl, inr, arith}
+use Rattle.std.proofs.Common.{◌≡◌, ℕ, zero, suc, ◌+◌, ◌<◌, ◌≤◌, Bool, true, false, not, cond, ltb, ◌&&◌, ◌||◌, List, [], ◌∷◌, ◌++◌, length, get_or, slice_get, take, drop, Bor, refl, sym, ap, ◌∙◌, inl, inr, arith}
 use Rattle.std.proofs.lemmas.List.Elements.{filter_agree}
 use Rattle.std.proofs.Math.Bool.{and_comm}
 use Rattle.std.specs.Prelude.{map, filter, Option, Some, None, is_some}
 use Rattle.std.specs.List.{list_all, list_any, find}
+use Rattle.std.specs.Option.{option_copied}
 use Rattle.std.specs.List.Sorted.{IsPartitionedBy, IsPartitionPoint}
 use Rattle.std.specs.Cmp.{IsStrictWeakOrder}
-use Rattle.std.proofs.lemmas.Bool.{and_parts, and_from, cases_Bool, cases_lt, false≢true, lt-ltb, or_cases}
+use Rattle.std.proofs.lemmas.Bool.{and_parts, and_from, cases_lt, false≢true}
 use Rattle.std.proofs.lemmas.Bool.Decides.{nat_tests}
+use Rattle.std.proofs.lemmas.Map.Keys.{any_passes_from_place}
 use Rattle.std.proofs.lemmas.Option.{same_Some, none-some}
 use Rattle.photo_device.specs.Ordered.{put, in_order}
 
@@ -18,34 +20,27 @@ TurnsAt q xs n = IsPartitionPoint (λ y. q y ≡ true) (λ y. q y ≡ false) xs 
 module _ {A : Type 0} where
   pub any_found : (q : A → Bool) (xs : List A) → is_some (find q xs) ≡ list_any q xs
   any_found q [] = refl
-  any_found q (x ∷ xs) = elim (cases_Bool (q x)) [
-    | inl passes ↦ rw passes refl
-    | inr fails ↦ rw fails (any_found q xs)
-  ]
+  any_found q (x ∷ xs) = let rest = any_found q xs in grind (arith, nat_tests)
+
+  -- what a search gives is there where one passes
+  pub found_any : (q : A → Bool) (xs : List A) (found : Option (Bor A)) → option_copied found ≡ find q xs → is_some found ≡ list_any q xs
+  found_any q xs None is = ap is_some is ∙ any_found q xs
+  found_any q xs (Some x) is = ap is_some is ∙ any_found q xs
 
   pub any_counted : (q : A → Bool) (xs : List A) → list_any q xs ≡ ltb 0 (length (filter q xs))
   any_counted q [] = refl
-  any_counted q (x ∷ xs) = elim (cases_Bool (q x)) [
-    | inl passes ↦ rw passes (sym (lt-ltb 0 (suc (length (filter q xs))) (omega arith)))
-    | inr fails ↦ rw fails (any_counted q xs)
-  ]
+  any_counted q (x ∷ xs) = let rest = any_counted q xs in grind (arith, nat_tests)
 
   pub any_wider : (q r : A → Bool) → ((x : A) → q x ≡ true → r x ≡ true) → (xs : List A) → list_any q xs ≡ true → list_any r xs ≡ true
   any_wider q r wider [] h = h
   any_wider q r wider (x ∷ xs) h = let here = wider x in let rest = any_wider q r wider xs in grind arith
 
   pub count-cons : (q : A → Bool) (x : A) (xs : List A) → length (filter q (x ∷ xs)) ≡ cond (q x) 1 0 + length (filter q xs)
-  count-cons q x xs = elim (cases_Bool (q x)) [
-    | inl passes ↦ rw passes (omega arith)
-    | inr fails ↦ rw fails (omega arith)
-  ]
+  count-cons q x xs = grind (arith, nat_tests)
 
   pub none_out : (q : A → Bool) (xs : List A) → list_any q xs ≡ false → filter (λ x. not (q x)) xs ≡ xs
   none_out q [] none = refl
-  none_out q (x ∷ xs) none = elim (cases_Bool (q x)) [
-    | inl passes ↦ absurd (false≢true (sym none ∙ rw passes refl))
-    | inr fails ↦ rw fails (ap (λ l. x ∷ l) (none_out q xs (rw fails at none)))
-  ]
+  none_out q (x ∷ xs) none = let rest = none_out q xs in grind (arith, nat_tests)
 
   -- the only one that passes is the one that is found, and without it the others are left
   pub only_one : (q : A → Bool) (xs : List A) (i : ℕ) (x : A) → length (filter q xs) ≤ 1 → slice_get xs i ≡ Some x → q x ≡ true → (Some x ≡ find q xs) × (take i xs ++ drop (i + 1) xs ≡ filter (λ y. not (q y)) xs)
@@ -55,32 +50,16 @@ module _ {A : Type 0} where
       let counted = rw is at once in
       let none : list_any q ys ≡ false = any_counted q ys ∙ grind (arith, nat_tests) in
       (rw is (sym at), rw is (sym (none_out q ys none)))
-  only_one q (y ∷ ys) (suc i) x once at passes = elim (cases_Bool (q y)) [
-    | inl too ↦
-        let counted = rw too at once in
-        let some = any_there q ys i x at passes in
-        absurd (grind (arith, nat_tests, any_counted q ys))
-    | inr fails ↦
-        let rest = only_one q ys i x (rw fails at once) at passes in
-        let next : suc i + 1 ≡ suc (i + 1) = omega arith in
-        (rw fails rest.0, rw (next, fails) (ap (λ l. y ∷ l) rest.1))
-  ]
-    where
-      any_there : (q : A → Bool) (xs : List A) (i : ℕ) (x : A) → slice_get xs i ≡ Some x → q x ≡ true → list_any q xs ≡ true
-      any_there q [] i x at passes = absurd (none-some x at)
-      any_there q (y ∷ ys) zero x at passes = rw (ap q (same_Some y x at) ∙ passes) refl
-      any_there q (y ∷ ys) (suc i) x at passes = let rest = any_there q ys i x at passes in grind arith
+  only_one q (y ∷ ys) (suc i) x once at passes =
+      let rest = only_one q ys i x in
+      let some = any_passes_from_place q ys i x at passes in
+      let next : suc i + 1 ≡ suc (i + 1) = omega arith in
+      grind (arith, nat_tests, any_counted)
 
   -- what is found is found still, where it stays
   pub found_still : (q r : A → Bool) → ((x : A) → q x ≡ true → r x ≡ true) → (xs : List A) → find q (filter r xs) ≡ find q xs
   found_still q r stays [] = refl
-  found_still q r stays (x ∷ xs) = elim (cases_Bool (q x)) [
-    | inl passes ↦ rw (stays x passes, passes) refl
-    | inr fails ↦ elim (cases_Bool (r x)) [
-      | inl left ↦ rw (left, fails) (found_still q r stays xs)
-      | inr gone ↦ rw (gone, fails) (found_still q r stays xs)
-    ]
-  ]
+  found_still q r stays (x ∷ xs) = let here = stays x in let rest = found_still q r stays xs in grind (arith, nat_tests)
 
   pub list_all-filter : (q r : A → Bool) (xs : List A) → list_all q xs ≡ true → list_all q (filter r xs) ≡ true
   list_all-filter q r [] h = refl
@@ -157,15 +136,6 @@ module _ {A : Type 0} where
   in_order_at before (x ∷ xs) o zero (suc j) d u l = list_all_get (before x) xs (and_parts _ _ o).0 j d (omega arith)
   in_order_at before (x ∷ xs) o (suc i) (suc j) d u l = in_order_at before xs (and_parts _ _ o).1 i j d (omega arith) (omega arith)
 
-  -- a list in which each stands before the next
-  pub in_order_next : (before : A → A → Bool) → ((x y z : A) → before x y ≡ true → before y z ≡ true → before x z ≡ true) → (xs : List A) → ((k : ℕ) (d : A) → suc k < length xs → before (get_or xs k d) (get_or xs (suc k) d) ≡ true) → in_order before xs ≡ true
-  in_order_next before chain [] next = refl
-  in_order_next before chain (x ∷ []) next = refl
-  in_order_next before chain (x ∷ y ∷ ys) next =
-      let first : before x y ≡ true = next 0 x (omega arith) in
-      let rest = in_order_next before chain (y ∷ ys) (λ k d l. next (suc k) d (omega arith)) in
-      and_from _ _ (and_from _ _ first (list_all_wider (before y) (before x) (λ z h. chain x y z first h) ys (and_parts _ _ rest).0)) rest
-
   -- a search in a list in order: those that pass t stand in front, and the first behind them is the only one that may pass q
   pub record IsSearch (before : A → A → Bool) (t q : A → Bool) : Type 0 where
     pub down : (x y : A) → before x y ≡ true → t y ≡ true → t x ≡ true
@@ -183,31 +153,26 @@ module _ {A : Type 0} where
   passing q (Some x) = cond (q x) (Some x) None
 
   pub told_if : (q : A → Bool) (x : A) → q x ≡ is_some (passing q (Some x))
-  told_if q x = elim (cases_Bool (q x)) [
-    | inl passes ↦ rw passes refl
-    | inr fails ↦ rw fails refl
-  ]
+  told_if q x = grind (arith, nat_tests)
 
   pub found_first : (before : A → A → Bool) (t q : A → Bool) → IsSearch before t q → (xs : List A) → in_order before xs ≡ true → passing q (find (λ x. not (t x)) xs) ≡ find q xs
   found_first before t q search [] o = refl
-  found_first before t q search (x ∷ xs) o = elim (cases_Bool (t x)) [
-    | inl front ↦ rw (front, search.apart x front) (found_first before t q search xs (and_parts _ _ o).1)
-    | inr here ↦ elim (cases_Bool (q x)) [
-      | inl is ↦ rw (here, is) refl
-      | inr other ↦ rw (here, other) (sym (none x here other xs (and_parts _ _ o).0))
-    ]
-  ]
+  found_first before t q search (x ∷ xs) o =
+      let front = search.apart x in
+      let rest = found_first before t q search xs in
+      let behind = none x in
+      grind (arith, nat_tests)
     where
       none : (x : A) → t x ≡ false → q x ≡ false → (ys : List A) → list_all (before x) ys ≡ true → find q ys ≡ None
       none x here other [] later = refl
-      none x here other (y ∷ ys) later = rw (search.alone x y (and_parts _ _ later).0 here other) (none x here other ys (and_parts _ _ later).1)
+      none x here other (y ∷ ys) later =
+          let next = search.alone x y in
+          let rest = none x here other ys in
+          grind (arith, nat_tests)
 
   pub filter-filter : (q r : A → Bool) (xs : List A) → filter q (filter r xs) ≡ filter (λ x. r x && q x) xs
   filter-filter q r [] = refl
-  filter-filter q r (x ∷ xs) = elim (cases_Bool (r x)) [
-    | inl left ↦ rw left (ap (λ l. cond (q x) (x ∷ l) l) (filter-filter q r xs))
-    | inr gone ↦ rw gone (filter-filter q r xs)
-  ]
+  filter-filter q r (x ∷ xs) = let rest = filter-filter q r xs in grind (arith, nat_tests)
 
   pub filter-swap : (q r : A → Bool) (xs : List A) → filter q (filter r xs) ≡ filter r (filter q xs)
   filter-swap q r xs = filter-filter q r xs ∙ filter_agree _ _ (λ x. and_comm (r x) (q x)) xs ∙ sym (filter-filter r q xs)
@@ -220,13 +185,13 @@ module _ {A : Type 0} where
   pub turned : (q : A → Bool) (xs : List A) (n : ℕ) → n ≤ length xs → TurnsAt q xs n → (filter q xs ≡ take n xs) × (filter (λ y. not (q y)) xs ≡ drop n xs)
   turned q [] n l point = (let none : n ≡ zero = omega arith in rw none (refl, refl))
   turned q (x ∷ xs) zero l point =
-      let fails : q x ≡ false = point.1 0 x (omega arith) (omega arith) in
+      let fails = point.1 0 x in
       let rest = turned q xs zero (omega arith) (turns_next q xs x point) in
-      (rw fails rest.0, rw fails (ap (λ l. x ∷ l) rest.1))
+      grind arith
   turned q (x ∷ xs) (suc n) l point =
-      let passes : q x ≡ true = point.0 0 x (omega arith) (omega arith) in
+      let passes = point.0 0 x in
       let rest = turned q xs n (omega arith) (turns_later q xs x n point) in
-      (rw passes (ap (λ l. x ∷ l) rest.0), rw passes rest.1)
+      grind arith
 
   module _ {before : A → A → Bool} (order : IsStrictWeakOrder before) where
     -- along the order
@@ -241,28 +206,21 @@ module _ {A : Type 0} where
     -- where each stands before or behind x, the order stays
     pub in_order-put : (x : A) (xs : List A) → in_order before xs ≡ true → list_all (λ y. before x y || before y x) xs ≡ true → in_order before (put before x xs) ≡ true
     in_order-put x [] o e = refl
-    in_order-put x (y ∷ ys) o e = elim (cases_Bool (before y x)) [
-      | inl less ↦ rw less (and_from _ _ (list_all-put before (before y) x ys less (and_parts _ _ o).0) (in_order-put x ys (and_parts _ _ o).1 (and_parts _ _ e).1))
-      | inr not_less ↦
-          let first : before x y ≡ true = grind arith in
-          rw not_less (and_from _ _ (and_from _ _ first (list_all_wider (before y) (before x) (λ z. follows x y z first) ys (and_parts _ _ o).0)) o)
-    ]
+    in_order-put x (y ∷ ys) o e =
+        let rest = in_order-put x ys in
+        let less = list_all-put before (before y) x ys in
+        let wider = list_all_wider (before y) (before x) in
+        let chain = follows x y in
+        grind arith
 
     -- two puts in either order
     swap_less : (x y : A) (zs : List A) → before x y ≡ true → put before x (put before y zs) ≡ put before y (put before x zs)
     swap_less x y [] less = let back = order.one_way x y less in rw (less, back) refl
     swap_less x y (z ∷ zs) less =
+        let rest = swap_less x y zs less in
         let back = order.one_way x y less in
-        elim (cases_Bool (before z x)) [
-          | inl first ↦ let too = follows z x y first less in simp (too, first) (ap (λ l. z ∷ l) (swap_less x y zs less))
-          | inr behind ↦ elim (cases_Bool (before z y)) [
-            | inl between ↦ simp (between, behind, less)
-            | inr last ↦ simp (last, behind, less, back)
-          ]
-        ]
+        let too = follows z x y in
+        grind arith
 
     pub put-put : (x y : A) (zs : List A) → (before x y || before y x) ≡ true → put before x (put before y zs) ≡ put before y (put before x zs)
-    put-put x y zs apart = elim (or_cases _ _ apart) [
-      | inl less ↦ swap_less x y zs less
-      | inr more ↦ sym (swap_less y x zs more)
-    ]
+    put-put x y zs apart = let less = swap_less x y zs in let more = swap_less y x zs in grind arith

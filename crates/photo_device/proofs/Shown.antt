@@ -1,10 +1,11 @@
 -- What held versions show as entries, and a device after it made a version.
 use Rattle.std.proofs.Common.{◌≡◌, ℕ, ◌+◌, Bool, true, false, not, eqb, ◌||◌, cond, List, [], ◌∷◌, ◌++◌, refl, sym, ap, ◌∙◌, arith}
-use Rattle.std.specs.Prelude.{filter, Some}
+use Rattle.std.specs.Prelude.{filter}
 use Rattle.std.specs.List.{list_any}
 use Rattle.std.specs.Option.{option_map}
+use Rattle.std.proofs.lemmas.Bool.Decides.{nat_tests}
 use Rattle.std.proofs.lemmas.List.{map-append}
-use Rattle.std.proofs.lemmas.List.Folds.{list_any-append}
+use Rattle.std.proofs.lemmas.List.Folds.{list_any-append, find-append}
 use Rattle.photo_record.specs.declared.record.Record.{Record}
 use Rattle.photo_filter_rules.specs.Matching.{matches}
 use Rattle.photo_version.specs.Version.{Version, version, same_version}
@@ -12,17 +13,13 @@ use Rattle.photo_device.specs.declared.held.Held.{Held}
 use Rattle.photo_device.specs.declared.place.Place.TheVariants.{Store, Out}
 use Rattle.photo_device.specs.Ordered.{put}
 use Rattle.photo_device.specs.Entry.{Entry, is_of_other, others, put_entry, put_entry_if, put_entries, without, find_entry}
-use Rattle.photo_device.specs.Held.{entry_of, entries_of, held_before, held_of_others, replaced, put_helds, helds_without, has_picture, is_of, find_version_of}
+use Rattle.photo_device.specs.Held.{entry_of, entries_of, held_before, held_of_others, replaced, put_helds, helds_without, has_picture, find_version_of}
 use Rattle.photo_device.specs.Device.{ModelDevice, Kept, Shows, made, next_version, new_entry, place_for, held_at, holds, is_held}
 use Rattle.photo_device.specs.Own.{HasMade}
 
 pub entries-filter : (q : Entry → Bool) (xs : List Held) → entries_of (filter (λ h. q (entry_of h)) xs) ≡ filter q (entries_of xs)
 entries-filter q [] = refl
-entries-filter q (x ∷ xs) =
-    elim (q (entry_of x)) as (λ b. entries_of (cond b (x ∷ filter (λ h. q (entry_of h)) xs) (filter (λ h. q (entry_of h)) xs)) ≡ cond b (entry_of x ∷ filter q (entries_of xs)) (filter q (entries_of xs))) [
-      | true ↦ ap (λ l. entry_of x ∷ l) (entries-filter q xs)
-      | false ↦ entries-filter q xs
-    ]
+entries-filter q (x ∷ xs) = let rest = entries-filter q xs in grind (arith, nat_tests)
 
 pub entries-others : (p : ℕ) (xs : List Held) → entries_of (held_of_others p xs) ≡ others p (entries_of xs)
 entries-others p xs = entries-filter (is_of_other p) xs
@@ -32,18 +29,21 @@ entries-without drops xs = entries-filter (λ (e : Entry). not (list_any (λ v. 
 
 entries-put : (h : Held) (xs : List Held) → entries_of (put held_before h xs) ≡ put_entry (entry_of h) (entries_of xs)
 entries-put h [] = refl
-entries-put h (x ∷ xs) =
-    elim (held_before x h) as (λ b. entries_of (cond b (x ∷ put held_before h xs) (h ∷ x ∷ xs)) ≡ cond b (entry_of x ∷ put_entry (entry_of h) (entries_of xs)) (entry_of h ∷ entry_of x ∷ entries_of xs)) [
-      | true ↦ ap (λ l. entry_of x ∷ l) (entries-put h xs)
-      | false ↦ refl
-    ]
+entries-put h (x ∷ xs) = let rest = entries-put h xs in grind (arith, nat_tests)
 
 pub entries-put_helds : (xs helds : List Held) → entries_of (put_helds xs helds) ≡ put_entries (entries_of xs) (entries_of helds)
 entries-put_helds [] helds = refl
 entries-put_helds (h ∷ xs) helds = entries-put h (put_helds xs helds) ∙ ap (put_entry (entry_of h)) (entries-put_helds xs helds)
 
+-- those that pass a test of entries are put in
+pub entries-put_those : (q : Entry → Bool) (takes helds : List Held) → entries_of (put_helds (filter (λ h. q (entry_of h)) takes) helds) ≡ put_entries (filter q (entries_of takes)) (entries_of helds)
+entries-put_those q takes helds = entries-put_helds (filter (λ h. q (entry_of h)) takes) helds ∙ ap (λ es. put_entries es (entries_of helds)) (entries-filter q takes)
+
 entries-replaced : (h : Held) (xs : List Held) → entries_of (replaced h xs) ≡ put_entry (entry_of h) (others h.picture (entries_of xs))
 entries-replaced h xs = entries-put h _ ∙ ap (put_entry (entry_of h)) (entries-others h.picture xs)
+
+-- for attributes, which name no lemma with a dash
+pub ruleset of_both = (find-append, entries-put_helds)
 
 -- all that a device holds
 
@@ -65,20 +65,13 @@ found_shown d m picture version shows = by (d.store ++ d.out) ∙ ap (find_entry
   where
     by : (xs : List Held) → option_map entry_of (find_version_of picture version xs) ≡ find_entry picture version (entries_of xs)
     by [] = refl
-    by (x ∷ xs) =
-        elim (is_of x picture version) as (λ b. option_map entry_of (cond b (Some x) (find_version_of picture version xs)) ≡ cond b (Some (entry_of x)) (find_entry picture version (entries_of xs))) [
-          | true ↦ refl
-          | false ↦ by xs
-        ]
+    by (x ∷ xs) = let rest = by xs in grind (arith, nat_tests)
 
 -- what is held where a test of the filter says so
 sets_at : (b : Bool) (d : Kept) (h : Held) → (entries_of (held_at (cond b Store Out) h d).store ≡ put_entry_if b (entry_of h) (others h.picture (entries_of d.store)))
     × (entries_of (held_at (cond b Store Out) h d).out ≡ put_entry_if (not b) (entry_of h) (others h.picture (entries_of d.out)))
 sets_at true d h = (entries-replaced h d.store, entries-others h.picture d.out)
 sets_at false d h = (entries-others h.picture d.store, entries-replaced h d.out)
-
-or_swap : (a b c : Bool) → ((a || b) || c) ≡ ((a || c) || b)
-or_swap a b c = grind arith
 
 -- the new version held at its place, counted and known
 pub shows_made : (d new : Kept) (m : ModelDevice) (h : Held) (content : Record) → h.content ≡ content → HasMade (place_for d.tree content) h d new → Shows d m → Shows new (made m h.picture content)
@@ -101,5 +94,5 @@ shows_made d new m h content content_is has shows =
       known = λ q above w.
           has.learned q w above
           ∙ (λ i. shows.known q above w i || same_version (new_is i) w)
-          ∙ or_swap (m.every w) (m.of q w) (same_version (next_version m) w);
+          ∙ grind arith;
     }

@@ -1,5 +1,5 @@
 -- What is true of a device on which a change is staged, and after its commit.
-use Rattle.std.proofs.Common.{◌≡◌, ℕ, ◌+◌, ◌<◌, ◌≤◌, Bool, true, false, not, cond, ◌||◌, List, ◌++◌, length, refl, sym, ap, ◌∙◌, arith, subst}
+use Rattle.std.proofs.Common.{◌≡◌, ℕ, ◌+◌, ◌<◌, ◌≤◌, Bool, true, false, not, ◌||◌, List, ◌++◌, length, refl, sym, ap, ◌∙◌, arith, subst}
 use Rattle.std.specs.Prelude.{filter, max, Option, Some, None, is_some, IfSome}
 use Rattle.std.proofs.Math.Bool.{or-true}
 use Rattle.std.proofs.lemmas.Bool.{false≢true}
@@ -16,13 +16,13 @@ use Rattle.photo_device.specs.Held.{entries_of, count_of, is_listed, helds_witho
 use Rattle.photo_device.specs.Device.{Kept, Staging, ModelDevice, Shows, changed, unstaged, IsAsItWas}
 use Rattle.photo_device.specs.Own.{HasEarlier, IsKnownBy, IsDevice}
 use Rattle.block_list.specs.Room.{Reserved}
-use Rattle.photo_device.specs.Taking.{is_on_side, AreNewTo, MayTake, with_side}
+use Rattle.photo_device.specs.Taking.{AreNewTo, MayTake, with_side}
 use Rattle.photo_device.specs.Staging.{HasStaged, MayHand, MayStage, known_then, staging, staging_of, IsPrepared, FitsWhatIsPrepared, AreParts}
 use Rattle.photo_device.proofs.AllLemmas.{all_append}
 use Rattle.photo_device.proofs.Counts.{count_of-append, count_of-filter}
 use Rattle.photo_device.proofs.OwnLemmas.{known_later, own_still}
 use Rattle.photo_device.proofs.Changed.{shorter, all_new, filters_device, joins_device}
-use Rattle.photo_device.proofs.Shown.{entries-filter, entries-put_helds, entries-without}
+use Rattle.photo_device.proofs.Shown.{entries-put_those, entries-without}
 
 -- what is staged is no part of what a device shows
 
@@ -118,9 +118,7 @@ committing prepared o p handed d now is same parts may = record {
 
 module _ (p : Prepared) (o : Option (List Fragment)) (handed : List Held) (d : Kept) (are : IsCommitting p o handed d) where
   all_coming : (v : Version) → count_of v handed + count_of v p.takes + (count_of v d.store + count_of v d.out) ≤ 1
-  all_coming v =
-      let once = are.may.once v in
-      omega (arith, count_of-append v handed (p.takes ++ (d.store ++ d.out)), count_of-append v p.takes (d.store ++ d.out), count_of-append v d.store d.out)
+  all_coming v = omega (arith, are.may.once v, count_of-append)
 
   pub held_once : (v : Version) → count_of v d.store + count_of v d.out ≤ 1
   held_once v = let all = all_coming v in omega arith
@@ -133,10 +131,7 @@ module _ (p : Prepared) (o : Option (List Fragment)) (handed : List Held) (d : K
       let less = shorter left helds in
       record {
         new = record {
-          once = λ v.
-              let all = all_coming v in
-              let some = part v in
-              omega (arith, count_of-append v handed p.takes, count_of-append v (handed ++ p.takes) (filter left helds), count_of-filter v left helds);
+          once = λ v. omega (arith, all_coming v, part v, count_of-append, count_of-filter);
         };
         most = omega arith;
         more = omega arith;
@@ -168,37 +163,24 @@ module _ (p : Prepared) (o : Option (List Fragment)) (handed : List Held) (d : K
       less = record d { store = helds_without p.drops d.store; out = helds_without p.drops d.out }
 
       once : AreNewTo (less.store ++ less.out) (p.takes ++ handed)
-      once = record {
-        once = λ v.
-            let all = all_coming v in
-            omega (arith, count_of-append v p.takes handed, count_of-append v less.store less.out, count_of-filter v left d.store, count_of-filter v left d.out, count_of-append v (p.takes ++ handed) (less.store ++ less.out));
-      }
+      once = record { once = λ v. omega (arith, all_coming v, count_of-append, count_of-filter) }
 
   shows_committed : (m : ModelDevice) → Shows d m → Shows committed (changed p.drops (entries_of (p.takes ++ handed)) (knows (known_then o)) m)
   shows_committed m shows = record {
     author = shows.author;
     tree = shows.tree;
     counter = shows.counter;
-    store = side true d.store ∙ (λ i. put_entries (filter (λ (e : Entry). matches (shows.tree i) e.content) (entries_of (p.takes ++ handed))) (without p.drops (shows.store i)));
-    out = side false d.out ∙ (λ i. put_entries (filter (λ (e : Entry). not (matches (shows.tree i) e.content)) (entries_of (p.takes ++ handed))) (without p.drops (shows.out i)));
+    store =
+        entries-put_those (λ (e : Entry). matches d.tree e.content) (p.takes ++ handed) (helds_without p.drops d.store)
+        ∙ (λ i. put_entries (filter (λ (e : Entry). matches (shows.tree i) e.content) (entries_of (p.takes ++ handed))) ((entries-without p.drops d.store ∙ ap (without p.drops) shows.store) i));
+    out =
+        entries-put_those (λ (e : Entry). not (matches d.tree e.content)) (p.takes ++ handed) (helds_without p.drops d.out)
+        ∙ (λ i. put_entries (filter (λ (e : Entry). not (matches (shows.tree i) e.content)) (entries_of (p.takes ++ handed))) ((entries-without p.drops d.out ∙ ap (without p.drops) shows.out) i));
     known = λ q above v.
-        or_ahead (knows d.knowledge q v) (knows (known_then o) q v) (are.prepared.ahead.more q v above)
-        ∙ ap (λ b. b || knows (known_then o) q v) (shows.known q above v)
-        ∙ or_group (m.every v) (m.of q v) (knows (known_then o) q v);
+        let more = are.prepared.ahead.more q v above in
+        let known = shows.known q above v in
+        grind arith;
   }
-    where
-      is_entry_on : Bool → Entry → Bool
-      is_entry_on matched e = cond matched (matches d.tree e.content) (not (matches d.tree e.content))
-
-      side : (matched : Bool) (helds : List Held) → entries_of (with_side matched d.tree (p.takes ++ handed) (helds_without p.drops helds)) ≡ put_entries (filter (is_entry_on matched) (entries_of (p.takes ++ handed))) (without p.drops (entries_of helds))
-      side true helds = entries-put_helds (filter (is_on_side true d.tree) (p.takes ++ handed)) (helds_without p.drops helds) ∙ (λ i. put_entries (entries-filter (is_entry_on true) (p.takes ++ handed) i) (entries-without p.drops helds i))
-      side false helds = entries-put_helds (filter (is_on_side false d.tree) (p.takes ++ handed)) (helds_without p.drops helds) ∙ (λ i. put_entries (entries-filter (is_entry_on false) (p.takes ++ handed) i) (entries-without p.drops helds i))
-
-      or_group : (a b c : Bool) → ((a || b) || c) ≡ (a || (b || c))
-      or_group a b c = grind arith
-
-      or_ahead : (a b : Bool) → (a ≡ true → b ≡ true) → b ≡ (a || b)
-      or_ahead a b h = grind arith
 
   pub known_after : (new : Knowing) → IfSome o (λ s. new ≡ settled s) → new ≡ settled (known_then o)
   known_after new is = then_is o (λ s. new ≡ settled s) are.prepared.there is
@@ -208,8 +190,4 @@ module _ (p : Prepared) (o : Option (List Fragment)) (handed : List Held) (d : K
 
   pub shows_after : (prepared : Option Prepared) (now after : Kept) → prepared ≡ Some p → record d { staged = staging_of prepared o } ≡ now → d.staged ≡ None → after ≡ committed
       → IfSome now.staged (λ s. (m : ModelDevice) → Shows now m → Shows after (changed s.drops (entries_of (s.takes ++ handed)) (knows s.knowledge) m))
-  shows_after prepared now after is same settled_d after_is =
-      subst (λ (e : Kept). IfSome e.staged (λ s. (m : ModelDevice) → Shows e m → Shows after (changed s.drops (entries_of (s.takes ++ handed)) (knows s.knowledge) m))) same
-      (subst (λ (q : Option Prepared). IfSome (staging_of q o) (λ s. (m : ModelDevice) → Shows (record d { staged = staging_of q o }) m → Shows after (changed s.drops (entries_of (s.takes ++ handed)) (knows s.knowledge) m))) (sym is)
-      (λ m shows. subst (λ (e : Kept). Shows e (changed p.drops (entries_of (p.takes ++ handed)) (knows (known_then o)) m)) (sym after_is)
-      (shows_committed m (shows_staged (record d { staged = Some (staging p o) }) d.staged m shows))))
+  shows_after prepared now after is same settled_d after_is = grind (arith, shows_committed, shows_staged)

@@ -1,5 +1,5 @@
 -- What sets of held versions take, give up and hand over.
-use Rattle.std.proofs.Common.{◌≡◌, ℕ, ◌+◌, ◌<◌, ◌≤◌, ◌==◌, Bool, true, false, not, cond, ◌&&◌, ◌||◌, List, [], ◌∷◌, ◌++◌, length, get_or, drop, refl, sym, ap, ◌∙◌, ◌⊎◌, append_assoc, append-nil, Bor, inl, inr, arith}
+use Rattle.std.proofs.Common.{◌≡◌, ℕ, ◌+◌, ◌<◌, ◌≤◌, ◌==◌, Bool, true, false, not, cond, ◌&&◌, List, [], ◌∷◌, ◌++◌, length, get_or, drop, refl, sym, ap, ◌∙◌, ◌⊎◌, append_assoc, append-nil, Bor, inl, inr, arith}
 use Rattle.std.specs.Prelude.{filter, Option, Some, None, IfSome, IfNone}
 use Rattle.std.specs.List.{cons_option, list_any}
 use Rattle.std.specs.Fn.{Mut, Called, ComputesKey}
@@ -9,11 +9,11 @@ use Rattle.std.proofs.lemmas.Fn.{always_returns_same}
 use Rattle.std.proofs.lemmas.List.{drop_more}
 use Rattle.std.proofs.lemmas.List.Elements.{filter_agree, filter-append}
 use Rattle.block_list.specs.Taken.{IsTakenOut}
-use Rattle.block_list.specs.Room.{Reserved}
+use Rattle.block_list.specs.Room.{Reserved, Growing}
 use Rattle.photo_version.specs.Version.{Version, same_version}
 use Rattle.photo_device.specs.declared.held.Held.{Held}
 use Rattle.photo_device.specs.Ordered.{put}
-use Rattle.photo_device.specs.Held.{held_before, has_version_of, count_of, times_in, find_version, is_listed, helds_without, helds_at, put_helds, RoomyHelds}
+use Rattle.photo_device.specs.Held.{held_before, has_version_of, count_of, times_in, are_in_order, find_version, is_listed, helds_without, helds_at, put_helds}
 use Rattle.photo_device.specs.Taking.{AreNewTo, HasRoomFor, HasTaken, MayTake, with_those}
 use Rattle.photo_device.proofs.Counts.{one_of, count_of-cons, count_of-append, count_of-put, count_of-filter, not_found, same_version_self}
 use Rattle.photo_device.proofs.Order.{held_order, held_apart}
@@ -24,16 +24,11 @@ use Rattle.photo_device.proofs.Putting.{any_counted, any_wider, filter_true, cou
 pub count_of-put_helds : (v : Version) (takes helds : List Held) → count_of v (put_helds takes helds) ≡ count_of v takes + count_of v helds
 count_of-put_helds v [] helds = omega arith
 count_of-put_helds v (h ∷ takes) helds =
-    let rest = count_of-put_helds v takes helds in
-    let one = count_of-cons v h (put_helds takes helds) in
-    let other = count_of-cons v h takes in
-    count_of-put v h (put_helds takes helds) ∙ (omega arith)
+    count_of-put v h (put_helds takes helds) ∙ omega (arith, count_of-put_helds v takes helds, count_of-cons)
 
 -- one that comes to a set isn't there
 pub is_new : (h : Held) (helds : List Held) → AreNewTo helds (h ∷ []) → find_version h.version helds ≡ None
-is_new h helds new =
-    not_found h.version helds
-    (let once = new.once h.version in let one : one_of h.version h ≡ 1 = rw (same_version_self h.version) refl in omega (arith, count_of-cons h.version h helds))
+is_new h helds new = grind (arith, not_found, same_version_self, count_of-cons)
 
 put_helds-append : (xs ys zs : List Held) → put_helds (xs ++ ys) zs ≡ put_helds xs (put_helds ys zs)
 put_helds-append [] ys zs = refl
@@ -43,92 +38,77 @@ put_helds-append (x ∷ xs) ys zs = ap (put held_before x) (put_helds-append xs 
 put_through : (h : Held) (takes helds : List Held) → count_of h.version takes ≡ 0 → put_helds takes (put held_before h helds) ≡ put held_before h (put_helds takes helds)
 put_through h [] helds none = refl
 put_through h (g ∷ takes) helds none =
+    let rest = put_through h takes helds in
     let all = count_of-cons h.version g takes in
-    let apart : same_version g.version h.version ≡ false = elim (cases_Bool (same_version g.version h.version)) [
-      | inl same ↦ let one : one_of h.version g ≡ 1 = rw same refl in absurd (omega arith)
-      | inr other ↦ other
-    ] in
-    ap (put held_before g) (put_through h takes helds (omega arith)) ∙ put-put held_order g h (put_helds takes helds) (held_apart g h apart)
+    let apart = held_apart g h in
+    let swap = put-put held_order g h (put_helds takes helds) in
+    grind (arith, nat_tests)
 
 -- what comes in two parts
 
 pub new_first : (xs ys helds : List Held) → AreNewTo helds (xs ++ ys) → AreNewTo helds xs
-new_first xs ys helds new = record {
-  once = λ v. let once = new.once v in omega (arith, count_of-append v (xs ++ ys) helds, count_of-append v xs ys, count_of-append v xs helds);
-}
+new_first xs ys helds new = record { once = λ v. omega (arith, new.once v, count_of-append) }
 
 pub new_then : (q : Held → Bool) (xs ys helds : List Held) → AreNewTo helds (xs ++ ys) → AreNewTo (with_those q xs helds) ys
-new_then q xs ys helds new = record {
-  once = λ v.
-      let once = new.once v in
-      let all = count_of-append v (xs ++ ys) helds in
-      let parts = count_of-append v xs ys in
-      let those = count_of-append v ys (with_those q xs helds) in
-      let put = count_of-put_helds v (filter q xs) helds in
-      let some = count_of-filter v q xs in
-      omega arith;
-}
+new_then q xs ys helds new = record { once = λ v. omega (arith, new.once v, count_of-append, count_of-put_helds, count_of-filter) }
 
 -- a set with room that takes versions: those that are left, and what it has now
-pub record IsTaking (q : Held → Bool) (coming : List Held) (before : RoomyHelds) (left : List Held) (now : RoomyHelds) : Type 0 where
-  pub done : with_those q left now.helds ≡ with_those q coming before.helds
-  pub new : AreNewTo now.helds left
+pub record IsTaking (q : Held → Bool) (coming : List Held) (before : Growing Held) (left : List Held) (now : Growing Held) : Type 0 where
+  pub order : are_in_order now.items ≡ true
+  pub done : with_those q left now.items ≡ with_those q coming before.items
+  pub new : AreNewTo now.items left
   pub room : length left ≤ now.more
   pub used : before.more + length left ≤ now.more + length coming
 
-pub none_taken : (q : Held → Bool) (coming : List Held) (before : RoomyHelds) → HasRoomFor coming before → IsTaking q coming before coming before
-none_taken q coming before has = record { done = refl; new = has.new; room = has.room; used = omega arith }
+pub none_taken : (q : Held → Bool) (coming : List Held) (before : Growing Held) → HasRoomFor coming before → IsTaking q coming before coming before
+none_taken q coming before has = record { order = has.order; done = refl; new = has.new; room = has.room; used = omega arith }
 
-pub has_room : (q : Held → Bool) (coming : List Held) (before : RoomyHelds) (h : Held) (left : List Held) (now : RoomyHelds) → IsTaking q coming before (h ∷ left) now → HasRoomFor (h ∷ []) now
-has_room q coming before h left now is = record { new = new_first (h ∷ []) left now.helds is.new; room = (let room = is.room in omega arith) }
+pub has_room : (q : Held → Bool) (coming : List Held) (before : Growing Held) (h : Held) (left : List Held) (now : Growing Held) → IsTaking q coming before (h ∷ left) now → HasRoomFor (h ∷ []) now
+has_room q coming before h left now is = record { order = is.order; new = new_first (h ∷ []) left now.items is.new; room = (let room = is.room in omega arith) }
 
-pub one_taken : (q : Held → Bool) (coming : List Held) (before : RoomyHelds) (h : Held) (left : List Held) (now next : RoomyHelds) → IsTaking q coming before (h ∷ left) now → HasTaken q (h ∷ []) now next
+pub one_taken : (q : Held → Bool) (coming : List Held) (before : Growing Held) (h : Held) (left : List Held) (now next : Growing Held) → IsTaking q coming before (h ∷ left) now → HasTaken q (h ∷ []) now next
     → IsTaking q coming before left next
 one_taken q coming before h left now next is has =
     let room = is.room in
     let used = is.used in
     let more = has.more in
     record {
-      done = ap (with_those q left) has.helds ∙ both (cases_Bool (q h)) ∙ is.done;
-      new = rw has.helds (new_then q (h ∷ []) left now.helds is.new);
+      order = has.order;
+      done = ap (with_those q left) has.items ∙ both (cases_Bool (q h)) ∙ is.done;
+      new = rw has.items (new_then q (h ∷ []) left now.items is.new);
       room = omega arith;
       used = omega arith;
     }
   where
     none : count_of h.version (filter q left) ≡ 0
     none =
-        let once = is.new.once h.version in
-        let all = count_of-cons h.version h (left ++ now.helds) in
         let one : one_of h.version h ≡ 1 = rw (same_version_self h.version) refl in
-        omega (arith, count_of-append h.version left now.helds, count_of-filter h.version q left)
+        omega (arith, is.new.once h.version, count_of-cons h.version h (left ++ now.items), count_of-append, count_of-filter)
 
-    both : (q h ≡ true) ⊎ (q h ≡ false) → with_those q left (with_those q (h ∷ []) now.helds) ≡ with_those q (h ∷ left) now.helds
-    both (inl side) = simp side (put_through h (filter q left) now.helds none)
+    both : (q h ≡ true) ⊎ (q h ≡ false) → with_those q left (with_those q (h ∷ []) now.items) ≡ with_those q (h ∷ left) now.items
+    both (inl side) = simp side (put_through h (filter q left) now.items none)
     both (inr other) = simp other
 
-pub all_taken : (q : Held → Bool) (coming : List Held) (before now : RoomyHelds) → IsTaking q coming before [] now → HasTaken q coming before now
-all_taken q coming before now is = (let used = is.used in record { helds = is.done; more = omega arith })
+pub all_taken : (q : Held → Bool) (coming : List Held) (before now : Growing Held) → IsTaking q coming before [] now → HasTaken q coming before now
+all_taken q coming before now is = (let used = is.used in record { order = is.order; items = is.done; more = omega arith })
 
 -- the same where all come
-pub all_put : (coming : List Held) (before now : RoomyHelds) → IsTaking (λ _. true) coming before [] now → now.helds ≡ put_helds coming before.helds
-all_put coming before now is = is.done ∙ ap (λ (l : List Held). put_helds l before.helds) (filter_true coming)
+pub all_put : (coming : List Held) (before now : Growing Held) → IsTaking (λ _. true) coming before [] now → now.items ≡ put_helds coming before.items
+all_put coming before now is = is.done ∙ ap (λ (l : List Held). put_helds l before.items) (filter_true coming)
 
 -- a set that is opened takes two lists, one after the other
 
-pub first_fits : (handed takes helds : List Held) (room : Reserved) (set : RoomyHelds) → MayTake helds handed takes room → set.helds ≡ helds → set.more ≡ room.more → HasRoomFor handed set
-first_fits handed takes helds room set may is more = (let enough = may.more in record { new = rw is (new_first handed takes helds may.new); room = omega arith })
+pub first_fits : (handed takes helds : List Held) (room : Reserved) (set : Growing Held) → MayTake helds handed takes room → are_in_order helds ≡ true → set.items ≡ helds → set.more ≡ room.more → HasRoomFor handed set
+first_fits handed takes helds room set may order is more = (let enough = may.more in record { order = rw is order; new = rw is (new_first handed takes helds may.new); room = omega arith })
 
-pub then_fits : (q : Held → Bool) (handed takes helds : List Held) (room : Reserved) (set next : RoomyHelds) → MayTake helds handed takes room → set.helds ≡ helds → set.more ≡ room.more → HasTaken q handed set next → HasRoomFor takes next
+pub then_fits : (q : Held → Bool) (handed takes helds : List Held) (room : Reserved) (set next : Growing Held) → MayTake helds handed takes room → set.items ≡ helds → set.more ≡ room.more → HasTaken q handed set next → HasRoomFor takes next
 then_fits q handed takes helds room set next may is more has =
     let enough = may.more in
     let left = has.more in
-    record { new = rw (has.helds, is) (new_then q handed takes helds may.new); room = omega arith }
+    record { order = has.order; new = rw (has.items, is) (new_then q handed takes helds may.new); room = omega arith }
 
-pub both_taken : (q : Held → Bool) (handed takes helds : List Held) (set next last : RoomyHelds) → set.helds ≡ helds → HasTaken q handed set next → HasTaken q takes next last → last.helds ≡ with_those q (takes ++ handed) helds
-both_taken q handed takes helds set next last is first second =
-    second.helds ∙ ap (with_those q takes) (first.helds ∙ ap (with_those q handed) is)
-    ∙ sym (ap (λ l. put_helds l helds) (filter-append q takes handed)
-    ∙ put_helds-append (filter q takes) (filter q handed) helds)
+pub both_taken : (q : Held → Bool) (handed takes helds : List Held) (set next last : Growing Held) → set.items ≡ helds → HasTaken q handed set next → HasTaken q takes next last → last.items ≡ with_those q (takes ++ handed) helds
+both_taken q handed takes helds set next last is first second = grind (arith, filter-append, put_helds-append)
 
 -- What is given up
 
@@ -142,16 +122,10 @@ without_empty (v ∷ versions) xs none = absurd (grind (arith, nat_tests))
 
 -- one version after another, or all at once
 pub without-cons : (v : Version) (versions : List Version) (xs : List Held) → helds_without versions (helds_without (v ∷ []) xs) ≡ helds_without (v ∷ versions) xs
-without-cons v versions xs = filter-filter _ _ xs ∙ filter_agree _ _ (λ h. by (same_version v h.version) (is_listed versions h.version)) xs
-  where
-    by : (a b : Bool) → (not (a || false) && not b) ≡ not (a || b)
-    by a b = grind arith
+without-cons v versions xs = filter-filter _ _ xs ∙ filter_agree (λ h. not (is_listed (v ∷ []) h.version) && not (is_listed versions h.version)) _ (λ h. grind arith) xs
 
 without_one : (v : Version) (xs : List Held) → helds_without (v ∷ []) xs ≡ filter (λ h. not (same_version h.version v)) xs
-without_one v xs = filter_agree _ _ (λ h. turned h.version v) xs
-  where
-    turned : (w v : Version) → not (same_version v w || false) ≡ not (same_version w v)
-    turned w v = grind (arith, nat_tests)
+without_one v xs = filter_agree _ _ (λ h. grind (arith, nat_tests)) xs
 
 -- where one of two sets has it, the other has none to give up
 pub other_kept : (picture : ℕ) (v : Version) (xs ys : List Held) → count_of v xs + count_of v ys ≤ 1 → has_version_of picture v xs ≡ true → ys ≡ helds_without (v ∷ []) ys
@@ -199,15 +173,11 @@ one_in v w = cond (same_version w v) 1 0
 found_all_still : (v : Version) (left : List Version) (xs : List Held) → times_in v left ≡ 0 → helds_at left (helds_without (v ∷ []) xs) ≡ helds_at left xs
 found_all_still v [] xs none = refl
 found_all_still v (w ∷ left) xs none =
+    let rest = found_all_still v left xs in
     let all = count-cons (λ u. same_version u v) w left in
-    elim (cases_Bool (same_version w v)) [
-      | inl same ↦ let one : one_in v w ≡ 1 = rw same refl in absurd (omega arith)
-      | inr apart ↦
-          (λ i. cons_option (found_still (λ (h : Held). same_version h.version w) (λ h. not (is_listed (v ∷ []) h.version)) (other apart) xs i) (found_all_still v left xs (omega arith) i))
-    ]
-  where
-    other : same_version w v ≡ false → (h : Held) → same_version h.version w ≡ true → not (same_version v h.version || false) ≡ true
-    other apart h is = grind (arith, nat_tests)
+    let still : same_version w v ≡ false → find_version w (helds_without (v ∷ []) xs) ≡ find_version w xs = λ apart.
+    found_still (λ (h : Held). same_version h.version w) (λ h. not (is_listed (v ∷ []) h.version)) (λ h is. grind (arith, nat_tests)) xs in
+    grind (arith, nat_tests)
 
 -- a set that hands versions over: those that are left to be asked for, what it has now, and what the list has now
 pub record IsHanding (versions : List Version) (before list_before : List Held) (left : List Version) (now handed : List Held) : Type 0 where

@@ -1,10 +1,12 @@
--- Machinery of the proofs: what a device holds, sorted anew for another filter.
-use Rattle.std.specs.Prelude.{◌≡◌, ℕ, ◌<◌, true, false, ◌||◌, List, [], ◌++◌, None}
+-- Machinery of the proofs: what a device holds, sorted anew for another filter, and tables of what versions tell.
+use Rattle.std.specs.Prelude.{◌≡◌, ℕ, ◌<◌, true, false, ◌&&◌, ◌||◌, ◌==◌, nat_le, List, [], ◌++◌, None}
 use Rattle.photo_filter_text.specs.Tree.{Tree}
 use Rattle.photo_version.specs.Author.{Author}
-use Rattle.photo_version.specs.Version.{Version}
+use Rattle.photo_version.specs.Version.{Version, Versions}
+use Rattle.photo_version.specs.Vector.{Bound, denotes}
 use Rattle.item_knowledge.specs.Fragments.{knows}
 use Rattle.item_knowledge.specs.Kept.{star_bound}
+use Rattle.item_knowledge.specs.Tables.{in_order, keys_pass, at}
 use Rattle.photo_device.specs.declared.anew.Anew.{Anew}
 use Rattle.photo_device.specs.declared.held.Held.{Held}
 use Rattle.photo_device.specs.Taking.{with_side}
@@ -17,3 +19,9 @@ pub record IsAnew (tree : Tree) (stored waiting : List Held) (anew : Anew) : Typ
   pub pairs : (p : ℕ) (v : Version) → 0 < p → knows anew.told.known p v ≡ (tells stored p v || tells waiting p v)
   pub star : (a : Author) → star_bound anew.told.known a ≡ 0
   pub staged : anew.told.staged ≡ None
+
+-- a table has what is told of a picture besides, of which none of its pictures is greater
+pub record IsAdded (table new : List (ℕ × List Bound)) (picture : ℕ) (more : Versions) : Type 0 where
+  pub order : in_order new ≡ true
+  pub last : keys_pass (λ k. nat_le k picture) new ≡ true
+  pub told : (p : ℕ) (v : Version) → denotes (at [] new p) v ≡ (denotes (at [] table p) v || ((picture == p) && more v))

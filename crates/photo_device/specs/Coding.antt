@@ -10,7 +10,6 @@ use Rattle.photo_device.specs.declared.held.Held.{Held}
 use Rattle.photo_device.specs.contracts.held.Held as held
 use Rattle.item_knowledge.specs.Fragments.{Fragment}
 use Rattle.item_knowledge.specs.Coding.{fragments_code}
-use Rattle.photo_device.specs.Held.{RoomyHelds}
 use Rattle.photo_device.specs.Device.{Kept, Staging}
 
 abbrev pub held_code : Coded Held
@@ -48,7 +47,3 @@ kept_code =
       staged = p.1.1.1.1.1.1;
     })
     (λ _. refl)
-
-abbrev pub roomy_code : Coded RoomyHelds
-roomy_code =
-    code_by (List Held × ℕ) (coded× helds_code coded_ℕ) (λ r. (r.helds, r.more)) (λ p. record { helds = p.0; more = p.1 }) (λ _. refl)

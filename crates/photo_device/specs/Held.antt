@@ -87,8 +87,3 @@ count_of v helds = length (filter (λ h. same_version h.version v) helds)
 -- how often a version is among versions
 abbrev pub times_in : Version → List Version → ℕ
 times_in v versions = length (filter (λ w. same_version w v) versions)
-
--- a set of held versions with room, and for how many more there is
-pub record RoomyHelds : Type 0 where
-  pub helds : List Held
-  pub more : ℕ

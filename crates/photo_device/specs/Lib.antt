@@ -1,7 +1,6 @@
 pub mod Ordered
 pub mod Entry
 pub mod Held
-pub mod Rising
 pub mod Marks
 pub mod Noted
 pub mod Device

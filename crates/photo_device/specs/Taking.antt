@@ -1,11 +1,11 @@
 -- Machinery of the proofs: what a set takes of versions.
 use Rattle.std.specs.Prelude.{◌≡◌, ◌≤◌, ◌+◌, Bool, true, false, not, List, ◌++◌, length, filter}
-use Rattle.block_list.specs.Room.{Reserved}
+use Rattle.block_list.specs.Room.{Reserved, Growing}
 use Rattle.photo_filter_text.specs.Tree.{Tree}
 use Rattle.photo_filter_rules.specs.Matching.{matches}
 use Rattle.photo_version.specs.Version.{Version}
 use Rattle.photo_device.specs.declared.held.Held.{Held}
-use Rattle.photo_device.specs.Held.{count_of, put_helds, RoomyHelds}
+use Rattle.photo_device.specs.Held.{are_in_order, count_of, put_helds}
 
 -- it is among those that the tree matches, or among the others
 abbrev pub is_on_side : Bool → Tree → Held → Bool
@@ -16,10 +16,11 @@ is_on_side false tree held = not (matches tree held.content)
 pub record AreNewTo (helds takes : List Held) : Type 0 where
   pub once : (v : Version) → count_of v (takes ++ helds) ≤ 1
 
--- a set with room may take them
-pub record HasRoomFor (coming : List Held) (set : RoomyHelds) : Type 0 where
-  pub new : AreNewTo set.helds coming
-  pub room : length coming ≤ set.more
+-- a list in order with room may take them
+pub record HasRoomFor (coming : List Held) (list : Growing Held) : Type 0 where
+  pub order : are_in_order list.items ≡ true
+  pub new : AreNewTo list.items coming
+  pub room : length coming ≤ list.more
 
 -- a set may take two lists of versions in that room
 pub record MayTake (helds handed takes : List Held) (room : Reserved) : Type 0 where
@@ -36,6 +37,7 @@ abbrev pub with_side : Bool → Tree → List Held → List Held → List Held
 with_side matched tree takes helds = with_those (is_on_side matched tree) takes helds
 
 -- it has taken those that pass, and its room is less by no more than came
-pub record HasTaken (passes : Held → Bool) (coming : List Held) (old new : RoomyHelds) : Type 0 where
-  pub helds : new.helds ≡ with_those passes coming old.helds
+pub record HasTaken (passes : Held → Bool) (coming : List Held) (old new : Growing Held) : Type 0 where
+  pub order : are_in_order new.items ≡ true
+  pub items : new.items ≡ with_those passes coming old.items
   pub more : old.more ≤ new.more + length coming

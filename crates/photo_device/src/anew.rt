@@ -62,6 +62,7 @@ pub(crate) fn held_anew(wanted: &Filter, store: &HeldSet, out: &HeldSet) -> Resu
 
 /// What a store holds, sorted anew by a filter: what it matches, as a set, while the rest comes into the out. After want of
 /// memory the out is as it was.
+#[tactic(auto, using(crate::proofs::Changed::kept_anew, crate::proofs::Changed::new_alone))]
 pub(crate) fn narrowed(
     wanted: &Filter,
     store: &HeldSet,

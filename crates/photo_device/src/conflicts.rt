@@ -5,6 +5,7 @@ ghost use Rattle.photo_device.specs.Taking.{AreNewTo};
 ghost use Rattle.photo_device.specs.Conflicts.{conflicts_in};
 
 use crate::anew::listed;
+use crate::takes::put_in;
 use crate::{Conflict, HeldSet, SharedHeld, VersionList};
 use std::alloc::{AllocError, Global};
 
@@ -24,13 +25,14 @@ fn joined(store: &HeldSet, out: &HeldSet) -> Result<HeldSet, AllocError>
     requires { AreNewTo out.now store.now }
     ensures { IfOk result (λ all. all ≡ put_helds store.now out.now) }
 {
-    let mut copy = out.try_clone()?;
-    let room = copy.room(store.len())?;
-    let mut all = copy.open(room);
+    let mut all = out.try_clone()?;
+    let room = all.room(store.len())?;
+    let mut list = all.open(room);
     for held in store {
-        all.insert(held.try_clone()?);
+        put_in(held.try_clone()?, &mut list);
     }
-    Ok(all.close())
+    all.close(list);
+    Ok(all)
 }
 
 // The conflicts of versions in order.

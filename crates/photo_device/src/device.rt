@@ -1,8 +1,7 @@
 // A device: what it is seen as, and its calls.
 ghost use Rattle.std.specs.Prelude.{◌≡◌, ◌+◌, None, IfOk, OnOk, OnErr};
-ghost use Rattle.item_knowledge.specs.Kept.{star_bound};
 ghost use Rattle.photo_device.specs.Device.{store_with, out_with};
-ghost use Rattle.photo_device.specs.Learning.{IsHeldNext, IsNextKnown, IsOwnLearned};
+ghost use Rattle.photo_device.specs.Learning.{IsHeldNext, IsNextKnown};
 
 use crate::anew::{Anew, held_anew, narrowed};
 use crate::drops::give_up;
@@ -256,6 +255,7 @@ impl Device {
     }
 
     /// What it holds of a version, in the store or in the out.
+    #[tactic(auto, using(crate::proofs::Shown::of_both))]
     pub fn held(&self, version: Version) -> Option<&Held>
         ensures { option_copied result ≡ find_version version (self.now.store ++ self.now.out) }
     {
@@ -391,6 +391,7 @@ impl Device {
     }
 
     /// Whether a change is staged.
+    #[tactic(auto, using(crate::proofs::Staged::staged_once))]
     pub fn staged(&self) -> bool
         ensures staged { result ≡ is_some self.now.staged }
         ensures once { IfSome self.now.staged (λ s. (v : versions.Version) → count_of v (s.takes ++ (self.now.store ++ self.now.out)) ≤ 1) }
@@ -541,13 +542,14 @@ impl Device {
 
     // Whether a version of a picture is held, in the store or in the out.
     fn holds(&self, picture: PicNo) -> bool
-        ensures { (m : ModelDevice) → Shows self.now m → result ≡ is_held m picture }
+        ensures { result ≡ (has_picture picture self.now.store || has_picture picture self.now.out) }
     {
         self.store.has_picture(picture) || self.out.has_picture(picture)
     }
 
     /// The pictures of which it holds two or more versions, in the store and the out together, each with them in order.
     /// Its only error is want of memory.
+    #[tactic(auto, using(crate::proofs::Shown::of_both))]
     pub fn conflicts(&self) -> Result<Vec<Conflict>, AllocError>
         ensures { IfOk result (λ list. (m : ModelDevice) → Shows self.now m → list.items ≡ conflicts_of m) }
     {
@@ -577,21 +579,11 @@ fn hold_next(
         return Ok(());
     }
     // The first version wants memory for its author's bounds: so they are made in a copy of what is known.
-    let known = with_own(knowledge.as_knowledge(), version)?;
+    let mut known = knowledge.as_knowledge().try_clone()?;
+    known.learn_own(version)?;
     hold(store, out, place, held)?;
     knowledge.replace(known);
     Ok(())
-}
-
-// What is known, and of every picture its author's next version as well. Its only error is want of memory.
-fn with_own(known: &Knowledge, version: Version) -> Result<Knowledge, AllocError>
-    requires { version.number ≡ star_bound known.now.known version.author + 1 }
-    ensures learned { IfOk result (λ knowledge. IsOwnLearned version known.now.known knowledge.known) }
-    ensures staged { IfOk result (λ knowledge. knowledge.staged ≡ None) }
-{
-    let mut knowledge = known.try_clone()?;
-    knowledge.learn_own(version)?;
-    Ok(knowledge)
 }
 
 // Holds a version at a place, and nothing else of its picture. An error leaves both sets as they were.

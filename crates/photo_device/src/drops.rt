@@ -47,6 +47,7 @@ fn give_up_hinted(
 }
 
 // Gives up a version of a picture, in whichever of two sets has it; whether one had it.
+#[tactic(auto, using(crate::proofs::Taken::other_kept))]
 fn give_up_one(picture: PicNo, version: Version, store: &mut HeldSet, out: &mut HeldSet) -> bool
     requires { count_of version store.old + count_of version out.old ≤ 1 }
     ensures store { result ≡ true → store.new ≡ helds_without (version ∷ []) store.old }

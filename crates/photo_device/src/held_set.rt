@@ -2,14 +2,14 @@
 ghost use Rattle.std.specs.Prelude.{◌≡◌, true};
 ghost use Rattle.photo_device.specs.Held.{are_in_order, IsRangeOf};
 
-use crate::roomy_set::RoomySet;
 use crate::sought::Sought;
 use crate::{Held, SharedHeld, SharedList};
-use block_list::{BlockList, Iter, Room, Spot};
+use block_list::{BlockList, Iter, Room, Roomy, Spot};
 use photo_record::PicNo;
 use photo_version::Version;
 use std::alloc::{AllocError, Global};
 use std::marker::Model;
+use std::mem::replace;
 
 /// A set of held versions, seen as the list of them by picture, then version. Each version stands in it once.
 ///
@@ -56,14 +56,6 @@ impl HeldSet {
         self.alloc
     }
 
-    /// The set of a list in order.
-    pub(crate) fn of_list(items: BlockList<SharedHeld>, alloc: Global) -> HeldSet
-        requires { are_in_order items ≡ true }
-        ensures { result ≡ items }
-    {
-        HeldSet { items, alloc }
-    }
-
     /// Room for so many versions more. Its only error is want of memory.
     pub(crate) fn room(&mut self, more: usize) -> Result<Room<SharedHeld>, AllocError>
         ensures kept { self.new ≡ self.old }
@@ -73,13 +65,22 @@ impl HeldSet {
         self.items.room(more)
     }
 
-    /// The set with room that was taken before. It takes no memory.
-    pub(crate) fn open(self, room: Room<SharedHeld>) -> RoomySet
-        requires { length self ≤ room.most }
-        ensures helds { result.helds ≡ self }
+    /// The list of the set, with room that was taken before. The set has none of it then. It takes no memory.
+    pub(crate) fn open(&mut self, room: Room<SharedHeld>) -> Roomy<SharedHeld>
+        requires { length self.old ≤ room.most }
+        ensures items { result.items ≡ self.old }
         ensures more { result.more ≡ room.more }
+        ensures ordered { are_in_order self.old ≡ true }
     {
-        RoomySet::new(self.items.open(room), self.alloc)
+        replace(&mut self.items, BlockList::new(self.alloc)).open(room)
+    }
+
+    /// The set of a list in order, with its room given back. It takes no memory.
+    pub(crate) fn close(&mut self, items: Roomy<SharedHeld>)
+        requires { are_in_order items.items ≡ true }
+        ensures { self.new ≡ items.items }
+    {
+        self.items = items.close();
     }
 
     /// How many versions it has.
@@ -122,23 +123,18 @@ impl HeldSet {
     }
 
     /// Whether it has that version of that picture. It is found by a search, which takes no memory.
+    #[tactic(auto, using(crate::proofs::Putting::found_any))]
     pub fn has(&self, picture: PicNo, version: Version) -> bool
         ensures { result ≡ has_version_of picture version self.now }
     {
-        self.look_for(picture, version).0
+        self.of(picture, version).is_some()
     }
 
     /// That version of that picture, if it has it. It is found by a search, which takes no memory.
     pub fn of(&self, picture: PicNo, version: Version) -> Option<&SharedHeld>
         ensures { option_copied result ≡ find_version_of picture version self.now }
     {
-        let held = self
-            .items
-            .find_failing(|held| held.is_before(picture, version))?;
-        if !held.is_of(picture, version) {
-            return None;
-        }
-        Some(held)
+        self.look_for(picture, version).0
     }
 
     /// The held versions as a list, which shares them. Its only error is want of memory.
@@ -160,7 +156,10 @@ impl HeldSet {
         for held in &self.items {
             items.insert(items.len(), held.try_clone()?)?;
         }
-        Ok(HeldSet::of_list(items, self.alloc))
+        Ok(HeldSet {
+            items,
+            alloc: self.alloc,
+        })
     }
 
     /// The one of that version, if it has it. It looks through all of them, since they are in the order of their pictures.
@@ -202,14 +201,15 @@ impl HeldSet {
     }
 
     /// Gives up that version of that picture, if it has it; whether it had it. It is found by a search, which takes no memory.
+    #[tactic(auto, using(crate::proofs::Putting::found_any))]
     pub(crate) fn drop_version_of(&mut self, picture: PicNo, version: Version) -> bool
         requires { count_of version self.old ≤ 1 }
         ensures had { result ≡ has_version_of picture version self.old }
         ensures dropped { result ≡ true → self.new ≡ helds_without (version ∷ []) self.old }
         ensures kept { result ≡ false → self.new ≡ self.old }
     {
-        let (has, near) = self.look_for(picture, version);
-        if !has {
+        let (found, near) = self.look_for(picture, version);
+        if found.is_none() {
             return false;
         }
         self.take_version(near, version);
@@ -236,17 +236,20 @@ impl HeldSet {
         }
     }
 
-    // Whether it has that version of that picture, and a hint where it stands.
-    fn look_for(&self, picture: PicNo, version: Version) -> (bool, Spot)
-        ensures { result.0 ≡ has_version_of picture version self.now }
+    // That version of that picture, if it has it, and a hint where it stands.
+    fn look_for(&self, picture: PicNo, version: Version) -> (Option<&SharedHeld>, Spot)
+        ensures { option_copied result.0 ≡ find_version_of picture version self.now }
     {
         let (found, spot) = self
             .items
             .find_failing_at(|held| held.is_before(picture, version));
         let Some(held) = found else {
-            return (false, spot);
+            return (None, spot);
         };
-        (held.is_of(picture, version), spot)
+        if !held.is_of(picture, version) {
+            return (None, spot);
+        }
+        (Some(held), spot)
     }
 
     // Takes the one of that version out, if it has it, and gives a hint for the next.

@@ -20,6 +20,7 @@ pub fn with_knowledge(device: Device, knowledge: Knowledge) -> Device
 }
 
 /// The definitions at some changes: which may be staged, what staging leaves, and what may be handed over with one.
+#[tactic(auto, using(crate::proofs::WorkedExamples::may_stage_as_told, crate::proofs::WorkedExamples::has_staged_as_told, crate::proofs::WorkedExamples::may_hand_as_told))]
 pub fn examples()
     ensures may_stage { MayStageAsTold }
     ensures has_staged { HasStagedAsTold }

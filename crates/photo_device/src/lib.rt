@@ -22,7 +22,6 @@ mod noted_knowledge;
 mod noted_versions;
 mod place;
 mod prepared;
-mod roomy_set;
 mod shared_held;
 mod sought;
 mod table;

@@ -1,10 +1,10 @@
 // Notes of versions that are known, by device and number.
-ghost use Rattle.std.specs.Prelude.{◌≡◌, ◌++◌, ◌-◌, true, length, replicate, List};
+ghost use Rattle.std.specs.Prelude.{◌≡◌, ◌++◌, ◌-◌, true, length, replicate, List, IfSome};
 ghost use Rattle.item_knowledge.specs.Fragments.{Fragment, knows};
-ghost use Rattle.photo_device.specs.Noted.{AreKnown};
+ghost use Rattle.photo_device.specs.Noted.{AreKnown, author_of_row};
 
 use photo_record::PicNo;
-use photo_version::Version;
+use photo_version::{Author, Version};
 use std::alloc::Global;
 
 // What stands at a version's place where nothing is noted. No picture has that number.
@@ -13,11 +13,16 @@ const NOTHING: u32 = 0;
 // Versions of this number and above are never noted, so that a row has 5 MiB at most.
 const MOST: u32 = 1_000_000;
 
+// Of so many devices versions are noted, and of so many epochs of each, so that the rows take 200 KiB at most.
+const DEVICES: usize = 256;
+
+const EPOCHS: usize = 32;
+
 /// Versions of which it was found that they are known, with their pictures. It is there for speed alone: to look here takes
 /// a few steps, where a knowledge has to be searched.
 ///
-/// Each device has a row, and each of its versions of the first epoch a place there, by its number: the picture, or 0 where
-/// nothing is noted. Versions of later epochs, and those with great numbers, are never noted.
+/// Each device has a row in each of its epochs, and each version that it made then a place there, by its number: the picture, or
+/// 0 where nothing is noted. Versions of late epochs, and those with great numbers, are never noted.
 #[derive(Debug, Drop)]
 pub(crate) struct NotedVersions {
     rows: Vec<Vec<u32>>,
@@ -45,65 +50,72 @@ impl NotedVersions {
     }
 
     /// Whether that version of that picture is noted. It takes no memory.
+    #[tactic(auto, using(crate::proofs::NotedLemmas::known_here))]
     pub fn has(&self, picture: PicNo, version: Version) -> bool
         ensures { result ≡ true → (known : List Fragment) → AreKnown known self.now.rows.items
             → knows known picture version ≡ true }
     {
-        let author = version.author();
-        if author.epoch() > 0 {
+        let Some(place) = row_of(version.author()) else {
+            return false;
+        };
+        if place >= self.rows.len() {
             return false;
         }
-        let device = usize::from(author.value());
-        if device >= self.rows.len() {
-            return false;
-        }
-        let row = &self.rows[device];
+        let row = &self.rows[place];
         let number = version.n() as usize;
         number < row.len() && row[number] == picture.value()
     }
 
     /// Notes a version that is known, where there is a place for it. It takes no memory.
+    #[tactic(auto, using(crate::proofs::NotedLemmas::noted_more))]
     pub fn note(&mut self, picture: PicNo, version: Version)
         ensures { (known : List Fragment) → knows known picture version ≡ true → AreKnown known self.old.rows.items
             → AreKnown known self.new.rows.items }
     {
-        let author = version.author();
-        if author.epoch() > 0 {
+        let Some(place) = row_of(version.author()) else {
+            return;
+        };
+        if place >= self.rows.len() {
             return;
         }
-        let device = usize::from(author.value());
-        if device >= self.rows.len() {
-            return;
-        }
-        let row = &mut self.rows[device];
+        let row = &mut self.rows[place];
         let number = version.n() as usize;
         if number < row.len() {
             row[number] = picture.value();
         }
     }
 
-    /// Places for the versions of its author up to this one, and some beyond, if it is of the first epoch, its number isn't
-    /// too great, and there is memory for them. Where they are wanting less is noted.
+    /// Places for the versions of its author up to this one, and some beyond, if its author has a row, its number isn't too
+    /// great, and there is memory for them. Where they are wanting less is noted.
     pub fn make_place(&mut self, version: Version)
         ensures { (known : List Fragment) → AreKnown known self.old.rows.items → AreKnown known self.new.rows.items }
     {
-        let author = version.author();
-        if author.epoch() > 0 {
-            return;
-        }
         if version.n() >= MOST {
             return;
         }
-        let device = usize::from(author.value());
-        for _ in self.rows.len()..device + 1 {
+        let Some(place) = row_of(version.author()) else {
+            return;
+        };
+        for _ in self.rows.len()..place + 1 {
             let Ok(()) = self.rows.push(Vec::new(self.alloc)) else {
                 return;
             };
         }
-        if device < self.rows.len() {
-            fill(&mut self.rows[device], version.n());
+        if place < self.rows.len() {
+            fill(&mut self.rows[place], version.n());
         }
     }
+}
+
+// The place of an author's row: those of a later epoch stand behind those of an earlier one.
+fn row_of(author: Author) -> Option<usize>
+    ensures { IfSome result (λ place. author_of_row place ≡ author) }
+{
+    let (device, epoch) = (usize::from(author.value()), author.epoch() as usize);
+    if device >= DEVICES || epoch >= EPOCHS {
+        return None;
+    }
+    Some(epoch * DEVICES + device)
 }
 
 // Makes a row reach beyond a place, if there is memory for that, by a quarter more, so that a row that grows and grows is

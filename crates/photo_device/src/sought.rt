@@ -2,7 +2,8 @@
 ghost use Rattle.std.specs.Prelude.{◌≡◌, true};
 ghost use Rattle.photo_device.specs.Held.{is_listed};
 ghost use Rattle.photo_device.specs.Marks.{AreMarked};
-ghost use Rattle.photo_device.specs.Rising.{are_rising};
+ghost use Rattle.std.specs.List.Sorted.{IsSortedBy};
+ghost use Rattle.photo_version.specs.Version.{version_before};
 
 use crate::marks::{MARKS, mark_place, marks_of};
 use photo_version::Version;
@@ -15,7 +16,7 @@ pub struct Sought<'a> {
     rising: bool,
     marks: [bool; MARKS],
     ghost marked: { AreMarked versions.now marks },
-    ghost in_order: { rising ≡ true → are_rising versions.now ≡ true },
+    ghost in_order: { rising ≡ true → IsSortedBy version_before versions.now },
 }
 
 impl<'a> Sought<'a> {
@@ -46,8 +47,9 @@ impl<'a> Sought<'a> {
 }
 
 // Whether no version stands before the one in front of it.
+#[tactic(auto, using(std::proofs::lemmas::List::get_or_default, std::proofs::lemmas::List::Sorted::all_adjacent_more))]
 fn is_rising(versions: &[Version]) -> bool
-    ensures { result ≡ true → are_rising versions.now ≡ true }
+    ensures { result ≡ true → IsSortedBy version_before versions.now }
 {
     for i in 1..versions.len() {
         if versions[i] < versions[i - 1] {
@@ -59,7 +61,7 @@ fn is_rising(versions: &[Version]) -> bool
 
 // Whether a version is among versions in order.
 fn is_found(versions: &[Version], version: Version) -> bool
-    requires { are_rising versions.now ≡ true }
+    requires { IsSortedBy version_before versions.now }
     ensures { result ≡ is_listed versions.now version }
 {
     let place = versions.partition_point(|other| *other < version);

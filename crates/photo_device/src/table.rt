@@ -1,12 +1,13 @@
 // What held versions tell of their pictures.
-ghost use Rattle.std.specs.Prelude.{◌≡◌, ℕ, ◌<◌, ◌&&◌, ◌||◌, ◌==◌, ◌++◌, ◌∷◌, nat_le, true, [], None, IfOk, OnOk};
+ghost use Rattle.std.specs.Prelude.{◌≡◌, ℕ, ◌<◌, ◌||◌, nat_le, true, [], None, IfOk, OnOk};
 ghost use Rattle.std.specs.List.{AllByRecursion};
 ghost use Rattle.photo_version.specs.Author.{Author};
 ghost use Rattle.photo_version.specs.Version as versions;
-ghost use Rattle.photo_version.specs.Vector.{denotes, joined};
+ghost use Rattle.photo_version.specs.Vector.{denotes};
 ghost use Rattle.item_knowledge.specs.Fragments.{knows};
 ghost use Rattle.item_knowledge.specs.Kept.{star_bound};
 ghost use Rattle.item_knowledge.specs.Tables.{in_order, keys_pass, at};
+ghost use Rattle.photo_device.specs.Anew.{IsAdded};
 ghost use Rattle.photo_device.specs.Held.{are_in_order};
 ghost use Rattle.photo_device.specs.Own.{HasEarlier};
 ghost use Rattle.photo_device.specs.Telling.{tells};
@@ -17,17 +18,6 @@ use photo_record::PicNo;
 use photo_version::Vector;
 use std::alloc::{AllocError, Global};
 
-// A version with all that it was made with.
-fn told_by(held: &SharedHeld) -> Result<Vector, AllocError>
-    requires { HasEarlier held.now }
-    ensures { IfOk result (λ vector. (v : versions.Version)
-        → denotes vector v ≡ (denotes held.now.made_with v || versions.same_version held.now.version v)) }
-{
-    // For its fact alone: a version's number is above 0.
-    let _number = held.version().n();
-    held.made_with().with(held.version())
-}
-
 // Adds what is told of a picture to a table whose pictures are none greater.
 fn add_row(
     table: &mut Vec<(PicNo, Vector)>,
@@ -36,35 +26,19 @@ fn add_row(
 ) -> Result<(), AllocError>
     requires order { in_order table.old.items ≡ true }
     requires last { keys_pass (λ k. nat_le k picture) table.old.items ≡ true }
-    ensures order { OnOk result (in_order table.new.items ≡ true) }
-    ensures last { OnOk result (keys_pass (λ k. nat_le k picture) table.new.items ≡ true) }
-    ensures told { OnOk result ((p : ℕ) (v : versions.Version) → denotes (at [] table.new.items p) v
-        ≡ (denotes (at [] table.old.items p) v || ((picture == p) && denotes vector v))) }
+    ensures { OnOk result (IsAdded table.old.items table.new.items picture (denotes vector)) }
 {
     let Some((last, known)) = table.pop() else {
         table.push((picture, vector))?;
         return Ok(());
     };
     if last == picture {
-        return push_joined(table, picture, &known, &vector);
+        let both = known.join(&vector)?;
+        table.push((picture, both))?;
+        return Ok(());
     }
     table.push((last, known))?;
     table.push((picture, vector))?;
-    Ok(())
-}
-
-// Puts what two vectors tell of a picture behind a table.
-fn push_joined(
-    table: &mut Vec<(PicNo, Vector)>,
-    picture: PicNo,
-    known: &Vector,
-    vector: &Vector,
-) -> Result<(), AllocError>
-    ensures { OnOk result ((table.new.items ≡ table.old.items ++ (picture, joined known.now vector.now) ∷ [])
-        × ((v : versions.Version) → denotes (joined known.now vector.now) v ≡ (denotes known.now v || denotes vector.now v))) }
-{
-    let both = known.join(vector)?;
-    table.push((picture, both))?;
     Ok(())
 }
 
@@ -73,13 +47,12 @@ fn add_told(table: &mut Vec<(PicNo, Vector)>, held: &SharedHeld) -> Result<(), A
     requires earlier { HasEarlier held.now }
     requires order { in_order table.old.items ≡ true }
     requires last { keys_pass (λ k. nat_le k held.now.picture) table.old.items ≡ true }
-    ensures order { OnOk result (in_order table.new.items ≡ true) }
-    ensures last { OnOk result (keys_pass (λ k. nat_le k held.now.picture) table.new.items ≡ true) }
-    ensures told { OnOk result
-        ((p : ℕ) (v : versions.Version) → denotes (at [] table.new.items p) v ≡ (denotes (at [] table.old.items p) v
-        || ((held.now.picture == p) && (denotes held.now.made_with v || versions.same_version held.now.version v)))) }
+    ensures { OnOk result (IsAdded table.old.items table.new.items held.now.picture
+        (λ v. denotes held.now.made_with v || versions.same_version held.now.version v)) }
 {
-    let vector = told_by(held)?;
+    // For its fact alone: a version's number is above 0.
+    let _number = held.version().n();
+    let vector = held.made_with().with(held.version())?;
     add_row(table, held.picture(), vector)
 }
 

@@ -1,13 +1,13 @@
 // Versions that come into the store and the out of a device.
-ghost use Rattle.std.specs.Prelude.{◌≡◌, ◌≤◌, ◌++◌, true, false, [], ◌∷◌, length, IfOk, OnOk, OnErr};
+ghost use Rattle.std.specs.Prelude.{◌≡◌, ◌++◌, true, false, [], ◌∷◌, ◌+◌, length, IfOk, OnOk, OnErr};
+ghost use Rattle.photo_device.specs.Held.{are_in_order, held_before};
+ghost use Rattle.photo_device.specs.Ordered.{put};
 ghost use Rattle.photo_device.specs.Taking.{is_on_side, with_side, AreNewTo, HasRoomFor, HasTaken, MayTake};
 
-use crate::roomy_set::RoomySet;
 use crate::{HeldSet, SharedHeld};
-use block_list::Room;
+use block_list::{Room, Roomy};
 use photo_filter_rules::Filter;
 use std::alloc::AllocError;
-use std::mem::replace;
 
 /// Room for so many versions more in each of two sets. Its only error is want of memory.
 pub(crate) fn rooms(
@@ -27,16 +27,6 @@ pub(crate) fn rooms(
     Ok((in_store, in_out))
 }
 
-// Opens a set with room that was taken before, and leaves an empty one.
-fn opened(set: &mut HeldSet, room: Room<SharedHeld>) -> RoomySet
-    requires { length set.old ≤ room.most }
-    ensures helds { result.helds ≡ set.old }
-    ensures more { result.more ≡ room.more }
-{
-    let empty = HeldSet::new(set.alloc());
-    replace(set, empty).open(room)
-}
-
 /// The store takes versions that the filter matches, and the out the others: those that are handed over, and those that are
 /// taken. There is room for all of them in both, so it takes no memory.
 pub(crate) fn take_in(
@@ -53,16 +43,21 @@ pub(crate) fn take_in(
     ensures store { store.new ≡ with_side true wanted.now (takes.items ++ handed.items) store.old }
     ensures out { out.new ≡ with_side false wanted.now (takes.items ++ handed.items) out.old }
 {
-    let mut stored = opened(store, in_store);
-    let mut waiting = opened(out, in_out);
+    let mut stored = store.open(in_store);
+    let mut waiting = out.open(in_out);
     put_all(wanted, handed, &mut stored, &mut waiting);
     put_all(wanted, takes, &mut stored, &mut waiting);
-    *store = stored.close();
-    *out = waiting.close();
+    store.close(stored);
+    out.close(waiting);
 }
 
 // Puts versions into the store, where the filter matches them, and into the out otherwise.
-fn put_all(wanted: &Filter, coming: Vec<SharedHeld>, store: &mut RoomySet, out: &mut RoomySet)
+fn put_all(
+    wanted: &Filter,
+    coming: Vec<SharedHeld>,
+    store: &mut Roomy<SharedHeld>,
+    out: &mut Roomy<SharedHeld>,
+)
     requires store { HasRoomFor coming.items store.old }
     requires out { HasRoomFor coming.items out.old }
     ensures store { HasTaken (is_on_side true wanted.now) coming.items store.old store.new }
@@ -74,17 +69,33 @@ fn put_all(wanted: &Filter, coming: Vec<SharedHeld>, store: &mut RoomySet, out: 
 }
 
 // Puts a version into the store, where the filter matches it, and into the out otherwise.
-fn put_one(wanted: &Filter, held: SharedHeld, store: &mut RoomySet, out: &mut RoomySet)
+fn put_one(
+    wanted: &Filter,
+    held: SharedHeld,
+    store: &mut Roomy<SharedHeld>,
+    out: &mut Roomy<SharedHeld>,
+)
     requires store { HasRoomFor (held ∷ []) store.old }
     requires out { HasRoomFor (held ∷ []) out.old }
     ensures store { HasTaken (is_on_side true wanted.now) (held ∷ []) store.old store.new }
     ensures out { HasTaken (is_on_side false wanted.now) (held ∷ []) out.old out.new }
 {
     if wanted.matches(held.content()) {
-        store.insert(held);
+        put_in(held, store);
     } else {
-        out.insert(held);
+        put_in(held, out);
     }
+}
+
+/// Puts a version among those of a list in order, of which none is of that version. It takes no memory.
+pub(crate) fn put_in(held: SharedHeld, list: &mut Roomy<SharedHeld>)
+    requires { HasRoomFor (held ∷ []) list.old }
+    ensures items { list.new.items ≡ put held_before held list.old.items }
+    ensures more { list.new.more + 1 ≡ list.old.more }
+    ensures ordered { are_in_order list.new.items ≡ true }
+{
+    let (picture, version) = (held.picture(), held.version());
+    list.insert_behind(|other: &SharedHeld| other.is_before(picture, version), held);
 }
 
 /// The versions of two lists come into two sets: those that the filter matches into the first, and the others into the

@@ -1,9 +1,8 @@
-use Rattle.std.proofs.Common.{eqb, ◌++◌, ◌∙◌, rules}
+use Rattle.std.proofs.Common.{◌++◌, ◌∙◌, rules}
 use Rattle.std.proofs.lemmas.List.Sorted.{IsPartitionPoint-from_clause}
-use Rattle.photo_device.specs.declared.held.Held.{Held}
 use Rattle.photo_device.specs.Held.{entries_of}
 use Rattle.photo_device.specs.Conflicts.{conflicts_in}
-use Rattle.photo_device.proofs.Grouping.{IsFirstRun, first_partitioned, first_run, run_two, run_one}
+use Rattle.photo_device.proofs.Grouping.{IsFirstRun, is_at, first_run, run_two, run_one}
 use Rattle.photo_device.proofs.conflicts.add_first.Goals as goal
 use Rattle.photo_device.proofs.conflicts.add_first.Goals.{then-run-gt1+in_ok-versions+in_ok-push, else-run-gt1}
 
@@ -11,9 +10,8 @@ first : (c : goal.Joined-run-gt1) → IsFirstRun c.picture-picture.result c.args
 first c =
     let p = c.picture-picture.result in
     let x = c.index-all-0.result in
-    let turns = IsPartitionPoint-from_clause (λ (h : Held). eqb h.picture p) c.args.all.now _ c.partition_point.ensures.partitioned
-    (first_partitioned p c.args.all.now x c.requires.some c.index-all-0.is c.picture-picture.ensures c.requires.order) (λ a r f h. search rules) in
-    first_run p c.args.all.now _ _ x c.partition_point.result c.requires.some c.index-all-0.is c.picture-picture.ensures c.requires.order c.partition_point.ensures.bound turns c.split_at.ensures.front c.split_at.ensures.back
+    first_run p c.args.all.now _ _ x c.partition_point.result c.requires.some c.index-all-0.is c.picture-picture.ensures c.requires.order c.partition_point.ensures.bound
+    (λ parts. IsPartitionPoint-from_clause (is_at p) c.args.all.now _ c.partition_point.ensures.partitioned parts (λ a r f h. search rules)) c.split_at.ensures.front c.split_at.ensures.back
 
 pub returns-clause-added : goal.returns-clause-added
 returns-clause-added c = elim c.if-run-gt1.branch [

@@ -3,4 +3,4 @@ use Rattle.photo_device.proofs.Taken.{IsTaking}
 use Rattle.photo_device.proofs.conflicts.joined.Given as goal
 
 abbrev pub invariant-loop-held : goal.invariant-loop-held
-invariant-loop-held l = IsTaking (λ _. true) l.store l.initial.all l.held-iterator l.all
+invariant-loop-held l = IsTaking (λ _. true) l.store l.initial.list l.held-iterator l.list

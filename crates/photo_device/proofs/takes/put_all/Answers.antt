@@ -1,13 +1,10 @@
-use Rattle.std.proofs.Common.{◌≡◌, [], arith}
+use Rattle.std.proofs.Common.{arith}
 use Rattle.std.proofs.lemmas.Grind.{common_steps}
-use Rattle.std.specs.Vec.Iter.{into_iter_items}
 use Rattle.photo_device.proofs.Taken.{none_taken, has_room, one_taken, all_taken}
 use Rattle.photo_device.proofs.takes.put_all.Goals as goal
 
 pub loop-held-init : goal.loop-held-init
-loop-held-init c =
-    let gives : into_iter_items c.into_iter-held-iterator.result ≡ c.args.coming.items = grind (arith, common_steps) in
-    rw gives (none_taken _ _ _ c.requires.store, none_taken _ _ _ c.requires.out)
+loop-held-init c = grind (arith, common_steps, none_taken)
 
 pub put_one-requires-clause-store : goal.put_one-requires-clause-store
 put_one-requires-clause-store c = has_room _ _ _ _ _ _ (rw c.in-Some.ensures.steps.0 at c.loop-held.invariant.0)
@@ -21,7 +18,4 @@ loop-held-preserved c =
     (one_taken _ _ _ _ _ _ _ are.0 c.put_one.ensures.store, one_taken _ _ _ _ _ _ _ are.1 c.put_one.ensures.out)
 
 pub returns : goal.returns
-returns c =
-    let none : into_iter_items c.loop-held.held-iterator ≡ [] = grind (arith, common_steps) in
-    let are = rw none at c.loop-held.invariant in
-    record { store = all_taken _ _ _ _ are.0; out = all_taken _ _ _ _ are.1 }
+returns c = grind (arith, common_steps, all_taken)

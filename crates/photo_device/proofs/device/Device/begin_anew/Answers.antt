@@ -12,11 +12,11 @@ invariant_of-self c =
     let sorted = subst (λ (e : Kept). IsAnew c.args.filter e.store e.out c.args.anew) (sym c.self.view_is) c.requires.anew in
     let epoch = subst (λ (e : Kept). epoch_of_author e.author < 4294967295) (sym c.self.view_is) c.requires.epoch in
     let none = none_prepared c.self.inside.prepared c.self.inside.knowledge.staged (ap (λ (d : Kept). d.staged) c.self.view_is ∙ c.requires.unstaged) in
-    rw (none, c.in-Some.ensures.1, c.replace.ensures) (anew_device c.args.filter c.args.anew _ sorted c.self.invariant.device epoch)
+    rw (none, c.in-Some.ensures.1, c.replace.ensures, sorted.store, sorted.out) (anew_device c.args.filter c.args.anew _ sorted c.self.invariant.device epoch)
 
 pub returns-clause-shows : goal.returns-clause-shows
 returns-clause-shows c = λ m shows.
     let sorted = subst (λ (e : Kept). IsAnew c.args.filter e.store e.out c.args.anew) (sym c.self.view_is) c.requires.anew in
     let before = shows_staged _ None m (subst (λ (e : Kept). Shows e m) (sym c.self.view_is) shows) in
     let none = none_prepared c.self.inside.prepared c.self.inside.knowledge.staged (ap (λ (d : Kept). d.staged) c.self.view_is ∙ c.requires.unstaged) in
-    rw (none, c.in-Some.ensures.1, c.replace.ensures) (anew_shows c.args.filter c.args.anew _ sorted c.self.invariant.device m before)
+    rw (none, c.in-Some.ensures.1, c.replace.ensures, sorted.store, sorted.out) (anew_shows c.args.filter c.args.anew _ sorted c.self.invariant.device m before)

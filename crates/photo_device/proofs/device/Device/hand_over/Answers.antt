@@ -6,10 +6,7 @@ use Rattle.photo_device.proofs.Staged.{shows_unstaged, none_fits}
 use Rattle.photo_device.proofs.device.Device.hand_over.Goals as goal
 
 pub hand_over-requires-clause-once : goal.hand_over-requires-clause-once
-hand_over-requires-clause-once c = λ v.
-    let once = c.self.invariant.device.once v in
-    let both = count_of-append v c.self.inside.store c.self.inside.out in
-    omega arith
+hand_over-requires-clause-once c = λ v. omega (arith, c.self.invariant.device.once v, count_of-append)
 
 pub invariant_of-self : goal.invariant_of-self
 invariant_of-self c =

@@ -1,23 +1,15 @@
-use Rattle.std.proofs.Common.{◌+◌, rules, sym, ap, ◌∙◌, subst}
-use Rattle.photo_version.specs.Version.{version}
-use Rattle.item_knowledge.specs.Fragments.{knows}
-use Rattle.item_knowledge.specs.Staged.{Knowing}
+use Rattle.std.proofs.Common.{arith, ap, ◌∙◌, subst}
+use Rattle.std.proofs.lemmas.Grind.{common_steps}
 use Rattle.photo_device.specs.declared.held.Held.{Held}
 use Rattle.photo_device.specs.declared.place.Place.{Place}
-use Rattle.photo_device.specs.Own.{IsNext, HasMade}
+use Rattle.photo_device.specs.Own.{HasMade}
 use Rattle.photo_device.specs.Device.{Kept, Shows, made, place_for}
 use Rattle.photo_device.proofs.Shown.{shows_made}
 use Rattle.photo_device.proofs.Staged.{shows_unstaged}
 use Rattle.photo_device.proofs.device.Device.make.Goals as goal
 
 pub add-requires-clause-next : goal.add-requires-clause-next
-add-requires-clause-next c =
-    let version_is = rw c.unwrap-version.ensures at c.new.ensures in
-    subst (λ (h : Held). IsNext h c.unstage.new.self) (sym c.in_ok-shared.ensures) (record {
-      next = version_is.1 ∙ ap (λ (d : Kept). version d.author (d.counter + 1)) c.self.view_is;
-      above = search rules;
-      history = λ v. c.in_ok-of.ensures v ∙ ap (λ (k : Knowing). knows k.known c.args.picture v) c.as_knowledge.ensures ∙ ap (λ (d : Kept). knows d.knowledge c.args.picture v) c.self.view_is;
-    })
+add-requires-clause-next c = grind (arith, common_steps)
 
 pub returns-clause-shows : goal.returns-clause-shows
 returns-clause-shows c = λ m shows.

@@ -1,17 +1,12 @@
 use Rattle.std.proofs.Common.{◌-◌, length, arith, ap, ◌∙◌}
-use Rattle.photo_filter_rules.specs.Matching.{matches}
-use Rattle.photo_device.specs.declared.held.Held.{Held}
+use Rattle.std.proofs.lemmas.Grind.{common_steps}
 use Rattle.photo_device.specs.Device.{Kept}
 use Rattle.photo_device.proofs.Changed.{shorter, narrows_device, shows_narrowed, moved_away}
 use Rattle.photo_device.proofs.Staged.{shows_unstaged, none_fits}
 use Rattle.photo_device.proofs.device.Device.narrow.Goals as goal
 
 pub overflow_sub-gone : goal.overflow_sub-gone
-overflow_sub-gone c =
-    let less = shorter (λ (h : Held). matches c.args.filter h.content) c.self.inside.store in
-    let kept = c.len-2.ensures ∙ ap length c.in-Ok.ensures.kept in
-    let all = c.len.ensures in
-    omega arith
+overflow_sub-gone c = grind (arith, common_steps, shorter)
 
 pub invariant_of-self-2 : goal.invariant_of-self-2
 invariant_of-self-2 c =

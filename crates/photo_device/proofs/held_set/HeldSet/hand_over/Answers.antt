@@ -2,6 +2,7 @@ use Rattle.std.proofs.Common.{◌+◌, List, [], ◌∷◌, append-nil, length, 
 use Rattle.std.proofs.lemmas.List.{drop_all}
 use Rattle.std.specs.List.{cons_option}
 use Rattle.photo_version.specs.Version.{Version}
+use Rattle.std.proofs.lemmas.Grind.{common_steps}
 use Rattle.photo_device.specs.declared.held.Held.{Held}
 use Rattle.photo_device.specs.Held.{helds_without}
 use Rattle.photo_device.proofs.Taken.{IsHanding, next_asked, has_handed, has_ended}
@@ -33,6 +34,4 @@ loop-version-preserved c =
     ]
 
 pub returns-clause-rest : goal.returns-clause-rest
-returns-clause-rest c =
-    let none = drop_all c.loop-version.version-index c.args.versions.now c.loop-version-test.false in
-    (has_ended _ _ _ _ _ (subst (λ (l : List Version). IsHanding c.args.versions.now c.args.self.now c.args.handed.now.items l c.loop-version.self c.loop-version.handed.items) none c.loop-version.invariant.0)).0
+returns-clause-rest c = grind (arith, common_steps, drop_all, has_ended)

@@ -7,7 +7,7 @@ pub loop-preserved : goal.loop-preserved
 loop-preserved c known all =
     subst (AreKnown known) (sym c.in-Ok.ensures.items) (known_behind known c.loop.self.rows.items c.new.result c.new.ensures.items (c.loop.invariant known all))
 
-pub returns-then-device-len : goal.returns-then-device-len
-returns-then-device-len c known all =
-    let within : c.from-device.result < length c.loop.self.rows.items = search rules in
-    known_still known c.loop.self.rows.items c.from-device.result _ c.index_mut.result.now c.fill.new.row within c.index_mut.ensures.value c.fill.ensures (c.loop.invariant known all)
+pub returns-then-place-len : goal.returns-then-place-len
+returns-then-place-len c known all =
+    let within : c.in-Some.place < length c.loop.self.rows.items = search rules in
+    known_still known c.loop.self.rows.items c.in-Some.place _ c.index_mut.result.now c.fill.new.row within c.index_mut.ensures.value c.fill.ensures (c.loop.invariant known all)
