@@ -1,25 +1,25 @@
 -- A union in which each picture that is listed has a fragment of its own: where their vectors differ it is the normal form.
-use Rattle.std.proofs.Common.{◌≡◌, ℕ, zero, suc, ◌+◌, ◌*◌, ◌<◌, ◌≤◌, true, false, not, ◌⊎◌, List, [], ◌∷◌, ◌++◌, length, get_or, map, take, refl, sym, subst, ap, ◌∙◌, inl, inr, arith, append_assoc, append-nil, length-append}
+use Rattle.std.proofs.Common.{◌≡◌, ℕ, zero, suc, ◌+◌, ◌*◌, ◌<◌, Bool, true, false, not, ◌⊎◌, List, [], ◌∷◌, ◌++◌, length, get_or, map, refl, sym, subst, ap, ◌∙◌, inl, inr, arith, append_assoc, append-nil, length-append}
 use Rattle.std.specs.List.{list_all}
 use Rattle.std.proofs.Math.Path.{transport}
-use Rattle.std.proofs.lemmas.List.{get_or-map, take_all, length-map}
-use Rattle.std.proofs.lemmas.Bool.{and_parts, not-true}
+use Rattle.std.proofs.lemmas.List.{get_or-map, length-map}
+use Rattle.std.proofs.lemmas.Bool.{and_parts, not-true, false≢true}
 use Rattle.item_knowledge.specs.Tables.{in_order}
 use Rattle.item_knowledge.specs.Entries.{Entry, same_entries}
 use Rattle.item_knowledge.specs.Excess.{AllDiffer, union_vector}
 use Rattle.item_knowledge.specs.Fragments.{Fragment, first, nothing, entries_at}
 use Rattle.item_knowledge.specs.Gathering.{IsSide, IsGathered, star_first, paired}
 use Rattle.item_knowledge.specs.declared.places.Places.{Places}
-use Rattle.item_knowledge.specs.Places.{vectors_at, IsFound}
+use Rattle.item_knowledge.specs.Places.{is_new, vectors_at, IsFound}
+use Rattle.item_knowledge.specs.Marks.{is_marked, AreMarked}
 use Rattle.item_knowledge.specs.Rows.{flat, fragments_of, rows_of, AreRows}
-use Rattle.item_knowledge.specs.Seen.{IsSeen, has_unseen}
 use Rattle.item_knowledge.specs.Written.{IsBeyond, IsWritten, union_table}
-use Rattle.item_knowledge.specs.Apart.{singles, numbered, spread_of, FromLeft, IsListed, AreThere, AreApart, AreUnseen, AreTold, IsSpread}
+use Rattle.item_knowledge.specs.Apart.{singles, numbered, spread_of, FromLeft, IsListed, AreThere, AreApart, IsOther, OthersTo, AreTold, IsSpread}
 use Rattle.item_knowledge.proofs.GatherLemmas.{of_one, group_begun, one_gathered, none_gathered, table_others}
+use Rattle.item_knowledge.proofs.MergeLemmas.{next_too}
 use Rattle.item_knowledge.proofs.PlaceLemmas.{vectors_length, vector_there}
 use Rattle.item_knowledge.proofs.RowLemmas.{entries_row, fragments_rows, rows_rows}
-use Rattle.item_knowledge.proofs.SeenLemmas.{unseen_nowhere}
-use Rattle.item_knowledge.proofs.UnionLemmas.{entries_order, union_order, beyond_of}
+use Rattle.item_knowledge.proofs.UnionLemmas.{union_order, beyond_of}
 
 -- Fragments of one picture each, whose vectors differ, are what is gathered
 
@@ -68,21 +68,31 @@ numbered_at n (g ∷ gs) (suc k) l =
 
 -- Vectors that were found to differ one after another
 
-pub all_apart : (places : Places) (rows : List (List ℕ)) (listed : List (ℕ × ℕ)) (i : ℕ) → IsFound places rows → places.numbers.items ≡ map (λ (x : ℕ × ℕ). x.1) (take i listed) → length listed ≤ i → AreApart rows listed
-all_apart places rows listed i found noted over j k l m e =
-    found.placed.once j k l (let all_of = vectors_length rows places.numbers.items in let long = counted in omega (arith, all_of, long, m)) (sym (at j (omega (arith, l, m))) ∙ e ∙ at k m)
-  where
-    whole : places.numbers.items ≡ map (λ (x : ℕ × ℕ). x.1) listed
-    whole = noted ∙ ap (λ (xs : List (ℕ × ℕ)). map (λ (x : ℕ × ℕ). x.1) xs) (take_all i listed over)
+module _ (places : Places) (rows : List (List ℕ)) (listed : List (ℕ × ℕ)) (noted : places.numbers.items ≡ map (λ (x : ℕ × ℕ). x.1) listed) where
+  counted : length places.numbers.items ≡ length listed
+  counted = ap (length {A = ℕ}) noted ∙ length-map listed (λ (x : ℕ × ℕ). x.1)
 
-    counted : length places.numbers.items ≡ length listed
-    counted = ap (length {A = ℕ}) whole ∙ length-map listed (λ (x : ℕ × ℕ). x.1)
+  many : length (vectors_at rows places.numbers.items) ≡ length listed
+  many = vectors_length rows places.numbers.items ∙ counted
 
-    at : (n : ℕ) → n < length listed → get_or rows (2 * (get_or listed n (0, 0)).1 + 1) [] ≡ get_or (vectors_at rows places.numbers.items) n []
-    at n b =
-        let long = counted in
-        vector_there rows places.numbers.items n (get_or listed n (0, 0)).1 (omega (arith, b, long))
-        (sym (ap (λ (ns : List ℕ). get_or ns n 0) whole ∙ get_or-map (λ (x : ℕ × ℕ). x.1) listed n (0, 0) 0 b))
+  at : (n : ℕ) → n < length listed → get_or rows (2 * (get_or listed n (0, 0)).1 + 1) [] ≡ get_or (vectors_at rows places.numbers.items) n []
+  at n b =
+      vector_there rows places.numbers.items n (get_or listed n (0, 0)).1 (omega (arith, b, counted))
+      (sym (ap (λ (ns : List ℕ). get_or ns n 0) noted ∙ get_or-map (λ (x : ℕ × ℕ). x.1) listed n (0, 0) 0 b))
+
+  pub all_apart : IsFound places rows → AreApart rows listed
+  all_apart found j k l m e = found.placed.once j k l (omega (arith, many, m)) (sym (at j (omega (arith, l, m))) ∙ e ∙ at k m)
+
+  -- a vector that is found nowhere
+  pub new_other : (number : ℕ) → is_new (vectors_at rows places.numbers.items) (get_or rows (2 * number + 1) []) → IsOther rows listed number
+  new_other number new n l e = new n (omega (arith, many, l)) (sym (at n l) ∙ sym e)
+
+-- a vector without a mark
+pub unmarked_other : (marks : List Bool) (rows : List (List ℕ)) (listed : List (ℕ × ℕ)) (number : ℕ) → AreMarked marks rows listed → is_marked marks (get_or rows (2 * number + 1) []) ≡ false → IsOther rows listed number
+unmarked_other marks rows listed number h none n l e = false≢true (sym none ∙ ap (is_marked marks) e ∙ h n l)
+
+pub other_too : (rows : List (List ℕ)) (index joined : List (ℕ × ℕ)) (k : ℕ) → OthersTo rows index joined k → IsOther rows joined (get_or index k (0, 0)).1 → OthersTo rows index joined (k + 1)
+other_too rows index joined k h other = next_too (λ m. IsListed joined (get_or index m (0, 0)).1 ⊎ IsOther rows joined (get_or index m (0, 0)).1) k h (inr other)
 
 -- What is written
 
@@ -108,12 +118,15 @@ module _ {left : List (List ℕ)} {gs : List Fragment} {rows : List (List ℕ)} 
       ∙ ap (λ rs. get_or rs (2 * suc k + 1) []) h.rows_are
       ∙ entries_row (star_first [] gs) (suc k) (omega (arith, l))
 
-  vector_index : (k : ℕ) → k < length gs → get_or rows (2 * (get_or index k (0, 0)).1 + 1) [] ≡ flat (entries_at gs k)
-  vector_index k l = vector k (get_or index k (0, 0)).1 l (ap (λ (ns : List (ℕ × ℕ)). (get_or ns k (0, 0)).1) h.index_is ∙ ap (λ (x : ℕ × ℕ). x.1) (numbered_at 1 gs k l) ∙ (omega arith))
+  told_at : OthersTo rows index joined (length index) → (k : ℕ) → k < length gs → IsListed joined (suc k) ⊎ IsOther rows joined (suc k)
+  told_at others k l =
+      let long = ap (length {A = ℕ × ℕ}) h.index_is ∙ numbered_length 1 gs in
+      let number : (get_or index k (0, 0)).1 ≡ suc k = ap (λ (ns : List (ℕ × ℕ)). (get_or ns k (0, 0)).1) h.index_is ∙ ap (λ (x : ℕ × ℕ). x.1) (numbered_at 1 gs k l) ∙ (omega arith) in
+      subst (λ n. IsListed joined n ⊎ IsOther rows joined n) number (others k (omega (arith, long, l)))
 
-  of_index : AreApart rows index → AllDiffer gs
-  of_index apart j k l m e =
-      apart j k l (omega (arith, ap (length {A = ℕ × ℕ}) h.index_is, numbered_length 1 gs, m)) (vector_index j (omega (arith, l, m)) ∙ ap flat e ∙ sym (vector_index k m))
+  -- one that is listed doesn't differ from all that are
+  one_joined : (j k : ℕ) → j < length gs → k < length gs → entries_at gs k ≡ entries_at gs j → IsListed joined (suc j) → IsOther rows joined (suc k) → ⊥
+  one_joined j k l m e a other = other a.place a.there (vector k (suc k) m refl ∙ ap flat e ∙ sym (vector j _ l a.is))
 
   both_joined : AreApart rows joined → (j k : ℕ) → j < k → k < length gs → entries_at gs j ≡ entries_at gs k → IsListed joined (suc j) → IsListed joined (suc k) → ⊥
   both_joined apart j k l m e a b =
@@ -122,8 +135,8 @@ module _ {left : List (List ℕ)} {gs : List Fragment} {rows : List (List ℕ)} 
 
 -- Once its vectors are told apart it is the union
 
-module _ (left right : List (List ℕ)) (xs ys : List (ℕ × ℕ)) (words : List ℕ) (star : List Entry) (rows : List (List ℕ)) (index joined : List (ℕ × ℕ))
-    (differ : AllDiffer (fragments_of left)) (left_side : IsSide (fragments_of left) xs) (right_side : IsSide (fragments_of right) ys) (seen : IsSeen words left)
+module _ (left right : List (List ℕ)) (xs ys : List (ℕ × ℕ)) (star : List Entry) (rows : List (List ℕ)) (index joined : List (ℕ × ℕ))
+    (differ : AllDiffer (fragments_of left)) (left_side : IsSide (fragments_of left) xs) (right_side : IsSide (fragments_of right) ys)
     (h : IsSpread left (spread_of star (fragments_of left) (fragments_of right) xs ys) rows index joined) where
   abbrev all : List Fragment
   all = spread_of star (fragments_of left) (fragments_of right) xs ys
@@ -137,29 +150,28 @@ module _ (left right : List (List ℕ)) (xs ys : List (ℕ × ℕ)) (words : Lis
   pictures_differ : (j k : ℕ) → j < k → k < length all → (get_or all j nothing).pictures ≡ (get_or all k nothing).pictures → ⊥
   pictures_differ j k l m e = let less = made.order j k l m in let same = ap first e in omega (arith, less, same)
 
-  joined_left : AreUnseen left words rows joined → (j : ℕ) (g : Fragment) → entries_at all j ≡ g.entries → IsListed joined (suc j) → FromLeft left g → ⊥
-  joined_left unseen j g e a b =
-      let there : entries_at (fragments_of rows) (get_or joined a.place (0, 0)).1 ≡ entries_at (fragments_of left) b.number =
-      (λ i. entries_at (fragments h i) (a.is i)) ∙ e ∙ sym b.is in
-      unseen_nowhere words left b.number seen (entries_order (fragments_of left) xs b.number left_side b.there)
-      (ap (λ es. has_unseen words (entries_at (fragments_of left) 0) es) (sym there) ∙ unseen a.place a.there)
-
   both_left : (g k : Fragment) → (g.pictures ≡ k.pictures → ⊥) → g.entries ≡ k.entries → FromLeft left g → FromLeft left k → ⊥
   both_left g k other e a b = grind (arith, differ a.number b.number, differ b.number a.number, a.there, b.there, a.is, b.is, a.alone, b.alone)
 
-  of_joined : AreUnseen left words rows joined → AreApart rows joined → AllDiffer all
-  of_joined unseen apart j k l m e = by (h.origins j (omega (arith, l, m))) (h.origins k m) where
-    by : IsListed joined (suc j) ⊎ FromLeft left (get_or all j nothing) → IsListed joined (suc k) ⊎ FromLeft left (get_or all k nothing) → ⊥
-    by (inl a) (inl b) = both_joined h apart j k l m e a b
-    by (inl a) (inr b) = joined_left unseen j (get_or all k nothing) e a b
-    by (inr a) (inl b) = joined_left unseen k (get_or all j nothing) (sym e) b a
-    by (inr a) (inr b) = both_left (get_or all j nothing) (get_or all k nothing) (pictures_differ j k l m) e a b
+  -- one that differs from all that were joined is the left's
+  from_left : (k : ℕ) → k < length all → IsOther rows joined (suc k) → FromLeft left (get_or all k nothing)
+  from_left k l other = by (h.origins k l) where
+    by : IsListed joined (suc k) ⊎ FromLeft left (get_or all k nothing) → FromLeft left (get_or all k nothing)
+    by (inl a) = absurd (one_joined h k k l l refl a other)
+    by (inr b) = b
 
-  all_differ : AreTold left words rows index joined → AllDiffer all
-  all_differ (inl apart) = of_index h apart
-  all_differ (inr told) = of_joined told.0 told.1
+  all_differ : AreTold rows index joined → AllDiffer all
+  all_differ told j k l m e = by (told_at h told.1 j first_there) (told_at h told.1 k m) where
+    first_there : j < length all
+    first_there = omega (arith, l, m)
 
-  pub told_written : entries_at (fragments_of left) 0 ≡ [] → entries_at (fragments_of right) 0 ≡ [] → AreTold left words rows index joined → IsWritten star (fragments_of left) xs (fragments_of right) ys rows index
+    by : IsListed joined (suc j) ⊎ IsOther rows joined (suc j) → IsListed joined (suc k) ⊎ IsOther rows joined (suc k) → ⊥
+    by (inl a) (inl b) = both_joined h told.0 j k l m e a b
+    by (inl a) (inr b) = one_joined h j k first_there m (sym e) a b
+    by (inr a) (inl b) = one_joined h k j m first_there e b a
+    by (inr a) (inr b) = both_left (get_or all j nothing) (get_or all k nothing) (pictures_differ j k l m) e (from_left j first_there a) (from_left k m b)
+
+  pub told_written : entries_at (fragments_of left) 0 ≡ [] → entries_at (fragments_of right) 0 ≡ [] → AreTold rows index joined → IsWritten star (fragments_of left) xs (fragments_of right) ys rows index
   told_written one other told = record {
     us = star_first [] all;
     rows = h.rows_are;

@@ -12,13 +12,13 @@ use Rattle.item_knowledge.specs.Places.{mixed, hashed, share, bucket, IsLast, is
 
 -- The bucket of a row
 
-share_below : (count hash : ℕ) → 0 < count → hash < 2 ^ 64 → share count hash < count
+pub share_below : (count hash : ℕ) → 0 < count → hash < 2 ^ 64 → share count hash < count
 unfolding share
 share_below count hash some h =
     let most : hash * count < 2 ^ 64 * count = mul-lt-mul_of_pos_right h some in
     div_below (hash * count) (2 ^ 64) count (omega arith) (omega (arith, most))
 
-mixed_below : (hash word : ℕ) → mixed hash word < 2 ^ 64
+pub mixed_below : (hash word : ℕ) → mixed hash word < 2 ^ 64
 unfolding mixed
 mixed_below hash word = mod-lt (bit_xor (rotate_left w64 hash 23) word * 11400714819323198485) (omega arith)
 

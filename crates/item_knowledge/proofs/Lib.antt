@@ -8,6 +8,7 @@ pub mod RowLemmas
 pub mod GatherLemmas
 pub mod ChainLemmas
 pub mod PlaceLemmas
+pub mod MarkLemmas
 pub mod OnTheWay
 pub mod UnionLemmas
 pub mod SearchLemmas
@@ -18,8 +19,7 @@ pub mod KnownLemmas
 pub mod NextLemmas
 pub mod ExcessLemmas
 pub mod LiveLemmas
-pub mod SeenLemmas
 pub mod NormalLemmas
 pub mod ApartLemmas
 pub mod WayLemmas
-pub mod StagedExamples
+pub mod WorkedExamples

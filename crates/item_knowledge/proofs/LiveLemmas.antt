@@ -1,25 +1,24 @@
 -- Rows of what exceeds a star, as they are shown.
-use Rattle.std.proofs.Common.{◌≡◌, ℕ, suc, ◌+◌, ◌*◌, ◌<◌, ◌≤◌, true, leb, max, List, [], ◌∷◌, length, get_or, set, refl, sym, subst, ap, ◌∙◌, inl, inr, arith}
+use Rattle.std.proofs.Common.{◌≡◌, ℕ, suc, ◌+◌, ◌-◌, ◌*◌, ◌<◌, ◌≤◌, true, leb, max, List, [], ◌∷◌, length, get_or, set, refl, sym, subst, ap, ◌∙◌, inl, inr, arith}
 use Rattle.std.specs.Cmp.{both_ways}
 use Rattle.std.specs.List.{list_all}
 use Rattle.std.proofs.lemmas.List.{get_or-map, get_or_past}
 use Rattle.std.proofs.lemmas.Bool.{and_parts, and_from, leb-true, cases_lt, false≢true}
 use Rattle.std.proofs.lemmas.Bool.Decides.{nat_tests}
 use Rattle.item_knowledge.specs.Entries.{Entry, is_vector, bound, leq, joined}
-use Rattle.item_knowledge.specs.Excess.{exceeding, shown, whole, wholes, union_vector, IsExcess}
+use Rattle.item_knowledge.specs.Excess.{exceeding, shown, whole, wholes, IsExcess}
 use Rattle.item_knowledge.specs.Fragments.{Fragment, is_normal, nothing, entries_at}
-use Rattle.item_knowledge.specs.Gathering.{IsSide, IsUnion, pair_vector}
+use Rattle.item_knowledge.specs.Gathering.{IsSide, IsUnion}
 use Rattle.item_knowledge.specs.Raising.{IsWaiting, are_level, all_raised}
-use Rattle.item_knowledge.specs.Rows.{pairs, flat, IsRow, IsAt, AreRows, fragments_of, rows_of}
-use Rattle.item_knowledge.specs.Seen.{is_marked, HasMarks, IsSeen}
+use Rattle.item_knowledge.specs.Rows.{pairs, flat, IsRow, IsJustBehind, AreRows, fragments_of, rows_of}
 use Rattle.item_knowledge.specs.Written.{IsWritten}
 use Rattle.item_knowledge.proofs.EntryLemmas.{one_by_bounds}
-use Rattle.item_knowledge.proofs.ExcessLemmas.{exceeding_bound, exceeding_none, length_wholes, entries_wholes, wholes_side}
+use Rattle.item_knowledge.proofs.ExcessLemmas.{exceeding_none, length_wholes, entries_wholes, wholes_side}
 use Rattle.item_knowledge.proofs.FragmentLemmas.{leq_at}
 use Rattle.item_knowledge.proofs.JoinLemmas.{joined_bound, joined_vector, joined_left, joined_right, leq_from, vector_order, row_put}
 use Rattle.item_knowledge.proofs.MergeLemmas.{all_at}
 use Rattle.item_knowledge.proofs.RowLemmas.{fragments_rows, rows_rows, rows_read, row_length, pairs_flat, flat_row}
-use Rattle.item_knowledge.proofs.UnionLemmas.{above, pair_is_vector, of_two, union_excess, whole_union}
+use Rattle.item_knowledge.proofs.UnionLemmas.{union_excess, whole_union}
 
 module _ (star : List ℕ) (rows now : List (List ℕ)) (h : IsExcess star rows) (is : shown star rows ≡ now) where
   pub shown_are : fragments_of now ≡ wholes (pairs star) (fragments_of rows)
@@ -104,7 +103,7 @@ pub record IsRaised (star words : List ℕ) (rows now : List (List ℕ)) (e : En
   pub excess : IsExcess words rows
   pub shown : shown words rows ≡ rows_of (all_raised e (fragments_of now))
 
-module _ (star : List ℕ) (rows now : List (List ℕ)) (a n place : ℕ) (h : IsExcess star rows) (is : shown star rows ≡ now) (waits : IsWaiting (a, n) (fragments_of now)) (at : 0 < bound (pairs star) a → IsAt (pairs star) place a) where
+module _ (star : List ℕ) (rows now : List (List ℕ)) (a n place : ℕ) (h : IsExcess star rows) (is : shown star rows ≡ now) (waits : IsWaiting (a, n) (fragments_of now)) (behind : 0 < bound (pairs star) a → IsJustBehind (pairs star) place a) where
   abbrev e : Entry
   e = (a, n)
 
@@ -121,12 +120,12 @@ module _ (star : List ℕ) (rows now : List (List ℕ)) (a n place : ℕ) (h : I
   star_is : entries_at (fragments_of now) 0 ≡ pairs star
   star_is = shown_star star rows now h is some
 
-  there : IsAt (pairs star) place a
-  there = at (subst (λ es. 0 < bound es a) star_is waits.some)
+  there : IsJustBehind (pairs star) place a
+  there = behind (subst (λ es. 0 < bound es a) star_is waits.some)
 
   -- the bound stands in the star
-  pub raised_inside : 2 * place + 1 < length star
-  raised_inside = omega (arith, there.inside, row_length star h.row)
+  pub raised_inside : (0 < place) × (2 * place ≤ length star)
+  raised_inside = (omega (arith, there.next), omega (arith, there.next, there.inside, row_length star h.row))
 
   entries : pairs (flat (joined (pairs star) (e ∷ []))) ≡ joined (pairs star) (e ∷ [])
   entries = pairs_flat (joined (pairs star) (e ∷ []))
@@ -143,9 +142,10 @@ module _ (star : List ℕ) (rows now : List (List ℕ)) (a n place : ℕ) (h : I
   exceeds_still : (k b : ℕ) → 0 < bound (entries_at (fragments_of rows) k) b → bound (pairs (flat (joined (pairs star) (e ∷ [])))) b < bound (entries_at (fragments_of rows) k) b
   exceeds_still k b z = rw entries (grind (arith, nat_tests, h.exceeds k b z, joined_bound (pairs star) (e ∷ []) b h.vector one, beyond k))
 
-  pub raised_star : (words : List ℕ) → words ≡ set star (2 * place + 1) n → IsRaised star words rows now (a, n)
+  pub raised_star : (words : List ℕ) → words ≡ set star (2 * place - 1) n → IsRaised star words rows now (a, n)
   raised_star words put =
-      let made : words ≡ flat (joined (pairs star) (e ∷ [])) = put ∙ (ap (λ ws. set ws (2 * place + 1) n) (sym h.row) ∙ row_put (pairs star) place a n (vector_order (pairs star) h.vector) there.inside there.author_is (subst (λ es. bound es a ≤ n) star_is waits.most)) in
+      let same : 2 * place - 1 ≡ 2 * there.at + 1 = omega (arith, there.next) in
+      let made : words ≡ flat (joined (pairs star) (e ∷ [])) = put ∙ ((λ i. set (sym h.row i) (same i) n) ∙ row_put (pairs star) there.at a n (vector_order (pairs star) h.vector) there.inside there.author_is (subst (λ es. bound es a ≤ n) star_is waits.most)) in
       subst (λ ws. IsRaised star ws rows now (a, n)) (sym made) (record {
         excess = record {
           row = flat_row (joined (pairs star) (e ∷ []));
@@ -186,37 +186,3 @@ union_made s t words one other left right out xs ys zs h is g same row both x y 
           (subst (λ rs. IsUnion (wholes (pairs s) fs) xs rs ys (fragments_of (shown words out)) zs) (sym (shown_are t other right g same))
           (subst (λ us. IsUnion (wholes (pairs s) fs) xs (wholes (pairs t) gs) ys us zs) (sym (fragments_rows (wholes (pairs words) (fragments_of out)) ∙ ap (wholes (pairs words)) (ap fragments_of w.rows ∙ fragments_rows w.us))) made));
     }
-
--- Marks of the bounds of a union
-
--- what is above the star of a side is marked where it has no entries
-marked_at : (words : List ℕ) (rows : List (List ℕ)) (k a : ℕ) → IsSeen words rows → entries_at (fragments_of rows) 0 ≡ [] → 0 < bound (entries_at (fragments_of rows) k) a → is_marked words a (bound (entries_at (fragments_of rows) k) a) ≡ true
-marked_at words rows k a seen first some = let none = ap (λ es. bound es a) first in seen k a (omega arith)
-
-pub union_seen : (star : List Entry) (one other words : List ℕ) (left right out : List (List ℕ)) (xs ys zs : List (ℕ × ℕ)) → IsSide (fragments_of left) xs → IsSide (fragments_of right) ys → entries_at (fragments_of left) 0 ≡ [] → entries_at (fragments_of right) 0 ≡ []
-    → IsSeen one left → IsSeen other right → HasMarks one words → HasMarks other words → IsWritten star (fragments_of left) xs (fragments_of right) ys out zs → IsSeen words out
-union_seen star one other words left right out xs ys zs side other_side first second seen other_seen marks other_marks w k a more =
-    subst (λ us. bound (entries_at us 0) a < bound (entries_at us k) a → is_marked words a (bound (entries_at us k) a) ≡ true) (sym (ap fragments_of w.rows ∙ fragments_rows w.us)) here more
-  where
-    us : List Fragment
-    us = w.us
-
-    of_one : (n : ℕ × ℕ) → n.0 < length (fragments_of left) → n.1 < length (fragments_of right) → (es : List Entry) → es ≡ union_vector star (fragments_of left) (fragments_of right) n → 0 < bound es a → is_marked words a (bound es a) ≡ true
-    of_one n l m es is some =
-        let pair = pair_vector (fragments_of left) (fragments_of right) n in
-        let vector = pair_is_vector star (fragments_of left) (fragments_of right) xs ys side other_side first second n l m in
-        grind (
-          arith,
-          nat_tests,
-          ap (λ x. bound x a) is,
-          exceeding_bound star pair a (vector_order pair vector),
-          joined_bound (entries_at (fragments_of left) n.0) (entries_at (fragments_of right) n.1) a (above (fragments_of left) xs n.0 side l).vector (above (fragments_of right) ys n.1 other_side m).vector,
-          marks a (bound (entries_at (fragments_of left) n.0) a),
-          other_marks a (bound (entries_at (fragments_of right) n.1) a),
-          marked_at one left n.0 a seen first,
-          marked_at other right n.1 a other_seen second,
-        )
-
-    here : bound (entries_at us 0) a < bound (entries_at us k) a → is_marked words a (bound (entries_at us k) a) ≡ true
-    here above_star = of_two star (fragments_of left) (fragments_of right) xs ys side other_side first second us zs w.union
-        (λ es. 0 < bound es a → is_marked words a (bound es a) ≡ true) (λ none. absurd (omega arith)) (λ n l m. of_one n l m _ refl) k (omega arith)

@@ -1,11 +1,10 @@
 -- Machinery of the proofs: a union in which each picture that is listed has a fragment of its own.
-use Rattle.std.specs.Prelude.{◌≡◌, ℕ, suc, true, ◌+◌, ◌*◌, ◌<◌, ◌⊎◌, List, [], ◌∷◌, length, get_or, map}
+use Rattle.std.specs.Prelude.{◌≡◌, ℕ, suc, ◌+◌, ◌*◌, ◌<◌, ◌⊎◌, List, [], ◌∷◌, length, get_or, map}
 use Rattle.item_knowledge.specs.Entries.{Entry}
 use Rattle.item_knowledge.specs.Excess.{union_vector}
 use Rattle.item_knowledge.specs.Fragments.{Fragment, first, nothing, entries_at}
 use Rattle.item_knowledge.specs.Gathering.{paired, star_first, table_of}
 use Rattle.item_knowledge.specs.Rows.{fragments_of, rows_of}
-use Rattle.item_knowledge.specs.Seen.{has_unseen}
 
 -- the pictures of a table, each in a fragment of its own, but for those with the star's vector
 abbrev pub singles : List Entry → (ℕ × ℕ → List Entry) → List (ℕ × (ℕ × ℕ)) → List Fragment
@@ -48,13 +47,20 @@ abbrev pub AreApart : List (List ℕ) → List (ℕ × ℕ) → Type 0
 AreApart rows listed = (j k : ℕ) → j < k → k < length listed
     → get_or rows (2 * (get_or listed j (0, 0)).1 + 1) [] ≡ get_or rows (2 * (get_or listed k (0, 0)).1 + 1) [] → ⊥
 
--- each fragment that is listed has a bound above the left's star without a mark
-abbrev pub AreUnseen : List (List ℕ) → List ℕ → List (List ℕ) → List (ℕ × ℕ) → Type 0
-AreUnseen left words rows listed = (m : ℕ) → m < length listed → has_unseen words (entries_at (fragments_of left) 0) (entries_at (fragments_of rows) (get_or listed m (0, 0)).1) ≡ true
+-- the fragment of a number has another vector than all that are listed
+abbrev pub IsOther : List (List ℕ) → List (ℕ × ℕ) → ℕ → Type 0
+IsOther rows listed number = (n : ℕ) → n < length listed → get_or rows (2 * number + 1) [] ≡ get_or rows (2 * (get_or listed n (0, 0)).1 + 1) [] → ⊥
 
--- all fragments of an index have different vectors, or those that were joined have, and none of these is the left's
-abbrev pub AreTold : List (List ℕ) → List ℕ → List (List ℕ) → List (ℕ × ℕ) → List (ℕ × ℕ) → Type 0
-AreTold left words rows index joined = AreApart rows index ⊎ (AreUnseen left words rows joined × AreApart rows joined)
+-- each of the first fragments of an index was joined, or has another vector than all that were
+abbrev pub OthersTo : List (List ℕ) → List (ℕ × ℕ) → List (ℕ × ℕ) → ℕ → Type 0
+OthersTo rows index joined count = (m : ℕ) → m < count → IsListed joined (get_or index m (0, 0)).1 ⊎ IsOther rows joined (get_or index m (0, 0)).1
+
+abbrev pub AreOthers : List (List ℕ) → List (ℕ × ℕ) → List (ℕ × ℕ) → Type 0
+AreOthers rows index joined = OthersTo rows index joined (length index)
+
+-- the fragments that were joined have different vectors, and all others of an index have other ones
+abbrev pub AreTold : List (List ℕ) → List (ℕ × ℕ) → List (ℕ × ℕ) → Type 0
+AreTold rows index joined = AreApart rows joined × AreOthers rows index joined
 
 -- rows of a star and of fragments with their index, of which each is listed as joined or is one of the left's
 pub record IsSpread (left : List (List ℕ)) (gs : List Fragment) (rows : List (List ℕ)) (index joined : List (ℕ × ℕ)) : Type 0 where

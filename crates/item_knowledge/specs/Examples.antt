@@ -1,5 +1,5 @@
 -- The definitions at some fragments.
-use Rattle.std.specs.Prelude.{◌≡◌, ℕ, true, false, List, [], ◌∷◌, Some, None}
+use Rattle.std.specs.Prelude.{◌≡◌, ℕ, Bool, true, false, List, [], ◌∷◌, Some, None}
 use Rattle.photo_version.specs.Author.{author, author_at, author_word}
 use Rattle.photo_version.specs.Version.{Version, version}
 use Rattle.item_knowledge.specs.Entries.{Entry, joined}
@@ -8,7 +8,8 @@ use Rattle.item_knowledge.specs.Excess.{exceeding, shown}
 use Rattle.item_knowledge.specs.Raising.{are_level}
 use Rattle.item_knowledge.specs.Rows.{flat, rows_of}
 use Rattle.item_knowledge.specs.Staged.{IsStagedUnion}
-use Rattle.item_knowledge.specs.Seen.{has_unseen}
+use Rattle.item_knowledge.specs.Marks.{place_of, is_marked}
+use Rattle.item_knowledge.specs.Written.{IsBeyond}
 
 abbrev of : List ℕ → List Entry → Fragment
 of pictures entries = record { pictures = pictures; entries = entries }
@@ -69,9 +70,6 @@ pub record TheEpochs : Type 0 where
   pub turned_round : is_normal (of [] (later 0 1 1 ∷ entry 0 2 ∷ []) ∷ []) ≡ false
   pub its_first : knows (of [] (entry 0 2 ∷ later 0 1 1 ∷ []) ∷ []) 7 (version (author_at 0 1) 1) ≡ true
   pub not_its_second : knows (of [] (entry 0 2 ∷ later 0 1 1 ∷ []) ∷ []) 7 (version (author_at 0 1) 2) ≡ false
-  -- its marks have words of their own, which meet those of the first epoch only far behind
-  pub unshared : has_unseen (0 ∷ 2 ∷ 1 ∷ []) [] (later 0 1 2 ∷ []) ≡ true
-  pub shared : has_unseen (0 ∷ 2 ∷ 1 ∷ []) [] (later 0 1 7173 ∷ []) ≡ false
 
 -- of picture 8 the first version of device 1
 abbrev other : List Fragment
@@ -80,6 +78,10 @@ other = of [] [] ∷ of (8 ∷ []) (entry 1 1 ∷ []) ∷ []
 -- of every picture the first version of device 0, and of picture 8 that of device 1 besides
 abbrev both : List Fragment
 both = of [] (entry 0 1 ∷ []) ∷ of (8 ∷ []) (entry 0 1 ∷ entry 1 1 ∷ []) ∷ []
+
+-- the same of picture 8, with an empty star
+abbrev both_at_eight : List Fragment
+both_at_eight = of [] [] ∷ of (8 ∷ []) (entry 0 1 ∷ entry 1 1 ∷ []) ∷ []
 
 -- what is staged where it is to be the union of `of_every` and `other`, and, before a ⊥, what isn't
 pub record TheStaged : Type 0 where
@@ -98,14 +100,25 @@ pub record TheStaged : Type 0 where
   -- a second version of device 0 is staged
   pub too_late : IsStagedUnion (Some (of [] (entry 0 2 ∷ []) ∷ of (8 ∷ []) (entry 0 2 ∷ entry 1 1 ∷ []) ∷ [])) of_every other → ⊥
 
--- whether a row has a bound above the star's that has no mark: device 0 has one at number 2, and device 1 at number 1
+-- what a star alone and a row for picture 8 have beyond the star of their union, and, before a ⊥, what isn't
+pub record TheUnions : Type 0 where
+  pub beyond : IsBeyond (entry 0 1 ∷ []) none [] both_at_eight ((8, 1) ∷ []) other ((8, 1) ∷ [])
+  -- what the star has stands in the row once more
+  pub repeated : IsBeyond (entry 0 1 ∷ []) none [] both_at_eight ((8, 1) ∷ []) both_at_eight ((8, 1) ∷ []) → ⊥
+  pub left_out : IsBeyond (entry 0 1 ∷ []) none [] both_at_eight ((8, 1) ∷ []) none [] → ⊥
+
+-- nine places for marks, of which that of the second version of device 0 has one
+abbrev marks : List Bool
+marks = false ∷ false ∷ true ∷ false ∷ false ∷ false ∷ false ∷ false ∷ false ∷ []
+
 pub record TheMarks : Type 0 where
-  pub marked : has_unseen (0 ∷ 2 ∷ 1 ∷ []) [] (entry 0 2 ∷ entry 1 1 ∷ []) ≡ false
-  pub no_mark : has_unseen (0 ∷ 2 ∷ 1 ∷ []) [] (entry 0 1 ∷ entry 1 1 ∷ []) ≡ true
-  pub of_another : has_unseen (0 ∷ 2 ∷ 1 ∷ []) [] (entry 1 2 ∷ []) ≡ true
-  pub above_all : has_unseen (0 ∷ 2 ∷ 1 ∷ []) [] (entry 0 3 ∷ []) ≡ true
-  pub as_the_star : has_unseen (0 ∷ 2 ∷ 1 ∷ []) (entry 0 3 ∷ []) (entry 0 3 ∷ []) ≡ false
-  pub comes_round : has_unseen (0 ∷ 2 ∷ 1 ∷ []) [] (entry 64 8194 ∷ []) ≡ false
+  pub place : place_of 9 (flat (entry 0 2 ∷ [])) ≡ 2
+  pub by_the_last : place_of 9 (flat (entry 0 2 ∷ entry 1 3 ∷ [])) ≡ 8
+  pub no_entry : place_of 9 [] ≡ 0
+  pub marked : is_marked marks (flat (entry 0 2 ∷ [])) ≡ true
+  pub unmarked : is_marked marks (flat (entry 0 1 ∷ [])) ≡ false
+  -- another row may share its place
+  pub shared : is_marked marks (flat (entry 1 2 ∷ [])) ≡ true
 
 -- a star that stands once, and rows of what exceeds it
 pub record TheExcess : Type 0 where

@@ -8,7 +8,7 @@ pub mod Merging
 pub mod Written
 pub mod Raising
 pub mod Places
-pub mod Seen
+pub mod Marks
 pub mod Kept
 pub mod Staged
 pub mod Spare

@@ -1,24 +1,25 @@
 // A union in which no two pictures that are listed have the same vector: each fragment is written once, where it stays, and
 // neighbours of the left that stay as they are come in one run. Whether the vectors differ is asked of what stands there then.
-ghost use Rattle.std.specs.Prelude.{◌≡◌, ◌+◌, ◌*◌, ◌<◌, ◌≤◌, [], ◌∷◌, ◌++◌, true, false, length, get_or, IfOk, IfSome, OnOk};
+ghost use Rattle.std.specs.Prelude.{◌≡◌, ◌+◌, ◌*◌, ◌<◌, ◌≤◌, [], ◌∷◌, ◌++◌, true, false, length, get_or, map, IfOk, IfSome, OnOk};
 ghost use Rattle.fragment_arena.specs.Arena.{run};
-ghost use Rattle.item_knowledge.specs.Apart.{Stays, AreThere, AreApart, AreUnseen, AreTold, IsSpread, spread_of};
+ghost use Rattle.item_knowledge.specs.Apart.{Stays, AreThere, AreApart, AreOthers, AreTold, IsSpread, spread_of};
 ghost use Rattle.item_knowledge.specs.Excess.{AllDiffer, exceeding, exceeds_all, is_covered};
 ghost use Rattle.item_knowledge.specs.Fragments.{entries_at};
+ghost use Rattle.item_knowledge.specs.Marks.{AreMarked};
+ghost use Rattle.item_knowledge.specs.Places.{IsFound};
 ghost use Rattle.item_knowledge.specs.Written.{IsWritten};
 ghost use Rattle.item_knowledge.specs.Rows.{pairs, IsRow, AreRows, fragments_of};
 ghost use Rattle.item_knowledge.specs.Tables.{in_order};
-ghost use Rattle.item_knowledge.specs.Seen.{IsSeen};
 ghost use Rattle.item_knowledge.specs.Sides.{fragments};
 
 use crate::gather::is_nothing;
 use crate::index::{IndexEntry, to_u32};
 use crate::join::join;
+use crate::marks::Marks;
 use crate::pairing::{Pairing, pictures_together};
 use crate::places::Places;
 use crate::rows::Rows;
 use crate::search::{bound_at, bound_near, entry_at, entry_count};
-use crate::seen::Seen;
 use crate::side::Side;
 use crate::union::{begin, entries, pair};
 use std::alloc::{AllocError, Global};
@@ -211,30 +212,12 @@ fn spread(
     Ok(())
 }
 
-// Whether each of the fragments that are listed has a bound that stands in no fragment of the left, by its marks.
-fn are_unseen(left: &Rows, seen: &Seen, rows: &Rows, listed: &[IndexEntry]) -> bool
-    requires left { AreRows left.now }
-    requires some { 0 < length (fragments_of left.now) }
-    requires order { in_order (entries_at (fragments_of left.now) 0) ≡ true }
+// The fragments that are listed, found by their vectors; none where two have the same.
+fn places_of(alloc: Global, rows: &Rows, listed: &[IndexEntry]) -> Result<Option<Places>, AllocError>
     requires rows { AreRows rows.now }
     requires there { AreThere rows.now listed.now }
-    ensures { result ≡ true → AreUnseen left.now seen.now.words.items rows.now listed.now }
-{
-    let star = entries(left, 0);
-    for i in 0..listed.len() {
-        let (_picture, number) = listed[i];
-        if !seen.lacks_one(entries(rows, number as usize), star) {
-            return false;
-        }
-    }
-    true
-}
-
-// Whether the fragments that are listed have different vectors.
-fn are_apart(alloc: Global, rows: &Rows, listed: &[IndexEntry]) -> Result<bool, AllocError>
-    requires rows { AreRows rows.now }
-    requires there { AreThere rows.now listed.now }
-    ensures { IfOk result (λ apart. apart ≡ true → AreApart rows.now listed.now) }
+    ensures found { IfOk result (λ found. IfSome found (λ places. IsFound places rows.now)) }
+    ensures numbers { IfOk result (λ found. IfSome found (λ places. places.numbers.items ≡ map (λ x. x.1) listed.now)) }
 {
     // Most of them differ, so half of the buckets at least are to be free.
     let buckets = listed.len().saturating_mul(2);
@@ -244,53 +227,94 @@ fn are_apart(alloc: Global, rows: &Rows, listed: &[IndexEntry]) -> Result<bool, 
         let number = kept as usize;
         let (bucket, place) = places.find(rows, entries(rows, number));
         if place.is_some() {
-            return Ok(false);
+            return Ok(None);
         }
         places.push(bucket, number)?;
     }
-    Ok(true)
+    Ok(Some(places))
 }
 
-// Whether all fragments of an index have different vectors. Those that were joined are looked at alone where none of them can be
-// one of the left's, which differ.
+// Marks of the vectors of the fragments that are listed.
+fn marks_of(alloc: Global, rows: &Rows, listed: &[IndexEntry]) -> Result<Marks, AllocError>
+    requires rows { AreRows rows.now }
+    requires there { AreThere rows.now listed.now }
+    ensures some { IfOk result (λ marks. 0 < length marks.marks.items) }
+    ensures marked { IfOk result (λ marks. AreMarked marks.marks.items rows.now listed.now) }
+{
+    let mut marks = Marks::new(alloc, listed.len())?;
+    for i in 0..listed.len() {
+        let (_picture, number) = listed[i];
+        marks.mark(entries(rows, number as usize));
+    }
+    Ok(marks)
+}
+
+// Whether each fragment of an index is one of those that were joined, or has another vector than all of these.
+fn are_others(
+    rows: &Rows,
+    index: &[IndexEntry],
+    joined: &[IndexEntry],
+    places: &Places,
+    marks: &Marks,
+) -> bool
+    requires rows { AreRows rows.now }
+    requires there { AreThere rows.now index.now }
+    requires found { IsFound places.now rows.now }
+    requires numbers { places.now.numbers.items ≡ map (λ x. x.1) joined.now }
+    requires some { 0 < length marks.now.marks.items }
+    requires marked { AreMarked marks.now.marks.items rows.now joined.now }
+    ensures { result ≡ true → AreOthers rows.now index.now joined.now }
+{
+    let mut next = 0;
+    for i in 0..index.len() {
+        if next < joined.len() && joined[next].1 == index[i].1 {
+            next += 1;
+            continue;
+        }
+        let row = entries(rows, index[i].1 as usize);
+        if !marks.has(row) {
+            continue;
+        }
+        if places.find(rows, row).1.is_some() {
+            return false;
+        }
+    }
+    true
+}
+
+// Whether all fragments of an index have different vectors. Those of them that weren't joined are the left's, which differ.
 fn are_told_apart(
     alloc: Global,
-    left: &Rows,
-    seen: &Seen,
     rows: &Rows,
     index: &[IndexEntry],
     joined: &[IndexEntry],
 ) -> Result<bool, AllocError>
-    requires left { AreRows left.now }
-    requires some { 0 < length (fragments_of left.now) }
-    requires order { in_order (entries_at (fragments_of left.now) 0) ≡ true }
     requires rows { AreRows rows.now }
     requires index { AreThere rows.now index.now }
     requires joined { AreThere rows.now joined.now }
-    ensures { IfOk result (λ apart. apart ≡ true → AreTold left.now seen.now.words.items rows.now index.now joined.now) }
+    ensures { IfOk result (λ apart. apart ≡ true → AreTold rows.now index.now joined.now) }
 {
-    if joined.len() == index.len() {
-        return are_apart(alloc, rows, index);
+    if joined.is_empty() {
+        return Ok(true);
     }
-    if are_unseen(left, seen, rows, joined) {
-        return are_apart(alloc, rows, joined);
-    }
-    are_apart(alloc, rows, index)
+    let Some(places) = places_of(alloc, rows, joined)? else {
+        return Ok(false);
+    };
+    let marks = marks_of(alloc, rows, joined)?;
+    Ok(are_others(rows, index, joined, &places, &marks))
 }
 
 /// Writes what the normal form of what either side denotes has beyond its star, which is given, and gives its index, where no two
 /// pictures have the same vector but for those that have the star's. It gives none where that isn't so, and what was written is
-/// of no use. The left's bounds have marks, and its vectors differ.
+/// of no use. The left's vectors differ.
 pub(crate) fn apart(
     alloc: Global,
     left: Side<'_>,
     right: Side<'_>,
     star: &[u64],
-    seen: &Seen,
     out: &mut Rows,
 ) -> Result<Option<Vec<IndexEntry>>, AllocError>
     requires differ { AllDiffer (fragments left) }
-    requires seen { IsSeen seen.now.words.items left.rows.now }
     requires star_row { IsRow star.now }
     requires star { in_order (pairs star.now) ≡ true }
     ensures { IfOk result (λ found. IfSome found (λ index. IsWritten (pairs star.now) (fragments left.entry) left.entry.index.now
@@ -312,7 +336,7 @@ pub(crate) fn apart(
         .saturating_add(count.saturating_mul(2));
     begin(count, words, out)?;
     spread(alloc, left, right, star, &mut lists, out)?;
-    if are_told_apart(alloc, left.rows, seen, out, &lists.index, &lists.joined)? {
+    if are_told_apart(alloc, out, &lists.index, &lists.joined)? {
         return Ok(Some(lists.index));
     }
     Ok(None)

@@ -113,7 +113,7 @@ impl<'a> Fragment<'a> {
     {
         // For its fact alone: its entries are a vector.
         let _star = self.star;
-        let mut bounds = Vec::new(alloc);
+        let mut bounds = Vec::with_capacity(alloc, self.len())?;
         let mut entries = self.entries();
         while let Some(bound) = entries.next_entry() {
             bounds.push(bound)?;

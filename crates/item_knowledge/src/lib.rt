@@ -6,8 +6,8 @@
 //! picture stands in two, and they stand in the order of their first pictures.
 //!
 //! In memory the star stands once, and a fragment's row has the bounds that exceed the star's and no other; an index leads from
-//! each picture that is listed to its fragment, and each bound in a row has a mark. What is staged stands in spare rows of the
-//! same form, and is not known before it is committed; after a refusal nothing is staged.
+//! each picture that is listed to its fragment. What is staged stands in spare rows of the same form, and is not known before it
+//! is committed; after a refusal nothing is staged.
 #![tactic(auto)]
 
 mod apart;
@@ -20,11 +20,11 @@ mod knowledge;
 mod known;
 pub mod laws;
 mod live;
+mod marks;
 mod pairing;
 mod places;
 mod rows;
 mod search;
-mod seen;
 mod side;
 mod table_rows;
 mod union;

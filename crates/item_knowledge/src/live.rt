@@ -11,7 +11,6 @@ use crate::index::IndexEntry;
 use crate::join::join;
 use crate::rows::Rows;
 use crate::search::{bound_at, bound_near, entry_at, entry_count, number_near};
-use crate::seen::{Seen, seen_of, seen_together};
 use crate::side::Side;
 use crate::union::{begin, entries, union};
 use std::alloc::{AllocError, Global};
@@ -25,15 +24,12 @@ pub(crate) struct LiveRows {
     star: Vec<u64>,
     // The first fragment has no entries, and each other one the bounds that are above the star's.
     rows: Rows,
-    // Marks of the bounds in the rows.
-    seen: Seen,
 }
 
 impl Model for LiveRows {
     ghost use Rattle.std.specs.Prelude.{ℕ, List};
     ghost use Rattle.std.specs.Coded.{coded_ℕ, coded_list};
     ghost use Rattle.item_knowledge.specs.Excess.{shown, IsExcess};
-    ghost use Rattle.item_knowledge.specs.Seen.{IsSeen};
 
     ghost Value = { List (List ℕ) };
 
@@ -41,7 +37,7 @@ impl Model for LiveRows {
 
     ghost view = { λ r. shown r.star.items r.rows };
 
-    ghost invariant = { λ r. IsExcess r.star.items r.rows × IsSeen r.seen.words.items r.rows };
+    ghost invariant = { λ r. IsExcess r.star.items r.rows };
 }
 
 impl LiveRows {
@@ -61,7 +57,6 @@ impl LiveRows {
         LiveRows {
             star: Vec::new(alloc),
             rows: Rows::new(alloc),
-            seen: Seen::new(alloc),
         }
     }
 
@@ -77,7 +72,6 @@ impl LiveRows {
         Ok(LiveRows {
             star,
             rows,
-            seen: Seen::new(alloc),
         })
     }
 
@@ -89,11 +83,9 @@ impl LiveRows {
         requires vectors { list_all (λ f. is_vector f.entries) (fragments_of rows) ≡ true }
         ensures { IfOk result (λ live. live ≡ rows) }
     {
-        let seen = seen_of(alloc, &rows)?;
         Ok(LiveRows {
             star: Vec::new(alloc),
             rows,
-            seen,
         })
     }
 
@@ -191,7 +183,7 @@ impl LiveRows {
         ensures { self.new ≡ rows_of (all_raised (author, n) (fragments_of self.old)) }
     {
         let (_bound, place) = bound_near(&self.star, 0, author);
-        self.star[2 * place + 1] = n;
+        self.star[2 * place - 1] = n;
     }
 
     /// No rows any more. The largest block stays, for the rows to come; no word of those that stood is kept.
@@ -200,7 +192,6 @@ impl LiveRows {
     {
         self.star.clear();
         self.rows.clear();
-        self.seen.clear();
     }
 
     /// Writes the normal form of what either side denotes, and gives its index. An error leaves no rows.
@@ -225,7 +216,6 @@ impl LiveRows {
         out.clear();
         let mut star = Vec::new(alloc);
         join(&self.star, &others.star, &[], &mut star)?;
-        let seen = seen_together(alloc, &self.seen, &others.seen)?;
         let left = Side {
             star: &self.star,
             rows: &self.rows,
@@ -236,10 +226,9 @@ impl LiveRows {
             rows: &others.rows,
             index: others_index,
         };
-        match union(alloc, left, right, &star, &self.seen, &mut out.rows) {
+        match union(alloc, left, right, &star, &mut out.rows) {
             Ok(written) => {
                 out.star = star;
-                out.seen = seen;
                 Ok(written)
             }
             Err(refused) => {
@@ -255,8 +244,7 @@ impl LiveRows {
     {
         let star = self.star.to_vec(alloc)?;
         let rows = self.rows.try_clone()?;
-        let seen = self.seen.try_clone(alloc)?;
-        Ok(LiveRows { star, rows, seen })
+        Ok(LiveRows { star, rows })
     }
 }
 

@@ -27,7 +27,7 @@ pub(crate) struct Places {
 }
 
 // A hash and one word more.
-fn mixed(hash: u64, word: u64) -> u64
+pub(crate) fn mixed(hash: u64, word: u64) -> u64
     ensures { result ≡ spec.mixed hash word }
 {
     (hash.rotate_left(TURN) ^ word).wrapping_mul(MULTIPLIER)
@@ -45,7 +45,7 @@ fn hash_of(seed: u64, row: &[u64]) -> u64
 }
 
 // The share of so many buckets that is as large as a hash is of all hashes.
-fn share(hash: u64, count: usize) -> usize
+pub(crate) fn share(hash: u64, count: usize) -> usize
     ensures { result ≡ spec.share count hash }
 {
     ((hash as u128 * count as u128) >> 64) as usize

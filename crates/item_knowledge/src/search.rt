@@ -2,12 +2,12 @@
 ghost use Rattle.std.specs.Prelude.{◌≡◌, ◌<◌, ◌≤◌, true, length, get_or, drop, IfSome};
 ghost use Rattle.item_knowledge.specs.Tables.{in_order, at};
 ghost use Rattle.item_knowledge.specs.Entries.{bound};
-ghost use Rattle.item_knowledge.specs.Rows.{pairs, IsRow, IsAt};
+ghost use Rattle.item_knowledge.specs.Rows.{pairs, IsRow, IsJustBehind};
 
 use crate::index::IndexEntry;
 
-/// What the number of a device is multiplied by in its author's word.
-pub(crate) const EPOCHS: u64 = 4_294_967_296;
+// What the number of a device is multiplied by in its author's word.
+const EPOCHS: u64 = 4_294_967_296;
 
 // How many places one goes forward from a hint before the whole index is searched.
 const STEPS: usize = 32;
@@ -189,26 +189,35 @@ fn start_near(row: &[u64], hint: usize, author: u64) -> usize
     0
 }
 
-/// The bound of an author in a row of entries in order, 0 where it has none, and the place at which it stands or would stand,
-/// which is a hint for a later author. The work is small where the hint is that of an earlier author close by; the bound is
-/// right with any hint.
+/// The bound of an author in a row of entries in order, 0 where it has none, and a hint for a later author: the place behind the
+/// author's, or where it would stand. The work is small where the hint is that of an earlier author close by; the bound is right
+/// with any hint.
 #[inline(always)]
 pub(crate) fn bound_near(row: &[u64], hint: usize, author: u64) -> (u64, usize)
     requires row { IsRow row.now }
     requires order { in_order (pairs row.now) ≡ true }
     ensures bound { result.0 ≡ bound (pairs row.now) author }
-    ensures at { 0 < bound (pairs row.now) author → IsAt (pairs row.now) result.1 author }
+    ensures behind { 0 < bound (pairs row.now) author → IsJustBehind (pairs row.now) result.1 author }
 {
+    if hint < entry_count(row) {
+        let (word, n) = entry_at(row, hint);
+        if word == author {
+            return (n, hint + 1);
+        }
+        if author < word && are_earlier(row, hint, author) {
+            return (0, hint);
+        }
+    }
     let mut place = start_near(row, hint, author);
     while place < entry_count(row) {
         let (word, n) = entry_at(row, place);
         if author < word {
             return (0, place);
         }
+        place += 1;
         if word == author {
             return (n, place);
         }
-        place += 1;
     }
     (0, place)
 }

@@ -6,7 +6,6 @@ ghost use Rattle.item_knowledge.specs.Gathering.{star_first, IsGathered};
 ghost use Rattle.item_knowledge.specs.Written.{IsWritten, union_table};
 ghost use Rattle.item_knowledge.specs.Places.{IsFound, Placed, vectors_at};
 ghost use Rattle.item_knowledge.specs.Rows.{pairs, IsRow, AreRows, fragments_of, rows_of, grouped};
-ghost use Rattle.item_knowledge.specs.Seen.{IsSeen};
 ghost use Rattle.item_knowledge.specs.Sides.{fragments};
 ghost use Rattle.item_knowledge.specs.Tables.{in_order};
 
@@ -18,7 +17,6 @@ use crate::join::join;
 use crate::pairing::{Pairing, pictures_together};
 use crate::places::Places;
 use crate::rows::Rows;
-use crate::seen::Seen;
 use crate::side::Side;
 use std::alloc::{AllocError, Global};
 
@@ -149,23 +147,21 @@ fn gathered(
 }
 
 /// Writes what the normal form of what either side denotes has beyond its star, which is given, and gives its index. The left's
-/// bounds have marks, and its vectors differ.
+/// vectors differ.
 pub(crate) fn union(
     alloc: Global,
     left: Side<'_>,
     right: Side<'_>,
     star: &[u64],
-    seen: &Seen,
     out: &mut Rows,
 ) -> Result<Vec<IndexEntry>, AllocError>
     requires differ { AllDiffer (fragments left) }
-    requires seen { IsSeen seen.now.words.items left.rows.now }
     requires star_row { IsRow star.now }
     requires star { in_order (pairs star.now) ≡ true }
     ensures { IfOk result (λ index. IsWritten (pairs star.now) (fragments left.entry) left.entry.index.now
         (fragments right.entry) right.entry.index.now out.new index.items) }
 {
-    if let Some(index) = apart(alloc, left, right, star, seen, out)? {
+    if let Some(index) = apart(alloc, left, right, star, out)? {
         return Ok(index);
     }
     gathered(alloc, left, right, star, out)

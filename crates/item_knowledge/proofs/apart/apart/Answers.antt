@@ -15,7 +15,7 @@ are_told_apart-requires-clause-joined c = subst (λ ns. AreThere c.spread.new.ou
 
 pub returns-then-branch : goal.returns-then-branch
 returns-then-branch c =
-    let told : AreTold c.args.left.rows.now c.args.seen.now.words.items c.spread.new.out c.deref.result.now c.deref-2.result.now = c.in_ok-are_told_apart.ensures c.if-branch.true in
-    let told_of : AreTold c.args.left.rows.now c.args.seen.now.words.items c.spread.new.out c.spread.new.lists.index.items c.spread.new.lists.joined.items =
-    subst (λ ns. AreTold c.args.left.rows.now c.args.seen.now.words.items c.spread.new.out ns c.spread.new.lists.joined.items) c.deref.ensures.value (subst (λ ms. AreTold c.args.left.rows.now c.args.seen.now.words.items c.spread.new.out c.deref.result.now ms) c.deref-2.ensures.value told) in
-    told_written c.args.left.rows.now c.args.right.rows.now c.args.left.index.now c.args.right.index.now c.args.seen.now.words.items (pairs c.args.star.now) c.spread.new.out c.spread.new.lists.index.items c.spread.new.lists.joined.items c.requires.differ c.args.left.side c.args.right.side c.requires.seen c.in_ok-spread.ensures c.args.left.excess.first c.args.right.excess.first told_of
+    let told : AreTold c.spread.new.out c.deref.result.now c.deref-2.result.now = c.in_ok-are_told_apart.ensures c.if-branch.true in
+    let told_of : AreTold c.spread.new.out c.spread.new.lists.index.items c.spread.new.lists.joined.items =
+    subst (λ ns. AreTold c.spread.new.out ns c.spread.new.lists.joined.items) c.deref.ensures.value (subst (λ ms. AreTold c.spread.new.out c.deref.result.now ms) c.deref-2.ensures.value told) in
+    told_written c.args.left.rows.now c.args.right.rows.now c.args.left.index.now c.args.right.index.now (pairs c.args.star.now) c.spread.new.out c.spread.new.lists.index.items c.spread.new.lists.joined.items c.requires.differ c.args.left.side c.args.right.side c.in_ok-spread.ensures c.args.left.excess.first c.args.right.excess.first told_of

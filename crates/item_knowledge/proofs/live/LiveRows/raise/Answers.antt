@@ -1,24 +1,24 @@
 use Rattle.std.proofs.Common.{◌<◌, length, refl, subst, ap, arith}
 use Rattle.item_knowledge.specs.Entries.{bound}
-use Rattle.item_knowledge.specs.Rows.{pairs, IsAt}
+use Rattle.item_knowledge.specs.Rows.{pairs, IsJustBehind}
 use Rattle.item_knowledge.proofs.LiveLemmas.{raised_inside, raised_star}
 use Rattle.item_knowledge.proofs.live.LiveRows.raise.Goals as goal
 
 pub overflow_mul-place : goal.overflow_mul-place
-overflow_mul-place c = let inside = raised_inside c.self.inside.star.items c.self.inside.rows c.args.self.now c.args.author c.args.n c.bound_near-bound.result.1 c.self.invariant.0 c.self.view_is c.requires.waiting (subst (λ ws. 0 < bound (pairs ws) c.args.author → IsAt (pairs ws) c.bound_near-bound.result.1 c.args.author) c.deref.ensures.value c.bound_near-bound.ensures.at) in omega arith
+overflow_mul-place c = let inside = raised_inside c.self.inside.star.items c.self.inside.rows c.args.self.now c.args.author c.args.n c.bound_near-bound.result.1 c.self.invariant c.self.view_is c.requires.waiting (subst (λ ws. 0 < bound (pairs ws) c.args.author → IsJustBehind (pairs ws) c.bound_near-bound.result.1 c.args.author) c.deref.ensures.value c.bound_near-bound.ensures.behind) in omega (arith, inside.0, inside.1)
 
-pub overflow_add-place : goal.overflow_add-place
-overflow_add-place c = let inside = raised_inside c.self.inside.star.items c.self.inside.rows c.args.self.now c.args.author c.args.n c.bound_near-bound.result.1 c.self.invariant.0 c.self.view_is c.requires.waiting (subst (λ ws. 0 < bound (pairs ws) c.args.author → IsAt (pairs ws) c.bound_near-bound.result.1 c.args.author) c.deref.ensures.value c.bound_near-bound.ensures.at) in omega arith
+pub overflow_sub-place : goal.overflow_sub-place
+overflow_sub-place c = let inside = raised_inside c.self.inside.star.items c.self.inside.rows c.args.self.now c.args.author c.args.n c.bound_near-bound.result.1 c.self.invariant c.self.view_is c.requires.waiting (subst (λ ws. 0 < bound (pairs ws) c.args.author → IsJustBehind (pairs ws) c.bound_near-bound.result.1 c.args.author) c.deref.ensures.value c.bound_near-bound.ensures.behind) in omega (arith, inside.0, inside.1)
 
 pub index_mut-requires : goal.index_mut-requires
 index_mut-requires c =
-    let inside = raised_inside c.self.inside.star.items c.self.inside.rows c.args.self.now c.args.author c.args.n c.bound_near-bound.result.1 c.self.invariant.0 c.self.view_is c.requires.waiting (subst (λ ws. 0 < bound (pairs ws) c.args.author → IsAt (pairs ws) c.bound_near-bound.result.1 c.args.author) c.deref.ensures.value c.bound_near-bound.ensures.at) in
+    let inside = raised_inside c.self.inside.star.items c.self.inside.rows c.args.self.now c.args.author c.args.n c.bound_near-bound.result.1 c.self.invariant c.self.view_is c.requires.waiting (subst (λ ws. 0 < bound (pairs ws) c.args.author → IsJustBehind (pairs ws) c.bound_near-bound.result.1 c.args.author) c.deref.ensures.value c.bound_near-bound.ensures.behind) in
     let long = c.deref.ensures.len in
     let same = ap length c.deref.ensures.value in
-    omega arith
+    omega (arith, inside.0, inside.1)
 
 pub invariant_of-self : goal.invariant_of-self
-invariant_of-self c = ((raised_star c.self.inside.star.items c.self.inside.rows c.args.self.now c.args.author c.args.n c.bound_near-bound.result.1 c.self.invariant.0 c.self.view_is c.requires.waiting (subst (λ ws. 0 < bound (pairs ws) c.args.author → IsAt (pairs ws) c.bound_near-bound.result.1 c.args.author) c.deref.ensures.value c.bound_near-bound.ensures.at) _ refl).excess, c.self.invariant.1)
+invariant_of-self c = (raised_star c.self.inside.star.items c.self.inside.rows c.args.self.now c.args.author c.args.n c.bound_near-bound.result.1 c.self.invariant c.self.view_is c.requires.waiting (subst (λ ws. 0 < bound (pairs ws) c.args.author → IsJustBehind (pairs ws) c.bound_near-bound.result.1 c.args.author) c.deref.ensures.value c.bound_near-bound.ensures.behind) _ refl).excess
 
 pub returns : goal.returns
-returns c = (raised_star c.self.inside.star.items c.self.inside.rows c.args.self.now c.args.author c.args.n c.bound_near-bound.result.1 c.self.invariant.0 c.self.view_is c.requires.waiting (subst (λ ws. 0 < bound (pairs ws) c.args.author → IsAt (pairs ws) c.bound_near-bound.result.1 c.args.author) c.deref.ensures.value c.bound_near-bound.ensures.at) _ refl).shown
+returns c = (raised_star c.self.inside.star.items c.self.inside.rows c.args.self.now c.args.author c.args.n c.bound_near-bound.result.1 c.self.invariant c.self.view_is c.requires.waiting (subst (λ ws. 0 < bound (pairs ws) c.args.author → IsJustBehind (pairs ws) c.bound_near-bound.result.1 c.args.author) c.deref.ensures.value c.bound_near-bound.ensures.behind) _ refl).shown

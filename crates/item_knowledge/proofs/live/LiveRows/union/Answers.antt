@@ -6,40 +6,38 @@ use Rattle.item_knowledge.specs.Rows.{pairs, fragments_of}
 use Rattle.item_knowledge.specs.Tables.{in_order}
 use Rattle.item_knowledge.proofs.ExcessLemmas.{wholes_differ}
 use Rattle.item_knowledge.proofs.JoinLemmas.{joined_vector, vector_order}
-use Rattle.item_knowledge.proofs.LiveLemmas.{shown_are, shown_side, star_joined, union_made, union_seen}
+use Rattle.item_knowledge.proofs.LiveLemmas.{shown_are, shown_side, star_joined, union_made}
 use Rattle.item_knowledge.specs.Written.{IsWritten}
 use Rattle.item_knowledge.proofs.live.LiveRows.union.Goals as goal
 
 pub invariant_of-left : goal.invariant_of-left
 invariant_of-left c = record {
-  whole = c.self.invariant.0.are_rows;
-  excess = subst (λ ws. IsExcess ws c.self.inside.rows) (sym c.deref-3.ensures.value) c.self.invariant.0;
-  side = shown_side c.self.inside.star.items c.self.inside.rows c.args.self.now c.self.invariant.0 c.self.view_is c.args.index.now c.requires.left;
+  whole = c.self.invariant.are_rows;
+  excess = subst (λ ws. IsExcess ws c.self.inside.rows) (sym c.deref-3.ensures.value) c.self.invariant;
+  side = shown_side c.self.inside.star.items c.self.inside.rows c.args.self.now c.self.invariant c.self.view_is c.args.index.now c.requires.left;
 }
 
 pub invariant_of-right : goal.invariant_of-right
 invariant_of-right c = record {
-  whole = c.others.invariant.0.are_rows;
-  excess = subst (λ ws. IsExcess ws c.others.inside.rows) (sym c.deref-4.ensures.value) c.others.invariant.0;
-  side = shown_side c.others.inside.star.items c.others.inside.rows c.args.others.now c.others.invariant.0 c.others.view_is c.args.others_index.now c.requires.right;
+  whole = c.others.invariant.are_rows;
+  excess = subst (λ ws. IsExcess ws c.others.inside.rows) (sym c.deref-4.ensures.value) c.others.invariant;
+  side = shown_side c.others.inside.star.items c.others.inside.rows c.args.others.now c.others.invariant c.others.view_is c.args.others_index.now c.requires.right;
 }
 
 pub union-requires-clause-differ : goal.union-requires-clause-differ
-union-requires-clause-differ c = wholes_differ (pairs c.self.inside.star.items) (fragments_of c.self.inside.rows) (subst (λ fs. is_normal fs ≡ true) (shown_are c.self.inside.star.items c.self.inside.rows c.args.self.now c.self.invariant.0 c.self.view_is) c.requires.normal)
+union-requires-clause-differ c = wholes_differ (pairs c.self.inside.star.items) (fragments_of c.self.inside.rows) (subst (λ fs. is_normal fs ≡ true) (shown_are c.self.inside.star.items c.self.inside.rows c.args.self.now c.self.invariant c.self.view_is) c.requires.normal)
 
 pub union-requires-clause-star : goal.union-requires-clause-star
 union-requires-clause-star c =
-    let both = star_joined c.self.inside.star.items c.others.inside.star.items c.deref.result.now c.deref-2.result.now c.join.new.out.items c.self.inside.rows c.others.inside.rows c.self.invariant.0 c.others.invariant.0 c.deref.ensures.value c.deref-2.ensures.value c.in_ok-join.ensures.entries in
+    let both = star_joined c.self.inside.star.items c.others.inside.star.items c.deref.result.now c.deref-2.result.now c.join.new.out.items c.self.inside.rows c.others.inside.rows c.self.invariant c.others.invariant c.deref.ensures.value c.deref-2.ensures.value c.in_ok-join.ensures.entries in
     subst (λ ws. in_order (pairs ws) ≡ true) (sym c.deref-5.ensures.value)
-    (vector_order (pairs c.join.new.out.items) (ap is_vector both ∙ joined_vector (pairs c.self.inside.star.items) (pairs c.others.inside.star.items) c.self.invariant.0.vector c.others.invariant.0.vector))
+    (vector_order (pairs c.join.new.out.items) (ap is_vector both ∙ joined_vector (pairs c.self.inside.star.items) (pairs c.others.inside.star.items) c.self.invariant.vector c.others.invariant.vector))
 
 pub invariant_of-out : goal.invariant_of-out
-invariant_of-out c =
-    let written : IsWritten (pairs c.join.new.out.items) (fragments_of c.self.inside.rows) c.args.index.now (fragments_of c.others.inside.rows) c.args.others_index.now c.union.new.out c.in-Ok.written.items = subst (λ ws. IsWritten (pairs ws) (fragments_of c.self.inside.rows) c.args.index.now (fragments_of c.others.inside.rows) c.args.others_index.now c.union.new.out c.in-Ok.written.items) c.deref-5.ensures.value c.in-Ok.ensures in
-    ((union_made c.self.inside.star.items c.others.inside.star.items c.join.new.out.items c.self.inside.rows c.others.inside.rows c.args.self.now c.args.others.now c.union.new.out c.args.index.now c.args.others_index.now c.in-Ok.written.items c.self.invariant.0 c.self.view_is c.others.invariant.0 c.others.view_is c.in_ok-join.ensures.row (star_joined c.self.inside.star.items c.others.inside.star.items c.deref.result.now c.deref-2.result.now c.join.new.out.items c.self.inside.rows c.others.inside.rows c.self.invariant.0 c.others.invariant.0 c.deref.ensures.value c.deref-2.ensures.value c.in_ok-join.ensures.entries) c.requires.left c.requires.right (subst (λ ws. IsWritten (pairs ws) (fragments_of c.self.inside.rows) c.args.index.now (fragments_of c.others.inside.rows) c.args.others_index.now c.union.new.out c.in-Ok.written.items) c.deref-5.ensures.value c.in-Ok.ensures)).excess, union_seen (pairs c.join.new.out.items) c.self.inside.seen.words.items c.others.inside.seen.words.items c.in_ok-seen.seen.words.items c.self.inside.rows c.others.inside.rows c.union.new.out c.args.index.now c.args.others_index.now c.in-Ok.written.items (shown_side c.self.inside.star.items c.self.inside.rows c.args.self.now c.self.invariant.0 c.self.view_is c.args.index.now c.requires.left) (shown_side c.others.inside.star.items c.others.inside.rows c.args.others.now c.others.invariant.0 c.others.view_is c.args.others_index.now c.requires.right) c.self.invariant.0.first c.others.invariant.0.first c.self.invariant.1 c.others.invariant.1 c.in_ok-seen.ensures.one c.in_ok-seen.ensures.other written)
+invariant_of-out c = (union_made c.self.inside.star.items c.others.inside.star.items c.join.new.out.items c.self.inside.rows c.others.inside.rows c.args.self.now c.args.others.now c.union.new.out c.args.index.now c.args.others_index.now c.in-Ok.written.items c.self.invariant c.self.view_is c.others.invariant c.others.view_is c.in_ok-join.ensures.row (star_joined c.self.inside.star.items c.others.inside.star.items c.deref.result.now c.deref-2.result.now c.join.new.out.items c.self.inside.rows c.others.inside.rows c.self.invariant c.others.invariant c.deref.ensures.value c.deref-2.ensures.value c.in_ok-join.ensures.entries) c.requires.left c.requires.right (subst (λ ws. IsWritten (pairs ws) (fragments_of c.self.inside.rows) c.args.index.now (fragments_of c.others.inside.rows) c.args.others_index.now c.union.new.out c.in-Ok.written.items) c.deref-5.ensures.value c.in-Ok.ensures)).excess
 
 pub returns-in-Ok-clause-rows : goal.returns-in-Ok-clause-rows
-returns-in-Ok-clause-rows c = (union_made c.self.inside.star.items c.others.inside.star.items c.join.new.out.items c.self.inside.rows c.others.inside.rows c.args.self.now c.args.others.now c.union.new.out c.args.index.now c.args.others_index.now c.in-Ok.written.items c.self.invariant.0 c.self.view_is c.others.invariant.0 c.others.view_is c.in_ok-join.ensures.row (star_joined c.self.inside.star.items c.others.inside.star.items c.deref.result.now c.deref-2.result.now c.join.new.out.items c.self.inside.rows c.others.inside.rows c.self.invariant.0 c.others.invariant.0 c.deref.ensures.value c.deref-2.ensures.value c.in_ok-join.ensures.entries) c.requires.left c.requires.right (subst (λ ws. IsWritten (pairs ws) (fragments_of c.self.inside.rows) c.args.index.now (fragments_of c.others.inside.rows) c.args.others_index.now c.union.new.out c.in-Ok.written.items) c.deref-5.ensures.value c.in-Ok.ensures)).rows
+returns-in-Ok-clause-rows c = (union_made c.self.inside.star.items c.others.inside.star.items c.join.new.out.items c.self.inside.rows c.others.inside.rows c.args.self.now c.args.others.now c.union.new.out c.args.index.now c.args.others_index.now c.in-Ok.written.items c.self.invariant c.self.view_is c.others.invariant c.others.view_is c.in_ok-join.ensures.row (star_joined c.self.inside.star.items c.others.inside.star.items c.deref.result.now c.deref-2.result.now c.join.new.out.items c.self.inside.rows c.others.inside.rows c.self.invariant c.others.invariant c.deref.ensures.value c.deref-2.ensures.value c.in_ok-join.ensures.entries) c.requires.left c.requires.right (subst (λ ws. IsWritten (pairs ws) (fragments_of c.self.inside.rows) c.args.index.now (fragments_of c.others.inside.rows) c.args.others_index.now c.union.new.out c.in-Ok.written.items) c.deref-5.ensures.value c.in-Ok.ensures)).rows
 
 pub returns-in-Ok-clause-union : goal.returns-in-Ok-clause-union
-returns-in-Ok-clause-union c = (union_made c.self.inside.star.items c.others.inside.star.items c.join.new.out.items c.self.inside.rows c.others.inside.rows c.args.self.now c.args.others.now c.union.new.out c.args.index.now c.args.others_index.now c.in-Ok.written.items c.self.invariant.0 c.self.view_is c.others.invariant.0 c.others.view_is c.in_ok-join.ensures.row (star_joined c.self.inside.star.items c.others.inside.star.items c.deref.result.now c.deref-2.result.now c.join.new.out.items c.self.inside.rows c.others.inside.rows c.self.invariant.0 c.others.invariant.0 c.deref.ensures.value c.deref-2.ensures.value c.in_ok-join.ensures.entries) c.requires.left c.requires.right (subst (λ ws. IsWritten (pairs ws) (fragments_of c.self.inside.rows) c.args.index.now (fragments_of c.others.inside.rows) c.args.others_index.now c.union.new.out c.in-Ok.written.items) c.deref-5.ensures.value c.in-Ok.ensures)).union
+returns-in-Ok-clause-union c = (union_made c.self.inside.star.items c.others.inside.star.items c.join.new.out.items c.self.inside.rows c.others.inside.rows c.args.self.now c.args.others.now c.union.new.out c.args.index.now c.args.others_index.now c.in-Ok.written.items c.self.invariant c.self.view_is c.others.invariant c.others.view_is c.in_ok-join.ensures.row (star_joined c.self.inside.star.items c.others.inside.star.items c.deref.result.now c.deref-2.result.now c.join.new.out.items c.self.inside.rows c.others.inside.rows c.self.invariant c.others.invariant c.deref.ensures.value c.deref-2.ensures.value c.in_ok-join.ensures.entries) c.requires.left c.requires.right (subst (λ ws. IsWritten (pairs ws) (fragments_of c.self.inside.rows) c.args.index.now (fragments_of c.others.inside.rows) c.args.others_index.now c.union.new.out c.in-Ok.written.items) c.deref-5.ensures.value c.in-Ok.ensures)).union

@@ -1,10 +1,11 @@
--- The worked unions: what holds of every picture and version is shown by the cases of a few tests.
-use Rattle.std.proofs.Common.{refl, sym, arith}
+-- The worked unions and marks: what holds of every picture and version is shown by the cases of a few tests.
+use Rattle.std.proofs.Common.{◌≡◌, length, refl, sym, ap, arith}
 use Rattle.std.proofs.lemmas.Bool.{false≢true}
 use Rattle.std.proofs.lemmas.Bool.Decides.{nat_tests}
 use Rattle.photo_version.specs.Author.{author}
 use Rattle.photo_version.specs.Version.{version}
-use Rattle.item_knowledge.specs.Examples.{TheStaged}
+use Rattle.item_knowledge.specs.Examples.{TheStaged, TheUnions, TheMarks}
+use Rattle.item_knowledge.specs.Places.{mixed, share}
 
 pub the_staged : TheStaged
 the_staged = record {
@@ -30,3 +31,20 @@ the_staged = record {
   of_all = λ u. false≢true (sym (u.pairs 9 (version (author 1) 1) (omega arith)));
   too_late = λ u. false≢true (sym (u.pairs 7 (version (author 0) 2) (omega arith)));
 }
+
+pub the_unions : TheUnions
+the_unions = record {
+  beyond = record {
+    first = refl;
+    normal = refl;
+    index = record { order = refl; positive = refl; range = refl; vectors = λ p. grind (arith, nat_tests) };
+    vectors = λ p. grind (arith, nat_tests);
+    named = λ k l. (8, let first : k ≡ 0 = omega arith in grind arith);
+  };
+  repeated = λ u. absurd (omega (arith, ap length (u.vectors 8)));
+  left_out = λ u. absurd (omega (arith, ap length (u.vectors 8)));
+}
+
+pub the_marks : TheMarks
+unfolding mixed share
+the_marks = record { place = refl; by_the_last = refl; no_entry = refl; marked = refl; unmarked = refl; shared = refl }

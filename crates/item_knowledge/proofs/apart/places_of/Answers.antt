@@ -1,9 +1,8 @@
-use Rattle.std.proofs.Common.{rules, ◌≡◌, ℕ, ◌<◌, ◌≤◌, ◌++◌, ◌∷◌, [], None, length, get_or, sym, subst, ap, ◌∙◌, arith}
-use Rattle.std.proofs.lemmas.List.{map_more}
+use Rattle.std.proofs.Common.{rules, ◌≡◌, ℕ, ◌<◌, ◌++◌, ◌∷◌, [], None, List, length, get_or, map, sym, subst, ap, ◌∙◌, arith}
+use Rattle.std.proofs.lemmas.List.{map_more, take_all}
 use Rattle.item_knowledge.specs.Places.{bucket, is_new, vectors_at, CanPlace}
-use Rattle.item_knowledge.proofs.ApartLemmas.{all_apart}
 use Rattle.item_knowledge.proofs.RowLemmas.{rows_read}
-use Rattle.item_knowledge.proofs.apart.are_apart.Goals as goal
+use Rattle.item_knowledge.proofs.apart.places_of.Goals as goal
 
 pub loop-i-preserved : goal.loop-i-preserved
 loop-i-preserved c =
@@ -22,7 +21,5 @@ loop-i-preserved c =
       noted = c.in_ok-push.ensures.numbers ∙ (ap (λ ns. ns ++ (get_or c.args.listed.now c.loop-i.i (0, 0)).1 ∷ []) c.loop-i.invariant.noted ∙ sym (map_more (λ (x : ℕ × ℕ). x.1) c.args.listed.now c.loop-i.i (0, 0) less));
     }
 
-pub returns : goal.returns
-returns c = λ _.
-    let over : length c.args.listed.now ≤ c.loop-i.i = omega arith in
-    all_apart c.loop-i.places c.args.rows.now c.args.listed.now c.loop-i.i c.loop-i.invariant.found c.loop-i.invariant.noted over
+pub returns-clause-numbers : goal.returns-clause-numbers
+returns-clause-numbers c = c.loop-i.invariant.noted ∙ ap (λ (xs : List (ℕ × ℕ)). map (λ (x : ℕ × ℕ). x.1) xs) (take_all c.loop-i.i c.args.listed.now (omega arith))
