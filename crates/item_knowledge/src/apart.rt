@@ -2,7 +2,7 @@
 // neighbours of the left that stay as they are come in one run. Whether the vectors differ is asked of what stands there then.
 ghost use Rattle.std.specs.Prelude.{◌≡◌, ◌+◌, ◌*◌, ◌<◌, ◌≤◌, [], ◌∷◌, ◌++◌, true, false, length, get_or, map, IfOk, IfSome, OnOk};
 ghost use Rattle.fragment_arena.specs.Arena.{run};
-ghost use Rattle.item_knowledge.specs.Apart.{Stays, AreThere, AreApart, AreOthers, AreTold, IsSpread, spread_of};
+ghost use Rattle.item_knowledge.specs.Apart.{Stays, AreThere, AreOthers, AreTold, IsSpread, spread_of};
 ghost use Rattle.item_knowledge.specs.Excess.{AllDiffer, exceeding, exceeds_all, is_covered};
 ghost use Rattle.item_knowledge.specs.Fragments.{entries_at};
 ghost use Rattle.item_knowledge.specs.Marks.{AreMarked};
@@ -213,7 +213,11 @@ fn spread(
 }
 
 // The fragments that are listed, found by their vectors; none where two have the same.
-fn places_of(alloc: Global, rows: &Rows, listed: &[IndexEntry]) -> Result<Option<Places>, AllocError>
+fn places_of(
+    alloc: Global,
+    rows: &Rows,
+    listed: &[IndexEntry],
+) -> Result<Option<Places>, AllocError>
     requires rows { AreRows rows.now }
     requires there { AreThere rows.now listed.now }
     ensures found { IfOk result (λ found. IfSome found (λ places. IsFound places rows.now)) }

@@ -69,10 +69,7 @@ impl LiveRows {
         let star = star.to_vec(alloc)?;
         let mut rows = Rows::new(alloc);
         begin(0, 0, &mut rows)?;
-        Ok(LiveRows {
-            star,
-            rows,
-        })
+        Ok(LiveRows { star, rows })
     }
 
     /// The rows of fragments of which the first is a star without entries.

@@ -1,4 +1,4 @@
-// Marks of vectors, by a few of their words.
+// Marks of vectors, by the last bound of each.
 ghost use Rattle.std.specs.Prelude.{◌≡◌, ◌<◌, true, length, IfOk};
 ghost use Rattle.item_knowledge.specs.Marks as spec;
 
