@@ -14,7 +14,7 @@ use Rattle.item_knowledge.specs.Places.{is_new, vectors_at, IsFound}
 use Rattle.item_knowledge.specs.Marks.{is_marked, AreMarked}
 use Rattle.item_knowledge.specs.Rows.{flat, fragments_of, rows_of, AreRows}
 use Rattle.item_knowledge.specs.Written.{IsBeyond, IsWritten, union_table}
-use Rattle.item_knowledge.specs.Apart.{singles, numbered, spread_of, FromLeft, IsListed, AreThere, AreApart, IsOther, OthersTo, AreTold, IsSpread}
+use Rattle.item_knowledge.specs.Apart.{singles, numbered, spread_of, FromLeft, IsListed, AreThere, AreApart, IsOther, OthersTo, AreOthers, AreTold, IsSpread}
 use Rattle.item_knowledge.proofs.GatherLemmas.{of_one, group_begun, one_gathered, none_gathered, table_others}
 use Rattle.item_knowledge.proofs.MergeLemmas.{next_too}
 use Rattle.item_knowledge.proofs.PlaceLemmas.{vectors_length, vector_there}
@@ -118,7 +118,7 @@ module _ {left : List (List ℕ)} {gs : List Fragment} {rows : List (List ℕ)} 
       ∙ ap (λ rs. get_or rs (2 * suc k + 1) []) h.rows_are
       ∙ entries_row (star_first [] gs) (suc k) (omega (arith, l))
 
-  told_at : OthersTo rows index joined (length index) → (k : ℕ) → k < length gs → IsListed joined (suc k) ⊎ IsOther rows joined (suc k)
+  told_at : AreOthers rows index joined → (k : ℕ) → k < length gs → IsListed joined (suc k) ⊎ IsOther rows joined (suc k)
   told_at others k l =
       let long = ap (length {A = ℕ × ℕ}) h.index_is ∙ numbered_length 1 gs in
       let number : (get_or index k (0, 0)).1 ≡ suc k = ap (λ (ns : List (ℕ × ℕ)). (get_or ns k (0, 0)).1) h.index_is ∙ ap (λ (x : ℕ × ℕ). x.1) (numbered_at 1 gs k l) ∙ (omega arith) in
