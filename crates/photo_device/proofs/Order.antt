@@ -1,7 +1,7 @@
 -- Held versions in order: how they stand to one another, what is put among them, and what a search by a test of the code
 -- finds there.
-use Rattle.std.proofs.Common.{◌≡◌, ℕ, ◌<◌, ◌≤◌, Bool, true, false, not, eqb, leb, ltb, ◌&&◌, ◌||◌, List, [], length, get_or, Bor, refl, sym, ap, ◌∙◌, inl, inr, arith}
-use Rattle.std.specs.Prelude.{filter, Option, None, is_some}
+use Rattle.std.proofs.Common.{◌≡◌, ℕ, ◌<◌, ◌≤◌, Bool, true, false, not, eqb, leb, ltb, ◌&&◌, ◌||◌, List, [], ◌∷◌, ◌++◌, length, length-append, get_or, Bor, refl, sym, ap, ◌∙◌, inl, inr, arith}
+use Rattle.std.specs.Prelude.{filter, Option, None, is_some, Result, Ok, Err, OnErr}
 use Rattle.std.specs.List.{find, list_any}
 use Rattle.std.specs.Cmp.{IsStrictWeakOrder}
 use Rattle.std.specs.Fn.{Mut, Called, ComputesKey}
@@ -20,6 +20,16 @@ use Rattle.photo_device.specs.Entry.{is_of_other}
 use Rattle.photo_device.specs.Held.{entry_of, held_before, stands_before, is_of, are_in_order, replaced, find_version}
 use Rattle.photo_device.proofs.Putting as putting
 use Rattle.photo_device.proofs.Putting.{IsSearch, TurnsAt}
+
+-- where a test keeps some of a list, one passes it
+one_kept : (f : Held → Bool) (xs ys zs : List Held) (y : Held) → ys ++ y ∷ zs ≡ filter f xs → list_any f xs ≡ true
+one_kept f [] ys zs y is = absurd (let none = ap (length {A = Held}) is in let some = length-append ys (y ∷ zs) in omega (arith, none, some))
+one_kept f (x ∷ xs) ys zs y is = let rest = one_kept f xs ys zs y in grind (arith)
+
+-- so does the one that is found next of those that are left
+pub one_passes : {T E : Type 0} (r : Result T E) (f : Held → Bool) (xs found left rest : List Held) (y : Held) → found ++ filter f left ≡ filter f xs → left ≡ y ∷ rest → f y ≡ true → OnErr r (list_any f xs ≡ true)
+one_passes (Ok x) f xs found left rest y so_far next passes = tt
+one_passes (Err e) f xs found left rest y so_far next passes = one_kept f xs found (filter f rest) y (sym (ap (λ l. found ++ l) (ap (filter f) next ∙ rw passes refl)) ∙ so_far)
 
 -- by a number, and by a second test where the numbers are the same
 by_number : {X : Type 0} (key : X → ℕ) (rest : X → X → Bool) → IsStrictWeakOrder rest → IsStrictWeakOrder (λ x y. ltb (key x) (key y) || (eqb (key x) (key y) && rest x y))

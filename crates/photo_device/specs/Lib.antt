@@ -1,7 +1,6 @@
 pub mod Ordered
 pub mod Entry
 pub mod Held
-pub mod Marks
 pub mod Noted
 pub mod Device
 pub mod Telling

@@ -67,7 +67,7 @@ impl Device {
     ghost use Rattle.std.specs.Prelude.{◌≡◌, ◌≢◌, ◌+◌, ◌<◌, ◌≤◌, ◌||◌, ◌++◌, true, false, not, filter, is_some, length, None};
     ghost use Rattle.std.specs.Prelude.{Err, IfOk, IfErr, IfSome, OnOk, OnErr};
     ghost use Rattle.std.specs.Prelude.{vec_len, vec_capacity};
-    ghost use Rattle.std.specs.List.{AllByRecursion};
+    ghost use Rattle.std.specs.List.{AllByRecursion, list_any};
     ghost use Rattle.std.specs.Option.{option_copied, option_map};
     ghost use Rattle.photo_device.specs.Entry.{find_entry};
     ghost use Rattle.photo_device.specs.Held.{are_in_order, find_version, find_version_of, has_picture, count_of, times_in};
@@ -238,6 +238,7 @@ impl Device {
         ensures items { IfOk result (λ found. found.items
             ≡ filter (λ h. not (knows self.old.knowledge h.picture h.version)) set.now) }
         ensures ordered { IfOk result (λ found. are_in_order found.items ≡ true) }
+        ensures wanted { OnErr result (list_any (λ h. not (knows self.old.knowledge h.picture h.version)) set.now ≡ true) }
         ensures kept { self.new ≡ self.old }
     {
         self.knowledge.unknown_of(alloc, set)
@@ -250,6 +251,7 @@ impl Device {
         ensures items { IfOk result (λ found. found.items
             ≡ filter (λ h. not (knows self.now.knowledge h.picture h.version)) set.now) }
         ensures ordered { IfOk result (λ found. are_in_order found.items ≡ true) }
+        ensures wanted { OnErr result (list_any (λ h. not (knows self.now.knowledge h.picture h.version)) set.now ≡ true) }
     {
         self.knowledge.unknown_by(alloc, set)
     }

@@ -17,7 +17,6 @@ mod held;
 mod held_set;
 mod item_list;
 pub mod laws;
-mod marks;
 mod noted_knowledge;
 mod noted_versions;
 mod place;

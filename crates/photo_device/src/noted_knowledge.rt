@@ -30,6 +30,7 @@ impl Model for NotedKnowledge {
 
 impl NotedKnowledge {
     ghost use Rattle.std.specs.Prelude.{◌≡◌, ℕ, ◌<◌, true, not, filter, None, IfOk, IfSome, OnOk, OnErr};
+    ghost use Rattle.std.specs.List.{list_any};
     ghost use Rattle.std.specs.Option.{is_some};
     ghost use Rattle.photo_version.specs.Version as versions;
     ghost use Rattle.item_knowledge.specs.Fragments.{knows};
@@ -115,6 +116,7 @@ impl NotedKnowledge {
         ensures items { IfOk result (λ found. found.items
             ≡ filter (λ h. not (knows self.old.known h.picture h.version)) set.now) }
         ensures ordered { IfOk result (λ found. are_in_order found.items ≡ true) }
+        ensures wanted { OnErr result (list_any (λ h. not (knows self.old.known h.picture h.version)) set.now ≡ true) }
         ensures kept { self.new ≡ self.old }
     {
         let mut found = Vec::new(alloc);
@@ -126,12 +128,12 @@ impl NotedKnowledge {
             }
             let (known, next) = self.knowledge.knows_near(hint, picture, version);
             hint = next;
-            if known {
-                self.noted.note(picture, version);
+            self.noted.make_place(version);
+            if !known {
+                found.push(held.try_clone()?)?;
                 continue;
             }
-            self.noted.make_place(version);
-            found.push(held.try_clone()?)?;
+            self.noted.note(picture, version);
         }
         Ok(found)
     }
@@ -141,6 +143,7 @@ impl NotedKnowledge {
         ensures items { IfOk result (λ found. found.items
             ≡ filter (λ h. not (knows self.now.known h.picture h.version)) set.now) }
         ensures ordered { IfOk result (λ found. are_in_order found.items ≡ true) }
+        ensures wanted { OnErr result (list_any (λ h. not (knows self.now.known h.picture h.version)) set.now ≡ true) }
     {
         let mut found = Vec::new(alloc);
         let mut hint = 0;

@@ -13,7 +13,7 @@ const NOTHING: u32 = 0;
 // Versions of this number and above are never noted, so that a row has 5 MiB at most.
 const MOST: u32 = 1_000_000;
 
-// Of so many devices versions are noted, and of so many epochs of each, so that the rows take 200 KiB at most.
+// Of so many devices versions are noted, and of so many epochs of each, so that the list of rows takes 200 KiB at most.
 const DEVICES: usize = 256;
 
 const EPOCHS: usize = 32;
@@ -96,7 +96,7 @@ impl NotedVersions {
         let Some(place) = row_of(version.author()) else {
             return;
         };
-        for _ in self.rows.len()..place + 1 {
+        while self.rows.len() <= place {
             let Ok(()) = self.rows.push(Vec::new(self.alloc)) else {
                 return;
             };

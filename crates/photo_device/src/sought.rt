@@ -1,21 +1,16 @@
 // Versions that are looked for along a set.
 ghost use Rattle.std.specs.Prelude.{◌≡◌, true};
 ghost use Rattle.photo_device.specs.Held.{is_listed};
-ghost use Rattle.photo_device.specs.Marks.{AreMarked};
 ghost use Rattle.std.specs.List.Sorted.{IsSortedBy};
 ghost use Rattle.photo_version.specs.Version.{version_before};
 
-use crate::marks::{MARKS, mark_place, marks_of};
 use photo_version::Version;
 
-/// Versions that are looked for: by a binary search where they stand in order, else one after another. Most others are
-/// told apart from them by their marks at once.
+/// Versions that are looked for: by a binary search where they stand in order, else one after another.
 #[derive(Drop)]
 pub struct Sought<'a> {
     versions: &'a [Version],
     rising: bool,
-    marks: [bool; MARKS],
-    ghost marked: { AreMarked versions.now marks },
     ghost in_order: { rising ≡ true → IsSortedBy version_before versions.now },
 }
 
@@ -27,7 +22,6 @@ impl<'a> Sought<'a> {
         Sought {
             versions,
             rising: is_rising(versions),
-            marks: marks_of(versions),
         }
     }
 
@@ -35,9 +29,6 @@ impl<'a> Sought<'a> {
     pub fn has(&self, version: Version) -> bool
         ensures { result ≡ is_listed self.now.versions.now version }
     {
-        if !self.marks[mark_place(version)] {
-            return false;
-        }
         if self.rising {
             is_found(self.versions, version)
         } else {
