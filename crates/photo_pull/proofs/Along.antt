@@ -1,16 +1,12 @@
--- Tests of held versions in order that only versions of one picture pass, from a place on, and a version that stands in a block of a set.
-use Rattle.std.proofs.Common.{◌≡◌, ℕ, zero, suc, ◌<◌, ◌≤◌, Bool, true, false, ◌||◌, List, [], ◌∷◌, ◌++◌, append-nil, length, get_or, drop, refl, sym, ap, ◌∙◌, arith, eqb, ◌&&◌, Vec}
+-- Tests of held versions in order that only versions of one picture pass, from a place on, and what a test finds of a list.
+use Rattle.std.proofs.Common.{◌≡◌, ℕ, zero, suc, ◌<◌, ◌≤◌, Bool, true, false, ◌||◌, List, [], ◌∷◌, ◌++◌, append-nil, length, get_or, drop, refl, sym, ap, ◌∙◌, arith}
 use Rattle.std.specs.Prelude.{filter}
 use Rattle.std.specs.List.{list_any}
-use Rattle.std.specs.declared.alloc.Global.{Global}
-use Rattle.std.proofs.lemmas.Bool.{ne_eqb, or_left, or_right}
-use Rattle.std.proofs.lemmas.List.Folds.{list_any-append, list_any_at}
-use Rattle.photo_version.specs.Version.{same_version}
-use Rattle.block_list.specs.Blocks.{joined}
+use Rattle.std.proofs.lemmas.Bool.{ne_eqb}
 use Rattle.photo_device.specs.declared.held.Held.{Held}
 use Rattle.photo_device.specs.Held.{are_in_order}
 use Rattle.photo_device.proofs.Order.{rises, in_order-filter}
-use Rattle.photo_pull.specs.OnHeld.{is_above, has_above, has_below, has_same}
+use Rattle.photo_pull.specs.OnHeld.{is_above, has_above, has_below}
 
 -- no version of another picture passes
 abbrev pub AreOf : ℕ → (Held → Bool) → Type 0
@@ -54,20 +50,6 @@ above_none xs k w h order within is greater = greater_from h.picture _ (above_of
 
 pub below_none : (xs : List Held) (k : ℕ) (w h : Held) → are_in_order xs ≡ true → k < length xs → w ≡ get_or xs k w → h.picture < w.picture → has_below (drop k xs) h ≡ false
 below_none xs k w h order within is greater = greater_from h.picture _ (below_of h) xs k w order within is greater
-
-any_joined : (test : Held → Bool) (blocks : List (Vec Held Global)) (b : ℕ) (block : Vec Held Global) → b < length blocks → block ≡ get_or blocks b block → list_any test block.items ≡ true → list_any test (joined blocks) ≡ true
-any_joined test [] b block l is h = absurd (omega arith)
-any_joined test (x ∷ more) zero block l is h =
-    list_any-append test x.items (joined more) ∙ or_left _ _ (ap (λ (v : Vec Held Global). list_any test v.items) (sym is) ∙ h)
-any_joined test (x ∷ more) (suc b) block l is h =
-    list_any-append test x.items (joined more) ∙ or_right _ _ (any_joined test more b block (omega arith) is h)
-
-pub kept_in : (set : List Held) (blocks : List (Vec Held Global)) (b place : ℕ) (block : Vec Held Global) (items : List Held) (other h : Held) → joined blocks ≡ set → b < length blocks → block ≡ get_or blocks b block → items ≡ block.items
-    → place < length items → other ≡ get_or items place other → (eqb other.picture h.picture && same_version other.version h.version) ≡ true → has_same set h ≡ true
-kept_in set blocks b place block items other h of_set in_blocks is_block is_items inside at same =
-    let test : Held → Bool = λ g. eqb g.picture h.picture && same_version g.version h.version in
-    ap (list_any test) (sym of_set)
-    ∙ any_joined test blocks b block in_blocks is_block (ap (list_any test) (sym is_items) ∙ list_any_at test items place other inside (ap test (sym at) ∙ same))
 
 pub filtered_in_order : (q : Held → Bool) (xs ys : List Held) → ys ++ [] ≡ filter q xs → are_in_order xs ≡ true → are_in_order ys ≡ true
 filtered_in_order q xs ys is order = ap are_in_order (sym (append-nil ys) ∙ is) ∙ in_order-filter q xs order

@@ -1,5 +1,6 @@
 pub mod Members
 mod Along
+mod Passing
 mod Told
 mod Shown
 mod Asked

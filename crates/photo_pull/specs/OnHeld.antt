@@ -1,5 +1,6 @@
 -- Machinery of the proofs: a pull on the held versions of two devices, as the code finds them. What a pull is says `Pull`.
-use Rattle.std.specs.Prelude.{◌≡◌, ℕ, ◌≤◌, ◌<◌, Bool, true, false, not, ◌&&◌, ◌||◌, ◌==◌, List, ◌++◌, map, filter, drop}
+use Rattle.std.specs.Prelude.{◌≡◌, ℕ, ◌≤◌, ◌<◌, Bool, true, false, not, ◌&&◌, ◌||◌, ◌==◌, List, [], ◌∷◌, ◌++◌, map, filter, drop, Option, Some, None}
+use Rattle.std.specs.Borrow.{Bor}
 use Rattle.std.specs.List.{list_any}
 use Rattle.photo_version.specs.Version.{Version, Versions, same_version}
 use Rattle.photo_version.specs.Vector.{denotes}
@@ -8,7 +9,7 @@ use Rattle.photo_filter_text.specs.Tree.{Tree}
 use Rattle.photo_filter_rules.specs.Matching.{matches}
 use Rattle.photo_filter_rules.specs.Covers.{covers}
 use Rattle.photo_device.specs.declared.held.Held.{Held}
-use Rattle.photo_device.specs.Held.{are_in_order}
+use Rattle.photo_device.specs.Held.{are_in_order, held_before}
 use Rattle.photo_device.specs.Device.{Kept}
 use Rattle.photo_device.specs.Telling.{tells}
 use Rattle.photo_pull.specs.declared.gap.Gap.{Gap}
@@ -52,6 +53,16 @@ pub record IsOrdered (part : Part) : Type 0 where
 -- that version of that picture is among them
 abbrev pub has_same : List Held → Held → Bool
 has_same hs h = list_any (λ g. (g.picture == h.picture) && same_version g.version h.version) hs
+
+-- what is left of a list, the next of it at hand
+abbrev pub coming : Option (Bor Held) → List Held → List Held
+coming None others = []
+coming (Some next) others = next.now ∷ others
+
+-- a list in order is left, and of what stands no earlier than h it has what the old one has
+pub record HasPassed (h : Held) (old new : List Held) : Type 0 where
+  pub order : are_in_order new ≡ true
+  pub same : (k : Held) → held_before k h ≡ false → has_same new k ≡ has_same old k
 
 -- something new supersedes h, or, where what a device keeps is followed, that knows h and doesn't keep it
 abbrev pub is_gone : Part → Bool → Kept → Held → Bool

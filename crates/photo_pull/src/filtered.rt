@@ -1,27 +1,41 @@
 //! Held versions that pass a test, in their order. A copy shares what the version carries.
-ghost use Rattle.std.specs.Prelude.{◌≡◌, ◌≤◌, ◌++◌, ◌&&◌, ◌||◌, not, true, length, filter, IfOk, OnOk};
+ghost use Rattle.std.specs.Prelude.{◌≡◌, ◌≤◌, ◌++◌, ◌&&◌, ◌||◌, not, true, length, filter, IfOk, OnOk, OnErr};
+ghost use Rattle.std.specs.List.{list_any};
 ghost use Rattle.item_knowledge.specs.Fragments.{knows};
 ghost use Rattle.photo_device.specs.Held.{are_in_order};
-ghost use Rattle.photo_pull.specs.OnHeld.{is_gone, is_selected, has_same, part_below, versions, IsOrdered, IsGap};
+ghost use Rattle.photo_pull.specs.OnHeld.{is_gone, is_selected, has_same, part_below, versions, IsOrdered, IsGap, HasPassed};
 
 use crate::gap::Gap;
-use crate::keeping::{Along, is_kept_along};
+use crate::keeping::Coming;
 use crate::part::Part;
 use photo_device::{Device, HeldSet, SharedHeld};
 use photo_filter_rules::Filter;
 use photo_version::Version;
 use std::alloc::{AllocError, Global};
 
-// Whether a device knows a version and doesn't keep it.
-fn has_given_up(device: &Device, along: &mut Along, held: &SharedHeld) -> bool
-    ensures { result ≡ (knows device.now.knowledge held.now.picture held.now.version && not (has_same device.now.store held.now)) }
+// What goes along beside the versions of a set, in their order: what was found of news at a picture, what is left of what a
+// device keeps, and a place to look at first in what it knows. Any place will do.
+#[derive(Drop)]
+struct Beside<'a> {
+    gap: Gap,
+    kept: Coming<'a>,
+    known: usize,
+}
+
+// Whether a device knows a version, and it isn't among what is left of what the device keeps.
+fn has_given_up(device: &Device, beside: &mut Beside<'_>, held: &SharedHeld) -> bool
+    requires { are_in_order beside.old.kept ≡ true }
+    ensures is { result ≡ (knows device.now.knowledge held.now.picture held.now.version && not (has_same beside.old.kept held.now)) }
+    ensures gap { beside.new.gap ≡ beside.old.gap }
+    ensures passed { HasPassed held.now beside.old.kept beside.new.kept }
 {
-    let (picture, version) = (held.picture(), held.version());
-    if is_kept_along(device.store(), along, held) || device.store().has(picture, version) {
+    if beside.kept.has(held) {
         return false;
     }
-    let (known, next) = device.knowledge().knows_near(along.known, picture, version);
-    along.known = next;
+    let (known, next) = device
+        .knowledge()
+        .knows_near(beside.known, held.picture(), held.version());
+    beside.known = next;
     known
 }
 
@@ -30,23 +44,25 @@ fn is_dropped(
     news: &Part,
     followed: bool,
     device: &Device,
-    gap: &mut Gap,
-    along: &mut Along,
+    beside: &mut Beside<'_>,
     held: &SharedHeld,
 ) -> bool
     requires order { IsOrdered news.now }
-    requires gap { IsGap news.now gap.old }
+    requires gap { IsGap news.now beside.old.gap }
+    requires kept { are_in_order beside.old.kept ≡ true }
+    requires same { has_same beside.old.kept held.now ≡ has_same device.now.store held.now }
     ensures is { result ≡ is_gone news.now followed device.now held.now }
-    ensures gap { IsGap news.now gap.new }
+    ensures gap { IsGap news.now beside.new.gap }
+    ensures passed { HasPassed held.now beside.old.kept beside.new.kept }
 {
-    if news.any_above(gap, held) {
+    if news.any_above(&mut beside.gap, held) {
         return true;
     }
-    followed && has_given_up(device, along, held)
+    followed && has_given_up(device, beside, held)
 }
 
 /// Copies of those of a set that something new supersedes, or that a device has given up whose keeping is followed.
-#[tactic(auto, using(std::proofs::lemmas::Grind::common_steps, crate::proofs::Along::filtered_in_order))]
+#[tactic(auto, using(std::proofs::lemmas::Grind::common_steps, crate::proofs::Along::filtered_in_order, crate::proofs::Passing::beside_one))]
 pub(crate) fn dropped_of(
     alloc: Global,
     news: &Part,
@@ -57,12 +73,16 @@ pub(crate) fn dropped_of(
     requires { IsOrdered news.now }
     ensures items { IfOk result (λ found. found.items ≡ filter (is_gone news.now followed device.now) set.now) }
     ensures ordered { IfOk result (λ found. are_in_order found.items ≡ true) }
+    ensures err { OnErr result (list_any (is_gone news.now followed device.now) set.now ≡ true) }
 {
     let mut found = Vec::new(alloc);
-    let mut gap = Gap::none();
-    let mut along = Along::start();
+    let mut beside = Beside {
+        gap: Gap::none(),
+        kept: Coming::of(device.store()),
+        known: 0,
+    };
     for held in set.iter() {
-        if !is_dropped(news, followed, device, &mut gap, &mut along, held) {
+        if !is_dropped(news, followed, device, &mut beside, held) {
             continue;
         }
         found.push(held.try_clone()?)?;

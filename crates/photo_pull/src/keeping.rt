@@ -1,80 +1,71 @@
 //! Whether held versions stand in a set, by one walk along both.
-ghost use Rattle.std.specs.Prelude.{◌≡◌, ◌==◌, ◌&&◌, true};
-ghost use Rattle.photo_version.specs.Version.{same_version};
-ghost use Rattle.photo_pull.specs.OnHeld.{has_same};
+ghost use Rattle.std.specs.Prelude.{◌≡◌};
+ghost use Rattle.photo_device.specs.Held.{held_before, is_of};
 
+use block_list::Iter;
 use photo_device::{HeldSet, SharedHeld};
+use std::marker::Model;
 
-/// Where one is to look next: in the blocks of a set, and for what is asked of single versions. Any places will do.
-#[derive(Clone, Copy, Debug)]
-pub(crate) struct Along {
-    pub block: usize,
-    pub place: usize,
-    /// In what it knows.
-    pub known: usize,
+/// What is left of a set that is gone along beside another, the next of it at hand. It is seen as the list of what is left.
+#[derive(Drop)]
+pub(crate) struct Coming<'a> {
+    next: Option<&'a SharedHeld>,
+    others: Iter<'a, SharedHeld>,
 }
 
-impl Along {
-    /// At the first of a set.
-    pub fn start() -> Along {
-        Along {
-            block: 0,
-            place: 0,
-            known: 0,
+impl<'a> Model for Coming<'a> {
+    ghost use Rattle.std.specs.Prelude.{List};
+    ghost use Rattle.photo_device.specs.declared.held.Held as spec;
+    ghost use Rattle.photo_pull.specs.OnHeld.{coming};
+
+    ghost Value = { List spec.Held };
+
+    ghost view = { λ left. coming left.next left.others };
+}
+
+impl<'a> Coming<'a> {
+    ghost use Rattle.std.specs.Prelude.{◌≡◌, true};
+    ghost use Rattle.photo_device.specs.Held.{are_in_order};
+    ghost use Rattle.photo_pull.specs.OnHeld.{has_same, HasPassed};
+
+    /// All of a set.
+    pub fn of(set: &'a HeldSet) -> Coming<'a>
+        ensures all { result ≡ set.now }
+        ensures order { are_in_order result ≡ true }
+    {
+        let mut others = set.iter();
+        let next = others.next();
+        Coming { next, others }
+    }
+
+    /// Whether a version is among them. Those that stand before it are passed.
+    #[tactic(auto, using(crate::proofs::Passing::not_before_itself))]
+    pub fn has(&mut self, held: &SharedHeld) -> bool
+        requires { are_in_order self.old ≡ true }
+        ensures is { result ≡ has_same self.old held.now }
+        ensures passed { HasPassed held.now self.old self.new }
+    {
+        while let Some(other) = self.next {
+            if !is_before(other, held) {
+                return is_same(other, held);
+            }
+            self.next = self.others.next();
         }
+        false
     }
 }
 
 // Whether they are the same version of the same picture.
 fn is_same(held: &SharedHeld, other: &SharedHeld) -> bool
-    ensures { result ≡ ((held.now.picture == other.now.picture) && same_version held.now.version other.now.version) }
+    ensures { result ≡ is_of held.now other.now.picture other.now.version }
 {
     held.picture() == other.picture() && held.version() == other.version()
 }
 
 // Whether the first stands before the second in the order of a set.
-fn is_before(held: &SharedHeld, other: &SharedHeld) -> bool {
+fn is_before(held: &SharedHeld, other: &SharedHeld) -> bool
+    ensures { result ≡ held_before held.now other.now }
+{
     held.picture() < other.picture()
         || (held.picture() == other.picture() && held.version() < other.version())
-}
-
-// Whether a part of a set ends before the version.
-fn ends_before(part: &[SharedHeld], held: &SharedHeld) -> bool {
-    match part.last() {
-        Some(last) => is_before(last, held),
-        None => false,
-    }
-}
-
-// The place of a part of a set, from a place on, before which all stand before the version.
-fn place_from(part: &[SharedHeld], from: usize, held: &SharedHeld) -> usize {
-    if ends_before(part, held) {
-        return part.len();
-    }
-    for place in from..part.len() {
-        if !is_before(&part[place], held) {
-            return place;
-        }
-    }
-    part.len()
-}
-
-/// Whether a version is seen to stand in a set. Any place to look next will do; where versions are asked in the order of the
-/// set, each with the place that the one before left, the work for all is one walk along the set.
-#[tactic(auto, using(crate::proofs::Along::kept_in))]
-pub(crate) fn is_kept_along(set: &HeldSet, along: &mut Along, held: &SharedHeld) -> bool
-    ensures { result ≡ true → has_same set.now held.now ≡ true }
-{
-    let blocks = set.blocks();
-    while along.block < blocks.len() {
-        let block = &blocks[along.block];
-        let place = place_from(block, along.place, held);
-        if place < block.len() {
-            along.place = place;
-            return is_same(&block[place], held);
-        }
-        along.block += 1;
-        along.place = 0;
-    }
-    false
 }
