@@ -13,10 +13,6 @@ use photo_record::PicNo;
 use photo_version::Version;
 use std::alloc::{AllocError, Global};
 
-// A version that goes is looked for by its picture where at least so many are held for each that goes: then the searches
-// cost less than it does to go along all that is held.
-const HELD_BY_DROP: usize = 64;
-
 // Puts the pictures of those of a list behind others, as long as there is memory for that.
 fn push_pictures(pictures: &mut Vec<PicNo>, list: &[SharedHeld]) {
     for held in list {
@@ -26,17 +22,9 @@ fn push_pictures(pictures: &mut Vec<PicNo>, list: &[SharedHeld]) {
     }
 }
 
-// Whether so many versions are few of those that a device holds.
-fn are_few(count: usize, device: &Device) -> bool {
-    let held = device.store().len().saturating_add(device.out().len());
-    count <= held / HELD_BY_DROP
-}
-
-// The versions of what a device drops. Where these are few, the picture of each comes with them, by which it is found;
-// otherwise they are in order, since all that the device holds is gone along for them.
+// The versions of what a device drops, and beside each the picture by which it is found, as long as there is memory for that.
 fn drops_of(
     alloc: Global,
-    device: &Device,
     stored: &[SharedHeld],
     waiting: &[SharedHeld],
 ) -> Result<(VersionList, Vec<PicNo>), AllocError>
@@ -46,12 +34,8 @@ fn drops_of(
     push_versions(&mut drops, stored)?;
     push_versions(&mut drops, waiting)?;
     let mut pictures = Vec::new(alloc);
-    if are_few(drops.len(), device) {
-        push_pictures(&mut pictures, stored);
-        push_pictures(&mut pictures, waiting);
-        return Ok((VersionList::new(drops), pictures));
-    }
-    drops.sort_unstable();
+    push_pictures(&mut pictures, stored);
+    push_pictures(&mut pictures, waiting);
     Ok((VersionList::new(drops), pictures))
 }
 
@@ -87,7 +71,7 @@ fn stage_heard(
     ensures unstaged { OnErr result (target.new.staged ≡ None) }
 {
     let Hearing { dropped, heard, .. } = hearing;
-    let (drops, pictures) = drops_of(alloc, target, &dropped.stored, &dropped.waiting)?;
+    let (drops, pictures) = drops_of(alloc, &dropped.stored, &dropped.waiting)?;
     let takes = SharedList::new(taken_of(target.filter(), heard));
     if let Err((_, _, refused)) = target.stage_lent(drops, pictures, takes, gain, room) {
         return Err(refused);
