@@ -1,22 +1,18 @@
 -- What a change of the target asks of what it gives up, takes and learns; it may be staged, and is committed with what the source handed over.
-use Rattle.std.proofs.Common.{◌≡◌, ℕ, ◌+◌, ◌<◌, ◌≤◌, Bool, true, false, ◌&&◌, ◌||◌, List, [], ◌∷◌, ◌++◌, Option, Some, None, refl, sym, ap, ◌∙◌, inl, inr, length, arith, not, subst}
+use Rattle.std.proofs.Common.{◌≡◌, ℕ, ◌+◌, ◌<◌, ◌≤◌, Bool, true, false, ◌&&◌, ◌||◌, List, [], ◌∷◌, ◌++◌, Option, Some, None, refl, sym, ap, ◌∙◌, inl, inr, length, arith, subst}
 use Rattle.std.specs.Prelude.{filter, Option, IfSome, is_some}
 use Rattle.std.specs.Option.{is_some}
 use Rattle.std.specs.List.{AllByRecursion, cons_option}
-use Rattle.std.specs.List.Sorted.{IsPermutation}
 use Rattle.std.proofs.lemmas.Bool.{and_parts, or_cases, or_left, or_right, not-true}
 use Rattle.std.proofs.lemmas.List.{length-map}
 use Rattle.std.proofs.Math.Bool.{or-true}
-use Rattle.std.proofs.lemmas.List.Elements.{All-from_recursion, recursion_from_All}
-use Rattle.std.proofs.lemmas.List.Sorted.{list_any-IsPermutation, All-permutation}
-use Rattle.photo_version.specs.Version.{Version, same_version, Versions}
+use Rattle.photo_version.specs.Version.{Version, same_version}
 use Rattle.item_knowledge.specs.Fragments.{Fragment, knows}
 use Rattle.photo_device.specs.declared.held.Held.{Held}
 use Rattle.photo_device.specs.Held.{find_version, count_of, times_in, helds_at, entries_of}
-use Rattle.photo_device.specs.Device.{Kept, unstaged, Staging, ModelDevice, Shows, selects, changed}
+use Rattle.photo_device.specs.Device.{Kept, unstaged, Staging, ModelDevice, Shows, changed}
 use Rattle.photo_device.specs.Own.{HasEarlier, IsKnownBy, KnowsNoMore}
 use Rattle.photo_device.specs.Telling.{tells}
-use Rattle.photo_device.specs.Entry.{Entry, without, put_entries}
 use Rattle.photo_device.specs.Staging.{MayHand, MayStage}
 use Rattle.photo_device.proofs.AllLemmas.{all_append, all_filter}
 use Rattle.photo_device.proofs.Changed.{all_new}
@@ -149,17 +145,6 @@ module _ (t s : Kept) (ready : AreReady t s) where
       | inr told ↦ told_is_known p v told
     ]) ready.may.own
 
--- versions in another order: what leaves by them is the same
-without_moved : (vs ws : List Version) → IsPermutation vs ws → (es : List Entry) → without ws es ≡ without vs es
-without_moved vs ws moved es = λ i. filter (λ e. not (sym (list_any-IsPermutation (λ v. same_version v e.version) vs ws moved) i)) es
-
-changed_moved : (vs ws : List Version) → IsPermutation vs ws → (takes : List Entry) (gain : ℕ → Versions) (m : ModelDevice) → changed ws takes gain m ≡ changed vs takes gain m
-changed_moved vs ws moved takes gain m = λ i. record m {
-  store = put_entries (filter (selects m) takes) (without_moved vs ws moved m.store i);
-  out = put_entries (filter (λ e. not (selects m e)) takes) (without_moved vs ws moved m.out i);
-  of = λ picture v. m.of picture v || gain picture v;
-}
-
 module _ (t s : Kept) (ready : AreReady t s) where
   -- where it learns all that the source knows, that has all of it
   pub gained_all : learns t s ≡ true → (gain : List Fragment) → gain ≡ s.knowledge → IsGained t s gain
@@ -189,10 +174,10 @@ module _ (t s : Kept) (ready : AreReady t s) where
     pub shows_found : (after : Kept) → IfSome new.staged (λ st. (m : ModelDevice) → Shows new m → Shows after (changed st.drops (entries_of (st.takes ++ handed)) (knows st.knowledge) m))
         → (tm sm : ModelDevice) → Shows t tm → Shows s sm → Shows after (pulled tm sm)
     shows_found after clause tm sm shows_t shows_s =
-        let done : (m : ModelDevice) → Shows new m → Shows after (changed has.given_up (entries_of (taken_stored t s ++ handed)) (knows has.staged.knowledge) m) =
+        let done : (m : ModelDevice) → Shows new m → Shows after (changed (drops t s) (entries_of (taken_stored t s ++ handed)) (knows has.staged.knowledge) m) =
         subst (λ (o : Option Staging). IfSome o (λ st. (m : ModelDevice) → Shows new m → Shows after (changed st.drops (entries_of (st.takes ++ handed)) (knows st.knowledge) m))) has.staged.staged clause in
         let is = done tm (shows_alike t new tm has.staged.rest shows_t) in
-        let gained : Shows after (changed has.given_up (entries_of (taken_stored t s ++ handed)) (knows has.gain) tm) = record {
+        let gained : Shows after (changed (drops t s) (entries_of (taken_stored t s ++ handed)) (knows has.gain) tm) = record {
           author = is.author;
           tree = is.tree;
           counter = is.counter;
@@ -201,23 +186,17 @@ module _ (t s : Kept) (ready : AreReady t s) where
           known = λ p above v. is.known p above v ∙ known_twice _ _ _ _ (has.staged.learned p v above) (shows_t.known p above v);
         } in
         shows_pulled t s ready tm sm shows_t shows_s after (knows has.gain) has.gained
-        (subst (λ l. Shows after (changed (drops t s) (entries_of (taken_stored t s ++ l)) (knows has.gain) tm)) handed_is
-        (subst (Shows after) (changed_moved (drops t s) has.given_up has.permuted (entries_of (taken_stored t s ++ handed)) (knows has.gain) tm) gained))
+        (subst (λ l. Shows after (changed (drops t s) (entries_of (taken_stored t s ++ l)) (knows has.gain) tm)) handed_is gained)
       where
         known_twice : (e o g k : Bool) {known : Bool} → known ≡ (k || g) → k ≡ (e || o) → (e || (o || known)) ≡ (e || (o || g))
         known_twice e o g k is was = grind arith
 
 -- what the code found
 module _ (t s : Kept) (h : Hearing) (hearing : IsHearing t s h) where
-  module _ (ds : List Version) (of_drops : IsPermutation (versions h.dropped.stored.items ++ versions h.dropped.waiting.items) ds) (gain : List Fragment) (gained : IsGained t s gain) where
-    permuted : IsPermutation (drops t s) ds
-    permuted = subst (λ l. IsPermutation l ds) (λ i. versions (hearing.dropped_stored i) ++ versions (hearing.dropped_waiting i)) of_drops
-
+  module _ (ds : List Version) (of_drops : ds ≡ drops t s) (gain : List Fragment) (gained : IsGained t s gain) where
     pub may_stage : MayStage ds (filter (is_selected t.tree) h.heard.items) gain t
     may_stage = subst (λ l. MayStage ds (filter (is_selected t.tree) l) gain t) (sym hearing.heard) (record {
-      held =
-          let P : Version → Type 0 = λ v. is_some (find_version v (t.store ++ t.out)) ≡ true in
-          recursion_from_All P ds (All-permutation P (drops t s) ds permuted (All-from_recursion P (drops t s) (drops_held t s hearing.ready)));
+      held = subst (AllByRecursion (λ v. is_some (find_version v (t.store ++ t.out)) ≡ true)) (sym of_drops) (drops_held t s hearing.ready);
       new = taken_new t s hearing.ready;
       distinct = λ v. let once = taken_once t s hearing.ready v in omega arith;
       earlier = all_filter HasEarlier (is_selected t.tree) (heard t s) (heard_earlier t s hearing.ready);

@@ -1,7 +1,6 @@
 -- Machinery of the proofs: what the code finds between two devices is what `OnHeld` says, and is staged on one of them.
 use Rattle.std.specs.Prelude.{◌≡◌, ℕ, ◌<◌, true, List, []}
 use Rattle.std.specs.List.{AllByRecursion}
-use Rattle.std.specs.List.Sorted.{IsPermutation}
 use Rattle.photo_version.specs.Version.{Version}
 use Rattle.item_knowledge.specs.Fragments.{Fragment, knows}
 use Rattle.item_knowledge.specs.Staged.{Knowing}
@@ -56,11 +55,9 @@ IsGained t s gain = (p : ℕ) (v : Version) → 0 < p → knows gain p v ≡ gai
 
 -- the change that a pull makes of the target is staged on it
 pub record HasStagedPull (t s : Kept) (room : ℕ) (new : Kept) : Type 0 where
-  pub given_up : List Version
-  pub permuted : IsPermutation (drops t s) given_up
   pub gain : List Fragment
   pub gained : IsGained t s gain
-  pub staged : HasStaged given_up (taken_stored t s) gain room t new
+  pub staged : HasStaged (drops t s) (taken_stored t s) gain room t new
 
 -- two devices after a pull, and its counts
 pub record HavePulled (t s after_t after_s : Kept) (counts : PullCounts) : Type 0 where

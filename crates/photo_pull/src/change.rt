@@ -1,6 +1,5 @@
 //! What a target is to drop, to take and to learn, and its staging.
 ghost use Rattle.std.specs.Prelude.{◌≡◌, ◌+◌, ◌≤◌, ◌++◌, None, [], length, vec_len, vec_capacity, IfOk, OnOk, OnErr};
-ghost use Rattle.std.specs.List.Sorted.{IsPermutation};
 ghost use Rattle.photo_device.specs.Device.{IsAsItWas};
 ghost use Rattle.photo_pull.specs.OnHeld.{versions};
 ghost use Rattle.photo_pull.specs.Findings.{IsGained, IsHearing, HasStagedPull};
@@ -28,7 +27,7 @@ fn drops_of(
     stored: &[SharedHeld],
     waiting: &[SharedHeld],
 ) -> Result<(VersionList, Vec<PicNo>), AllocError>
-    ensures { IfOk result (λ all. IsPermutation (versions stored.now ++ versions waiting.now) all.0) }
+    ensures { IfOk result (λ all. all.0 ≡ versions stored.now ++ versions waiting.now) }
 {
     let mut drops = Vec::new(alloc);
     push_versions(&mut drops, stored)?;

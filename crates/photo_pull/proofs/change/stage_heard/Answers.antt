@@ -1,6 +1,5 @@
 use Rattle.std.proofs.Common.{◌++◌, sym, ap, ◌∙◌, subst}
 use Rattle.std.specs.Prelude.{filter}
-use Rattle.std.specs.List.Sorted.{IsPermutation}
 use Rattle.photo_device.specs.Staging.{MayStage}
 use Rattle.photo_pull.specs.OnHeld.{is_selected, versions}
 use Rattle.photo_pull.proofs.Asked.{may_stage}
@@ -8,7 +7,7 @@ use Rattle.photo_pull.proofs.change.stage_heard.Goals as goal
 
 pub stage_lent-requires : goal.stage_lent-requires
 stage_lent-requires c =
-    let of_drops = subst (λ l. IsPermutation l c.in_ok-drops.drops) (λ i. versions (c.deref.ensures.value i) ++ versions (c.deref-2.ensures.value i)) c.in_ok-drops.ensures in
+    let of_drops = c.in_ok-drops.ensures ∙ (λ i. versions ((c.deref.ensures.value ∙ c.requires.hearing.dropped_stored) i) ++ versions ((c.deref-2.ensures.value ∙ c.requires.hearing.dropped_waiting) i)) in
     let takes = c.new-takes.ensures ∙ c.taken_of.ensures ∙ ap (λ tree. filter (is_selected tree) c.args.hearing.heard.items) c.filter.ensures in
     record {
       may = subst (λ l. MayStage c.in_ok-drops.drops l c.args.gain.now.known c.args.target.now) (sym takes)
