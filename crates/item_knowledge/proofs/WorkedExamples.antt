@@ -1,11 +1,13 @@
--- The worked unions and marks: what holds of every picture and version is shown by the cases of a few tests.
+-- The worked unions, groups and marks: what holds of every picture and version is shown by the cases of a few tests.
 use Rattle.std.proofs.Common.{◌≡◌, length, refl, sym, ap, arith}
 use Rattle.std.proofs.lemmas.Bool.{false≢true}
 use Rattle.std.proofs.lemmas.Bool.Decides.{nat_tests}
 use Rattle.photo_version.specs.Author.{author}
 use Rattle.photo_version.specs.Version.{version}
-use Rattle.item_knowledge.specs.Examples.{TheStaged, TheUnions, TheMarks}
+use Rattle.item_knowledge.specs.Entries.{bound}
+use Rattle.item_knowledge.specs.Examples.{TheStaged, TheUnions, TheGroups, TheMarks}
 use Rattle.item_knowledge.specs.Places.{mixed, share}
+use Rattle.item_knowledge.proofs.GatherLemmas.{group_grown, group_begun}
 
 pub the_staged : TheStaged
 the_staged = record {
@@ -43,6 +45,14 @@ the_unions = record {
   };
   repeated = λ u. absurd (omega (arith, ap length (u.vectors 8)));
   left_out = λ u. absurd (omega (arith, ap length (u.vectors 8)));
+}
+
+pub the_groups : TheGroups
+the_groups = record {
+  grown = group_grown 9 _ _ _ 0 (omega arith) refl refl;
+  begun = group_begun 8 _ _ _ 1 refl refl;
+  other_vector = λ a. let bad = ap (λ es. bound es 0) a.vector in omega (arith, bad);
+  lost = λ a. absurd (omega (arith, ap length (a.pictures 0)));
 }
 
 pub the_marks : TheMarks

@@ -4,6 +4,7 @@ use Rattle.photo_version.specs.Author.{author, author_at, author_word}
 use Rattle.photo_version.specs.Version.{Version, version}
 use Rattle.item_knowledge.specs.Entries.{Entry, joined}
 use Rattle.item_knowledge.specs.Fragments.{Fragment, knows, is_normal, known}
+use Rattle.item_knowledge.specs.Gathering.{IsAdded}
 use Rattle.item_knowledge.specs.Excess.{exceeding, shown}
 use Rattle.item_knowledge.specs.Raising.{are_level}
 use Rattle.item_knowledge.specs.Rows.{flat, rows_of}
@@ -106,6 +107,19 @@ pub record TheUnions : Type 0 where
   -- what the star has stands in the row once more
   pub repeated : IsBeyond (entry 0 1 ∷ []) none [] both_at_eight ((8, 1) ∷ []) both_at_eight ((8, 1) ∷ []) → ⊥
   pub left_out : IsBeyond (entry 0 1 ∷ []) none [] both_at_eight ((8, 1) ∷ []) none [] → ⊥
+
+-- picture 7 in a group
+abbrev seven : List Fragment
+seven = of (7 ∷ []) (entry 0 1 ∷ []) ∷ []
+
+-- how a picture comes to the groups of a union, and, before a ⊥, how it doesn't
+pub record TheGroups : Type 0 where
+  pub grown : IsAdded 9 (entry 0 1 ∷ []) seven (of (7 ∷ 9 ∷ []) (entry 0 1 ∷ []) ∷ []) 0
+  pub begun : IsAdded 8 (entry 1 1 ∷ []) seven (of (7 ∷ []) (entry 0 1 ∷ []) ∷ of (8 ∷ []) (entry 1 1 ∷ []) ∷ []) 1
+  -- the group has another vector
+  pub other_vector : IsAdded 8 (entry 1 1 ∷ []) seven (of (7 ∷ 8 ∷ []) (entry 0 1 ∷ []) ∷ []) 0 → ⊥
+  -- the picture that was there is gone
+  pub lost : IsAdded 9 (entry 0 1 ∷ []) seven (of (9 ∷ []) (entry 0 1 ∷ []) ∷ []) 0 → ⊥
 
 -- nine places for marks, of which that of the second version of device 0 has one
 abbrev marks : List Bool

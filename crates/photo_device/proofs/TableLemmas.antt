@@ -10,7 +10,7 @@ use Rattle.photo_version.specs.Vector.{Bound, denotes}
 use Rattle.item_knowledge.specs.Tables.{in_order, keys_pass, at}
 use Rattle.item_knowledge.proofs.TableLemmas.{keys_pass-weaker}
 use Rattle.photo_device.specs.declared.held.Held.{Held}
-use Rattle.photo_device.specs.Anew.{IsAdded}
+use Rattle.photo_device.specs.Anew.{HasBesides}
 use Rattle.photo_device.specs.Held.{are_in_order}
 use Rattle.photo_device.specs.Telling.{tells}
 use Rattle.photo_device.proofs.Order.{rises}
@@ -27,7 +27,7 @@ pub record IsTableOf (table : Table) (hs : List Held) (i : ℕ) : Type 0 where
 
 -- one more
 pub table_more : (table new : Table) (hs : List Held) (i : ℕ) (w : Held) → i < length hs → w ≡ get_or hs i w → are_in_order hs ≡ true
-    → IsAdded table new w.picture (λ v. denotes w.made_with v || same_version w.version v) → IsTableOf table hs i → IsTableOf new hs (i + 1)
+    → HasBesides table new w.picture (λ v. denotes w.made_with v || same_version w.version v) → IsTableOf table hs i → IsTableOf new hs (i + 1)
 table_more table new hs i w l is ordered added so_far = record {
   order = added.order;
   below = λ d further.
@@ -63,7 +63,7 @@ order_end (r ∷ front) q x = (λ i. keys_end (λ k. ltb r.0 k) front q x i && o
 below_le : (q : ℕ) (table : Table) → keys_pass (λ k. ltb k q) table ≡ true → keys_pass (λ k. leb k q) table ≡ true
 below_le q table all = keys_pass-weaker (λ k. ltb k q) (λ k. leb k q) (λ k h. let less = ltb-true k q h in le-leb k q (omega arith)) table all
 
-pub added_row : (table : Table) (picture : ℕ) (vector : List Bound) → in_order table ≡ true → keys_pass (λ k. ltb k picture) table ≡ true → IsAdded table (table ++ (picture, vector) ∷ []) picture (denotes vector)
+pub added_row : (table : Table) (picture : ℕ) (vector : List Bound) → in_order table ≡ true → keys_pass (λ k. ltb k picture) table ≡ true → HasBesides table (table ++ (picture, vector) ∷ []) picture (denotes vector)
 added_row table picture vector order all = record {
   order = order_end table picture vector ∙ and_from _ _ order all;
   last = pass_end (λ k. leb k picture) table picture vector (below_le picture table all) (le-leb picture picture (omega arith));
@@ -74,7 +74,7 @@ added_row table picture vector order all = record {
 }
 
 -- the last row is of that picture
-pub joined_row : (front : Table) (picture : ℕ) (known vector both : List Bound) → in_order (front ++ (picture, known) ∷ []) ≡ true → ((v : Version) → denotes both v ≡ (denotes known v || denotes vector v)) → IsAdded (front ++ (picture, known) ∷ []) (front ++ (picture, both) ∷ []) picture (denotes vector)
+pub joined_row : (front : Table) (picture : ℕ) (known vector both : List Bound) → in_order (front ++ (picture, known) ∷ []) ≡ true → ((v : Version) → denotes both v ≡ (denotes known v || denotes vector v)) → HasBesides (front ++ (picture, known) ∷ []) (front ++ (picture, both) ∷ []) picture (denotes vector)
 joined_row front picture known vector both order is =
     let parts = and_parts _ _ (sym (order_end front picture known) ∙ order) in
     record {
@@ -98,18 +98,18 @@ below_all front q x picture order all ne =
 -- as a row goes out and comes back
 
 pub added_joined : (old front new : Table) (row : ℕ × List Bound) (picture : ℕ) (vector both : List Bound) → old ≡ front ++ row ∷ [] → eqb row.0 picture ≡ true → new ≡ front ++ (picture, both) ∷ []
-    → in_order old ≡ true → ((v : Version) → denotes both v ≡ (denotes row.1 v || denotes vector v)) → IsAdded old new picture (denotes vector)
+    → in_order old ≡ true → ((v : Version) → denotes both v ≡ (denotes row.1 v || denotes vector v)) → HasBesides old new picture (denotes vector)
 added_joined old front new row picture vector both of_old here of_new order is =
     let same : row.0 ≡ picture = eqb-true row.0 picture here in
     let whole : old ≡ front ++ (picture, row.1) ∷ [] = of_old ∙ ap (λ q. front ++ (q, row.1) ∷ []) same in
-    subst (λ l. IsAdded l new picture (denotes vector)) (sym whole)
-    (subst (λ l. IsAdded (front ++ (picture, row.1) ∷ []) l picture (denotes vector)) (sym of_new)
+    subst (λ l. HasBesides l new picture (denotes vector)) (sym whole)
+    (subst (λ l. HasBesides (front ++ (picture, row.1) ∷ []) l picture (denotes vector)) (sym of_new)
     (joined_row front picture row.1 vector both (subst (λ l. in_order l ≡ true) whole order) is))
 
 pub added_apart : (old front between new : Table) (row : ℕ × List Bound) (picture : ℕ) (vector : List Bound) → old ≡ front ++ row ∷ [] → eqb row.0 picture ≡ false → between ≡ front ++ row ∷ [] → new ≡ between ++ (picture, vector) ∷ []
-    → in_order old ≡ true → keys_pass (λ k. leb k picture) old ≡ true → IsAdded old new picture (denotes vector)
+    → in_order old ≡ true → keys_pass (λ k. leb k picture) old ≡ true → HasBesides old new picture (denotes vector)
 added_apart old front between new row picture vector of_old apart of_between of_new order all =
     let same : between ≡ old = of_between ∙ sym of_old in
     let below = below_all front row.0 row.1 picture (subst (λ l. in_order l ≡ true) of_old order) (subst (λ l. keys_pass (λ k. leb k picture) l ≡ true) of_old all) (eqb-false row.0 picture apart) in
-    subst (λ l. IsAdded old l picture (denotes vector)) (sym (of_new ∙ ap (λ l. l ++ (picture, vector) ∷ []) same))
+    subst (λ l. HasBesides old l picture (denotes vector)) (sym (of_new ∙ ap (λ l. l ++ (picture, vector) ∷ []) same))
     (added_row old picture vector order (subst (λ l. keys_pass (λ k. ltb k picture) l ≡ true) (sym of_old) below))

@@ -9,7 +9,7 @@ use Rattle.item_knowledge.specs.Fragments.{Fragment, knows}
 use Rattle.photo_device.specs.Held.{count_of}
 use Rattle.photo_device.specs.Device.{Kept, Staging}
 use Rattle.photo_device.specs.Own.{HasEarlier, IsKnownBy}
-use Rattle.photo_device.specs.Examples.{nth, first, edited, other, gain, learned, MayStageAsTold, HasStagedAsTold, MayHandAsTold}
+use Rattle.photo_device.specs.Examples.{nth, first, edited, other, gain, learned, of_seven, MayStageAsTold, HasStagedAsTold, MayHandAsTold, TheRowsOfNotes, TheTables}
 
 no : false ≡ true → ⊥
 no e = false≢true e
@@ -97,4 +97,15 @@ may_hand_as_told = record {
   taken = λ m. let bad : 2 ≤ 1 = m.once (nth 1 1) in omega arith;
   held = λ m. let bad : 2 ≤ 1 = m.once (nth 0 1) in omega arith;
   not_known = λ m. no m.known.0.itself;
+}
+
+pub the_rows_of_notes : TheRowsOfNotes
+the_rows_of_notes = record { first = refl; last = refl; next_epoch = refl; later = refl }
+
+pub the_tables : TheTables
+the_tables = record {
+  joined = record { order = refl; last = refl; told = λ p v. grind (arith, nat_tests) };
+  behind = record { order = refl; last = refl; told = λ p v. grind (arith, nat_tests) };
+  of_another = λ t. no (sym (t.told 7 (nth 1 1)));
+  lost = λ t. no (t.told 7 (nth 0 1));
 }

@@ -21,7 +21,7 @@ pub record IsAnew (tree : Tree) (stored waiting : List Held) (anew : Anew) : Typ
   pub staged : anew.told.staged ≡ None
 
 -- a table has what is told of a picture besides, of which none of its pictures is greater
-pub record IsAdded (table new : List (ℕ × List Bound)) (picture : ℕ) (more : Versions) : Type 0 where
+pub record HasBesides (table new : List (ℕ × List Bound)) (picture : ℕ) (more : Versions) : Type 0 where
   pub order : in_order new ≡ true
   pub last : keys_pass (λ k. nat_le k picture) new ≡ true
   pub told : (p : ℕ) (v : Version) → denotes (at [] new p) v ≡ (denotes (at [] table p) v || ((picture == p) && more v))

@@ -5,11 +5,13 @@ use Rattle.photo_record.specs.declared.record.Record.TheVariants.{Picture}
 use Rattle.photo_filter_text.specs.Tree.{All}
 use Rattle.photo_version.specs.Author.{author, author_at, author_word}
 use Rattle.photo_version.specs.Version.{Version, version}
-use Rattle.photo_version.specs.Vector.{Bound}
+use Rattle.photo_version.specs.Vector.{Bound, denotes}
 use Rattle.item_knowledge.specs.Fragments.{Fragment, knows}
 use Rattle.photo_device.specs.declared.held.Held.{Held}
 use Rattle.photo_device.specs.Held.{find_version, count_of}
 use Rattle.photo_device.specs.Device.{Kept, Staging}
+use Rattle.photo_device.specs.Anew.{HasBesides}
+use Rattle.photo_device.specs.Noted.{author_of_row}
 use Rattle.photo_device.specs.Staging.{HasStaged, MayHand, MayStage}
 
 abbrev pub bright : Record
@@ -123,3 +125,23 @@ pub record MayHandAsTold : Type 0 where
   pub held : MayHand (first ∷ []) change ready → ⊥
   -- it will not be known
   pub not_known : MayHand (other ∷ []) (record change { knowledge = camera.knowledge }) ready → ⊥
+
+-- whose row of notes stands at a place
+pub record TheRowsOfNotes : Type 0 where
+  pub first : author_of_row 0 ≡ author 0
+  pub last : author_of_row 255 ≡ author 255
+  pub next_epoch : author_of_row 256 ≡ author_at 0 1
+  pub later : author_of_row 515 ≡ author_at 3 2
+
+-- a table with what is told of picture 7
+abbrev pub of_seven : List (ℕ × List Bound)
+of_seven = (7, (author 0, 1) ∷ []) ∷ []
+
+-- what it has besides, of that picture and of one behind it, and, before a ⊥, what it hasn't
+pub record TheTables : Type 0 where
+  pub joined : HasBesides of_seven ((7, (author 0, 1) ∷ (author 1, 1) ∷ []) ∷ []) 7 (denotes ((author 1, 1) ∷ []))
+  pub behind : HasBesides of_seven ((7, (author 0, 1) ∷ []) ∷ (8, (author 1, 1) ∷ []) ∷ []) 8 (denotes ((author 1, 1) ∷ []))
+  -- it is told of another picture
+  pub of_another : HasBesides of_seven ((7, (author 0, 1) ∷ (author 1, 1) ∷ []) ∷ []) 8 (denotes ((author 1, 1) ∷ [])) → ⊥
+  -- what there was is lost
+  pub lost : HasBesides of_seven ((7, (author 1, 1) ∷ []) ∷ []) 7 (denotes ((author 1, 1) ∷ [])) → ⊥

@@ -7,7 +7,7 @@ ghost use Rattle.photo_version.specs.Vector.{denotes};
 ghost use Rattle.item_knowledge.specs.Fragments.{knows};
 ghost use Rattle.item_knowledge.specs.Kept.{star_bound};
 ghost use Rattle.item_knowledge.specs.Tables.{in_order, keys_pass, at};
-ghost use Rattle.photo_device.specs.Anew.{IsAdded};
+ghost use Rattle.photo_device.specs.Anew.{HasBesides};
 ghost use Rattle.photo_device.specs.Held.{are_in_order};
 ghost use Rattle.photo_device.specs.Own.{HasEarlier};
 ghost use Rattle.photo_device.specs.Telling.{tells};
@@ -26,7 +26,7 @@ fn add_row(
 ) -> Result<(), AllocError>
     requires order { in_order table.old.items ≡ true }
     requires last { keys_pass (λ k. nat_le k picture) table.old.items ≡ true }
-    ensures { OnOk result (IsAdded table.old.items table.new.items picture (denotes vector)) }
+    ensures { OnOk result (HasBesides table.old.items table.new.items picture (denotes vector)) }
 {
     let Some((last, known)) = table.pop() else {
         table.push((picture, vector))?;
@@ -47,7 +47,7 @@ fn add_told(table: &mut Vec<(PicNo, Vector)>, held: &SharedHeld) -> Result<(), A
     requires earlier { HasEarlier held.now }
     requires order { in_order table.old.items ≡ true }
     requires last { keys_pass (λ k. nat_le k held.now.picture) table.old.items ≡ true }
-    ensures { OnOk result (IsAdded table.old.items table.new.items held.now.picture
+    ensures { OnOk result (HasBesides table.old.items table.new.items held.now.picture
         (λ v. denotes held.now.made_with v || versions.same_version held.now.version v)) }
 {
     // For its fact alone: a version's number is above 0.
