@@ -3,4 +3,5 @@ mod Along
 mod Passing
 mod Told
 mod Shown
+mod Wanted
 mod Asked

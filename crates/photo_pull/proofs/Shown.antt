@@ -37,7 +37,7 @@ filter_shown f g hs es e same =
 filters_agree : (f g : Entry → Bool) (hs : List Held) (es : List Entry) → entries_of hs ≡ es → ((h : Held) → In h hs → f (entry_of h) ≡ g (entry_of h)) → filter f es ≡ filter g es
 filters_agree f g hs es e same = filter_shown f (λ h. g (entry_of h)) hs es e same ∙ sym (filter_shown g (λ h. g (entry_of h)) hs es e (λ h _. refl))
 
-any_shown : (f : Entry → Bool) (hs : List Held) (es : List Entry) → es ≡ entries_of hs → list_any f es ≡ list_any (λ h. f (entry_of h)) hs
+pub any_shown : (f : Entry → Bool) (hs : List Held) (es : List Entry) → es ≡ entries_of hs → list_any f es ≡ list_any (λ h. f (entry_of h)) hs
 any_shown f hs es e = ap (list_any f) e ∙ any_map f entry_of hs
 
 abbrev same_as : Held → Held → Bool
@@ -74,7 +74,7 @@ filter_all [] = refl
 filter_all (e ∷ es) = ap (λ l. e ∷ l) (filter_all es)
 
 module _ (t s : Kept) (ready : AreReady t s) (tm sm : ModelDevice) (shows_t : Shows t tm) (shows_s : Shows s sm) where
-  new_shown : (w : Held) → In w (s.store ++ s.out) → not (knows_entry tm (entry_of w)) ≡ is_new t.knowledge w
+  pub new_shown : (w : Held) → In w (s.store ++ s.out) → not (knows_entry tm (entry_of w)) ≡ is_new t.knowledge w
   new_shown w here = ap not (sym (shows_t.known w.picture (known_here s ready.source w here).above w.version))
 
   selected_shown : (w : Held) → selects tm (entry_of w) ≡ is_selected t.tree w
@@ -121,7 +121,7 @@ module _ (t s : Kept) (ready : AreReady t s) (tm sm : ModelDevice) (shows_t : Sh
   pub learns_shown : learns_all tm sm ≡ learns t s
   learns_shown = sym (λ i. covers (shows_s.tree i) (shows_t.tree i))
 
-  stale_shown : (h : Held) → In h t.store → is_stale tm sm (entry_of h) ≡ is_stale_held t s h
+  pub stale_shown : (h : Held) → In h t.store → is_stale tm sm (entry_of h) ≡ is_stale_held t s h
   stale_shown h here =
       let there : In h (t.store ++ t.out) = in_left h t.store t.out here in
       let known = sym (shows_s.known h.picture ((known_here t ready.target h there).above) h.version) in

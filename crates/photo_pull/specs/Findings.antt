@@ -1,6 +1,6 @@
 -- Machinery of the proofs: what the code finds between two devices is what `OnHeld` says, and is staged on one of them.
-use Rattle.std.specs.Prelude.{◌≡◌, ℕ, ◌<◌, true, List, []}
-use Rattle.std.specs.List.{AllByRecursion}
+use Rattle.std.specs.Prelude.{◌≡◌, ℕ, ◌<◌, true, ◌||◌, List, [], ◌++◌}
+use Rattle.std.specs.List.{AllByRecursion, list_any}
 use Rattle.photo_version.specs.Version.{Version}
 use Rattle.item_knowledge.specs.Fragments.{Fragment, knows}
 use Rattle.item_knowledge.specs.Staged.{Knowing}
@@ -10,8 +10,8 @@ use Rattle.photo_device.specs.Own.{HasEarlier, IsDevice}
 use Rattle.photo_device.specs.Staging.{HasStaged}
 use Rattle.photo_pull.specs.declared.counts.PullCounts.{PullCounts}
 use Rattle.photo_pull.specs.MayPull.{MayPull}
-use Rattle.photo_pull.specs.Pull.{pulled, handed_over, counts_of}
-use Rattle.photo_pull.specs.OnHeld.{IsOrdered, new_stored, new_waiting, dropped_stored, dropped_waiting, heard, taken_stored, gains, learns, drops}
+use Rattle.photo_pull.specs.Pull.{is_up_to_date, IsTaughtNothing, pulled, handed_over, counts_of}
+use Rattle.photo_pull.specs.OnHeld.{IsOrdered, is_new, is_dropped, is_over, new_stored, new_waiting, dropped_stored, dropped_waiting, heard, taken_stored, gains, learns, drops}
 use Rattle.photo_pull.specs.declared.part.Part.{Part}
 use Rattle.photo_pull.specs.declared.hearing.Hearing.{Hearing}
 
@@ -27,6 +27,15 @@ pub record AreNews (t s : Kept) (news : Part) : Type 0 where
   pub stored : news.stored.items ≡ new_stored t s
   pub waiting : news.waiting.items ≡ new_waiting t s
   pub order : IsOrdered news
+
+-- something is new to the target of what the source holds, or is given up by the target
+pub record IsSomething (t s : Kept) : Type 0 where
+  pub ready : AreReady t s
+  pub some : (list_any (is_new t.knowledge) (s.store ++ s.out) || (list_any (is_dropped t s) t.store || list_any (is_over t s) t.out)) ≡ true
+
+-- a pull may want memory: something is to be moved, told, given up or learned
+abbrev pub HasToPull : Kept → Kept → Type 0
+HasToPull t s = (tm sm : ModelDevice) → Shows t tm → Shows s sm → is_up_to_date tm sm ≡ true → IsTaughtNothing tm sm → ⊥
 
 -- a target hears of what is to be heard
 pub record IsHearing (t s : Kept) (h : Hearing) : Type 0 where

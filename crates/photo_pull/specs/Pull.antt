@@ -1,9 +1,10 @@
 -- A pull: what a target takes, is told of and learns from a source. All is judged on the two devices before it.
-use Rattle.std.specs.Prelude.{◌+◌, Bool, not, ◌&&◌, ◌||◌, List, ◌++◌, length, filter}
+use Rattle.std.specs.Prelude.{◌≡◌, ℕ, ◌<◌, true, ◌+◌, Bool, not, ◌&&◌, ◌||◌, List, ◌++◌, length, filter}
 use Rattle.std.specs.List.{list_any}
+use Rattle.photo_version.specs.Version.{Version}
 use Rattle.photo_filter_rules.specs.Covers.{covers}
 use Rattle.photo_device.specs.Entry.{Entry, put_entries, supersedes, superseded_by, is_among}
-use Rattle.photo_device.specs.Device.{ModelDevice, holds, knows_entry, selects}
+use Rattle.photo_device.specs.Device.{ModelDevice, holds, known, knows_entry, selects}
 use Rattle.photo_device.specs.Telling.{tell}
 use Rattle.photo_pull.specs.declared.counts.PullCounts.{PullCounts}
 
@@ -30,6 +31,14 @@ learns_all t s = covers s.tree t.tree
 -- then the target gives up what the source knows and doesn't keep
 abbrev pub is_stale : ModelDevice → ModelDevice → Entry → Bool
 is_stale t s e = learns_all t s && (knows_entry s e && not (is_among s.store e.version))
+
+-- the target knows all that the source holds, and nothing that it stores is stale: nothing is to be moved, told or given up
+abbrev pub is_up_to_date : ModelDevice → ModelDevice → Bool
+is_up_to_date t s = not (list_any (λ e. not (knows_entry t e)) (holds s)) && not (list_any (is_stale t s) t.store)
+
+-- where it learns all that the source knows, it knows all of that already
+abbrev pub IsTaughtNothing : ModelDevice → ModelDevice → Type 0
+IsTaughtNothing t s = learns_all t s ≡ true → (picture : ℕ) (v : Version) → 0 < picture → known s picture v ≡ true → known t picture v ≡ true
 
 -- what the target gives up of its store, and of its out
 abbrev pub leaves_store : ModelDevice → ModelDevice → Entry → Bool

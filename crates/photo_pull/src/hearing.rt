@@ -1,7 +1,8 @@
 // What a target hears of from a source.
-ghost use Rattle.std.specs.Prelude.{◌≡◌, IfOk};
-ghost use Rattle.photo_pull.specs.OnHeld.{IsOrdered, new_stored, new_waiting, dropped_stored, dropped_waiting, learns};
-ghost use Rattle.photo_pull.specs.Findings.{AreNews, IsHearing};
+ghost use Rattle.std.specs.Prelude.{◌≡◌, ◌||◌, true, IfOk, OnErr};
+ghost use Rattle.std.specs.List.{list_any};
+ghost use Rattle.photo_pull.specs.OnHeld.{IsOrdered, new_stored, new_waiting, is_dropped, is_over, dropped_stored, dropped_waiting, learns};
+ghost use Rattle.photo_pull.specs.Findings.{AreNews, IsHearing, IsSomething};
 
 use crate::PullCounts;
 use crate::filtered::{count_of, dropped_of, heard_of};
@@ -39,6 +40,7 @@ fn dropped_for(
     ensures stored { IfOk result (λ part. part.stored.items ≡ dropped_stored target.now source.now) }
     ensures waiting { IfOk result (λ part. part.waiting.items ≡ dropped_waiting target.now source.now) }
     ensures order { IfOk result (λ part. IsOrdered part) }
+    ensures wanted { OnErr result ((list_any (is_dropped target.now source.now) target.now.store || list_any (is_over target.now source.now) target.now.out) ≡ true) }
 {
     let stored = dropped_of(alloc, news, learned, source, target.store())?;
     let waiting = dropped_of(alloc, news, false, source, target.out())?;
@@ -53,7 +55,8 @@ pub(crate) fn heard_between(
     source: &Device,
 ) -> Result<Hearing, AllocError>
     requires { AreNews target.now source.now news }
-    ensures { IfOk result (λ hearing. IsHearing target.now source.now hearing) }
+    ensures hearing { IfOk result (λ hearing. IsHearing target.now source.now hearing) }
+    ensures wanted { OnErr result (IsSomething target.now source.now) }
 {
     let learned = covers(source.filter(), target.filter());
     let dropped = dropped_for(alloc, &news, learned, target, source)?;
@@ -68,7 +71,7 @@ pub(crate) fn heard_between(
 }
 
 impl Hearing {
-    ghost use Rattle.std.specs.Prelude.{◌≡◌, true};
+    ghost use Rattle.std.specs.Prelude.{◌≡◌, true, false};
     ghost use Rattle.photo_device.specs.Device.{ModelDevice, Shows};
     ghost use Rattle.photo_pull.specs.Pull.{counts_of};
     ghost use Rattle.photo_pull.specs.Findings.{IsHearing, IsNothing};
@@ -90,7 +93,8 @@ impl Hearing {
 
     /// Whether nothing is heard of, handed over or dropped, and what the source may teach is known.
     pub fn is_nothing(&self, known: &Knowledge, taught: &Knowledge) -> bool
-        ensures { result ≡ true → IsNothing self.now known.now taught.now }
+        ensures nothing { result ≡ true → IsNothing self.now known.now taught.now }
+        ensures something { result ≡ false → IsNothing self.now known.now taught.now → ⊥ }
     {
         let none = self.heard.is_empty() && self.handed.is_empty() && self.dropped.is_empty();
         none && (!self.learned || known.has_all(taught))

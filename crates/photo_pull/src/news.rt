@@ -1,7 +1,7 @@
 // What is new to a target of what a source holds.
-ghost use Rattle.std.specs.Prelude.{◌≡◌, IfOk};
+ghost use Rattle.std.specs.Prelude.{◌≡◌, IfOk, OnErr};
 ghost use Rattle.photo_pull.specs.MayPull.{MayPull};
-ghost use Rattle.photo_pull.specs.Findings.{AreNews};
+ghost use Rattle.photo_pull.specs.Findings.{AreNews, IsSomething};
 
 use crate::part::Part;
 use photo_device::Device;
@@ -16,6 +16,7 @@ pub(crate) fn news_of(
 ) -> Result<Part, AllocError>
     requires { MayPull target.old source.now }
     ensures news { IfOk result (λ news. AreNews target.old source.now news) }
+    ensures wanted { OnErr result (IsSomething target.old source.now) }
     ensures kept { target.new ≡ target.old }
 {
     // For its fact alone: what is true of every device.
@@ -28,7 +29,8 @@ pub(crate) fn news_of(
 /// The same, where the target may not be changed: it notes nothing.
 pub(crate) fn news_by(alloc: Global, target: &Device, source: &Device) -> Result<Part, AllocError>
     requires { MayPull target.now source.now }
-    ensures { IfOk result (λ news. AreNews target.now source.now news) }
+    ensures news { IfOk result (λ news. AreNews target.now source.now news) }
+    ensures wanted { OnErr result (IsSomething target.now source.now) }
 {
     // For its fact alone: what is true of every device.
     let _target = target.knowledge();

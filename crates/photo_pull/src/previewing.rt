@@ -1,7 +1,7 @@
 // What a pull would count.
-ghost use Rattle.std.specs.Prelude.{◌≡◌, IfOk};
+ghost use Rattle.std.specs.Prelude.{◌≡◌, false, IfOk, OnErr};
 ghost use Rattle.photo_device.specs.Device.{ModelDevice, Shows};
-ghost use Rattle.photo_pull.specs.Pull.{counts_of};
+ghost use Rattle.photo_pull.specs.Pull.{counts_of, is_up_to_date};
 ghost use Rattle.photo_pull.specs.MayPull.{MayPull};
 
 use crate::PullCounts;
@@ -13,10 +13,11 @@ use std::alloc::{AllocError, Global};
 /// What a pull of the target from the source would count. It finds this as the pull does, and changes neither device.
 ///
 /// Of what a pull asks it uses one thing alone, that what both devices hold of one version is of one picture. Its only
-/// error is want of memory, and none is wanted where nothing would be taken, told or dropped.
+/// error is want of memory, and none is wanted where the target knows all that the source holds, and stores nothing stale.
 pub fn preview(alloc: Global, target: &Device, source: &Device) -> Result<PullCounts, AllocError>
     requires { MayPull target.now source.now }
-    ensures { IfOk result (λ counts. (t s : ModelDevice) → Shows target.now t → Shows source.now s → counts ≡ counts_of t s) }
+    ensures counts { IfOk result (λ counts. (t s : ModelDevice) → Shows target.now t → Shows source.now s → counts ≡ counts_of t s) }
+    ensures wanted { OnErr result ((t s : ModelDevice) → Shows target.now t → Shows source.now s → is_up_to_date t s ≡ false) }
 {
     let news = news_by(alloc, target, source)?;
     let hearing = heard_between(alloc, news, target, source)?;

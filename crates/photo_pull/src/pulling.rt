@@ -3,7 +3,7 @@ ghost use Rattle.std.specs.Prelude.{◌≡◌, None, IfOk, OnOk, OnErr};
 ghost use Rattle.photo_device.specs.Device.{ModelDevice, Shows, IsAsItWas};
 ghost use Rattle.photo_pull.specs.MayPull.{MayPull};
 ghost use Rattle.photo_pull.specs.Pull.{pulled, handed_over, counts_of};
-ghost use Rattle.photo_pull.specs.Findings.{AreNews, HavePulled};
+ghost use Rattle.photo_pull.specs.Findings.{AreNews, HavePulled, HasToPull};
 
 use crate::PullCounts;
 use crate::change::{handed_of, stage_found};
@@ -16,7 +16,8 @@ use std::alloc::{AllocError, Global};
 /// The target takes from the source the versions that it doesn't know and is to keep, and all that the source only
 /// held for another device to take; it learns them with what they were made with, and where the source's filter covers
 /// its own, all that the source knows. It drops what it held of superseded versions, and of those that the source gave
-/// up. After want of memory both devices are as they were. Nothing is staged on either then in any case.
+/// up. After want of memory both devices are as they were; none is wanted where nothing is to be moved, told, given up or
+/// learned. Nothing is staged on either then in any case.
 ///
 /// All that may want memory is done before either changes: the change is staged on the target, what the source only held for
 /// another device moves from its out to the target, and the change is committed.
@@ -29,6 +30,7 @@ pub fn pull(
     ensures target { OnOk result ((t s : ModelDevice) → Shows target.old t → Shows source.old s → Shows target.new (pulled t s)) }
     ensures source { OnOk result ((t s : ModelDevice) → Shows target.old t → Shows source.old s → Shows source.new (handed_over t s)) }
     ensures counts { IfOk result (λ counts. (t s : ModelDevice) → Shows target.old t → Shows source.old s → counts ≡ counts_of t s) }
+    ensures wanted { OnErr result (HasToPull target.old source.old) }
     ensures target_kept { OnErr result (IsAsItWas target.old target.new) }
     ensures source_kept { OnErr result (IsAsItWas source.old source.new) }
     ensures target_unstaged { target.new.staged ≡ None }
@@ -52,6 +54,7 @@ fn pull_news(
     requires target_unstaged { target.old.staged ≡ None }
     requires source_unstaged { source.old.staged ≡ None }
     ensures done { IfOk result (λ counts. HavePulled target.old source.old target.new source.new counts) }
+    ensures wanted { OnErr result (HasToPull target.old source.old) }
     ensures target_kept { OnErr result (IsAsItWas target.old target.new) }
     ensures source_kept { OnErr result (IsAsItWas source.old source.new) }
     ensures target_still { target.new.staged ≡ None }

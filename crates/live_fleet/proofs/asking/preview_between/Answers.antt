@@ -21,4 +21,4 @@ returns c = λ models shown.
     let s = c.index-devices-source in
     let target : Shows t.result (device_at models c.args.target) = subst (λ (x : Kept). Shows x (device_at models c.args.target)) (sym t.is) (zip_at Shows devices models c.args.target t.result (opening (author c.args.target) All) shown c.requires.target) in
     let source : Shows s.result (device_at models c.args.source) = subst (λ (x : Kept). Shows x (device_at models c.args.source)) (sym s.is) (zip_at Shows devices models c.args.source s.result (opening (author c.args.source) All) shown c.requires.source) in
-    c.in_ok-counts.ensures (device_at models c.args.target) (device_at models c.args.source) target source
+    c.in_ok-counts.ensures.counts (device_at models c.args.target) (device_at models c.args.source) target source

@@ -7,10 +7,11 @@ use Rattle.photo_device.specs.Own.{HasEarlier}
 use Rattle.photo_device.proofs.Order.{in_order-filter}
 use Rattle.photo_pull.specs.OnHeld.{is_selected, has_below}
 use Rattle.photo_pull.proofs.Asked.{heard_earlier, waiting_earlier}
+use Rattle.photo_pull.proofs.Wanted.{on_err, something_dropped}
 use Rattle.photo_pull.proofs.hearing.heard_between.Goals as goal
 
-pub returns : goal.returns
-returns c =
+pub returns-clause-hearing : goal.returns-clause-hearing
+returns-clause-hearing c =
     let heard = c.heard_of-heard.ensures ∙ (λ i. filter (λ w. is_selected (c.filter-3.ensures i) w || (has_below (c.in_ok-dropped.ensures.stored i) w || has_below (c.in_ok-dropped.ensures.waiting i) w)) (c.requires.stored i)) in
     record {
       ready = c.requires.ready;
@@ -24,3 +25,7 @@ returns c =
       heard_earlier = subst (AllByRecursion HasEarlier) (sym heard) (heard_earlier c.args.target.now c.args.source.now c.requires.ready);
       handed_earlier = subst (AllByRecursion HasEarlier) (sym c.requires.waiting) (waiting_earlier c.args.target.now c.args.source.now c.requires.ready);
     }
+
+pub returns-in_err-dropped-clause-wanted : goal.returns-in_err-dropped-clause-wanted
+returns-in_err-dropped-clause-wanted c =
+    on_err _ (something_dropped c.args.target.now c.args.source.now c.requires.ready c.in_err-dropped.ensures.wanted)
