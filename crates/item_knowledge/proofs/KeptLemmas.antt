@@ -78,14 +78,28 @@ within_leq fs gs xs ys p h g w =
     (leq_trans (entries_at fs 0) (entries_at gs 0) (vector_of gs ys p) (above fs xs 0 h h.star).vector a.0 (above gs ys (at 0 ys p) g (number_below gs ys p g)).above)
 
 -- what is known already adds nothing
-pub within_knows : (rows others : List (List ℕ)) (xs ys : List (ℕ × ℕ)) → IsKept rows xs → IsKept others ys → is_side_within (fragments_of others) ys (fragments_of rows) xs ≡ true → (p : ℕ) (v : Version) → knows (fragments_of rows) p v ≡ (knows (fragments_of rows) p v || knows (fragments_of others) p v)
-within_knows rows others xs ys h g w p v =
+within_denotes : (rows : List (List ℕ)) (xs ys : List (ℕ × ℕ)) (gs : List Fragment) → IsKept rows xs → IsSide gs ys → is_side_within gs ys (fragments_of rows) xs ≡ true
+    → (p : ℕ) (v : Version) → knows (fragments_of rows) p v ≡ (knows (fragments_of rows) p v || denotes (vector_of gs ys p) v)
+within_denotes rows xs ys gs h t w p v =
     let fs = fragments_of rows in
-    let gs = fragments_of others in
     let s = kept_side rows xs h in
-    let t = kept_side others ys g in
     let e = leq_denotes (vector_of gs ys p) (vector_of fs xs p) v (side_vector gs ys p t) (side_vector fs xs p s) (within_leq gs fs ys xs p t s w) in
-    rw (kept_knows rows xs p v h, kept_knows others ys p v g) (sym e ∙ or_comm (denotes (vector_of gs ys p) v) (denotes (vector_of fs xs p) v))
+    rw (kept_knows rows xs p v h) (sym e ∙ or_comm (denotes (vector_of gs ys p) v) (denotes (vector_of fs xs p) v))
+
+within_knows : (rows others : List (List ℕ)) (xs ys : List (ℕ × ℕ)) → IsKept rows xs → IsKept others ys → is_side_within (fragments_of others) ys (fragments_of rows) xs ≡ true → (p : ℕ) (v : Version) → knows (fragments_of rows) p v ≡ (knows (fragments_of rows) p v || knows (fragments_of others) p v)
+within_knows rows others xs ys h g w p v =
+    within_denotes rows xs ys (fragments_of others) h (kept_side others ys g) w p v ∙ ap (λ b. knows (fragments_of rows) p v || b) (sym (kept_knows others ys p v g))
+
+-- nor does a star that is within another
+star_within : (fs gs : List Fragment) (xs ys : List (ℕ × ℕ)) (a : Author) → is_side_within fs xs gs ys ≡ true → star_bound gs a ≡ max (star_bound gs a) (star_bound fs a)
+star_within fs gs xs ys a w = grind (arith, nat_tests, leq_at (entries_at fs 0) (entries_at gs 0) (author_word a))
+
+-- so it is what is known after the union
+pub joins_none : (rows : List (List ℕ)) (xs ys : List (ℕ × ℕ)) (now gs : List Fragment) → IsKept rows xs → fragments_of rows ≡ now → IsSide gs ys → is_side_within gs ys (fragments_of rows) xs ≡ true → IsJoined now gs ys (fragments_of rows)
+joins_none rows xs ys now gs h is t w = subst (λ fs. IsJoined fs gs ys (fragments_of rows)) is (record {
+  star = λ a. star_within gs (fragments_of rows) ys xs a w;
+  pairs = λ p v z. within_denotes rows xs ys gs h t w p v;
+})
 
 -- a vector is at most another that denotes all that it denotes
 leq_by : (xs ys : List Entry) → is_vector xs ≡ true → is_vector ys ≡ true → ((v : Version) → denotes xs v ≡ true → denotes ys v ≡ true) → leq xs ys ≡ true
@@ -133,9 +147,6 @@ next_known fs w p v h z e =
     grind (arith, nat_tests, every, denotes-bound (entries_at fs 0) v (star_vector fs h))
 
 -- The star's bounds
-
-pub star_within : (fs gs : List Fragment) (xs ys : List (ℕ × ℕ)) (a : Author) → is_side_within fs xs gs ys ≡ true → star_bound gs a ≡ max (star_bound gs a) (star_bound fs a)
-star_within fs gs xs ys a w = grind (arith, nat_tests, leq_at (entries_at fs 0) (entries_at gs 0) (author_word a))
 
 pub star_next : (fs : List Fragment) (w a : Author) (n : ℕ) → n ≡ star_bound fs w + 1 → max (star_bound fs a) (bound ((author_word w, n) ∷ []) (author_word a)) ≡ cond (same_author w a) n (star_bound fs a)
 star_next fs w a n e = grind (arith, nat_tests)

@@ -1,27 +1,24 @@
 -- What is told of pictures, as rows.
-use Rattle.std.proofs.Common.{◌≡◌, ℕ, suc, ◌+◌, ◌<◌, ◌≤◌, Bool, true, ltb, max, ◌||◌, List, [], ◌∷◌, ◌++◌, length, take, refl, sym, subst, ap, ◌∙◌, arith, append_assoc, append-nil, Some}
-use Rattle.std.specs.List.{list_all, slice_get}
+use Rattle.std.proofs.Common.{◌≡◌, ℕ, suc, ◌+◌, ◌<◌, ◌≤◌, Bool, true, false, ltb, ◌&&◌, ◌||◌, List, [], ◌∷◌, ◌++◌, length, take, refl, sym, subst, ap, ◌∙◌, arith, append_assoc, append-nil, Some}
+use Rattle.std.specs.List.{list_all, list_any, slice_get}
 use Rattle.std.proofs.lemmas.List.{length-append, length-map, map-append, take_more}
 use Rattle.std.proofs.lemmas.List.Folds.{list_all-append, list_all-map}
 use Rattle.std.proofs.lemmas.Option.{slice_get_within, get_or_from_slice_get}
 use Rattle.std.proofs.Math.ListN.{get_or-append}
 use Rattle.std.proofs.Math.Seq.{get_or-append_seam}
-use Rattle.std.proofs.Math.Nat.{max-zero}
 use Rattle.std.proofs.lemmas.Bool.{and_from, lt-ltb}
 use Rattle.std.proofs.lemmas.Bool.Decides.{nat_tests}
-use Rattle.photo_version.specs.Author.{Author, author_word, author_before}
+use Rattle.photo_version.specs.Author.{author_word, author_before}
 use Rattle.photo_version.specs.Version.{Version}
 use Rattle.photo_version.specs.Vector as versions
 use Rattle.photo_version.specs.Vector.{Bound}
 use Rattle.item_knowledge.specs.Tables.{keys_pass, in_order, at}
 use Rattle.item_knowledge.specs.Apart.{numbered}
 use Rattle.item_knowledge.specs.Entries.{Entry, denotes, is_entry, is_vector}
-use Rattle.item_knowledge.specs.Fragments.{Fragment, knows, nothing, entries_at}
-use Rattle.item_knowledge.specs.Kept.{star_bound}
-use Rattle.item_knowledge.specs.Spare.{IsJoined}
+use Rattle.item_knowledge.specs.Fragments.{Fragment, reaches, knows, nothing, entries_at}
 use Rattle.item_knowledge.specs.Rows.{flat, fragments_of, rows_of, AreRows}
 use Rattle.item_knowledge.specs.Gathering.{is_above, vector_of, IsSide, star_first}
-use Rattle.item_knowledge.specs.TableRows.{entries_of, told_one, told, IsTold}
+use Rattle.item_knowledge.specs.TableRows.{entries_of, told_one, told, IsTold, IsTelling}
 use Rattle.item_knowledge.proofs.ApartLemmas.{rows_snoc, numbered_snoc}
 use Rattle.item_knowledge.proofs.EntryLemmas.{vector_parts}
 use Rattle.item_knowledge.proofs.RowLemmas.{fragments_rows, rows_rows}
@@ -106,11 +103,19 @@ found_told gs n (t ∷ table) p e z s =
     let rest = found_told (gs ++ one ∷ []) (suc n) table p (omega (arith, length-append gs (one ∷ []))) (omega arith) first in
     grind (arith, nat_tests, append_assoc gs (one ∷ []) (told table))
 
--- What is learned of a table
+-- What is told of a picture, found by the picture
 
-pub record IsLearned (table : List (ℕ × List Bound)) (known new : List Fragment) : Type 0 where
-  pub star : (a : Author) → star_bound new a ≡ star_bound known a
-  pub pairs : (p : ℕ) (v : Version) → 0 < p → knows new p v ≡ (knows known p v || versions.denotes (at [] table p) v)
+-- whether fragments have a version for a picture
+abbrev tells_of : ℕ → Version → Fragment → Bool
+tells_of p v f = reaches f p && denotes f.entries v
+
+none_behind : (p : ℕ) (v : Version) (table : List (ℕ × List Bound)) → keys_pass (λ k. ltb p k) table ≡ true → list_any (tells_of p v) (told table) ≡ false
+none_behind p v [] h = refl
+none_behind p v (t ∷ table) h = grind (arith, nat_tests, none_behind p v table)
+
+any_told : (p : ℕ) (v : Version) (table : List (ℕ × List Bound)) → in_order table ≡ true → list_any (tells_of p v) (told table) ≡ versions.denotes (at [] table p) v
+any_told p v [] h = refl
+any_told p v (t ∷ table) h = grind (arith, nat_tests, any_told p v table, none_behind t.0 v table, entries_denote t.1 v)
 
 module _ {table : List (ℕ × List Bound)} {rows : List (List ℕ)} {numbers : List (ℕ × ℕ)} (h : IsTold table rows numbers) where
   made : fragments_of rows ≡ star_first [] (told table)
@@ -141,11 +146,17 @@ module _ {table : List (ℕ × List Bound)} {rows : List (List ℕ)} {numbers : 
       above [] v = refl
       above (g ∷ gs) v = grind (arith, nat_tests, above gs)
 
-  pub told_learned : (before known new : List Fragment) (xs : List (ℕ × ℕ)) → before ≡ known → xs ≡ numbers → IsJoined before (fragments_of rows) xs new → IsLearned table known new
-  told_learned before known new xs same index j = record {
-    star = λ a. j.star a ∙ ((λ i. max (star_bound (same i) a) (star_bound (made i) a)) ∙ max-zero (star_bound known a));
-    pairs = λ p v z.
-        j.pairs p v z
-        ∙ ((λ i. knows (same i) p v || denotes (vector_of (made i) ((index ∙ h.index_is) i) p) v)
-        ∙ ap (λ b. knows known p v || b) (ap (λ es. denotes es v) (found_told (nothing ∷ []) 1 table p refl (omega arith) refl) ∙ entries_denote (at [] table p) v));
+  told_knows : (p : ℕ) (v : Version) → in_order table ≡ true → knows (fragments_of rows) p v ≡ versions.denotes (at [] table p) v
+  told_knows p v o = ap (λ fs. knows fs p v) made ∙ any_told p v table o
+
+  pub telling : (xs : List (ℕ × ℕ)) → xs ≡ numbers → in_order table ≡ true → IsTelling rows xs
+  telling xs same o = record {
+    rows = told_are_rows;
+    side = told_side xs same o;
+    star = told_star;
+    pairs = λ p v z. told_knows p v o ∙ sym (entries_denote (at [] table p) v)
+        ∙ ap (λ es. denotes es v) (sym ((λ i. vector_of (made i) ((same ∙ h.index_is) i) p) ∙ found_told (nothing ∷ []) 1 table p refl (omega arith) refl));
   }
+
+  pub telling_pairs : (fs : List Fragment) → fs ≡ fragments_of rows → in_order table ≡ true → (p : ℕ) (v : Version) → 0 < p → knows fs p v ≡ versions.denotes (at [] table p) v
+  telling_pairs fs is o p v z = ap (λ gs. knows gs p v) is ∙ told_knows p v o

@@ -1,13 +1,14 @@
 -- Machinery of the proofs: what is told of pictures, with their vectors as those of versions have them.
-use Rattle.std.specs.Prelude.{◌≡◌, ℕ, true, nat_lt, List, [], ◌∷◌, map}
+use Rattle.std.specs.Prelude.{◌≡◌, ℕ, ◌<◌, true, nat_lt, List, [], ◌∷◌, map}
 use Rattle.std.specs.List.{list_all}
 use Rattle.photo_version.specs.Author.{author_word}
 use Rattle.photo_version.specs.Vector.{Bound}
+use Rattle.photo_version.specs.Version.{Version}
 use Rattle.item_knowledge.specs.Apart.{numbered}
-use Rattle.item_knowledge.specs.Entries.{Entry, is_vector}
-use Rattle.item_knowledge.specs.Fragments.{Fragment}
-use Rattle.item_knowledge.specs.Gathering.{star_first}
-use Rattle.item_knowledge.specs.Rows.{rows_of}
+use Rattle.item_knowledge.specs.Entries.{Entry, denotes, is_vector}
+use Rattle.item_knowledge.specs.Fragments.{Fragment, knows, entries_at}
+use Rattle.item_knowledge.specs.Gathering.{star_first, vector_of, IsSide}
+use Rattle.item_knowledge.specs.Rows.{rows_of, fragments_of, AreRows}
 use Rattle.item_knowledge.specs.Tables.{keys_pass}
 
 -- authors as words
@@ -27,3 +28,10 @@ pub record IsTold (table : List (ℕ × List Bound)) (rows : List (List ℕ)) (n
   pub index_is : numbers ≡ numbered 1 (told table)
   pub positive : keys_pass (λ p. nat_lt 0 p) table ≡ true
   pub vectors : list_all (λ t. is_vector (entries_of t.1)) table ≡ true
+
+-- what is told is kept: a side whose star has nothing, and whose index leads from each picture to what is told of it
+pub record IsTelling (live : List (List ℕ)) (numbers : List (ℕ × ℕ)) : Type 0 where
+  pub rows : AreRows live
+  pub side : IsSide (fragments_of live) numbers
+  pub star : entries_at (fragments_of live) 0 ≡ []
+  pub pairs : (p : ℕ) (v : Version) → 0 < p → knows (fragments_of live) p v ≡ denotes (vector_of (fragments_of live) numbers p) v

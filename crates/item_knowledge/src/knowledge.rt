@@ -4,7 +4,7 @@ use crate::index::IndexEntry;
 use crate::known::has_table;
 use crate::live::{LiveRows, is_within};
 use crate::search::{number_at, number_near};
-use crate::table_rows::told;
+use crate::told::Told;
 use photo_record::PicNo;
 use photo_version::{Vector, Version};
 use std::alloc::{AllocError, Global};
@@ -165,7 +165,7 @@ impl Knowledge {
         self.live.fragment(number).vector(self.alloc)
     }
 
-    // Stages what is known and what a side denotes.
+    // Stages what is known and what a side denotes. No memory is wanted where all of that is known.
     #[tactic(auto, using(crate::proofs::KeptLemmas::kept_side))]
     fn stage_union(&mut self, rows: &LiveRows, index: &[IndexEntry]) -> Result<(), AllocError>
         requires rows { AreRows rows.now }
@@ -176,6 +176,10 @@ impl Knowledge {
         ensures refused { OnErr result (self.new.staged ≡ None) }
     {
         self.staged = Staged::Nothing;
+        if is_within(rows, index, &self.live, &self.index) {
+            self.staged = Staged::AllKnown;
+            return Ok(());
+        }
         let written = self
             .live
             .union(self.alloc, &self.index, rows, index, &mut self.spare)?;
@@ -191,12 +195,20 @@ impl Knowledge {
         ensures staged { OnOk result (IsStagedUnion self.new.staged self.old.known other.now.known) }
         ensures refused { OnErr result (self.new.staged ≡ None) }
     {
-        self.staged = Staged::Nothing;
-        if is_within(&other.live, &other.index, &self.live, &self.index) {
-            self.staged = Staged::AllKnown;
-            return Ok(());
-        }
         self.stage_union(&other.live, &other.index)?;
+        Ok(())
+    }
+
+    /// Prepares to learn what is told, as `stage` does what another knows. Its only error is want of memory, which leaves
+    /// nothing staged; none is wanted where all of it is known.
+    pub fn stage_told(&mut self, told: &Told) -> Result<(), AllocError>
+        ensures known { self.new.known ≡ self.old.known }
+        ensures staged { OnOk result (IsStagedUnion self.new.staged self.old.known told.now) }
+        ensures star { (a : Author) → star_bound told.now a ≡ 0 }
+        ensures refused { OnErr result (self.new.staged ≡ None) }
+    {
+        let (rows, index) = told.parts();
+        self.stage_union(rows, index)?;
         Ok(())
     }
 
@@ -273,8 +285,9 @@ impl Knowledge {
         if has_table(self, table) {
             return Ok(());
         }
-        let (rows, index) = told(self.alloc, table)?;
-        self.take_union(&rows, &index)?;
+        let told = Told::of_table(self.alloc, table)?;
+        self.stage_told(&told)?;
+        self.commit();
         Ok(())
     }
 

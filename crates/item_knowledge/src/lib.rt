@@ -26,8 +26,9 @@ mod places;
 mod rows;
 mod search;
 mod side;
-mod table_rows;
+mod told;
 mod union;
 
 pub use fragment::{Fragment, FragmentEntries};
 pub use knowledge::Knowledge;
+pub use told::Told;

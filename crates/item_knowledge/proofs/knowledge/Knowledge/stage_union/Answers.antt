@@ -1,7 +1,8 @@
-use Rattle.std.proofs.Common.{rules, subst}
+use Rattle.std.proofs.Common.{rules, sym, ap, ◌∙◌, subst}
 use Rattle.item_knowledge.specs.Rows.{fragments_of}
 use Rattle.item_knowledge.specs.Gathering.{IsUnion}
-use Rattle.item_knowledge.proofs.KeptLemmas.{joins}
+use Rattle.item_knowledge.specs.Kept.{is_side_within}
+use Rattle.item_knowledge.proofs.KeptLemmas.{joins, joins_none}
 use Rattle.item_knowledge.proofs.StagedLemmas.{known_of}
 use Rattle.item_knowledge.proofs.knowledge.Knowledge.stage_union.Goals as goal
 
@@ -10,3 +11,9 @@ returns-clause-joined c =
     let union : IsUnion (fragments_of c.self.inside.live) c.deref.result.now (fragments_of c.args.rows.now) c.args.index.now (fragments_of c.union.new.out) c.in_ok-written.written.items = search rules in
     joins c.self.inside.live c.self.inside.index.items c.args.self.now.known (fragments_of c.args.rows.now) (fragments_of c.union.new.out) c.args.index.now c.in_ok-written.written.items c.self.invariant.kept (known_of c.self.view_is)
     (subst (λ xs. IsUnion (fragments_of c.self.inside.live) xs (fragments_of c.args.rows.now) c.args.index.now (fragments_of c.union.new.out) c.in_ok-written.written.items) c.deref.ensures.value union)
+
+pub returns-then-is_within-clause-joined : goal.returns-then-is_within-clause-joined
+returns-then-is_within-clause-joined c =
+    let is = ap (λ xs. is_side_within (fragments_of c.args.rows.now) c.args.index.now (fragments_of c.self.inside.live) xs) (sym c.deref.ensures.value) in
+    joins_none c.self.inside.live c.self.inside.index.items c.args.index.now c.args.self.now.known (fragments_of c.args.rows.now) c.self.invariant.kept (known_of c.self.view_is) c.requires.side
+    (is ∙ (sym c.is_within.ensures ∙ c.if-is_within.true))

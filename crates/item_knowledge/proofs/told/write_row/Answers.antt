@@ -5,7 +5,7 @@ use Rattle.std.proofs.lemmas.List.{take_all}
 use Rattle.photo_version.specs.Author.{author_word, is_author_word}
 use Rattle.item_knowledge.specs.Entries.{most_number}
 use Rattle.item_knowledge.proofs.TableRowLemmas.{IsRowOf, got_take, row_more, row_vector}
-use Rattle.item_knowledge.proofs.table_rows.write_row.Goals as goal
+use Rattle.item_knowledge.proofs.told.write_row.Goals as goal
 
 pub loop-i-init : goal.loop-i-init
 loop-i-init c = record { written = record { row_is = search rules; entries = refl } }

@@ -5,7 +5,7 @@ use Rattle.std.proofs.lemmas.Option.{slice_get-get_or}
 use Rattle.item_knowledge.specs.Rows.{flat}
 use Rattle.item_knowledge.specs.TableRows.{entries_of, IsTold}
 use Rattle.item_knowledge.proofs.TableRowLemmas.{got_take, one_told, told_are_rows, told_are_vectors}
-use Rattle.item_knowledge.proofs.table_rows.told.Goals as goal
+use Rattle.item_knowledge.proofs.told.rows_of.Goals as goal
 
 pub loop-i-preserved : goal.loop-i-preserved
 loop-i-preserved c =
