@@ -116,7 +116,7 @@ star_is_vector [] normal = absurd (false≢true normal)
 star_is_vector (s ∷ gs) normal = (and_parts (is_empty s.pictures) (is_vector s.entries) (and_parts (is_empty s.pictures && is_vector s.entries) (are_groups s.entries gs) normal).0).1
 
 -- where no version of the author is known above a number, the star has none either
-star_at_most : (fs : List Fragment) (a : Author) (k : ℕ) → is_normal fs ≡ true → ((p n : ℕ) → 0 < p → knows fs p (version a n) ≡ true → n ≤ k) → star_bound fs a ≤ k
+pub star_at_most : (fs : List Fragment) (a : Author) (k : ℕ) → is_normal fs ≡ true → ((p n : ℕ) → 0 < p → knows fs p (version a n) ≡ true → n ≤ k) → star_bound fs a ≤ k
 star_at_most fs a k normal own =
     let n = star_bound fs a in
     let denoted = denotes-bound (entries_at fs 0) (version a n) (star_is_vector fs normal) in
@@ -124,12 +124,10 @@ star_at_most fs a k normal own =
     let most = own 1 n in
     grind (arith, nat_tests)
 
-pub own_still : (a : Author) (k : ℕ) (gain old new : List Fragment) → is_normal gain ≡ true → KnowsNoMore a k gain → ((b : Author) → star_bound new b ≡ max (star_bound old b) (star_bound gain b))
+pub own_still : (a : Author) (k : ℕ) (gain old new : List Fragment) → star_bound gain a ≤ k → KnowsNoMore a k gain → ((b : Author) → star_bound new b ≡ max (star_bound old b) (star_bound gain b))
     → ((p : ℕ) (w : Version) → 0 < p → knows new p w ≡ (knows old p w || knows gain p w)) → KnowsItsOwn a k old → KnowsItsOwn a k new
-own_still a k gain old new normal none star learned own = record {
-  star =
-      let below = star_at_most gain a k normal none.own in
-      star a ∙ ap (λ n. max n (star_bound gain a)) own.star ∙ omega arith;
+own_still a k gain old new below none star learned own = record {
+  star = star a ∙ ap (λ n. max n (star_bound gain a)) own.star ∙ omega arith;
   own = λ p n above. learned p (version a n) above ∙ ap (λ b. b || knows gain p (version a n)) (own.own p n above) ∙ (let up = known_above gain p (version a n) in let most = none.own p n above in grind (arith, nat_tests));
   later = λ p v above later. learned p v above ∙ (λ i. own.later p v above later i || none.later p v above later i);
 }

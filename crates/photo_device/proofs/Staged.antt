@@ -7,8 +7,9 @@ use Rattle.photo_filter_rules.specs.Matching.{matches}
 use Rattle.photo_version.specs.Author.{Author}
 use Rattle.photo_version.specs.Version.{Version}
 use Rattle.item_knowledge.specs.Kept.{star_bound}
-use Rattle.item_knowledge.specs.Fragments.{Fragment, knows, is_normal}
+use Rattle.item_knowledge.specs.Fragments.{Fragment, knows}
 use Rattle.item_knowledge.specs.Staged.{Knowing, settled, IsStagedUnion}
+use Rattle.std.specs.List.{AllByRecursion}
 use Rattle.photo_device.specs.declared.held.Held.{Held}
 use Rattle.photo_device.specs.declared.prepared.Prepared.{Prepared}
 use Rattle.photo_device.specs.Entry.{Entry, put_entries, without}
@@ -17,7 +18,7 @@ use Rattle.photo_device.specs.Device.{Kept, Staging, ModelDevice, Shows, changed
 use Rattle.photo_device.specs.Own.{HasEarlier, IsKnownBy, IsDevice}
 use Rattle.block_list.specs.Room.{Reserved}
 use Rattle.photo_device.specs.Taking.{AreNewTo, MayTake, with_side}
-use Rattle.photo_device.specs.Staging.{HasStaged, MayHand, MayStage, known_then, staging, staging_of, IsPrepared, FitsWhatIsPrepared, AreParts}
+use Rattle.photo_device.specs.Staging.{MayHand, MayStage, IsReadied, known_then, staging, staging_of, IsPrepared, FitsWhatIsPrepared, AreParts}
 use Rattle.photo_device.proofs.AllLemmas.{all_append}
 use Rattle.photo_device.proofs.Counts.{count_of-append, count_of-filter}
 use Rattle.photo_device.proofs.OwnLemmas.{known_later, own_still}
@@ -51,39 +52,33 @@ then_is (Some fs) P there all = all
 
 -- staging a change
 
-pub stages : (new : Knowing) (p : Prepared) (gain : List Fragment) (d : Kept) → new.known ≡ d.knowledge → IsStagedUnion new.staged d.knowledge gain → is_normal gain ≡ true → MayStage p.drops p.takes gain d
-    → p.in_store.most ≡ length d.store → p.in_store.more ≡ length p.takes + p.room → p.in_out.most ≡ length d.out → p.in_out.more ≡ length p.takes + p.room → IsDevice (unstaged d)
-    → AreParts (Some p) new.staged (record (unstaged d) { knowledge = new.known })
-stages new p gain d known union normal may store_most store_more out_most out_more is =
+pub stages : (new : Knowing) (p : Prepared) (drops : List Version) (takes : List Held) (room : ℕ) (gain : List Fragment) (d : Kept) → new.known ≡ d.knowledge → IsStagedUnion new.staged d.knowledge gain → star_bound gain d.author ≤ d.counter
+    → MayStage drops takes gain d → IsReadied drops takes room d p → IsDevice (unstaged d) → AreParts (Some p) new.staged (record (unstaged d) { knowledge = new.known })
+stages new p drops takes room gain d known union star may ready is =
     subst (λ k. AreParts (Some p) new.staged (record (unstaged d) { knowledge = k })) (sym known) (record {
       device = is;
       fits = record {
         there = union.there;
         ahead = record {
-          own = own_still d.author d.counter gain d.knowledge (known_then new.staged) normal may.own (then_is new.staged (λ s. (a : Author) → star_bound s a ≡ max (star_bound d.knowledge a) (star_bound gain a)) union.there union.star) pairs is.knows;
+          own = own_still d.author d.counter gain d.knowledge (known_then new.staged) star may.own (then_is new.staged (λ s. (a : Author) → star_bound s a ≡ max (star_bound d.knowledge a) (star_bound gain a)) union.there union.star) pairs is.knows;
           more = λ p v above here. pairs p v above ∙ ap (λ b. b || knows gain p v) here;
-          known = known_later gain (known_then new.staged) (λ p v above here. pairs p v above ∙ ap (λ b. knows d.knowledge p v || b) here ∙ or-true (knows d.knowledge p v)) p.takes may.known;
+          known = subst (AllByRecursion (IsKnownBy (known_then new.staged))) (sym ready.takes_are)
+              (known_later gain (known_then new.staged) (λ p v above here. pairs p v above ∙ ap (λ b. knows d.knowledge p v || b) here ∙ or-true (knows d.knowledge p v)) takes may.known);
         };
-        once = (all_new p.takes (unstaged d) may.new may.distinct is).once;
-        earlier = may.earlier;
-        store = omega arith;
-        store_room = omega arith;
-        out = omega arith;
-        out_room = omega arith;
+        once = subst (λ hs. (v : Version) → count_of v (hs ++ (d.store ++ d.out)) ≤ 1) (sym ready.takes_are) (all_new takes (unstaged d) may.new may.distinct is).once;
+        earlier = subst (AllByRecursion HasEarlier) (sym ready.takes_are) may.earlier;
+        store = let most = ready.store in omega arith;
+        store_room = room_for (p.in_store.more) ready.store_room;
+        out = let most = ready.out in omega arith;
+        out_room = room_for (p.in_out.more) ready.out_room;
       };
     })
   where
     pairs : (p : ℕ) (v : Version) → 0 < p → knows (known_then new.staged) p v ≡ (knows d.knowledge p v || knows gain p v)
     pairs = then_is new.staged (λ s. (p : ℕ) (v : Version) → 0 < p → knows s p v ≡ (knows d.knowledge p v || knows gain p v)) union.there union.pairs
 
-pub has_staged : (o : Option (List Fragment)) (p : Prepared) (gain : List Fragment) (old new : Kept) → IsStagedUnion o old.knowledge gain → new.staged ≡ staging_of (Some p) o → IsAsItWas old new
-    → HasStaged p.drops p.takes gain p.room old new
-has_staged o p gain old new union staged rest = record {
-  rest = rest;
-  knowledge = known_then o;
-  staged = staged;
-  learned = then_is o (λ s. (p : ℕ) (v : Version) → 0 < p → knows s p v ≡ (knows old.knowledge p v || knows gain p v)) union.there union.pairs;
-}
+    room_for : (more : ℕ) → more ≡ length takes + room → length p.takes + p.room ≤ more
+    room_for more is = let taken = ap length ready.takes_are in let same = ready.room_is in omega arith
 
 -- where nothing is staged nothing is prepared
 pub none_prepared : (prepared : Option Prepared) (o : Option (List Fragment)) → staging_of prepared o ≡ None → prepared ≡ None

@@ -1,44 +1,97 @@
 -- Tables of what is told of pictures.
-use Rattle.std.proofs.Common.{◌≡◌, ℕ, ◌+◌, ◌<◌, ◌≤◌, Bool, true, false, cond, eqb, ltb, leb, ◌&&◌, ◌||◌, List, [], ◌∷◌, ◌++◌, length, get_or, take, refl, sym, ap, ◌∙◌, subst, inl, inr, arith}
+use Rattle.std.proofs.Common.{◌≡◌, ℕ, ◌≤◌, Bool, true, false, not, cond, eqb, ltb, leb, ◌&&◌, ◌||◌, List, [], ◌∷◌, ◌++◌, length-append, refl, sym, ap, ◌∙◌, subst, inl, inr, arith}
+use Rattle.std.specs.List.{list_all, list_any}
 use Rattle.std.proofs.Math.Bool.{or-false, and-true}
 use Rattle.std.proofs.lemmas.Bool.Decides.{nat_tests}
-use Rattle.std.proofs.lemmas.Bool.{and_parts, and_from, eqb-true, eqb-false, eq-eqb, ne_eqb, lt-ltb, le-leb, leb-true, ltb-true, cases_eq}
-use Rattle.std.proofs.lemmas.List.{get_or_default}
-use Rattle.std.proofs.lemmas.List.Folds.{list_any_more, list_all-append}
+use Rattle.std.proofs.lemmas.Bool.{and_parts, and_from, eqb-true, eqb-false, eq-eqb, ne_eqb, lt-ltb, le-leb, leb-true, ltb-true, ltb-false, cases_eq}
+use Rattle.std.proofs.lemmas.List.Folds.{list_all-append}
 use Rattle.photo_version.specs.Version.{Version, same_version}
 use Rattle.photo_version.specs.Vector.{Bound, denotes}
 use Rattle.item_knowledge.specs.Tables.{in_order, keys_pass, at}
 use Rattle.item_knowledge.proofs.TableLemmas.{keys_pass-weaker}
 use Rattle.photo_device.specs.declared.held.Held.{Held}
-use Rattle.photo_device.specs.Anew.{HasBesides}
-use Rattle.photo_device.specs.Held.{are_in_order}
+use Rattle.photo_device.specs.Anew.{AreLeft, HasBesides, IsNextOf, is_second_next}
+use Rattle.photo_device.specs.Held.{are_in_order, held_before}
 use Rattle.photo_device.specs.Telling.{tells}
-use Rattle.photo_device.proofs.Order.{rises}
+use Rattle.photo_device.proofs.Putting.{list_all_wider}
 use Rattle.photo_device.proofs.TellingLemmas.{one}
 
 abbrev pub Table : Type 0
 Table = List (ℕ × List Bound)
 
--- a table tells what so many of a list tell, and its pictures are none greater than the one that follows
-pub record IsTableOf (table : Table) (hs : List Held) (i : ℕ) : Type 0 where
+-- what is left of two lists, and which of them is next
+
+least_from : (n : ℕ) (x : Held) (xs : List Held) → n ≤ x.picture → are_in_order (x ∷ xs) ≡ true → list_all (λ (z : Held). leb n z.picture) (x ∷ xs) ≡ true
+least_from n x xs l order =
+    and_from _ _ (le-leb n x.picture l)
+    (list_all_wider (held_before x) (λ z. leb n z.picture) (λ z before. grind (arith, nat_tests)) xs (and_parts _ _ order).0)
+
+-- one goes out of the midst of a list
+any_between : (f : Held → Bool) (xs ys : List Held) (y : Held) → list_any f (xs ++ y ∷ ys) ≡ (f y || list_any f (xs ++ ys))
+any_between f [] ys y = refl
+any_between f (x ∷ xs) ys y = let rest = any_between f xs ys y in grind arith
+
+-- the first list's is next
+pub first_next : (x : Held) (all xs ys : List Held) → all ≡ x ∷ xs → AreLeft all ys → is_second_next all ys ≡ false → IsNextOf x (all ++ ys) (xs ++ ys)
+first_next x all xs ys is = rw is (λ left first.
+    let rest = least_from x.picture x xs (omega arith) left.xs_order in
+    record {
+      earlier = left.xs_earlier.0;
+      least = list_all-append (λ (z : Held). leb x.picture z.picture) xs ys ∙ and_from _ _ (and_parts _ _ rest).1 (others ys left.ys_order first);
+      rest = λ f. refl;
+      fewer = omega arith;
+    })
+  where
+    others : (ys : List Held) → are_in_order ys ≡ true → is_second_next (x ∷ xs) ys ≡ false → list_all (λ (z : Held). leb x.picture z.picture) ys ≡ true
+    others [] order first = refl
+    others (y ∷ ys) order first = least_from x.picture y ys (ltb-false y.picture x.picture first) order
+
+-- the second's is
+pub second_next : (xs : List Held) (y : Held) (all ys : List Held) → all ≡ y ∷ ys → AreLeft xs all → is_second_next xs all ≡ true → IsNextOf y (xs ++ all) (xs ++ ys)
+second_next xs y all ys is = rw is (λ left second.
+    let rest = least_from y.picture y ys (omega arith) left.ys_order in
+    record {
+      earlier = left.ys_earlier.0;
+      least = list_all-append (λ (z : Held). leb y.picture z.picture) xs ys ∙ and_from _ _ (others xs left.xs_order second) (and_parts _ _ rest).1;
+      rest = λ f. any_between f xs ys y;
+      fewer = let with = length-append xs (y ∷ ys) in let without = length-append xs ys in omega (arith, with, without);
+    })
+  where
+    others : (xs : List Held) → are_in_order xs ≡ true → is_second_next xs (y ∷ ys) ≡ true → list_all (λ (z : Held). leb y.picture z.picture) xs ≡ true
+    others [] order second = refl
+    others (x ∷ xs) order second = let less = ltb-true y.picture x.picture second in least_from y.picture x xs (omega arith) order
+
+-- a table tells what of a list is not left, and its pictures are none greater than one that is
+pub record IsTableBefore (table : Table) (left all : List Held) : Type 0 where
   pub order : in_order table ≡ true
-  pub below : (d : Held) → i < length hs → keys_pass (λ k. leb k (get_or hs i d).picture) table ≡ true
-  pub told : (p : ℕ) (v : Version) → denotes (at [] table p) v ≡ tells (take i hs) p v
+  pub below : list_any (λ (x : Held). not (keys_pass (λ k. leb k x.picture) table)) left ≡ false
+  pub told : (p : ℕ) (v : Version) → (denotes (at [] table p) v || tells left p v) ≡ tells all p v
+
+none_beyond : (table : Table) (n : ℕ) (left : List Held) → keys_pass (λ k. leb k n) table ≡ true → list_all (λ (x : Held). leb n x.picture) left ≡ true
+    → list_any (λ (x : Held). not (keys_pass (λ k. leb k x.picture) table)) left ≡ false
+none_beyond table n [] all least = refl
+none_beyond table n (x ∷ left) all least =
+    let parts = and_parts _ _ least in
+    let here = keys_pass-weaker (λ k. leb k n) (λ k. leb k x.picture) (λ k h. grind (arith, nat_tests)) table all in
+    let rest = none_beyond table n left all parts.1 in
+    grind arith
+
+-- all of them are left yet
+pub none_told : (table : Table) (all : List Held) → table ≡ [] → IsTableBefore table all all
+none_told table all none = rw none record { order = refl; below = passed all; told = λ p v. refl }
+  where
+    passed : (left : List Held) → list_any (λ (x : Held). not (keys_pass {A = List Bound} (λ k. leb k x.picture) [])) left ≡ false
+    passed [] = refl
+    passed (x ∷ left) = passed left
 
 -- one more
-pub table_more : (table new : Table) (hs : List Held) (i : ℕ) (w : Held) → i < length hs → w ≡ get_or hs i w → are_in_order hs ≡ true
-    → HasBesides table new w.picture (λ v. denotes w.made_with v || same_version w.version v) → IsTableOf table hs i → IsTableOf new hs (i + 1)
-table_more table new hs i w l is ordered added so_far = record {
+pub next_told : (table new : Table) (h : Held) (before left all : List Held) → IsNextOf h before left
+    → HasBesides table new h.picture (λ v. denotes h.made_with v || same_version h.version v) → IsTableBefore table before all → IsTableBefore new left all
+next_told table new h before left all next added so_far = record {
   order = added.order;
-  below = λ d further.
-      let here : (get_or hs i d).picture ≡ w.picture = ap (λ (x : Held). x.picture) (get_or_default hs i d w l ∙ sym is) in
-      let rise = rises hs ordered i (i + 1) d (omega arith) further in
-      keys_pass-weaker (λ k. leb k w.picture) (λ k. leb k (get_or hs (i + 1) d).picture) (λ k h. let below = leb-true k w.picture h in le-leb k (get_or hs (i + 1) d).picture (omega arith)) new added.last;
-  told = λ p v. added.told p v ∙ (λ k. so_far.told p v k || one p v (is k)) ∙ sym (list_any_more (one p v) hs i w l);
+  below = none_beyond new h.picture left added.last next.least;
+  told = λ p v. let now = added.told p v in let rest = next.rest (one p v) in let told = so_far.told p v in grind arith;
 }
-
-pub before_next : (table : Table) (hs : List Held) (i : ℕ) (w : Held) → i < length hs → w ≡ get_or hs i w → IsTableOf table hs i → keys_pass (λ k. leb k w.picture) table ≡ true
-before_next table hs i w l is so_far = subst (λ (x : Held). keys_pass (λ k. leb k x.picture) table ≡ true) (sym is) (so_far.below w l)
 
 -- rows at the end of a table
 

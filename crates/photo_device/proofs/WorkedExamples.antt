@@ -9,7 +9,7 @@ use Rattle.item_knowledge.specs.Fragments.{Fragment, knows}
 use Rattle.photo_device.specs.Held.{count_of}
 use Rattle.photo_device.specs.Device.{Kept, Staging}
 use Rattle.photo_device.specs.Own.{HasEarlier, IsKnownBy}
-use Rattle.photo_device.specs.Examples.{nth, first, edited, other, gain, learned, of_seven, MayStageAsTold, HasStagedAsTold, MayHandAsTold, TheRowsOfNotes, TheTables}
+use Rattle.photo_device.specs.Examples.{nth, first, edited, other, gain, learned, MayStageAsTold, HasStagedAsTold, MayHandAsTold, TheRowsOfNotes, TheTables}
 
 no : false ≡ true → ⊥
 no e = false≢true e

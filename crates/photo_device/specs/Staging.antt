@@ -70,6 +70,16 @@ pub record IsPrepared (p : Prepared) (knowledge : Option (List Fragment)) (d : K
   pub out : length d.out ≤ p.in_out.most
   pub out_room : length p.takes + p.room ≤ p.in_out.more
 
+-- a change is prepared but for what is learned, with room for all that it takes and that may be handed over
+pub record IsReadied (drops : List Version) (takes : List Held) (room : ℕ) (d : Kept) (p : Prepared) : Type 0 where
+  pub drops_are : p.drops ≡ drops
+  pub takes_are : p.takes ≡ takes
+  pub room_is : p.room ≡ room
+  pub store : p.in_store.most ≡ length d.store
+  pub store_room : p.in_store.more ≡ length takes + room
+  pub out : p.in_out.most ≡ length d.out
+  pub out_room : p.in_out.more ≡ length takes + room
+
 -- what is prepared fits the device, and where nothing is prepared, its knowledge has nothing staged either
 abbrev pub FitsWhatIsPrepared : Option Prepared → Option (List Fragment) → Kept → Type 0
 FitsWhatIsPrepared None knowledge d = knowledge ≡ None

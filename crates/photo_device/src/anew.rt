@@ -1,17 +1,22 @@
 // What a device holds, sorted anew for another filter.
-ghost use Rattle.std.specs.Prelude.{◌≡◌, true, false, filter, IfOk, OnOk, OnErr};
+ghost use Rattle.std.specs.Prelude.{◌≡◌, ℕ, ◌<◌, ◌||◌, true, false, None, filter, IfOk, OnOk, OnErr};
 ghost use Rattle.std.specs.List.{AllByRecursion};
 ghost use Rattle.photo_filter_rules.specs.Matching.{matches};
+ghost use Rattle.photo_version.specs.Author.{Author};
+ghost use Rattle.photo_version.specs.Version.{Version};
+ghost use Rattle.item_knowledge.specs.Fragments.{knows};
+ghost use Rattle.item_knowledge.specs.Kept.{star_bound};
 ghost use Rattle.photo_device.specs.Held.{are_in_order};
 ghost use Rattle.photo_device.specs.Own.{HasEarlier};
 ghost use Rattle.photo_device.specs.Anew.{IsAnew};
 ghost use Rattle.photo_device.specs.Taking.{with_side, AreNewTo};
+ghost use Rattle.photo_device.specs.Telling.{tells};
 
 use crate::takes::sort_in;
-use crate::{HeldSet, SharedList, gain_of};
+use crate::{HeldSet, SharedHeld, SharedList, told_by};
 use item_knowledge::Knowledge;
 use photo_filter_rules::Filter;
-use std::alloc::AllocError;
+use std::alloc::{AllocError, Global};
 
 /// What two sets hold, sorted anew, and what it tells.
 #[derive(Debug, Drop)]
@@ -34,6 +39,28 @@ pub(crate) fn listed(set: &HeldSet) -> Result<SharedList, AllocError>
     set.to_list()
 }
 
+// What two lists tell, and no more, as a knowledge. Its only error is want of memory.
+fn knowledge_of(
+    alloc: Global,
+    stored: &[SharedHeld],
+    waiting: &[SharedHeld],
+) -> Result<Knowledge, AllocError>
+    requires stored_order { are_in_order stored.now ≡ true }
+    requires waiting_order { are_in_order waiting.now ≡ true }
+    requires stored { AllByRecursion HasEarlier stored.now }
+    requires waiting { AllByRecursion HasEarlier waiting.now }
+    ensures pairs { IfOk result (λ told. (p : ℕ) (v : Version) → 0 < p
+        → knows told.known p v ≡ (tells stored.now p v || tells waiting.now p v)) }
+    ensures star { IfOk result (λ told. (a : Author) → star_bound told.known a ≡ 0) }
+    ensures staged { IfOk result (λ told. told.staged ≡ None) }
+{
+    let told = told_by(alloc, stored, waiting)?;
+    let mut knowledge = Knowledge::new(alloc)?;
+    knowledge.stage_told(&told)?;
+    knowledge.commit();
+    Ok(knowledge)
+}
+
 /// What two sets hold, sorted anew by a filter, and what it tells. Its only error is want of memory.
 pub(crate) fn held_anew(wanted: &Filter, store: &HeldSet, out: &HeldSet) -> Result<Anew, AllocError>
     requires once { AreNewTo out.now store.now }
@@ -44,7 +71,7 @@ pub(crate) fn held_anew(wanted: &Filter, store: &HeldSet, out: &HeldSet) -> Resu
     let alloc = store.alloc();
     let stored = listed(store)?;
     let waiting = listed(out)?;
-    let told = gain_of(alloc, stored.as_slice(), waiting.as_slice())?;
+    let told = knowledge_of(alloc, stored.as_slice(), waiting.as_slice())?;
     let mut anew = Anew {
         store: HeldSet::new(alloc),
         out: HeldSet::new(alloc),

@@ -12,7 +12,7 @@ use crate::{
     Change, ChangeFault, Conflict, Held, HeldSet, NarrowFault, Place, SharedHeld, SharedList,
     VersionList, conflicts,
 };
-use item_knowledge::Knowledge;
+use item_knowledge::{Knowledge, Told};
 use photo_filter_rules::{Filter, covers};
 use photo_record::{PicNo, Record};
 use photo_version::{Author, Version};
@@ -73,7 +73,7 @@ impl Device {
     ghost use Rattle.photo_device.specs.Held.{are_in_order, find_version, find_version_of, has_picture, count_of, times_in};
     ghost use Rattle.photo_device.specs.Held.{entry_of, entries_of, helds_at};
     ghost use Rattle.photo_device.specs.Own.{HasEarlier, HasMade, IsDevice, IsKnownBy, IsNext, KnowsItsOwn, KnowsNoMore};
-    ghost use Rattle.photo_device.specs.Staging.{HasStaged, MayHand, MayStage};
+    ghost use Rattle.photo_device.specs.Staging.{HasStaged, MayHand, MayStage, IsReadied};
     ghost use Rattle.photo_version.specs.Author.{epoch_of_author};
     ghost use Rattle.photo_version.specs.Version as versions;
     ghost use Rattle.item_knowledge.specs.Fragments.{knows};
@@ -368,28 +368,68 @@ impl Device {
         ensures drops_back { IfErr result (λ e. e.0 ≡ drops) }
         ensures takes_back { IfErr result (λ e. e.1 ≡ takes) }
     {
+        let prepared = self.prepare(drops, pictures, takes, room)?;
+        // For its fact alone: a knowledge is in normal form.
+        let _fragments = gain.fragments();
+        if let Err(refused) = self.knowledge.stage(gain) {
+            return Err((prepared.drops, prepared.takes, refused));
+        }
+        self.prepared = Some(prepared);
+        Ok(())
+    }
+
+    /// Prepares a change as `stage_lent` does, where what is learned is told of pictures.
+    pub fn stage_told(
+        &mut self,
+        drops: VersionList,
+        pictures: Vec<PicNo>,
+        takes: SharedList,
+        told: &Told,
+        room: usize,
+    ) -> Result<(), (VersionList, SharedList, AllocError)>
+        requires may { MayStage drops takes told.now self.old }
+        ensures staged { OnOk result (HasStaged drops takes told.now room self.old self.new) }
+        ensures err { OnErr result (IsAsItWas self.old self.new) }
+        ensures unstaged { OnErr result (self.new.staged ≡ None) }
+        ensures drops_back { IfErr result (λ e. e.0 ≡ drops) }
+        ensures takes_back { IfErr result (λ e. e.1 ≡ takes) }
+    {
+        let prepared = self.prepare(drops, pictures, takes, room)?;
+        if let Err(refused) = self.knowledge.stage_told(told) {
+            return Err((prepared.drops, prepared.takes, refused));
+        }
+        self.prepared = Some(prepared);
+        Ok(())
+    }
+
+    // A change but for what is learned, with room for it. Nothing is staged then.
+    fn prepare(
+        &mut self,
+        drops: VersionList,
+        pictures: Vec<PicNo>,
+        takes: SharedList,
+        room: usize,
+    ) -> Result<Prepared, (VersionList, SharedList, AllocError)>
+        ensures unstaged { self.new ≡ unstaged self.old }
+        ensures ok { IfOk result (λ prepared. IsReadied drops takes room self.new prepared) }
+        ensures drops_back { IfErr result (λ e. e.0 ≡ drops) }
+        ensures takes_back { IfErr result (λ e. e.1 ≡ takes) }
+    {
         self.unstage();
         let Some(more) = takes.len().checked_add(room) else {
             return Err((drops, takes, AllocError));
         };
-        let (in_store, in_out) = match rooms(&mut self.store, &mut self.out, more) {
-            Ok(rooms) => rooms,
-            Err(refused) => return Err((drops, takes, refused)),
-        };
-        // For its fact alone: a knowledge is in normal form.
-        let _fragments = gain.fragments();
-        if let Err(refused) = self.knowledge.stage(gain) {
-            return Err((drops, takes, refused));
+        match rooms(&mut self.store, &mut self.out, more) {
+            Ok((in_store, in_out)) => Ok(Prepared {
+                drops,
+                pictures,
+                takes,
+                room,
+                in_store,
+                in_out,
+            }),
+            Err(refused) => Err((drops, takes, refused)),
         }
-        self.prepared = Some(Prepared {
-            drops,
-            pictures,
-            takes,
-            room,
-            in_store,
-            in_out,
-        });
-        Ok(())
     }
 
     /// Whether a change is staged.

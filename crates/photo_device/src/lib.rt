@@ -36,7 +36,7 @@ pub use item_list::ItemList;
 use photo_version::Version;
 pub use place::Place;
 pub use shared_held::SharedHeld;
-pub use table::gain_of;
+pub use table::told_by;
 
 /// Held versions that are shared, in an order.
 pub type SharedList = ItemList<SharedHeld>;

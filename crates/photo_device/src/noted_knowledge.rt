@@ -1,7 +1,7 @@
 // What a device knows, with notes of what it was found to know.
 use crate::noted_versions::NotedVersions;
 use crate::{HeldSet, SharedHeld};
-use item_knowledge::Knowledge;
+use item_knowledge::{Knowledge, Told};
 use photo_version::Version;
 use std::alloc::{AllocError, Global};
 use std::marker::Model;
@@ -32,6 +32,7 @@ impl NotedKnowledge {
     ghost use Rattle.std.specs.Prelude.{◌≡◌, ℕ, ◌<◌, true, not, filter, None, IfOk, IfSome, OnOk, OnErr};
     ghost use Rattle.std.specs.List.{list_any};
     ghost use Rattle.std.specs.Option.{is_some};
+    ghost use Rattle.photo_version.specs.Author.{Author};
     ghost use Rattle.photo_version.specs.Version as versions;
     ghost use Rattle.item_knowledge.specs.Fragments.{knows};
     ghost use Rattle.item_knowledge.specs.Kept.{star_bound};
@@ -81,6 +82,16 @@ impl NotedKnowledge {
         ensures refused { OnErr result (self.new.staged ≡ None) }
     {
         self.knowledge.stage(gain)
+    }
+
+    /// As `Knowledge::stage_told`.
+    pub fn stage_told(&mut self, told: &Told) -> Result<(), AllocError>
+        ensures known { self.new.known ≡ self.old.known }
+        ensures staged { OnOk result (IsStagedUnion self.new.staged self.old.known told.now) }
+        ensures star { (a : Author) → star_bound told.now a ≡ 0 }
+        ensures refused { OnErr result (self.new.staged ≡ None) }
+    {
+        self.knowledge.stage_told(told)
     }
 
     /// As `Knowledge::unstage`.

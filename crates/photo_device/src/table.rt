@@ -1,19 +1,17 @@
 // What held versions tell of their pictures.
-ghost use Rattle.std.specs.Prelude.{◌≡◌, ℕ, ◌<◌, ◌||◌, nat_le, true, [], None, IfOk, OnOk};
+ghost use Rattle.std.specs.Prelude.{◌≡◌, ℕ, ◌<◌, ◌||◌, nat_le, true, IfOk, OnOk};
 ghost use Rattle.std.specs.List.{AllByRecursion};
-ghost use Rattle.photo_version.specs.Author.{Author};
 ghost use Rattle.photo_version.specs.Version as versions;
 ghost use Rattle.photo_version.specs.Vector.{denotes};
 ghost use Rattle.item_knowledge.specs.Fragments.{knows};
-ghost use Rattle.item_knowledge.specs.Kept.{star_bound};
-ghost use Rattle.item_knowledge.specs.Tables.{in_order, keys_pass, at};
+ghost use Rattle.item_knowledge.specs.Tables.{in_order, keys_pass};
 ghost use Rattle.photo_device.specs.Anew.{HasBesides};
 ghost use Rattle.photo_device.specs.Held.{are_in_order};
 ghost use Rattle.photo_device.specs.Own.{HasEarlier};
 ghost use Rattle.photo_device.specs.Telling.{tells};
 
 use crate::SharedHeld;
-use item_knowledge::Knowledge;
+use item_knowledge::Told;
 use photo_record::PicNo;
 use photo_version::Vector;
 use std::alloc::{AllocError, Global};
@@ -56,50 +54,65 @@ fn add_told(table: &mut Vec<(PicNo, Vector)>, held: &SharedHeld) -> Result<(), A
     add_row(table, held.picture(), vector)
 }
 
-// What versions tell, all those of one picture in one row.
-fn table_of(alloc: Global, list: &[SharedHeld]) -> Result<Vec<(PicNo, Vector)>, AllocError>
-    requires order { are_in_order list.now ≡ true }
-    requires earlier { AllByRecursion HasEarlier list.now }
-    ensures order { IfOk result (λ table. in_order table.items ≡ true) }
-    ensures told { IfOk result (λ table. (p : ℕ) (v : versions.Version) → denotes (at [] table.items p) v ≡ tells list.now p v) }
-{
-    let mut table = Vec::new(alloc);
-    for held in list {
-        add_told(&mut table, held)?;
-    }
-    Ok(table)
+// What is left of two lists that are gone along together, in the order of pictures.
+#[derive(Drop)]
+struct Along<'a> {
+    heard: &'a [SharedHeld],
+    handed: &'a [SharedHeld],
 }
 
-/// What both lists tell, as a knowledge that has it of single pictures alone. Its only error is want of memory.
-pub fn gain_of(
+impl<'a> Along<'a> {
+    ghost use Rattle.std.specs.Prelude.{◌≡◌, ◌++◌, [], None, IfSome};
+    ghost use Rattle.photo_device.specs.Anew.{AreLeft, IsNextOf, is_second_next};
+
+    // Whether the next is one of those that are handed over.
+    fn is_handed_next(&self) -> bool
+        ensures { result ≡ is_second_next self.now.heard.now self.now.handed.now }
+    {
+        let Some(other) = self.handed.first() else {
+            return false;
+        };
+        match self.heard.first() {
+            Some(held) => other.picture() < held.picture(),
+            None => true,
+        }
+    }
+
+    // The next of both.
+    fn next(&mut self) -> Option<&'a SharedHeld>
+        requires { AreLeft self.old.heard.now self.old.handed.now }
+        ensures left { AreLeft self.new.heard.now self.new.handed.now }
+        ensures next { IfSome result (λ held.
+            IsNextOf held.now (self.old.heard.now ++ self.old.handed.now) (self.new.heard.now ++ self.new.handed.now)) }
+        ensures none { result ≡ None → self.old.heard.now ++ self.old.handed.now ≡ [] }
+    {
+        if self.is_handed_next() {
+            let (held, others) = self.handed.split_first()?;
+            self.handed = others;
+            return Some(held);
+        }
+        let (held, others) = self.heard.split_first()?;
+        self.heard = others;
+        Some(held)
+    }
+}
+
+/// What both lists tell. Its only error is want of memory.
+pub fn told_by(
     alloc: Global,
     heard: &[SharedHeld],
     handed: &[SharedHeld],
-) -> Result<Knowledge, AllocError>
+) -> Result<Told, AllocError>
     requires heard_order { are_in_order heard.now ≡ true }
     requires handed_order { are_in_order handed.now ≡ true }
     requires heard { AllByRecursion HasEarlier heard.now }
     requires handed { AllByRecursion HasEarlier handed.now }
-    ensures pairs { IfOk result (λ gain. (p : ℕ) (v : versions.Version) → 0 < p
-        → knows gain.known p v ≡ (tells heard.now p v || tells handed.now p v)) }
-    ensures star { IfOk result (λ gain. (a : Author) → star_bound gain.known a ≡ 0) }
-    ensures staged { IfOk result (λ gain. gain.staged ≡ None) }
+    ensures { IfOk result (λ told. (p : ℕ) (v : versions.Version) → 0 < p → knows told p v ≡ (tells heard.now p v || tells handed.now p v)) }
 {
-    let mut gain = Knowledge::new(alloc)?;
-    learn_list(alloc, heard, &mut gain)?;
-    learn_list(alloc, handed, &mut gain)?;
-    Ok(gain)
-}
-
-// Learns what a list tells.
-fn learn_list(alloc: Global, list: &[SharedHeld], gain: &mut Knowledge) -> Result<(), AllocError>
-    requires order { are_in_order list.now ≡ true }
-    requires earlier { AllByRecursion HasEarlier list.now }
-    ensures pairs { OnOk result
-        ((p : ℕ) (v : versions.Version) → 0 < p → knows gain.new.known p v ≡ (knows gain.old.known p v || tells list.now p v)) }
-    ensures star { OnOk result ((a : Author) → star_bound gain.new.known a ≡ star_bound gain.old.known a) }
-    ensures staged { OnOk result (gain.new.staged ≡ None) }
-{
-    let told = table_of(alloc, list)?;
-    gain.learn_table(&told)
+    let mut table = Vec::with_capacity(alloc, heard.len().saturating_add(handed.len()))?;
+    let mut along = Along { heard, handed };
+    while let Some(held) = along.next() {
+        add_told(&mut table, held)?;
+    }
+    Told::of_table(alloc, &table)
 }

@@ -1,6 +1,6 @@
 -- What a change of the target asks of what it gives up, takes and learns; it may be staged, and is committed with what the source handed over.
 use Rattle.std.proofs.Common.{◌≡◌, ℕ, ◌+◌, ◌<◌, ◌≤◌, Bool, true, false, ◌&&◌, ◌||◌, List, [], ◌∷◌, ◌++◌, Option, Some, None, refl, sym, ap, ◌∙◌, inl, inr, length, arith, subst}
-use Rattle.std.specs.Prelude.{filter, Option, IfSome, is_some}
+use Rattle.std.specs.Prelude.{filter, not, Option, IfSome, is_some}
 use Rattle.std.specs.Option.{is_some}
 use Rattle.std.specs.List.{AllByRecursion, cons_option}
 use Rattle.std.proofs.lemmas.Bool.{and_parts, or_cases, or_left, or_right, not-true}
@@ -13,7 +13,7 @@ use Rattle.photo_device.specs.Held.{find_version, count_of, times_in, helds_at, 
 use Rattle.photo_device.specs.Device.{Kept, unstaged, Staging, ModelDevice, Shows, changed}
 use Rattle.photo_device.specs.Own.{HasEarlier, IsKnownBy, KnowsNoMore}
 use Rattle.photo_device.specs.Telling.{tells}
-use Rattle.photo_device.specs.Staging.{MayHand, MayStage}
+use Rattle.photo_device.specs.Staging.{HasStaged, MayHand, MayStage}
 use Rattle.photo_device.proofs.AllLemmas.{all_append, all_filter}
 use Rattle.photo_device.proofs.Changed.{all_new}
 use Rattle.photo_device.proofs.Counts.{count_of-append, count_of-filter, same_version_self, same_version_is}
@@ -150,6 +150,10 @@ module _ (t s : Kept) (ready : AreReady t s) where
   pub gained_all : learns t s ≡ true → (gain : List Fragment) → gain ≡ s.knowledge → IsGained t s gain
   gained_all learned gain is p v above = ap (λ fs. knows fs p v) is ∙ (let told = told_is_known t s ready p v in grind arith)
 
+  -- and where it doesn't, what is told
+  pub gained_told : learns t s ≡ false → (gain : List Fragment) (hs ws : List Held) → hs ≡ heard t s → ws ≡ new_waiting t s → ((p : ℕ) (v : Version) → 0 < p → knows gain p v ≡ (tells hs p v || tells ws p v)) → IsGained t s gain
+  gained_told none gain hs ws heard_is waiting_is told p v above = told p v above ∙ (λ i. tells (heard_is i) p v || tells (waiting_is i) p v) ∙ (let nothing = none in grind arith)
+
   module _ (room : ℕ) (new : Kept) (has : HasStagedPull t s room new) (handed : List Held) (handed_is : handed ≡ new_waiting t s) where
     -- what is handed over may be taken with the change that was staged
     pub may_hand : length handed ≤ room → IfSome new.staged (λ st. MayHand handed st new)
@@ -193,9 +197,22 @@ module _ (t s : Kept) (ready : AreReady t s) where
 
 -- what the code found
 module _ (t s : Kept) (h : Hearing) (hearing : IsHearing t s h) where
-  module _ (ds : List Version) (of_drops : ds ≡ drops t s) (gain : List Fragment) (gained : IsGained t s gain) where
-    pub may_stage : MayStage ds (filter (is_selected t.tree) h.heard.items) gain t
-    may_stage = subst (λ l. MayStage ds (filter (is_selected t.tree) l) gain t) (sym hearing.heard) (record {
+  -- it tells, or learns all
+  pub gained_by_all : (told : Option (List Fragment)) → told ≡ None → is_some told ≡ not h.learned → (gain : List Fragment) → gain ≡ s.knowledge → IsGained t s gain
+  gained_by_all told none learned = gained_all t s hearing.ready (let is = hearing.learned in grind arith)
+
+  pub gained_by_told : (told : Option (List Fragment)) (gain : List Fragment) → told ≡ Some gain → is_some told ≡ not h.learned
+      → IfSome told (λ fs. (p : ℕ) (v : Version) → 0 < p → knows fs p v ≡ (tells h.heard.items p v || tells h.handed.items p v)) → IsGained t s gain
+  gained_by_told told gain some learned tells_all =
+      gained_told t s hearing.ready (let is = hearing.learned in grind arith) gain h.heard.items h.handed.items hearing.heard hearing.handed
+      (subst (λ (o : Option (List Fragment)). IfSome o (λ fs. (p : ℕ) (v : Version) → 0 < p → knows fs p v ≡ (tells h.heard.items p v || tells h.handed.items p v))) some tells_all)
+
+  module _ (ds : List Version) (of_drops : ds ≡ drops t s) (ts : List Held) (of_takes : ts ≡ filter (is_selected t.tree) h.heard.items) (gain : List Fragment) (gained : IsGained t s gain) where
+    taken : ts ≡ taken_stored t s
+    taken = of_takes ∙ ap (filter (is_selected t.tree)) hearing.heard
+
+    pub may_stage : MayStage ds ts gain t
+    may_stage = subst (λ l. MayStage ds l gain t) (sym taken) (record {
       held = subst (AllByRecursion (λ v. is_some (find_version v (t.store ++ t.out)) ≡ true)) (sym of_drops) (drops_held t s hearing.ready);
       new = taken_new t s hearing.ready;
       distinct = λ v. let once = taken_once t s hearing.ready v in omega arith;
@@ -203,3 +220,10 @@ module _ (t s : Kept) (h : Hearing) (hearing : IsHearing t s h) where
       known = all_filter (IsKnownBy gain) (is_selected t.tree) (heard t s) (heard_gained t s hearing.ready gain gained);
       own = gain_own t s hearing.ready gain gained;
     })
+
+    pub staged_found : (room : ℕ) (new : Kept) → HasStaged ds ts gain room t new → HasStagedPull t s room new
+    staged_found room new staged = record {
+      gain = gain;
+      gained = gained;
+      staged = subst (λ l. HasStaged (drops t s) l gain room t new) taken (subst (λ l. HasStaged l ts gain room t new) of_drops staged);
+    }

@@ -1,13 +1,20 @@
 //! What a target is to drop, to take and to learn, and its staging.
-ghost use Rattle.std.specs.Prelude.{◌≡◌, ◌+◌, ◌≤◌, ◌++◌, None, [], length, vec_len, vec_capacity, IfOk, OnOk, OnErr};
+ghost use Rattle.std.specs.Prelude.{◌≡◌, ℕ, ◌+◌, ◌<◌, ◌≤◌, ◌++◌, ◌||◌, true, not, None, [], length, vec_len, vec_capacity, IfOk, IfSome, OnOk, OnErr};
+ghost use Rattle.std.specs.List.{AllByRecursion};
+ghost use Rattle.std.specs.Option.{is_some};
+ghost use Rattle.photo_version.specs.Version.{Version};
+ghost use Rattle.item_knowledge.specs.Fragments.{knows};
 ghost use Rattle.photo_device.specs.Device.{IsAsItWas};
+ghost use Rattle.photo_device.specs.Held.{are_in_order};
+ghost use Rattle.photo_device.specs.Own.{HasEarlier};
+ghost use Rattle.photo_device.specs.Telling.{tells};
 ghost use Rattle.photo_pull.specs.OnHeld.{versions};
-ghost use Rattle.photo_pull.specs.Findings.{IsGained, IsHearing, HasStagedPull};
+ghost use Rattle.photo_pull.specs.Findings.{IsHearing, HasStagedPull};
 
 use crate::filtered::{push_versions, taken_of};
 use crate::hearing::Hearing;
-use item_knowledge::Knowledge;
-use photo_device::{Device, SharedHeld, SharedList, VersionList, gain_of};
+use item_knowledge::Told;
+use photo_device::{Device, SharedHeld, SharedList, VersionList, told_by};
 use photo_record::PicNo;
 use photo_version::Version;
 use std::alloc::{AllocError, Global};
@@ -53,34 +60,24 @@ pub(crate) fn handed_of(
     Ok((asked, handed))
 }
 
-// Stages what was found, where what the target learns is lent. The source is there for the contract alone.
-fn stage_heard(
-    alloc: Global,
-    hearing: Hearing,
-    gain: &Knowledge,
-    target: &mut Device,
-    source: &Device,
-    room: usize,
-) -> Result<(), AllocError>
-    requires hearing { IsHearing target.old source.now hearing }
-    requires gained { IsGained target.old source.now gain.now.known }
-    requires unstaged { target.old.staged ≡ None }
-    ensures staged { OnOk result (HasStagedPull target.old source.now room target.new) }
-    ensures err { OnErr result (IsAsItWas target.old target.new) }
-    ensures unstaged { OnErr result (target.new.staged ≡ None) }
+// What is told where the target doesn't learn all that the source knows.
+fn told_of(alloc: Global, hearing: &Hearing) -> Result<Option<Told>, AllocError>
+    requires heard_order { are_in_order hearing.now.heard.items ≡ true }
+    requires handed_order { are_in_order hearing.now.handed.items ≡ true }
+    requires heard { AllByRecursion HasEarlier hearing.now.heard.items }
+    requires handed { AllByRecursion HasEarlier hearing.now.handed.items }
+    ensures told { IfOk result (λ some. IfSome some (λ told. (p : ℕ) (v : Version) → 0 < p
+        → knows told p v ≡ (tells hearing.now.heard.items p v || tells hearing.now.handed.items p v))) }
+    ensures learned { IfOk result (λ some. is_some some ≡ not hearing.now.learned) }
 {
-    let Hearing { dropped, heard, .. } = hearing;
-    let (drops, pictures) = drops_of(alloc, &dropped.stored, &dropped.waiting)?;
-    let takes = SharedList::new(taken_of(target.filter(), heard));
-    if let Err((_, _, refused)) = target.stage_lent(drops, pictures, takes, gain, room) {
-        return Err(refused);
+    if hearing.learned {
+        return Ok(None);
     }
-    Ok(())
+    Ok(Some(told_by(alloc, &hearing.heard, &hearing.handed)?))
 }
 
 /// Stages on the target what was found, with room for so many versions that are handed over. What all the source knows is
 /// lent, and isn't copied. Its only error is want of memory, which leaves nothing staged.
-#[tactic(auto, using(crate::proofs::Asked::gained_all))]
 pub(crate) fn stage_found(
     alloc: Global,
     hearing: Hearing,
@@ -94,9 +91,19 @@ pub(crate) fn stage_found(
     ensures err { OnErr result (IsAsItWas target.old target.new) }
     ensures unstaged { OnErr result (target.new.staged ≡ None) }
 {
-    if hearing.learned {
-        return stage_heard(alloc, hearing, source.knowledge(), target, source, room);
+    let told = told_of(alloc, &hearing)?;
+    let Hearing { dropped, heard, .. } = hearing;
+    let (drops, pictures) = drops_of(alloc, &dropped.stored, &dropped.waiting)?;
+    let takes = SharedList::new(taken_of(target.filter(), heard));
+    let Some(told) = told else {
+        let taught = source.knowledge();
+        if let Err((_, _, refused)) = target.stage_lent(drops, pictures, takes, taught, room) {
+            return Err(refused);
+        }
+        return Ok(());
+    };
+    if let Err((_, _, refused)) = target.stage_told(drops, pictures, takes, &told, room) {
+        return Err(refused);
     }
-    let gain = gain_of(alloc, &hearing.heard, &hearing.handed)?;
-    stage_heard(alloc, hearing, &gain, target, source, room)
+    Ok(())
 }

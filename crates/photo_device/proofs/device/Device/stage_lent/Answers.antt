@@ -1,22 +1,16 @@
-use Rattle.std.proofs.Common.{◌≡◌, ◌+◌, length, refl, sym, ap, ◌∙◌, subst, rules}
-use Rattle.item_knowledge.specs.Staged.{IsStagedUnion}
-use Rattle.photo_device.specs.Device.{Kept, unstaged}
-use Rattle.photo_device.specs.Staging.{MayStage}
-use Rattle.photo_device.proofs.Staged.{stages, has_staged}
+use Rattle.std.proofs.Common.{sym, ◌∙◌, subst}
+use Rattle.photo_device.specs.Device.{unstaged}
+use Rattle.photo_device.specs.Staging.{MayStage, IsReadied}
+use Rattle.photo_device.proofs.OwnLemmas.{star_at_most}
+use Rattle.photo_device.proofs.Staged.{stages}
 use Rattle.photo_device.proofs.device.Device.stage_lent.Goals as goal
 
 pub invariant_of-self-2 : goal.invariant_of-self-2
 invariant_of-self-2 c =
+    let p = c.in_ok-prepared.prepared in
     let m = c.requires.may in
     let still : MayStage c.args.drops c.args.takes c.args.gain.now.known (unstaged c.args.self.now) = record { held = m.held; new = m.new; distinct = m.distinct; earlier = m.earlier; known = m.known; own = m.own } in
-    let may = subst (MayStage c.args.drops c.args.takes c.args.gain.now.known) (sym (c.self.view_is ∙ c.unstage.ensures)) still in
-    let more : c.in-Some.more ≡ length c.args.takes + c.args.room = search rules in
-    rw (c.in-Ok.ensures.store_kept, c.in-Ok.ensures.out_kept)
-    (stages c.stage.new.self (record { drops = c.args.drops; pictures = c.args.pictures; takes = c.args.takes; room = c.args.room; in_store = c.in-Ok.rooms.0; in_out = c.in-Ok.rooms.1 }) c.args.gain.now.known _ c.stage.ensures.known c.in_default-stage.ensures.staged c.fragments-fragments.ensures.normal may
-    c.in-Ok.ensures.store (c.in-Ok.ensures.store_more ∙ more) c.in-Ok.ensures.out (c.in-Ok.ensures.out_more ∙ more) c.self.invariant.device)
-
-pub returns-clause-staged : goal.returns-clause-staged
-returns-clause-staged c =
-    has_staged c.stage.new.self.staged (record { drops = c.args.drops; pictures = c.args.pictures; takes = c.args.takes; room = c.args.room; in_store = c.in-Ok.rooms.0; in_out = c.in-Ok.rooms.1 }) c.args.gain.now.known c.args.self.now _
-    (subst (λ (d : Kept). IsStagedUnion c.stage.new.self.staged d.knowledge c.args.gain.now.known) (c.self.view_is ∙ c.unstage.ensures) c.in_default-stage.ensures.staged) refl
-    (rw (c.in-Ok.ensures.store_kept, c.in-Ok.ensures.out_kept, c.stage.ensures.known) (ap unstaged (c.self.view_is ∙ c.unstage.ensures)))
+    let may = subst (MayStage c.args.drops c.args.takes c.args.gain.now.known) (sym (c.self.view_is ∙ c.prepare.ensures.unstaged)) still in
+    let ready = subst (λ d. IsReadied c.args.drops c.args.takes c.args.room d p) (sym c.self.view_is) c.in_ok-prepared.ensures.ok in
+    stages c.stage.new.self p c.args.drops c.args.takes c.args.room c.args.gain.now.known _ c.stage.ensures.known c.in_default.ensures.staged
+    (star_at_most c.args.gain.now.known c.self.inside.author c.self.inside.counter c.fragments-fragments.ensures.normal may.own.own) may ready c.self.invariant.device
