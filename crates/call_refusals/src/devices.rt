@@ -10,7 +10,7 @@ use crate::runs::{logs, runs_command};
 use item_knowledge::Knowledge;
 use photo_device::{
     Change, ChangeFault, Conflict, Device, Held, HeldSet, NarrowFault, Place, SharedHeld,
-    SharedList, VersionList,
+    SharedList, VersionList, told_by,
 };
 use photo_filter_rules::Filter;
 use photo_record::{PicNo, Record};
@@ -35,6 +35,7 @@ fn verdict_on_others(alloc: Global, call: &str) -> Option<Verdict> {
     match call {
         "Device::stage" => on_device(alloc, 2, Call::Stage),
         "Device::stage_lent" => on_device(alloc, 2, Call::StageLent),
+        "Device::stage_told" => on_device(alloc, 2, Call::StageTold),
         "Device::unknown_of" => on_device(alloc, 2, Call::Ask),
         "Device::unknown_by" => on_device(alloc, 2, Call::AskLent),
         "Device::narrow" => on_device(alloc, 2, Call::Narrow),
@@ -57,6 +58,7 @@ enum Call {
     Remove,
     Stage,
     StageLent,
+    StageTold,
     Ask,
     AskLent,
     Narrow,
@@ -114,6 +116,7 @@ fn calls(alloc: Global, device: &mut Device, call: Call) -> Option<bool> {
         Call::Edit => edits(alloc, device),
         Call::Remove => removes(alloc, device),
         Call::StageLent => stages_lent(alloc, device),
+        Call::StageTold => stages_told(alloc, device),
         Call::Ask => asks(alloc, device, Call::Ask),
         Call::AskLent => asks(alloc, device, Call::AskLent),
         Call::Command => runs_command(alloc, device),
@@ -428,7 +431,7 @@ fn stages_lent(alloc: Global, device: &mut Device) -> Option<bool> {
     right
 }
 
-// None where memory was wanted, nothing is staged, and both lists came back.
+// Lends a device what another one knows.
 fn stages_gain(alloc: Global, device: &mut Device, gain: &Knowledge) -> Option<bool>
     requires zero { device_of_author device.old.author ≡ 0 }
     requires gain { (p : ℕ) (v : versions.Version) → 0 < p
@@ -440,6 +443,26 @@ fn stages_gain(alloc: Global, device: &mut Device, gain: &Knowledge) -> Option<b
     mark(alloc);
     let done = device.stage_lent(drops, pictures, takes, gain, 2);
     mark(alloc);
+    is_staged(device, done)
+}
+
+// Tells a device of nothing, and has it take and give up nothing.
+fn stages_told(alloc: Global, device: &mut Device) -> Option<bool> {
+    let told = told_by(alloc, &[], &[]).ok()?;
+    let drops = VersionList::new(Vec::new(alloc));
+    let takes = SharedList::new(Vec::new(alloc));
+    let pictures = Vec::new(alloc);
+    mark(alloc);
+    let done = device.stage_told(drops, pictures, takes, &told, 2);
+    mark(alloc);
+    is_staged(device, done)
+}
+
+// None where memory was wanted, nothing is staged, and both lists came back.
+fn is_staged(
+    device: &Device,
+    done: Result<(), (VersionList, SharedList, AllocError)>,
+) -> Option<bool> {
     let right = match &done {
         Ok(()) => Some(device.staged()),
         Err((drops, takes, _)) => {

@@ -8,11 +8,6 @@ use Rattle.photo_script.specs.declared.report.Report.{Report}
 use Rattle.fleet_steps.specs.Between.{AreSettled, AreAsTheyWere}
 use Rattle.fleet_steps.proofs.About.{all_set, all_at}
 
--- what a refused call leaves
-pub on_err : {T E P : Type 0} (r : Result T E) → P → OnErr r P
-on_err (Ok x) p = tt
-on_err (Err e) p = p
-
 -- one device
 
 pub one_as_it_was : {E : Type 0} (r : Result Report E) (devices : List Kept) (k : ℕ) (d old new : Kept) → old ≡ get_or devices k d → OnErr r (IsAsItWas old new) → OnErr r (AreAsTheyWere devices (set devices k new))

@@ -298,9 +298,6 @@ fn are_told_apart(
     requires joined { AreThere rows.now joined.now }
     ensures { IfOk result (λ apart. apart ≡ true → AreTold rows.now index.now joined.now) }
 {
-    if joined.is_empty() {
-        return Ok(true);
-    }
     let Some(places) = places_of(alloc, rows, joined)? else {
         return Ok(false);
     };

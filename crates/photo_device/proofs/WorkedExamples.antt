@@ -1,5 +1,5 @@
 -- The worked examples: what a number or a version stands for computes, and what holds of all is shown.
-use Rattle.std.proofs.Common.{◌≡◌, ℕ, ◌≤◌, true, false, List, [], ◌∷◌, length, refl, sym, ap, ◌∙◌, arith}
+use Rattle.std.proofs.Common.{◌≡◌, ℕ, ◌≤◌, true, false, eqb, List, [], ◌∷◌, length, refl, sym, ap, ◌∙◌, arith}
 use Rattle.std.specs.Prelude.{Option, Some, None, is_some}
 use Rattle.std.proofs.lemmas.Bool.{false≢true}
 use Rattle.std.proofs.lemmas.Bool.Decides.{nat_tests}
@@ -9,7 +9,7 @@ use Rattle.item_knowledge.specs.Fragments.{Fragment, knows}
 use Rattle.photo_device.specs.Held.{count_of}
 use Rattle.photo_device.specs.Device.{Kept, Staging}
 use Rattle.photo_device.specs.Own.{HasEarlier, IsKnownBy}
-use Rattle.photo_device.specs.Examples.{nth, first, edited, other, gain, learned, MayStageAsTold, HasStagedAsTold, MayHandAsTold, TheRowsOfNotes, TheTables}
+use Rattle.photo_device.specs.Examples.{nth, first, edited, other, gain, learned, MayStageAsTold, HasStagedAsTold, MayHandAsTold, TheRowsOfNotes, TheTables, TheNexts}
 
 no : false ≡ true → ⊥
 no e = false≢true e
@@ -108,4 +108,15 @@ the_tables = record {
   behind = record { order = refl; last = refl; told = λ p v. grind (arith, nat_tests) };
   of_another = λ t. no (sym (t.told 7 (nth 1 1)));
   lost = λ t. no (t.told 7 (nth 0 1));
+}
+
+pub the_nexts : TheNexts
+the_nexts = record {
+  lesser_first = refl;
+  greater_later = refl;
+  same_picture = refl;
+  last_ones = refl;
+  next = record { earlier = record { own = λ n. grind (arith, nat_tests) }; least = refl; rest = λ f. grind arith; fewer = omega arith };
+  too_early = λ n. no n.least;
+  one_lost = λ n. no (sym (n.rest (λ h. eqb h.picture 8)));
 }

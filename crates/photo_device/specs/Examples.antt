@@ -10,7 +10,7 @@ use Rattle.item_knowledge.specs.Fragments.{Fragment, knows}
 use Rattle.photo_device.specs.declared.held.Held.{Held}
 use Rattle.photo_device.specs.Held.{find_version, count_of}
 use Rattle.photo_device.specs.Device.{Kept, Staging}
-use Rattle.photo_device.specs.Anew.{HasBesides}
+use Rattle.photo_device.specs.Anew.{HasBesides, IsNextOf, is_second_next}
 use Rattle.photo_device.specs.Noted.{author_of_row}
 use Rattle.photo_device.specs.Staging.{HasStaged, MayHand, MayStage}
 
@@ -145,3 +145,19 @@ pub record TheTables : Type 0 where
   pub of_another : HasBesides of_seven ((7, (author 0, 1) ∷ (author 1, 1) ∷ []) ∷ []) 8 (denotes ((author 1, 1) ∷ [])) → ⊥
   -- what there was is lost
   pub lost : HasBesides of_seven ((7, (author 1, 1) ∷ []) ∷ []) 7 (denotes ((author 1, 1) ∷ [])) → ⊥
+
+abbrev second : Held
+second = held_of 8 (nth 1 1) []
+
+-- two lists, each of one version, gone along together
+pub record TheNexts : Type 0 where
+  pub lesser_first : is_second_next (second ∷ []) (first ∷ []) ≡ true
+  pub greater_later : is_second_next (first ∷ []) (second ∷ []) ≡ false
+  -- of the same picture the first list's comes first
+  pub same_picture : is_second_next (first ∷ []) (first ∷ []) ≡ false
+  pub last_ones : is_second_next [] (first ∷ []) ≡ true
+  pub next : IsNextOf first (second ∷ first ∷ []) (second ∷ [])
+  -- a version of a lesser picture would be left
+  pub too_early : IsNextOf second (second ∷ first ∷ []) (first ∷ []) → ⊥
+  -- a version is lost
+  pub one_lost : IsNextOf first (second ∷ first ∷ []) [] → ⊥

@@ -94,14 +94,14 @@ impl SharedHeld {
     }
 
     /// Whether it stands before that version of that picture, in the order of a set.
-    pub(crate) fn is_before(&self, picture: PicNo, version: Version) -> bool
+    pub fn is_before(&self, picture: PicNo, version: Version) -> bool
         ensures { result ≡ stands_before self.now picture version }
     {
         self.picture < picture || (self.picture == picture && self.version < version)
     }
 
     /// Whether it is that version of that picture.
-    pub(crate) fn is_of(&self, picture: PicNo, version: Version) -> bool
+    pub fn is_of(&self, picture: PicNo, version: Version) -> bool
         ensures { result ≡ is_of self.now picture version }
     {
         self.picture == picture && self.version == version

@@ -5,3 +5,4 @@ mod Told
 mod Shown
 mod Wanted
 mod Asked
+pub mod WorkedExamples

@@ -2,3 +2,4 @@ pub mod Pull
 pub mod MayPull
 pub mod OnHeld
 pub mod Findings
+pub mod Examples

@@ -1,7 +1,4 @@
 //! Whether held versions stand in a set, by one walk along both.
-ghost use Rattle.std.specs.Prelude.{◌≡◌};
-ghost use Rattle.photo_device.specs.Held.{held_before, is_of};
-
 use block_list::Iter;
 use photo_device::{HeldSet, SharedHeld};
 use std::marker::Model;
@@ -45,27 +42,13 @@ impl<'a> Coming<'a> {
         ensures is { result ≡ has_same self.old held.now }
         ensures passed { HasPassed held.now self.old self.new }
     {
+        let (picture, version) = (held.picture(), held.version());
         while let Some(other) = self.next {
-            if !is_before(other, held) {
-                return is_same(other, held);
+            if !other.is_before(picture, version) {
+                return other.is_of(picture, version);
             }
             self.next = self.others.next();
         }
         false
     }
-}
-
-// Whether they are the same version of the same picture.
-fn is_same(held: &SharedHeld, other: &SharedHeld) -> bool
-    ensures { result ≡ is_of held.now other.now.picture other.now.version }
-{
-    held.picture() == other.picture() && held.version() == other.version()
-}
-
-// Whether the first stands before the second in the order of a set.
-fn is_before(held: &SharedHeld, other: &SharedHeld) -> bool
-    ensures { result ≡ held_before held.now other.now }
-{
-    held.picture() < other.picture()
-        || (held.picture() == other.picture() && held.version() < other.version())
 }

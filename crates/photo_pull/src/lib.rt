@@ -8,6 +8,7 @@ mod filtered;
 mod gap;
 mod hearing;
 mod keeping;
+pub mod laws;
 mod news;
 mod part;
 mod previewing;

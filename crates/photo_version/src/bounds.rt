@@ -98,16 +98,7 @@ pub fn joined(alloc: Global, bounds: &[Bound], others: &[Bound]) -> Result<Vec<B
         i += 1;
         j += 1;
     }
-    push_all(&mut all, &bounds[i..])?;
-    push_all(&mut all, &others[j..])?;
+    all.extend_from_slice(&bounds[i..])?;
+    all.extend_from_slice(&others[j..])?;
     Ok(all)
-}
-
-fn push_all(all: &mut Vec<Bound>, bounds: &[Bound]) -> Result<(), AllocError>
-    ensures { OnOk result (all.new.items ≡ all.old.items ++ bounds.now) }
-{
-    for bound in bounds {
-        all.push(*bound)?;
-    }
-    Ok(())
 }

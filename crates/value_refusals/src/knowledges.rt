@@ -9,7 +9,7 @@ ghost use Rattle.item_knowledge.specs.Kept.{star_bound};
 
 use crate::vectors::vector_of;
 use crate::verdict::{Verdict, judged, mark};
-use item_knowledge::Knowledge;
+use item_knowledge::{Knowledge, Told};
 use photo_record::PicNo;
 use photo_version::{Author, Vector, Version};
 use std::alloc::Global;
@@ -47,6 +47,8 @@ fn calls(alloc: Global, knowledge: &mut Knowledge, call: &str) -> Option<Option<
         "Knowledge::try_clone" => Some(copies(alloc, knowledge)),
         "Knowledge::learn" => learns(alloc, knowledge),
         "Knowledge::learn_table" => learns_table(alloc, knowledge),
+        "Knowledge::stage_told" => stages_table(alloc, knowledge),
+        "Told::of_table" => tells_table(alloc, knowledge),
         _ => learns_from(alloc, knowledge, call),
     }
 }
@@ -216,6 +218,35 @@ fn learns_table(alloc: Global, knowledge: &mut Knowledge) -> Option<Option<bool>
         }
         None => None,
     }
+}
+
+fn stages_table(alloc: Global, knowledge: &mut Knowledge) -> Option<Option<bool>> {
+    let table = table(alloc)?;
+    let told = Told::of_table(alloc, table.as_slice()).ok()?;
+    mark(alloc);
+    let done = knowledge.stage_told(&told).is_ok();
+    mark(alloc);
+    let kept = is_told(knowledge, 7, 3);
+    if knowledge.staged() {
+        knowledge.commit();
+    }
+    Some(is_right(done, kept, knowledge))
+}
+
+// What is told is right where it is learned as it was meant.
+fn tells_table(alloc: Global, knowledge: &mut Knowledge) -> Option<Option<bool>> {
+    let table = table(alloc)?;
+    mark(alloc);
+    let made = Told::of_table(alloc, table.as_slice());
+    mark(alloc);
+    let Ok(told) = made else {
+        return Some(None);
+    };
+    let done = knowledge.stage_told(&told).is_ok();
+    if knowledge.staged() {
+        knowledge.commit();
+    }
+    Some(Some(done && has_learned(knowledge)))
 }
 
 fn learns_all(alloc: Global, knowledge: &mut Knowledge, other: &Knowledge) -> Option<bool> {

@@ -1,7 +1,7 @@
 use Rattle.std.proofs.Common.{rules, ◌≡◌, ◌<◌, ◌∙◌, length, arith}
 use Rattle.std.proofs.lemmas.Result.{on_err_weaker}
 use Rattle.fleet_runner.specs.PlanTexts.{count_line, plan_text}
-use Rattle.fleet_steps.proofs.Settled.{on_err}
+use Rattle.photo_pull.proofs.Wanted.{on_err}
 use Rattle.fleet_runner.proofs.PlanLines.{line_written, line_cut, last_cut}
 use Rattle.fleet_runner.proofs.plans.write_lines.Goals as goal
 

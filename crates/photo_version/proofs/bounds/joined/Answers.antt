@@ -38,6 +38,6 @@ returns c =
       | then-loop-i-test+else-j-others w ↦ omega arith
       | else-loop-i-test w ↦ omega arith
     ] in
-    all_joined xs ys c.loop-i.all.items c.push_all.new.all.items _ c.loop-i.i c.loop-i.j c.loop-i.invariant over
-    (c.in_ok-push_all.ensures ∙ ap (λ zs. c.loop-i.all.items ++ zs) (all_left xs c.loop-i.i))
-    (c.in_ok-push_all-2.ensures ∙ ap (λ zs. c.push_all.new.all.items ++ zs) (all_left ys c.loop-i.j))
+    all_joined xs ys c.loop-i.all.items c.extend_from_slice.new.self.items _ c.loop-i.i c.loop-i.j c.loop-i.invariant over
+    (c.in_ok-extend_from_slice.ensures.items ∙ ap (λ zs. c.loop-i.all.items ++ zs) (all_left xs c.loop-i.i))
+    (c.in_ok-extend_from_slice-2.ensures.items ∙ ap (λ zs. c.extend_from_slice.new.self.items ++ zs) (all_left ys c.loop-i.j))

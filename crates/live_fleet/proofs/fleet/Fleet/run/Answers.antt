@@ -4,7 +4,8 @@ use Rattle.photo_device.specs.Device.{Kept, Shows}
 use Rattle.photo_script.specs.Contents.{IsWithin}
 use Rattle.fleet_steps.specs.Between.{AreReady, AreSettled, HaveRoom}
 use Rattle.fleet_steps.proofs.Between.{written_back}
-use Rattle.fleet_steps.proofs.Settled.{settled_same, on_err}
+use Rattle.photo_pull.proofs.Wanted.{on_err}
+use Rattle.fleet_steps.proofs.Settled.{settled_same}
 use Rattle.live_fleet.specs.Fleets.{KeptFleet, after_commands}
 use Rattle.live_fleet.proofs.Histories.{came_ready, came_room, came_more, run_shows}
 use Rattle.live_fleet.proofs.Named.{came_about}
