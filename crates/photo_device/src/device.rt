@@ -378,7 +378,7 @@ impl Device {
         Ok(())
     }
 
-    /// Prepares a change as `stage_lent` does, where what is learned is told of pictures.
+    /// Prepares a change as `stage_lent` does, where what is learned is what held versions tell. Its only error is the same.
     pub fn stage_told(
         &mut self,
         drops: VersionList,

@@ -3,6 +3,6 @@ mod Along
 mod Passing
 mod Told
 mod Shown
-mod Wanted
+pub mod Wanted
 mod Asked
 pub mod WorkedExamples

@@ -5,7 +5,7 @@ ghost use Rattle.photo_version.specs.Author.{author};
 ghost use Rattle.photo_version.specs.Version as versions;
 ghost use Rattle.item_knowledge.specs.Tables.{in_order};
 
-use item_knowledge::Knowledge;
+use item_knowledge::{Knowledge, Told};
 use photo_record::PicNo;
 use photo_version::{Author, Vector, Version};
 use std::alloc::{AllocError, Global};
@@ -226,9 +226,30 @@ fn learns_table(alloc: Global, table: &[(PicNo, Vector)]) -> bool
     }
 }
 
+// Whether what is told is known once it is committed, and not before.
+fn commits_told(knowledge: &mut Knowledge, told: &Told) -> bool {
+    if knowledge.stage_told(told).is_err() || !knowledge.staged() || knowledge.fragments() != 1 {
+        return false;
+    }
+    knowledge.commit();
+    !knowledge.staged() && has_both_fragments(knowledge)
+}
+
+fn stages_table(alloc: Global, table: &[(PicNo, Vector)]) -> bool
+    requires { in_order table.now ≡ true }
+{
+    let Ok(told) = Told::of_table(alloc, table) else {
+        return false;
+    };
+    match Knowledge::new(alloc) {
+        Ok(mut knowledge) => commits_told(&mut knowledge, &told),
+        Err(_) => false,
+    }
+}
+
 fn learns_table_of(alloc: Global, vector: &Vector) -> bool {
     match table(alloc, vector) {
-        Some(table) => learns_table(alloc, &table),
+        Some(table) => learns_table(alloc, &table) && stages_table(alloc, &table),
         None => false,
     }
 }
