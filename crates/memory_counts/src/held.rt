@@ -37,6 +37,8 @@ fn is_first(held: &SharedHeld) -> bool {
         && held.version().n() == 1
         && held.made_with().is_empty()
         && held.as_held().picture == held.picture()
+        && held.is_of(held.picture(), held.version())
+        && !held.is_before(held.picture(), held.version())
         && *held.content() != Record::Removed
 }
 
