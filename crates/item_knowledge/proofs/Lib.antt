@@ -9,7 +9,6 @@ pub mod GatherLemmas
 pub mod ChainLemmas
 pub mod PlaceLemmas
 pub mod MarkLemmas
-pub mod OnTheWay
 pub mod UnionLemmas
 pub mod SearchLemmas
 pub mod KeptLemmas

@@ -1,5 +1,5 @@
 -- A union in which each picture has a fragment of its own, on the way along two indexes.
-use Rattle.std.proofs.Common.{◌≡◌, ℕ, suc, ◌+◌, ◌-◌, ◌*◌, ◌<◌, ◌≤◌, false, ◌⊎◌, List, [], ◌∷◌, ◌++◌, length, get_or, take, drop, refl, sym, subst, ap, ◌∙◌, inl, inr, arith, append_assoc, append-nil, length-append}
+use Rattle.std.proofs.Common.{◌≡◌, ℕ, suc, ◌+◌, ◌-◌, ◌*◌, ◌<◌, ◌≤◌, true, false, ◌⊎◌, List, [], ◌∷◌, ◌++◌, length, get_or, take, drop, refl, sym, subst, ap, ◌∙◌, inl, inr, arith, append_assoc, append-nil, length-append}
 use Rattle.std.proofs.Math.ListN.{get_or-append}
 use Rattle.std.proofs.Math.Seq.{get_or-append_seam}
 use Rattle.std.proofs.lemmas.Bool.{cases_Bool}
@@ -7,16 +7,18 @@ use Rattle.std.proofs.lemmas.List.{length-drop, get_or-drop, take_more}
 use Rattle.fragment_arena.specs.Arena.{run}
 use Rattle.item_knowledge.specs.Apart.{singles, FromLeft, IsListed, IsSpread, Stays}
 use Rattle.item_knowledge.specs.Entries.{Entry, same_entries}
-use Rattle.item_knowledge.specs.Excess.{union_vector, IsExcess, AllDiffer}
+use Rattle.item_knowledge.specs.Excess.{exceeding, is_covered, union_vector, IsExcess, AllDiffer}
 use Rattle.item_knowledge.specs.Fragments.{Fragment, nothing, entries_at}
 use Rattle.item_knowledge.specs.Gathering.{star_first}
 use Rattle.item_knowledge.specs.declared.pairing.Pairing.{Pairing}
 use Rattle.item_knowledge.specs.Pairing.{left_of}
 use Rattle.item_knowledge.specs.Rows.{pairs, flat, IsRow, fragments_of}
+use Rattle.item_knowledge.specs.Tables.{in_order}
 use Rattle.item_knowledge.proofs.ApartLemmas.{rows_snoc, numbered_snoc, numbered_length}
+use Rattle.item_knowledge.proofs.ExcessLemmas.{Exceeds, none_exceeds, above_risen, covered_joined}
 use Rattle.item_knowledge.proofs.FragmentLemmas.{entries_decide}
 use Rattle.item_knowledge.proofs.MergeLemmas.{snoc_each}
-use Rattle.item_knowledge.proofs.OnTheWay.{IsOnTheWay}
+use Rattle.item_knowledge.specs.OnTheWay.{IsOnTheWay}
 use Rattle.item_knowledge.proofs.GatherLemmas.{of_one}
 use Rattle.item_knowledge.proofs.RowLemmas.{pairs_flat, flat_row, entries_read, rows_read}
 
@@ -60,6 +62,22 @@ listed_last joined x = record {
   there = omega (arith, length-append joined (x ∷ []));
   is = ap (λ (y : ℕ × ℕ). y.1) (get_or-append_seam joined x [] (0, 0));
 }
+
+pub no_pairs : (words : List ℕ) → length words ≡ 0 → pairs words ≡ []
+no_pairs [] none = refl
+no_pairs (w ∷ ws) none = absurd (omega arith)
+
+-- Where the right has nothing of a picture, and the star nothing beyond the left's, the left's fragment stays
+
+pub alone_stays : (star : List Entry) (words others : List ℕ) (left right : List (List ℕ)) (picture number : ℕ) → IsExcess words left → IsExcess others right → in_order star ≡ true → exceeding (pairs words) star ≡ [] → 0 < number
+    → get_or left (2 * number) [] ≡ picture ∷ [] → Stays star left right picture (number, 0)
+alone_stays star words others left right picture number l r order level beside alone =
+    let xs = entries_at (fragments_of left) number in
+    let ys = entries_at (fragments_of right) 0 in
+    let risen : Exceeds (exceeding (pairs words) star) xs = subst (λ es. Exceeds es xs) (sym level) (none_exceeds [] xs refl) in
+    let above : Exceeds star xs = above_risen (pairs words) star xs order (l.exceeds number) risen in
+    let is : is_covered star xs ys ≡ true = ap (is_covered star xs) r.first in
+    record { beside = beside; alone = alone; joint = covered_joined star xs ys (l.vectors number) (r.vectors 0) above is }
 
 -- What is written, with one fragment more
 

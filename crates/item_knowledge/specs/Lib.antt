@@ -18,4 +18,5 @@ pub mod Laws
 pub mod Examples
 pub mod Pairing
 pub mod Apart
+pub mod OnTheWay
 pub mod Sides

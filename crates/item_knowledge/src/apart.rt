@@ -6,6 +6,8 @@ ghost use Rattle.item_knowledge.specs.Apart.{Stays, AreThere, AreOthers, AreTold
 ghost use Rattle.item_knowledge.specs.Excess.{AllDiffer, exceeding, exceeds_all, is_covered};
 ghost use Rattle.item_knowledge.specs.Fragments.{entries_at};
 ghost use Rattle.item_knowledge.specs.Marks.{AreMarked};
+ghost use Rattle.item_knowledge.specs.OnTheWay.{GoesOn};
+ghost use Rattle.item_knowledge.specs.Pairing.{to_come};
 ghost use Rattle.item_knowledge.specs.Places.{IsFound};
 ghost use Rattle.item_knowledge.specs.Written.{IsWritten};
 ghost use Rattle.item_knowledge.specs.Rows.{pairs, IsRow, AreRows, fragments_of};
@@ -162,6 +164,36 @@ fn run_to(
     Ok(a)
 }
 
+// Lists the pictures that come next and that the left alone names, as long as each is alone in the fragment with which the run of
+// those that stay goes on. Gives where the run ends then.
+fn go_on(
+    left: Side<'_>,
+    right: Side<'_>,
+    pairing: &mut Pairing,
+    to: usize,
+    index: &mut Vec<IndexEntry>,
+) -> Result<usize, AllocError>
+    requires differ { AllDiffer (fragments left) }
+    requires some { 0 < to }
+    ensures on { IfOk result (λ end. GoesOn left.entry right.entry index.old.items pairing.old to index.new.items pairing.new end) }
+    ensures further { OnOk result (to_come pairing.new left.entry.index.now right.entry.index.now
+        ≤ to_come pairing.old left.entry.index.now right.entry.index.now) }
+{
+    // For its fact alone: the rows are fewer than 2 ^ 63.
+    let _count = left.rows.rows();
+    let mut end = to;
+    while let Some((picture, number)) = pairing.left_next(left, right) {
+        if number as usize != end || !is_alone(left.rows, end, picture) {
+            break;
+        }
+        let listed = to_u32(index.len() + 1)?;
+        index.push((picture, listed))?;
+        pairing.left += 1;
+        end += 1;
+    }
+    Ok(end)
+}
+
 // Writes the fragments of the pictures behind the star, each by itself, and lists them.
 fn spread(
     alloc: Global,
@@ -195,6 +227,9 @@ fn spread(
             to = numbers.0 + 1;
             let number = to_u32(lists.index.len() + 1)?;
             lists.index.push((picture, number))?;
+            if risen.is_empty() {
+                to = go_on(left, right, &mut pairing, to, &mut lists.index)?;
+            }
             continue;
         }
         let row = pair(left, right, numbers, star, &mut room)?;
@@ -298,6 +333,9 @@ fn are_told_apart(
     requires joined { AreThere rows.now joined.now }
     ensures { IfOk result (λ apart. apart ≡ true → AreTold rows.now index.now joined.now) }
 {
+    if joined.is_empty() {
+        return Ok(true);
+    }
     let Some(places) = places_of(alloc, rows, joined)? else {
         return Ok(false);
     };

@@ -87,6 +87,7 @@ pub(crate) fn join(
     ensures entries { OnOk result (pairs out.new.items ≡ exceeding (pairs star.now) (joined (pairs xs.now) (pairs ys.now))) }
 {
     out.clear();
+    out.reserve(xs.len().saturating_add(ys.len()))?;
     let mut merging = Merging::new();
     let mut hint = 0;
     while let Some((author, n)) = merging.next(xs, ys) {

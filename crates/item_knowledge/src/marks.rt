@@ -6,7 +6,7 @@ use crate::places::{mixed, share};
 use std::alloc::{AllocError, Global};
 
 // How many places there are for each vector that is marked, so that few others share one.
-const PLACES: usize = 8;
+const PLACES: usize = 32;
 
 /// Marks of vectors: one without a mark is none of those that were marked. One with a mark may be another as well.
 #[derive(Debug, Drop)]

@@ -6,9 +6,6 @@ ghost use Rattle.item_knowledge.specs.Rows.{pairs, IsRow, IsJustBehind};
 
 use crate::index::IndexEntry;
 
-// What the number of a device is multiplied by in its author's word.
-const EPOCHS: u64 = 4_294_967_296;
-
 // How many places one goes forward from a hint before the whole index is searched.
 const STEPS: usize = 32;
 
@@ -223,19 +220,10 @@ pub(crate) fn bound_near(row: &[u64], hint: usize, author: u64) -> (u64, usize)
 }
 
 /// The bound of an author in a row of entries in order, 0 where it has none.
-#[tactic(auto, using(crate::proofs::SearchLemmas::found_there))]
 pub(crate) fn bound_at(row: &[u64], author: u64) -> u64
     requires row { IsRow row.now }
     requires order { in_order (pairs row.now) ≡ true }
     ensures { result ≡ bound (pairs row.now) author }
 {
-    // Where each device before it has one entry, an author's stands at its device's number.
-    let mostly = (author / EPOCHS) as usize;
-    if mostly < entry_count(row) {
-        let (word, n) = entry_at(row, mostly);
-        if word == author {
-            return n;
-        }
-    }
     bound_near(row, place_of(row, author), author).0
 }

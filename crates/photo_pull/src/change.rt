@@ -21,6 +21,7 @@ use std::alloc::{AllocError, Global};
 
 // Puts the pictures of those of a list behind others, as long as there is memory for that.
 fn push_pictures(pictures: &mut Vec<PicNo>, list: &[SharedHeld]) {
+    let _refused = pictures.reserve(list.len()).is_err();
     for held in list {
         let Ok(()) = pictures.push(held.picture()) else {
             return;

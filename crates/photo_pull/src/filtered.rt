@@ -3,11 +3,12 @@ ghost use Rattle.std.specs.Prelude.{◌≡◌, ◌≤◌, ◌++◌, ◌&&◌, �
 ghost use Rattle.std.specs.List.{list_any};
 ghost use Rattle.item_knowledge.specs.Fragments.{knows};
 ghost use Rattle.photo_device.specs.Held.{are_in_order};
-ghost use Rattle.photo_pull.specs.OnHeld.{is_gone, is_selected, has_same, part_below, versions, IsOrdered, IsGap, HasPassed};
+ghost use Rattle.photo_pull.specs.OnHeld.{is_gone, is_selected, has_same, part_above, part_below, versions, IsOrdered, IsGap, HasPassed};
 
 use crate::gap::Gap;
 use crate::keeping::Coming;
 use crate::part::Part;
+use crate::superseding::without_news;
 use photo_device::{Device, HeldSet, SharedHeld};
 use photo_filter_rules::Filter;
 use photo_version::Version;
@@ -39,26 +40,66 @@ fn has_given_up(device: &Device, beside: &mut Beside<'_>, held: &SharedHeld) -> 
     known
 }
 
-// Whether something new supersedes a version, or a device has given it up whose keeping is followed.
-fn is_dropped(
-    news: &Part,
-    followed: bool,
-    device: &Device,
-    beside: &mut Beside<'_>,
-    held: &SharedHeld,
-) -> bool
+// Whether something new supersedes a version, or a device has given it up.
+fn is_dropped(news: &Part, device: &Device, beside: &mut Beside<'_>, held: &SharedHeld) -> bool
     requires order { IsOrdered news.now }
     requires gap { IsGap news.now beside.old.gap }
     requires kept { are_in_order beside.old.kept ≡ true }
     requires same { has_same beside.old.kept held.now ≡ has_same device.now.store held.now }
-    ensures is { result ≡ is_gone news.now followed device.now held.now }
+    ensures is { result ≡ is_gone news.now true device.now held.now }
     ensures gap { IsGap news.now beside.new.gap }
     ensures passed { HasPassed held.now beside.old.kept beside.new.kept }
 {
     if news.any_above(&mut beside.gap, held) {
         return true;
     }
-    followed && has_given_up(device, beside, held)
+    has_given_up(device, beside, held)
+}
+
+// Puts copies of those of a list that something new supersedes behind others. Those of pictures of which there is no news
+// are passed together.
+#[tactic(auto, using(std::proofs::lemmas::Grind::common_steps, crate::proofs::Along::rest_in_order))]
+fn push_superseded(
+    found: &mut Vec<SharedHeld>,
+    news: &Part,
+    gap: &mut Gap,
+    list: &[SharedHeld],
+) -> Result<(), AllocError>
+    requires order { IsOrdered news.now }
+    requires list { are_in_order list.now ≡ true }
+    requires gap { IsGap news.now gap.old }
+    ensures items { OnOk result (found.new.items ≡ found.old.items ++ filter (part_above news.now) list.now) }
+    ensures gap { IsGap news.now gap.new }
+    ensures err { OnErr result (list_any (part_above news.now) list.now ≡ true) }
+{
+    let mut place = 0;
+    while place < list.len() {
+        place += without_news(&list[place..], *gap);
+        let Some(held) = list.get(place) else {
+            return Ok(());
+        };
+        if news.any_above(gap, held) {
+            found.push(held.try_clone()?)?;
+        }
+        place += 1;
+    }
+    Ok(())
+}
+
+// Copies of those of a set that something new supersedes.
+#[tactic(auto, using(std::proofs::lemmas::Grind::common_steps, crate::proofs::Along::filtered_in_order, crate::proofs::Along::order_append))]
+fn superseded_of(alloc: Global, news: &Part, set: &HeldSet) -> Result<Vec<SharedHeld>, AllocError>
+    requires { IsOrdered news.now }
+    ensures items { IfOk result (λ found. found.items ≡ filter (part_above news.now) set.now) }
+    ensures ordered { IfOk result (λ found. are_in_order found.items ≡ true) }
+    ensures err { OnErr result (list_any (part_above news.now) set.now ≡ true) }
+{
+    let mut found = Vec::new(alloc);
+    let mut gap = Gap::none();
+    for block in set.blocks() {
+        push_superseded(&mut found, news, &mut gap, block)?;
+    }
+    Ok(found)
 }
 
 /// Copies of those of a set that something new supersedes, or that a device has given up whose keeping is followed.
@@ -75,6 +116,9 @@ pub(crate) fn dropped_of(
     ensures ordered { IfOk result (λ found. are_in_order found.items ≡ true) }
     ensures err { OnErr result (list_any (is_gone news.now followed device.now) set.now ≡ true) }
 {
+    if !followed {
+        return superseded_of(alloc, news, set);
+    }
     let mut found = Vec::new(alloc);
     let mut beside = Beside {
         gap: Gap::none(),
@@ -82,7 +126,7 @@ pub(crate) fn dropped_of(
         known: 0,
     };
     for held in set.iter() {
-        if !is_dropped(news, followed, device, &mut beside, held) {
+        if !is_dropped(news, device, &mut beside, held) {
             continue;
         }
         found.push(held.try_clone()?)?;
@@ -123,6 +167,7 @@ pub(crate) fn count_of(wanted: &Filter, list: &[SharedHeld]) -> usize
 pub(crate) fn push_versions(found: &mut Vec<Version>, list: &[SharedHeld]) -> Result<(), AllocError>
     ensures { OnOk result (found.new.items ≡ found.old.items ++ versions list.now) }
 {
+    found.reserve(list.len())?;
     for held in list {
         found.push(held.version())?;
     }

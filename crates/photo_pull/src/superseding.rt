@@ -1,9 +1,10 @@
 //! Searches in lists of held versions that are in the order of their pictures.
-ghost use Rattle.std.specs.Prelude.{◌≡◌, ◌≤◌, ◌<◌, true, false, drop};
+ghost use Rattle.std.specs.Prelude.{◌≡◌, ◌≤◌, ◌<◌, Bool, true, false, length, filter, drop};
 ghost use Rattle.photo_device.specs.declared.held.Held as spec;
 ghost use Rattle.photo_device.specs.Held.{are_in_order};
 ghost use Rattle.photo_pull.specs.OnHeld.{is_above, has_above, has_below};
 
+use crate::gap::Gap;
 use photo_device::SharedHeld;
 use photo_record::PicNo;
 
@@ -33,6 +34,22 @@ pub(crate) fn picture_at(list: &[SharedHeld], place: usize) -> u32
         return u32::MAX;
     }
     list[place].picture().value()
+}
+
+/// How many at the start of a list are of pictures of which there is no news, by what was found last.
+pub(crate) fn without_news(list: &[SharedHeld], gap: Gap) -> usize
+    requires { are_in_order list.now ≡ true }
+    ensures bound { result ≤ length list.now }
+    ensures passed { (f : spec.Held → Bool) → ((h : spec.Held) → gap.from ≤ h.picture → h.picture < gap.end → f h ≡ false)
+        → filter f (drop result list.now) ≡ filter f list.now }
+{
+    if list.is_empty() || !gap.has(list[0].picture()) {
+        return 0;
+    }
+    if gap.has(list[list.len() - 1].picture()) {
+        return list.len();
+    }
+    list.partition_point(|held| held.picture().value() < gap.end)
 }
 
 /// Whether one of those from a place on supersedes the version.

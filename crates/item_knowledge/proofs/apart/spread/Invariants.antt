@@ -1,6 +1,6 @@
 use Rattle.item_knowledge.specs.Pairing.{to_come}
 use Rattle.item_knowledge.specs.Rows.{pairs}
-use Rattle.item_knowledge.proofs.OnTheWay.{IsOnTheWay}
+use Rattle.item_knowledge.specs.OnTheWay.{IsOnTheWay}
 use Rattle.item_knowledge.proofs.apart.spread.Given as goal
 
 abbrev pub invariant-loop-picture : goal.invariant-loop-picture
