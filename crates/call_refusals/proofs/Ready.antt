@@ -5,11 +5,11 @@ use Rattle.std.specs.List.{AllZip, list_all}
 use Rattle.std.proofs.lemmas.Bool.{and_parts, ltb-true, false≢true}
 use Rattle.photo_version.specs.Author.{epoch_of_author}
 use Rattle.photo_device.specs.Device.{Kept, Shows}
-use Rattle.photo_script.specs.Limits.{max_devices, max_commands}
-use Rattle.photo_script.specs.Contents.{Contents, NamesDevices, AreInRange}
-use Rattle.photo_script.specs.Runs.{run}
+use Rattle.fleet_model.specs.Limits.{max_devices, max_commands}
+use Rattle.fleet_model.specs.Contents.{Contents, NamesDevices, AreInRange}
+use Rattle.fleet_model.specs.Runs.{run}
 use Rattle.fleet_steps.specs.Between.{AreReady, AreSettled, HaveRoom}
-use Rattle.fleet_steps.proofs.ReadyRuns.{run_is_ready}
+use Rattle.fleet_model.proofs.ReadyRuns.{run_is_ready}
 
 pub ready_after : (script : Contents) (devices : List Kept) → length script.names ≤ max_devices → length script.filters ≡ length script.names → length script.commands ≤ max_commands → NamesDevices script → AreInRange script → AllZip Shows devices (run script).devices → AreReady devices
 ready_after script devices few filtered small known in_range shown = record {

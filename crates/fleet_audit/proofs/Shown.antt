@@ -11,12 +11,13 @@ use Rattle.photo_filter_text.specs.Tree.{All}
 use Rattle.photo_filter_rules.specs.Matching.{matches}
 use Rattle.item_knowledge.specs.Fragments.{knows}
 use Rattle.photo_device.specs.declared.held.Held.{Held}
-use Rattle.photo_device.specs.Entry.{Entry, superseded_by, is_among}
+use Rattle.photo_model.specs.Entry.{Entry, superseded_by, is_among}
 use Rattle.photo_device.specs.Held.{entry_of, entries_of}
-use Rattle.photo_device.specs.Device.{Kept, ModelDevice, Shows, holds, knows_entry, selects, opening}
+use Rattle.photo_model.specs.Device.{ModelDevice, holds, knows_entry, selects, opening}
+use Rattle.photo_device.specs.Device.{Kept, Shows}
 use Rattle.photo_pull.proofs.Members.{any_filter, any_map}
-use Rattle.fleet_steps.specs.Sound as sound
-use Rattle.fleet_steps.proofs.Zipped.{zip_at, zip_long}
+use Rattle.fleet_model.specs.Sound as sound
+use Rattle.fleet_model.proofs.Zipped.{zip_at, zip_long}
 use Rattle.fleet_audit.specs.Current.{is_outdated}
 use Rattle.fleet_audit.specs.Audited.{has, is_placed, is_wanted, is_sound, is_held, is_kept}
 

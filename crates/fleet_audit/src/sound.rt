@@ -3,8 +3,9 @@ ghost use Rattle.std.specs.Prelude.{◌≡◌, ◌||◌, Some};
 ghost use Rattle.std.specs.List.{list_all};
 ghost use Rattle.fleet_audit.specs.Current.{is_outdated};
 ghost use Rattle.photo_device.specs.Held.{entries_of};
-ghost use Rattle.photo_device.specs.Device.{ModelDevice, Shows};
-ghost use Rattle.fleet_steps.specs.Sound as sound;
+ghost use Rattle.photo_model.specs.Device.{ModelDevice};
+ghost use Rattle.photo_device.specs.Device.{Shows};
+ghost use Rattle.fleet_model.specs.Sound as sound;
 ghost use Rattle.fleet_audit.specs.Audited.{has, is_placed, is_wanted};
 
 use crate::current::{current_of, is_outdated};

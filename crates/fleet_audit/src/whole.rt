@@ -2,8 +2,9 @@
 ghost use Rattle.std.specs.Prelude.{◌≡◌, ◌&&◌, List};
 ghost use Rattle.std.specs.List.{AllZip, list_all};
 ghost use Rattle.photo_device.specs.Held.{entries_of};
-ghost use Rattle.photo_device.specs.Device.{ModelDevice, Shows};
-ghost use Rattle.fleet_steps.specs.Sound.{is_sound, is_kept};
+ghost use Rattle.photo_model.specs.Device.{ModelDevice};
+ghost use Rattle.photo_device.specs.Device.{Shows};
+ghost use Rattle.fleet_model.specs.Sound.{is_sound, is_kept};
 
 use crate::kept::is_kept;
 use crate::sound::is_sound;

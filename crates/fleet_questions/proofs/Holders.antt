@@ -8,15 +8,16 @@ use Rattle.photo_filter_text.specs.Tree.{All}
 use Rattle.photo_version.specs.Author.{author, device_of_author}
 use Rattle.item_knowledge.specs.Fragments.{knows}
 use Rattle.photo_device.specs.declared.held.Held.{Held}
-use Rattle.photo_device.specs.Entry.{Entry}
+use Rattle.photo_model.specs.Entry.{Entry}
 use Rattle.photo_device.specs.Held.{entry_of, entries_of}
-use Rattle.photo_device.specs.Device.{Kept, ModelDevice, Shows, holds, known, opening}
-use Rattle.photo_script.specs.Runs.{device_at}
+use Rattle.photo_model.specs.Device.{ModelDevice, holds, known, opening}
+use Rattle.photo_device.specs.Device.{Kept, Shows}
+use Rattle.fleet_model.specs.Runs.{device_at}
 use Rattle.photo_pull.proofs.Members.{any_map}
-use Rattle.fleet_steps.specs.Members.{In, here, there}
-use Rattle.fleet_steps.specs.Ready.{IsReady}
-use Rattle.fleet_steps.proofs.Members.{in_left, in_right, any_from, any_gives}
-use Rattle.fleet_steps.proofs.Zipped.{zip_at, zip_long}
+use Rattle.fleet_model.specs.Members.{In, here, there}
+use Rattle.fleet_model.specs.Ready.{IsReady}
+use Rattle.fleet_model.proofs.Members.{in_left, in_right, any_from, any_gives}
+use Rattle.fleet_model.proofs.Zipped.{zip_at, zip_long}
 use Rattle.live_fleet.specs.Fleets.{KeptFleet, CameAbout, after_commands}
 use Rattle.live_fleet.proofs.Histories.{came_sound, ready_after}
 use Rattle.fleet_questions.specs.Standing as asked

@@ -2,10 +2,11 @@
 use Rattle.std.proofs.Common.{◌≡◌, Bool, true, ◌&&◌, List, ap, ◌∙◌}
 use Rattle.std.specs.List.{AllZip, list_all}
 use Rattle.std.proofs.lemmas.Bool.{and_from}
-use Rattle.photo_device.specs.Entry.{Entry}
+use Rattle.photo_model.specs.Entry.{Entry}
 use Rattle.photo_device.specs.Held.{entries_of}
-use Rattle.photo_device.specs.Device.{ModelDevice, Shows}
-use Rattle.fleet_steps.specs.Sound.{is_sound, is_kept}
+use Rattle.photo_model.specs.Device.{ModelDevice}
+use Rattle.photo_device.specs.Device.{Shows}
+use Rattle.fleet_model.specs.Sound.{is_sound, is_kept}
 use Rattle.live_fleet.specs.Fleets.{KeptFleet, CameAbout, after_commands}
 use Rattle.live_fleet.proofs.Histories.{came_sound}
 

@@ -5,11 +5,12 @@ use Rattle.std.specs.List.{AllByRecursion}
 use Rattle.photo_filter_text.specs.Tree.{Tree}
 use Rattle.photo_filter_rules.specs.Matching.{matches}
 use Rattle.photo_device.specs.declared.held.Held.{Held}
-use Rattle.photo_device.specs.Entry.{Entry}
+use Rattle.photo_model.specs.Entry.{Entry}
 use Rattle.photo_device.specs.Held.{entry_of, entries_of}
 use Rattle.photo_device.specs.Own.{IsKnownBy}
-use Rattle.photo_device.specs.Device.{Kept, ModelDevice, Shows, knows_entry, selects}
-use Rattle.photo_pull.specs.Pull.{taken, handed}
+use Rattle.photo_model.specs.Device.{ModelDevice, knows_entry, selects}
+use Rattle.photo_device.specs.Device.{Kept, Shows}
+use Rattle.photo_model.specs.Pull.{taken, handed}
 use Rattle.fleet_questions.specs.Moving.{is_new_to, are_taken, are_handed}
 
 twice_filtered : {X : Type 0} (p q : X → Bool) (xs : List X) → filter q (filter p xs) ≡ filter (λ x. p x && q x) xs

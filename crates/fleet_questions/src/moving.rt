@@ -1,8 +1,9 @@
 //! Which versions a pull would move.
 ghost use Rattle.std.specs.Prelude.{◌≡◌, IfOk};
 ghost use Rattle.photo_device.specs.Held.{entries_of};
-ghost use Rattle.photo_device.specs.Device.{ModelDevice, Shows};
-ghost use Rattle.photo_pull.specs.Pull as pulls;
+ghost use Rattle.photo_model.specs.Device.{ModelDevice};
+ghost use Rattle.photo_device.specs.Device.{Shows};
+ghost use Rattle.photo_model.specs.Pull as pulls;
 ghost use Rattle.fleet_questions.specs.Moving.{are_taken, are_handed};
 
 use photo_device::{Device, SharedHeld};

@@ -1,8 +1,9 @@
 -- A script's run has at most one output.
 use Rattle.std.proofs.Common.{◌≡◌, List, [], ◌∷◌, refl, sym, ap, ◌∙◌}
 use Rattle.std.specs.List.{AllZip}
-use Rattle.photo_script.specs.Reports.{Answer, ModelReport, Tells, texts_from}
-use Rattle.photo_script.specs.Runs.{run, reports_of}
+use Rattle.fleet_model.specs.Answers.{ModelReport}
+use Rattle.photo_script.specs.Reports.{Answer, Tells, texts_from}
+use Rattle.fleet_model.specs.Runs.{run, reports_of}
 use Rattle.photo_script.specs.Laws.{AnswersAreOne}
 use Rattle.fleet_runner.specs.Laws.{OutputsAreOne}
 

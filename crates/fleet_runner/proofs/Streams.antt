@@ -2,15 +2,15 @@
 use Rattle.std.proofs.Common.{◌≡◌, inl, inr, ℕ, List, [], take, Ok}
 use Rattle.std.specs.Prelude.{Option, Some, None, IfSome}
 use Rattle.std.proofs.KnownBytes.{Appends-nil}
-use Rattle.photo_script.specs.Contents.{Contents}
+use Rattle.fleet_model.specs.Contents.{Contents}
 use Rattle.photo_script.specs.Reading.{script_of}
 use Rattle.photo_script.specs.Reports.{Answer, Tells}
-use Rattle.photo_script.specs.Runs.{run, reports_of}
+use Rattle.fleet_model.specs.Runs.{run, reports_of}
 use Rattle.fleet_steps.specs.Outcomes.{AreRight}
 use Rattle.fleet_steps.specs.Laws.{AcceptedStaysSound}
 use Rattle.fleet_steps.specs.declared.fault.RunError.{RunError}
 use Rattle.fleet_runner.specs.Outputs.{AppendsFirst, WritesFirst, IsOfWriting, IsOfPlainRun}
-use Rattle.fleet_steps.proofs.Zipped.{zip_take}
+use Rattle.fleet_model.proofs.Zipped.{zip_take}
 
 -- nothing
 pub nothing_first : AcceptedStaysSound → (input writer : Option (List ℕ)) (script : Contents) → IfSome input (λ bytes. script_of bytes ≡ Ok script) → IfSome input (WritesFirst writer writer)

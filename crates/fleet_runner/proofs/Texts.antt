@@ -5,7 +5,7 @@ use Rattle.std.specs.Io.KnownBytes.{Appends}
 use Rattle.std.proofs.KnownBytes.{Appends-trans}
 use Rattle.std.proofs.lemmas.List.{take_more, take-append-drop, length-take-le, length-map, get_or-map, append-nil}
 use Rattle.photo_script.specs.declared.report.Report.{Report}
-use Rattle.photo_script.specs.Contents.{Contents}
+use Rattle.fleet_model.specs.Contents.{Contents}
 use Rattle.photo_script.specs.Reports.{Answer, answer_of, text_of, texts_from}
 use Rattle.fleet_runner.specs.Outputs.{AppendsFront}
 

@@ -8,10 +8,11 @@ use Rattle.photo_record.specs.Calendar.{date_of, years_off, months_off}
 use Rattle.item_knowledge.specs.Fragments.{Fragment}
 use Rattle.photo_device.proofs.OwnLemmas.{one_more, none_up_to, up_to_one}
 use Rattle.photo_script.specs.Laws.{AnswersAreOne}
-use Rattle.photo_script.specs.Contents.{Contents}
+use Rattle.fleet_model.specs.Contents.{Contents}
 use Rattle.photo_script.specs.Reading.{script_of}
-use Rattle.photo_script.specs.Reports.{Answer, ModelReport, KnowledgeOf, Exactly, KnowledgeIs, text_of}
-use Rattle.photo_script.specs.Runs.{run, reports_of}
+use Rattle.fleet_model.specs.Answers.{ModelReport, Exactly, KnowledgeIs}
+use Rattle.photo_script.specs.Reports.{Answer, KnowledgeOf, text_of}
+use Rattle.fleet_model.specs.Runs.{run, reports_of}
 use Rattle.fleet_runner.specs.Outputs.{IsOutput, WritesOutput}
 use Rattle.fleet_runner.specs.Examples.{AreAsTold, stored_text, stored_run, printed, below_the_filter, printed_below, with_the_word, changes, printed_changes, two_versions, printed_two_versions, narrower, printed_narrower, refilters, printed_refilters, previews, printed_previews, never_made}
 use Rattle.fleet_runner.proofs.Outputs.{one_output}

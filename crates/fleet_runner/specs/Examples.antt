@@ -6,11 +6,11 @@ use Rattle.photo_filter_text.specs.declared.tree.Cmp.TheVariants.{AtLeast, AtMos
 use Rattle.photo_filter_text.specs.Tree.{All, Rate, Keyword}
 use Rattle.photo_version.specs.Author.{author, author_at}
 use Rattle.photo_version.specs.Version.{version}
-use Rattle.photo_script.specs.declared.command.Command.TheVariants as command
-use Rattle.photo_script.specs.Contents.{Contents, contents}
+use Rattle.fleet_model.specs.declared.command.Command.TheVariants as command
+use Rattle.fleet_model.specs.Contents.{Contents, contents}
 use Rattle.photo_script.specs.Reading.{script_of}
-use Rattle.photo_script.specs.Runs.{run}
-use Rattle.photo_script.specs.Tallies.{totals_of}
+use Rattle.fleet_model.specs.Runs.{run}
+use Rattle.fleet_model.specs.Tallies.{totals_of}
 use Rattle.photo_script.specs.Examples.{totals}
 use Rattle.fleet_runner.specs.Outputs.{IsOutput, WritesOutput}
 

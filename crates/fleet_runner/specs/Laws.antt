@@ -1,6 +1,6 @@
 -- What holds of all outputs.
 use Rattle.std.specs.Prelude.{◌≡◌, ℕ, List}
-use Rattle.photo_script.specs.Contents.{Contents}
+use Rattle.fleet_model.specs.Contents.{Contents}
 use Rattle.fleet_runner.specs.Outputs.{IsOutput}
 
 -- a script's run has at most one output

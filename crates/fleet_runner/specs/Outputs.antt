@@ -2,15 +2,15 @@
 use Rattle.std.specs.Prelude.{◌≡◌, ◌≢◌, ◌⊎◌, ℕ, ◌≤◌, List, ◌++◌, length, take, Option, Ok}
 use Rattle.std.specs.List.{AllZip}
 use Rattle.std.specs.Io.KnownBytes.{Appends, Consumes}
-use Rattle.photo_script.specs.Contents.{Contents}
+use Rattle.fleet_model.specs.Contents.{Contents}
 use Rattle.photo_script.specs.Reading.{script_of}
 use Rattle.photo_script.specs.Reports.{Answer, Tells, texts_from}
-use Rattle.photo_script.specs.Runs.{run, reports_of}
+use Rattle.fleet_model.specs.Runs.{run, reports_of}
 use Rattle.photo_script.specs.declared.fault.ScriptFault.{ScriptFault}
 use Rattle.fleet_steps.specs.declared.fault.RunError.{RunError}
 use Rattle.fleet_steps.specs.declared.fault.RunError.TheVariants.{NoMemory, NoWorker, NotLawful, Script, Write}
 use Rattle.fleet_steps.specs.Outcomes.{AreRight}
-use Rattle.fleet_steps.specs.Sound.{IsSoundThroughout}
+use Rattle.fleet_model.specs.Sound.{IsSoundThroughout}
 
 -- what a script's run prints: the texts of the right answers. There is at most one such output
 pub record IsOutput (script : Contents) (output : List ℕ) : Type 0 where

@@ -1,7 +1,7 @@
 //! The writing of reports.
 ghost use Rattle.std.specs.Prelude.{◌≡◌, ◌≤◌, length, map, OnOk, OnErr, IfErr, Err};
 ghost use Rattle.std.specs.List.{AllByRecursion};
-ghost use Rattle.photo_script.specs.Limits.{max_commands};
+ghost use Rattle.fleet_model.specs.Limits.{max_commands};
 ghost use Rattle.std.specs.Io.KnownBytes.{Appends};
 ghost use Rattle.photo_script.specs.Reports.{answer_of, texts_from, IsAbout};
 ghost use Rattle.fleet_steps.specs.declared.fault.RunError.TheVariants.{NoMemory, Write};

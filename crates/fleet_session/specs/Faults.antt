@@ -1,7 +1,7 @@
 -- When a session refuses a call.
 use Rattle.std.specs.Prelude.{◌≡◌, ◌<◌, ◌⊎◌, ◌≢◌, ℕ, length}
-use Rattle.photo_script.specs.declared.command.Command.{Command}
-use Rattle.photo_script.specs.Contents.{Contents, IsWithin}
+use Rattle.fleet_model.specs.declared.command.Command.{Command}
+use Rattle.fleet_model.specs.Contents.{Contents, IsWithin}
 use Rattle.live_fleet.specs.Fleets.{KeptFleet}
 use Rattle.fleet_session.specs.declared.fault.FleetFault.{FleetFault}
 use Rattle.fleet_session.specs.declared.fault.FleetFault.TheVariants.{NoMemory, NoDevice, NoCommand, Full}

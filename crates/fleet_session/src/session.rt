@@ -35,10 +35,11 @@ impl Model for Session {
 impl Session {
     ghost use Rattle.std.specs.Prelude.{◌≡◌, ◌+◌, ◌<◌, ◌≤◌, [], length, slice_get, IfOk, IfErr, IfSome, OnOk, OnErr};
     ghost use Rattle.std.specs.Option.{option_copied};
-    ghost use Rattle.photo_script.specs.Contents.{IsWithin, command_of};
-    ghost use Rattle.photo_script.specs.Reports.{Made, Pulled, Preview, Refiltered, IsAbout, answer_of};
-    ghost use Rattle.photo_script.specs.declared.command.Command.TheVariants.{New, Edit, Remove, Pull, Narrow, Refilter};
-    ghost use Rattle.photo_script.specs.declared.command.Command.TheVariants as asked;
+    ghost use Rattle.fleet_model.specs.Contents.{IsWithin, command_of};
+    ghost use Rattle.fleet_model.specs.Answers.{Made, Pulled, Preview, Refiltered};
+    ghost use Rattle.photo_script.specs.Reports.{Plain, IsAbout, answer_of};
+    ghost use Rattle.fleet_model.specs.declared.command.Command.TheVariants.{New, Edit, Remove, Pull, Narrow, Refilter};
+    ghost use Rattle.fleet_model.specs.declared.command.Command.TheVariants as asked;
     ghost use Rattle.live_fleet.specs.Answers.{change_answer, narrow_answer};
     ghost use Rattle.live_fleet.specs.Fleets.{HasJoined, HasRun, IsAnswerTo, ShowsFleet, SpeaksOf, after_commands};
     ghost use Rattle.fleet_session.specs.Faults.{MayRefuse, MayRefuseDevices, MayRefuseNumber};
@@ -132,7 +133,7 @@ impl Session {
         content: &Record,
     ) -> Result<(Version, Place), FleetFault>
         ensures ran { OnOk result (HasRun (New device picture content.now) self.old self.new) }
-        ensures answer { IfOk result (λ made. IsAnswerTo (New device picture content.now) self.old (Made made.0 made.1)) }
+        ensures answer { IfOk result (λ made. IsAnswerTo (New device picture content.now) self.old (Plain (Made made.0 made.1))) }
         ensures err { OnErr result (self.new ≡ self.old) }
         ensures refused { IfErr result (λ fault. MayRefuse fault (New device picture content.now) self.old) }
         ensures long { length self.new.devices ≡ length self.old.devices }
@@ -152,7 +153,7 @@ impl Session {
         content: &Record,
     ) -> Result<Option<(Version, Place)>, FleetFault>
         ensures ran { OnOk result (HasRun (Edit device picture content.now) self.old self.new) }
-        ensures answer { IfOk result (λ made. IsAnswerTo (Edit device picture content.now) self.old (change_answer made)) }
+        ensures answer { IfOk result (λ made. IsAnswerTo (Edit device picture content.now) self.old (Plain (change_answer made))) }
         ensures err { OnErr result (self.new ≡ self.old) }
         ensures refused { IfErr result (λ fault. MayRefuse fault (Edit device picture content.now) self.old) }
         ensures long { length self.new.devices ≡ length self.old.devices }
@@ -171,7 +172,7 @@ impl Session {
         picture: PicNo,
     ) -> Result<Option<(Version, Place)>, FleetFault>
         ensures ran { OnOk result (HasRun (Remove device picture) self.old self.new) }
-        ensures answer { IfOk result (λ made. IsAnswerTo (Remove device picture) self.old (change_answer made)) }
+        ensures answer { IfOk result (λ made. IsAnswerTo (Remove device picture) self.old (Plain (change_answer made))) }
         ensures err { OnErr result (self.new ≡ self.old) }
         ensures refused { IfErr result (λ fault. MayRefuse fault (Remove device picture) self.old) }
         ensures long { length self.new.devices ≡ length self.old.devices }
@@ -186,7 +187,7 @@ impl Session {
     /// As [`Fleet::pull`].
     pub fn pull(&mut self, target: u16, source: u16) -> Result<PullCounts, FleetFault>
         ensures ran { OnOk result (HasRun (Pull target source) self.old self.new) }
-        ensures answer { IfOk result (λ counts. IsAnswerTo (Pull target source) self.old (Pulled counts)) }
+        ensures answer { IfOk result (λ counts. IsAnswerTo (Pull target source) self.old (Plain (Pulled counts))) }
         ensures err { OnErr result (self.new ≡ self.old) }
         ensures refused { IfErr result (λ fault. MayRefuse fault (Pull target source) self.old) }
         ensures long { length self.new.devices ≡ length self.old.devices }
@@ -204,7 +205,7 @@ impl Session {
     /// As [`Fleet::narrow`].
     pub fn narrow(&mut self, device: u16, filter: &Filter) -> Result<Option<u64>, FleetFault>
         ensures ran { OnOk result (HasRun (Narrow device filter.now) self.old self.new) }
-        ensures answer { IfOk result (λ count. IsAnswerTo (Narrow device filter.now) self.old (narrow_answer count)) }
+        ensures answer { IfOk result (λ count. IsAnswerTo (Narrow device filter.now) self.old (Plain (narrow_answer count))) }
         ensures err { OnErr result (self.new ≡ self.old) }
         ensures refused { IfErr result (λ fault. MayRefuse fault (Narrow device filter.now) self.old) }
         ensures long { length self.new.devices ≡ length self.old.devices }
@@ -219,7 +220,7 @@ impl Session {
     /// As [`Fleet::refilter`].
     pub fn refilter(&mut self, device: u16, filter: &Filter) -> Result<(u64, u64), FleetFault>
         ensures ran { OnOk result (HasRun (Refilter device filter.now) self.old self.new) }
-        ensures answer { IfOk result (λ sizes. IsAnswerTo (Refilter device filter.now) self.old (Refiltered sizes.0 sizes.1)) }
+        ensures answer { IfOk result (λ sizes. IsAnswerTo (Refilter device filter.now) self.old (Plain (Refiltered sizes.0 sizes.1))) }
         ensures err { OnErr result (self.new ≡ self.old) }
         ensures refused { IfErr result (λ fault. MayRefuse fault (Refilter device filter.now) self.old) }
         ensures long { length self.new.devices ≡ length self.old.devices }
@@ -233,7 +234,7 @@ impl Session {
 
     /// As [`Fleet::preview`]. It isn't counted, so `Full` doesn't come.
     pub fn preview(&self, target: u16, source: u16) -> Result<PullCounts, FleetFault>
-        ensures answer { IfOk result (λ counts. IsAnswerTo (asked.Preview target source) self.now (Preview counts)) }
+        ensures answer { IfOk result (λ counts. IsAnswerTo (asked.Preview target source) self.now (Plain (Preview counts))) }
         ensures refused { IfErr result (λ fault. MayRefuse fault (asked.Preview target source) self.now) }
     {
         let count = self.fleet.devices().len();

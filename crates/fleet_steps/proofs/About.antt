@@ -11,21 +11,23 @@ use Rattle.photo_filter_rules.specs.Covers.{covers}
 use Rattle.photo_version.specs.Author.{epoch_of_author, same_author}
 use Rattle.photo_version.specs.Version.{Version, same_version}
 use Rattle.item_knowledge.specs.Fragments.{knows}
-use Rattle.photo_device.specs.Entry.{Entry, entry_before, others, put_entry_if, put_entries, is_of_other, supersedes}
-use Rattle.photo_device.specs.Device.{ModelDevice, known, holds, knows_entry, selects, new_entry, next_version, made, is_held, narrowed, moved}
-use Rattle.photo_device.specs.Refiltered.{refiltered}
-use Rattle.photo_device.specs.Conflicts.{conflicts_of, versions_of, pictures_of}
-use Rattle.photo_device.specs.Telling.{tell}
-use Rattle.photo_pull.specs.Pull.{taken, handed, noticed, told, learns_all, leaves_store, leaves_out, pulled, handed_over}
-use Rattle.photo_script.specs.declared.command.Command.{Command}
-use Rattle.photo_script.specs.declared.command.Command.TheVariants as command
-use Rattle.photo_script.specs.Contents.{Contents, devices_of}
-use Rattle.photo_script.specs.Reports.{Answer, NotHeld, NotNarrower, Narrowed, Exactly, Tells, TellsKnowledge, IsOfScript, AreOfScript, IsConflictOfScript, AreConflictsOfScript, IsAbout}
-use Rattle.photo_script.specs.Runs.{Effect, effect, making, telling, changing, narrowing, pulling, previewing, opening_from}
+use Rattle.photo_model.specs.Entry.{Entry, entry_before, others, put_entry_if, put_entries, is_of_other, supersedes}
+use Rattle.photo_model.specs.Device.{ModelDevice, known, holds, knows_entry, selects, new_entry, next_version, made, is_held, narrowed, moved}
+use Rattle.photo_model.specs.Refiltered.{refiltered}
+use Rattle.photo_model.specs.Conflicts.{conflicts_of, versions_of, pictures_of}
+use Rattle.photo_model.specs.Telling.{tell}
+use Rattle.photo_model.specs.Pull.{taken, handed, noticed, told, learns_all, leaves_store, leaves_out, pulled, handed_over}
+use Rattle.fleet_model.specs.declared.command.Command.{Command}
+use Rattle.fleet_model.specs.declared.command.Command.TheVariants as command
+use Rattle.fleet_model.specs.Contents.{Contents, devices_of}
+use Rattle.fleet_model.specs.Answers.{NotHeld, NotNarrower, Narrowed, Exactly}
+use Rattle.photo_script.specs.Reports.{Answer, Tells, TellsKnowledge, IsOfScript, AreOfScript, IsConflictOfScript, AreConflictsOfScript, IsAbout}
+use Rattle.fleet_model.specs.Runs.{Effect, effect, making, telling, changing, narrowing, pulling, previewing, opening_from}
 use Rattle.fleet_steps.specs.Running.{IsOfRun, IsOfFleet}
-use Rattle.photo_device.proofs.AllLemmas.{all_append, all_filter, all_put}
+use Rattle.photo_model.proofs.AllLemmas.{all_append, all_filter, all_put}
 use Rattle.fleet_steps.proofs.KnownLemmas.{each_known}
-use Rattle.fleet_steps.proofs.Epochs.{next_device}
+use Rattle.fleet_model.proofs.Effects.{all_are, narrowed_effect, changing_second, narrowing_second}
+use Rattle.fleet_model.proofs.Epochs.{next_device}
 
 all_puts : (P : Entry → Type 0) (es entries : List Entry) → AllByRecursion P es → AllByRecursion P entries → AllByRecursion P (put_entries es entries)
 all_puts P [] entries new all = all
@@ -34,10 +36,6 @@ all_puts P (e ∷ es) entries new all = all_put P entry_before e _ new.0 (all_pu
 all_map : {X Y : Type 0} (P : X → Type 0) (Q : Y → Type 0) (f : X → Y) (xs : List X) → ((x : X) → P x → Q (f x)) → AllByRecursion P xs → AllByRecursion Q (map f xs)
 all_map P Q f [] each all = tt
 all_map P Q f (x ∷ xs) each all = (each x all.0, all_map P Q f xs each all.1)
-
-pub all_are : {X : Type 0} (P Q : X → Type 0) (xs : List X) → ((x : X) → P x → Q x) → AllByRecursion P xs → AllByRecursion Q xs
-all_are P Q [] each all = tt
-all_are P Q (x ∷ xs) each all = (each x all.0, all_are P Q xs each all.1)
 
 -- what follows of an item that passes a test
 any_passes : {X : Type 0} (P : X → Type 0) (R : Type 0) (q : X → Bool) (xs : List X) → ((x : X) → P x → q x ≡ true → R) → AllByRecursion P xs → list_any q xs ≡ true → R
@@ -51,20 +49,6 @@ any_passes P R q (x ∷ xs) each all h = elim (or_cases (q x) (list_any q xs) h)
 all_made : (P : Entry → Type 0) (b : Bool) (e : Entry) (picture : ℕ) (entries : List Entry) → P e → AllByRecursion P entries → AllByRecursion P (put_entry_if b e (others picture entries))
 all_made P true e picture entries p all = all_put P entry_before e _ p (all_filter P (is_of_other picture) entries all)
 all_made P false e picture entries p all = all_filter P (is_of_other picture) entries all
-
-pub all_push : {X : Type 0} (P : X → Type 0) (xs : List X) (x : X) → AllByRecursion P xs → P x → AllByRecursion P (xs ++ x ∷ [])
-all_push P [] x all p = (p, tt)
-all_push P (y ∷ ys) x all p = (all.0, all_push P ys x all.1 p)
-
-pub all_set : {X : Type 0} (P : X → Type 0) (xs : List X) (k : ℕ) (x : X) → AllByRecursion P xs → P x → AllByRecursion P (set xs k x)
-all_set P [] k x all p = tt
-all_set P (y ∷ ys) zero x all p = (p, all.1)
-all_set P (y ∷ ys) (suc k) x all p = (all.0, all_set P ys k x all.1 p)
-
-pub all_at : {X : Type 0} (P : X → Type 0) (xs : List X) (k : ℕ) (d : X) → AllByRecursion P xs → k < length xs → P (get_or xs k d)
-all_at P [] k d all h = absurd (omega arith)
-all_at P (y ∷ ys) zero d all h = all.0
-all_at P (y ∷ ys) (suc k) d all h = all_at P ys k d all.1 (omega arith)
 
 -- the devices that a script opens with
 opening_of_fleet : (script : Contents) (n : ℕ) (filters : List Tree) → n + length filters ≤ length script.names → AllByRecursion (IsOfFleet script) (opening_from n filters)
@@ -181,10 +165,6 @@ refiltered_known script d tree few of =
       knows = λ p v h. told_known script (holds d) p v all h;
     }
 
--- the effect where the filter is narrowed
-abbrev pub narrowed_effect : ModelDevice → Option ModelDevice → Tree → Effect
-narrowed_effect d other tree = record { first = narrowed tree d; second = other; report = Exactly (Narrowed (moved tree d)); entries = [] }
-
 narrowing_known : (script : Contents) (d : ModelDevice) (other : Option ModelDevice) (tree : Tree) → IsOfFleet script d → IsOfFleet script (narrowing d other tree).first
 narrowing_known script d other tree of =
     elim (covers d.tree tree) as (λ b. IsOfFleet script (cond b (narrowed_effect d other tree) (telling d other (Exactly NotNarrower))).first) [
@@ -255,15 +235,6 @@ effect_known script (command.List n) d other few of more = of
 effect_known script (command.Conflicts n) d other few of more = of
 effect_known script (command.Knowledge n) d other few of more = of
 effect_known script (command.Knows n picture v) d other few of more = of
-
--- a command on one device leaves a second as it was
-pub changing_second : (d : ModelDevice) (other : Option ModelDevice) (picture : ℕ) (content : Record) → (changing d other picture content).second ≡ other
-changing_second d other picture content =
-    elim (is_held d picture) as (λ b. (cond b (making d other picture content) (telling d other (Exactly NotHeld))).second ≡ other) [ true ↦ refl | false ↦ refl ]
-
-pub narrowing_second : (d : ModelDevice) (other : Option ModelDevice) (tree : Tree) → (narrowing d other tree).second ≡ other
-narrowing_second d other tree =
-    elim (covers d.tree tree) as (λ b. (cond b (narrowed_effect d other tree) (telling d other (Exactly NotNarrower))).second ≡ other) [ true ↦ refl | false ↦ refl ]
 
 pub effect_known_second : (script : Contents) (c : Command) (d : ModelDevice) (other : Option ModelDevice) → IsOfFleet script d → IfSome other (IsOfFleet script) → IfSome (effect c d other).second (IsOfFleet script)
 effect_known_second script (command.New n picture content) d other of more = more

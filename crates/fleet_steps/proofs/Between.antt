@@ -9,21 +9,23 @@ use Rattle.photo_filter_text.specs.Tree.{All}
 use Rattle.photo_version.specs.Author.{author, device_of_author, is_earlier_epoch}
 use Rattle.photo_version.specs.Version.{Version, version, same_version}
 use Rattle.photo_device.specs.declared.held.Held.{Held}
-use Rattle.photo_device.specs.Entry.{Entry}
+use Rattle.photo_model.specs.Entry.{Entry}
 use Rattle.photo_device.specs.Held.{find_version, entry_of, entries_of}
-use Rattle.photo_device.specs.Device.{Kept, ModelDevice, Shows, holds, known, opening}
-use Rattle.photo_pull.specs.Pull.{handed_over}
-use Rattle.photo_script.specs.Runs.{effect, device_at, with_second}
+use Rattle.photo_model.specs.Device.{ModelDevice, holds, known, opening}
+use Rattle.photo_device.specs.Device.{Kept, Shows}
+use Rattle.photo_model.specs.Pull.{handed_over}
+use Rattle.fleet_model.specs.Runs.{effect, device_at, with_second}
 use Rattle.photo_device.proofs.Counts.{same_version_is}
-use Rattle.fleet_steps.specs.Members.{In, here, there}
-use Rattle.photo_script.specs.declared.command.Command.{Command}
-use Rattle.photo_script.specs.declared.command.Command.TheVariants as command
+use Rattle.fleet_model.specs.Members.{In, here, there}
+use Rattle.fleet_model.specs.declared.command.Command.{Command}
+use Rattle.fleet_model.specs.declared.command.Command.TheVariants as command
 use Rattle.photo_script.specs.declared.report.Report.{Report}
-use Rattle.photo_script.specs.Contents.{devices_of, IsWithin}
+use Rattle.fleet_model.specs.Contents.{devices_of, IsWithin}
 use Rattle.photo_script.specs.Reports.{Tells, answer_of}
-use Rattle.fleet_steps.specs.Between.{MayPull, AreReady, HaveRun, devices_after, effect_on}
+use Rattle.fleet_model.specs.Steps.{devices_after, effect_on}
+use Rattle.fleet_steps.specs.Between.{MayPull, AreReady, HaveRun}
 use Rattle.fleet_steps.specs.Wanting.{MayWantMemory}
-use Rattle.fleet_steps.proofs.Zipped.{zip_at, zip_set, zip_long}
+use Rattle.fleet_model.proofs.Zipped.{zip_at, zip_set, zip_long}
 
 -- what was found
 record IsFound (v : Version) (helds : List Held) (h : Held) : Type 0 where

@@ -3,14 +3,16 @@ use Rattle.std.proofs.Common.{◌≡◌, ℕ, true, false, refl, ◌∙◌, subs
 use Rattle.std.specs.Prelude.{Some, None, Result, Ok, Err, IfOk, OnOk, OnErr}
 use Rattle.photo_record.specs.declared.record.Record.{Record}
 use Rattle.photo_version.specs.Version.{Version}
-use Rattle.photo_device.specs.declared.place.Place.{Place}
+use Rattle.photo_model.specs.declared.place.Place.{Place}
 use Rattle.photo_device.specs.declared.fault.ChangeFault.{ChangeFault}
 use Rattle.photo_device.specs.declared.fault.ChangeFault.TheVariants as change
-use Rattle.photo_device.specs.Device.{Kept, ModelDevice, Shows, IsAsItWas, made, next_version, new_place, is_held}
+use Rattle.photo_model.specs.Device.{ModelDevice, made, next_version, new_place, is_held}
+use Rattle.photo_device.specs.Device.{Kept, Shows, IsAsItWas}
 use Rattle.photo_device.proofs.Staged.{shows_alike}
 use Rattle.photo_script.specs.declared.report.Report.{Report}
-use Rattle.photo_script.specs.Reports.{Answer, Made, NotHeld, Tells, answer_of}
-use Rattle.photo_script.specs.Runs.{changing}
+use Rattle.fleet_model.specs.Answers.{Made, NotHeld}
+use Rattle.photo_script.specs.Reports.{Plain, Answer, Tells, answer_of}
+use Rattle.fleet_model.specs.Runs.{changing}
 use Rattle.fleet_steps.specs.Changes.{told_of}
 
 -- what a device promises of a change
@@ -31,10 +33,10 @@ shows_change (Err change.NoMemory) old new p content is a told m s = cc
 tells_change : (done : Result (Version × Place) ChangeFault) (old new : Kept) (p : ℕ) (content : Record) → IsChanged done old new p content
     → (a : Answer) → told_of done ≡ Some a → (m : ModelDevice) → Shows old m → Tells a (changing m None p content).report
 tells_change (Ok made') old new p content is a told m s =
-    let same : a ≡ Made made'.0 made'.1 = cc in
-    rw (is.held (λ e. cc) m s) (same ∙ (λ i. Made (is.version m s i) (is.place m s i)))
+    let same : a ≡ Plain (Made made'.0 made'.1) = cc in
+    rw (is.held (λ e. cc) m s) (same ∙ (λ i. Plain (Made (is.version m s i) (is.place m s i))))
 tells_change (Err change.NotHeld) old new p content is a told m s =
-    let same : a ≡ NotHeld = cc in
+    let same : a ≡ Plain NotHeld = cc in
     rw (is.not_held refl m s) same
 tells_change (Err change.NoMemory) old new p content is a told m s = cc
 

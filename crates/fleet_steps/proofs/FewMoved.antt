@@ -10,27 +10,29 @@ use Rattle.photo_record.specs.declared.record.Record.TheVariants.{Removed}
 use Rattle.photo_filter_text.specs.Tree.{Tree}
 use Rattle.photo_filter_rules.specs.Matching.{IsInRange}
 use Rattle.photo_filter_rules.specs.Covers.{covers}
-use Rattle.photo_device.specs.Entry.{Entry}
-use Rattle.photo_device.specs.Device.{ModelDevice, holds, knows_entry, selects, narrowed, moved, is_held, made}
-use Rattle.photo_device.specs.Refiltered.{refiltered}
-use Rattle.photo_pull.specs.Pull.{taken, handed, pulled, handed_over}
-use Rattle.photo_script.specs.Limits.{max_commands}
-use Rattle.photo_script.specs.declared.command.Command.{Command}
-use Rattle.photo_script.specs.declared.command.Command.TheVariants as command
-use Rattle.photo_script.specs.Contents.{Contents, IsWithin, IsScript, devices_of}
-use Rattle.photo_script.specs.Reports.{Answer, ModelReport, Exactly, KnowledgeIs, NotHeld, NotNarrower, Narrowed, Tells}
-use Rattle.photo_script.specs.Runs.{device_at, Fleet, Effect, effect, making, telling, opening_from, opening_fleet, step, run_in_order, numbers_to, run, reports_of}
-use Rattle.photo_script.specs.Tallies.{moved_by, moved_by_report, max_moved}
-use Rattle.fleet_steps.specs.Between.{effect_on}
+use Rattle.photo_model.specs.Entry.{Entry}
+use Rattle.photo_model.specs.Device.{ModelDevice, holds, knows_entry, selects, narrowed, moved, is_held, made}
+use Rattle.photo_model.specs.Refiltered.{refiltered}
+use Rattle.photo_model.specs.Pull.{taken, handed, pulled, handed_over}
+use Rattle.fleet_model.specs.Limits.{max_commands}
+use Rattle.fleet_model.specs.declared.command.Command.{Command}
+use Rattle.fleet_model.specs.declared.command.Command.TheVariants as command
+use Rattle.fleet_model.specs.Contents.{Contents, IsWithin, IsScript, devices_of}
+use Rattle.fleet_model.specs.Answers.{ModelReport, Exactly, KnowledgeIs, NotHeld, NotNarrower, Narrowed}
+use Rattle.photo_script.specs.Reports.{Answer, Tells}
+use Rattle.fleet_model.specs.Runs.{device_at, Fleet, Effect, effect, making, telling, opening_from, opening_fleet, step, run_in_order, numbers_to, run, reports_of}
+use Rattle.fleet_model.specs.Tallies.{moved_by_report, max_moved}
+use Rattle.photo_script.specs.Tallies.{moved_by}
+use Rattle.fleet_model.specs.Steps.{effect_on}
 use Rattle.fleet_steps.specs.Laws.{PullsMoveWhatWasMade, PullsMoveFew}
-use Rattle.fleet_steps.proofs.Places.{each_changed, each_two_changed}
-use Rattle.fleet_steps.proofs.EachCommand.{IsKept, IsAfter, after_all_of, stepped, not_stepped, all_got, narrowed_effect}
-use Rattle.fleet_steps.proofs.ReadyRuns.{opened_at}
-use Rattle.fleet_steps.proofs.SoundFacts.{IsSoundFleet}
-use Rattle.fleet_steps.proofs.SoundRuns.{sound_kept, opening_sound}
-use Rattle.fleet_steps.proofs.TracedFleets.{bounded}
-use Rattle.fleet_steps.proofs.Times.{AreOnce}
-use Rattle.fleet_steps.proofs.Once.{made_once, narrowed_once, refiltered_once, pulled_once, handed_once, no_more}
+use Rattle.fleet_model.proofs.Places.{each_changed, each_two_changed}
+use Rattle.fleet_model.proofs.EachCommand.{IsKept, IsAfter, after_all_of, stepped, not_stepped, all_got, narrowed_effect}
+use Rattle.fleet_model.proofs.ReadyRuns.{opened_at}
+use Rattle.fleet_model.proofs.SoundFacts.{IsSoundFleet}
+use Rattle.fleet_model.proofs.SoundRuns.{sound_kept, opening_sound}
+use Rattle.fleet_model.proofs.TracedFleets.{bounded}
+use Rattle.fleet_model.proofs.Times.{AreOnce}
+use Rattle.fleet_model.proofs.Once.{made_once, narrowed_once, refiltered_once, pulled_once, handed_once, no_more}
 
 -- sound, and no device holds a version twice
 record IsOnceFleet (log : List Entry) (devices : List ModelDevice) : Type 0 where

@@ -11,27 +11,32 @@ use Rattle.photo_filter_text.specs.Tree.{All}
 use Rattle.photo_version.specs.Author.{author, epoch_of_author}
 use Rattle.photo_device.specs.declared.held.Held.{Held}
 use Rattle.photo_device.specs.Held.{entries_of}
-use Rattle.photo_device.specs.Device.{Kept, ModelDevice, Shows, opening}
-use Rattle.photo_script.specs.Limits.{max_commands}
-use Rattle.photo_script.specs.declared.command.Command.{Command}
+use Rattle.photo_model.specs.Device.{ModelDevice, opening}
+use Rattle.photo_device.specs.Device.{Kept, Shows}
+use Rattle.fleet_model.specs.Limits.{max_commands}
+use Rattle.fleet_model.specs.declared.command.Command.{Command}
 use Rattle.photo_script.specs.declared.report.Report.{Report}
-use Rattle.photo_script.specs.Contents.{Contents, IsScript, devices_of, IsWithin}
-use Rattle.photo_script.specs.Reports.{ModelReport, Tells, answer_of, IsAbout}
-use Rattle.photo_script.specs.Runs.{Fleet, opening_from, after_command, step, effect, opening_fleet, run_in_order, run, device_at}
+use Rattle.fleet_model.specs.Contents.{Contents, IsScript, devices_of, IsWithin}
+use Rattle.fleet_model.specs.Answers.{ModelReport}
+use Rattle.photo_script.specs.Reports.{Tells, answer_of, IsAbout}
+use Rattle.fleet_model.specs.Runs.{Fleet, opening_from, after_command, step, effect, opening_fleet, run_in_order, run, device_at}
 use Rattle.photo_script.specs.declared.report.Report.TheVariants.{NotHeld}
 use Rattle.photo_batcher.specs.Related.{IsNumber}
 use Rattle.photo_batcher.specs.Orders.{times, IsLawful, AreSameRuns}
 use Rattle.photo_batcher.proofs.Counting.{times_cons}
 use Rattle.photo_batcher.proofs.Checked.{lawful_long}
 use Rattle.photo_batcher.proofs.Turns.{not_counts}
-use Rattle.fleet_steps.specs.Between.{HaveRoom, AreReady, HaveRun, effect_on, devices_after}
-use Rattle.fleet_steps.specs.Running.{IsOfFleet, HasMadeAtMost, IsTold, RunsTo, HasRun}
-use Rattle.fleet_steps.proofs.Zipped.{zip_set, zip_long}
-use Rattle.fleet_steps.proofs.About.{all_set, all_at, opening_known, effect_known, effect_known_second, effect_about}
+use Rattle.fleet_model.specs.Steps.{effect_on, devices_after, HasMadeAtMost}
+use Rattle.fleet_steps.specs.Between.{HaveRoom, AreReady, HaveRun}
+use Rattle.fleet_steps.specs.Running.{IsOfFleet, IsTold, RunsTo, HasRun}
+use Rattle.fleet_model.proofs.Zipped.{zip_set, zip_long}
+use Rattle.fleet_model.proofs.Effects.{all_set, all_at}
+use Rattle.fleet_steps.proofs.About.{opening_known, effect_known, effect_known_second, effect_about}
 use Rattle.fleet_steps.proofs.Shown.{opening_long}
-use Rattle.fleet_steps.proofs.EachCommand.{stepped, not_stepped}
-use Rattle.fleet_steps.proofs.ReadyRuns.{ready_in_order}
-use Rattle.fleet_steps.proofs.Runs.{opening_at_most, have_room, after_all, second_all, long_after, makes_one_more}
+use Rattle.fleet_model.proofs.EachCommand.{stepped, not_stepped}
+use Rattle.fleet_model.proofs.ReadyRuns.{ready_in_order}
+use Rattle.fleet_model.proofs.Runs.{opening_at_most, after_all, second_all, long_after, makes_one_more}
+use Rattle.fleet_steps.proofs.Runs.{have_room}
 
 next_in : (script : Contents) (front : List ℕ) (n : ℕ) (c : Command) → slice_get script.commands n ≡ Some c → run_in_order script (front ++ suc n ∷ []) ≡ after_command (run_in_order script front) (suc n) c
 next_in script front n c here = fold-append (step script) (opening_fleet script) front (suc n ∷ []) ∙ stepped script (run_in_order script front) n c here

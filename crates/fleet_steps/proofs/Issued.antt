@@ -13,23 +13,25 @@ use Rattle.photo_filter_rules.specs.Covers.{covers}
 use Rattle.photo_version.specs.Author.{author}
 use Rattle.photo_version.specs.Version.{Version, same_version}
 use Rattle.photo_device.specs.declared.held.Held.{Held}
-use Rattle.photo_device.specs.Entry.{Entry}
+use Rattle.photo_model.specs.Entry.{Entry}
 use Rattle.photo_device.specs.Held.{entry_of, entries_of, is_of, find_version_of}
-use Rattle.photo_device.specs.Device.{Kept, ModelDevice, Shows, holds, is_held, opening, made, new_entry, new_place, next_version}
-use Rattle.photo_script.specs.declared.command.Command.{Command}
-use Rattle.photo_script.specs.declared.command.Command.TheVariants as command
-use Rattle.photo_script.specs.Contents.{devices_of}
-use Rattle.photo_script.specs.Reports.{Answer, Made, NotHeld, NotNarrower, Exactly, Tells}
-use Rattle.photo_script.specs.Runs.{making, telling, changing, narrowing, pulling, device_at}
-use Rattle.fleet_steps.specs.Members.{In, here, there}
-use Rattle.fleet_steps.specs.Between.{devices_after, effect_on}
+use Rattle.photo_model.specs.Device.{ModelDevice, holds, is_held, opening, made, new_entry, new_place, next_version}
+use Rattle.photo_device.specs.Device.{Kept, Shows}
+use Rattle.fleet_model.specs.declared.command.Command.{Command}
+use Rattle.fleet_model.specs.declared.command.Command.TheVariants as command
+use Rattle.fleet_model.specs.Contents.{devices_of}
+use Rattle.fleet_model.specs.Answers.{Made, NotHeld, NotNarrower, Exactly}
+use Rattle.photo_script.specs.Reports.{Plain, Answer, Tells}
+use Rattle.fleet_model.specs.Runs.{making, telling, changing, narrowing, pulling, device_at}
+use Rattle.fleet_model.specs.Members.{In, here, there}
+use Rattle.fleet_model.specs.Steps.{devices_after, effect_on}
 use Rattle.fleet_steps.specs.Issued.{picture_of, version_told}
-use Rattle.fleet_steps.proofs.Members.{in_nothing, in_left, in_right}
-use Rattle.fleet_steps.proofs.Superseding.{clash, is_same_version}
-use Rattle.fleet_steps.proofs.Making.{in_holds_made, new_stored, new_out}
-use Rattle.fleet_steps.proofs.Zipped.{zip_at, zip_long}
-use Rattle.fleet_steps.proofs.Places.{at_same}
-use Rattle.fleet_steps.proofs.About.{narrowed_effect}
+use Rattle.fleet_model.proofs.Members.{in_nothing, in_left, in_right}
+use Rattle.fleet_model.proofs.Superseding.{clash, is_same_version}
+use Rattle.fleet_model.proofs.Making.{in_holds_made, new_stored, new_out}
+use Rattle.fleet_model.proofs.Zipped.{zip_at, zip_long}
+use Rattle.fleet_model.proofs.Places.{at_same}
+use Rattle.fleet_model.proofs.Effects.{narrowed_effect}
 
 later_one : (p : ℕ) (v : Version) (e : Entry) (h : Held) (hs : List Held) → e.picture ≡ p → e.version ≡ v → is_of h p v ≡ false → In e (entries_of (h ∷ hs)) → In e (entries_of hs)
 later_one p v e h hs picture version is (there j) = j
@@ -68,7 +70,7 @@ made_found d m p r shows =
     (λ g i same. only_new m p r g (subst (In g) all i) same)
 
 -- a command that makes a version
-pub making_issued : (d : Kept) (m : ModelDevice) (other : Option ModelDevice) (p : ℕ) (r : Record) (a : Answer) (v : Version) → a ≡ Made (next_version m) (new_place m r) → version_told a ≡ Some v → Shows d (made m p r)
+pub making_issued : (d : Kept) (m : ModelDevice) (other : Option ModelDevice) (p : ℕ) (r : Record) (a : Answer) (v : Version) → a ≡ Plain (Made (next_version m) (new_place m r)) → version_told a ≡ Some v → Shows d (made m p r)
     → entries_of (option_to_list (find_version_of p v (d.store ++ d.out))) ≡ (making m other p r).entries
 making_issued d m other p r a v told is shows =
     let same : Some v ≡ Some (next_version m) = sym is ∙ ap version_told told in
@@ -85,7 +87,7 @@ abbrev IsIssued : List Kept → Kept → ℕ → ℕ → Version → List Entry 
 IsIssued devices d0 k p v entries = entries_of (option_to_list (find_version_of p v ((get_or devices k d0).store ++ (get_or devices k d0).out))) ≡ entries
 
 new_issued : (devices : List Kept) (models : List ModelDevice) (d0 : Kept) (k p q : ℕ) (r : Record) (a : Answer) (v : Version) → k < length devices → q ≡ p
-    → AllZip Shows devices (set models k (made (device_at models k) q r)) → a ≡ Made (next_version (device_at models k)) (new_place (device_at models k) r) → version_told a ≡ Some v
+    → AllZip Shows devices (set models k (made (device_at models k) q r)) → a ≡ Plain (Made (next_version (device_at models k)) (new_place (device_at models k) r)) → version_told a ≡ Some v
     → IsIssued devices d0 k p v (new_entry (device_at models k) q r ∷ [])
 new_issued devices models d0 k p q r a v h same shown told is =
     let m = device_at models k in

@@ -1,6 +1,5 @@
 mod Logged
 mod Ranges
-pub mod Zipped
 pub mod Shown
 pub mod KnownLemmas
 pub mod About
@@ -8,33 +7,9 @@ pub mod Changed
 pub mod Runs
 pub mod InOrder
 pub mod NumberOrder
-pub mod Members
-pub mod Superseding
-pub mod Traced
-pub mod Making
-pub mod Pulling
-pub mod Narrowing
-pub mod Refiltering
-pub mod Epochs
-pub mod TracedSteps
-pub mod Places
-pub mod TracedFleets
-pub mod ReadySteps
-pub mod EachCommand
 pub mod ReadyRuns
-pub mod SoundFacts
-pub mod SoundMaking
-pub mod SoundPulling
-pub mod SoundNarrowing
-pub mod SoundRefiltering
-pub mod SoundFleets
-pub mod SoundRuns
 pub mod Between
 pub mod Settled
-pub mod SoundTests
-pub mod SoundWorked
-pub mod Times
-pub mod Once
 pub mod FewMoved
 pub mod Issued
 pub mod MadeAlone

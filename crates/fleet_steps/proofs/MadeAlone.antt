@@ -6,14 +6,16 @@ use Rattle.photo_record.specs.declared.record.Record.{Record}
 use Rattle.photo_record.specs.declared.record.Record.TheVariants.{Removed}
 use Rattle.photo_version.specs.Version.{Version}
 use Rattle.photo_device.specs.Held.{entries_of, find_version_of}
-use Rattle.photo_device.specs.Device.{Kept, ModelDevice, Shows, is_held}
-use Rattle.photo_script.specs.declared.command.Command.{Command}
-use Rattle.photo_script.specs.declared.command.Command.TheVariants as command
-use Rattle.photo_script.specs.Reports.{Answer, Exactly, NotHeld, Tells}
-use Rattle.photo_script.specs.Runs.{effect, making, telling, changing}
+use Rattle.photo_model.specs.Device.{ModelDevice, is_held}
+use Rattle.photo_device.specs.Device.{Kept, Shows}
+use Rattle.fleet_model.specs.declared.command.Command.{Command}
+use Rattle.fleet_model.specs.declared.command.Command.TheVariants as command
+use Rattle.fleet_model.specs.Answers.{Exactly, NotHeld}
+use Rattle.photo_script.specs.Reports.{Answer, Tells}
+use Rattle.fleet_model.specs.Runs.{effect, making, telling, changing}
 use Rattle.fleet_steps.specs.Issued.{picture_of, version_told}
 use Rattle.fleet_steps.proofs.Issued.{making_issued, change_not_told, narrowing_logs}
-use Rattle.fleet_steps.proofs.About.{changing_second, narrowing_second}
+use Rattle.fleet_model.proofs.Effects.{changing_second, narrowing_second}
 
 abbrev IsFound : Kept → ℕ → Version → Command → ModelDevice → Type 0
 IsFound d p v c m = entries_of (option_to_list (find_version_of p v (d.store ++ d.out))) ≡ (effect c m None).entries

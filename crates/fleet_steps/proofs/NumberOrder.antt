@@ -1,12 +1,12 @@
 -- The order of the numbers is a lawful one.
 use Rattle.std.proofs.Common.{◌≡◌, ℕ, zero, suc, ◌+◌, ◌<◌, ◌≤◌, List, [], ◌∷◌, ◌++◌, length, ap, add-one, arith}
 use Rattle.std.specs.List.{AllByRecursion}
-use Rattle.photo_script.specs.Contents.{Contents}
-use Rattle.photo_script.specs.Runs.{numbers_to}
+use Rattle.fleet_model.specs.Contents.{Contents}
+use Rattle.fleet_model.specs.Runs.{numbers_to}
 use Rattle.photo_batcher.specs.Related.{AreRelated}
 use Rattle.photo_batcher.specs.Orders.{KeepsOrder, IsLawful}
 use Rattle.photo_batcher.proofs.Turns.{all_numbers, times_numbers}
-use Rattle.fleet_steps.proofs.About.{all_push, all_are}
+use Rattle.fleet_model.proofs.Effects.{all_push, all_are}
 
 keeps_push : (script : Contents) (front : List ℕ) (n : ℕ) → KeepsOrder script front → AllByRecursion (λ k. AreRelated script k n → k < n) front → KeepsOrder script (front ++ n ∷ [])
 keeps_push script [] n kept all = (tt, tt)

@@ -6,7 +6,7 @@ use Rattle.std.proofs.lemmas.List.{get_or-set_other}
 use Rattle.photo_device.specs.Device.{Kept, IsAsItWas, unstaged}
 use Rattle.photo_script.specs.declared.report.Report.{Report}
 use Rattle.fleet_steps.specs.Between.{AreSettled, AreAsTheyWere}
-use Rattle.fleet_steps.proofs.About.{all_set, all_at}
+use Rattle.fleet_model.proofs.Effects.{all_set, all_at}
 
 -- one device
 

@@ -4,11 +4,12 @@ use Rattle.std.specs.Prelude.{Some, slice_get}
 use Rattle.std.specs.List.{AllZip}
 use Rattle.std.proofs.lemmas.List.{take_more, take_all, length-take-le}
 use Rattle.std.proofs.lemmas.Option.{slice_get_within, get_or_from_slice_get}
-use Rattle.fleet_steps.proofs.Zipped.{zip_push}
+use Rattle.fleet_model.proofs.Zipped.{zip_push}
 use Rattle.photo_filter_text.specs.Tree.{Tree}
 use Rattle.photo_version.specs.Author.{author}
-use Rattle.photo_device.specs.Device.{Kept, Shows, opening}
-use Rattle.photo_script.specs.Runs.{opening_from}
+use Rattle.photo_model.specs.Device.{opening}
+use Rattle.photo_device.specs.Device.{Kept, Shows}
+use Rattle.fleet_model.specs.Runs.{opening_from}
 
 pub opening_from-push : (n : ℕ) (filters : List Tree) (filter : Tree) → opening_from n (filters ++ filter ∷ []) ≡ opening_from n filters ++ opening (author (n + length filters)) filter ∷ []
 opening_from-push n [] filter = ap (λ (k : ℕ). opening (author k) filter ∷ []) (sym (add-zero n))

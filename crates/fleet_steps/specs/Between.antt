@@ -3,12 +3,14 @@ use Rattle.std.specs.Prelude.{◌≡◌, ℕ, ◌<◌, ◌≤◌, List, map, sli
 use Rattle.std.specs.Option.{option_map}
 use Rattle.std.specs.List.{AllZip, AllByRecursion}
 use Rattle.photo_version.specs.Author.{epoch_of_author}
-use Rattle.photo_device.specs.Device.{Kept, ModelDevice, Shows, unstaged}
+use Rattle.photo_model.specs.Device.{ModelDevice}
+use Rattle.photo_device.specs.Device.{Kept, Shows, unstaged}
+use Rattle.fleet_model.specs.Steps.{devices_after}
 pub use Rattle.photo_pull.specs.MayPull.{MayPull}
-use Rattle.photo_script.specs.declared.command.Command.{Command}
-use Rattle.photo_script.specs.Contents.{devices_of}
-use Rattle.photo_script.specs.Runs.{Effect, effect, device_at, with_second}
-use Rattle.fleet_steps.specs.Ready.{IsReady}
+use Rattle.fleet_model.specs.declared.command.Command.{Command}
+use Rattle.fleet_model.specs.Contents.{devices_of}
+use Rattle.fleet_model.specs.Runs.{Effect, effect, device_at, with_second}
+use Rattle.fleet_model.specs.Ready.{IsReady}
 
 -- the devices show such of which each may pull from each other
 pub record AreReady (devices : List Kept) : Type 0 where
@@ -31,16 +33,6 @@ HaveRoom devices = AllByRecursion (λ d. (d.counter < 4_294_967_295) × (epoch_o
 -- each device has made at most so many versions in its epoch, and begun at most so many epochs after its first
 abbrev pub HaveMadeAtMost : ℕ → List Kept → Type 0
 HaveMadeAtMost n devices = AllByRecursion (λ d. (d.counter ≤ n) × (epoch_of_author d.author ≤ n)) devices
-
--- the effect of a command on those of the devices that it works on
-abbrev pub effect_on : List ModelDevice → Command → Effect
-effect_on devices c = effect c (device_at devices (devices_of c).0) (option_map (device_at devices) (devices_of c).1)
-
--- the devices after it
-abbrev pub devices_after : List ModelDevice → Command → List ModelDevice
-devices_after devices c =
-    let done = effect_on devices c in
-    with_second (devices_of c).1 done.second (slice_set devices (devices_of c).0 done.first)
 
 -- the command has run on the devices: whatever model devices the old ones show, the new ones show what it makes of those
 abbrev pub HaveRun : Command → List Kept → List Kept → Type 0

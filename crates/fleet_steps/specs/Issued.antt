@@ -1,9 +1,10 @@
 -- Machinery of the proofs: which command makes a version, and which report tells of one.
 use Rattle.std.specs.Prelude.{ℕ, Option, Some, None}
 use Rattle.photo_version.specs.Version.{Version}
-use Rattle.photo_script.specs.declared.command.Command.{Command}
-use Rattle.photo_script.specs.declared.command.Command.TheVariants as command
-use Rattle.photo_script.specs.Reports.{Answer, Made, NotHeld, NotNarrower, Narrowed, Refiltered, Pulled, Preview, Listed, Conflicts, KnowledgeOf, Knows}
+use Rattle.fleet_model.specs.declared.command.Command.{Command}
+use Rattle.fleet_model.specs.declared.command.Command.TheVariants as command
+use Rattle.fleet_model.specs.Answers.{Made, NotHeld, NotNarrower, Narrowed, Refiltered, Pulled, Preview, Listed, Conflicts, Knows}
+use Rattle.photo_script.specs.Reports.{Plain, Answer, KnowledgeOf}
 
 -- the picture of which a command makes a version
 abbrev pub picture_of : Command → Option ℕ
@@ -21,14 +22,14 @@ picture_of (command.Knows device picture v) = None
 
 -- the version that an answer tells to have been made
 abbrev pub version_told : Answer → Option Version
-version_told (Made v place) = Some v
-version_told NotHeld = None
-version_told NotNarrower = None
-version_told (Narrowed count) = None
-version_told (Refiltered stored waiting) = None
-version_told (Pulled counts) = None
-version_told (Preview counts) = None
-version_told (Listed n store out) = None
-version_told (Conflicts n pictures) = None
+version_told (Plain (Made v place)) = Some v
+version_told (Plain NotHeld) = None
+version_told (Plain NotNarrower) = None
+version_told (Plain (Narrowed count)) = None
+version_told (Plain (Refiltered stored waiting)) = None
+version_told (Plain (Pulled counts)) = None
+version_told (Plain (Preview counts)) = None
+version_told (Plain (Listed n store out)) = None
+version_told (Plain (Conflicts n pictures)) = None
 version_told (KnowledgeOf n fragments) = None
-version_told (Knows known) = None
+version_told (Plain (Knows known)) = None

@@ -3,30 +3,21 @@ use Rattle.std.specs.Prelude.{◌≡◌, ◌+◌, ◌<◌, ◌≤◌, ℕ, List,
 use Rattle.std.specs.List.{AllZip, AllByRecursion}
 use Rattle.photo_filter_text.specs.Tree.{Tree}
 use Rattle.photo_device.specs.Device.{Kept, Shows}
-use Rattle.photo_script.specs.Limits.{max_commands}
-use Rattle.photo_script.specs.Contents.{Contents, IsWithin, IsScript}
+use Rattle.fleet_model.specs.Limits.{max_commands}
+use Rattle.fleet_model.specs.Contents.{Contents, IsWithin, IsScript}
 use Rattle.photo_script.specs.Reading.{script_of}
 use Rattle.photo_script.specs.Reports.{Answer, Tells}
-use Rattle.photo_script.specs.declared.command.Command.{Command}
-use Rattle.photo_script.specs.Runs.{opening_from, run_in_order, numbers_to}
+use Rattle.fleet_model.specs.declared.command.Command.{Command}
+use Rattle.fleet_model.specs.Runs.{opening_from, run_in_order, numbers_to}
 use Rattle.photo_script.specs.Tallies.{moved_by}
-use Rattle.fleet_steps.specs.Between.{AreReady, HaveMadeAtMost, HaveRoom, HaveRun, effect_on}
+use Rattle.fleet_model.specs.Steps.{effect_on}
+use Rattle.fleet_steps.specs.Between.{AreReady, HaveMadeAtMost, HaveRoom, HaveRun}
 use Rattle.fleet_steps.specs.Outcomes.{AreRight}
-use Rattle.fleet_steps.specs.Sound.{IsSoundAndKept, IsSoundThroughout}
-
--- before the first command of a script, and after each, the devices are sound and lose nothing that is current, what they
--- hold was made, and nothing was made twice
-abbrev pub StaysSoundAndKept : Type 0
-StaysSoundAndKept = (script : Contents) (n : ℕ) → IsScript script → IsSoundAndKept (run_in_order script (numbers_to n))
+use Rattle.fleet_model.specs.Sound.{IsSoundAndKept, IsSoundThroughout}
 
 -- so it is from the bytes on: of whatever is accepted as the text of a script
 abbrev pub AcceptedStaysSound : Type 0
 AcceptedStaysSound = (text : List ℕ) (script : Contents) → script_of text ≡ Ok script → IsSoundThroughout script
-
--- and after any commands of the script in any order, each as often as one likes, up to 4,294,967,295 of them: so many epochs a
--- device may begin
-abbrev pub StaysSoundInAnyOrder : Type 0
-StaysSoundInAnyOrder = (script : Contents) (numbers : List ℕ) → IsScript script → length numbers ≤ 4_294_967_295 → IsSoundAndKept (run_in_order script numbers)
 
 -- after so many commands of a script in any order, the right answer to one more tells of no more versions taken and handed
 -- over, counted together, than commands have run before it

@@ -1,11 +1,7 @@
 pub mod Changes
 pub mod Outcomes
 pub mod Laws
-pub mod Members
-pub mod Ready
-pub mod Sound
 pub mod Between
-pub mod SoundExamples
 pub mod Issued
 pub mod Logged
 pub mod Wanting

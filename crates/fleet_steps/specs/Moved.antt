@@ -1,8 +1,8 @@
 -- Machinery of the proofs: what a report may say that a pull moved.
 use Rattle.std.specs.Prelude.{◌≡◌, ◌≤◌}
-use Rattle.photo_pull.specs.declared.counts.PullCounts.{PullCounts}
-use Rattle.photo_script.specs.Limits.{max_commands}
-use Rattle.photo_script.specs.Reports.{ModelReport, Exactly, Pulled}
+use Rattle.photo_model.specs.declared.counts.PullCounts.{PullCounts}
+use Rattle.fleet_model.specs.Limits.{max_commands}
+use Rattle.fleet_model.specs.Answers.{ModelReport, Exactly, Pulled}
 
 -- if a pull is told, it took no more versions than there can be commands, and was handed no more
 abbrev pub MovesFew : ModelReport → Type 0

@@ -3,13 +3,13 @@ use Rattle.std.specs.Prelude.{◌≡◌, ◌≤◌, List, length, map, IsPermuta
 use Rattle.std.specs.List.{AllZip, AllByRecursion}
 use Rattle.photo_device.specs.Held.{entries_of}
 use Rattle.photo_device.specs.Device.{Shows}
-use Rattle.photo_script.specs.Limits.{max_commands}
-use Rattle.photo_script.specs.Contents.{Contents}
+use Rattle.fleet_model.specs.Limits.{max_commands}
+use Rattle.fleet_model.specs.Contents.{Contents}
 use Rattle.photo_script.specs.Reports.{Answer, Tells, answer_of, IsAbout}
-use Rattle.photo_script.specs.Runs.{run, reports_of}
-use Rattle.photo_script.specs.Tallies.{totals_of}
+use Rattle.fleet_model.specs.Runs.{run, reports_of}
+use Rattle.fleet_model.specs.Tallies.{totals_of}
 use Rattle.fleet_steps.specs.declared.outcome.Outcome.{Outcome}
-use Rattle.fleet_steps.specs.Sound.{IsSoundThroughout}
+use Rattle.fleet_model.specs.Sound.{IsSoundThroughout}
 
 -- the answers are the right ones to a script's commands, in the order of their numbers
 abbrev pub AreRight : Contents → List Answer → Type 0

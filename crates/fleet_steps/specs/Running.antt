@@ -4,13 +4,16 @@ use Rattle.std.specs.List.{AllZip, AllByRecursion}
 use Rattle.photo_version.specs.Author.{device_of_author, epoch_of_author}
 use Rattle.photo_version.specs.Version.{Version}
 use Rattle.photo_device.specs.declared.held.Held.{Held}
-use Rattle.photo_device.specs.Entry.{Entry}
+use Rattle.photo_model.specs.Entry.{Entry}
 use Rattle.photo_device.specs.Held.{entries_of}
-use Rattle.photo_device.specs.Device.{Kept, ModelDevice, Shows, known}
+use Rattle.photo_model.specs.Device.{ModelDevice, known}
+use Rattle.photo_device.specs.Device.{Kept, Shows}
 use Rattle.photo_script.specs.declared.report.Report.{Report}
-use Rattle.photo_script.specs.Contents.{Contents}
-use Rattle.photo_script.specs.Reports.{ModelReport, Tells, answer_of, IsOfScript, IsAbout}
-use Rattle.photo_script.specs.Runs.{run_in_order, run, reports_of}
+use Rattle.fleet_model.specs.Contents.{Contents}
+use Rattle.fleet_model.specs.Answers.{ModelReport}
+use Rattle.photo_script.specs.Reports.{Tells, answer_of, IsOfScript, IsAbout}
+use Rattle.fleet_model.specs.Steps.{HasMadeAtMost}
+use Rattle.fleet_model.specs.Runs.{run_in_order, run, reports_of}
 
 -- the entry's version is of a device of the script, and so is each version that it was made with
 pub record IsOfRun (script : Contents) (e : Entry) : Type 0 where
@@ -23,11 +26,6 @@ pub record IsOfFleet (script : Contents) (d : ModelDevice) : Type 0 where
   pub store : AllByRecursion (IsOfRun script) d.store
   pub out : AllByRecursion (IsOfRun script) d.out
   pub knows : (picture : ℕ) (v : Version) → known d picture v ≡ true → IsOfScript script v
-
--- the device has made at most so many versions in its epoch, and begun at most so many epochs after its first
-pub record HasMadeAtMost (n : ℕ) (m : ModelDevice) : Type 0 where
-  pub made : m.counter ≤ n
-  pub begun : epoch_of_author m.author ≤ n
 
 -- the report is the right one, where the command has run
 abbrev pub IsTold : Report → Option ModelReport → Type 0

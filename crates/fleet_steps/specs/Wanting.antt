@@ -1,9 +1,9 @@
 -- Where a command may want memory: no command that is refused does, and no question whose answer is a yes or a no.
 use Rattle.std.specs.Prelude.{◌≡◌, true}
 use Rattle.photo_filter_rules.specs.Covers.{covers}
-use Rattle.photo_device.specs.Device.{ModelDevice, is_held}
-use Rattle.photo_script.specs.declared.command.Command.{Command}
-use Rattle.photo_script.specs.declared.command.Command.TheVariants as command
+use Rattle.photo_model.specs.Device.{ModelDevice, is_held}
+use Rattle.fleet_model.specs.declared.command.Command.{Command}
+use Rattle.fleet_model.specs.declared.command.Command.TheVariants as command
 
 abbrev pub MayWantMemory : Command → ModelDevice → Type 0
 MayWantMemory (command.New device picture content) m = Unit {0}

@@ -2,11 +2,13 @@
 ghost use Rattle.std.specs.Prelude.{◌≡◌, true, ◌<◌, Some, None, Err, IsSome, IfOk, IfSome, OnOk, OnErr};
 ghost use Rattle.photo_filter_rules.specs.Covers.{covers};
 ghost use Rattle.photo_version.specs.Author.{epoch_of_author};
-ghost use Rattle.photo_device.specs.Device.{ModelDevice, Shows, is_held, IsAsItWas};
+ghost use Rattle.photo_model.specs.Device.{ModelDevice, is_held};
+ghost use Rattle.photo_device.specs.Device.{Shows, IsAsItWas};
 ghost use Rattle.item_knowledge.specs.Fragments.{is_normal, knows};
-ghost use Rattle.photo_script.specs.Contents.{devices_of};
-ghost use Rattle.photo_script.specs.Reports.{KnowledgeOf, Knows, Tells, answer_of};
-ghost use Rattle.photo_script.specs.Runs.{effect, changing, narrowing, refiltering, pulling, previewing};
+ghost use Rattle.fleet_model.specs.Contents.{devices_of};
+ghost use Rattle.fleet_model.specs.Answers.{Knows};
+ghost use Rattle.photo_script.specs.Reports.{Plain, KnowledgeOf, Tells, answer_of};
+ghost use Rattle.fleet_model.specs.Runs.{effect, changing, narrowing, refiltering, pulling, previewing};
 ghost use Rattle.photo_record.specs.declared.record.Record.TheVariants.{Removed};
 ghost use Rattle.photo_device.specs.declared.fault.ChangeFault.TheVariants.{NoMemory};
 ghost use Rattle.fleet_steps.specs.Changes.{told_of};
@@ -143,7 +145,7 @@ fn run_preview(alloc: Global, target: &Device, source: &Device) -> Result<Report
 
 // The report on whether a version of a picture is known.
 fn knows_of(knowledge: &Knowledge, picture: PicNo, version: Version) -> Report
-    ensures given { answer_of result ≡ Knows (knows knowledge.now.known picture version) }
+    ensures given { answer_of result ≡ Plain (Knows (knows knowledge.now.known picture version)) }
     ensures above_zero { 0 < picture }
 {
     Report::Knows(knowledge.knows(picture, version))

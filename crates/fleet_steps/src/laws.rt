@@ -1,14 +1,7 @@
 //! Laws of the definitions.
-ghost use Rattle.fleet_steps.specs.Laws.{StaysSoundAndKept, AcceptedStaysSound, StaysSoundInAnyOrder, PullsMoveWhatWasMade, PullsMoveFew, OpensReady, StaysReady, LeavesRoom};
-ghost use Rattle.fleet_steps.specs.SoundExamples.{SoundIsAsTold};
+ghost use Rattle.fleet_steps.specs.Laws.{AcceptedStaysSound, PullsMoveWhatWasMade, PullsMoveFew, OpensReady, StaysReady, LeavesRoom};
 
-/// Before the first command of a script and after each, each device stores just what its filter selects of the newest
-/// versions that it knows, no version that is current is lost, what a device holds was made, and no version was made twice;
-/// no device holds a version together with one that supersedes it, and each knows all that a version was made with which it
-/// knows, of its picture.
-pub fn stays_sound_and_kept()
-    ensures { StaysSoundAndKept }
-{}
+pub use fleet_model::laws::{sound_examples, stays_sound_and_kept, stays_sound_in_any_order};
 
 /// So it is of whatever is accepted as the text of a script.
 pub fn accepted_stays_sound()
@@ -16,11 +9,6 @@ pub fn accepted_stays_sound()
 {
     photo_script::laws::accepted_are_scripts();
 }
-
-/// So it is after any commands of a script in any order, with the log in that order, as long as there are epochs to begin.
-pub fn stays_sound_in_any_order()
-    ensures { StaysSoundInAnyOrder }
-{}
 
 /// A pull moves no more versions than commands have run before it, in whatever order: what it takes and what is handed
 /// over are different versions that its source holds, and no device holds more than were made.
@@ -46,9 +34,4 @@ pub fn stays_ready()
 /// Devices that have made and begun few enough versions and epochs may make and begin one more.
 pub fn leaves_room()
     ensures { LeavesRoom }
-{}
-
-/// Which devices are sound, and what is lost, is as it is told, by the definitions alone.
-pub fn sound_examples()
-    ensures { SoundIsAsTold }
 {}

@@ -3,11 +3,13 @@ ghost use Rattle.std.specs.Prelude.{◌≡◌, ◌++◌, List, length, None, OnO
 ghost use Rattle.std.specs.List.{AllZip};
 ghost use Rattle.std.specs.Option.{option_copied, option_to_list};
 ghost use Rattle.photo_device.specs.Held.{entries_of};
-ghost use Rattle.photo_device.specs.Device.{ModelDevice, Shows};
-ghost use Rattle.photo_script.specs.Contents.{IsWithin};
+ghost use Rattle.photo_model.specs.Device.{ModelDevice};
+ghost use Rattle.photo_device.specs.Device.{Shows};
+ghost use Rattle.fleet_model.specs.Contents.{IsWithin};
 ghost use Rattle.photo_script.specs.Reports.{Tells, answer_of};
-ghost use Rattle.photo_script.specs.Runs.{effect};
-ghost use Rattle.fleet_steps.specs.Between.{AreReady, HaveRoom, HaveRun, devices_after, effect_on};
+ghost use Rattle.fleet_model.specs.Runs.{effect};
+ghost use Rattle.fleet_model.specs.Steps.{devices_after, effect_on};
+ghost use Rattle.fleet_steps.specs.Between.{AreReady, HaveRoom, HaveRun};
 ghost use Rattle.fleet_steps.specs.Issued.{picture_of, version_told};
 
 use crate::step::run_on;

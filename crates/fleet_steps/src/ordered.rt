@@ -3,9 +3,10 @@ ghost use Rattle.std.specs.Prelude.{◌≡◌, ◌≤◌, length, replicate, Non
 ghost use Rattle.std.specs.List.{AllZip};
 ghost use Rattle.photo_device.specs.Held.{entries_of};
 ghost use Rattle.photo_version.specs.Author.{author};
-ghost use Rattle.photo_device.specs.Device.{Shows, opening};
-ghost use Rattle.photo_script.specs.Limits.{max_devices};
-ghost use Rattle.photo_script.specs.Runs.{opening_from, run_in_order};
+ghost use Rattle.photo_model.specs.Device.{opening};
+ghost use Rattle.photo_device.specs.Device.{Shows};
+ghost use Rattle.fleet_model.specs.Limits.{max_devices};
+ghost use Rattle.fleet_model.specs.Runs.{opening_from, run_in_order};
 ghost use Rattle.photo_script.specs.declared.report.Report.TheVariants.{NotHeld};
 ghost use Rattle.photo_batcher.specs.Orders.{IsLawful};
 ghost use Rattle.fleet_steps.specs.Outcomes.{IsOutcome};

@@ -1,8 +1,8 @@
 // Runs in the order of the numbers.
 ghost use Rattle.std.specs.Prelude.{◌≡◌, ◌≤◌, IfOk, IfErr};
 ghost use Rattle.photo_device.specs.Held.{entries_of};
-ghost use Rattle.photo_script.specs.Limits.{max_commands};
-ghost use Rattle.photo_script.specs.Runs.{numbers_to, run};
+ghost use Rattle.fleet_model.specs.Limits.{max_commands};
+ghost use Rattle.fleet_model.specs.Runs.{numbers_to, run};
 ghost use Rattle.fleet_steps.specs.Outcomes.{IsOutcome};
 ghost use Rattle.fleet_steps.specs.declared.fault.RunError.TheVariants.{NoMemory};
 

@@ -1,7 +1,7 @@
 // Runs in an order that is asked for.
 ghost use Rattle.std.specs.Prelude.{◌≡◌, ◌⊎◌, OnOk, IfOk, IfErr};
 ghost use Rattle.photo_device.specs.Held.{entries_of};
-ghost use Rattle.photo_script.specs.Runs.{run_in_order};
+ghost use Rattle.fleet_model.specs.Runs.{run_in_order};
 ghost use Rattle.photo_batcher.specs.Orders.{IsLawful};
 ghost use Rattle.fleet_steps.specs.Outcomes.{IsOutcome};
 ghost use Rattle.fleet_steps.specs.declared.fault.RunError.TheVariants.{NoMemory, NotLawful};

@@ -1,11 +1,13 @@
 // One command on those of all devices that it works on.
 ghost use Rattle.std.specs.Prelude.{◌≡◌, Some, List, length, OnOk, OnErr, IfOk};
 ghost use Rattle.std.specs.List.{AllZip};
-ghost use Rattle.photo_device.specs.Device.{ModelDevice, Shows};
-ghost use Rattle.photo_script.specs.Contents.{IsWithin, devices_of};
+ghost use Rattle.photo_model.specs.Device.{ModelDevice};
+ghost use Rattle.photo_device.specs.Device.{Shows};
+ghost use Rattle.fleet_model.specs.Contents.{IsWithin, devices_of};
 ghost use Rattle.photo_script.specs.Reports.{Tells, answer_of};
-ghost use Rattle.photo_script.specs.Runs.{device_at};
-ghost use Rattle.fleet_steps.specs.Between.{AreAsTheyWere, AreReady, AreSettled, HaveRoom, HaveRun, effect_on};
+ghost use Rattle.fleet_model.specs.Runs.{device_at};
+ghost use Rattle.fleet_model.specs.Steps.{effect_on};
+ghost use Rattle.fleet_steps.specs.Between.{AreAsTheyWere, AreReady, AreSettled, HaveRoom, HaveRun};
 ghost use Rattle.fleet_steps.specs.Wanting.{MayWantMemory};
 
 use crate::command::{run_between, run_command};

@@ -12,11 +12,12 @@ use Rattle.photo_version.specs.Author.{author}
 use Rattle.photo_version.specs.Author.{epoch_of_author}
 use Rattle.photo_device.specs.declared.held.Held.{Held}
 use Rattle.photo_device.specs.Held.{entry_of, entries_of}
-use Rattle.photo_device.specs.Device.{Kept, ModelDevice, Shows, opening}
-use Rattle.photo_script.specs.declared.command.Command.{Command}
+use Rattle.photo_model.specs.Device.{ModelDevice, opening}
+use Rattle.photo_device.specs.Device.{Kept, Shows}
+use Rattle.fleet_model.specs.declared.command.Command.{Command}
 use Rattle.photo_script.specs.declared.report.Report.{Report}
-use Rattle.photo_script.specs.Contents.{Contents, IsScript, command_of, devices_of, IsWithin}
-use Rattle.photo_script.specs.Runs.{effect, device_at, with_second, run_in_order}
+use Rattle.fleet_model.specs.Contents.{Contents, IsScript, command_of, devices_of, IsWithin}
+use Rattle.fleet_model.specs.Runs.{effect, device_at, with_second, run_in_order}
 use Rattle.photo_batcher.specs.Related.{is_device, works_on, uses, AreRelated}
 use Rattle.photo_batcher.proofs.Exchange.{used}
 use Rattle.photo_batcher.specs.Orders.{times}
@@ -24,19 +25,20 @@ use Rattle.photo_batcher.proofs.Counting.{times_cons}
 use Rattle.photo_batcher.proofs.Turns.{all_by_times, by_all_times, self_counts}
 use Rattle.photo_batcher.proofs.Befores.{works_cases}
 use Rattle.photo_batcher.proofs.Lasts.{works_first, works_second}
-use Rattle.fleet_steps.specs.Between.{MayPull, AreReady, effect_on}
+use Rattle.fleet_model.specs.Steps.{effect_on}
+use Rattle.fleet_steps.specs.Between.{MayPull, AreReady}
 use Rattle.fleet_workers.specs.Jobs.{ShowsSecond, MayWork, ShowsEffect, IsDone, IsReadyJob, IsDoneJob, AreReadyJobs, AreDoneJobs}
 use Rattle.fleet_workers.specs.Batch.{IsSecondAt, IsJobAt, AreApart, AreOut, with_other, in_places, put_devices, all_devices, all_reports, all_logged, some_second, put_slots, all_slots, IsOfCommand}
 use Rattle.fleet_steps.specs.Running.{RunsTo}
 use Rattle.fleet_workers.specs.declared.work.Job.{Job}
 use Rattle.fleet_workers.specs.declared.work.Done.{Done}
-use Rattle.fleet_steps.proofs.Zipped.{zip_at, zip_set}
+use Rattle.fleet_model.proofs.Zipped.{zip_at, zip_set}
 use Rattle.fleet_steps.proofs.Between.{may_pull}
-use Rattle.fleet_steps.proofs.About.{all_at}
+use Rattle.fleet_model.proofs.Effects.{all_at}
 use Rattle.fleet_workers.proofs.Owned.{number_of}
 use Rattle.fleet_steps.proofs.InOrder.{runs_more, runs_ready, runs_room}
 use Rattle.fleet_steps.proofs.InAnyOrder.{moves_few_after}
-use Rattle.photo_script.specs.Limits.{max_commands}
+use Rattle.fleet_model.specs.Limits.{max_commands}
 
 -- no two of the commands are related
 abbrev pub ArePairwise : Contents → List ℕ → Type 0

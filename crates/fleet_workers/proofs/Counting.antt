@@ -3,17 +3,20 @@ use Rattle.std.proofs.Common.{◌≡◌, ℕ, ◌+◌, ◌-◌, Bool, true, fals
 use Rattle.std.specs.Prelude.{Option, Some, None, IsPermutation}
 use Rattle.std.proofs.lemmas.List.Sums.{sum_by-append, sum_by-cons}
 use Rattle.std.proofs.lemmas.List.Sorted.{sum_by-IsPermutation}
-use Rattle.photo_device.specs.Device.{ModelDevice, is_held, narrowed, moved}
+use Rattle.photo_model.specs.Device.{ModelDevice, is_held, narrowed, moved}
 use Rattle.photo_filter_rules.specs.Covers.{covers}
 use Rattle.photo_record.specs.declared.record.Record.TheVariants.{Removed}
-use Rattle.photo_script.specs.declared.tally.Tally.{Tally}
-use Rattle.photo_script.specs.declared.tally.Totals.{Totals}
-use Rattle.photo_script.specs.declared.command.Command.{Command}
-use Rattle.photo_script.specs.declared.command.Command.TheVariants as command
-use Rattle.photo_script.specs.Contents.{Contents, command_of}
-use Rattle.photo_script.specs.Reports.{Answer, Exactly, NotHeld, NotNarrower, Narrowed, Pulled, Tells, answer_of}
-use Rattle.photo_script.specs.Runs.{Effect, effect, making, telling}
-use Rattle.photo_script.specs.Tallies.{kind_of, moved_by}
+use Rattle.fleet_model.specs.declared.tally.Tally.{Tally}
+use Rattle.fleet_model.specs.declared.tally.Totals.{Totals}
+use Rattle.fleet_model.specs.declared.command.Command.{Command}
+use Rattle.fleet_model.specs.declared.command.Command.TheVariants as command
+use Rattle.fleet_model.specs.Contents.{Contents, command_of}
+use Rattle.photo_model.specs.declared.counts.PullCounts.{PullCounts}
+use Rattle.fleet_model.specs.Answers.{RightAnswer, Exactly, NotHeld, NotNarrower, Narrowed, Pulled}
+use Rattle.photo_script.specs.Reports.{Plain, Answer, Tells, answer_of}
+use Rattle.fleet_model.specs.Runs.{Effect, effect, making, telling}
+use Rattle.fleet_model.specs.Tallies.{kind_of}
+use Rattle.photo_script.specs.Tallies.{moved_by}
 use Rattle.photo_script.specs.Tallies as kind
 use Rattle.work_ledger.specs.declared.kind.Kind.{Kind}
 use Rattle.work_ledger.specs.declared.kind.Kind.TheVariants.{Change, Pull, Report}
@@ -69,9 +72,9 @@ as_question a told none = record {
       ∙ stake_same parts _ _ _ _ _ _ _ _ _ _ _ _ _ _ (omega arith) (omega arith) (omega arith) (omega arith) (omega arith) (omega arith) (omega (arith, none));
 }
 
-as_pull : (a : Answer) (counts : _) → a ≡ Pulled counts → MovesFew (Exactly a) → CountsAs kind.Pull a
+as_pull : (a : Answer) (counts : PullCounts) → a ≡ Plain (Pulled counts) → MovesFew (Exactly (Pulled counts)) → CountsAs kind.Pull a
 as_pull a counts is few =
-    let most = few counts (ap Exactly is) in
+    let most = few counts refl in
     subst (CountsAs kind.Pull) (sym is) (record {
       can = λ left. (omega arith, most.0, most.1);
       by = λ parts left done. stake_same parts _ _ _ _ _ _ _ _ _ _ _ _ _ _ (omega arith) (omega arith) (omega arith) (omega arith) (omega arith) (omega arith) (omega arith);
@@ -81,18 +84,18 @@ either : (k : kind.Kind) (a : Answer) (b : Bool) (x y : Effect) → (Tells a x.r
 either k a true x y f g told = f told
 either k a false x y f g told = g told
 
-changes_as : (a right : Answer) → kind_told right ≡ Change → moved_by right ≡ 0 → Tells a (Exactly right) → CountsAs kind.Change a
+changes_as : (a : Answer) (right : RightAnswer) → kind_told (Plain right) ≡ Change → moved_by (Plain right) ≡ 0 → Tells a (Exactly right) → CountsAs kind.Change a
 changes_as a right told none is = as_change a (ap kind_told is ∙ told) (ap moved_by is ∙ none)
 
-asks_as : (a right : Answer) → kind_told right ≡ Report → moved_by right ≡ 0 → Tells a (Exactly right) → CountsAs kind.Question a
+asks_as : (a : Answer) (right : RightAnswer) → kind_told (Plain right) ≡ Report → moved_by (Plain right) ≡ 0 → Tells a (Exactly right) → CountsAs kind.Question a
 asks_as a right told none is = as_question a (ap kind_told is ∙ told) (ap moved_by is ∙ none)
 
 pub counts_as : (c : Command) (d : ModelDevice) (other : Option ModelDevice) (a : Answer) → MovesFew (effect c d other).report → Tells a (effect c d other).report → CountsAs (kind_of c) a
 counts_as (command.New k p r) d other a few told = changes_as a _ refl refl told
 counts_as (command.Edit k p r) d other a few told = either kind.Change a (is_held d p) (making d other p r) (telling d other (Exactly NotHeld)) (changes_as a _ refl refl) (changes_as a _ refl refl) told
 counts_as (command.Remove k p) d other a few told = either kind.Change a (is_held d p) (making d other p Removed) (telling d other (Exactly NotHeld)) (changes_as a _ refl refl) (changes_as a _ refl refl) told
-counts_as (command.Pull t s) d None a few told = as_pull a _ told (subst (λ x. MovesFew (Exactly x)) (sym told) few)
-counts_as (command.Pull t s) d (Some x) a few told = as_pull a _ told (subst (λ x. MovesFew (Exactly x)) (sym told) few)
+counts_as (command.Pull t s) d None a few told = as_pull a _ told few
+counts_as (command.Pull t s) d (Some x) a few told = as_pull a _ told few
 counts_as (command.Narrow k tree) d other a few told = either kind.Change a (covers d.tree tree) (record { first = narrowed tree d; second = other; report = Exactly (Narrowed (moved tree d)); entries = [] }) (telling d other (Exactly NotNarrower)) (changes_as a _ refl refl) (changes_as a _ refl refl) told
 counts_as (command.Refilter k tree) d other a few told = changes_as a _ refl refl told
 counts_as (command.Preview t s) d None a few told = asks_as a _ refl refl told

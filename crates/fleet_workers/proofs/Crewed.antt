@@ -2,11 +2,11 @@
 use Rattle.std.proofs.Common.{◌≡◌, ℕ, zero, suc, length, get_or, take, ◌+◌, ◌-◌, ◌<◌, List, [], ◌∷◌, ◌++◌, sym, ap, ◌∙◌, subst, arith}
 use Rattle.std.proofs.lemmas.List.{map-append, take_more}
 use Rattle.std.specs.Prelude.{Some, Vec, Result, Ok, Err, IfOk}
-use Rattle.photo_script.specs.declared.command.Command.{Command}
-use Rattle.photo_script.specs.Tallies.{kind_of}
-use Rattle.photo_script.specs.Contents.{Contents, command_of}
-use Rattle.photo_script.specs.declared.tally.Tally.{Tally}
-use Rattle.photo_script.specs.declared.tally.Totals.{Totals}
+use Rattle.fleet_model.specs.declared.command.Command.{Command}
+use Rattle.fleet_model.specs.Tallies.{kind_of}
+use Rattle.fleet_model.specs.Contents.{Contents, command_of}
+use Rattle.fleet_model.specs.declared.tally.Tally.{Tally}
+use Rattle.fleet_model.specs.declared.tally.Totals.{Totals}
 use Rattle.work_ledger.specs.Stakes.{Stake, stake, none_left, plus, less, both, given, Within, IsCountable}
 use Rattle.fleet_workers.specs.Counting.{one_of, tally_at, worked, moved_in}
 use Rattle.fleet_workers.specs.Jobs.{IsReadyJob, AreReadyJobs, AreDoneJobs, MayStart, HasWorked, numbers_of, share_for}

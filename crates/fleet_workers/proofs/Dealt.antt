@@ -6,8 +6,8 @@ use Rattle.std.proofs.lemmas.List.{get_or-set_same, get_or-set_other, map-append
 use Rattle.std.proofs.lemmas.List.Sorted.{IsPermutation-refl, IsPermutation-trans, IsPermutation-map, IsPermutation-append_left, IsPermutation-append_right, IsPermutation-to_front}
 use Rattle.std.proofs.lemmas.Bool.{cases_eq, eq-eqb, ne_eqb}
 use Rattle.photo_device.specs.Device.{Kept}
-use Rattle.photo_script.specs.declared.command.Command.{Command}
-use Rattle.photo_script.specs.Contents.{Contents, command_of, devices_of, IsWithin}
+use Rattle.fleet_model.specs.declared.command.Command.{Command}
+use Rattle.fleet_model.specs.Contents.{Contents, command_of, devices_of, IsWithin}
 use Rattle.photo_batcher.specs.Related.{IsNumber, uses, works_on}
 use Rattle.photo_batcher.specs.Orders.{times}
 use Rattle.photo_batcher.proofs.Counting.{times_cons, times_append}
@@ -16,7 +16,7 @@ use Rattle.photo_batcher.proofs.Exchange.{used}
 use Rattle.photo_batcher.proofs.Befores.{works_cases}
 use Rattle.photo_batcher.proofs.Lasts.{works_first, works_second}
 use Rattle.photo_batcher.proofs.Checked.{at_place}
-use Rattle.photo_device.proofs.AllLemmas.{all_front, all_back, all_append}
+use Rattle.photo_model.proofs.AllLemmas.{all_front, all_back, all_append}
 use Rattle.fleet_workers.specs.declared.work.Job.{Job}
 use Rattle.fleet_workers.specs.Jobs.{jobs_of, numbers_of}
 use Rattle.fleet_workers.specs.Batch.{IsJobAt, IsSecondAt, IsTaken, AreApart, AreOut, in_places, with_other, taken_slots}

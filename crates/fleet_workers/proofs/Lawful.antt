@@ -5,14 +5,16 @@ use Rattle.std.specs.List.{AllByRecursion, AllZip, sum_by, count_by}
 use Rattle.std.proofs.lemmas.List.{get_or-set_other, length-replicate, take_all}
 use Rattle.std.proofs.lemmas.List.Sums.{sum_by-append, sum_by-cons, sum_by-set}
 use Rattle.std.proofs.lemmas.Option.{slice_get_cases}
-use Rattle.photo_script.specs.declared.command.Command.{Command}
-use Rattle.photo_script.specs.declared.tally.Tally.{Tally}
+use Rattle.fleet_model.specs.declared.command.Command.{Command}
+use Rattle.fleet_model.specs.declared.tally.Tally.{Tally}
 use Rattle.photo_script.specs.declared.report.Report.{Report}
 use Rattle.photo_script.specs.declared.report.Report.TheVariants.{NotHeld}
-use Rattle.photo_script.specs.Contents.{Contents}
-use Rattle.photo_script.specs.Reports.{Answer, ModelReport, Exactly, KnowledgeIs, Tells, answer_of}
-use Rattle.photo_script.specs.Runs.{numbers_to}
-use Rattle.photo_script.specs.Tallies.{tally_of, kind_of, is_change, is_pull, is_question, moved_by, moved_by_report}
+use Rattle.fleet_model.specs.Contents.{Contents}
+use Rattle.fleet_model.specs.Answers.{ModelReport, Exactly, KnowledgeIs}
+use Rattle.photo_script.specs.Reports.{Answer, Tells, answer_of}
+use Rattle.fleet_model.specs.Runs.{numbers_to}
+use Rattle.fleet_model.specs.Tallies.{tally_of, kind_of, is_change, is_pull, is_question, moved_by_report}
+use Rattle.photo_script.specs.Tallies.{moved_by}
 use Rattle.photo_script.specs.Tallies as kind
 use Rattle.photo_batcher.specs.Related.{IsNumber}
 use Rattle.photo_batcher.specs.Orders.{times, IsLawful}

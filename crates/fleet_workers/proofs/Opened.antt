@@ -5,21 +5,21 @@ use Rattle.std.specs.List.{AllZip, AllByRecursion}
 use Rattle.std.proofs.lemmas.List.Sums.{count_by-le-length}
 use Rattle.photo_device.specs.declared.held.Held.{Held}
 use Rattle.photo_device.specs.Device.{Kept, Shows}
-use Rattle.photo_script.specs.Contents.{Contents, IsScript}
-use Rattle.photo_script.specs.Limits.{max_commands}
-use Rattle.photo_script.specs.declared.tally.Tally.{Tally}
+use Rattle.fleet_model.specs.Contents.{Contents, IsScript}
+use Rattle.fleet_model.specs.Limits.{max_commands}
+use Rattle.fleet_model.specs.declared.tally.Tally.{Tally}
 use Rattle.photo_script.specs.declared.report.Report.{Report}
 use Rattle.photo_script.specs.declared.report.Report.TheVariants.{NotHeld}
 use Rattle.photo_script.specs.Reports.{Tells, IsAbout, answer_of}
 use Rattle.photo_device.specs.Held.{entries_of}
-use Rattle.photo_script.specs.Runs.{run, reports_of, opening_from}
-use Rattle.photo_script.specs.Tallies.{tally_of, kind_of, is_change, is_pull, is_question}
+use Rattle.fleet_model.specs.Runs.{run, reports_of, opening_from}
+use Rattle.fleet_model.specs.Tallies.{tally_of, kind_of, is_change, is_pull, is_question}
 use Rattle.work_ledger.specs.Ledgers.{all_parts}
 use Rattle.work_ledger.specs.Stakes.{Stake, stake, less, totals, nothing_done, IsCountable}
 use Rattle.fleet_steps.specs.Outcomes.{IsOutcome}
 use Rattle.fleet_steps.specs.declared.outcome.Outcome.{Outcome}
 use Rattle.fleet_steps.proofs.InOrder.{runs_none, long_slots}
-use Rattle.fleet_steps.proofs.SoundRuns.{stays_sound_and_kept}
+use Rattle.fleet_model.proofs.SoundRuns.{stays_sound_and_kept}
 use Rattle.fleet_workers.specs.declared.slots.Slots.{Slots}
 use Rattle.fleet_workers.specs.Counting.{tally_at}
 use Rattle.fleet_workers.specs.Progress.{HasRun, HasEnded}

@@ -4,11 +4,11 @@ use Rattle.std.specs.Prelude.{Some, slice_get, IsPermutation}
 use Rattle.std.specs.List.{AllByRecursion, flat_map}
 use Rattle.std.proofs.lemmas.Bool.{eqb-true}
 use Rattle.std.proofs.lemmas.List.Sorted.{IsPermutation-refl}
-use Rattle.photo_script.specs.Limits.{max_commands}
-use Rattle.photo_script.specs.declared.tally.Tally.{Tally}
-use Rattle.photo_script.specs.Contents.{Contents, IsScript}
-use Rattle.photo_script.specs.Runs.{run, reports_of}
-use Rattle.photo_script.specs.Tallies.{totals_of}
+use Rattle.fleet_model.specs.Limits.{max_commands}
+use Rattle.fleet_model.specs.declared.tally.Tally.{Tally}
+use Rattle.fleet_model.specs.Contents.{Contents, IsScript}
+use Rattle.fleet_model.specs.Runs.{run, reports_of}
+use Rattle.fleet_model.specs.Tallies.{totals_of}
 use Rattle.photo_batcher.specs.Related.{IsNumber}
 use Rattle.photo_batcher.specs.Orders.{times, IsLawful}
 use Rattle.photo_batcher.specs.Batches.{members_of, batches_from, InTurn}
@@ -20,7 +20,7 @@ use Rattle.photo_batcher.proofs.Reordered.{lawful_orders_are_the_run}
 use Rattle.work_ledger.specs.Stakes.{Stake, plus, Within}
 use Rattle.fleet_steps.specs.Running.{HasRun as HasReplayed}
 use Rattle.fleet_steps.proofs.InOrder.{runs_all}
-use Rattle.photo_device.proofs.AllLemmas.{all_front, all_back}
+use Rattle.photo_model.proofs.AllLemmas.{all_front, all_back}
 use Rattle.fleet_workers.specs.declared.slots.Slots.{Slots}
 use Rattle.fleet_workers.specs.Batch.{AreApart}
 use Rattle.fleet_workers.specs.Counting.{tally_at, worked}

@@ -3,13 +3,13 @@ use Rattle.std.proofs.Common.{◌≡◌, ℕ, ◌+◌, ◌-◌, ◌≤◌, List,
 use Rattle.std.specs.Prelude.{Option, Some, IsPermutation, Vec}
 use Rattle.std.proofs.lemmas.List.{map-append, length-map}
 use Rattle.photo_device.specs.Device.{Kept}
-use Rattle.photo_script.specs.Limits.{max_commands}
-use Rattle.photo_script.specs.declared.tally.Tally.{Tally}
-use Rattle.photo_script.specs.declared.tally.Totals.{Totals}
+use Rattle.fleet_model.specs.Limits.{max_commands}
+use Rattle.fleet_model.specs.declared.tally.Tally.{Tally}
+use Rattle.fleet_model.specs.declared.tally.Totals.{Totals}
 use Rattle.photo_script.specs.declared.report.Report.{Report}
 use Rattle.photo_script.specs.declared.report.Report.TheVariants.{NotHeld}
-use Rattle.photo_script.specs.Contents.{Contents, IsScript}
-use Rattle.photo_script.specs.Tallies.{tally_of}
+use Rattle.fleet_model.specs.Contents.{Contents, IsScript}
+use Rattle.fleet_model.specs.Tallies.{tally_of}
 use Rattle.work_ledger.specs.Ledgers.{all_parts}
 use Rattle.work_ledger.specs.Stakes.{Stake, stake, plus, less, both}
 use Rattle.fleet_steps.specs.Running.{RunsTo}

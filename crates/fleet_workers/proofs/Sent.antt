@@ -24,7 +24,7 @@ use Rattle.photo_script.proofs.names.Names.TheSendSync as names
 use Rattle.photo_filter_text.specs.contracts.tree.FilterTree as tree
 use Rattle.photo_filter_rules.specs.contracts.filter.Filter as filter_
 use Rattle.photo_device.specs.contracts.device.Device as device
-use Rattle.photo_script.specs.contracts.command.Command as command
+use Rattle.fleet_model.specs.contracts.command.Command as command
 use Rattle.photo_script.specs.contracts.script.Script as script
 use Rattle.fleet_workers.specs.contracts.parcel.Parcel as parcel
 use Rattle.fleet_workers.specs.contracts.work.Job as job

@@ -1,12 +1,12 @@
 -- What a worker has run and counted, before its first job, after each and after all.
 use Rattle.std.proofs.Common.{◌≡◌, ℕ, ◌+◌, ◌-◌, List, [], ◌∷◌, ◌++◌, refl, sym, ap, ◌∙◌, subst, arith}
 use Rattle.std.specs.Prelude.{Some, slice_get}
-use Rattle.photo_script.specs.declared.tally.Tally.{Tally}
-use Rattle.photo_script.specs.declared.tally.Totals.{Totals}
-use Rattle.photo_script.specs.declared.command.Command.{Command}
-use Rattle.photo_script.specs.Contents.{Contents, command_of}
+use Rattle.fleet_model.specs.declared.tally.Tally.{Tally}
+use Rattle.fleet_model.specs.declared.tally.Totals.{Totals}
+use Rattle.fleet_model.specs.declared.command.Command.{Command}
+use Rattle.fleet_model.specs.Contents.{Contents, command_of}
 use Rattle.photo_script.specs.Reports.{answer_of}
-use Rattle.photo_script.specs.Tallies.{kind_of}
+use Rattle.fleet_model.specs.Tallies.{kind_of}
 use Rattle.work_ledger.specs.Stakes.{Stake, stake, plus, less, both}
 use Rattle.work_ledger.specs.Counting.{CanCount, counted}
 use Rattle.fleet_workers.specs.Counting.{kind_told, tally_at, worked, moved_in}

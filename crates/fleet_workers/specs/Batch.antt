@@ -4,9 +4,9 @@ use Rattle.std.specs.List.{AllByRecursion}
 use Rattle.std.specs.Option.{option_to_list}
 use Rattle.photo_device.specs.declared.held.Held.{Held}
 use Rattle.photo_device.specs.Device.{Kept}
-use Rattle.photo_script.specs.declared.command.Command.{Command}
+use Rattle.fleet_model.specs.declared.command.Command.{Command}
 use Rattle.photo_script.specs.declared.report.Report.{Report}
-use Rattle.photo_script.specs.Contents.{Contents, command_of, devices_of, IsWithin}
+use Rattle.fleet_model.specs.Contents.{Contents, command_of, devices_of, IsWithin}
 use Rattle.photo_batcher.specs.Related.{uses, AreRelated}
 use Rattle.photo_batcher.specs.Orders.{times}
 use Rattle.fleet_workers.specs.declared.work.Job.{Job}

@@ -1,12 +1,14 @@
 -- How commands count.
 use Rattle.std.specs.Prelude.{ℕ, List, Option, Some, None}
 use Rattle.std.specs.List.{sum_by}
-use Rattle.photo_script.specs.declared.tally.Tally.{Tally}
-use Rattle.photo_script.specs.declared.tally.Totals.{Totals}
-use Rattle.photo_script.specs.declared.command.Command.{Command}
-use Rattle.photo_script.specs.Contents.{Contents, command_of}
-use Rattle.photo_script.specs.Reports.{Answer, Made, NotHeld, NotNarrower, Narrowed, Refiltered, Pulled, Preview, Listed, Conflicts, KnowledgeOf, Knows, answer_of}
-use Rattle.photo_script.specs.Tallies.{kind_of, moved_by}
+use Rattle.fleet_model.specs.declared.tally.Tally.{Tally}
+use Rattle.fleet_model.specs.declared.tally.Totals.{Totals}
+use Rattle.fleet_model.specs.declared.command.Command.{Command}
+use Rattle.fleet_model.specs.Contents.{Contents, command_of}
+use Rattle.fleet_model.specs.Answers.{Made, NotHeld, NotNarrower, Narrowed, Refiltered, Pulled, Preview, Listed, Conflicts, Knows}
+use Rattle.photo_script.specs.Reports.{Plain, Answer, KnowledgeOf, answer_of}
+use Rattle.fleet_model.specs.Tallies.{kind_of}
+use Rattle.photo_script.specs.Tallies.{moved_by}
 use Rattle.photo_script.specs.Tallies as kind
 use Rattle.work_ledger.specs.declared.kind.Kind.{Kind}
 use Rattle.work_ledger.specs.declared.kind.Kind.TheVariants.{Change, Pull, Report}
@@ -33,17 +35,17 @@ tally_at script ns = tally (sum_by (λ n. (one_at script n).changes) ns) (sum_by
 
 -- how a command counts, by the report on it
 abbrev pub kind_told : Answer → Kind
-kind_told (Made v place) = Change
-kind_told NotHeld = Change
-kind_told NotNarrower = Change
-kind_told (Narrowed count) = Change
-kind_told (Refiltered stored waiting) = Change
-kind_told (Pulled counts) = Pull counts.taken counts.handed
-kind_told (Preview counts) = Report
-kind_told (Listed n store out) = Report
-kind_told (Conflicts n pictures) = Report
+kind_told (Plain (Made v place)) = Change
+kind_told (Plain NotHeld) = Change
+kind_told (Plain NotNarrower) = Change
+kind_told (Plain (Narrowed count)) = Change
+kind_told (Plain (Refiltered stored waiting)) = Change
+kind_told (Plain (Pulled counts)) = Pull counts.taken counts.handed
+kind_told (Plain (Preview counts)) = Report
+kind_told (Plain (Listed n store out)) = Report
+kind_told (Plain (Conflicts n pictures)) = Report
 kind_told (KnowledgeOf n fragments) = Report
-kind_told (Knows known) = Report
+kind_told (Plain (Knows known)) = Report
 
 -- how many versions were moved, by all reports
 abbrev pub moved_in : List Done → ℕ

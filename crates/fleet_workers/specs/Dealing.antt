@@ -2,7 +2,7 @@
 use Rattle.std.specs.Prelude.{◌≡◌, ℕ, ◌+◌, ◌<◌, ◌%◌, Bool, ◌==◌, if◌then◌else◌, List, [], ◌∷◌, ◌++◌, length, map, slice_index_or, slice_set, Vec, IsPermutation}
 use Rattle.std.specs.List.{AllByRecursion}
 use Rattle.photo_device.specs.Device.{Kept}
-use Rattle.photo_script.specs.Contents.{Contents}
+use Rattle.fleet_model.specs.Contents.{Contents}
 use Rattle.fleet_workers.specs.declared.work.Job.{Job}
 use Rattle.fleet_workers.specs.Batch.{IsJobAt, AreOut}
 use Rattle.fleet_workers.specs.Jobs.{jobs_of, numbers_of}

@@ -4,11 +4,12 @@ use Rattle.std.specs.List.{AllZip, AllByRecursion, flat_map}
 use Rattle.std.specs.Option.{option_to_list}
 use Rattle.photo_version.specs.Author.{epoch_of_author}
 use Rattle.photo_device.specs.Held.{entries_of}
-use Rattle.photo_device.specs.Device.{Kept, ModelDevice, Shows}
-use Rattle.photo_script.specs.declared.command.Command.{Command}
-use Rattle.photo_script.specs.Contents.{Contents, command_of, devices_of}
+use Rattle.photo_model.specs.Device.{ModelDevice}
+use Rattle.photo_device.specs.Device.{Kept, Shows}
+use Rattle.fleet_model.specs.declared.command.Command.{Command}
+use Rattle.fleet_model.specs.Contents.{Contents, command_of, devices_of}
 use Rattle.photo_script.specs.Reports.{Tells, answer_of}
-use Rattle.photo_script.specs.Runs.{Effect, effect}
+use Rattle.fleet_model.specs.Runs.{Effect, effect}
 use Rattle.work_ledger.specs.Stakes.{Stake, stake, nothing_done, less, both, Within}
 use Rattle.fleet_steps.specs.Between.{MayPull}
 use Rattle.fleet_steps.specs.Moved.{MovesFew}

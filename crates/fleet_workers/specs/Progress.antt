@@ -1,8 +1,8 @@
 -- Machinery of the proofs: how far workers have come between two batches.
 use Rattle.std.specs.Prelude.{◌≡◌, ℕ, List, length, map, replicate, Some}
 use Rattle.photo_device.specs.Device.{Kept}
-use Rattle.photo_script.specs.Contents.{Contents, IsScript}
-use Rattle.photo_script.specs.Tallies.{tally_of}
+use Rattle.fleet_model.specs.Contents.{Contents, IsScript}
+use Rattle.fleet_model.specs.Tallies.{tally_of}
 use Rattle.photo_script.specs.declared.report.Report.TheVariants.{NotHeld}
 use Rattle.photo_batcher.specs.Orders.{IsLawful}
 use Rattle.work_ledger.specs.Ledgers.{all_parts}

@@ -2,8 +2,8 @@
 ghost use Rattle.std.specs.Prelude.{◌≡◌, ◌⊎◌, [], List, length, map, Some, IfOk, IfErr};
 ghost use Rattle.std.specs.Arc.{arc_value};
 ghost use Rattle.photo_device.specs.Device.{Kept};
-ghost use Rattle.photo_script.specs.Contents.{IsScript};
-ghost use Rattle.photo_script.specs.Tallies.{tally_of};
+ghost use Rattle.fleet_model.specs.Contents.{IsScript};
+ghost use Rattle.fleet_model.specs.Tallies.{tally_of};
 ghost use Rattle.photo_batcher.specs.Plans.{IsPlan};
 ghost use Rattle.work_ledger.specs.Ledgers.{all_parts};
 ghost use Rattle.work_ledger.specs.Stakes.{Stake, stake, nothing_done, IsCountable};

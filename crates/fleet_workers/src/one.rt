@@ -3,10 +3,11 @@ ghost use Rattle.std.specs.Prelude.{◌≡◌, ◌<◌, None, IfOk, OnOk};
 ghost use Rattle.std.specs.Option.{option_to_list};
 ghost use Rattle.photo_version.specs.Author.{epoch_of_author};
 ghost use Rattle.photo_device.specs.Held.{entries_of};
-ghost use Rattle.photo_device.specs.Device.{ModelDevice, Shows};
-ghost use Rattle.photo_script.specs.Contents.{devices_of};
+ghost use Rattle.photo_model.specs.Device.{ModelDevice};
+ghost use Rattle.photo_device.specs.Device.{Shows};
+ghost use Rattle.fleet_model.specs.Contents.{devices_of};
 ghost use Rattle.photo_script.specs.Reports.{Tells, answer_of};
-ghost use Rattle.photo_script.specs.Runs.{effect};
+ghost use Rattle.fleet_model.specs.Runs.{effect};
 ghost use Rattle.fleet_workers.specs.Jobs.{IsFor, IsDone};
 
 use crate::parcel::Parcel;

@@ -1,6 +1,6 @@
 // How many commands of each kind jobs have.
 ghost use Rattle.std.specs.Prelude.{◌≡◌, ◌≤◌};
-ghost use Rattle.photo_script.specs.Tallies.{kind_of};
+ghost use Rattle.fleet_model.specs.Tallies.{kind_of};
 ghost use Rattle.fleet_workers.specs.Counting.{one_of, tally_at};
 ghost use Rattle.fleet_workers.specs.Jobs.{AreReadyJobs, numbers_of};
 

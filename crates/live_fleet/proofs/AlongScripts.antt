@@ -2,10 +2,10 @@
 use Rattle.std.proofs.Common.{◌≡◌, ℕ, suc, ◌+◌, [], ◌∷◌, sym, ap, ◌∙◌, subst, add-one}
 use Rattle.std.specs.Prelude.{Some, slice_get}
 use Rattle.std.proofs.lemmas.List.Sums.{fold-append}
-use Rattle.photo_script.specs.declared.command.Command.{Command}
-use Rattle.photo_script.specs.Contents.{Contents, command_of}
-use Rattle.photo_script.specs.Runs.{Fleet, after_command, opening_fleet, step, run_in_order, numbers_to}
-use Rattle.fleet_steps.proofs.EachCommand.{stepped}
+use Rattle.fleet_model.specs.declared.command.Command.{Command}
+use Rattle.fleet_model.specs.Contents.{Contents, command_of}
+use Rattle.fleet_model.specs.Runs.{Fleet, after_command, opening_fleet, step, run_in_order, numbers_to}
+use Rattle.fleet_model.proofs.EachCommand.{stepped}
 use Rattle.live_fleet.specs.Fleets.{KeptFleet, ShowsFleet, RunsAlongScripts}
 
 after_next : (script : Contents) (n : ℕ) (c : Command) → slice_get script.commands n ≡ Some c → run_in_order script (numbers_to (suc n)) ≡ after_command (run_in_order script (numbers_to n)) (suc n) c

@@ -9,15 +9,17 @@ use Rattle.photo_version.specs.Version.{Version, version}
 use Rattle.photo_version.specs.Vector.{denotes}
 use Rattle.item_knowledge.specs.Fragments.{knows}
 use Rattle.photo_device.specs.declared.held.Held.{Held}
-use Rattle.photo_device.specs.Entry.{Entry}
+use Rattle.photo_model.specs.Entry.{Entry}
 use Rattle.photo_device.specs.Held.{entry_of, entries_of}
-use Rattle.photo_device.specs.Device.{Kept, ModelDevice, Shows, new_entry, is_held}
-use Rattle.photo_script.specs.declared.command.Command.{Command}
-use Rattle.photo_script.specs.declared.command.Command.TheVariants as command
-use Rattle.photo_script.specs.Reports.{Answer, NotHeld, Exactly, Tells}
-use Rattle.photo_script.specs.Contents.{devices_of}
-use Rattle.photo_script.specs.Runs.{making, telling, changing, device_at}
-use Rattle.fleet_steps.specs.Between.{effect_on}
+use Rattle.photo_model.specs.Device.{ModelDevice, new_entry, is_held}
+use Rattle.photo_device.specs.Device.{Kept, Shows}
+use Rattle.fleet_model.specs.declared.command.Command.{Command}
+use Rattle.fleet_model.specs.declared.command.Command.TheVariants as command
+use Rattle.fleet_model.specs.Answers.{NotHeld, Exactly}
+use Rattle.photo_script.specs.Reports.{Answer, Tells}
+use Rattle.fleet_model.specs.Contents.{devices_of}
+use Rattle.fleet_model.specs.Runs.{making, telling, changing, device_at}
+use Rattle.fleet_model.specs.Steps.{effect_on}
 use Rattle.fleet_steps.specs.Issued.{version_told}
 use Rattle.fleet_steps.proofs.Issued.{none_named}
 use Rattle.live_fleet.specs.Entries.{entry_if_made, if_told}

@@ -9,22 +9,24 @@ use Rattle.photo_record.specs.declared.record.Record.{Record}
 use Rattle.photo_filter_text.specs.Tree.{Tree}
 use Rattle.photo_filter_rules.specs.Matching.{IsInRange}
 use Rattle.photo_device.specs.declared.held.Held.{Held}
-use Rattle.photo_device.specs.Entry.{Entry}
+use Rattle.photo_model.specs.Entry.{Entry}
 use Rattle.photo_device.specs.Held.{entries_of}
-use Rattle.photo_device.specs.Device.{Kept, ModelDevice, Shows}
-use Rattle.photo_script.specs.declared.command.Command.{Command}
-use Rattle.photo_script.specs.Contents.{Contents, contents, IsWithin}
-use Rattle.photo_script.specs.Runs.{Fleet, opening_from, opening_fleet, after_command, step, run_in_order, numbers_to}
-use Rattle.fleet_steps.specs.Between.{AreReady, AreSettled, HaveRoom, effect_on, devices_after}
-use Rattle.fleet_steps.proofs.Zipped.{zip_long}
-use Rattle.fleet_steps.proofs.About.{all_push}
-use Rattle.fleet_steps.specs.Running.{HasMadeAtMost}
-use Rattle.fleet_steps.proofs.Runs.{have_room, opening_at_most}
-use Rattle.fleet_steps.proofs.EachCommand.{IsKept, FitsAll, IsAfter, length_opening, stepped, by_command}
-use Rattle.fleet_steps.specs.Ready.{IsReady}
-use Rattle.fleet_steps.proofs.ReadyRuns.{all_fit, opening_ready, ready_kept}
-use Rattle.fleet_steps.proofs.SoundFacts.{IsSoundFleet}
-use Rattle.fleet_steps.proofs.SoundRuns.{opening_sound, sound_kept, sound_and_kept}
+use Rattle.photo_model.specs.Device.{ModelDevice}
+use Rattle.photo_device.specs.Device.{Kept, Shows}
+use Rattle.fleet_model.specs.declared.command.Command.{Command}
+use Rattle.fleet_model.specs.Contents.{Contents, contents, IsWithin}
+use Rattle.fleet_model.specs.Runs.{Fleet, opening_from, opening_fleet, after_command, step, run_in_order, numbers_to}
+use Rattle.fleet_model.specs.Steps.{effect_on, devices_after, HasMadeAtMost}
+use Rattle.fleet_steps.specs.Between.{AreReady, AreSettled, HaveRoom}
+use Rattle.fleet_model.proofs.Zipped.{zip_long}
+use Rattle.fleet_model.proofs.Effects.{all_push}
+use Rattle.fleet_model.proofs.Runs.{opening_at_most}
+use Rattle.fleet_steps.proofs.Runs.{have_room}
+use Rattle.fleet_model.proofs.EachCommand.{IsKept, FitsAll, IsAfter, length_opening, stepped, by_command}
+use Rattle.fleet_model.specs.Ready.{IsReady}
+use Rattle.fleet_model.proofs.ReadyRuns.{all_fit, opening_ready, ready_kept}
+use Rattle.fleet_model.proofs.SoundFacts.{IsSoundFleet}
+use Rattle.fleet_model.proofs.SoundRuns.{opening_sound, sound_kept, sound_and_kept}
 use Rattle.live_fleet.specs.Fleets.{KeptFleet, ShowsFleet, AreAlike, RunsGrowByCommands, after_commands, CameAbout, HasSoundHistory}
 
 -- two that are alike are so after one command more, whatever number it has

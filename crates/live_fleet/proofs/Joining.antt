@@ -6,13 +6,14 @@ use Rattle.std.specs.Option.{option_map}
 use Rattle.std.proofs.lemmas.List.{get_or_append_left, set-append_left, length-set}
 use Rattle.photo_filter_text.specs.Tree.{Tree, All}
 use Rattle.photo_version.specs.Author.{author}
-use Rattle.photo_device.specs.Device.{Kept, ModelDevice, Shows, opening}
-use Rattle.photo_script.specs.declared.command.Command.{Command}
-use Rattle.photo_script.specs.Contents.{devices_of, IsWithin}
-use Rattle.photo_script.specs.Runs.{Effect, Fleet, device_at, effect, opening_from, after_command, with_second}
-use Rattle.fleet_steps.proofs.Zipped.{zip_long, zip_push}
-use Rattle.fleet_steps.proofs.About.{all_are, all_push}
-use Rattle.fleet_steps.proofs.Runs.{long_after}
+use Rattle.photo_model.specs.Device.{ModelDevice, opening}
+use Rattle.photo_device.specs.Device.{Kept, Shows}
+use Rattle.fleet_model.specs.declared.command.Command.{Command}
+use Rattle.fleet_model.specs.Contents.{devices_of, IsWithin}
+use Rattle.fleet_model.specs.Runs.{Effect, Fleet, device_at, effect, opening_from, after_command, with_second}
+use Rattle.fleet_model.proofs.Zipped.{zip_long, zip_push}
+use Rattle.fleet_model.proofs.Effects.{all_are, all_push}
+use Rattle.fleet_model.proofs.Runs.{long_after}
 use Rattle.fleet_steps.proofs.Shown.{opening_from-push}
 use Rattle.live_fleet.specs.Fleets.{KeptFleet, AreAlike, HasJoined, CameAbout, after_commands}
 use Rattle.live_fleet.proofs.Histories.{alike_after, ran, opened, is_folded, within_opened, came_after}

@@ -5,16 +5,18 @@ use Rattle.std.specs.List.{AllByRecursion}
 use Rattle.std.specs.Option.{option_map}
 use Rattle.photo_filter_text.specs.Tree.{Tree, All}
 use Rattle.photo_version.specs.Author.{author, epoch_of_author}
-use Rattle.photo_device.specs.Device.{ModelDevice, Shows, opening}
-use Rattle.photo_script.specs.declared.command.Command.{Command}
-use Rattle.photo_script.specs.Contents.{Contents, devices_of, IsWithin}
+use Rattle.photo_model.specs.Device.{ModelDevice, opening}
+use Rattle.photo_device.specs.Device.{Shows}
+use Rattle.fleet_model.specs.declared.command.Command.{Command}
+use Rattle.fleet_model.specs.Contents.{Contents, devices_of, IsWithin}
 use Rattle.photo_script.specs.Reports.{Answer, Tells}
-use Rattle.photo_script.specs.Runs.{Fleet, device_at, opening_from}
-use Rattle.fleet_steps.specs.Between.{devices_after, effect_on}
-use Rattle.fleet_steps.specs.Running.{IsOfFleet, HasMadeAtMost}
-use Rattle.fleet_steps.proofs.About.{all_at, effect_known, effect_known_second, effect_about}
-use Rattle.fleet_steps.proofs.Runs.{after_all, second_all, long_after, makes_one_more, opening_at_most}
-use Rattle.fleet_steps.proofs.Zipped.{zip_long}
+use Rattle.fleet_model.specs.Runs.{Fleet, device_at, opening_from}
+use Rattle.fleet_model.specs.Steps.{devices_after, effect_on, HasMadeAtMost}
+use Rattle.fleet_steps.specs.Running.{IsOfFleet}
+use Rattle.fleet_model.proofs.Effects.{all_at}
+use Rattle.fleet_steps.proofs.About.{effect_known, effect_known_second, effect_about}
+use Rattle.fleet_model.proofs.Runs.{after_all, second_all, long_after, makes_one_more, opening_at_most}
+use Rattle.fleet_model.proofs.Zipped.{zip_long}
 use Rattle.live_fleet.specs.Fleets.{KeptFleet, CameAbout, SpeaksOf, after_commands}
 use Rattle.live_fleet.proofs.Histories.{ran, opened, is_folded, within_opened, came_after}
 

@@ -3,13 +3,14 @@ use Rattle.std.proofs.Common.{◌≤◌, eqb, List, [], ◌∷◌, refl, sym, su
 use Rattle.std.specs.List.{AllZip}
 use Rattle.photo_filter_text.specs.Tree.{All}
 use Rattle.photo_device.proofs.OwnLemmas.{up_to_one}
-use Rattle.photo_device.specs.Entry.{Entry}
+use Rattle.photo_model.specs.Entry.{Entry}
 use Rattle.photo_device.specs.Held.{entry_of, entries_of}
-use Rattle.photo_device.specs.Device.{Kept, ModelDevice, Shows, holds}
-use Rattle.photo_script.specs.declared.command.Command.TheVariants as command
-use Rattle.fleet_steps.specs.Members.{In, here}
-use Rattle.fleet_steps.specs.Sound.{occurrences}
-use Rattle.fleet_steps.proofs.Members.{in_nothing, in_left}
+use Rattle.photo_model.specs.Device.{ModelDevice, holds}
+use Rattle.photo_device.specs.Device.{Kept, Shows}
+use Rattle.fleet_model.specs.declared.command.Command.TheVariants as command
+use Rattle.fleet_model.specs.Members.{In, here}
+use Rattle.fleet_model.specs.Sound.{occurrences}
+use Rattle.fleet_model.proofs.Members.{in_nothing, in_left}
 use Rattle.live_fleet.specs.Fleets.{CameAbout, after_commands}
 use Rattle.live_fleet.specs.Examples.{EditedOnBoth, ChangedByHand, JoinsLater, ComesAboutAsTold, rated, nth, first_held, first_device, second_device, with_log}
 use Rattle.live_fleet.proofs.Histories.{came_sound}

@@ -1,10 +1,10 @@
 -- Machinery of the proofs: what a command puts into the log, if it makes a version.
 use Rattle.std.specs.Prelude.{Option, Some, None, is_some, List, [], if◌then◌else◌}
 use Rattle.photo_record.specs.declared.record.Record.TheVariants.{Removed}
-use Rattle.photo_device.specs.Entry.{Entry}
-use Rattle.photo_device.specs.Device.{ModelDevice, new_entry}
-use Rattle.photo_script.specs.declared.command.Command.{Command}
-use Rattle.photo_script.specs.declared.command.Command.TheVariants as command
+use Rattle.photo_model.specs.Entry.{Entry}
+use Rattle.photo_model.specs.Device.{ModelDevice, new_entry}
+use Rattle.fleet_model.specs.declared.command.Command.{Command}
+use Rattle.fleet_model.specs.declared.command.Command.TheVariants as command
 use Rattle.photo_script.specs.Reports.{Answer}
 use Rattle.fleet_steps.specs.Issued.{version_told}
 

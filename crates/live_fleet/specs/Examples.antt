@@ -8,15 +8,15 @@ use Rattle.photo_filter_text.specs.Tree.{All, Rate}
 use Rattle.photo_version.specs.Author.{author}
 use Rattle.photo_version.specs.Version.{Version, version}
 use Rattle.photo_device.specs.declared.held.Held.{Held}
-use Rattle.photo_device.specs.declared.place.Place.TheVariants.{Store, Out}
-use Rattle.photo_device.specs.Conflicts.{conflicts_of}
+use Rattle.photo_model.specs.declared.place.Place.TheVariants.{Store, Out}
+use Rattle.photo_model.specs.Conflicts.{conflicts_of}
 use Rattle.photo_device.specs.Device.{Kept}
-use Rattle.photo_pull.specs.declared.counts.PullCounts.{PullCounts}
-use Rattle.photo_script.specs.declared.command.Command.{Command}
-use Rattle.photo_script.specs.declared.command.Command.TheVariants as command
-use Rattle.photo_script.specs.Reports.{Made, Pulled, Exactly}
-use Rattle.photo_script.specs.Runs.{device_at, after_command, reports_of}
-use Rattle.fleet_steps.specs.Sound.{is_sound, is_kept}
+use Rattle.photo_model.specs.declared.counts.PullCounts.{PullCounts}
+use Rattle.fleet_model.specs.declared.command.Command.{Command}
+use Rattle.fleet_model.specs.declared.command.Command.TheVariants as command
+use Rattle.fleet_model.specs.Answers.{Made, Pulled, Exactly}
+use Rattle.fleet_model.specs.Runs.{device_at, after_command, reports_of}
+use Rattle.fleet_model.specs.Sound.{is_sound, is_kept}
 use Rattle.live_fleet.specs.Answers.{change_answer, narrow_answer}
 use Rattle.live_fleet.specs.Fleets.{KeptFleet, ModelFleet, CameAbout, after_commands, with_device}
 

@@ -6,13 +6,15 @@ use Rattle.photo_filter_rules.specs.Matching.{IsInRange}
 use Rattle.photo_version.specs.Author.{author}
 use Rattle.photo_device.specs.declared.held.Held.{Held}
 use Rattle.photo_device.specs.Held.{entries_of}
-use Rattle.photo_device.specs.Device.{Kept, Shows, opening}
-use Rattle.photo_script.specs.declared.command.Command.{Command}
-use Rattle.photo_script.specs.Contents.{Contents, contents, IsWithin, command_of, record_of}
+use Rattle.photo_model.specs.Device.{opening}
+use Rattle.photo_device.specs.Device.{Kept, Shows}
+use Rattle.fleet_model.specs.declared.command.Command.{Command}
+use Rattle.fleet_model.specs.Contents.{Contents, contents, IsWithin, command_of, record_of}
 use Rattle.photo_script.specs.Reports.{Answer, Tells, IsAbout}
-use Rattle.photo_script.specs.Runs.{Fleet, after_command, run, run_in_order, numbers_to}
-use Rattle.fleet_steps.specs.Between.{AreSettled, effect_on}
-use Rattle.fleet_steps.specs.Sound.{IsSoundAndKept}
+use Rattle.fleet_model.specs.Runs.{Fleet, after_command, run, run_in_order, numbers_to}
+use Rattle.fleet_model.specs.Steps.{effect_on}
+use Rattle.fleet_steps.specs.Between.{AreSettled}
+use Rattle.fleet_model.specs.Sound.{IsSoundAndKept}
 
 -- what a fleet of the program keeps: its devices in order of declaration, the versions that were made, oldest first, and
 -- how many commands have run

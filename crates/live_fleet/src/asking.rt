@@ -1,9 +1,10 @@
 // What a fleet is asked between two of its devices.
 ghost use Rattle.std.specs.Prelude.{◌≡◌, ◌≢◌, ◌<◌, List, length, IfOk};
 ghost use Rattle.std.specs.List.{AllZip};
-ghost use Rattle.photo_device.specs.Device.{ModelDevice, Shows};
-ghost use Rattle.photo_pull.specs.Pull.{counts_of};
-ghost use Rattle.photo_script.specs.Runs.{device_at};
+ghost use Rattle.photo_model.specs.Device.{ModelDevice};
+ghost use Rattle.photo_device.specs.Device.{Shows};
+ghost use Rattle.photo_model.specs.Pull.{counts_of};
+ghost use Rattle.fleet_model.specs.Runs.{device_at};
 ghost use Rattle.fleet_steps.specs.Between.{AreReady};
 
 use photo_device::Device;

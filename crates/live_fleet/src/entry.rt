@@ -3,9 +3,10 @@ ghost use Rattle.std.specs.Prelude.{◌≡◌, ◌<◌, ◌∷◌, [], List, len
 ghost use Rattle.std.specs.List.{AllZip};
 ghost use Rattle.std.specs.Option.{option_to_list};
 ghost use Rattle.photo_device.specs.Held.{entry_of, entries_of};
-ghost use Rattle.photo_device.specs.Device.{ModelDevice, Shows, new_entry};
-ghost use Rattle.photo_script.specs.Contents.{IsWithin, devices_of};
-ghost use Rattle.photo_script.specs.Runs.{device_at};
+ghost use Rattle.photo_model.specs.Device.{ModelDevice, new_entry};
+ghost use Rattle.photo_device.specs.Device.{Shows};
+ghost use Rattle.fleet_model.specs.Contents.{IsWithin, devices_of};
+ghost use Rattle.fleet_model.specs.Runs.{device_at};
 ghost use Rattle.fleet_steps.specs.Between.{HaveRoom};
 ghost use Rattle.live_fleet.specs.Entries.{entry_if_made};
 

@@ -42,10 +42,11 @@ impl Model for Fleet {
 
 impl Fleet {
     ghost use Rattle.std.specs.Prelude.{◌≡◌, ◌≢◌, ◌+◌, ◌<◌, ◌≤◌, ◌↔◌, [], length, IsTrue, IfOk, IfSome, OnOk, OnErr};
-    ghost use Rattle.photo_script.specs.Contents.{IsWithin, command_of};
-    ghost use Rattle.photo_script.specs.Reports.{Made, Pulled, Preview, Refiltered, IsAbout, answer_of};
-    ghost use Rattle.photo_script.specs.declared.command.Command.TheVariants.{New, Edit, Remove, Pull, Narrow, Refilter};
-    ghost use Rattle.photo_script.specs.declared.command.Command.TheVariants as asked;
+    ghost use Rattle.fleet_model.specs.Contents.{IsWithin, command_of};
+    ghost use Rattle.fleet_model.specs.Answers.{Made, Pulled, Preview, Refiltered};
+    ghost use Rattle.photo_script.specs.Reports.{Plain, IsAbout, answer_of};
+    ghost use Rattle.fleet_model.specs.declared.command.Command.TheVariants.{New, Edit, Remove, Pull, Narrow, Refilter};
+    ghost use Rattle.fleet_model.specs.declared.command.Command.TheVariants as asked;
     ghost use Rattle.live_fleet.specs.Answers.{change_answer, narrow_answer};
     ghost use Rattle.live_fleet.specs.Fleets.{CameAbout, HasJoined, HasRun, IsAnswerTo, ShowsFleet, SpeaksOf, after_commands};
 
@@ -181,7 +182,7 @@ impl Fleet {
         requires within { device < length self.old.devices }
         requires room { self.old.commands < 4_294_967_295 }
         ensures ran { OnOk result (HasRun (New device picture content.now) self.old self.new) }
-        ensures answer { IfOk result (λ made. IsAnswerTo (New device picture content.now) self.old (Made made.0 made.1)) }
+        ensures answer { IfOk result (λ made. IsAnswerTo (New device picture content.now) self.old (Plain (Made made.0 made.1))) }
         ensures err { OnErr result (self.new ≡ self.old) }
         ensures long { length self.new.devices ≡ length self.old.devices }
         ensures count { self.new.commands ≤ self.old.commands + 1 }
@@ -206,7 +207,7 @@ impl Fleet {
         requires within { device < length self.old.devices }
         requires room { self.old.commands < 4_294_967_295 }
         ensures ran { OnOk result (HasRun (Edit device picture content.now) self.old self.new) }
-        ensures answer { IfOk result (λ made. IsAnswerTo (Edit device picture content.now) self.old (change_answer made)) }
+        ensures answer { IfOk result (λ made. IsAnswerTo (Edit device picture content.now) self.old (Plain (change_answer made))) }
         ensures err { OnErr result (self.new ≡ self.old) }
         ensures long { length self.new.devices ≡ length self.old.devices }
         ensures count { self.new.commands ≤ self.old.commands + 1 }
@@ -230,7 +231,7 @@ impl Fleet {
         requires within { device < length self.old.devices }
         requires room { self.old.commands < 4_294_967_295 }
         ensures ran { OnOk result (HasRun (Remove device picture) self.old self.new) }
-        ensures answer { IfOk result (λ made. IsAnswerTo (Remove device picture) self.old (change_answer made)) }
+        ensures answer { IfOk result (λ made. IsAnswerTo (Remove device picture) self.old (Plain (change_answer made))) }
         ensures err { OnErr result (self.new ≡ self.old) }
         ensures long { length self.new.devices ≡ length self.old.devices }
         ensures count { self.new.commands ≤ self.old.commands + 1 }
@@ -247,7 +248,7 @@ impl Fleet {
         requires differ { source ≢ target }
         requires room { self.old.commands < 4_294_967_295 }
         ensures ran { OnOk result (HasRun (Pull target source) self.old self.new) }
-        ensures answer { IfOk result (λ counts. IsAnswerTo (Pull target source) self.old (Pulled counts)) }
+        ensures answer { IfOk result (λ counts. IsAnswerTo (Pull target source) self.old (Plain (Pulled counts))) }
         ensures err { OnErr result (self.new ≡ self.old) }
         ensures long { length self.new.devices ≡ length self.old.devices }
         ensures count { self.new.commands ≤ self.old.commands + 1 }
@@ -263,7 +264,7 @@ impl Fleet {
         requires within { device < length self.old.devices }
         requires room { self.old.commands < 4_294_967_295 }
         ensures ran { OnOk result (HasRun (Narrow device filter.now) self.old self.new) }
-        ensures answer { IfOk result (λ count. IsAnswerTo (Narrow device filter.now) self.old (narrow_answer count)) }
+        ensures answer { IfOk result (λ count. IsAnswerTo (Narrow device filter.now) self.old (Plain (narrow_answer count))) }
         ensures err { OnErr result (self.new ≡ self.old) }
         ensures long { length self.new.devices ≡ length self.old.devices }
         ensures count { self.new.commands ≤ self.old.commands + 1 }
@@ -280,7 +281,7 @@ impl Fleet {
         requires within { device < length self.old.devices }
         requires room { self.old.commands < 4_294_967_295 }
         ensures ran { OnOk result (HasRun (Refilter device filter.now) self.old self.new) }
-        ensures answer { IfOk result (λ sizes. IsAnswerTo (Refilter device filter.now) self.old (Refiltered sizes.0 sizes.1)) }
+        ensures answer { IfOk result (λ sizes. IsAnswerTo (Refilter device filter.now) self.old (Plain (Refiltered sizes.0 sizes.1))) }
         ensures err { OnErr result (self.new ≡ self.old) }
         ensures long { length self.new.devices ≡ length self.old.devices }
         ensures count { self.new.commands ≤ self.old.commands + 1 }
@@ -296,7 +297,7 @@ impl Fleet {
         requires target { target < length self.now.devices }
         requires source { source < length self.now.devices }
         requires differ { source ≢ target }
-        ensures { IfOk result (λ counts. IsAnswerTo (asked.Preview target source) self.now (Preview counts)) }
+        ensures { IfOk result (λ counts. IsAnswerTo (asked.Preview target source) self.now (Plain (Preview counts))) }
     {
         let devices = self.devices.as_slice();
         let counts = preview_between(

@@ -2,7 +2,7 @@
 ghost use Rattle.std.specs.Prelude.{◌≡◌, ◌≤◌, length, IfOk};
 ghost use Rattle.std.specs.List.{AllZip};
 ghost use Rattle.photo_device.specs.Device.{Shows};
-ghost use Rattle.photo_script.specs.Runs.{opening_from};
+ghost use Rattle.fleet_model.specs.Runs.{opening_from};
 ghost use Rattle.fleet_steps.specs.Between.{AreSettled};
 
 use fleet_steps::opening_device;

@@ -2,7 +2,7 @@
 ghost use Rattle.std.specs.Prelude.{◌≤◌, IfSome};
 ghost use Rattle.photo_record.specs.Limits.{max_rating, IsDay};
 ghost use Rattle.photo_filter_rules.specs.Matching.{IsInRange};
-ghost use Rattle.photo_script.specs.Contents.{record_of};
+ghost use Rattle.fleet_model.specs.Contents.{record_of};
 
 use photo_record::{Day, Rating, Record};
 use photo_script::Command;

@@ -3,7 +3,7 @@ use Rattle.std.proofs.Common.{◌≡◌, ℕ, zero, suc, ◌+◌, ◌<◌, ◌�
 use Rattle.std.specs.Prelude.{Option, Some}
 use Rattle.std.specs.List.{AllByRecursion}
 use Rattle.std.proofs.lemmas.Bool.{cases_order}
-use Rattle.photo_script.specs.Contents.{Contents}
+use Rattle.fleet_model.specs.Contents.{Contents}
 use Rattle.photo_batcher.specs.Related.{IsNumber, AreRelated}
 use Rattle.photo_batcher.specs.Batches.{IsChain, last_of, IsBatch, IsChainTo, AreBatches, IsSchedule, IsAfter, IsLinked, IsFollowed, HaveRisingPlaces, TakesPlaces}
 use Rattle.photo_batcher.specs.Greedy.{IsGreedyTo}

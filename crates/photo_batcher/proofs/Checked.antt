@@ -4,9 +4,9 @@ use Rattle.std.specs.Prelude.{Option, Some, None, IfSome, slice_index}
 use Rattle.std.specs.List.{AllByRecursion}
 use Rattle.std.proofs.lemmas.List.{take_all, drop_all, append-nil, take_more, drop_more, take-append-drop, get_or-replicate, length-replicate}
 use Rattle.std.proofs.lemmas.Bool.{cases_order, cases_eq, cases_Bool, both_ways}
-use Rattle.photo_script.specs.Contents.{Contents, devices_of}
-use Rattle.photo_script.specs.declared.command.Command.{Command}
-use Rattle.photo_device.proofs.AllLemmas.{all_back, all_append}
+use Rattle.fleet_model.specs.Contents.{Contents, devices_of}
+use Rattle.fleet_model.specs.declared.command.Command.{Command}
+use Rattle.photo_model.proofs.AllLemmas.{all_back, all_append}
 use Rattle.photo_batcher.specs.Related.{IsNumber, works_on, uses, AreRelated}
 use Rattle.photo_batcher.specs.Orders.{times, KeepsOrder, IsLawful}
 use Rattle.photo_batcher.specs.Steps.{ArePlaces, IsAbove, IsCheckedTo, with_place}

@@ -3,8 +3,8 @@ use Rattle.std.proofs.Common.{◌≡◌, ℕ, zero, suc, ◌<◌, ◌≤◌, Lis
 use Rattle.std.specs.Prelude.{Some, None, false, replicate, slice_index_or, ◌==◌}
 use Rattle.std.proofs.lemmas.List.{reverse-append, length-map}
 use Rattle.std.proofs.lemmas.Bool.{ne_eqb, cond-false}
-use Rattle.photo_script.specs.Contents.{Contents}
-use Rattle.photo_script.specs.Limits.{max_commands}
+use Rattle.fleet_model.specs.Contents.{Contents}
+use Rattle.fleet_model.specs.Limits.{max_commands}
 use Rattle.photo_batcher.specs.Batches.{IsLinked, last_of, IsFollowed}
 use Rattle.photo_batcher.specs.Plans.{entry_of, Planned, planned, after_in, IsPlan, IsShaped}
 use Rattle.photo_batcher.specs.Steps.{IsPlannedTo, IsGroupedTo, with_member, IsDraft, IsGoneBack}

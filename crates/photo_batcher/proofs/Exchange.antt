@@ -5,11 +5,11 @@ use Rattle.std.specs.Option.{option_map}
 use Rattle.std.proofs.lemmas.List.{get_or-set_other, set_comm}
 use Rattle.std.proofs.lemmas.List.Sorted.{IsPermutation-refl, IsPermutation-trans, IsPermutation-append_left, IsPermutation-append_right, IsPermutation-append_comm}
 use Rattle.std.proofs.lemmas.Bool.{or_left, or_right, eq-eqb}
-use Rattle.photo_script.specs.declared.command.Command.{Command}
-use Rattle.photo_script.specs.Contents.{Contents, command_of, devices_of}
-use Rattle.photo_device.specs.Entry.{Entry}
-use Rattle.photo_device.specs.Device.{ModelDevice}
-use Rattle.photo_script.specs.Runs.{Effect, Fleet, effect, device_at, with_second, after_command, step}
+use Rattle.fleet_model.specs.declared.command.Command.{Command}
+use Rattle.fleet_model.specs.Contents.{Contents, command_of, devices_of}
+use Rattle.photo_model.specs.Entry.{Entry}
+use Rattle.photo_model.specs.Device.{ModelDevice}
+use Rattle.fleet_model.specs.Runs.{Effect, Fleet, effect, device_at, with_second, after_command, step}
 use Rattle.photo_batcher.specs.Related.{is_device, works_on, uses, AreRelated}
 use Rattle.photo_batcher.specs.Orders.{AreSameRuns}
 

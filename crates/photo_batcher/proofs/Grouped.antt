@@ -4,9 +4,9 @@ use Rattle.std.specs.Prelude.{Some}
 use Rattle.std.specs.List.{AllByRecursion}
 use Rattle.std.proofs.lemmas.List.{append-nil, get_or_append_left, get_or_at, get_or_past}
 use Rattle.std.proofs.lemmas.Bool.{cases_order, cases_eq, eq-eqb, ne_eqb, eqb-true}
-use Rattle.photo_script.specs.Contents.{Contents, command_of}
-use Rattle.photo_script.specs.declared.command.Command.{Command}
-use Rattle.photo_script.specs.Runs.{numbers_to}
+use Rattle.fleet_model.specs.Contents.{Contents, command_of}
+use Rattle.fleet_model.specs.declared.command.Command.{Command}
+use Rattle.fleet_model.specs.Runs.{numbers_to}
 use Rattle.photo_batcher.specs.Batches.{members_to, members_of, batches_from}
 use Rattle.photo_batcher.specs.Greedy.{IsGreedyTo}
 use Rattle.photo_batcher.specs.Steps.{with_member, IsGroupedTo}

@@ -3,7 +3,7 @@ use Rattle.std.proofs.Common.{◌≡◌, ◌≢◌, ℕ, zero, suc, ◌<◌, ◌
 use Rattle.std.specs.Prelude.{Option, Some, None}
 use Rattle.std.proofs.lemmas.List.{ext_get_or}
 use Rattle.std.proofs.lemmas.Bool.{cases_order, cases_eq}
-use Rattle.photo_script.specs.Contents.{Contents}
+use Rattle.fleet_model.specs.Contents.{Contents}
 use Rattle.photo_batcher.specs.Related.{IsNumber}
 use Rattle.photo_batcher.specs.Batches.{IsBatch, IsSchedule, IsAfter, IsFollowed, IsLongestChainTo, TakesPlaces, batches_from}
 use Rattle.photo_batcher.specs.Plans.{Planned, planned, entry_of, none_or, batch_in, after_in, IsPlan}

@@ -3,8 +3,8 @@ use Rattle.std.proofs.Common.{◌≡◌, ◌≢◌, ℕ, zero, suc, ◌+◌, ◌
 use Rattle.std.specs.Prelude.{Option, Some, None, IfSome, slice_index, slice_get, nat_lt, replicate}
 use Rattle.std.proofs.lemmas.List.{get_or_append_left, get_or_at, get_or-replicate, length-replicate}
 use Rattle.std.proofs.lemmas.Bool.{cases_order, cases_eq, cases_Bool, both_ways}
-use Rattle.photo_script.specs.declared.command.Command.{Command}
-use Rattle.photo_script.specs.Contents.{Contents, command_of, devices_of, IsWithin}
+use Rattle.fleet_model.specs.declared.command.Command.{Command}
+use Rattle.fleet_model.specs.Contents.{Contents, command_of, devices_of, IsWithin}
 use Rattle.photo_batcher.specs.Related.{IsNumber, works_on, uses}
 use Rattle.photo_batcher.specs.Batches.{IsAfter}
 use Rattle.photo_batcher.specs.Greedy.{last_on, last_on_second, free_behind, first_free, before_it}
@@ -14,7 +14,7 @@ use Rattle.photo_batcher.proofs.Exchange.{used}
 use Rattle.photo_batcher.proofs.Lasts.{used_by, there, last_below, works_first, works_second}
 use Rattle.photo_batcher.proofs.Chains.{greedy_is}
 use Rattle.photo_batcher.proofs.Grouped.{rows_are}
-use Rattle.photo_script.specs.Limits.{max_commands}
+use Rattle.fleet_model.specs.Limits.{max_commands}
 use Rattle.photo_batcher.proofs.Befores.{after_is, is_before, works_cases, some_same}
 
 -- a longer list has the same for the numbers that there were

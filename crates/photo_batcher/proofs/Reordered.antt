@@ -4,11 +4,11 @@ use Rattle.std.specs.Prelude.{fold, Option}
 use Rattle.std.specs.List.{AllByRecursion}
 use Rattle.std.proofs.lemmas.List.Sums.{fold-append}
 use Rattle.std.proofs.lemmas.Bool.{eq-eqb, ne_eqb}
-use Rattle.photo_script.specs.Contents.{Contents}
-use Rattle.photo_script.specs.Tallies.{totals_of}
-use Rattle.photo_script.specs.Reports.{ModelReport}
-use Rattle.photo_script.specs.Runs.{Fleet, step, opening_fleet, numbers_to}
-use Rattle.photo_device.proofs.AllLemmas.{all_front, all_back, all_append}
+use Rattle.fleet_model.specs.Contents.{Contents}
+use Rattle.fleet_model.specs.Tallies.{totals_of}
+use Rattle.fleet_model.specs.Answers.{ModelReport}
+use Rattle.fleet_model.specs.Runs.{Fleet, step, opening_fleet, numbers_to}
+use Rattle.photo_model.proofs.AllLemmas.{all_front, all_back, all_append}
 use Rattle.photo_batcher.specs.Related.{AreRelated}
 use Rattle.photo_batcher.specs.Orders.{times, KeepsOrder, AreSameRuns}
 use Rattle.photo_batcher.specs.Laws.{LawfulOrdersAreTheRun, SameRunsHaveOneTotal}

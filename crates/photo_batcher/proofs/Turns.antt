@@ -4,9 +4,9 @@ use Rattle.std.specs.Prelude.{IsPermutation}
 use Rattle.std.specs.List.{AllByRecursion}
 use Rattle.std.proofs.lemmas.List.Sorted.{sum_by-IsPermutation}
 use Rattle.std.proofs.lemmas.Bool.{cases_order, cases_eq, both_ways, eq-eqb, ne_eqb}
-use Rattle.photo_script.specs.Contents.{Contents}
-use Rattle.photo_script.specs.Runs.{numbers_to}
-use Rattle.photo_device.proofs.AllLemmas.{all_append}
+use Rattle.fleet_model.specs.Contents.{Contents}
+use Rattle.fleet_model.specs.Runs.{numbers_to}
+use Rattle.photo_model.proofs.AllLemmas.{all_append}
 use Rattle.photo_batcher.specs.Related.{IsNumber, AreRelated}
 use Rattle.photo_batcher.specs.Orders.{times, KeepsOrder}
 use Rattle.photo_batcher.specs.Batches.{IsSchedule, members_of, batches_from, InTurn}

@@ -1,8 +1,8 @@
 -- Chains of related commands, the batch that a command stands in, and schedules.
 use Rattle.std.specs.Prelude.{◌≡◌, ℕ, zero, suc, ◌+◌, ◌<◌, ◌≤◌, ◌==◌, List, [], ◌∷◌, ◌++◌, length, filter, Option, Some, None, IsPermutation}
 use Rattle.std.specs.List.{AllByRecursion}
-use Rattle.photo_script.specs.Contents.{Contents}
-use Rattle.photo_script.specs.Runs.{numbers_to}
+use Rattle.fleet_model.specs.Contents.{Contents}
+use Rattle.fleet_model.specs.Runs.{numbers_to}
 use Rattle.photo_batcher.specs.Related.{IsNumber, AreRelated}
 
 -- rising command numbers, each related to the next

@@ -5,14 +5,14 @@ use Rattle.photo_record.specs.declared.record.Record.TheVariants.{Picture}
 use Rattle.photo_filter_text.specs.Tree.{All}
 use Rattle.photo_version.specs.Author.{author}
 use Rattle.photo_version.specs.Version.{version}
-use Rattle.photo_device.specs.Entry.{Entry}
-use Rattle.photo_device.specs.declared.place.Place.TheVariants.{Store}
-use Rattle.photo_script.specs.declared.command.Command.TheVariants as command
-use Rattle.photo_script.specs.Contents.{Contents, contents}
+use Rattle.photo_model.specs.Entry.{Entry}
+use Rattle.photo_model.specs.declared.place.Place.TheVariants.{Store}
+use Rattle.fleet_model.specs.declared.command.Command.TheVariants as command
+use Rattle.fleet_model.specs.Contents.{Contents, contents}
 use Rattle.photo_script.specs.Reading.{script_of}
-use Rattle.photo_script.specs.Reports.{Made, Listed, Pulled, ModelReport, Exactly}
-use Rattle.photo_script.specs.Runs.{run_in_order, run, reports_of}
-use Rattle.photo_script.specs.Tallies.{totals_of}
+use Rattle.fleet_model.specs.Answers.{Made, Listed, Pulled, ModelReport, Exactly}
+use Rattle.fleet_model.specs.Runs.{run_in_order, run, reports_of}
+use Rattle.fleet_model.specs.Tallies.{totals_of}
 use Rattle.photo_script.specs.Examples.{totals}
 use Rattle.photo_batcher.specs.Orders.{IsLawful}
 use Rattle.photo_batcher.specs.Batches.{IsLongestChainTo, IsJustBelow}

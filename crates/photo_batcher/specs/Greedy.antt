@@ -1,7 +1,7 @@
 -- Machinery of the proofs: the batch of a command, and what it goes after, by the last commands before it on its devices.
 use Rattle.std.specs.Prelude.{◌≡◌, ℕ, zero, suc, ◌+◌, ◌<◌, max, if◌then◌else◌, nat_lt, Option, Some, None}
-use Rattle.photo_script.specs.Contents.{Contents, command_of, devices_of}
-use Rattle.photo_script.specs.declared.command.Command.{Command}
+use Rattle.fleet_model.specs.Contents.{Contents, command_of, devices_of}
+use Rattle.fleet_model.specs.declared.command.Command.{Command}
 use Rattle.photo_batcher.specs.Related.{uses}
 
 -- the last of the first n commands that works on the device, or 0

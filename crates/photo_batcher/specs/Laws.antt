@@ -1,8 +1,8 @@
 -- What holds of all lawful orders, of all batches and of all plans.
 use Rattle.std.specs.Prelude.{◌≡◌, ◌≢◌, ℕ, ◌<◌, ◌≤◌, List, length, Option}
-use Rattle.photo_script.specs.Contents.{Contents}
-use Rattle.photo_script.specs.Runs.{Fleet, run_in_order, run}
-use Rattle.photo_script.specs.Tallies.{totals_of}
+use Rattle.fleet_model.specs.Contents.{Contents}
+use Rattle.fleet_model.specs.Runs.{Fleet, run_in_order, run}
+use Rattle.fleet_model.specs.Tallies.{totals_of}
 use Rattle.photo_batcher.specs.Related.{IsNumber, AreRelated}
 use Rattle.photo_batcher.specs.Orders.{IsLawful, AreSameRuns}
 use Rattle.photo_batcher.specs.Batches.{IsLongestChainTo, IsBatch, AreBatches, IsSchedule, IsAfter, IsFollowed, TakesPlaces, batches_from, InTurn}

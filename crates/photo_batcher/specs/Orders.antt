@@ -1,8 +1,8 @@
 -- In which orders the commands of a script may run, and when two runs are the same.
 use Rattle.std.specs.Prelude.{◌≡◌, ℕ, ◌<◌, ◌==◌, List, [], ◌∷◌, count_by, IsPermutation}
 use Rattle.std.specs.List.{AllByRecursion}
-use Rattle.photo_script.specs.Contents.{Contents}
-use Rattle.photo_script.specs.Runs.{Fleet}
+use Rattle.fleet_model.specs.Contents.{Contents}
+use Rattle.fleet_model.specs.Runs.{Fleet}
 use Rattle.photo_batcher.specs.Related.{IsNumber, AreRelated}
 
 -- how often a number stands in a list

@@ -1,7 +1,7 @@
 -- What a plan of a script is.
 use Rattle.std.specs.Prelude.{◌≡◌, ℕ, zero, suc, ◌<◌, ◌≤◌, List, length, Option, Some, None, slice_index}
-use Rattle.photo_script.specs.Contents.{Contents}
-use Rattle.photo_script.specs.Limits.{max_commands}
+use Rattle.fleet_model.specs.Contents.{Contents}
+use Rattle.fleet_model.specs.Limits.{max_commands}
 use Rattle.photo_batcher.specs.Related.{IsNumber}
 use Rattle.photo_batcher.specs.Batches.{AreBatches, IsBatchCount, IsAfter, batches_from}
 

@@ -1,7 +1,7 @@
 -- Which commands of a script work on a common device.
 use Rattle.std.specs.Prelude.{◌≡◌, ℕ, ◌<◌, ◌≤◌, Bool, true, false, ◌||◌, ◌==◌, length, Option, Some, None}
-use Rattle.photo_script.specs.Contents.{Contents, command_of, devices_of}
-use Rattle.photo_script.specs.declared.command.Command.{Command}
+use Rattle.fleet_model.specs.Contents.{Contents, command_of, devices_of}
+use Rattle.fleet_model.specs.declared.command.Command.{Command}
 
 -- a command of the script has that number
 abbrev pub IsNumber : Contents → ℕ → Type 0

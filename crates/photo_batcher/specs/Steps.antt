@@ -1,8 +1,8 @@
 -- Machinery of the proofs: a plan, an order and a chain as far as the code has come.
 use Rattle.std.specs.Prelude.{◌≡◌, true, ℕ, suc, ◌<◌, ◌≤◌, ◌==◌, if◌then◌else◌, List, [], ◌∷◌, ◌++◌, length, slice_index_or, reverse, Option, Some, None, IfSome, slice_index, slice_set}
 use Rattle.std.specs.List.{AllByRecursion}
-use Rattle.photo_script.specs.Contents.{Contents, command_of, devices_of}
-use Rattle.photo_script.specs.declared.command.Command.{Command}
+use Rattle.fleet_model.specs.Contents.{Contents, command_of, devices_of}
+use Rattle.fleet_model.specs.declared.command.Command.{Command}
 use Rattle.photo_batcher.specs.Related.{IsNumber, uses}
 use Rattle.photo_batcher.specs.Orders.{times, KeepsOrder}
 use Rattle.photo_batcher.specs.Batches.{IsLinked, last_of, members_to}

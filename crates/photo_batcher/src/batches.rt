@@ -1,7 +1,7 @@
 // Plans: batches, what each command goes after, chains.
 ghost use Rattle.std.specs.Prelude.{◌≡◌, ◌<◌, ◌≤◌, ◌-◌, ◌++◌, ℕ, length, IfSome, IfOk, Some, slice_get, slice_index};
-ghost use Rattle.photo_script.specs.Contents.{Contents};
-ghost use Rattle.photo_script.specs.Limits.{max_commands};
+ghost use Rattle.fleet_model.specs.Contents.{Contents};
+ghost use Rattle.fleet_model.specs.Limits.{max_commands};
 ghost use Rattle.photo_batcher.specs.Batches.{IsFollowed, IsLongestChainTo};
 ghost use Rattle.photo_batcher.specs.Plans.{entry_of, batch_in, after_in, IsShaped, IsPlan};
 

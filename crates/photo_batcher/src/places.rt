@@ -1,6 +1,6 @@
 //! The devices of a command, and the last command on each device.
 ghost use Rattle.std.specs.Prelude.{◌≡◌, ◌<◌, ◌≤◌, length, IfSome, slice_set};
-ghost use Rattle.photo_script.specs.Contents.{devices_of};
+ghost use Rattle.fleet_model.specs.Contents.{devices_of};
 ghost use Rattle.photo_batcher.specs.Steps.{ArePlaces, read_second, with_place};
 
 use photo_script::{Command, Script, devices_of};

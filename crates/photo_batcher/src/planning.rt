@@ -1,6 +1,6 @@
 // Making a plan, command by command.
 ghost use Rattle.std.specs.Prelude.{◌≡◌, ◌<◌, ◌≤◌, ◌-◌, ◌∷◌, [], ◌++◌, ℕ, map, length, IfSome, IfOk, OnOk, slice_index};
-ghost use Rattle.photo_script.specs.Limits.{max_commands};
+ghost use Rattle.fleet_model.specs.Limits.{max_commands};
 ghost use Rattle.photo_batcher.specs.Greedy.{free_behind, first_free, before_it};
 ghost use Rattle.photo_batcher.specs.Plans.{entry_of, IsPlan};
 ghost use Rattle.photo_batcher.specs.Steps.{IsPlannedTo, with_member};

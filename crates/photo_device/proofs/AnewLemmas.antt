@@ -12,17 +12,19 @@ use Rattle.photo_version.specs.Version.{Version, version}
 use Rattle.item_knowledge.specs.Fragments.{Fragment, knows}
 use Rattle.item_knowledge.specs.Kept.{nothing_known, star_bound}
 use Rattle.photo_device.specs.declared.held.Held.{Held}
-use Rattle.photo_device.specs.Entry.{Entry, put_entries}
+use Rattle.photo_model.specs.Entry.{Entry, put_entries}
 use Rattle.photo_device.specs.Held.{entry_of, entries_of, put_helds}
-use Rattle.photo_device.specs.Device.{Kept, ModelDevice, Shows, holds}
+use Rattle.photo_model.specs.Device.{ModelDevice, holds}
+use Rattle.photo_device.specs.Device.{Kept, Shows}
 use Rattle.photo_device.specs.declared.anew.Anew.{Anew}
 use Rattle.photo_device.specs.Anew.{IsAnew}
 use Rattle.photo_device.specs.Staging.{AreParts}
 use Rattle.photo_device.specs.Own.{HasEarlier, IsKnownBy, IsDevice, KnowsItsOwn, KnowsNoLater}
 use Rattle.photo_device.specs.Taking.{AreNewTo, with_side}
-use Rattle.photo_device.specs.Telling.{tell, tells}
-use Rattle.photo_device.specs.Refiltered.{refiltered}
-use Rattle.photo_device.proofs.AllLemmas.{all_append}
+use Rattle.photo_model.specs.Telling.{tell}
+use Rattle.photo_device.specs.Telling.{tells}
+use Rattle.photo_model.specs.Refiltered.{refiltered}
+use Rattle.photo_model.proofs.AllLemmas.{all_append}
 use Rattle.photo_device.proofs.Counts.{count_of-append}
 use Rattle.photo_device.proofs.OwnLemmas.{all_of, none_up_to}
 use Rattle.photo_device.proofs.Changed.{joins_device, new_to_empty}

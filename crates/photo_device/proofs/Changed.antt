@@ -12,15 +12,16 @@ use Rattle.photo_filter_rules.specs.Matching.{matches}
 use Rattle.photo_version.specs.Version.{Version, version, same_version}
 use Rattle.item_knowledge.specs.Fragments.{Fragment, knows}
 use Rattle.photo_device.specs.declared.held.Held.{Held}
-use Rattle.photo_device.specs.Entry.{is_of_other, without, Entry, put_entries}
+use Rattle.photo_model.specs.Entry.{is_of_other, without, Entry, put_entries}
 use Rattle.photo_device.specs.Held.{held_before, count_of, find_version, is_listed, helds_without, put_helds, entry_of, entries_of, are_in_order}
-use Rattle.photo_device.specs.Device.{Kept, ModelDevice, Shows, held_at, without_waiting, narrowed, moved}
-use Rattle.photo_device.specs.declared.place.Place.{Place}
-use Rattle.photo_device.specs.declared.place.Place.TheVariants.{Store, Out}
+use Rattle.photo_model.specs.Device.{ModelDevice, without_waiting, narrowed, moved}
+use Rattle.photo_device.specs.Device.{Kept, Shows, held_at}
+use Rattle.photo_model.specs.declared.place.Place.{Place}
+use Rattle.photo_model.specs.declared.place.Place.TheVariants.{Store, Out}
 use Rattle.photo_device.specs.Learning.{IsOwnLearned}
 use Rattle.photo_device.specs.Own.{HasEarlier, IsKnownBy, IsDevice, IsNext, KnowsItsOwn}
 use Rattle.photo_device.specs.Taking.{is_on_side, AreNewTo, with_side}
-use Rattle.photo_device.proofs.AllLemmas.{all_append, all_back, all_filter, all_front, all_put}
+use Rattle.photo_model.proofs.AllLemmas.{all_append, all_back, all_filter, all_front, all_put}
 use Rattle.photo_device.proofs.Counts.{one_of, count_of-cons, count_of-append, count_of-filter, same_version_is, same_version_self, none_there, none_counted}
 use Rattle.photo_device.proofs.Shown.{entries-without, entries-filter, entries-put_those}
 use Rattle.photo_device.proofs.OwnLemmas.{known_later, none_of_next, own_learned}

@@ -6,7 +6,7 @@ use Rattle.std.proofs.lemmas.Bool.Decides.{nat_tests}
 use Rattle.std.proofs.lemmas.List.Elements.{filter-append}
 use Rattle.photo_version.specs.Version.{Version, same_version}
 use Rattle.photo_device.specs.declared.held.Held.{Held}
-use Rattle.photo_device.specs.Ordered.{put}
+use Rattle.photo_model.specs.Ordered.{put}
 use Rattle.photo_device.specs.Held.{held_before, count_of, find_version}
 use Rattle.photo_device.proofs.Putting.{any_found, any_counted, count-cons}
 

@@ -7,10 +7,9 @@ use Rattle.std.proofs.lemmas.Bool.Decides.{nat_tests}
 use Rattle.std.proofs.lemmas.List.{length-map, length-drop}
 use Rattle.photo_version.specs.Version.{Version}
 use Rattle.photo_device.specs.declared.held.Held.{Held}
-use Rattle.photo_device.specs.declared.conflict.Conflict.{Conflict}
-use Rattle.photo_device.specs.Entry.{Entry, others}
+use Rattle.photo_model.specs.Conflicts.{Conflict, pictures_of, versions_of, conflicts_in}
+use Rattle.photo_model.specs.Entry.{Entry, others}
 use Rattle.photo_device.specs.Held.{entry_of, entries_of, are_in_order, held_of_others}
-use Rattle.photo_device.specs.Conflicts.{pictures_of, versions_of, conflicts_in}
 use Rattle.photo_device.proofs.Shown.{entries-others}
 use Rattle.photo_device.proofs.Order.{rises, in_order-filter}
 use Rattle.photo_device.proofs.Putting.{TurnsAt, turned, list_all_wider, list_all_filtered, filter_all, filter-swap, map_alike}

@@ -1,7 +1,6 @@
 pub mod Order
 pub mod Counts
 pub mod Shown
-pub mod AllLemmas
 pub mod NotedLemmas
 pub mod OwnLemmas
 pub mod Putting

@@ -15,8 +15,8 @@ use Rattle.photo_record.specs.declared.record.Record.TheVariants.{Removed}
 use Rattle.photo_version.specs.Author.{author}
 use Rattle.photo_version.specs.Version.{Version, version, version_before, same_version}
 use Rattle.photo_device.specs.declared.held.Held.{Held}
-use Rattle.photo_device.specs.Ordered.{put}
-use Rattle.photo_device.specs.Entry.{is_of_other}
+use Rattle.photo_model.specs.Ordered.{put}
+use Rattle.photo_model.specs.Entry.{is_of_other}
 use Rattle.photo_device.specs.Held.{entry_of, held_before, stands_before, is_of, are_in_order, replaced, find_version}
 use Rattle.photo_device.proofs.Putting as putting
 use Rattle.photo_device.proofs.Putting.{IsSearch, TurnsAt}

@@ -12,7 +12,7 @@ use Rattle.item_knowledge.specs.Entries.{Entry, denotes, is_vector}
 use Rattle.item_knowledge.proofs.EntryLemmas.{denotes-bound}
 use Rattle.item_knowledge.proofs.FragmentLemmas.{star_of_every}
 use Rattle.photo_device.specs.declared.held.Held.{Held}
-use Rattle.photo_device.specs.declared.place.Place.{Place}
+use Rattle.photo_model.specs.declared.place.Place.{Place}
 use Rattle.photo_device.specs.Held.{count_of}
 use Rattle.photo_device.specs.Device.{Kept, held_at, unstaged}
 use Rattle.photo_device.specs.Own.{KnowsItsOwn, KnowsNoMore, IsKnownBy, IsNext, HasMade}

@@ -11,7 +11,7 @@ use Rattle.std.proofs.lemmas.Bool.{and_parts, and_from, cases_lt, false≢true}
 use Rattle.std.proofs.lemmas.Bool.Decides.{nat_tests}
 use Rattle.std.proofs.lemmas.Map.Keys.{any_passes_from_place}
 use Rattle.std.proofs.lemmas.Option.{same_Some, none-some}
-use Rattle.photo_device.specs.Ordered.{put, in_order}
+use Rattle.photo_model.specs.Ordered.{put, in_order}
 
 -- where a test turns
 abbrev pub TurnsAt : {A : Type 0} → (A → Bool) → List A → ℕ → Type 0

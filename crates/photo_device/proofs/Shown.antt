@@ -10,11 +10,12 @@ use Rattle.photo_record.specs.declared.record.Record.{Record}
 use Rattle.photo_filter_rules.specs.Matching.{matches}
 use Rattle.photo_version.specs.Version.{Version, version, same_version}
 use Rattle.photo_device.specs.declared.held.Held.{Held}
-use Rattle.photo_device.specs.declared.place.Place.TheVariants.{Store, Out}
-use Rattle.photo_device.specs.Ordered.{put}
-use Rattle.photo_device.specs.Entry.{Entry, is_of_other, others, put_entry, put_entry_if, put_entries, without, find_entry}
+use Rattle.photo_model.specs.declared.place.Place.TheVariants.{Store, Out}
+use Rattle.photo_model.specs.Ordered.{put}
+use Rattle.photo_model.specs.Entry.{Entry, is_of_other, others, put_entry, put_entry_if, put_entries, without, find_entry}
 use Rattle.photo_device.specs.Held.{entry_of, entries_of, held_before, held_of_others, replaced, put_helds, helds_without, has_picture, find_version_of}
-use Rattle.photo_device.specs.Device.{ModelDevice, Kept, Shows, made, next_version, new_entry, place_for, held_at, holds, is_held}
+use Rattle.photo_model.specs.Device.{ModelDevice, made, next_version, new_entry, place_for, holds, is_held}
+use Rattle.photo_device.specs.Device.{Kept, Shows, held_at}
 use Rattle.photo_device.specs.Own.{HasMade}
 
 pub entries-filter : (q : Entry → Bool) (xs : List Held) → entries_of (filter (λ h. q (entry_of h)) xs) ≡ filter q (entries_of xs)

@@ -12,14 +12,15 @@ use Rattle.item_knowledge.specs.Staged.{Knowing, settled, IsStagedUnion}
 use Rattle.std.specs.List.{AllByRecursion}
 use Rattle.photo_device.specs.declared.held.Held.{Held}
 use Rattle.photo_device.specs.declared.prepared.Prepared.{Prepared}
-use Rattle.photo_device.specs.Entry.{Entry, put_entries, without}
+use Rattle.photo_model.specs.Entry.{Entry, put_entries, without}
 use Rattle.photo_device.specs.Held.{entries_of, count_of, is_listed, helds_without}
-use Rattle.photo_device.specs.Device.{Kept, Staging, ModelDevice, Shows, changed, unstaged, IsAsItWas}
+use Rattle.photo_model.specs.Device.{ModelDevice, changed}
+use Rattle.photo_device.specs.Device.{Kept, Staging, Shows, unstaged, IsAsItWas}
 use Rattle.photo_device.specs.Own.{HasEarlier, IsKnownBy, IsDevice}
 use Rattle.block_list.specs.Room.{Reserved}
 use Rattle.photo_device.specs.Taking.{AreNewTo, MayTake, with_side}
 use Rattle.photo_device.specs.Staging.{MayHand, MayStage, IsReadied, known_then, staging, staging_of, IsPrepared, FitsWhatIsPrepared, AreParts}
-use Rattle.photo_device.proofs.AllLemmas.{all_append}
+use Rattle.photo_model.proofs.AllLemmas.{all_append}
 use Rattle.photo_device.proofs.Counts.{count_of-append, count_of-filter}
 use Rattle.photo_device.proofs.OwnLemmas.{known_later, own_still}
 use Rattle.photo_device.proofs.Changed.{shorter, all_new, filters_device, joins_device}

@@ -12,7 +12,7 @@ use Rattle.block_list.specs.Taken.{IsTakenOut}
 use Rattle.block_list.specs.Room.{Reserved, Growing}
 use Rattle.photo_version.specs.Version.{Version, same_version}
 use Rattle.photo_device.specs.declared.held.Held.{Held}
-use Rattle.photo_device.specs.Ordered.{put}
+use Rattle.photo_model.specs.Ordered.{put}
 use Rattle.photo_device.specs.Held.{held_before, has_version_of, count_of, times_in, are_in_order, find_version, is_listed, helds_without, helds_at, put_helds}
 use Rattle.photo_device.specs.Taking.{AreNewTo, HasRoomFor, HasTaken, MayTake, with_those}
 use Rattle.photo_device.proofs.Counts.{one_of, count_of-cons, count_of-append, count_of-put, count_of-filter, not_found, same_version_self}

@@ -8,7 +8,8 @@ use Rattle.item_knowledge.specs.Fragments.{Fragment, knows}
 use Rattle.photo_device.specs.declared.held.Held.{Held}
 use Rattle.photo_device.specs.Held.{entries_of}
 use Rattle.photo_device.specs.Own.{IsKnownBy}
-use Rattle.photo_device.specs.Telling.{tell, tells}
+use Rattle.photo_model.specs.Telling.{tell}
+use Rattle.photo_device.specs.Telling.{tells}
 use Rattle.photo_device.proofs.Counts.{same_version_is, same_version_self}
 
 -- it tells of that version of that picture

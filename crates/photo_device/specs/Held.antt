@@ -4,8 +4,8 @@ use Rattle.std.specs.List.{find, filter_map, list_any}
 use Rattle.photo_device.specs.declared.held.Held.{Held}
 use Rattle.photo_version.specs.Version.{Version, same_version, version_before}
 use Rattle.photo_version.specs.Vector.{denotes}
-use Rattle.photo_device.specs.Ordered.{put, in_order}
-use Rattle.photo_device.specs.Entry.{Entry, entry_before, is_of_other}
+use Rattle.photo_model.specs.Ordered.{put, in_order}
+use Rattle.photo_model.specs.Entry.{Entry, entry_before, is_of_other}
 
 abbrev pub entry_of : Held → Entry
 entry_of held = record {

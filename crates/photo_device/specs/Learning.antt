@@ -6,7 +6,7 @@ use Rattle.item_knowledge.specs.Fragments.{Fragment, knows}
 use Rattle.item_knowledge.specs.Kept.{star_bound}
 use Rattle.item_knowledge.specs.Staged.{Knowing}
 use Rattle.photo_device.specs.declared.held.Held.{Held}
-use Rattle.photo_device.specs.declared.place.Place.{Place}
+use Rattle.photo_model.specs.declared.place.Place.{Place}
 use Rattle.photo_device.specs.Device.{store_with, out_with}
 
 -- it is the next one of its author, of which no further version is known

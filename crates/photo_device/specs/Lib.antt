@@ -1,11 +1,7 @@
-pub mod Ordered
-pub mod Entry
 pub mod Held
 pub mod Noted
 pub mod Device
 pub mod Telling
-pub mod Refiltered
-pub mod Conflicts
 pub mod Learning
 pub mod Own
 pub mod Staging

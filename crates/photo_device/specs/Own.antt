@@ -8,7 +8,7 @@ use Rattle.photo_version.specs.Vector.{denotes}
 use Rattle.item_knowledge.specs.Fragments.{Fragment, knows}
 use Rattle.item_knowledge.specs.Kept.{star_bound}
 use Rattle.photo_device.specs.declared.held.Held.{Held}
-use Rattle.photo_device.specs.declared.place.Place.{Place}
+use Rattle.photo_model.specs.declared.place.Place.{Place}
 use Rattle.photo_device.specs.Held.{count_of}
 use Rattle.photo_device.specs.Device.{Kept, held_at}
 

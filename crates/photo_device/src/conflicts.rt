@@ -2,7 +2,7 @@
 ghost use Rattle.std.specs.Prelude.{◌≡◌, ◌<◌, ◌++◌, true, map, length, IfOk};
 ghost use Rattle.photo_device.specs.Held.{entries_of, are_in_order, put_helds};
 ghost use Rattle.photo_device.specs.Taking.{AreNewTo};
-ghost use Rattle.photo_device.specs.Conflicts.{conflicts_in};
+ghost use Rattle.photo_model.specs.Conflicts.{conflicts_in};
 
 use crate::anew::listed;
 use crate::takes::put_in;

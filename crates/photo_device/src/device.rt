@@ -6,6 +6,7 @@ ghost use Rattle.photo_device.specs.Learning.{IsHeldNext, IsNextKnown};
 use crate::anew::{Anew, held_anew, narrowed};
 use crate::drops::give_up;
 use crate::noted_knowledge::NotedKnowledge;
+use crate::placing::place_of;
 use crate::prepared::Prepared;
 use crate::takes::{rooms, take_in};
 use crate::{
@@ -69,7 +70,7 @@ impl Device {
     ghost use Rattle.std.specs.Prelude.{vec_len, vec_capacity};
     ghost use Rattle.std.specs.List.{AllByRecursion, list_any};
     ghost use Rattle.std.specs.Option.{option_copied, option_map};
-    ghost use Rattle.photo_device.specs.Entry.{find_entry};
+    ghost use Rattle.photo_model.specs.Entry.{find_entry};
     ghost use Rattle.photo_device.specs.Held.{are_in_order, find_version, find_version_of, has_picture, count_of, times_in};
     ghost use Rattle.photo_device.specs.Held.{entry_of, entries_of, helds_at};
     ghost use Rattle.photo_device.specs.Own.{HasEarlier, HasMade, IsDevice, IsKnownBy, IsNext, KnowsItsOwn, KnowsNoMore};
@@ -77,11 +78,11 @@ impl Device {
     ghost use Rattle.photo_version.specs.Author.{epoch_of_author};
     ghost use Rattle.photo_version.specs.Version as versions;
     ghost use Rattle.item_knowledge.specs.Fragments.{knows};
-    ghost use Rattle.photo_device.specs.Device.{ModelDevice, Shows, holds, is_held, opening, unstaged, IsAsItWas};
-    ghost use Rattle.photo_device.specs.Device.{made, next_version, new_place, changed, without_waiting, narrowed, moved};
-    ghost use Rattle.photo_device.specs.Refiltered.{refiltered};
+    ghost use Rattle.photo_model.specs.Device.{ModelDevice, holds, is_held, opening, made, next_version, new_place, changed, without_waiting, narrowed, moved};
+    ghost use Rattle.photo_device.specs.Device.{Shows, unstaged, IsAsItWas};
+    ghost use Rattle.photo_model.specs.Refiltered.{refiltered};
     ghost use Rattle.photo_device.specs.Anew.{IsAnew};
-    ghost use Rattle.photo_device.specs.Conflicts.{conflicts_of};
+    ghost use Rattle.photo_model.specs.Conflicts.{conflicts_of};
     ghost use Rattle.photo_record.specs.declared.record.Record.TheVariants.{Removed};
     ghost use Rattle.photo_device.specs.declared.fault.ChangeFault.TheVariants.{NotHeld};
     ghost use Rattle.photo_device.specs.declared.fault.NarrowFault.TheVariants.{NotNarrower, NoMemory};
@@ -155,7 +156,7 @@ impl Device {
             content: content.try_clone()?,
         };
         let shared = SharedHeld::new(self.store.alloc(), held)?;
-        let place = Place::of(&self.filter, content);
+        let place = place_of(&self.filter, content);
         self.add(place, shared)?;
         Ok((version, place))
     }

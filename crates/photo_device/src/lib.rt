@@ -19,7 +19,7 @@ mod item_list;
 pub mod laws;
 mod noted_knowledge;
 mod noted_versions;
-mod place;
+mod placing;
 mod prepared;
 mod shared_held;
 mod sought;
@@ -33,8 +33,8 @@ pub use fault::{ChangeFault, NarrowFault};
 pub use held::Held;
 pub use held_set::HeldSet;
 pub use item_list::ItemList;
+pub use photo_model::Place;
 use photo_version::Version;
-pub use place::Place;
 pub use shared_held::SharedHeld;
 pub use table::told_by;
 

@@ -1,7 +1,7 @@
 // Versions that come into the store and the out of a device.
 ghost use Rattle.std.specs.Prelude.{◌≡◌, ◌++◌, true, false, [], ◌∷◌, ◌+◌, length, IfOk, OnOk, OnErr};
 ghost use Rattle.photo_device.specs.Held.{are_in_order, held_before};
-ghost use Rattle.photo_device.specs.Ordered.{put};
+ghost use Rattle.photo_model.specs.Ordered.{put};
 ghost use Rattle.photo_device.specs.Taking.{is_on_side, with_side, AreNewTo, HasRoomFor, HasTaken, MayTake};
 
 use crate::{HeldSet, SharedHeld};

@@ -10,11 +10,12 @@ use Rattle.photo_version.specs.Version.{Version, same_version}
 use Rattle.item_knowledge.specs.Fragments.{Fragment, knows}
 use Rattle.photo_device.specs.declared.held.Held.{Held}
 use Rattle.photo_device.specs.Held.{find_version, count_of, times_in, helds_at, entries_of}
-use Rattle.photo_device.specs.Device.{Kept, unstaged, Staging, ModelDevice, Shows, changed}
+use Rattle.photo_model.specs.Device.{ModelDevice, changed}
+use Rattle.photo_device.specs.Device.{Kept, unstaged, Staging, Shows}
 use Rattle.photo_device.specs.Own.{HasEarlier, IsKnownBy, KnowsNoMore}
 use Rattle.photo_device.specs.Telling.{tells}
 use Rattle.photo_device.specs.Staging.{HasStaged, MayHand, MayStage}
-use Rattle.photo_device.proofs.AllLemmas.{all_append, all_filter}
+use Rattle.photo_model.proofs.AllLemmas.{all_append, all_filter}
 use Rattle.photo_device.proofs.Changed.{all_new}
 use Rattle.photo_device.proofs.Counts.{count_of-append, count_of-filter, same_version_self, same_version_is}
 use Rattle.photo_device.proofs.OwnLemmas.{no_more_of, known_later}
@@ -23,7 +24,7 @@ use Rattle.photo_device.proofs.Staged.{shows_alike}
 use Rattle.photo_pull.specs.OnHeld.{is_new, new_waiting, learns, is_dropped, is_over, is_selected, is_heard, new_stored, heard, taken_stored, versions, drops}
 use Rattle.photo_pull.specs.Findings.{AreReady, IsGained, IsHearing, HasStagedPull}
 use Rattle.photo_pull.specs.declared.hearing.Hearing.{Hearing}
-use Rattle.photo_pull.specs.Pull.{pulled}
+use Rattle.photo_model.specs.Pull.{pulled}
 use Rattle.photo_pull.proofs.Members.{In, in_left, in_right, in_filtered, all_map, all_of, filter_mapped, found_some, found_in, only_one, find_one}
 use Rattle.photo_pull.proofs.Told.{known_here, found_here}
 use Rattle.photo_pull.proofs.Shown.{takes, shows_pulled}

@@ -14,16 +14,18 @@ use Rattle.photo_filter_text.specs.Tree.{Tree}
 use Rattle.photo_filter_rules.specs.Matching.{matches}
 use Rattle.photo_filter_rules.specs.Covers.{covers}
 use Rattle.photo_device.specs.declared.held.Held.{Held}
-use Rattle.photo_device.specs.Entry.{Entry, supersedes, superseded_by, without, put_entries}
+use Rattle.photo_model.specs.Entry.{Entry, supersedes, superseded_by, without, put_entries}
 use Rattle.photo_device.specs.Held.{entry_of, entries_of, count_of}
-use Rattle.photo_device.specs.Device.{Kept, ModelDevice, Shows, holds, knows_entry, selects, unstaged, changed, without_waiting}
+use Rattle.photo_model.specs.Device.{ModelDevice, holds, knows_entry, selects, changed, without_waiting}
+use Rattle.photo_device.specs.Device.{Kept, Shows, unstaged}
 use Rattle.photo_device.specs.Own.{IsDevice}
-use Rattle.photo_device.specs.Telling.{tell, tells}
+use Rattle.photo_model.specs.Telling.{tell}
+use Rattle.photo_device.specs.Telling.{tells}
 use Rattle.photo_device.proofs.Counts.{count_of-append, same_version_self}
 use Rattle.photo_pull.specs.Findings.{AreReady, IsHearing, IsNothing}
-use Rattle.photo_pull.specs.Pull.{taken, handed, noticed, told, learns_all, is_stale, leaves_store, leaves_out, pulled, handed_over, counts_of}
+use Rattle.photo_model.specs.Pull.{taken, handed, noticed, told, learns_all, is_stale, leaves_store, leaves_out, pulled, handed_over, counts_of}
 use Rattle.photo_pull.specs.OnHeld.{is_new, new_stored, new_waiting, learns, is_over, is_stale_held, is_dropped, dropped_stored, dropped_waiting, is_selected, is_heard, heard, taken_stored, versions, drops, gains}
-use Rattle.photo_pull.specs.declared.counts.PullCounts.{PullCounts}
+use Rattle.photo_model.specs.declared.counts.PullCounts.{PullCounts}
 use Rattle.photo_pull.specs.declared.hearing.Hearing.{Hearing}
 use Rattle.photo_pull.proofs.Members.{In, in_left, in_right, any_same, filter_alike, filter_filter, any_map, any_swap, filter_mapped, no_more, only_one}
 use Rattle.photo_pull.proofs.Told.{known_here, same_picture, is_notice, notices, heard_as, any_told, over_is}

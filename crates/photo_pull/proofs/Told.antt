@@ -9,7 +9,7 @@ use Rattle.photo_device.specs.declared.held.Held.{Held}
 use Rattle.photo_device.specs.Held.{find_version}
 use Rattle.photo_device.specs.Device.{Kept, unstaged}
 use Rattle.photo_device.specs.Own.{IsDevice, IsKnownBy}
-use Rattle.photo_device.proofs.AllLemmas.{all_append}
+use Rattle.photo_model.proofs.AllLemmas.{all_append}
 use Rattle.photo_device.proofs.Counts.{same_version_is, same_version_self}
 use Rattle.photo_pull.specs.Findings.{AreReady}
 use Rattle.photo_pull.specs.OnHeld.{is_new, is_above, has_above, has_below, new_stored, new_waiting, is_over, is_dropped, is_selected, is_heard, heard, taken_stored}

@@ -9,9 +9,10 @@ use Rattle.item_knowledge.specs.Fragments.{knows}
 use Rattle.item_knowledge.specs.Staged.{Knowing}
 use Rattle.photo_device.specs.declared.held.Held.{Held}
 use Rattle.photo_device.specs.Held.{entry_of, entries_of}
-use Rattle.photo_device.specs.Device.{Kept, ModelDevice, Shows, holds, knows_entry}
+use Rattle.photo_model.specs.Device.{ModelDevice, holds, knows_entry}
+use Rattle.photo_device.specs.Device.{Kept, Shows}
 use Rattle.photo_pull.specs.Findings.{AreReady, IsHearing, IsNothing, IsSomething, HasToPull}
-use Rattle.photo_pull.specs.Pull.{is_stale, is_up_to_date, IsTaughtNothing}
+use Rattle.photo_model.specs.Pull.{is_stale, is_up_to_date, IsTaughtNothing}
 use Rattle.photo_pull.specs.OnHeld.{is_new, has_above, is_heard, new_stored, new_waiting, is_over, is_dropped, is_stale_held}
 use Rattle.photo_pull.specs.declared.hearing.Hearing.{Hearing}
 use Rattle.photo_pull.proofs.Members.{any_same}

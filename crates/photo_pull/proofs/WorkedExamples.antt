@@ -5,11 +5,12 @@ use Rattle.std.proofs.lemmas.Bool.{false≢true, and_parts}
 use Rattle.std.proofs.lemmas.Bool.Decides.{nat_tests}
 use Rattle.photo_filter_rules.specs.Covers.{covers}
 use Rattle.item_knowledge.specs.Fragments.{Fragment}
-use Rattle.photo_device.specs.Device.{Kept, ModelDevice, Shows, holds, knows_entry}
+use Rattle.photo_model.specs.Device.{ModelDevice, holds, knows_entry}
+use Rattle.photo_device.specs.Device.{Kept, Shows}
 use Rattle.photo_device.specs.Own.{HasEarlier, KnowsItsOwn, IsKnownBy, IsDevice}
 use Rattle.photo_device.specs.Examples.{nth, first}
 use Rattle.photo_pull.specs.MayPull.{MayPull}
-use Rattle.photo_pull.specs.Pull.{IsTaughtNothing}
+use Rattle.photo_model.specs.Pull.{IsTaughtNothing}
 use Rattle.photo_pull.specs.Examples.{shot, removal, camera, informed, phone, tidy, choosy, emptied, model, TheUpToDate, TheTaughtNothing, TheModelPull, ThePassed, TheFindings, TheWanting}
 
 no : false ≡ true → ⊥

@@ -7,10 +7,11 @@ use Rattle.photo_version.specs.Author.{author}
 use Rattle.item_knowledge.specs.Fragments.{knows}
 use Rattle.photo_device.specs.declared.held.Held.{Held}
 use Rattle.photo_device.specs.Held.{entry_of, entries_of}
-use Rattle.photo_device.specs.Device.{Kept, ModelDevice}
+use Rattle.photo_model.specs.Device.{ModelDevice}
+use Rattle.photo_device.specs.Device.{Kept}
 use Rattle.photo_device.specs.Examples.{nth, bound, of, held_of, first}
 use Rattle.photo_device.specs.Examples as devices
-use Rattle.photo_pull.specs.Pull.{taken, handed, noticed, is_up_to_date, IsTaughtNothing, pulled, handed_over, counts_of}
+use Rattle.photo_model.specs.Pull.{taken, handed, noticed, is_up_to_date, IsTaughtNothing, pulled, handed_over, counts_of}
 use Rattle.photo_pull.specs.OnHeld.{HasPassed}
 use Rattle.photo_pull.specs.Findings.{IsSomething, HasToPull}
 

@@ -5,12 +5,13 @@ use Rattle.photo_version.specs.Version.{Version}
 use Rattle.item_knowledge.specs.Fragments.{Fragment, knows}
 use Rattle.item_knowledge.specs.Staged.{Knowing}
 use Rattle.photo_device.specs.Held.{are_in_order}
-use Rattle.photo_device.specs.Device.{Kept, ModelDevice, Shows, unstaged}
+use Rattle.photo_model.specs.Device.{ModelDevice}
+use Rattle.photo_device.specs.Device.{Kept, Shows, unstaged}
 use Rattle.photo_device.specs.Own.{HasEarlier, IsDevice}
 use Rattle.photo_device.specs.Staging.{HasStaged}
-use Rattle.photo_pull.specs.declared.counts.PullCounts.{PullCounts}
+use Rattle.photo_model.specs.declared.counts.PullCounts.{PullCounts}
 use Rattle.photo_pull.specs.MayPull.{MayPull}
-use Rattle.photo_pull.specs.Pull.{is_up_to_date, IsTaughtNothing, pulled, handed_over, counts_of}
+use Rattle.photo_model.specs.Pull.{is_up_to_date, IsTaughtNothing, pulled, handed_over, counts_of}
 use Rattle.photo_pull.specs.OnHeld.{IsOrdered, is_new, is_dropped, is_over, new_stored, new_waiting, dropped_stored, dropped_waiting, heard, taken_stored, gains, learns, drops}
 use Rattle.photo_pull.specs.declared.part.Part.{Part}
 use Rattle.photo_pull.specs.declared.hearing.Hearing.{Hearing}

@@ -1,4 +1,3 @@
-pub mod Pull
 pub mod MayPull
 pub mod OnHeld
 pub mod Findings

@@ -72,8 +72,9 @@ pub(crate) fn heard_between(
 
 impl Hearing {
     ghost use Rattle.std.specs.Prelude.{◌≡◌, true, false};
-    ghost use Rattle.photo_device.specs.Device.{ModelDevice, Shows};
-    ghost use Rattle.photo_pull.specs.Pull.{counts_of};
+    ghost use Rattle.photo_model.specs.Device.{ModelDevice};
+    ghost use Rattle.photo_device.specs.Device.{Shows};
+    ghost use Rattle.photo_model.specs.Pull.{counts_of};
     ghost use Rattle.photo_pull.specs.Findings.{IsHearing, IsNothing};
 
     /// What the pull moves and tells. The source is there for the contract alone.

@@ -3,7 +3,6 @@
 #![tactic(auto)]
 
 mod change;
-mod counts;
 mod filtered;
 mod gap;
 mod hearing;
@@ -15,6 +14,6 @@ mod previewing;
 mod pulling;
 mod superseding;
 
-pub use counts::PullCounts;
+pub use photo_model::PullCounts;
 pub use previewing::preview;
 pub use pulling::pull;

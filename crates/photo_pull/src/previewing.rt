@@ -1,7 +1,8 @@
 // What a pull would count.
 ghost use Rattle.std.specs.Prelude.{◌≡◌, false, IfOk, OnErr};
-ghost use Rattle.photo_device.specs.Device.{ModelDevice, Shows};
-ghost use Rattle.photo_pull.specs.Pull.{counts_of, is_up_to_date};
+ghost use Rattle.photo_model.specs.Device.{ModelDevice};
+ghost use Rattle.photo_device.specs.Device.{Shows};
+ghost use Rattle.photo_model.specs.Pull.{counts_of, is_up_to_date};
 ghost use Rattle.photo_pull.specs.MayPull.{MayPull};
 
 use crate::PullCounts;

@@ -1,8 +1,9 @@
 // A pull, and its steps.
 ghost use Rattle.std.specs.Prelude.{◌≡◌, None, IfOk, OnOk, OnErr};
-ghost use Rattle.photo_device.specs.Device.{ModelDevice, Shows, IsAsItWas};
+ghost use Rattle.photo_model.specs.Device.{ModelDevice};
+ghost use Rattle.photo_device.specs.Device.{Shows, IsAsItWas};
 ghost use Rattle.photo_pull.specs.MayPull.{MayPull};
-ghost use Rattle.photo_pull.specs.Pull.{pulled, handed_over, counts_of};
+ghost use Rattle.photo_model.specs.Pull.{pulled, handed_over, counts_of};
 ghost use Rattle.photo_pull.specs.Findings.{AreNews, HavePulled, HasToPull};
 
 use crate::PullCounts;

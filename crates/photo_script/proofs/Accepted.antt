@@ -15,16 +15,17 @@ use Rattle.photo_record.proofs.DateLemmas.{day_number-in}
 use Rattle.photo_filter_text.specs.Tree.{Tree}
 use Rattle.photo_filter_rules.specs.Filters.{filter_of}
 use Rattle.photo_filter_rules.specs.Matching.{IsInRange}
-use Rattle.photo_script.specs.Limits.{max_text_bytes, max_line_bytes, max_devices, max_commands}
+use Rattle.fleet_model.specs.Limits.{max_devices, max_commands}
+use Rattle.photo_script.specs.Limits.{max_text_bytes, max_line_bytes}
 use Rattle.photo_script.specs.Lines.{lines_of, fields_of, third_field_on}
 use Rattle.photo_script.specs.Fields.{is_word, is_name, place_of}
 use Rattle.photo_script.specs.Earlier.{Earlier, earlier, is_comment, declared_by, filter_declared_by, is_command, names_of, filters_of, commands_of}
 use Rattle.photo_script.specs.Saying.{◌>>=◌, or_fault, word_set, device_said, new_picture_said, record_said, filter_said, declaration_said, device_line_said, command_said, creation_said, new_line_said, picture_said, edition_said, edit_line_said, removal_said, remove_line_said, two_said, two_devices_said, pull_line_said, preview_line_said, filtering_said, device_and_filter_said, narrow_line_said, refilter_line_said, list_line_said, conflicts_line_said, version_said, knowledge_line_said, question_said, knows_line_said, question_line_said, command_line_said, fields_said, said}
 use Rattle.photo_script.specs.Reading.{sayings, with_front, commands_said, script_of_commands, script_of_lines, script_of}
-use Rattle.photo_script.specs.Contents.{Contents, contents, devices_of, IsWithin, record_of, IsScript}
+use Rattle.fleet_model.specs.Contents.{Contents, contents, devices_of, IsWithin, record_of, IsScript}
 use Rattle.photo_script.specs.Laws.{AcceptedAreScripts}
-use Rattle.photo_script.specs.declared.command.Command.{Command}
-use Rattle.photo_script.specs.declared.command.Command.TheVariants as command
+use Rattle.fleet_model.specs.declared.command.Command.{Command}
+use Rattle.fleet_model.specs.declared.command.Command.TheVariants as command
 use Rattle.photo_script.specs.declared.fault.LineFault.{LineFault}
 use Rattle.photo_script.specs.declared.fault.LineFault.TheVariants as fault
 use Rattle.photo_script.specs.declared.fault.ScriptFault.{ScriptFault}

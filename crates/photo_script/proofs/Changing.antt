@@ -2,11 +2,11 @@
 use Rattle.std.proofs.Common.{◌≡◌, ◌∷◌, ◌<◌, ℕ, List, [], Some, Ok, Err, refl}
 use Rattle.std.proofs.lemmas.Bool.{lt-leb}
 use Rattle.photo_record.specs.declared.record.Record.{Record}
-use Rattle.photo_script.specs.Limits.{max_commands}
+use Rattle.fleet_model.specs.Limits.{max_commands}
 use Rattle.photo_script.specs.Earlier.{Earlier}
 use Rattle.photo_script.specs.Steps.{Refuses, first_said}
 use Rattle.photo_script.specs.Saying.{edit_line_said, remove_line_said, edition_said, removal_said, command_said, device_said, picture_said, record_said}
-use Rattle.photo_script.specs.declared.command.Command.TheVariants as command
+use Rattle.fleet_model.specs.declared.command.Command.TheVariants as command
 use Rattle.photo_script.specs.declared.fault.LineFault.{LineFault}
 use Rattle.photo_script.specs.declared.refusal.Refusal.{Refusal}
 use Rattle.photo_script.specs.declared.refusal.Refusal.TheVariants.{Memory, Fault}

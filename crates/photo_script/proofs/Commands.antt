@@ -7,13 +7,13 @@ use Rattle.std.specs.List.{list_any}
 use Rattle.std.specs.Ordering.{nat_cmp}
 use Rattle.std.proofs.lemmas.List.{append-nil}
 use Rattle.std.proofs.lemmas.Result.{err_from_is_err_and}
-use Rattle.photo_script.specs.Limits.{max_commands}
-use Rattle.photo_script.specs.Contents.{contents}
+use Rattle.fleet_model.specs.Limits.{max_commands}
+use Rattle.fleet_model.specs.Contents.{contents}
 use Rattle.photo_script.specs.Fields.{is_word}
 use Rattle.photo_script.specs.Earlier.{Earlier, is_comment, declared_by, filter_declared_by, made_by, is_command}
 use Rattle.photo_script.specs.Saying.{with_room, command_said, device_said, ◌>>=◌}
 use Rattle.photo_script.specs.Steps.{Gives, Lacks, Reads, Refuses, Takes, first_said}
-use Rattle.photo_script.specs.declared.command.Command.{Command}
+use Rattle.fleet_model.specs.declared.command.Command.{Command}
 use Rattle.photo_script.specs.declared.fault.LineFault.{LineFault}
 use Rattle.photo_script.specs.declared.fault.LineFault.TheVariants.{TooMany}
 use Rattle.photo_script.specs.declared.reader.Reader.{Reader}

@@ -3,10 +3,12 @@ use Rattle.std.proofs.Common.{◌≡◌, ◌≤◌, ◌<◌, ◌+◌, ◌*◌, �
 use Rattle.std.specs.List.{AllByRecursion, AllZip, sum_by}
 use Rattle.std.proofs.lemmas.List.{length-map}
 use Rattle.std.proofs.lemmas.List.Sums.{sum_by-cons}
-use Rattle.photo_pull.specs.declared.counts.PullCounts.{PullCounts}
-use Rattle.photo_script.specs.Limits.{max_commands}
-use Rattle.photo_script.specs.Reports.{Answer, ModelReport, Exactly, KnowledgeIs, Tells, answer_of}
-use Rattle.photo_script.specs.Tallies.{moved_by, moved_by_report, max_moved}
+use Rattle.photo_model.specs.declared.counts.PullCounts.{PullCounts}
+use Rattle.fleet_model.specs.Limits.{max_commands}
+use Rattle.fleet_model.specs.Answers.{ModelReport, Exactly, KnowledgeIs}
+use Rattle.photo_script.specs.Reports.{Answer, Tells, answer_of}
+use Rattle.fleet_model.specs.Tallies.{moved_by_report, max_moved}
+use Rattle.photo_script.specs.Tallies.{moved_by}
 use Rattle.photo_script.specs.declared.report.Report.{Report}
 use Rattle.photo_script.specs.declared.report.Report.TheVariants as report
 

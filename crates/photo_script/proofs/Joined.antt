@@ -6,7 +6,7 @@ use Rattle.std.proofs.lemmas.Option.{get_or_from_slice_get, slice_get_within}
 use Rattle.std.specs.Fmt.{decimal}
 use Rattle.photo_record.specs.Showing.{words_text}
 use Rattle.item_knowledge.specs.Entries.{Entry}
-use Rattle.photo_script.specs.Contents.{Contents}
+use Rattle.fleet_model.specs.Contents.{Contents}
 use Rattle.photo_script.specs.Reports.{pictures_text, bound_text, bounds_text}
 use Rattle.photo_script.proofs.Places.{length-map}
 

@@ -2,11 +2,11 @@
 use Rattle.std.proofs.Common.{◌≡◌, ◌∷◌, ◌<◌, ℕ, List, [], Some, Ok, Err}
 use Rattle.std.proofs.lemmas.Bool.{lt-leb}
 use Rattle.photo_version.specs.Version.{Version}
-use Rattle.photo_script.specs.Limits.{max_commands}
+use Rattle.fleet_model.specs.Limits.{max_commands}
 use Rattle.photo_script.specs.Earlier.{Earlier}
 use Rattle.photo_script.specs.Steps.{first_said}
 use Rattle.photo_script.specs.Saying.{knowledge_line_said, knows_line_said, question_said, version_said, command_said, device_said, picture_said}
-use Rattle.photo_script.specs.declared.command.Command.TheVariants as command
+use Rattle.fleet_model.specs.declared.command.Command.TheVariants as command
 use Rattle.photo_script.specs.declared.fault.LineFault.{LineFault}
 use Rattle.photo_script.proofs.Commands.{first-refused}
 

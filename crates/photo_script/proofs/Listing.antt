@@ -1,10 +1,10 @@
 -- Lists through a map, and held versions as the entries of a list.
 use Rattle.std.proofs.Common.{◌≡◌, ◌<◌, ◌∷◌, ◌++◌, ℕ, zero, suc, List, [], length, get_or, map, refl, ap, subst, sym, arith}
 use Rattle.std.specs.List.{flat_map, AllByRecursion}
-use Rattle.photo_device.specs.Entry.{Entry}
+use Rattle.photo_model.specs.Entry.{Entry}
 use Rattle.photo_device.specs.Held.{entry_of, entries_of}
 use Rattle.photo_device.specs.declared.held.Held.{Held}
-use Rattle.photo_script.specs.Contents.{Contents}
+use Rattle.fleet_model.specs.Contents.{Contents}
 use Rattle.photo_script.specs.Reports.{AreOfScript, IsOfScript}
 
 -- what holds of each image holds of that of the item at a place

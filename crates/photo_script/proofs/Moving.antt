@@ -2,11 +2,11 @@
 use Rattle.std.proofs.Common.{◌≡◌, ◌∷◌, ◌<◌, ◌≤◌, ℕ, List, [], length, true, false, eqb, Some, Ok, Err, refl, arith}
 use Rattle.std.proofs.lemmas.Bool.{lt-leb}
 use Rattle.photo_filter_text.specs.Tree.{Tree}
-use Rattle.photo_script.specs.Limits.{max_commands}
+use Rattle.fleet_model.specs.Limits.{max_commands}
 use Rattle.photo_script.specs.Earlier.{Earlier}
 use Rattle.photo_script.specs.Steps.{Refuses, first_said}
 use Rattle.photo_script.specs.Saying.{with_room, two_said, two_devices_said, filtering_said, device_and_filter_said, conflicts_line_said, command_said, device_said, filter_said}
-use Rattle.photo_script.specs.declared.command.Command.TheVariants as command
+use Rattle.fleet_model.specs.declared.command.Command.TheVariants as command
 use Rattle.photo_script.specs.declared.fault.LineFault.{LineFault}
 use Rattle.photo_script.specs.declared.fault.LineFault.TheVariants.{SameDevice}
 use Rattle.photo_script.specs.declared.refusal.Refusal.{Refusal}

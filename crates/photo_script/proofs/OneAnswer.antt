@@ -2,7 +2,8 @@
 use Rattle.std.proofs.Common.{sym, ap, ◌∙◌}
 use Rattle.item_knowledge.proofs.FragmentLemmas.{one_normal}
 use Rattle.photo_script.specs.Laws.{AnswersAreOne}
-use Rattle.photo_script.specs.Reports.{KnowledgeOf, Exactly, KnowledgeIs}
+use Rattle.fleet_model.specs.Answers.{Exactly, KnowledgeIs}
+use Rattle.photo_script.specs.Reports.{KnowledgeOf}
 
 pub one_answer : AnswersAreOne
 one_answer a b (Exactly right) p q = p ∙ sym q

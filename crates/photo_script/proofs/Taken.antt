@@ -14,7 +14,7 @@ use Rattle.photo_script.specs.Earlier.{earlier, names_of, filters_of, pictures_o
 use Rattle.photo_script.specs.Reading.{sayings, commands_said}
 use Rattle.photo_script.specs.Saying.{said}
 use Rattle.photo_script.specs.Steps.{IsFirst, Takes, seen}
-use Rattle.photo_script.specs.declared.command.Command.{Command}
+use Rattle.fleet_model.specs.declared.command.Command.{Command}
 use Rattle.photo_script.specs.declared.reader.Reader.{Reader}
 use Rattle.photo_script.proofs.Gathered.{commands_said-more}
 

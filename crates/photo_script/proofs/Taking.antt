@@ -10,15 +10,15 @@ use Rattle.std.proofs.lemmas.List.{append-nil}
 use Rattle.std.proofs.lemmas.Bool.Decides.{nat_tests}
 use Rattle.std.proofs.lemmas.Option.{cond_some}
 use Rattle.photo_record.specs.declared.record.Record.{Record}
-use Rattle.photo_script.specs.Limits.{max_devices, max_commands}
-use Rattle.photo_script.specs.Contents.{contents}
+use Rattle.fleet_model.specs.Limits.{max_devices, max_commands}
+use Rattle.fleet_model.specs.Contents.{contents}
 use Rattle.photo_script.specs.Earlier.{Earlier, made_by}
 use Rattle.photo_filter_text.specs.Tree.{Tree}
 use Rattle.photo_filter_rules.specs.Filters.{filter_of}
 use Rattle.photo_script.specs.Fields.{number_of, picture_of, is_name, place_of}
 use Rattle.photo_script.specs.Steps.{Lacks, Refuses, Takes, first_said, seen}
 use Rattle.photo_script.specs.Saying.{filter_said, device_line_said, declaration_said, list_line_said, new_line_said, command_said, creation_said, device_said, new_picture_said, record_said, or_fault, ◌>>=◌}
-use Rattle.photo_script.specs.declared.command.Command.TheVariants as command
+use Rattle.fleet_model.specs.declared.command.Command.TheVariants as command
 use Rattle.photo_script.specs.declared.fault.LineFault.{LineFault}
 use Rattle.photo_script.specs.declared.fault.LineFault.TheVariants as fault
 use Rattle.photo_script.specs.declared.reader.Reader.{Reader}

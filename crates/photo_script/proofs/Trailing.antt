@@ -8,7 +8,7 @@ use Rattle.photo_script.specs.Lines.{without_last_empty, pieces_of, lines_of, fi
 use Rattle.photo_script.specs.Earlier.{Earlier, earlier, names_of, filters_of, declared_by, filter_declared_by}
 use Rattle.photo_script.specs.Saying.{said, fields_said}
 use Rattle.photo_script.specs.Reading.{sayings, commands_said, script_of_commands, script_of_lines}
-use Rattle.photo_script.specs.declared.command.Command.{Command}
+use Rattle.fleet_model.specs.declared.command.Command.{Command}
 use Rattle.photo_script.specs.declared.fault.ScriptFault.{ScriptFault}
 use Rattle.photo_script.proofs.Gathered.{commands_said-append, commands_said-refused}
 

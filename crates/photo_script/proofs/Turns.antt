@@ -9,10 +9,10 @@ use Rattle.std.proofs.lemmas.List.{take-append-drop, map-append}
 use Rattle.photo_script.specs.Lines.{pieces_of, lines_of, fields_of, third_field_on}
 use Rattle.photo_script.specs.Earlier.{names_of, filters_of}
 use Rattle.photo_script.specs.Saying.{said}
-use Rattle.photo_script.specs.Contents.{contents}
+use Rattle.fleet_model.specs.Contents.{contents}
 use Rattle.photo_script.specs.Reading.{script_of_commands, script_of_lines, MayWantMemory}
 use Rattle.photo_script.specs.Steps.{Refuses, Takes, seen, fault_at}
-use Rattle.photo_script.specs.declared.command.Command.{Command}
+use Rattle.fleet_model.specs.declared.command.Command.{Command}
 use Rattle.photo_script.specs.declared.fault.ScriptFault.{ScriptFault}
 use Rattle.photo_script.specs.declared.fault.ScriptFault.TheVariants.{NoMemory}
 use Rattle.photo_script.specs.declared.reader.Reader.{Reader}

@@ -3,9 +3,9 @@ use Rattle.std.specs.Prelude.{ℕ, List, refl}
 use Rattle.std.specs.Coded.{Coded, code_by, coded×, coded_ℕ, coded_list}
 use Rattle.photo_filter_text.specs.Tree.{Tree}
 use Rattle.photo_filter_rules.specs.Coding.{tree_code}
-use Rattle.photo_script.specs.declared.command.Command.{Command}
-use Rattle.photo_script.specs.contracts.command.Command as command
-use Rattle.photo_script.specs.Contents.{Contents, contents}
+use Rattle.fleet_model.specs.declared.command.Command.{Command}
+use Rattle.fleet_model.specs.contracts.command.Command as command
+use Rattle.fleet_model.specs.Contents.{Contents, contents}
 
 abbrev pub contents_code : Coded Contents
 contents_code =

@@ -5,22 +5,23 @@ use Rattle.photo_record.specs.declared.record.Record.TheVariants as content
 use Rattle.photo_filter_text.specs.declared.tree.Cmp.TheVariants.{AtLeast, AtMost}
 use Rattle.photo_filter_text.specs.Tree.{All, Rate, Not, Keyword, Both}
 use Rattle.item_knowledge.specs.Entries as knowledge
-use Rattle.photo_device.specs.Entry.{Entry}
-use Rattle.photo_device.specs.declared.conflict.Conflict.{Conflict}
+use Rattle.photo_model.specs.Entry.{Entry}
+use Rattle.photo_model.specs.Conflicts.{Conflict}
 use Rattle.photo_version.specs.Author.{author, author_at, author_word}
 use Rattle.photo_version.specs.Version.{Version, version}
-use Rattle.photo_device.specs.declared.place.Place.TheVariants as place
-use Rattle.photo_script.specs.Contents.{Contents, contents}
+use Rattle.photo_model.specs.declared.place.Place.TheVariants as place
+use Rattle.fleet_model.specs.Contents.{Contents, contents}
 use Rattle.photo_script.specs.Earlier.{Earlier}
 use Rattle.photo_script.specs.Saying.{said}
 use Rattle.photo_script.specs.Reading.{script_of}
-use Rattle.photo_script.specs.Runs.{run}
-use Rattle.photo_script.specs.Tallies.{totals_of}
-use Rattle.photo_script.specs.declared.tally.Totals.{Totals}
+use Rattle.fleet_model.specs.Runs.{run}
+use Rattle.fleet_model.specs.Tallies.{totals_of}
+use Rattle.fleet_model.specs.declared.tally.Totals.{Totals}
 use Rattle.item_knowledge.specs.Fragments.{Fragment}
-use Rattle.photo_script.specs.Reports.{Made, NotHeld, NotNarrower, Narrowed, Refiltered, Pulled, Preview, Listed, Conflicts, KnowledgeOf, Knows, text_of}
-use Rattle.photo_script.specs.declared.command.Command.{Command}
-use Rattle.photo_script.specs.declared.command.Command.TheVariants as command
+use Rattle.fleet_model.specs.Answers.{Made, NotHeld, NotNarrower, Narrowed, Refiltered, Pulled, Preview, Listed, Conflicts, Knows}
+use Rattle.photo_script.specs.Reports.{Plain, KnowledgeOf, text_of}
+use Rattle.fleet_model.specs.declared.command.Command.{Command}
+use Rattle.fleet_model.specs.declared.command.Command.TheVariants as command
 use Rattle.photo_script.specs.declared.fault.LineFault.TheVariants as fault
 use Rattle.photo_script.specs.declared.fault.ScriptFault.TheVariants.{Line, NotUtf8}
 
@@ -37,8 +38,8 @@ beach_entry = record { picture = 7; version = version (author 0) 1; history = λ
 
 pub record FirstRun : Type 0 where
   pub script : script_of (codes "device cam all\nnew cam 7 5 2024-05-01 sun,beach\nlist cam\n") ≡ Ok camera
-  pub made : text_of camera 1 (Made (version (author 0) 1) place.Store) ≡ codes "1 made cam:1 store\n"
-  pub listed : text_of camera 2 (Listed 0 (beach_entry ∷ []) []) ≡ codes "2 list cam store 1 out 0\n  store 7 cam:1 rating 5 day 2024-05-01 words beach,sun\n"
+  pub made : text_of camera 1 (Plain (Made (version (author 0) 1) place.Store)) ≡ codes "1 made cam:1 store\n"
+  pub listed : text_of camera 2 (Plain (Listed 0 (beach_entry ∷ []) [])) ≡ codes "2 list cam store 1 out 0\n  store 7 cam:1 rating 5 day 2024-05-01 words beach,sun\n"
 
 pub record SingleFaults : Type 0 where
   pub empty : script_of [] ≡ Ok (contents [] [] [])
@@ -91,7 +92,7 @@ pub record Changes : Type 0 where
   pub device : script_of (codes "device a all\nedit b 0 6 x x") ≡ Err (Line 2 fault.UnknownDevice)
   pub number : script_of (codes "device a all\nremove a 07") ≡ Err (Line 2 fault.BadNumber)
   pub rating : script_of (codes "device a all\nedit a 7 6 x x,x") ≡ Err (Line 2 fault.BadRating)
-  pub refused : text_of camera 5 NotHeld ≡ codes "5 refused C1 NotHeld\n"
+  pub refused : text_of camera 5 (Plain NotHeld) ≡ codes "5 refused C1 NotHeld\n"
 
 -- two devices with no filter
 abbrev pub pair : List Command → Contents
@@ -129,8 +130,8 @@ pub record KnownTexts : Type 0 where
   pub star : text_of (pair []) 7 (KnowledgeOf 0 (fragment [] (bound 0 0 4 ∷ []) ∷ [])) ≡ codes "7 knowledge a 1\n  * a:4\n"
   pub groups : text_of (pair []) 5 (KnowledgeOf 1 (fragment [] (bound 0 0 1 ∷ []) ∷ fragment (7 ∷ 9 ∷ []) (bound 0 0 2 ∷ bound 1 0 1 ∷ []) ∷ fragment (8 ∷ []) (bound 0 0 3 ∷ []) ∷ []))
       ≡ codes "5 knowledge b 3\n  * a:1\n  7,9 a:2 b:1\n  8 a:3\n"
-  pub known : text_of (pair []) 8 (Knows true) ≡ codes "8 knows yes\n"
-  pub unknown : text_of (pair []) 8 (Knows false) ≡ codes "8 knows no\n"
+  pub known : text_of (pair []) 8 (Plain (Knows true)) ≡ codes "8 knows yes\n"
+  pub unknown : text_of (pair []) 8 (Plain (Knows false)) ≡ codes "8 knows no\n"
 
 -- versions of later epochs: read, refused, and their texts
 pub record LaterEpochs : Type 0 where
@@ -147,7 +148,7 @@ pub record LaterEpochs : Type 0 where
   pub no_name : script_of (codes "device a all\nknows a 7 .1:1") ≡ Err (Line 2 fault.UnknownDevice)
 
 pub record LaterEpochTexts : Type 0 where
-  pub made : text_of camera 1 (Made (version (author_at 0 1) 3) place.Store) ≡ codes "1 made cam.1:3 store\n"
+  pub made : text_of camera 1 (Plain (Made (version (author_at 0 1) 3) place.Store)) ≡ codes "1 made cam.1:3 store\n"
   pub known : text_of (pair []) 9 (KnowledgeOf 0 (fragment [] (bound 0 0 2 ∷ bound 0 12 1 ∷ bound 1 0 1 ∷ []) ∷ [])) ≡ codes "9 knowledge a 1\n  * a:2 a.12:1 b:1\n"
 
 -- a device pulls from another, and gets another filter, which is the text of its line from the third field on
@@ -203,19 +204,19 @@ conflict picture versions = record { picture = picture; versions = versions }
 -- what a pull moved and one would, where versions are after another filter, how many a narrower one moved, a filter that
 -- isn't narrower, and conflicts
 pub record MovedTexts : Type 0 where
-  pub pulled : text_of (pair []) 5 (Pulled (record { taken = 1; handed = 0; notices = 0; dropped = 0; learned = true }))
+  pub pulled : text_of (pair []) 5 (Plain (Pulled (record { taken = 1; handed = 0; notices = 0; dropped = 0; learned = true })))
       ≡ codes "5 pulled taken 1 handed 0 notices 0 dropped 0 learned yes\n"
-  pub counted : text_of (pair []) 12 (Pulled (record { taken = 1; handed = 20; notices = 300; dropped = 4000; learned = false }))
+  pub counted : text_of (pair []) 12 (Plain (Pulled (record { taken = 1; handed = 20; notices = 300; dropped = 4000; learned = false })))
       ≡ codes "12 pulled taken 1 handed 20 notices 300 dropped 4000 learned no\n"
-  pub previewed : text_of (pair []) 12 (Preview (record { taken = 1; handed = 20; notices = 300; dropped = 4000; learned = true }))
+  pub previewed : text_of (pair []) 12 (Plain (Preview (record { taken = 1; handed = 20; notices = 300; dropped = 4000; learned = true })))
       ≡ codes "12 preview taken 1 handed 20 notices 300 dropped 4000 learned yes\n"
-  pub refiltered : text_of (pair []) 4 (Refiltered 10 2) ≡ codes "4 refiltered store 10 out 2\n"
-  pub narrowed : text_of (pair []) 3 (Narrowed 2) ≡ codes "3 narrowed 2\n"
-  pub refused : text_of (pair []) 4 NotNarrower ≡ codes "4 refused C2 NotNarrower\n"
-  pub one : text_of (pair []) 6 (Conflicts 0 (conflict 7 (version (author 0) 2 ∷ version (author 1) 1 ∷ []) ∷ [])) ≡ codes "6 conflicts a 1\n  7 a:2 b:1\n"
-  pub two : text_of (pair []) 9 (Conflicts 1 (conflict 7 (version (author 0) 2 ∷ version (author 1) 1 ∷ []) ∷ conflict 12 (version (author 0) 1 ∷ version (author 0) 3 ∷ version (author 1) 5 ∷ []) ∷ []))
+  pub refiltered : text_of (pair []) 4 (Plain (Refiltered 10 2)) ≡ codes "4 refiltered store 10 out 2\n"
+  pub narrowed : text_of (pair []) 3 (Plain (Narrowed 2)) ≡ codes "3 narrowed 2\n"
+  pub refused : text_of (pair []) 4 (Plain NotNarrower) ≡ codes "4 refused C2 NotNarrower\n"
+  pub one : text_of (pair []) 6 (Plain (Conflicts 0 (conflict 7 (version (author 0) 2 ∷ version (author 1) 1 ∷ []) ∷ []))) ≡ codes "6 conflicts a 1\n  7 a:2 b:1\n"
+  pub two : text_of (pair []) 9 (Plain (Conflicts 1 (conflict 7 (version (author 0) 2 ∷ version (author 1) 1 ∷ []) ∷ conflict 12 (version (author 0) 1 ∷ version (author 0) 3 ∷ version (author 1) 5 ∷ []) ∷ [])))
       ≡ codes "9 conflicts b 2\n  7 a:2 b:1\n  12 a:1 a:3 b:5\n"
-  pub none : text_of (pair []) 6 (Conflicts 0 []) ≡ codes "6 conflicts a 0\n"
+  pub none : text_of (pair []) 6 (Plain (Conflicts 0 [])) ≡ codes "6 conflicts a 0\n"
 
 -- two devices, neither filter of which covers the other's, make versions of one picture and pull three times
 abbrev pub two_versions : Contents

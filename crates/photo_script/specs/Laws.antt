@@ -1,8 +1,9 @@
 -- What holds of all scripts that are accepted, and of all reports.
 use Rattle.std.specs.Prelude.{◌≡◌, ℕ, List, Ok}
-use Rattle.photo_script.specs.Contents.{Contents, IsScript}
+use Rattle.fleet_model.specs.Contents.{Contents, IsScript}
 use Rattle.photo_script.specs.Reading.{script_of}
-use Rattle.photo_script.specs.Reports.{Answer, ModelReport, Tells}
+use Rattle.fleet_model.specs.Answers.{ModelReport}
+use Rattle.photo_script.specs.Reports.{Answer, Tells}
 
 -- of a model report at most one answer is the right one
 abbrev pub AnswersAreOne : Type 0

@@ -1,5 +1,4 @@
 pub mod Limits
-pub mod Contents
 pub mod Coding
 pub mod Lines
 pub mod Fields
@@ -9,7 +8,6 @@ pub mod Reading
 pub mod Steps
 pub mod Sharing
 pub mod Reports
-pub mod Runs
 pub mod Tallies
 pub mod Laws
 pub mod Examples

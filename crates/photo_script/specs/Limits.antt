@@ -9,14 +9,6 @@ max_text_bytes = 8_388_608
 abbrev pub max_line_bytes : ℕ
 max_line_bytes = 1024
 
--- devices of a script
-abbrev pub max_devices : ℕ
-max_devices = 256
-
--- commands of a script
-abbrev pub max_commands : ℕ
-max_commands = 100_000
-
 -- the number of a version in a script
 abbrev pub max_version : ℕ
 max_version = 100_000

@@ -7,8 +7,8 @@ use Rattle.photo_script.specs.Lines.{pieces_of, lines_of, fields_of}
 use Rattle.photo_filter_text.specs.Tree.{Tree}
 use Rattle.photo_script.specs.Earlier.{earlier, names_of, filters_of}
 use Rattle.photo_script.specs.Saying.{said}
-use Rattle.photo_script.specs.Contents.{Contents, contents}
-use Rattle.photo_script.specs.declared.command.Command.{Command}
+use Rattle.fleet_model.specs.Contents.{Contents, contents}
+use Rattle.fleet_model.specs.declared.command.Command.{Command}
 use Rattle.photo_script.specs.declared.fault.LineFault.{LineFault}
 use Rattle.photo_script.specs.declared.fault.ScriptFault.{ScriptFault}
 use Rattle.photo_script.specs.declared.fault.ScriptFault.TheVariants.{TooLarge, NotUtf8, Line}

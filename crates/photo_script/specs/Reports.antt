@@ -3,55 +3,40 @@ use Rattle.std.specs.Prelude.{◌≡◌, ℕ, ◌+◌, ◌<◌, Bool, true, if�
 use Rattle.std.specs.Fmt.{decimal}
 use Rattle.std.specs.List.{AllByRecursion, flat_map, join_with_byte}
 use Rattle.photo_record.specs.Showing.{record_text}
-use Rattle.photo_device.specs.Entry.{Entry}
+use Rattle.photo_model.specs.Entry.{Entry}
 use Rattle.photo_device.specs.Held.{entries_of}
 use Rattle.photo_version.specs.Author.{Author, device_of_author, epoch_of_author, author_of_word}
 use Rattle.photo_version.specs.Showing.{epoch_text}
 use Rattle.photo_version.specs.Version.{Version, Versions, version}
 use Rattle.item_knowledge.specs.Entries as knowledge
 use Rattle.item_knowledge.specs.Fragments.{Fragment, knows, is_normal}
-use Rattle.photo_device.specs.declared.conflict.Conflict.{Conflict}
-use Rattle.photo_device.specs.declared.place.Place.{Place}
-use Rattle.photo_device.specs.declared.place.Place.TheVariants as place
-use Rattle.photo_pull.specs.declared.counts.PullCounts.{PullCounts}
-use Rattle.photo_script.specs.Contents.{Contents}
+use Rattle.photo_model.specs.Conflicts.{Conflict}
+use Rattle.photo_model.specs.declared.place.Place.{Place}
+use Rattle.photo_model.specs.declared.place.Place.TheVariants as place
+use Rattle.photo_model.specs.declared.counts.PullCounts.{PullCounts}
+use Rattle.fleet_model.specs.Contents.{Contents}
+use Rattle.fleet_model.specs.Answers.{RightAnswer, Made, NotHeld, NotNarrower, Narrowed, Refiltered, Pulled, Preview, Listed, Conflicts, Knows, ModelReport, Exactly, KnowledgeIs}
 use Rattle.photo_script.specs.declared.report.Report.{Report}
 use Rattle.photo_script.specs.declared.report.Report.TheVariants as report
 
 -- the answer to a command. Knowledge is given by its fragments
 pub data Answer : Type 0 where
-  Made : Version → Place → Answer
-  NotHeld : Answer
-  NotNarrower : Answer
-  Narrowed : ℕ → Answer
-  -- how many versions are in the store and in the out then
-  Refiltered : ℕ → ℕ → Answer
-  Pulled : PullCounts → Answer
-  -- what a pull would move and tell
-  Preview : PullCounts → Answer
-  Listed : ℕ → List Entry → List Entry → Answer
-  Conflicts : ℕ → List Conflict → Answer
+  Plain : RightAnswer → Answer
   KnowledgeOf : ℕ → List Fragment → Answer
-  Knows : Bool → Answer
 
 -- the answer that a report of the program gives
 abbrev pub answer_of : Report → Answer
-answer_of (report.Made v p) = Made v p
-answer_of report.NotHeld = NotHeld
-answer_of report.NotNarrower = NotNarrower
-answer_of (report.Narrowed count) = Narrowed count
-answer_of (report.Refiltered stored waiting) = Refiltered stored waiting
-answer_of (report.Pulled counts) = Pulled counts
-answer_of (report.Preview counts) = Preview counts
-answer_of (report.Listed n store out) = Listed n (entries_of store) (entries_of out)
-answer_of (report.Conflicts n pictures) = Conflicts n pictures
+answer_of (report.Made v p) = Plain (Made v p)
+answer_of report.NotHeld = Plain NotHeld
+answer_of report.NotNarrower = Plain NotNarrower
+answer_of (report.Narrowed count) = Plain (Narrowed count)
+answer_of (report.Refiltered stored waiting) = Plain (Refiltered stored waiting)
+answer_of (report.Pulled counts) = Plain (Pulled counts)
+answer_of (report.Preview counts) = Plain (Preview counts)
+answer_of (report.Listed n store out) = Plain (Listed n (entries_of store) (entries_of out))
+answer_of (report.Conflicts n pictures) = Plain (Conflicts n pictures)
 answer_of (report.KnowledgeOf n knowledge) = KnowledgeOf n knowledge.value.known
-answer_of (report.Knows known) = Knows known
-
--- what the answer to a command has to be: one answer, or the knowledge of a device, as the test of a picture and a version
-pub data ModelReport : Type 0 where
-  Exactly : Answer → ModelReport
-  KnowledgeIs : ℕ → (ℕ → Versions) → ModelReport
+answer_of (report.Knows known) = Plain (Knows known)
 
 -- the answer gives the knowledge in normal form
 pub record TellsKnowledge (answer : Answer) (device : ℕ) (known : ℕ → Versions) : Type 0 where
@@ -62,7 +47,7 @@ pub record TellsKnowledge (answer : Answer) (device : ℕ) (known : ℕ → Vers
 
 -- the answer is the right one. There is at most one right answer
 abbrev pub Tells : Answer → ModelReport → Type 0
-Tells answer (Exactly right) = answer ≡ right
+Tells answer (Exactly right) = answer ≡ Plain right
 Tells answer (KnowledgeIs device known) = TellsKnowledge answer device known
 
 -- the version is of a device of the script
@@ -85,17 +70,17 @@ AreConflictsOfScript script pictures = AllByRecursion (IsConflictOfScript script
 
 -- each author and each device of the answer is a device of the script
 abbrev pub IsAbout : Contents → Answer → Type 0
-IsAbout script (Made v p) = IsOfScript script v
-IsAbout script NotHeld = Unit {0}
-IsAbout script NotNarrower = Unit {0}
-IsAbout script (Narrowed count) = Unit {0}
-IsAbout script (Refiltered stored waiting) = Unit {0}
-IsAbout script (Pulled counts) = Unit {0}
-IsAbout script (Preview counts) = Unit {0}
-IsAbout script (Listed n store out) = (n < length script.names) × AreOfScript script store × AreOfScript script out
-IsAbout script (Conflicts n pictures) = (n < length script.names) × AreConflictsOfScript script pictures
+IsAbout script (Plain (Made v p)) = IsOfScript script v
+IsAbout script (Plain NotHeld) = Unit {0}
+IsAbout script (Plain NotNarrower) = Unit {0}
+IsAbout script (Plain (Narrowed count)) = Unit {0}
+IsAbout script (Plain (Refiltered stored waiting)) = Unit {0}
+IsAbout script (Plain (Pulled counts)) = Unit {0}
+IsAbout script (Plain (Preview counts)) = Unit {0}
+IsAbout script (Plain (Listed n store out)) = (n < length script.names) × AreOfScript script store × AreOfScript script out
+IsAbout script (Plain (Conflicts n pictures)) = (n < length script.names) × AreConflictsOfScript script pictures
 IsAbout script (KnowledgeOf n fragments) = (n < length script.names) × AllByRecursion (IsFragmentOfScript script) fragments
-IsAbout script (Knows known) = Unit {0}
+IsAbout script (Plain (Knows known)) = Unit {0}
 
 -- the name of a device, by its place among the names
 abbrev pub name_of : Contents → ℕ → List ℕ
@@ -215,17 +200,17 @@ conflicts_text script number device pictures =
 
 -- the text of an answer to the command of that number
 unfoldable pub text_of : Contents → ℕ → Answer → List ℕ
-text_of script number (Made v where_) = made_text script number v where_
-text_of script number NotHeld = not_held_text number
-text_of script number NotNarrower = not_narrower_text number
-text_of script number (Narrowed count) = narrowed_text number count
-text_of script number (Refiltered stored waiting) = refiltered_text number stored waiting
-text_of script number (Pulled counts) = pulled_text number counts
-text_of script number (Preview counts) = preview_text number counts
-text_of script number (Listed n store out) = listed_text script number n store out
-text_of script number (Conflicts n pictures) = conflicts_text script number n pictures
+text_of script number (Plain (Made v where_)) = made_text script number v where_
+text_of script number (Plain NotHeld) = not_held_text number
+text_of script number (Plain NotNarrower) = not_narrower_text number
+text_of script number (Plain (Narrowed count)) = narrowed_text number count
+text_of script number (Plain (Refiltered stored waiting)) = refiltered_text number stored waiting
+text_of script number (Plain (Pulled counts)) = pulled_text number counts
+text_of script number (Plain (Preview counts)) = preview_text number counts
+text_of script number (Plain (Listed n store out)) = listed_text script number n store out
+text_of script number (Plain (Conflicts n pictures)) = conflicts_text script number n pictures
 text_of script number (KnowledgeOf n fragments) = knowledge_text script number n fragments
-text_of script number (Knows known) = knows_text number known
+text_of script number (Plain (Knows known)) = knows_text number known
 
 -- the texts of answers, numbered from a number on
 abbrev pub texts_from : Contents → ℕ → List Answer → List ℕ

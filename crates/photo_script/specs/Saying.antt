@@ -4,7 +4,8 @@ use Rattle.photo_record.specs.Reading.{rating_of_text, day_of_text, words_of_tex
 use Rattle.photo_record.specs.declared.record.Record.{Record}
 use Rattle.photo_record.specs.declared.record.Record.TheVariants as content
 use Rattle.photo_record.specs.declared.fault.WordFault.{WordFault}
-use Rattle.photo_script.specs.Limits.{max_line_bytes, max_devices, max_commands}
+use Rattle.fleet_model.specs.Limits.{max_devices, max_commands}
+use Rattle.photo_script.specs.Limits.{max_line_bytes}
 use Rattle.photo_filter_text.specs.Tree.{Tree}
 use Rattle.photo_filter_rules.specs.Filters.{filter_of}
 use Rattle.photo_version.specs.Author.{Author, author, author_at}
@@ -12,8 +13,8 @@ use Rattle.photo_version.specs.Version.{Version, version}
 use Rattle.photo_script.specs.Lines.{fields_of, third_field_on}
 use Rattle.photo_script.specs.Fields.{is_word, is_name, place_of, picture_of, cut_at_colon, cut_at_dot, epoch_of, version_number_of}
 use Rattle.photo_script.specs.Earlier.{Earlier, is_comment}
-use Rattle.photo_script.specs.declared.command.Command.{Command}
-use Rattle.photo_script.specs.declared.command.Command.TheVariants as command
+use Rattle.fleet_model.specs.declared.command.Command.{Command}
+use Rattle.fleet_model.specs.declared.command.Command.TheVariants as command
 use Rattle.photo_script.specs.declared.fault.LineFault.{LineFault}
 use Rattle.photo_script.specs.declared.fault.LineFault.TheVariants as fault
 

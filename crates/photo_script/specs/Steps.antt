@@ -5,9 +5,9 @@ use Rattle.std.specs.Borrow.{Bor}
 use Rattle.std.specs.BTreeSet.{contains}
 use Rattle.std.specs.List.{list_any}
 use Rattle.std.specs.Ordering.{nat_cmp}
-use Rattle.photo_script.specs.Contents.{contents}
+use Rattle.fleet_model.specs.Contents.{contents}
 use Rattle.photo_script.specs.Earlier.{Earlier, declared_by, filter_declared_by, made_by, is_command}
-use Rattle.photo_script.specs.declared.command.Command.{Command}
+use Rattle.fleet_model.specs.declared.command.Command.{Command}
 use Rattle.photo_script.specs.declared.reader.Reader.{Reader}
 use Rattle.photo_script.specs.Saying.{with_room, device_said}
 use Rattle.photo_script.specs.declared.fault.LineFault.{LineFault}

@@ -19,10 +19,11 @@ mod script;
 mod tally;
 mod word_sets;
 
-pub use command::{Command, devices_of};
+pub use command::devices_of;
 pub use fault::{LineFault, ScriptFault};
+pub use fleet_model::{Command, Tally, Totals};
 pub use limits::{MAX_COMMANDS, MAX_DEVICES, MAX_TEXT_BYTES};
 pub use reader::read_script;
 pub use report::{Report, push_report, report_text};
 pub use script::Script;
-pub use tally::{Tally, Totals, totals_of};
+pub use tally::totals_of;

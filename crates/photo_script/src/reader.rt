@@ -88,8 +88,8 @@ struct Reader {
 impl Reader {
     ghost use Rattle.std.specs.BTreeSet.{Updates};
     ghost use Rattle.std.specs.Ordering.{nat_cmp};
-    ghost use Rattle.photo_script.specs.Contents.{IsWithin, record_of};
-    ghost use Rattle.photo_script.specs.Limits.{max_commands};
+    ghost use Rattle.fleet_model.specs.Contents.{IsWithin, record_of};
+    ghost use Rattle.fleet_model.specs.Limits.{max_commands};
     ghost use Rattle.photo_script.specs.Steps.{IsFirst, Reads, TakesLast, first_said, seen, texts};
     ghost use Rattle.photo_script.specs.declared.refusal.Refusal.TheVariants.{Memory};
 

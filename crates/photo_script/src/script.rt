@@ -1,11 +1,10 @@
 // Scripts, as they are read.
 ghost use Rattle.std.specs.Prelude.{◌≡◌, ◌<◌, ◌≤◌, ◌-◌, ◌++◌, ◌∷◌, [], length, slice_get, Some, None, IfSome, OnOk, OnErr};
-ghost use Rattle.photo_script.specs.Limits.{max_devices, max_commands};
+ghost use Rattle.fleet_model.specs.Limits.{max_devices, max_commands};
 ghost use Rattle.photo_script.specs.Fields.{place_of};
 
-use crate::Command;
 use crate::names::Names;
-use crate::tally::{self, Tally};
+use crate::{Command, Tally, tally};
 use photo_filter_rules::Filter;
 use std::alloc::{AllocError, Global};
 use std::marker::Model;
@@ -19,7 +18,7 @@ pub struct Script {
 }
 
 impl Model for Script {
-    ghost use Rattle.photo_script.specs.Contents.{Contents, contents, IsScript};
+    ghost use Rattle.fleet_model.specs.Contents.{Contents, contents, IsScript};
     ghost use Rattle.photo_script.specs.Coding.{contents_code};
 
     ghost Value = { Contents };
@@ -33,8 +32,8 @@ impl Model for Script {
 
 impl Script {
     ghost use Rattle.photo_filter_rules.specs.Matching.{IsInRange};
-    ghost use Rattle.photo_script.specs.Contents.{contents, record_of, IsWithin, NamesDevices, AreInRange};
-    ghost use Rattle.photo_script.specs.Tallies.{tally_of};
+    ghost use Rattle.fleet_model.specs.Contents.{contents, record_of, IsWithin, NamesDevices, AreInRange};
+    ghost use Rattle.fleet_model.specs.Tallies.{tally_of};
 
     /// A script with no devices and no commands.
     pub(crate) fn new(alloc: Global) -> Script

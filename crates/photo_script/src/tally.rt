@@ -1,37 +1,13 @@
 // Commands by their kinds, and what the pulls of a run moved.
 ghost use Rattle.std.specs.Prelude.{◌≡◌, ◌≤◌, ◌*◌, length, map};
 ghost use Rattle.std.specs.List.{AllByRecursion, AllZip, sum_by};
-ghost use Rattle.photo_script.specs.Limits.{max_commands};
-
-use crate::{Command, Report, Script};
-
-/// How many commands of each kind a script has. A command counts also where a run refuses it.
-#[derive(Clone, Copy, Debug, PartialEq, Eq)]
-pub struct Tally {
-    /// How many commands are `new`, `edit`, `remove`, `narrow` or `refilter`.
-    pub changes: u64,
-    /// How many are `pull`.
-    pub pulls: u64,
-    /// How many are `preview`, `list`, `conflicts`, `knowledge` or `knows`.
-    pub reports: u64,
-}
-
-/// What the run of a script did: how many commands of each kind, as in [`Tally`], and what its pulls moved.
-#[derive(Clone, Copy, Debug, PartialEq, Eq)]
-pub struct Totals {
-    /// How many commands are `new`, `edit`, `remove`, `narrow` or `refilter`.
-    pub changes: u64,
-    /// How many are `pull`.
-    pub pulls: u64,
-    /// How many are `preview`, `list`, `conflicts`, `knowledge` or `knows`.
-    pub reports: u64,
-    /// How many versions the targets of all pulls took and their sources handed over, together.
-    pub moved: u64,
-}
-
+ghost use Rattle.fleet_model.specs.Limits.{max_commands};
 ghost use Rattle.photo_script.specs.Reports.{Tells, answer_of};
-ghost use Rattle.photo_script.specs.Runs.{Fleet, reports_of};
-ghost use Rattle.photo_script.specs.Tallies.{tally_of_commands, moved_by, totals_of, max_moved};
+ghost use Rattle.fleet_model.specs.Runs.{Fleet, reports_of};
+ghost use Rattle.fleet_model.specs.Tallies.{tally_of_commands, totals_of, max_moved};
+ghost use Rattle.photo_script.specs.Tallies.{moved_by};
+
+use crate::{Command, Report, Script, Tally, Totals};
 
 /// The totals of a script's run, by its reports.
 ///

@@ -2,7 +2,7 @@
 use Rattle.std.proofs.Common.{◌≡◌, ℕ, suc, ◌+◌, ◌<◌, List, [], ◌∷◌, ◌++◌, length, get_or, take, map, refl, sym, ap, ◌∙◌, add-zero, append_assoc, arith}
 use Rattle.std.proofs.lemmas.List.{take_more, length-take-le, length-map, get_or-map, append-nil}
 use Rattle.photo_script.specs.declared.report.Report.{Report}
-use Rattle.photo_script.specs.Contents.{Contents}
+use Rattle.fleet_model.specs.Contents.{Contents}
 use Rattle.photo_script.specs.Reports.{Answer, answer_of, text_of, texts_from}
 
 texts_from-append : (script : Contents) (n : ℕ) (xs ys : List Answer) → texts_from script n (xs ++ ys) ≡ texts_from script n xs ++ texts_from script (n + length xs) ys

@@ -1,10 +1,10 @@
 -- What the run of a script in memory prints.
 use Rattle.std.specs.Prelude.{◌≡◌, ℕ, List, Ok}
-use Rattle.photo_script.specs.Contents.{Contents}
+use Rattle.fleet_model.specs.Contents.{Contents}
 use Rattle.photo_script.specs.Reading.{script_of}
 use Rattle.photo_script.specs.Reports.{Answer, texts_from}
 use Rattle.fleet_steps.specs.Outcomes.{AreRight}
-use Rattle.fleet_steps.specs.Sound.{IsSoundThroughout}
+use Rattle.fleet_model.specs.Sound.{IsSoundThroughout}
 
 -- what a script's run prints: the texts of the right answers
 pub record IsOutput (script : Contents) (text : List ℕ) : Type 0 where

@@ -1,7 +1,7 @@
 //! The texts of the reports of a script in memory.
 ghost use Rattle.std.specs.Prelude.{◌≡◌, ◌≢◌, ◌⊎◌, ◌≤◌, length, map, string_bytes, Err, IfOk, IfErr};
 ghost use Rattle.std.specs.List.{AllByRecursion};
-ghost use Rattle.photo_script.specs.Limits.{max_commands};
+ghost use Rattle.fleet_model.specs.Limits.{max_commands};
 ghost use Rattle.photo_script.specs.Reading.{script_of};
 ghost use Rattle.photo_script.specs.Reports.{answer_of, texts_from, IsAbout};
 ghost use Rattle.photo_script.specs.declared.fault.ScriptFault.{ScriptFault};

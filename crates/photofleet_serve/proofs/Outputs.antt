@@ -1,14 +1,14 @@
 -- What a run in an order has written where memory was refused.
 use Rattle.std.proofs.Common.{◌≡◌, ℕ, List, take, Ok}
 use Rattle.std.specs.Prelude.{Option, Some, None, IfSome}
-use Rattle.photo_script.specs.Contents.{Contents}
+use Rattle.fleet_model.specs.Contents.{Contents}
 use Rattle.photo_script.specs.Reading.{script_of}
 use Rattle.photo_script.specs.Reports.{Answer, Tells}
-use Rattle.photo_script.specs.Runs.{run, reports_of}
+use Rattle.fleet_model.specs.Runs.{run, reports_of}
 use Rattle.photo_batcher.specs.Orders.{IsLawful}
 use Rattle.fleet_steps.specs.Outcomes.{AreRight}
-use Rattle.fleet_steps.specs.Sound.{IsSoundThroughout}
-use Rattle.fleet_steps.proofs.Zipped.{zip_take}
+use Rattle.fleet_model.specs.Sound.{IsSoundThroughout}
+use Rattle.fleet_model.proofs.Zipped.{zip_take}
 use Rattle.fleet_runner.specs.Outputs.{AppendsFirst}
 use Rattle.photofleet_serve.specs.Asked.{replay}
 use Rattle.photofleet_serve.specs.Doing.{WritesSome}

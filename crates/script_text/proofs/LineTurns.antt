@@ -4,8 +4,8 @@ use Rattle.std.specs.List.{AllByRecursion}
 use Rattle.std.proofs.lemmas.List.{append-nil, drop_more, drop_all}
 use Rattle.std.proofs.lemmas.Option.{get_or_from_slice_get, slice_get_within}
 use Rattle.photo_filter_text.specs.Tree.{Tree}
-use Rattle.photo_script.specs.Contents.{Contents}
-use Rattle.photo_script.specs.declared.command.Command.{Command}
+use Rattle.fleet_model.specs.Contents.{Contents}
+use Rattle.fleet_model.specs.declared.command.Command.{Command}
 use Rattle.script_text.specs.Texts.{line_of_command, line_of_device, lines_of_devices, text_of_lines, ended}
 use Rattle.script_text.specs.Printable.{HasValues}
 use Rattle.script_text.specs.Parts.{FitsDevice, FitDevices, FitsLine}

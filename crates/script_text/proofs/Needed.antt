@@ -10,14 +10,14 @@ use Rattle.std.proofs.lemmas.List.Concat.{flat_map-append}
 use Rattle.photo_filter_text.specs.Tree.{Tree}
 use Rattle.photo_filter_text.specs.Printed.{IsSound}
 use Rattle.photo_filter_rules.specs.Matching.{IsInRange}
-use Rattle.photo_script.specs.Contents.{Contents, contents, IsWithin, record_of}
+use Rattle.fleet_model.specs.Contents.{Contents, contents, IsWithin, record_of}
 use Rattle.photo_script.specs.Earlier.{earlier, made_by, names_of, filters_of, pictures_of}
 use Rattle.photo_script.specs.Fields.{is_name}
 use Rattle.photo_script.specs.Limits.{max_text_bytes}
 use Rattle.photo_script.specs.Lines.{lines_of, fields_of}
 use Rattle.photo_script.specs.Reading.{sayings, commands_said, script_of_commands, script_of}
 use Rattle.photo_script.specs.Saying.{said}
-use Rattle.photo_script.specs.declared.command.Command.{Command}
+use Rattle.fleet_model.specs.declared.command.Command.{Command}
 use Rattle.photo_script.specs.declared.fault.LineFault.{LineFault}
 use Rattle.photo_script.specs.declared.fault.ScriptFault.{ScriptFault}
 use Rattle.photo_script.specs.declared.fault.ScriptFault.TheVariants.{TooLarge, NotUtf8}

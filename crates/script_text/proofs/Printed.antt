@@ -6,12 +6,12 @@ use Rattle.std.proofs.lemmas.List.{append-nil}
 use Rattle.std.proofs.lemmas.List.Concat.{flat_map-append}
 use Rattle.photo_filter_text.specs.Tree.{Tree}
 use Rattle.photo_filter_rules.specs.Matching.{IsInRange}
-use Rattle.photo_script.specs.Contents.{Contents, IsWithin, record_of}
+use Rattle.fleet_model.specs.Contents.{Contents, IsWithin, record_of}
 use Rattle.photo_script.specs.Earlier.{declared_by, filter_declared_by, names_of, filters_of, commands_of}
 use Rattle.photo_script.specs.Fields.{is_name}
 use Rattle.photo_script.specs.Lines.{fields_of, third_field_on}
 use Rattle.photo_script.specs.Reading.{sayings, commands_said, script_of_commands, script_of_lines}
-use Rattle.photo_script.specs.declared.command.Command.{Command}
+use Rattle.fleet_model.specs.declared.command.Command.{Command}
 use Rattle.photo_script.proofs.Whole.{script_of-text}
 use Rattle.script_text.specs.Laws.{PrintedIsRead}
 use Rattle.script_text.specs.Texts.{line_of_command, lines_of_devices, lines_of_script, text_of_script}

@@ -15,7 +15,7 @@ use Rattle.photo_filter_text.proofs.Digits.{date-read}
 use Rattle.photo_version.specs.Author.{Author, author_at, device_of_author, epoch_of_author}
 use Rattle.photo_version.specs.Version.{Version, version}
 use Rattle.photo_version.proofs.AuthorLemmas.{parts_back}
-use Rattle.photo_script.specs.Contents.{Contents}
+use Rattle.fleet_model.specs.Contents.{Contents}
 use Rattle.photo_script.specs.Earlier.{Earlier}
 use Rattle.photo_script.specs.Limits.{max_version, max_epoch}
 use Rattle.photo_script.specs.Fields.{is_name, place_of, is_colon, is_dot, cut_at_dot}

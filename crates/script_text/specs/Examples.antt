@@ -6,10 +6,10 @@ use Rattle.photo_filter_text.specs.declared.tree.Cmp.TheVariants.{AtLeast, Equal
 use Rattle.photo_filter_text.specs.Tree.{All, Rate, Not, Keyword, Both, Either}
 use Rattle.photo_version.specs.Author.{author, author_at}
 use Rattle.photo_version.specs.Version.{version}
-use Rattle.photo_script.specs.Contents.{Contents, contents}
+use Rattle.fleet_model.specs.Contents.{Contents, contents}
 use Rattle.photo_script.specs.Reading.{script_of}
-use Rattle.photo_script.specs.declared.command.Command.{Command}
-use Rattle.photo_script.specs.declared.command.Command.TheVariants as command
+use Rattle.fleet_model.specs.declared.command.Command.{Command}
+use Rattle.fleet_model.specs.declared.command.Command.TheVariants as command
 use Rattle.photo_script.specs.declared.fault.LineFault.TheVariants as fault
 use Rattle.photo_script.specs.declared.fault.ScriptFault.TheVariants.{Line}
 use Rattle.script_text.specs.Texts.{text_of_script}

@@ -8,14 +8,14 @@ use Rattle.photo_filter_text.specs.Tree.{Tree, height}
 use Rattle.photo_filter_rules.specs.Alternatives.{is_too_wide}
 use Rattle.photo_filter_rules.specs.declared.polarity.Polarity.TheVariants.{Plain}
 use Rattle.photo_filter_rules.specs.Matching.{IsInRange}
-use Rattle.photo_script.specs.Contents.{Contents, IsScript, IsWithin, record_of}
+use Rattle.fleet_model.specs.Contents.{Contents, IsScript, IsWithin, record_of}
 use Rattle.photo_script.specs.Earlier.{Earlier}
 use Rattle.photo_script.specs.Fields.{is_name}
-use Rattle.photo_script.specs.Limits.{max_commands}
+use Rattle.fleet_model.specs.Limits.{max_commands}
 use Rattle.photo_script.specs.Reading.{script_of}
 use Rattle.photo_script.specs.Saying.{said}
-use Rattle.photo_script.specs.declared.command.Command.{Command}
-use Rattle.photo_script.specs.declared.command.Command.TheVariants as command
+use Rattle.fleet_model.specs.declared.command.Command.{Command}
+use Rattle.fleet_model.specs.declared.command.Command.TheVariants as command
 use Rattle.script_text.specs.Texts.{line_of_command, text_of_script}
 use Rattle.script_text.specs.Printable.{FitsFilter, FitsCommand, IsShort, made_in, AllDiffer, HasValues, IsPrintable, IsOfValues}
 

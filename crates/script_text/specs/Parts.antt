@@ -2,8 +2,8 @@
 use Rattle.std.specs.Prelude.{ℕ, List, [], ◌∷◌}
 use Rattle.photo_filter_text.specs.Tree.{Tree}
 use Rattle.photo_filter_rules.specs.Filters.{IsFilterOf}
-use Rattle.photo_script.specs.Contents.{Contents}
-use Rattle.photo_script.specs.declared.command.Command.{Command}
+use Rattle.fleet_model.specs.Contents.{Contents}
+use Rattle.fleet_model.specs.declared.command.Command.{Command}
 use Rattle.script_text.specs.Texts.{line_of_command, line_of_device}
 use Rattle.script_text.specs.Printable.{FitsFilter, FitsCommand, IsShort}
 

@@ -11,12 +11,12 @@ use Rattle.photo_version.specs.Version.{Version}
 use Rattle.photo_filter_text.specs.Tree.{Tree}
 use Rattle.photo_filter_text.specs.Printed.{text_of}
 use Rattle.photo_filter_rules.specs.Filters.{IsFilterOf}
-use Rattle.photo_script.specs.Contents.{Contents}
+use Rattle.fleet_model.specs.Contents.{Contents}
 use Rattle.photo_script.specs.Fields.{is_name}
 use Rattle.photo_script.specs.Limits.{max_text_bytes, max_line_bytes, max_version, max_epoch}
 use Rattle.photo_script.specs.Reports.{IsOfScript}
-use Rattle.photo_script.specs.declared.command.Command.{Command}
-use Rattle.photo_script.specs.declared.command.Command.TheVariants as command
+use Rattle.fleet_model.specs.declared.command.Command.{Command}
+use Rattle.fleet_model.specs.declared.command.Command.TheVariants as command
 use Rattle.script_text.specs.Texts.{lines_of_script, text_of_script}
 
 -- a version that a line can name: of a device of the script, and with no great number or epoch

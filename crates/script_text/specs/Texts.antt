@@ -6,11 +6,11 @@ use Rattle.photo_record.specs.declared.record.Record.{Record}
 use Rattle.photo_record.specs.declared.record.Record.TheVariants as content
 use Rattle.photo_filter_text.specs.Tree.{Tree}
 use Rattle.photo_filter_text.specs.Printed.{◌␣◌, text_of, date_text}
-use Rattle.photo_script.specs.Contents.{Contents}
+use Rattle.fleet_model.specs.Contents.{Contents}
 use Rattle.photo_record.specs.Showing.{words_text}
 use Rattle.photo_script.specs.Reports.{name_of, version_text}
-use Rattle.photo_script.specs.declared.command.Command.{Command}
-use Rattle.photo_script.specs.declared.command.Command.TheVariants as command
+use Rattle.fleet_model.specs.declared.command.Command.{Command}
+use Rattle.fleet_model.specs.declared.command.Command.TheVariants as command
 
 -- RATING DATE WORDS. No line of a script says that a picture was removed: that is not written so that it is read again
 abbrev pub record_text : Record → List ℕ

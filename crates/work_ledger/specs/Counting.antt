@@ -1,7 +1,7 @@
 -- Counting one command.
 use Rattle.std.specs.Prelude.{◌+◌, ◌-◌, ◌<◌, ◌≤◌}
-use Rattle.photo_script.specs.Limits.{max_commands}
-use Rattle.photo_script.specs.declared.tally.Tally.{Tally}
+use Rattle.fleet_model.specs.Limits.{max_commands}
+use Rattle.fleet_model.specs.declared.tally.Tally.{Tally}
 use Rattle.work_ledger.specs.declared.kind.Kind.{Kind}
 use Rattle.work_ledger.specs.declared.kind.Kind.TheVariants.{Change, Pull, Report}
 use Rattle.work_ledger.specs.Stakes.{Stake, stake, tally, totals}

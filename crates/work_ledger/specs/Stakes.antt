@@ -1,8 +1,8 @@
 -- What a share of the work stands for.
 use Rattle.std.specs.Prelude.{ℕ, ◌+◌, ◌-◌, ◌≤◌}
-use Rattle.photo_script.specs.Limits.{max_commands}
-use Rattle.photo_script.specs.declared.tally.Tally.{Tally}
-use Rattle.photo_script.specs.declared.tally.Totals.{Totals}
+use Rattle.fleet_model.specs.Limits.{max_commands}
+use Rattle.fleet_model.specs.declared.tally.Tally.{Tally}
+use Rattle.fleet_model.specs.declared.tally.Totals.{Totals}
 
 -- the parts of a share, what it may still count, and what it has counted
 pub record Stake : Type 0 where

@@ -1,5 +1,5 @@
 // Which ledgers the tokens are of.
-ghost use Rattle.photo_script.specs.declared.tally.Tally.{Tally};
+ghost use Rattle.fleet_model.specs.declared.tally.Tally.{Tally};
 ghost use Rattle.work_ledger.specs.Ledgers.{LedgerNames, all_parts};
 ghost use Rattle.work_ledger.specs.Stakes.{none_left};
 

@@ -1,6 +1,6 @@
 // What lies under the lock.
 ghost use Rattle.std.specs.Prelude.{◌≡◌, ◌+◌, ◌*◌, ◌<◌, ◌≤◌};
-ghost use Rattle.photo_script.specs.Tallies.{max_moved};
+ghost use Rattle.fleet_model.specs.Tallies.{max_moved};
 ghost use Rattle.work_ledger.specs.Ledgers.{all_parts};
 ghost use Rattle.work_ledger.specs.Stakes.{IsCountable, Within, given, kinds_of, tally};
 

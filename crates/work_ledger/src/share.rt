@@ -1,6 +1,6 @@
 // A share of the work.
 ghost use Rattle.std.specs.Prelude.{◌≡◌, ◌+◌, ◌-◌, ◌*◌, ◌<◌, ◌≤◌};
-ghost use Rattle.photo_script.specs.Tallies.{max_moved};
+ghost use Rattle.fleet_model.specs.Tallies.{max_moved};
 ghost use Rattle.work_ledger.specs.Counting.{CanCount, counted};
 ghost use Rattle.work_ledger.specs.Ledgers.{all_parts};
 ghost use Rattle.work_ledger.specs.Stakes.{AtMost, IsCountable, Stake, Within, both, given, kinds_of, less, nothing_done, plus, stake};

@@ -2,7 +2,7 @@
 ghost use Rattle.std.specs.Prelude.{◌≡◌, ◌<◌, length, IfSome};
 ghost use Rattle.std.specs.List.{AllByRecursion};
 ghost use Rattle.photo_version.specs.Author.{author};
-ghost use Rattle.photo_script.specs.Contents.{Contents};
+ghost use Rattle.fleet_model.specs.Contents.{Contents};
 ghost use Rattle.photo_script.specs.Reports.{IsAbout, IsOfScript, answer_of};
 
 use super::known::is_knowledge_told;

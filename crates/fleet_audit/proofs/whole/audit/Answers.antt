@@ -1,6 +1,6 @@
 use Rattle.std.proofs.Common.{sym, ◌∙◌, arith}
 use Rattle.photo_device.specs.Held.{entries_of}
-use Rattle.fleet_steps.specs.Sound.{is_kept}
+use Rattle.fleet_model.specs.Sound.{is_kept}
 use Rattle.fleet_audit.proofs.Shown.{kept_alike, one_fails, one_more, all_passed}
 use Rattle.fleet_audit.proofs.whole.audit.Goals as goal
 

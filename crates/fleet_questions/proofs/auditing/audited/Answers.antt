@@ -3,7 +3,7 @@ use Rattle.std.specs.List.{AllZip, list_all}
 use Rattle.photo_device.specs.declared.held.Held.{Held}
 use Rattle.photo_device.specs.Held.{entries_of}
 use Rattle.photo_device.specs.Device.{Kept, Shows}
-use Rattle.fleet_steps.specs.Sound.{is_sound, is_kept}
+use Rattle.fleet_model.specs.Sound.{is_sound, is_kept}
 use Rattle.fleet_questions.proofs.SaysYes.{says_yes}
 use Rattle.fleet_questions.proofs.auditing.audited.Goals as goal
 

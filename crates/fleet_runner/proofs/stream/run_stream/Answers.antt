@@ -2,7 +2,7 @@ use Rattle.std.proofs.Common.{List, map, sym, subst, Ok, ◌≡◌, ◌∙◌}
 use Rattle.std.specs.Prelude.{IfSome}
 use Rattle.std.specs.Arc.{arc_value}
 use Rattle.std.specs.List.{AllByRecursion}
-use Rattle.photo_script.specs.Contents.{Contents}
+use Rattle.fleet_model.specs.Contents.{Contents}
 use Rattle.photo_script.specs.Reading.{script_of}
 use Rattle.photo_script.specs.declared.report.Report.{Report}
 use Rattle.photo_script.specs.Reports.{answer_of, IsAbout}

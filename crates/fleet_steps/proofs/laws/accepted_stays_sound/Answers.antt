@@ -1,4 +1,4 @@
-use Rattle.fleet_steps.proofs.SoundRuns.{stays_sound_and_kept}
+use Rattle.fleet_model.proofs.SoundRuns.{stays_sound_and_kept}
 use Rattle.fleet_steps.proofs.laws.accepted_stays_sound.Goals as goal
 
 pub returns : goal.returns

@@ -2,7 +2,7 @@ use Rattle.std.proofs.Common.{◌≡◌, ◌++◌, get_or, ◌∙◌, ap, sym}
 use Rattle.std.specs.Option.{option_to_list}
 use Rattle.photo_device.specs.Held.{entries_of, find_version_of}
 use Rattle.photo_device.specs.Device.{Kept}
-use Rattle.photo_script.specs.Contents.{devices_of}
+use Rattle.fleet_model.specs.Contents.{devices_of}
 use Rattle.photo_script.specs.Reports.{answer_of}
 use Rattle.fleet_steps.proofs.Issued.{issued_is}
 use Rattle.fleet_steps.proofs.logging.issued.Goals as goal

@@ -2,21 +2,24 @@ use Rattle.std.proofs.Common.{◌≡◌, ◌∙◌, List, ℕ, ◌++◌, ◌≤�
 use Rattle.std.specs.Prelude.{replicate, IsPermutation}
 use Rattle.std.specs.List.{AllZip, AllByRecursion}
 use Rattle.photo_device.specs.Held.{entries_of}
-use Rattle.photo_device.specs.Device.{Kept, ModelDevice, Shows}
-use Rattle.photo_script.specs.Contents.{IsScript}
+use Rattle.photo_model.specs.Device.{ModelDevice}
+use Rattle.photo_device.specs.Device.{Kept, Shows}
+use Rattle.fleet_model.specs.Contents.{IsScript}
 use Rattle.photo_script.specs.declared.report.Report.{Report}
 use Rattle.photo_script.specs.declared.report.Report.TheVariants.{NotHeld}
 use Rattle.photo_script.specs.Reports.{Tells, answer_of}
-use Rattle.photo_script.specs.Runs.{run, reports_of}
-use Rattle.photo_script.specs.Tallies.{moved_by, max_moved}
+use Rattle.fleet_model.specs.Runs.{run, reports_of}
+use Rattle.fleet_model.specs.Tallies.{max_moved}
+use Rattle.photo_script.specs.Tallies.{moved_by}
 use Rattle.photo_batcher.specs.Related.{IsNumber}
 use Rattle.photo_batcher.proofs.Checked.{taken_more, taken_all}
-use Rattle.fleet_steps.specs.Between.{AreReady, HaveRoom, HaveRun, effect_on}
+use Rattle.fleet_model.specs.Steps.{effect_on}
+use Rattle.fleet_steps.specs.Between.{AreReady, HaveRoom, HaveRun}
 use Rattle.fleet_steps.proofs.Between.{written_back}
 use Rattle.fleet_steps.specs.Running.{RunsTo, HasRun}
 use Rattle.fleet_steps.proofs.InOrder.{runs_none, runs_more, runs_ready, runs_room, runs_all, order_number, few_in, long_slots}
 use Rattle.fleet_steps.proofs.FewMoved.{pulls_move_few, small_enough}
-use Rattle.fleet_steps.proofs.SoundRuns.{stays_sound_and_kept}
+use Rattle.fleet_model.proofs.SoundRuns.{stays_sound_and_kept}
 use Rattle.fleet_steps.proofs.ordered.run_ordered.Goals as goal
 
 pub loop-number-init : goal.loop-number-init

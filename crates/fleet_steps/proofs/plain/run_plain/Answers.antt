@@ -1,5 +1,5 @@
 use Rattle.std.proofs.Common.{◌≡◌, ◌∙◌, length, sym, subst, ap}
-use Rattle.photo_script.specs.Runs.{numbers_to}
+use Rattle.fleet_model.specs.Runs.{numbers_to}
 use Rattle.photo_batcher.specs.Orders.{IsLawful}
 use Rattle.fleet_steps.proofs.NumberOrder.{in_number_order}
 use Rattle.fleet_steps.proofs.plain.run_plain.Goals as goal

@@ -1,5 +1,5 @@
 use Rattle.std.proofs.Common.{◌≡◌, get_or, refl, sym, ◌∙◌, arith}
-use Rattle.photo_script.specs.Contents.{devices_of}
+use Rattle.fleet_model.specs.Contents.{devices_of}
 use Rattle.fleet_steps.proofs.Between.{one_shows, one_tells, one_wants}
 use Rattle.fleet_steps.proofs.Settled.{one_as_it_was, one_settled}
 use Rattle.fleet_steps.proofs.step.run_on.Goals as goal

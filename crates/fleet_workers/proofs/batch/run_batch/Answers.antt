@@ -1,8 +1,8 @@
 use Rattle.std.proofs.Common.{◌≡◌, ◌∙◌, ap, sym, subst, length, arith}
 use Rattle.std.specs.Arc.{arc_value}
 use Rattle.std.specs.List.{AllByRecursion}
-use Rattle.photo_script.specs.declared.tally.Tally.{Tally}
-use Rattle.photo_script.specs.Contents.{Contents}
+use Rattle.fleet_model.specs.declared.tally.Tally.{Tally}
+use Rattle.fleet_model.specs.Contents.{Contents}
 use Rattle.photo_batcher.specs.Related.{IsNumber}
 use Rattle.work_ledger.specs.Stakes.{Stake, Within}
 use Rattle.fleet_workers.specs.Batch.{AreApart, IsOfCommand, all_slots}

@@ -10,7 +10,7 @@ use Rattle.std.proofs.vec.Vec.TheSendSync as vec
 use Rattle.std.specs.Arc.{arc_value}
 use Rattle.work_ledger.proofs.share.Share.TheSendSync as share
 use Rattle.work_ledger.proofs.ledger.Ledger.TheSendSync as ledger
-use Rattle.photo_script.specs.Contents.{Contents}
+use Rattle.fleet_model.specs.Contents.{Contents}
 use Rattle.fleet_workers.specs.Jobs.{HasWorked, share_for}
 use Rattle.fleet_workers.proofs.Sent.{job_send, done_send, script_send, script_sync}
 use Rattle.fleet_workers.proofs.crew.spawn.Goals as goal

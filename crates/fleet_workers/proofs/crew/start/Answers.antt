@@ -1,7 +1,7 @@
 use Rattle.std.proofs.Common.{◌≡◌, ◌∙◌, ◌-◌, ap, sym, subst}
 use Rattle.std.specs.Prelude.{IfOk}
-use Rattle.photo_script.specs.Contents.{Contents}
-use Rattle.photo_script.specs.declared.tally.Tally.{Tally}
+use Rattle.fleet_model.specs.Contents.{Contents}
+use Rattle.fleet_model.specs.declared.tally.Tally.{Tally}
 use Rattle.work_ledger.specs.Stakes.{stake, less, nothing_done}
 use Rattle.fleet_workers.specs.Counting.{tally_at}
 use Rattle.fleet_workers.specs.Jobs.{AreReadyJobs, numbers_of}

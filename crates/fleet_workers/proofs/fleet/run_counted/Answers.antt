@@ -1,5 +1,5 @@
 use Rattle.std.proofs.Common.{◌∙◌, ap}
-use Rattle.photo_script.specs.Tallies.{tally_of}
+use Rattle.fleet_model.specs.Tallies.{tally_of}
 use Rattle.fleet_workers.proofs.fleet.run_counted.Goals as goal
 
 pub open-requires-clause-tally : goal.open-requires-clause-tally

@@ -1,5 +1,5 @@
 use Rattle.std.specs.Arc.{arc_value}
-use Rattle.photo_script.specs.Tallies.{tally_of}
+use Rattle.fleet_model.specs.Tallies.{tally_of}
 use Rattle.fleet_workers.proofs.fleet.run_fleet.Given as goal
 
 abbrev pub ghosts-run_counted-B-Names : goal.ghosts-run_counted-B-Names

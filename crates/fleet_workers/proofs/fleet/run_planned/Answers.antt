@@ -1,7 +1,7 @@
 use Rattle.std.proofs.Common.{[], sym, subst}
 use Rattle.std.specs.Arc.{arc_value}
-use Rattle.photo_script.specs.Contents.{Contents, IsScript}
-use Rattle.photo_script.specs.Tallies.{tally_of}
+use Rattle.fleet_model.specs.Contents.{Contents, IsScript}
+use Rattle.fleet_model.specs.Tallies.{tally_of}
 use Rattle.photo_batcher.specs.Plans.{IsPlan}
 use Rattle.work_ledger.specs.Ledgers.{all_parts}
 use Rattle.work_ledger.specs.Stakes.{stake, nothing_done}

@@ -1,7 +1,7 @@
 use Rattle.std.proofs.Common.{◌≡◌, ◌∙◌, ◌-◌, ◌≤◌, length, ap, sym, subst}
 use Rattle.std.specs.Prelude.{Some, slice_get}
 use Rattle.std.specs.Arc.{arc_value}
-use Rattle.photo_script.specs.Contents.{Contents}
+use Rattle.fleet_model.specs.Contents.{Contents}
 use Rattle.work_ledger.specs.Counting.{CanCount, counted}
 use Rattle.fleet_workers.proofs.Owned.{ready_command, numbered, within_script}
 use Rattle.fleet_workers.proofs.Workings.{command_here, job_countable, has_worked}

@@ -1,10 +1,11 @@
 use Rattle.std.proofs.Common.{sym, subst, subst₂}
 use Rattle.photo_filter_text.specs.Tree.{All}
 use Rattle.photo_version.specs.Author.{author}
-use Rattle.photo_device.specs.Device.{Kept, Shows, opening}
+use Rattle.photo_model.specs.Device.{opening}
+use Rattle.photo_device.specs.Device.{Kept, Shows}
 use Rattle.photo_pull.specs.MayPull.{MayPull}
-use Rattle.photo_script.specs.Runs.{device_at}
-use Rattle.fleet_steps.proofs.Zipped.{zip_at}
+use Rattle.fleet_model.specs.Runs.{device_at}
+use Rattle.fleet_model.proofs.Zipped.{zip_at}
 use Rattle.fleet_steps.proofs.Between.{may_pull}
 use Rattle.live_fleet.proofs.asking.preview_between.Goals as goal
 

@@ -1,9 +1,10 @@
 use Rattle.std.proofs.Common.{◌≡◌, ◌∷◌, [], ◌∙◌, ap, sym, subst, get_or}
 use Rattle.photo_filter_text.specs.Tree.{All}
 use Rattle.photo_version.specs.Author.{author}
-use Rattle.photo_device.specs.Device.{Kept, Shows, opening}
-use Rattle.photo_script.specs.Runs.{device_at}
-use Rattle.fleet_steps.proofs.Zipped.{zip_at}
+use Rattle.photo_model.specs.Device.{opening}
+use Rattle.photo_device.specs.Device.{Kept, Shows}
+use Rattle.fleet_model.specs.Runs.{device_at}
+use Rattle.fleet_model.proofs.Zipped.{zip_at}
 use Rattle.live_fleet.proofs.entry.next_on.Goals as goal
 
 pub returns : goal.returns

@@ -1,7 +1,7 @@
 use Rattle.std.proofs.Common.{◌≤◌, ◌≡◌, length, arith, ◌∙◌}
 use Rattle.std.specs.Prelude.{None}
 use Rattle.photo_device.specs.Device.{Kept}
-use Rattle.fleet_steps.proofs.About.{all_push}
+use Rattle.fleet_model.proofs.Effects.{all_push}
 use Rattle.fleet_steps.proofs.Shown.{opening_more, opening_all, opening_long}
 use Rattle.live_fleet.proofs.opening.devices_of_script.Goals as goal
 

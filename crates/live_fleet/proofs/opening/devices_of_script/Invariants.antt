@@ -1,7 +1,7 @@
 use Rattle.std.proofs.Common.{take}
 use Rattle.std.specs.List.{AllZip}
 use Rattle.photo_device.specs.Device.{Shows}
-use Rattle.photo_script.specs.Runs.{opening_from}
+use Rattle.fleet_model.specs.Runs.{opening_from}
 use Rattle.fleet_steps.specs.Between.{AreSettled}
 use Rattle.live_fleet.proofs.opening.devices_of_script.Given as goal
 

@@ -2,7 +2,7 @@ use Rattle.std.proofs.Common.{◌≡◌, length, refl}
 use Rattle.std.specs.Prelude.{Some, None, slice_get}
 use Rattle.std.proofs.lemmas.Option.{slice_get_read}
 use Rattle.photo_device.specs.Device.{Kept}
-use Rattle.fleet_steps.proofs.About.{all_push}
+use Rattle.fleet_model.proofs.Effects.{all_push}
 use Rattle.fleet_steps.proofs.Shown.{opening_more}
 use Rattle.live_fleet.proofs.opening.opening_devices.Goals as goal
 

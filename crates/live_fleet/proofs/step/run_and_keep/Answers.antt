@@ -1,9 +1,9 @@
 use Rattle.std.proofs.Common.{◌≡◌, ◌∙◌, ◌++◌, ap}
 use Rattle.std.specs.Option.{option_to_list}
-use Rattle.photo_script.specs.Contents.{devices_of}
+use Rattle.fleet_model.specs.Contents.{devices_of}
 use Rattle.photo_script.specs.Reports.{answer_of}
-use Rattle.photo_script.specs.Runs.{device_at}
-use Rattle.fleet_steps.specs.Between.{effect_on}
+use Rattle.fleet_model.specs.Runs.{device_at}
+use Rattle.fleet_model.specs.Steps.{effect_on}
 use Rattle.live_fleet.specs.Entries.{entry_if_made, if_told}
 use Rattle.live_fleet.proofs.Entries.{command_logs, logged_more}
 use Rattle.live_fleet.proofs.step.run_and_keep.Goals as goal

@@ -1,7 +1,7 @@
 use Rattle.std.proofs.Common.{◌++◌, ◌∙◌, rules}
 use Rattle.std.proofs.lemmas.List.Sorted.{IsPartitionPoint-from_clause}
 use Rattle.photo_device.specs.Held.{entries_of}
-use Rattle.photo_device.specs.Conflicts.{conflicts_in}
+use Rattle.photo_model.specs.Conflicts.{conflicts_in}
 use Rattle.photo_device.proofs.Grouping.{IsFirstRun, is_at, first_run, run_two, run_one}
 use Rattle.photo_device.proofs.conflicts.add_first.Goals as goal
 use Rattle.photo_device.proofs.conflicts.add_first.Goals.{then-run-gt1+in_ok-versions+in_ok-push, else-run-gt1}

@@ -1,6 +1,6 @@
 use Rattle.std.proofs.Common.{◌≡◌, true, ◌++◌, length}
 use Rattle.photo_device.specs.Held.{entries_of, are_in_order}
-use Rattle.photo_device.specs.Conflicts.{conflicts_in}
+use Rattle.photo_model.specs.Conflicts.{conflicts_in}
 use Rattle.photo_device.proofs.conflicts.grouped.Given as goal
 
 -- what is found, with the conflicts of what is left, is all

@@ -1,7 +1,7 @@
 use Rattle.std.proofs.Common.{◌∙◌, ap, arith}
 use Rattle.std.proofs.lemmas.Grind.{common_steps}
 use Rattle.photo_device.specs.declared.held.Held.{Held}
-use Rattle.photo_device.specs.Ordered.{put}
+use Rattle.photo_model.specs.Ordered.{put}
 use Rattle.photo_device.specs.Held.{held_before}
 use Rattle.photo_device.proofs.Taken.{none_taken, has_room, one_taken, all_put}
 use Rattle.photo_device.proofs.conflicts.joined.Goals as goal

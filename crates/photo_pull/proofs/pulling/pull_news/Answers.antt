@@ -1,7 +1,8 @@
 use Rattle.std.proofs.Common.{◌≡◌, ◌≤◌, ◌++◌, length, sym, ap, ◌∙◌, subst, arith}
 use Rattle.std.proofs.lemmas.List.{length-map}
 use Rattle.photo_device.specs.declared.held.Held.{Held}
-use Rattle.photo_device.specs.Device.{Shows, without_waiting}
+use Rattle.photo_model.specs.Device.{without_waiting}
+use Rattle.photo_device.specs.Device.{Shows}
 use Rattle.photo_device.specs.Held.{times_in, helds_at}
 use Rattle.photo_pull.specs.OnHeld.{versions, new_waiting}
 use Rattle.photo_pull.proofs.Shown.{nothing_pulled, nothing_handed, shows_handed}

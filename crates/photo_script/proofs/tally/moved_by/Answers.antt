@@ -1,6 +1,6 @@
 use Rattle.std.proofs.Common.{◌≤◌, ◌+◌, ◌*◌, arith}
-use Rattle.photo_script.specs.Limits.{max_commands}
-use Rattle.photo_script.specs.Tallies.{max_moved}
+use Rattle.fleet_model.specs.Limits.{max_commands}
+use Rattle.fleet_model.specs.Tallies.{max_moved}
 use Rattle.photo_script.proofs.Counted.{moved_so_far}
 use Rattle.photo_script.proofs.tally.moved_by.Goals as goal
 

@@ -1,5 +1,5 @@
 use Rattle.std.proofs.Common.{◌≡◌, take}
-use Rattle.photo_script.specs.Tallies.{tally_of_commands}
+use Rattle.fleet_model.specs.Tallies.{tally_of_commands}
 use Rattle.photo_script.proofs.tally.tally_of.Given as goal
 
 abbrev pub invariant-loop-command : goal.invariant-loop-command

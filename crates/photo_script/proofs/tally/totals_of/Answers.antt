@@ -1,5 +1,5 @@
 use Rattle.std.proofs.Common.{◌∙◌}
-use Rattle.photo_script.specs.Runs.{reports_of}
+use Rattle.fleet_model.specs.Runs.{reports_of}
 use Rattle.photo_script.proofs.Counted.{moved_as_all_told}
 use Rattle.photo_script.proofs.tally.totals_of.Goals as goal
 

@@ -2,7 +2,7 @@ use Rattle.std.proofs.Common.{◌≡◌, ◌++◌, map, string_bytes, sym, ap, �
 use Rattle.std.proofs.lemmas.Bool.{false≢true}
 use Rattle.std.proofs.lemmas.List.Concat.{flat_map-append}
 use Rattle.std.proofs.lemmas.Str.{IsUtf8-string_bytes}
-use Rattle.photo_script.specs.Contents.{IsScript}
+use Rattle.fleet_model.specs.Contents.{IsScript}
 use Rattle.script_text.specs.Texts.{ended, line_of_command, lines_of_devices, text_of_lines, text_of_script}
 use Rattle.script_text.proofs.Fitting.{fit-devices, fit-commands, PartsFit, whole-printable, read-whole}
 use Rattle.script_text.proofs.text.script_text.Goals as goal

@@ -1,6 +1,7 @@
 use Rattle.std.proofs.Common.{◌≡◌, ◌++◌, ◌∷◌, [], List, ℕ, length, sym, subst, rules}
 use Rattle.photo_version.specs.Author.{author}
-use Rattle.photo_device.specs.Device.{Kept, Shows, opening}
+use Rattle.photo_model.specs.Device.{opening}
+use Rattle.photo_device.specs.Device.{Kept, Shows}
 use Rattle.live_fleet.specs.Fleets.{KeptFleet, CameAbout, HasJoined}
 use Rattle.live_fleet.proofs.Joining.{came_joined, joined}
 use Rattle.live_fleet.proofs.fleet.Fleet.add.Goals as goal

@@ -1,7 +1,7 @@
 use Rattle.std.proofs.Common.{◌≡◌, ◌≤◌, ◌∙◌, ◌+◌, List, ◌++◌, length, take, drop, sym, ap, subst, refl, arith}
 use Rattle.std.specs.List.{AllZip}
 use Rattle.photo_device.specs.Device.{Kept, Shows}
-use Rattle.photo_script.specs.Contents.{IsWithin}
+use Rattle.fleet_model.specs.Contents.{IsWithin}
 use Rattle.fleet_steps.specs.Between.{AreReady, AreSettled, HaveRoom}
 use Rattle.fleet_steps.proofs.Between.{written_back}
 use Rattle.photo_pull.proofs.Wanted.{on_err}

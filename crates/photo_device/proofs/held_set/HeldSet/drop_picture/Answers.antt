@@ -1,6 +1,6 @@
 use Rattle.std.proofs.Common.{sym, ◌∙◌, eqb}
 use Rattle.photo_device.specs.declared.held.Held.{Held}
-use Rattle.photo_device.specs.Entry.{is_of_other}
+use Rattle.photo_model.specs.Entry.{is_of_other}
 use Rattle.photo_device.specs.Held.{entry_of}
 use Rattle.photo_device.proofs.Order.{in_order-filter}
 use Rattle.photo_device.proofs.Putting.{none_out}

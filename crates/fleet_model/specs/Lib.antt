@@ -1,0 +1,11 @@
+pub mod Limits
+pub mod Contents
+pub mod Answers
+pub mod Runs
+pub mod Tallies
+pub mod Members
+pub mod Ready
+pub mod Steps
+pub mod Sound
+pub mod SoundExamples
+pub mod Laws

@@ -1,0 +1,23 @@
+-- What a pull asks of two devices.
+use Rattle.std.specs.Prelude.{◌≡◌, ℕ, ◌<◌, ◌≤◌, true, false, List, length}
+use Rattle.photo_version.specs.Author.{device_of_author, is_earlier_epoch}
+use Rattle.photo_version.specs.Version.{Version, version}
+use Rattle.photo_model.specs.Entry.{Entry}
+use Rattle.photo_model.specs.Device.{ModelDevice, known, knows_entry, holds}
+use Rattle.fleet_model.specs.Runs.{device_at}
+use Rattle.fleet_model.specs.Members.{In}
+
+-- of its picture the device knows the entry's version, and all that it was made with
+pub record IsKnownTo (d : ModelDevice) (e : Entry) : Type 0 where
+  pub itself : knows_entry d e ≡ true
+  pub history : (v : Version) → e.history v ≡ true → known d e.picture v ≡ true
+
+-- each device has the number of its place, what two devices hold of one version is one entry, and what any of them
+-- knows of a device's own versions the device has counted; none knows of a later epoch of a device's; and each knows what it
+-- holds, with all that it was made with
+pub record IsReady (devices : List ModelDevice) : Type 0 where
+  pub author : (k : ℕ) → k < length devices → device_of_author (device_at devices k).author ≡ k
+  pub one : (t s : ℕ) → t < length devices → s < length devices → (e g : Entry) → In e (holds (device_at devices t)) → In g (holds (device_at devices s)) → e.version ≡ g.version → e ≡ g
+  pub own : (t s p n : ℕ) → t < length devices → s < length devices → known (device_at devices s) p (version (device_at devices t).author n) ≡ true → n ≤ (device_at devices t).counter
+  pub later : (t s p : ℕ) (v : Version) → t < length devices → s < length devices → is_earlier_epoch (device_at devices t).author v.author ≡ true → known (device_at devices s) p v ≡ false
+  pub held : (k : ℕ) → k < length devices → (e : Entry) → In e (holds (device_at devices k)) → IsKnownTo (device_at devices k) e

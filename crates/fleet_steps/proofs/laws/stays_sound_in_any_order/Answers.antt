@@ -1,5 +1,0 @@
-use Rattle.fleet_steps.proofs.SoundRuns.{stays_sound_in_any_order}
-use Rattle.fleet_steps.proofs.laws.stays_sound_in_any_order.Goals as goal
-
-pub returns : goal.returns
-returns c = stays_sound_in_any_order

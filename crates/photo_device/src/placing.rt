@@ -1,0 +1,18 @@
+// Where a device holds a new version.
+ghost use Rattle.std.specs.Prelude.{◌≡◌};
+ghost use Rattle.photo_model.specs.Device.{place_for};
+
+use crate::Place;
+use photo_filter_rules::Filter;
+use photo_record::Record;
+
+/// Where a new version of that record goes: into the store where the filter matches it.
+pub(crate) fn place_of(filter: &Filter, content: &Record) -> Place
+    ensures { result ≡ place_for filter.now content.now }
+{
+    if filter.matches(content) {
+        Place::Store
+    } else {
+        Place::Out
+    }
+}
