@@ -229,10 +229,11 @@ impl FragmentArena {
         }
     }
 
-    /// No rows any more, and nothing reserved. The largest block stays, for the rows to come.
+    /// Removes all rows; nothing is reserved then.
     pub fn clear(&mut self)
         ensures { self.new ≡ arena [] 0 0 }
     {
+        // (the largest block stays, for the rows to come)
         self.count = 0;
         blocks::clear(&mut self.blocks);
         self.reserved_words = 0;

@@ -9,9 +9,9 @@ ghost use Rattle.photofleet_serve.specs.Doing.{AppendsSome, WritesAll, WritesSom
 use crate::opener::Opener;
 use crate::refusals::refused;
 use crate::statuses::status_of;
-use crate::streams::{plan_stream, replay_stream, workers_stream};
+use crate::streams::workers_stream;
 use crate::words::{Job, Request, request_of};
-use fleet_runner::{RunError, plain_stream};
+use fleet_runner::{RunError, plain_stream, plan_stream, replay_stream};
 use std::alloc::Global;
 use std::convert::AsStr;
 use std::io::Write;

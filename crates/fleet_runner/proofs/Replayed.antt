@@ -10,8 +10,7 @@ use Rattle.fleet_steps.specs.Outcomes.{AreRight}
 use Rattle.fleet_model.specs.Sound.{IsSoundThroughout}
 use Rattle.fleet_model.proofs.Zipped.{zip_take}
 use Rattle.fleet_runner.specs.Outputs.{AppendsFirst}
-use Rattle.photofleet_serve.specs.Asked.{replay}
-use Rattle.photofleet_serve.specs.Doing.{WritesSome}
+use Rattle.fleet_runner.specs.OrderStreams.{WritesReplayFirst}
 
 -- the script that was read has run in a lawful order, and gave these answers
 pub record HasReplayed (input : Option (List ℕ)) (script : Contents) (order : List ℕ) (answers : List Answer) : Type 0 where
@@ -22,7 +21,7 @@ pub record HasReplayed (input : Option (List ℕ)) (script : Contents) (order : 
 
 -- the texts of some first reports of the whole run
 pub some_printed : (input old new : Option (List ℕ)) (script : Contents) (order : List ℕ) (answers : List Answer) → HasReplayed input script order answers
-    → AppendsFirst old new script answers → IfSome input (WritesSome old new (replay order))
+    → AppendsFirst old new script answers → IfSome input (WritesReplayFirst order old new)
 some_printed None old new script order answers h first = tt
 some_printed (Some bytes) old new script order answers h first = (
   record { script = script; read = h.read; lawful = h.lawful },

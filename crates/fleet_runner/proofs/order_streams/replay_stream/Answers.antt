@@ -3,8 +3,8 @@ use Rattle.photo_batcher.specs.Orders.{IsLawful}
 use Rattle.photo_script.specs.declared.report.Report.{Report}
 use Rattle.photo_script.specs.Reports.{answer_of}
 use Rattle.fleet_steps.specs.Outcomes.{AreRight}
-use Rattle.photofleet_serve.proofs.Outputs.{some_printed}
-use Rattle.photofleet_serve.proofs.streams.replay_stream.Goals as goal
+use Rattle.fleet_runner.proofs.Replayed.{some_printed}
+use Rattle.fleet_runner.proofs.order_streams.replay_stream.Goals as goal
 
 pub returns-clause-first : goal.returns-clause-first
 returns-clause-first g c = λ e.
