@@ -50,17 +50,6 @@ pictures_read rows k h l = ap (λ rs. get_or rs (2 * k) []) (sym h) ∙ (rows_at
 pub rows_read : (rows : List (List ℕ)) → AreRows rows → length rows ≡ 2 * length (fragments_of rows)
 rows_read rows h = ap length (sym h) ∙ rows_length (fragments_of rows)
 
--- rows are equal where their entries are
-
-same_flat : (es fs : List Entry) → pointwise (λ a b. eqb a b) (flat es) (flat fs) ≡ same_entries es fs
-same_flat [] [] = refl
-same_flat [] (f ∷ fs) = refl
-same_flat (e ∷ es) [] = refl
-same_flat (e ∷ es) (f ∷ fs) = grind (arith, nat_tests, same_flat es fs)
-
-pub same_rows : (xs ys : List ℕ) → IsRow xs → IsRow ys → pointwise (λ a b. eqb a b) xs ys ≡ same_entries (pairs xs) (pairs ys)
-same_rows xs ys h g = (λ i. pointwise (λ a b. eqb a b) (sym h i) (sym g i)) ∙ same_flat (pairs xs) (pairs ys)
-
 -- The entries of a row by their places
 
 flat_length : (es : List Entry) → length (flat es) ≡ 2 * length es
