@@ -28,10 +28,9 @@ abbrev pub is_side_within : List Fragment → List (ℕ × ℕ) → List Fragmen
 is_side_within fs xs gs ys =
     leq (entries_at fs 0) (entries_at gs 0) && list_all (λ r. leq (entries_at fs r.1) (vector_of gs ys r.0)) xs
 
--- each pair that one side denotes is known, and its star's vector is at most the star's
+-- each pair that a side denotes is known
 abbrev pub IsSideKnown : List Fragment → List Fragment → List (ℕ × ℕ) → Type 0
-IsSideKnown now gs ys =
-    (leq (entries_at gs 0) (entries_at now 0) ≡ true) × ((p : ℕ) (v : Version) → 0 < p → denotes (vector_of gs ys p) v ≡ true → knows now p v ≡ true)
+IsSideKnown now gs ys = (p : ℕ) (v : Version) → 0 < p → denotes (vector_of gs ys p) v ≡ true → knows now p v ≡ true
 
 -- each version of a vector is known of a picture
 abbrev pub IsVectorKnown : List Fragment → ℕ → List vectors.Bound → Type 0

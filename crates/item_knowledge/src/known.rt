@@ -8,7 +8,7 @@ use photo_record::PicNo;
 use photo_version::{Vector, Version};
 
 // Whether of the picture all versions of the vector are known, and a hint for a later picture. Takes no memory.
-#[tactic(auto, using(crate::proofs::KnownLemmas::bound_had))]
+#[tactic(auto, using(crate::proofs::KnownLemmas::bound_had, crate::proofs::KnownLemmas::bound_missed))]
 fn has_vector(knowledge: &Knowledge, hint: usize, picture: PicNo, vector: &Vector) -> (bool, usize)
     ensures all { result.0 ≡ true → IsVectorKnown knowledge.now.known picture vector.now }
     ensures missed { result.0 ≡ false → IsVectorKnown knowledge.now.known picture vector.now → ⊥ }
@@ -29,6 +29,7 @@ fn has_vector(knowledge: &Knowledge, hint: usize, picture: PicNo, vector: &Vecto
 }
 
 /// Whether of each picture of a table all versions of the vector beside it are known. Takes no memory.
+#[tactic(auto, using(crate::proofs::KnownLemmas::row_missed))]
 pub(crate) fn has_table(knowledge: &Knowledge, table: &[(PicNo, Vector)]) -> bool
     requires { in_order table.now ≡ true }
     ensures all { result ≡ true → IsTableKnown knowledge.now.known table.now }
