@@ -2,7 +2,7 @@
 use Rattle.std.proofs.Common.{◌≡◌, ℕ, List, take, Ok}
 use Rattle.std.specs.Prelude.{Option, Some, None, IfSome}
 use Rattle.fleet_model.specs.Contents.{Contents}
-use Rattle.photo_script.specs.Reading.{script_of}
+use Rattle.script_reader.specs.Reading.{script_of}
 use Rattle.photo_script.specs.Reports.{Answer, Tells}
 use Rattle.fleet_model.specs.Runs.{run, reports_of}
 use Rattle.photo_batcher.specs.Orders.{IsLawful}

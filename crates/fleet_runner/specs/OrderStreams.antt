@@ -2,7 +2,7 @@
 use Rattle.std.specs.Prelude.{◌≡◌, ℕ, List, Option, Ok}
 use Rattle.std.specs.Io.KnownBytes.{Appends}
 use Rattle.fleet_model.specs.Contents.{Contents}
-use Rattle.photo_script.specs.Reading.{script_of}
+use Rattle.script_reader.specs.Reading.{script_of}
 use Rattle.photo_batcher.specs.Orders.{IsLawful}
 use Rattle.photo_batcher.specs.Plans.{Planned, IsPlan}
 use Rattle.fleet_runner.specs.Outputs.{AppendsFront, WritesOutput, WritesFirst, WritesFront}

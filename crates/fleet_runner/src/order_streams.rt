@@ -1,6 +1,6 @@
 //! From a reader's bytes to the reports of a run in an order, and to the text of a plan.
 ghost use Rattle.std.specs.Prelude.{◌≡◌, ◌≢◌, ◌⊎◌, OnOk, IfErr, IfSome, Err};
-ghost use Rattle.photo_script.specs.declared.fault.ScriptFault.{ScriptFault};
+ghost use Rattle.script_reader.specs.declared.fault.ScriptFault.{ScriptFault};
 ghost use Rattle.fleet_steps.specs.declared.fault.RunError.TheVariants.{NoMemory, NoWorker, NotLawful, Script, Write};
 ghost use Rattle.fleet_runner.specs.Outputs.{IsOfPlainRun};
 ghost use Rattle.fleet_runner.specs.OrderStreams.{IsUnlawfulFor, WritesReplay, WritesReplayFirst, WritesReplayFront};

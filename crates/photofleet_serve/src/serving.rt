@@ -1,6 +1,6 @@
 //! What the program does, from the words to the exit status.
 ghost use Rattle.std.specs.Prelude.{◌≡◌, ◌⊎◌, ℕ, List, true, map, Err, OnOk, IfSome};
-ghost use Rattle.photo_script.specs.declared.fault.ScriptFault as script;
+ghost use Rattle.script_reader.specs.declared.fault.ScriptFault as script;
 ghost use Rattle.fleet_steps.specs.declared.fault.RunError.TheVariants.{Script, Write};
 ghost use Rattle.photofleet_serve.specs.Status.{is_status, status_of};
 ghost use Rattle.photofleet_serve.specs.Asked.{Work, work_of, AsksForHelp, AreRefused, Asks, OfFile};

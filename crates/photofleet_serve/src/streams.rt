@@ -1,6 +1,6 @@
 //! A run by workers, from a reader's bytes to what is printed.
 ghost use Rattle.std.specs.Prelude.{◌≡◌, ◌⊎◌, OnOk, IfErr, IfSome, Err};
-ghost use Rattle.photo_script.specs.declared.fault.ScriptFault.{ScriptFault};
+ghost use Rattle.script_reader.specs.declared.fault.ScriptFault.{ScriptFault};
 ghost use Rattle.fleet_steps.specs.declared.fault.RunError.TheVariants.{NoMemory, NoWorker, Script, Write};
 ghost use Rattle.fleet_runner.specs.Outputs.{IsOfWorkersRun};
 ghost use Rattle.photofleet_serve.specs.Asked.{run};
