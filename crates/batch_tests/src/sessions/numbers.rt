@@ -1,5 +1,5 @@
 // A script whose commands a session is given by number.
-use fleet_session::Session;
+use live_fleet::Session;
 use photo_script::{Script, read_script, report_text};
 use std::alloc::Global;
 
