@@ -1,5 +1,5 @@
 //! What holds of every fleet, of what one asks of it, and of runs that grow by commands.
-ghost use Rattle.live_fleet.specs.Examples.{EditedOnBoth, ChangedByHand, JoinsLater, ComesAboutAsTold};
+ghost use Rattle.live_fleet.specs.Examples.{EditedOnBoth, ChangedByHand, JoinsLater, ComesAboutAsTold, FaultsAreDueAsTold};
 ghost use Rattle.live_fleet.specs.Fleets.{HasSoundHistory, RunsAlongScripts, RunsGrowByCommands};
 ghost use Rattle.live_fleet.specs.Laws.{HasNumbers, HoldersKnow};
 ghost use Rattle.live_fleet.specs.QuestionExamples.{SelectsOfBoth, AsksAsTold};
@@ -46,13 +46,14 @@ pub fn holders_know(fleet: &Fleet)
 }
 
 /// The definitions at some fleets: two devices that edit one picture, a device that is given narrower filters, one that
-/// comes later, and which fleets come about; and at some devices: what a filter selects of a store and an out, which devices
-/// hold a picture and which know of it, and what a pull would move.
+/// comes later, which fleets come about, and which faults are due to a command; and at some devices: what a filter selects of
+/// a store and an out, which devices hold a picture and which know of it, and what a pull would move.
 pub fn examples()
     ensures edited { EditedOnBoth }
     ensures changed { ChangedByHand }
     ensures joins { JoinsLater }
     ensures came { ComesAboutAsTold }
+    ensures due { FaultsAreDueAsTold }
     ensures selected { SelectsOfBoth }
     ensures asked { AsksAsTold }
 {}
