@@ -14,7 +14,7 @@ use Rattle.fleet_model.specs.Answers.{Exactly, NotHeld}
 use Rattle.photo_script.specs.Reports.{Answer, Tells}
 use Rattle.fleet_model.specs.Runs.{effect, making, telling, changing}
 use Rattle.fleet_steps.specs.Issued.{picture_of, version_told}
-use Rattle.fleet_steps.proofs.Issued.{making_issued, change_not_told, narrowing_logs}
+use Rattle.fleet_steps.proofs.Issued.{making_issued, narrowing_logs}
 use Rattle.fleet_model.proofs.Effects.{changing_second, narrowing_second}
 
 abbrev IsFound : Kept → ℕ → Version → Command → ModelDevice → Type 0
