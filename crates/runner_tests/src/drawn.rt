@@ -48,10 +48,11 @@ pub fn drawn(alloc: Global, seed: u16, kinds: u32, commands: u32) -> Result<Stri
 {
     let mut lines = String::new(alloc);
     let mut chance = Chance::new(seed);
-    for i in 0..COMMANDS {
+    let count = commands.min(COMMANDS);
+    for i in 0..count {
         push_draw(&mut lines, &mut chance, kinds, i + 1)?;
     }
-    front(alloc, lines.as_str(), commands.min(COMMANDS))
+    front(alloc, lines.as_str(), count)
 }
 
 // The devices, and so many of the lines behind them.
