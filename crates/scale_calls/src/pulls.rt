@@ -15,7 +15,13 @@ use std::io;
 
 /// Makes them where the first device has so many versions.
 pub fn make(rt: HostRuntime, count: u32) -> io::Result<()> {
-    for call in [Call::Pull, Call::RunPull, Call::RunBetween, Call::RunOn] {
+    for call in [
+        Call::Ask,
+        Call::Pull,
+        Call::RunPull,
+        Call::RunBetween,
+        Call::RunOn,
+    ] {
         if let Some(mut outcome) = before(rt.alloc(), count) {
             let devices = outcome.devices.as_mut_slice();
             match call {
@@ -27,9 +33,10 @@ pub fn make(rt: HostRuntime, count: u32) -> io::Result<()> {
     Ok(())
 }
 
-/// The calls that pull.
+// The calls that pull, and those that ask before.
 #[derive(Clone, Copy)]
 enum Call {
+    Ask,
     Pull,
     RunPull,
     RunBetween,
@@ -38,6 +45,7 @@ enum Call {
 
 fn name(call: Call) -> &'static str {
     match call {
+        Call::Ask => "photo_device::Device::unknown_by",
         Call::Pull => "photo_pull::pull",
         Call::RunPull => "fleet_steps::run_pull",
         Call::RunBetween => "fleet_steps::run_between",
@@ -128,6 +136,7 @@ fn on_two(rt: HostRuntime, target: &mut Device, source: &mut Device, call: Call)
     requires { MayPull target.old source.old }
 {
     match call {
+        Call::Ask => asks(rt, target, source),
         Call::Pull => pulls(rt, target, source),
         Call::RunPull => {
             let done = run_pull(rt.alloc(), target, source).is_ok();
@@ -144,20 +153,19 @@ fn on_two(rt: HostRuntime, target: &mut Device, source: &mut Device, call: Call)
     }
 }
 
-// A preview, and then the pull, and what either device asks.
+// What the first device has that the second one doesn't know.
+fn asks(rt: HostRuntime, target: &mut Device, source: &Device) -> io::Result<()> {
+    let done = target.unknown_by(rt.alloc(), source.out()).is_ok();
+    tell(rt, name(Call::Ask), done)?;
+    let done = target.unknown_of(rt.alloc(), source.out()).is_ok();
+    tell(rt, "photo_device::Device::unknown_of", done)
+}
+
 fn pulls(rt: HostRuntime, target: &mut Device, source: &mut Device) -> io::Result<()>
     requires { MayPull target.old source.old }
 {
     let done = preview(rt.alloc(), target, source).is_ok();
     tell(rt, "photo_pull::preview", done)?;
     let done = pull(rt.alloc(), target, source).is_ok();
-    tell(rt, name(Call::Pull), done)?;
-    asks(rt, target, source)
-}
-
-fn asks(rt: HostRuntime, target: &mut Device, source: &mut Device) -> io::Result<()> {
-    let done = source.unknown_by(rt.alloc(), target.store()).is_ok();
-    tell(rt, "photo_device::Device::unknown_by", done)?;
-    let done = source.unknown_of(rt.alloc(), target.store()).is_ok();
-    tell(rt, "photo_device::Device::unknown_of", done)
+    tell(rt, name(Call::Pull), done)
 }
