@@ -155,7 +155,12 @@ fn stage_all(rt: HostRuntime, device: &mut Device) -> io::Result<()> {
     tell(rt, "photo_device::Device::stage_lent", done)?;
     let done = stages_told(rt.alloc(), device);
     tell(rt, "photo_device::Device::stage_told", done)?;
-    let done = device.author().value() == 0 && stages(rt.alloc(), device, gain);
+    let done = if device.author().value() == 0 {
+        stages(rt.alloc(), device, gain)
+    } else {
+        drop(gain);
+        false
+    };
     tell(rt, "photo_device::Device::stage", done)
 }
 

@@ -125,9 +125,17 @@ fn pulls_on(alloc: Global, devices: &mut [Device]) -> bool
 fn make_between(rt: HostRuntime, devices: &mut [Device], call: Call) -> io::Result<()>
     requires ready { AreReady devices.old }
 {
-    if devices.len() != 2 {
-        return Ok(());
+    if devices.len() == 2 {
+        between(rt, devices, call)
+    } else {
+        Ok(())
     }
+}
+
+fn between(rt: HostRuntime, devices: &mut [Device], call: Call) -> io::Result<()>
+    requires two { length devices.old ≡ 2 }
+    requires ready { AreReady devices.old }
+{
     let (front, back) = devices.split_at_mut(1);
     on_two(rt, &mut back[0], &mut front[0], call)
 }

@@ -23,14 +23,11 @@ pub fn make(rt: HostRuntime, count: u32) -> io::Result<()> {
 
 // A call whose values are no larger than those that memory is refused on.
 fn small(rt: HostRuntime, library: &str, call: &str) -> io::Result<()> {
-    let is_answered = match verdict_on(rt.alloc(), library, call) {
-        Some(Verdict::Answered) => true,
-        _ => false,
+    let word = match verdict_on(rt.alloc(), library, call) {
+        Some(Verdict::Answered) => "answered",
+        _ => "refused",
     };
-    println!(rt;
-        "{library}::{call}: {}",
-        if is_answered { "answered" } else { "refused" }
-    )
+    println!(rt; "{library}::{call}: {word}")
 }
 
 fn numbers(alloc: Global, count: u32) -> Result<BlockList<u32>, AllocError> {

@@ -1,6 +1,6 @@
 use Rattle.std.proofs.Common.{arith}
 use Rattle.fleet_steps.proofs.Between.{may_pull_ahead}
-use Rattle.scale_calls.proofs.pulls.make_between.Goals as goal
+use Rattle.scale_calls.proofs.pulls.between.Goals as goal
 
 pub on_two-requires : goal.on_two-requires
 on_two-requires c =
