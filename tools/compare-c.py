@@ -3,9 +3,10 @@
 
     tools/compare-c.py LIBRARY PROGRAM EXAMPLES
 
-The scripts are the examples, a script of the greatest size and one a byte larger, and 10,000 drawn ones of up to 40 commands,
+The scripts are the examples, a script of the greatest size and one a byte larger, and 10,000 drawn ones of up to 80 commands,
 of which every fifth is given a line with a fault, a further byte or declarations above the limit. Among what is told of these
-have to be each report, each answer and each fault of a text. The last line is 'N passed, M failed'.
+have to be each report, each answer and each fault of a text, and a tenth each of the pulls has to take, be handed, notice, drop
+and learn something. The last line is 'N passed, M failed'.
 """
 import ctypes
 import glob
@@ -14,7 +15,7 @@ import re
 import subprocess
 import sys
 
-from drawn_scripts import drawn
+from drawn_scripts import Pulls, drawn
 
 LIBRARY, PROGRAM, EXAMPLES = ctypes.CDLL(sys.argv[1]), sys.argv[2], sys.argv[3]
 LIBRARY.photofleet_plain.argtypes = [ctypes.c_char_p, ctypes.c_size_t, ctypes.c_char_p, ctypes.c_size_t, ctypes.POINTER(ctypes.c_size_t)]
@@ -74,10 +75,11 @@ large = greatest()
 tell("a script of 8,388,608 bytes", len(large) == LIMIT and called(large) == run(large) and called(large)[0] == 0)
 tell("a byte more", called(large + b"x") == run(large + b"x") == (3, b"script fault: F2 TooLarge\n"))
 
-scripts, told, refused, others = 0, set(), {}, 0
+told, refused, others, pulls = set(), {}, 0, Pulls()
 for seed in range(SCRIPTS):
     script = drawn(random.Random(seed))
     status, text = answer = called(script)
+    pulls.add(text)
     if answer != run(script):
         others += 1
         print(f"the drawn script {seed}: {script!r}", flush=True)
@@ -88,6 +90,8 @@ for seed in range(SCRIPTS):
         refused[fault] = refused.get(fault, 0) + 1
 print(f"{SCRIPTS:,} drawn scripts, {sum(refused.values()):,} of them refused: "
       + ", ".join(f"{refused[fault]} by {fault}" for fault in sorted(refused, key=lambda fault: int(fault[1:]))))
+print(pulls)
+tell("the counts of these pulls", pulls.is_varied())
 tell(f"{others} drawn scripts", others == 0)
 tell(f"reports and answers of drawn scripts ({', '.join(TOLD ^ told)})", told == TOLD)
 tell(f"faults of drawn scripts ({', '.join(REFUSED ^ set(refused))})", set(refused) == REFUSED)
