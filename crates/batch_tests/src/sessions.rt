@@ -4,8 +4,7 @@ mod numbers;
 mod working;
 
 use asking::{Question, copies, has_conflict, is_asked, lists, moves, selects};
-use fleet_questions::audited;
-use fleet_session::{FleetFault, Session};
+use live_fleet::{FleetFault, Session, audited};
 use photo_device::Place;
 use photo_filter_rules::Filter;
 use photo_filter_text::read;

@@ -34,9 +34,9 @@ fn of_library(alloc: Global, library: &str, call: &str) -> Option<Verdict> {
     match library {
         "fleet_runner" => streams::verdict(alloc, call),
         "fleet_steps" => runs::verdict(alloc, call),
-        "live_fleet" => fleets::verdict(alloc, call),
-        "fleet_questions" => questions::verdict(alloc, call),
-        "fleet_session" => sessions::verdict(alloc, call),
+        "live_fleet" if call.starts_with("Fleet::") => fleets::verdict(alloc, call),
+        "live_fleet" if call.starts_with("Session::") => sessions::verdict(alloc, call),
+        "live_fleet" => questions::verdict(alloc, call),
         _ => of_scripts(alloc, library, call),
     }
 }

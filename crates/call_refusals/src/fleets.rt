@@ -1,4 +1,4 @@
-//! The calls of `live_fleet`.
+//! The calls of `Fleet` of `live_fleet`.
 ghost use Rattle.std.specs.Prelude.{◌≡◌, ◌<◌, ◌≤◌, length, IfSome};
 
 use crate::devices::same_devices;
@@ -13,7 +13,7 @@ use photo_version::Version;
 use std::alloc::{AllocError, Global};
 use value_refusals::{Verdict, filter_of, judged, mark, rated};
 
-/// What came of a call of `live_fleet` that needs no script.
+/// What came of a call of `Fleet` that needs no script.
 pub fn verdict(alloc: Global, call: &str) -> Option<Verdict> {
     match call {
         "Fleet::new" => new(alloc),

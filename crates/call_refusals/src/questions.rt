@@ -1,15 +1,14 @@
-//! The calls of `fleet_questions`.
+//! The calls of `live_fleet` that ask.
 use crate::devices::finds_conflicts;
 use crate::fleets::{Start, begun, same_fleet};
-use fleet_questions::{audited, holding, knowing, lacking, pull_moves, selected};
-use live_fleet::Fleet;
+use live_fleet::{Fleet, audited, holding, knowing, lacking, pull_moves, selected};
 use photo_device::Device;
 use photo_filter_rules::Filter;
 use photo_record::PicNo;
 use std::alloc::{AllocError, Global};
 use value_refusals::{Verdict, filter_of, judged, mark};
 
-/// What came of a call of `fleet_questions`, or of `Device::conflicts`, on two devices, the first of which holds two versions of
+/// What came of a call that asks a fleet, or of `Device::conflicts`, on two devices, the first of which holds two versions of
 /// picture 7 and the second one of them.
 pub fn verdict(alloc: Global, call: &str) -> Option<Verdict> {
     let made = begun(alloc, Start::Divided);

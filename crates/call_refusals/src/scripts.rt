@@ -48,8 +48,10 @@ fn verdict_on(alloc: Global, script: &Script, library: &str, call: &str) -> Opti
 
 fn of_fleets(alloc: Global, script: &Script, library: &str, call: &str) -> Option<Option<bool>> {
     match library {
+        "live_fleet" if call.starts_with("Session::") => {
+            sessions::calls_on_script(alloc, script, call)
+        }
         "live_fleet" => fleets::calls_on_script(alloc, script, call),
-        "fleet_session" => sessions::calls_on_script(alloc, script, call),
         "fleet_runner" => streams::calls_on_script(alloc, script, call),
         _ => None,
     }

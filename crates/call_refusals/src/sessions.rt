@@ -1,14 +1,14 @@
-//! The calls of `fleet_session`.
+//! The calls of `Session` of `live_fleet`.
 use crate::fleets::{same_fleet, two_filters};
 use crate::scripts::script_of;
-use fleet_session::{FleetFault, Session};
+use live_fleet::{FleetFault, Session};
 use photo_filter_rules::Filter;
 use photo_record::{PicNo, Record};
 use photo_script::{Command, Script};
 use std::alloc::Global;
 use value_refusals::{Verdict, filter_of, judged, mark, rated};
 
-/// What came of a call of `fleet_session` that needs no script.
+/// What came of a call of `Session` that needs no script.
 pub fn verdict(alloc: Global, call: &str) -> Option<Verdict> {
     match call {
         "Session::new" => new(alloc),

@@ -5,3 +5,4 @@ pub mod Streams
 pub mod Outputs
 pub mod WorkedExamples
 pub mod PlanLines
+pub mod Replayed

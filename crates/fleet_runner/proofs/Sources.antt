@@ -2,11 +2,11 @@
 use Rattle.std.proofs.Common.{◌≡◌, ◌≢◌, ◌⊎◌, ◌<◌, ℕ, List, length, Err, inl, inr, sym, ap, ◌∙◌}
 use Rattle.std.specs.Prelude.{Option, IfSome}
 use Rattle.std.proofs.lemmas.Option.{IfSome_then}
-use Rattle.photo_script.specs.Limits.{max_text_bytes}
-use Rattle.photo_script.specs.Reading.{script_of}
-use Rattle.photo_script.specs.declared.fault.ScriptFault.{ScriptFault}
-use Rattle.photo_script.specs.declared.fault.ScriptFault.TheVariants.{Read, NoMemory, TooLarge}
-use Rattle.photo_script.proofs.Whole.{script_of-large}
+use Rattle.script_reader.specs.Limits.{max_text_bytes}
+use Rattle.script_reader.specs.Reading.{script_of}
+use Rattle.script_reader.specs.declared.fault.ScriptFault.{ScriptFault}
+use Rattle.script_reader.specs.declared.fault.ScriptFault.TheVariants.{Read, NoMemory, TooLarge}
+use Rattle.script_reader.proofs.Whole.{script_of-large}
 
 pub refused-source : (known : Option (List ℕ)) (fault : ScriptFault) → (fault ≡ Read) ⊎ ((fault ≡ NoMemory) ⊎ (fault ≡ TooLarge)) → (fault ≡ TooLarge → IfSome known (λ input. max_text_bytes < length input))
     → fault ≢ Read → fault ≢ NoMemory → IfSome known (λ input. script_of input ≡ Err fault)

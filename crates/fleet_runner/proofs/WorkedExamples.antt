@@ -9,7 +9,7 @@ use Rattle.item_knowledge.specs.Fragments.{Fragment}
 use Rattle.photo_device.proofs.OwnLemmas.{one_more, none_up_to, up_to_one}
 use Rattle.photo_script.specs.Laws.{AnswersAreOne}
 use Rattle.fleet_model.specs.Contents.{Contents}
-use Rattle.photo_script.specs.Reading.{script_of}
+use Rattle.script_reader.specs.Reading.{script_of}
 use Rattle.fleet_model.specs.Answers.{ModelReport, Exactly, KnowledgeIs}
 use Rattle.photo_script.specs.Reports.{Answer, KnowledgeOf, text_of}
 use Rattle.fleet_model.specs.Runs.{run, reports_of}

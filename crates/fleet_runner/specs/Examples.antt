@@ -8,7 +8,7 @@ use Rattle.photo_version.specs.Author.{author, author_at}
 use Rattle.photo_version.specs.Version.{version}
 use Rattle.fleet_model.specs.declared.command.Command.TheVariants as command
 use Rattle.fleet_model.specs.Contents.{Contents, contents}
-use Rattle.photo_script.specs.Reading.{script_of}
+use Rattle.script_reader.specs.Reading.{script_of}
 use Rattle.fleet_model.specs.Runs.{run}
 use Rattle.fleet_model.specs.Tallies.{totals_of}
 use Rattle.photo_script.specs.Examples.{totals}

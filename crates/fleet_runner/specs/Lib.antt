@@ -1,4 +1,5 @@
 pub mod Outputs
 pub mod PlanTexts
+pub mod OrderStreams
 pub mod Laws
 pub mod Examples

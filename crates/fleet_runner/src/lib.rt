@@ -3,6 +3,7 @@
 #![tactic(auto)]
 
 pub mod laws;
+mod order_streams;
 mod plans;
 mod reports;
 mod source;
@@ -14,6 +15,7 @@ pub use fleet_steps::{
 };
 pub use fleet_workers::{Gate, OpenGate, Workers, run_fleet};
 pub use live_fleet::Fleet;
+pub use order_streams::{plan_stream, replay_stream};
 pub use plans::write_plan;
 pub use reports::write_reports;
 pub use source::read_source;

@@ -1,8 +1,8 @@
 //! The reading of a script from a source.
 ghost use Rattle.std.specs.Prelude.{◌≡◌, ◌≢◌, ◌⊎◌, ◌+◌, ◌<◌, length, Ok, Err, IfOk, IfErr, IfSome};
-ghost use Rattle.photo_script.specs.Limits.{max_text_bytes};
-ghost use Rattle.photo_script.specs.Reading.{script_of};
-ghost use Rattle.photo_script.specs.declared.fault.ScriptFault.TheVariants.{Read, NoMemory, TooLarge};
+ghost use Rattle.script_reader.specs.Limits.{max_text_bytes};
+ghost use Rattle.script_reader.specs.Reading.{script_of};
+ghost use Rattle.script_reader.specs.declared.fault.ScriptFault.TheVariants.{Read, NoMemory, TooLarge};
 ghost use Rattle.fleet_runner.specs.Outputs.{TakesAtMost};
 
 use photo_script::{MAX_TEXT_BYTES, Script, ScriptFault, read_script};

@@ -1,9 +1,9 @@
 //! From a reader's bytes to the bytes of the reports, on one thread or by workers.
 ghost use Rattle.std.specs.Prelude.{◌≡◌, ◌≢◌, ◌+◌, OnOk, IfOk, IfErr, IfSome, Ok, Err};
-ghost use Rattle.photo_script.specs.Limits.{max_text_bytes};
-ghost use Rattle.photo_script.specs.Reading.{script_of};
-ghost use Rattle.photo_script.specs.declared.fault.ScriptFault.{ScriptFault};
-ghost use Rattle.photo_script.specs.declared.fault.ScriptFault.TheVariants as script;
+ghost use Rattle.script_reader.specs.Limits.{max_text_bytes};
+ghost use Rattle.script_reader.specs.Reading.{script_of};
+ghost use Rattle.script_reader.specs.declared.fault.ScriptFault.{ScriptFault};
+ghost use Rattle.script_reader.specs.declared.fault.ScriptFault.TheVariants as script;
 ghost use Rattle.fleet_steps.specs.Laws.{AcceptedStaysSound};
 ghost use Rattle.fleet_steps.specs.declared.fault.RunError.TheVariants.{NoMemory, NoWorker, Script, Write};
 ghost use Rattle.fleet_runner.specs.Outputs.{IsOfReading, IsOfPlainRun, IsOfWorkersRun, TakesAtMost, WritesOutput};

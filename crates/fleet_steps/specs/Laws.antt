@@ -5,7 +5,7 @@ use Rattle.photo_filter_text.specs.Tree.{Tree}
 use Rattle.photo_device.specs.Device.{Kept, Shows}
 use Rattle.fleet_model.specs.Limits.{max_commands}
 use Rattle.fleet_model.specs.Contents.{Contents, IsWithin, IsScript}
-use Rattle.photo_script.specs.Reading.{script_of}
+use Rattle.script_reader.specs.Reading.{script_of}
 use Rattle.photo_script.specs.Reports.{Answer, Tells}
 use Rattle.fleet_model.specs.declared.command.Command.{Command}
 use Rattle.fleet_model.specs.Runs.{opening_from, run_in_order, numbers_to}

@@ -20,12 +20,12 @@ use Rattle.photo_device.proofs.held.Held.TheSendSync as held
 use Rattle.photo_device.proofs.held_set.HeldSet.TheSendSync as held_set
 use Rattle.photo_device.proofs.prepared.Prepared.TheSendSync as prepared
 use Rattle.photo_script.proofs.report.Report.TheSendSync as report
-use Rattle.photo_script.proofs.names.Names.TheSendSync as names
+use Rattle.script_reader.proofs.names.Names.TheSendSync as names
 use Rattle.photo_filter_text.specs.contracts.tree.FilterTree as tree
 use Rattle.photo_filter_rules.specs.contracts.filter.Filter as filter_
 use Rattle.photo_device.specs.contracts.device.Device as device
 use Rattle.fleet_model.specs.contracts.command.Command as command
-use Rattle.photo_script.specs.contracts.script.Script as script
+use Rattle.script_reader.specs.contracts.script.Script as script
 use Rattle.fleet_workers.specs.contracts.parcel.Parcel as parcel
 use Rattle.fleet_workers.specs.contracts.work.Job as job
 use Rattle.fleet_workers.specs.contracts.work.Done as done

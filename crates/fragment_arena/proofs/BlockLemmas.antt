@@ -1,7 +1,7 @@
 -- The rows of an arena are those of its blocks, one block behind the other.
 use Rattle.std.proofs.Common.{◌≡◌, ℕ, zero, suc, ◌+◌, ◌-◌, ◌<◌, ◌≤◌, List, [], ◌∷◌, ◌++◌, length, take, drop, get_or, set, refl, sym, ap, subst, ◌∙◌, arith, append_assoc, append-nil, length-append, length-set}
 use Rattle.std.proofs.Math.ListN.{get_or-append}
-use Rattle.std.proofs.Math.Seq.{get_or-append-add, get_or-append_seam, set-append_left, take-append-le, drop-append-le, drop-append-add, take-suc, take_all}
+use Rattle.std.proofs.Math.Seq.{get_or-append-add, get_or-append_seam, take-append-le, drop-append-le, drop-append-add, take-suc, take_all}
 use Rattle.std.proofs.lemmas.List.{length-drop, get_or-set_same}
 use Rattle.fragment_arena.specs.Arena.{run}
 use Rattle.fragment_arena.specs.Rows.{Rows, no_block, block_at, last_block, rows_of, before, IsIn, IsStretch, IsArena}
@@ -76,24 +76,6 @@ at-place (b ∷ bs) (suc k) row lt inside =
 pub row-in : (blocks : List Rows) (place block row : ℕ) → IsIn blocks place block row → get_or (rows_of blocks) place [] ≡ get_or (block_at blocks block).rows row []
 row-in blocks place block row is = ap (λ n. get_or (rows_of blocks) n []) (sym is.counted) ∙ at-place blocks block row is.block_is_there is.row_is_there
 
-set-append-add : (xs ys : List (List ℕ)) (n : ℕ) (y : List ℕ) → set (xs ++ ys) (length xs + n) y ≡ xs ++ set ys n y
-set-append-add [] ys n y = let first : 0 + n ≡ n = omega arith in ap (λ k. set ys k y) first
-set-append-add (x ∷ xs) ys n y = let place : length (x ∷ xs) + n ≡ suc (length xs + n) = omega arith in ap (λ k. set (x ∷ xs ++ ys) k y) place ∙ ap (λ rows. x ∷ rows) (set-append-add xs ys n y)
-
-set-place : (blocks : List Rows) (k row : ℕ) (b : Rows) (new : List ℕ) → k < length blocks → row < length (block_at blocks k).rows → b.rows ≡ set (block_at blocks k).rows row new
-    → rows_of (set blocks k b) ≡ set (rows_of blocks) (before blocks k + row) new
-set-place [] k row b new lt inside is = absurd (omega (arith, lt))
-set-place (x ∷ xs) zero row b new lt inside is =
-    let first : row ≡ 0 + row = omega arith in
-    ap (λ rows. rows ++ rows_of xs) is ∙ sym (set-append_left x.rows (rows_of xs) row new inside) ∙ ap (λ n. set (x.rows ++ rows_of xs) n new) first
-set-place (x ∷ xs) (suc k) row b new lt inside is =
-    let place : length x.rows + (before xs k + row) ≡ length x.rows + before xs k + row = omega arith in
-    ap (λ rows. x.rows ++ rows) (set-place xs k row b new (omega (arith, lt)) inside is) ∙ sym (set-append-add x.rows (rows_of xs) (before xs k + row) new)
-    ∙ ap (λ n. set (x.rows ++ rows_of xs) n new) place
-
-pub row-set : (blocks : List Rows) (place block row : ℕ) (b : Rows) (new : List ℕ) → IsIn blocks place block row → b.rows ≡ set (block_at blocks block).rows row new → rows_of (set blocks block b) ≡ set (rows_of blocks) place new
-row-set blocks place block row b new is changed = set-place blocks block row b new is.block_is_there is.row_is_there changed ∙ ap (λ n. set (rows_of blocks) n new) is.counted
-
 -- a run of rows of one block
 
 run-left : (xs ys : List (List ℕ)) (from len : ℕ) → from + len ≤ length xs → take len (drop from (xs ++ ys)) ≡ take len (drop from xs)
@@ -144,29 +126,6 @@ arena-more blocks count words slots k taken_words taken_slots b more a last new 
       words_are_there = omega (arith, ap (λ x. x.room) is, ap (λ x. x.room) was, room, enough_words, a.words_are_there);
       rows_are_there = omega (arith, ap (λ x. x.slots) is, ap (λ x. x.slots) was, free, enough_slots, a.rows_are_there);
       few = omega (arith, a.few, enough_slots);
-    }
-
--- what holds of an arena when a word is written over
-
-same-at : {A : Type 0} (f : Rows → A) (blocks : List Rows) (k j : ℕ) (b : Rows) → f b ≡ f (block_at blocks k) → f (block_at (set blocks k b) j) ≡ f (block_at blocks j)
-same-at f [] k j b same = refl
-same-at f (x ∷ xs) zero zero b same = same
-same-at f (x ∷ xs) zero (suc j) b same = refl
-same-at f (x ∷ xs) (suc k) zero b same = refl
-same-at f (x ∷ xs) (suc k) (suc j) b same = same-at f xs k j b same
-
-pub arena-put : (blocks : List Rows) (count words slots place k row : ℕ) (b : Rows) (new : List ℕ) → IsArena blocks count words slots → IsIn blocks place k row → b.rows ≡ set (block_at blocks k).rows row new
-    → b.room ≡ (block_at blocks k).room → b.slots ≡ (block_at blocks k).slots → IsArena (set blocks k b) count words slots
-arena-put blocks count words slots place k row b new a is changed room free =
-    let all = ap length (row-set blocks place k row b new is changed) ∙ length-set (rows_of blocks) place new in
-    let last = ap (λ n. block_at (set blocks k b) (n - 1)) (length-set blocks k b) in
-    let rooms = ap (λ x. x.room) last ∙ same-at (λ x. x.room) blocks k (length blocks - 1) b room in
-    let frees = ap (λ x. x.slots) last ∙ same-at (λ x. x.slots) blocks k (length blocks - 1) b free in
-    record {
-      counted = a.counted ∙ sym all;
-      words_are_there = omega (arith, rooms, a.words_are_there);
-      rows_are_there = omega (arith, frees, a.rows_are_there);
-      few = a.few;
     }
 
 pub is-in : (blocks others : List Rows) (place other block row : ℕ) → blocks ≡ others → place ≡ other → IsIn blocks place block row → IsIn others other block row

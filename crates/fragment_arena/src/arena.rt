@@ -33,7 +33,7 @@ impl Model for FragmentArena {
 
 impl FragmentArena {
     ghost use Rattle.std.specs.Prelude.{◌≡◌, ◌+◌, ◌-◌, ◌^◌, ◌<◌, ◌≤◌, ◌&&◌, nat_le, nat_lt, [], ◌∷◌, ◌++◌};
-    ghost use Rattle.std.specs.Prelude.{ℕ, max, length, get_or, set, IfOk, IfSome, OnOk, OnErr};
+    ghost use Rattle.std.specs.Prelude.{ℕ, max, length, get_or, IfOk, IfSome, OnOk, OnErr};
     ghost use Rattle.fragment_arena.specs.Arena.{arena, run, words_in};
 
     /// No rows, and nothing reserved. Takes no memory.
@@ -186,18 +186,6 @@ impl FragmentArena {
         self.blocks[block].row(row)
     }
 
-    /// Writes a word of a row in place of the one that is there. Takes no memory.
-    pub fn put(&mut self, row: Row, i: usize, word: u64)
-        requires row { row < length self.old.rows }
-        requires inside { i < length (get_or self.old.rows row []) }
-        ensures { self.new
-            ≡ arena (set self.old.rows row (set (get_or self.old.rows row []) i word)) self.old.reserved_words
-            self.old.reserved_rows }
-    {
-        let (block, row) = blocks::find(&self.blocks, row.place());
-        self.blocks[block].put(row, i, word);
-    }
-
     /// The number of rows.
     pub fn rows(&self) -> usize
         ensures value { result ≡ length self.now.rows }
@@ -229,10 +217,11 @@ impl FragmentArena {
         }
     }
 
-    /// No rows any more, and nothing reserved. The largest block stays, for the rows to come.
+    /// Removes all rows; nothing is reserved then.
     pub fn clear(&mut self)
         ensures { self.new ≡ arena [] 0 0 }
     {
+        // (the largest block stays, for the rows to come)
         self.count = 0;
         blocks::clear(&mut self.blocks);
         self.reserved_words = 0;

@@ -27,7 +27,7 @@ impl Model for RowBlock {
 }
 
 impl RowBlock {
-    ghost use Rattle.std.specs.Prelude.{◌≡◌, ◌+◌, ◌-◌, ◌^◌, ◌<◌, ◌≤◌, [], ◌∷◌, ◌++◌, length, take, get_or, set};
+    ghost use Rattle.std.specs.Prelude.{◌≡◌, ◌+◌, ◌-◌, ◌^◌, ◌<◌, ◌≤◌, [], ◌∷◌, ◌++◌, length, take, get_or};
     ghost use Rattle.std.specs.Prelude.{IfOk, OnOk, OnErr};
     ghost use Rattle.fragment_arena.specs.Arena.{run, words_in};
 
@@ -134,20 +134,6 @@ impl RowBlock {
         let from = self.begin(row);
         let end = self.ends[row] as usize;
         self.words.slice(from, end - from)
-    }
-
-    /// Writes a word of a row in place of the one that is there. Takes no memory.
-    pub(crate) fn put(&mut self, row: usize, i: usize, word: u64)
-        requires row { row < length self.old.rows }
-        requires inside { i < length (get_or self.old.rows row []) }
-        ensures rows { self.new.rows ≡ set self.old.rows row (set (get_or self.old.rows row []) i word) }
-        ensures room { self.new.room ≡ self.old.room }
-        ensures slots { self.new.slots ≡ self.old.slots }
-    {
-        let from = self.begin(row);
-        // For its fact alone: how many words the block has.
-        let _len = self.words.len();
-        self.words.set(from + i, word);
     }
 
     /// A block with equal rows, and no room for words behind them. Its only error is want of memory.

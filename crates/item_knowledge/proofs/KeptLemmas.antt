@@ -1,5 +1,5 @@
 -- What is kept denotes what is known.
-use Rattle.std.proofs.Common.{◌≡◌, ℕ, ◌+◌, ◌<◌, Bool, true, leb, ltb, max, cond, ◌||◌, ◌↔◌, List, [], ◌∷◌, length, refl, sym, subst, ap, ◌∙◌, arith}
+use Rattle.std.proofs.Common.{◌≡◌, ℕ, ◌+◌, ◌<◌, Bool, true, false, leb, ltb, max, cond, ◌||◌, ◌↔◌, List, [], ◌∷◌, length, refl, sym, subst, ap, ◌∙◌, arith}
 use Rattle.std.specs.List.{list_all}
 use Rattle.std.proofs.Math.Bool.{or-true, or_comm}
 use Rattle.std.proofs.lemmas.Bool.{and_parts, and_from, false≢true}
@@ -8,11 +8,11 @@ use Rattle.photo_version.specs.Author.{Author, same_author, author_word}
 use Rattle.photo_version.specs.Version.{Version, same_version}
 use Rattle.item_knowledge.specs.Tables.{keys_pass, in_order, at}
 use Rattle.item_knowledge.specs.Entries.{Entry, denotes, is_vector, bound, leq}
-use Rattle.item_knowledge.specs.Fragments.{Fragment, knows, is_normal, entries_at}
+use Rattle.item_knowledge.specs.Fragments.{Fragment, knows, IsWithin, is_normal, entries_at}
 use Rattle.item_knowledge.specs.Rows.{fragments_of}
 use Rattle.item_knowledge.specs.Gathering.{vector_of, IsSide, IsUnion}
 use Rattle.item_knowledge.specs.Spare.{IsJoined}
-use Rattle.item_knowledge.specs.Kept.{IsKept, is_side_within, star_bound}
+use Rattle.item_knowledge.specs.Kept.{IsKept, is_side_within, IsSideKnown, star_bound}
 use Rattle.item_knowledge.proofs.EntryLemmas.{bound_by, denotes-bound}
 use Rattle.item_knowledge.proofs.FragmentLemmas.{normal_parts, leq_at, leq_denotes, star_of_every}
 use Rattle.item_knowledge.proofs.JoinLemmas.{leq_from}
@@ -115,16 +115,35 @@ pub star_vector : (fs : List Fragment) → is_normal fs ≡ true → is_vector (
 star_vector [] h = absurd (false≢true h)
 star_vector (s ∷ gs) h = (normal_parts s gs h).vector
 
-within_from : (rows others : List (List ℕ)) (xs ys : List (ℕ × ℕ)) → IsKept rows xs → IsKept others ys → ((p : ℕ) (v : Version) → 0 < p → knows (fragments_of others) p v ≡ true → knows (fragments_of rows) p v ≡ true) → is_side_within (fragments_of others) ys (fragments_of rows) xs ≡ true
-within_from rows others xs ys h g all =
+-- what a side's star has each of its vectors has
+star_up : (gs : List Fragment) (ys : List (ℕ × ℕ)) (p : ℕ) (v : Version) → IsSide gs ys → denotes (entries_at gs 0) v ≡ true → denotes (vector_of gs ys p) v ≡ true
+star_up gs ys p v g d =
+    sym (leq_denotes (entries_at gs 0) (vector_of gs ys p) v (above gs ys 0 g g.star).vector (side_vector gs ys p g) (above gs ys (at 0 ys p) g (number_below gs ys p g)).above)
+    ∙ ap (λ b. b || denotes (vector_of gs ys p) v) d
+
+-- a side is within what is kept where all that it denotes is known
+within_side : (rows : List (List ℕ)) (xs ys : List (ℕ × ℕ)) (gs : List Fragment) → IsKept rows xs → IsSide gs ys → IsSideKnown (fragments_of rows) gs ys → is_side_within gs ys (fragments_of rows) xs ≡ true
+within_side rows xs ys gs h g all =
     let fs = fragments_of rows in
-    let gs = fragments_of others in
     and_from _ _
-    (leq_by (entries_at gs 0) (entries_at fs 0) (star_vector gs g.normal) (star_vector fs h.normal) (λ v d. (star_of_every fs h.normal v).1 (λ p z. all p v z ((star_of_every gs g.normal v).0 d p z))))
-    (each_row (λ r. leq (entries_at gs r.1) (vector_of fs xs r.0)) ys 0 g.index.positive g.index.order (λ r z e.
+    (leq_by (entries_at gs 0) (entries_at fs 0) (above gs ys 0 g g.star).vector (star_vector fs h.normal) (λ v d. (star_of_every fs h.normal v).1 (λ p z. all p v z (star_up gs ys p v g d))))
+    (each_row (λ r. leq (entries_at gs r.1) (vector_of fs xs r.0)) ys 0 g.positive g.order (λ r z e.
     subst (λ n. leq (entries_at gs n) (vector_of fs xs r.0) ≡ true) e
-    (leq_by (vector_of gs ys r.0) (vector_of fs xs r.0) (side_vector gs ys r.0 (kept_side others ys g)) (side_vector fs xs r.0 (kept_side rows xs h))
-    (λ v d. sym (kept_knows rows xs r.0 v h) ∙ all r.0 v z (kept_knows others ys r.0 v g ∙ d)))))
+    (leq_by (vector_of gs ys r.0) (vector_of fs xs r.0) (side_vector gs ys r.0 g) (side_vector fs xs r.0 (kept_side rows xs h))
+    (λ v d. sym (kept_knows rows xs r.0 v h) ∙ all r.0 v z d))))
+
+-- what is kept is known as a side where what it denotes is known
+pub known_side : (now : List Fragment) (others : List (List ℕ)) (ys : List (ℕ × ℕ)) → IsKept others ys → IsWithin (fragments_of others) now → IsSideKnown now (fragments_of others) ys
+known_side now others ys g all = λ p v z d. all p v z (kept_knows others ys p v g ∙ d)
+
+within_from : (rows others : List (List ℕ)) (xs ys : List (ℕ × ℕ)) → IsKept rows xs → IsKept others ys → IsWithin (fragments_of others) (fragments_of rows) → is_side_within (fragments_of others) ys (fragments_of rows) xs ≡ true
+within_from rows others xs ys h g all =
+    within_side rows xs ys (fragments_of others) h (kept_side others ys g) (known_side (fragments_of rows) others ys g all)
+
+-- so a side that isn't within what is kept isn't known
+pub not_known : (rows : List (List ℕ)) (xs ys : List (ℕ × ℕ)) (now gs : List Fragment) → IsKept rows xs → fragments_of rows ≡ now → IsSide gs ys → is_side_within gs ys (fragments_of rows) xs ≡ false → IsSideKnown now gs ys → ⊥
+not_known rows xs ys now gs h is g outside all =
+    false≢true (sym outside ∙ within_side rows xs ys gs h g (subst (λ fs. IsSideKnown fs gs ys) (sym is) all))
 
 pub within_pairs : (rows others : List (List ℕ)) (xs ys : List (ℕ × ℕ)) → IsKept rows xs → IsKept others ys → (is_side_within (fragments_of others) ys (fragments_of rows) xs ≡ true) ↔ ((p : ℕ) (v : Version) → 0 < p → knows (fragments_of others) p v ≡ true → knows (fragments_of rows) p v ≡ true)
 within_pairs rows others xs ys h g = (

@@ -1,8 +1,6 @@
 -- Rows of words.
-use Rattle.std.proofs.Common.{◌≡◌, ℕ, zero, suc, ◌+◌, ◌*◌, ◌<◌, eqb, List, [], ◌∷◌, length, get_or, refl, sym, ap, ◌∙◌, arith}
-use Rattle.std.specs.Cmp.Lexicographic.{pointwise}
-use Rattle.std.proofs.lemmas.Bool.Decides.{nat_tests}
-use Rattle.item_knowledge.specs.Entries.{Entry, same_entries}
+use Rattle.std.proofs.Common.{◌≡◌, ℕ, zero, suc, ◌+◌, ◌*◌, ◌<◌, List, [], ◌∷◌, length, get_or, refl, sym, ap, ◌∙◌, arith}
+use Rattle.item_knowledge.specs.Entries.{Entry}
 use Rattle.item_knowledge.specs.Fragments.{Fragment, nothing, entries_at}
 use Rattle.item_knowledge.specs.Rows.{pairs, flat, IsRow, fragments_of, rows_of, AreRows}
 
@@ -49,17 +47,6 @@ pictures_read rows k h l = ap (λ rs. get_or rs (2 * k) []) (sym h) ∙ (rows_at
 
 pub rows_read : (rows : List (List ℕ)) → AreRows rows → length rows ≡ 2 * length (fragments_of rows)
 rows_read rows h = ap length (sym h) ∙ rows_length (fragments_of rows)
-
--- rows are equal where their entries are
-
-same_flat : (es fs : List Entry) → pointwise (λ a b. eqb a b) (flat es) (flat fs) ≡ same_entries es fs
-same_flat [] [] = refl
-same_flat [] (f ∷ fs) = refl
-same_flat (e ∷ es) [] = refl
-same_flat (e ∷ es) (f ∷ fs) = grind (arith, nat_tests, same_flat es fs)
-
-pub same_rows : (xs ys : List ℕ) → IsRow xs → IsRow ys → pointwise (λ a b. eqb a b) xs ys ≡ same_entries (pairs xs) (pairs ys)
-same_rows xs ys h g = (λ i. pointwise (λ a b. eqb a b) (sym h i) (sym g i)) ∙ same_flat (pairs xs) (pairs ys)
 
 -- The entries of a row by their places
 

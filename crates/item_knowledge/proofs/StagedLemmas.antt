@@ -1,5 +1,5 @@
 -- What is known and what is staged, as a knowledge keeps them.
-use Rattle.std.proofs.Common.{◌≡◌, ℕ, ◌<◌, true, ◌||◌, List, Option, None, Some, IfSome, refl, sym, ap, ◌∙◌}
+use Rattle.std.proofs.Common.{◌≡◌, ℕ, ◌<◌, true, ◌||◌, List, Option, None, Some, IfSome, Result, Ok, Err, OnErr, refl, sym, ap, ◌∙◌}
 use Rattle.std.specs.Option.{is_some}
 use Rattle.std.proofs.lemmas.Bool.{false≢true}
 use Rattle.photo_version.specs.Version.{Version}
@@ -8,6 +8,10 @@ use Rattle.item_knowledge.specs.Entries.{denotes}
 use Rattle.item_knowledge.specs.Gathering.{vector_of}
 use Rattle.item_knowledge.specs.Spare.{IsJoined}
 use Rattle.item_knowledge.specs.Staged.{Knowing, IsStagedUnion}
+
+pub on_err : {T E P : Type 0} (r : Result T E) → P → OnErr r P
+on_err (Ok x) p = tt
+on_err (Err e) p = p
 
 pub known_of : {k l : Knowing} → k ≡ l → k.known ≡ l.known
 known_of e = ap (λ k. k.known) e

@@ -1,5 +1,5 @@
 -- Fragments, the pairs of a picture and a version that they denote, and their normal form.
-use Rattle.std.specs.Prelude.{ℕ, Bool, true, false, not, ◌&&◌, ◌||◌, ◌==◌, nat_lt, List, [], ◌∷◌, get_or, Option, None, Some, if◌then◌else◌}
+use Rattle.std.specs.Prelude.{◌≡◌, ℕ, ◌<◌, Bool, true, false, not, ◌&&◌, ◌||◌, ◌==◌, nat_lt, List, [], ◌∷◌, get_or, Option, None, Some, if◌then◌else◌}
 use Rattle.std.specs.List.{list_any, list_all}
 use Rattle.photo_version.specs.Version.{Version}
 use Rattle.item_knowledge.specs.Entries.{Entry, denotes, is_vector, leq, same_entries}
@@ -27,6 +27,10 @@ reaches f p = is_empty f.pictures || lists f.pictures p
 -- the pairs that fragments denote: whether of a picture, above 0, a version is known
 abbrev pub knows : List Fragment → ℕ → Version → Bool
 knows fs p v = list_any (λ f. reaches f p && denotes f.entries v) fs
+
+-- each pair that the one denote, the other denote too
+abbrev pub IsWithin : List Fragment → List Fragment → Type 0
+IsWithin fs gs = (p : ℕ) (v : Version) → 0 < p → knows fs p v ≡ true → knows gs p v ≡ true
 
 -- sorted, and none twice
 abbrev pub rises : List ℕ → Bool

@@ -1,9 +1,12 @@
 -- What a knowledge keeps: rows of a normal form, and their index.
-use Rattle.std.specs.Prelude.{◌≡◌, ℕ, Bool, true, ◌&&◌, List, [], ◌∷◌}
+use Rattle.std.specs.Prelude.{◌≡◌, ℕ, ◌<◌, Bool, true, ◌&&◌, List, [], ◌∷◌}
 use Rattle.std.specs.List.{list_all}
 use Rattle.photo_version.specs.Author.{Author, author_word}
-use Rattle.item_knowledge.specs.Entries.{bound, leq}
-use Rattle.item_knowledge.specs.Fragments.{Fragment, is_normal, nothing, entries_at}
+use Rattle.photo_version.specs.Vector as vectors
+use Rattle.photo_version.specs.Version.{Version}
+use Rattle.item_knowledge.specs.Tables.{at}
+use Rattle.item_knowledge.specs.Entries.{bound, denotes, leq}
+use Rattle.item_knowledge.specs.Fragments.{Fragment, knows, is_normal, nothing, entries_at}
 use Rattle.item_knowledge.specs.Rows.{AreRows, fragments_of}
 use Rattle.item_knowledge.specs.Gathering.{IsIndex, vector_of}
 
@@ -24,3 +27,15 @@ star_bound fs a = bound (entries_at fs 0) (author_word a)
 abbrev pub is_side_within : List Fragment → List (ℕ × ℕ) → List Fragment → List (ℕ × ℕ) → Bool
 is_side_within fs xs gs ys =
     leq (entries_at fs 0) (entries_at gs 0) && list_all (λ r. leq (entries_at fs r.1) (vector_of gs ys r.0)) xs
+
+-- each pair that a side denotes is known
+abbrev pub IsSideKnown : List Fragment → List Fragment → List (ℕ × ℕ) → Type 0
+IsSideKnown now gs ys = (p : ℕ) (v : Version) → 0 < p → denotes (vector_of gs ys p) v ≡ true → knows now p v ≡ true
+
+-- each version of a vector is known of a picture
+abbrev pub IsVectorKnown : List Fragment → ℕ → List vectors.Bound → Type 0
+IsVectorKnown now p bounds = (v : Version) → vectors.denotes bounds v ≡ true → knows now p v ≡ true
+
+-- each version of the vectors of a table is known of the picture beside it
+abbrev pub IsTableKnown : List Fragment → List (ℕ × List vectors.Bound) → Type 0
+IsTableKnown now table = (p : ℕ) → IsVectorKnown now p (at [] table p)

@@ -18,15 +18,6 @@ pub(crate) fn is_nothing(row: &[u64]) -> bool
     row.is_empty()
 }
 
-/// Whether two rows have the same entries.
-pub(crate) fn same_row(xs: &[u64], ys: &[u64]) -> bool
-    requires left { IsRow xs.now }
-    requires right { IsRow ys.now }
-    ensures { result ≡ same_entries (pairs xs.now) (pairs ys.now) }
-{
-    xs == ys
-}
-
 /// A picture comes to the group of its vector, or begins one at the end. Gives the group's place. The vectors stand in rows.
 pub(crate) fn add(
     alloc: Global,

@@ -65,7 +65,7 @@ impl Knowledge {
     ghost use Rattle.item_knowledge.specs.Fragments as spec;
     ghost use Rattle.item_knowledge.specs.Rows.{AreRows, fragments_of};
     ghost use Rattle.item_knowledge.specs.Gathering.{IsSide};
-    ghost use Rattle.item_knowledge.specs.Kept.{nothing_known, star_bound};
+    ghost use Rattle.item_knowledge.specs.Kept.{nothing_known, star_bound, IsSideKnown, IsTableKnown};
     ghost use Rattle.item_knowledge.specs.Spare.{IsJoined};
     ghost use Rattle.item_knowledge.specs.Staged.{settled, IsStagedUnion};
 
@@ -174,6 +174,7 @@ impl Knowledge {
         ensures there { OnOk result (is_some self.new.staged ≡ true) }
         ensures joined { OnOk result (IfSome self.new.staged (λ s. IsJoined self.old.known (fragments_of rows.now) index.now s)) }
         ensures refused { OnErr result (self.new.staged ≡ None) }
+        ensures wanted { OnErr result (IsSideKnown self.old.known (fragments_of rows.now) index.now → ⊥) }
     {
         self.staged = Staged::Nothing;
         if is_within(rows, index, &self.live, &self.index) {
@@ -194,6 +195,7 @@ impl Knowledge {
         ensures known { self.new.known ≡ self.old.known }
         ensures staged { OnOk result (IsStagedUnion self.new.staged self.old.known other.now.known) }
         ensures refused { OnErr result (self.new.staged ≡ None) }
+        ensures wanted { OnErr result (spec.IsWithin other.now.known self.old.known → ⊥) }
     {
         self.stage_union(&other.live, &other.index)?;
         Ok(())
@@ -206,6 +208,7 @@ impl Knowledge {
         ensures staged { OnOk result (IsStagedUnion self.new.staged self.old.known told.now) }
         ensures star { (a : Author) → star_bound told.now a ≡ 0 }
         ensures refused { OnErr result (self.new.staged ≡ None) }
+        ensures wanted { OnErr result (spec.IsWithin told.now self.old.known → ⊥) }
     {
         let (rows, index) = told.parts();
         self.stage_union(rows, index)?;
@@ -280,6 +283,7 @@ impl Knowledge {
             ≡ (spec.knows self.old.known p v || vectors.denotes (at [] table.now p) v)) }
         ensures staged { self.new.staged ≡ None }
         ensures refused { OnErr result (self.new.known ≡ self.old.known) }
+        ensures wanted { OnErr result (IsTableKnown self.old.known table.now → ⊥) }
     {
         self.unstage();
         if has_table(self, table) {
@@ -300,6 +304,7 @@ impl Knowledge {
             ≡ (spec.knows self.old.known p v || spec.knows other.now.known p v)) }
         ensures staged { self.new.staged ≡ None }
         ensures refused { OnErr result (self.new.known ≡ self.old.known) }
+        ensures wanted { OnErr result (spec.IsWithin other.now.known self.old.known → ⊥) }
     {
         self.stage(other)?;
         self.commit();

@@ -1,18 +1,17 @@
 // Whether a table of pictures is known already.
-ghost use Rattle.std.specs.Prelude.{◌≡◌, ℕ, [], true};
-ghost use Rattle.photo_version.specs.Version as versions;
-ghost use Rattle.photo_version.specs.Vector as vectors;
-ghost use Rattle.item_knowledge.specs.Fragments.{knows};
-ghost use Rattle.item_knowledge.specs.Tables.{at};
+ghost use Rattle.std.specs.Prelude.{◌≡◌, true, false};
+ghost use Rattle.item_knowledge.specs.Kept.{IsVectorKnown, IsTableKnown};
+ghost use Rattle.item_knowledge.specs.Tables.{in_order};
 
 use crate::Knowledge;
 use photo_record::PicNo;
 use photo_version::{Vector, Version};
 
 // Whether of the picture all versions of the vector are known, and a hint for a later picture. Takes no memory.
-#[tactic(auto, using(crate::proofs::KnownLemmas::bound_had))]
+#[tactic(auto, using(crate::proofs::KnownLemmas::bound_had, crate::proofs::KnownLemmas::bound_missed))]
 fn has_vector(knowledge: &Knowledge, hint: usize, picture: PicNo, vector: &Vector) -> (bool, usize)
-    ensures { result.0 ≡ true → (v : versions.Version) → vectors.denotes vector.now v ≡ true → knows knowledge.now.known picture v ≡ true }
+    ensures all { result.0 ≡ true → IsVectorKnown knowledge.now.known picture vector.now }
+    ensures missed { result.0 ≡ false → IsVectorKnown knowledge.now.known picture vector.now → ⊥ }
 {
     let mut near = hint;
     for i in 0..vector.len() {
@@ -30,9 +29,11 @@ fn has_vector(knowledge: &Knowledge, hint: usize, picture: PicNo, vector: &Vecto
 }
 
 /// Whether of each picture of a table all versions of the vector beside it are known. Takes no memory.
+#[tactic(auto, using(crate::proofs::KnownLemmas::row_missed))]
 pub(crate) fn has_table(knowledge: &Knowledge, table: &[(PicNo, Vector)]) -> bool
-    ensures { result ≡ true → (p : ℕ) (v : versions.Version) → vectors.denotes (at [] table.now p) v ≡ true
-        → knows knowledge.now.known p v ≡ true }
+    requires { in_order table.now ≡ true }
+    ensures all { result ≡ true → IsTableKnown knowledge.now.known table.now }
+    ensures missed { result ≡ false → IsTableKnown knowledge.now.known table.now → ⊥ }
 {
     let mut hint = 0;
     for i in 0..table.len() {

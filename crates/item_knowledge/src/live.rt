@@ -183,10 +183,11 @@ impl LiveRows {
         self.star[2 * place - 1] = n;
     }
 
-    /// No rows any more. The largest block stays, for the rows to come; no word of those that stood is kept.
+    /// Removes all rows.
     pub(crate) fn clear(&mut self)
         ensures { self.new ≡ [] }
     {
+        // (the largest block stays, for the rows to come)
         self.star.clear();
         self.rows.clear();
     }

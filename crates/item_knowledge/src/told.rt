@@ -13,8 +13,8 @@ use photo_version::Vector;
 use std::alloc::{AllocError, Global};
 use std::marker::Model;
 
-/// What is told of pictures, before it is learned: of each a vector. It is seen as fragments: a star without entries, and beside
-/// it one of each picture, in their order.
+/// What is told of pictures, before it is learned: of each picture the versions that are told of it. It is seen as fragments
+/// that denote these pairs of a picture and a version; their order and form may be any.
 #[derive(Debug, Drop)]
 pub struct Told {
     live: LiveRows,

@@ -5,3 +5,8 @@ mod Joining
 mod Unstaged
 mod Named
 mod AlongScripts
+mod Sorted
+mod Shown
+mod Holders
+mod SaysYes
+mod WorkedQuestions

@@ -1,5 +1,5 @@
 -- The worked fleets: what computes does so by the definitions alone.
-use Rattle.std.proofs.Common.{◌≤◌, eqb, List, [], ◌∷◌, refl, sym, subst, arith}
+use Rattle.std.proofs.Common.{◌≡◌, ◌<◌, ◌≤◌, lit<, eqb, List, [], ◌∷◌, refl, sym, subst, arith}
 use Rattle.std.specs.List.{AllZip}
 use Rattle.photo_filter_text.specs.Tree.{All}
 use Rattle.photo_device.proofs.OwnLemmas.{up_to_one}
@@ -12,7 +12,10 @@ use Rattle.fleet_model.specs.Members.{In, here}
 use Rattle.fleet_model.specs.Sound.{occurrences}
 use Rattle.fleet_model.proofs.Members.{in_nothing, in_left}
 use Rattle.live_fleet.specs.Fleets.{CameAbout, after_commands}
-use Rattle.live_fleet.specs.Examples.{EditedOnBoth, ChangedByHand, JoinsLater, ComesAboutAsTold, rated, nth, first_held, first_device, second_device, with_log}
+use Rattle.live_fleet.specs.Faults.{IsDueTo}
+use Rattle.live_fleet.specs.declared.fault.FleetFault.{FleetFault}
+use Rattle.live_fleet.specs.declared.fault.FleetFault.TheVariants.{NoMemory, NoDevice, NoCommand, Full}
+use Rattle.live_fleet.specs.Examples.{EditedOnBoth, ChangedByHand, JoinsLater, ComesAboutAsTold, FaultsAreDueAsTold, rated, nth, first_held, first_device, second_device, with_log}
 use Rattle.live_fleet.proofs.Histories.{came_sound}
 
 pub edited_on_both : EditedOnBoth
@@ -86,3 +89,21 @@ twice came =
 
 pub comes_about_as_told : ComesAboutAsTold
 comes_about_as_told = record { logged = came; unlogged = unlogged; twice = twice }
+
+taken_as_told : (fault : FleetFault) → IsDueTo (command.Pull 1 0) (with_log []) fault → ⊥
+taken_as_told NoMemory due = due
+taken_as_told NoDevice due = due (lit< tt, (lit< tt, λ same. let h : 0 ≡ 1 = same in omega (arith, h)))
+taken_as_told NoCommand due = due
+taken_as_told Full due = let h : 1 ≡ 4_294_967_295 = due.1 in omega (arith, h)
+
+pub faults_are_due_as_told : FaultsAreDueAsTold
+faults_are_due_as_told = record {
+  taken = taken_as_told;
+  absent = λ within. let h : 2 < 2 = within.0 in omega (arith, h);
+  of_itself = λ within. within.1.1 refl;
+  no_room = ((lit< tt, tt), refl);
+  absent_first = λ due. let h : 2 < 2 = due.0.0 in omega (arith, h);
+  no_number = λ has. let h : 2 ≤ 1 = has.1 in omega (arith, h);
+  no_zero = λ has. let h : 0 < 0 = has.0 in omega (arith, h);
+  one_device_less = λ has. let h : 2 ≡ 1 = has.2 in omega (arith, h);
+}

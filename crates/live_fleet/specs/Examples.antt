@@ -17,8 +17,12 @@ use Rattle.fleet_model.specs.declared.command.Command.TheVariants as command
 use Rattle.fleet_model.specs.Answers.{Made, Pulled, Exactly}
 use Rattle.fleet_model.specs.Runs.{device_at, after_command, reports_of}
 use Rattle.fleet_model.specs.Sound.{is_sound, is_kept}
+use Rattle.fleet_model.specs.Contents.{contents}
 use Rattle.live_fleet.specs.Answers.{change_answer, narrow_answer}
 use Rattle.live_fleet.specs.Fleets.{KeptFleet, ModelFleet, CameAbout, after_commands, with_device}
+use Rattle.live_fleet.specs.Faults.{IsDueTo, IsDueToNumber}
+use Rattle.live_fleet.specs.declared.fault.FleetFault.{FleetFault}
+use Rattle.live_fleet.specs.declared.fault.FleetFault.TheVariants.{NoDevice, NoCommand, Full}
 
 abbrev pub rated : ℕ → Record
 rated rating = Picture rating (pos 19_844) []
@@ -121,3 +125,17 @@ pub record ComesAboutAsTold : Type 0 where
   pub logged : CameAbout (with_log (first_held ∷ []))
   pub unlogged : CameAbout (with_log []) → ⊥
   pub twice : CameAbout (with_log (first_held ∷ first_held ∷ [])) → ⊥
+
+abbrev pub full : KeptFleet
+full = record (with_log []) { commands = 4_294_967_295 }
+
+-- which faults are due to commands of a fleet of two devices
+pub record FaultsAreDueAsTold : Type 0 where
+  pub taken : (fault : FleetFault) → IsDueTo (command.Pull 1 0) (with_log []) fault → ⊥
+  pub absent : IsDueTo (command.List 2) (with_log []) NoDevice
+  pub of_itself : IsDueTo (command.Pull 1 1) (with_log []) NoDevice
+  pub no_room : IsDueTo (command.List 1) full Full
+  pub absent_first : IsDueTo (command.List 2) full Full → ⊥
+  pub no_number : IsDueToNumber (contents ([] ∷ [] ∷ []) (All ∷ All ∷ []) (command.List 1 ∷ [])) 2 (with_log []) NoCommand
+  pub no_zero : IsDueToNumber (contents ([] ∷ [] ∷ []) (All ∷ All ∷ []) (command.List 1 ∷ [])) 0 (with_log []) NoCommand
+  pub one_device_less : IsDueToNumber (contents ([] ∷ []) (All ∷ []) (command.List 0 ∷ [])) 1 (with_log []) NoCommand

@@ -3,3 +3,9 @@ pub mod Coding
 pub mod Entries
 pub mod Answers
 pub mod Examples
+pub mod Selected
+pub mod Standing
+pub mod Moving
+pub mod Laws
+pub mod QuestionExamples
+pub mod Faults

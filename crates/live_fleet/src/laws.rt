@@ -1,6 +1,8 @@
-//! What holds of every fleet, and of runs that grow by commands.
-ghost use Rattle.live_fleet.specs.Examples.{EditedOnBoth, ChangedByHand, JoinsLater, ComesAboutAsTold};
+//! What holds of every fleet, of what one asks of it, and of runs that grow by commands.
+ghost use Rattle.live_fleet.specs.Examples.{EditedOnBoth, ChangedByHand, JoinsLater, ComesAboutAsTold, FaultsAreDueAsTold};
 ghost use Rattle.live_fleet.specs.Fleets.{HasSoundHistory, RunsAlongScripts, RunsGrowByCommands};
+ghost use Rattle.live_fleet.specs.Laws.{HasNumbers, HoldersKnow};
+ghost use Rattle.live_fleet.specs.QuestionExamples.{SelectsOfBoth, AsksAsTold};
 
 use crate::Fleet;
 
@@ -26,11 +28,32 @@ pub fn runs_along_scripts()
     ensures { RunsAlongScripts }
 {}
 
+/// The device at a place of a fleet has the number of that place, whatever epoch it is in: what [`crate::holding`] gives are
+/// places of [`Fleet::devices`].
+pub fn each_device_has_its_number(fleet: &Fleet)
+    ensures { HasNumbers fleet.now }
+{
+    // For its fact alone: every fleet came about by commands.
+    let _devices = fleet.devices();
+}
+
+/// Each device of a fleet that holds a picture knows of it: what [`crate::holding`] gives is among what [`crate::knowing`] gives.
+pub fn holders_know(fleet: &Fleet)
+    ensures { HoldersKnow fleet.now }
+{
+    // For its fact alone: every fleet came about by commands.
+    let _devices = fleet.devices();
+}
+
 /// The definitions at some fleets: two devices that edit one picture, a device that is given narrower filters, one that
-/// comes later, and which fleets come about.
+/// comes later, which fleets come about, and which faults are due to a command; and at some devices: what a filter selects of
+/// a store and an out, which devices hold a picture and which know of it, and what a pull would move.
 pub fn examples()
     ensures edited { EditedOnBoth }
     ensures changed { ChangedByHand }
     ensures joins { JoinsLater }
     ensures came { ComesAboutAsTold }
+    ensures due { FaultsAreDueAsTold }
+    ensures selected { SelectsOfBoth }
+    ensures asked { AsksAsTold }
 {}

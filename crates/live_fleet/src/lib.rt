@@ -1,15 +1,23 @@
-//! A fleet of devices to which commands are given one after another, by hand. Its invariant: **every fleet came about by
-//! commands** (`CameAbout`), so its devices are sound and nothing that is current is lost.
+//! A fleet of devices that one drives and asks: commands are given to it one after another, by hand or from a script. Its
+//! invariant: **every fleet came about by commands** (`CameAbout`), so its devices are sound and nothing that is current is
+//! lost. No question changes anything. A [`Session`] is a fleet whose calls have no condition: **whatever is refused, the
+//! fleet is as it was**, and the answer says why.
 #![tactic(auto)]
 
 mod answer;
 mod asking;
 mod copying;
 mod entry;
+mod fault;
 mod fleet;
 pub mod laws;
 mod opening;
+mod questions;
 mod ranges;
+mod session;
 mod step;
 
+pub use fault::FleetFault;
 pub use fleet::Fleet;
+pub use questions::{Moves, audited, holding, knowing, lacking, pull_moves, selected};
+pub use session::Session;

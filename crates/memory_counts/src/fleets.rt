@@ -1,7 +1,7 @@
 //! The readers of a fleet that is driven by hand, and those of a run's log.
 use fleet_runner::{Fleet, IssueLog, Outcome};
-use fleet_session::Session;
 use fleet_steps::made_on;
+use live_fleet::Session;
 use photo_record::PicNo;
 use photo_script::{Command, Script};
 use std::alloc::Global;

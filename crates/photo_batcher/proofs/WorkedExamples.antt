@@ -11,8 +11,8 @@ use Rattle.photo_filter_text.specs.Steps.{symbol_of, at_factor, after_term, afte
 use Rattle.photo_filter_rules.specs.Filters.{filter_of}
 use Rattle.fleet_model.specs.Contents.{Contents, contents, command_of, devices_of}
 use Rattle.fleet_model.specs.declared.command.Command.{Command}
-use Rattle.photo_script.specs.Saying.{said, fields_said, command_line_said, question_line_said, device_line_said, filter_said, declaration_said, new_line_said, creation_said, command_said, device_said, new_picture_said, record_said, list_line_said, two_said, two_devices_said, pull_line_said}
-use Rattle.photo_script.specs.Reading.{script_of}
+use Rattle.script_reader.specs.Saying.{said, fields_said, command_line_said, question_line_said, device_line_said, filter_said, declaration_said, new_line_said, creation_said, command_said, device_said, new_picture_said, record_said, list_line_said, two_said, two_devices_said, pull_line_said}
+use Rattle.script_reader.specs.Reading.{script_of}
 use Rattle.photo_batcher.specs.Orders.{IsLawful}
 use Rattle.photo_batcher.specs.Greedy.{first_free, before_it}
 use Rattle.photo_batcher.specs.Plans.{planned, entry_of, IsPlan}

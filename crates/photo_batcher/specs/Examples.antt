@@ -9,11 +9,10 @@ use Rattle.photo_model.specs.Entry.{Entry}
 use Rattle.photo_model.specs.declared.place.Place.TheVariants.{Store}
 use Rattle.fleet_model.specs.declared.command.Command.TheVariants as command
 use Rattle.fleet_model.specs.Contents.{Contents, contents}
-use Rattle.photo_script.specs.Reading.{script_of}
+use Rattle.script_reader.specs.Reading.{script_of}
 use Rattle.fleet_model.specs.Answers.{Made, Listed, Pulled, ModelReport, Exactly}
 use Rattle.fleet_model.specs.Runs.{run_in_order, run, reports_of}
 use Rattle.fleet_model.specs.Tallies.{totals_of}
-use Rattle.photo_script.specs.Examples.{totals}
 use Rattle.photo_batcher.specs.Orders.{IsLawful}
 use Rattle.photo_batcher.specs.Batches.{IsLongestChainTo, IsJustBelow}
 use Rattle.photo_batcher.specs.Plans.{planned, Planned, batch_in, IsPlan}
@@ -62,7 +61,7 @@ pub record FourInOrder : Type 0 where
   pub other_log : (run_in_order four_devices (2 ∷ 1 ∷ 4 ∷ 3 ∷ 6 ∷ 5 ∷ 7 ∷ [])).log ≡ second_entry ∷ first_entry ∷ []
   pub reports : reports_of (run four_devices) ≡ four_reports
   pub log : (run four_devices).log ≡ first_entry ∷ second_entry ∷ []
-  pub counts : totals_of four_devices (run four_devices) ≡ totals 2 4 1 4
+  pub counts : totals_of four_devices (run four_devices) ≡ record { changes = 2; pulls = 4; reports = 1; moved = 4 }
   pub too_early : IsLawful four_devices (3 ∷ 1 ∷ 2 ∷ 4 ∷ 5 ∷ 6 ∷ 7 ∷ []) → ⊥
   pub missing : IsLawful four_devices (1 ∷ 2 ∷ 3 ∷ 4 ∷ 5 ∷ 6 ∷ []) → ⊥
   pub twice : IsLawful four_devices (1 ∷ 1 ∷ 2 ∷ 3 ∷ 4 ∷ 5 ∷ 6 ∷ 7 ∷ []) → ⊥

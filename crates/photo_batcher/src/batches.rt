@@ -85,10 +85,10 @@ impl Plan {
         }
     }
 
-    /// The longest chain that ends with a command, as it is got by going back from command to command.
+    /// The commands from one of the first batch up to this one, each of which goes after the one before it (`after`).
     ///
-    /// It has one command of each batch up to that of the last one. In a script whose plan this is no longer chain ends
-    /// with the command.
+    /// In a script whose plan this is they are a chain, and no longer chain ends with the command. Its only error is want
+    /// of memory.
     pub fn chain_of(&self, alloc: Global, number: u32) -> Result<Vec<u32>, AllocError>
         requires first { 0 < number }
         requires within { number ≤ length self.now.batches }

@@ -4,7 +4,7 @@ ghost use Rattle.photo_batcher.specs.Orders.{IsLawful};
 ghost use Rattle.photo_batcher.specs.Steps.{IsAbove};
 
 use crate::places::{note, places_at};
-use photo_script::Script;
+use script_reader::Script;
 use std::alloc::{AllocError, Global};
 
 /// Whether the commands of a script may run in that order: it has each of their numbers once and no other, and of two

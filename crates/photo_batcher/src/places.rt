@@ -3,7 +3,7 @@ ghost use Rattle.std.specs.Prelude.{◌≡◌, ◌<◌, ◌≤◌, length, IfSom
 ghost use Rattle.fleet_model.specs.Contents.{devices_of};
 ghost use Rattle.photo_batcher.specs.Steps.{ArePlaces, read_second, with_place};
 
-use photo_script::{Command, Script, devices_of};
+use script_reader::{Command, Script, devices_of};
 
 /// The places of the devices that the command of a number works on.
 pub(crate) fn places_at(script: &Script, number: u32) -> (usize, Option<usize>)

@@ -7,7 +7,7 @@ ghost use Rattle.photo_batcher.specs.Steps.{IsPlannedTo, with_member};
 
 use crate::Plan;
 use crate::places::{last_on, note, places_at};
-use photo_script::Script;
+use script_reader::Script;
 use std::alloc::{AllocError, Global};
 
 /// Plans a script, in one pass over its commands: each stands in the first batch that is free behind the last commands on its

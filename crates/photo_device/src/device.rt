@@ -227,8 +227,8 @@ impl Device {
         self.knowledge.as_knowledge()
     }
 
-    /// Copies of those of a set that it doesn't know, in their order. What it knows stays; it notes what it was found to know,
-    /// so that it is quicker to ask again.
+    /// Copies of those of a set that it doesn't know, in their order. The device stays as it is to all contracts; a cache of
+    /// what it was found to know may change.
     ///
     /// Its only error is want of memory, and none is wanted where it knows all.
     pub fn unknown_of(
@@ -245,7 +245,7 @@ impl Device {
         self.knowledge.unknown_of(alloc, set)
     }
 
-    /// The same, where the device may not be changed: it reads what it has noted, and notes nothing.
+    /// The same, where the device may not be changed.
     ///
     /// Its only error is want of memory, and none is wanted where it knows all.
     pub fn unknown_by(&self, alloc: Global, set: &HeldSet) -> Result<Vec<SharedHeld>, AllocError>

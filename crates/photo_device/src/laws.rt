@@ -8,8 +8,8 @@ use crate::Device;
 use item_knowledge::Knowledge;
 
 /// The same device with another knowledge, and nothing staged. That knowledge has of the device's author just the versions
-/// up to its counter, of every picture and of each, and it has each version that the device holds, with its history, of its
-/// picture. It takes no memory.
+/// up to its counter, of every picture and of each, and no version of a later epoch of the device. It has each version that
+/// the device holds, with its history, of its picture. This takes no memory.
 pub fn with_knowledge(device: Device, knowledge: Knowledge) -> Device
     requires own { KnowsItsOwn device.author device.counter knowledge.known }
     requires store { AllByRecursion (IsKnownBy knowledge.known) device.store }

@@ -1,12 +1,13 @@
 -- When a pull wants memory: something is new to the target, given up by it or taught to it, as the model devices show.
 use Rattle.std.proofs.Common.{◌≡◌, Bool, true, false, not, ◌||◌, List, [], ◌∷◌, ◌++◌, refl, sym, ap, ◌∙◌, arith}
-use Rattle.std.specs.Prelude.{filter, Result, Ok, Err, OnErr}
+use Rattle.std.specs.Prelude.{filter}
 use Rattle.std.specs.List.{list_any}
 use Rattle.std.proofs.lemmas.Bool.{and_parts, or_left, or_right, not-true, false≢true}
 use Rattle.std.proofs.lemmas.List.{map-append}
 use Rattle.std.proofs.lemmas.List.Folds.{list_any-append}
 use Rattle.item_knowledge.specs.Fragments.{knows}
 use Rattle.item_knowledge.specs.Staged.{Knowing}
+pub use Rattle.item_knowledge.proofs.StagedLemmas.{on_err}
 use Rattle.photo_device.specs.declared.held.Held.{Held}
 use Rattle.photo_device.specs.Held.{entry_of, entries_of}
 use Rattle.photo_model.specs.Device.{ModelDevice, holds, knows_entry}
@@ -17,10 +18,6 @@ use Rattle.photo_pull.specs.OnHeld.{is_new, has_above, is_heard, new_stored, new
 use Rattle.photo_pull.specs.declared.hearing.Hearing.{Hearing}
 use Rattle.photo_pull.proofs.Members.{any_same}
 use Rattle.photo_pull.proofs.Shown.{any_shown, new_shown, stale_shown, learns_shown}
-
-pub on_err : {T E P : Type 0} (r : Result T E) → P → OnErr r P
-on_err (Ok x) p = tt
-on_err (Err e) p = p
 
 module _ (t s : Kept) (ready : AreReady t s) where
   abbrev new_any : Bool

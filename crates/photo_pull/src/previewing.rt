@@ -13,8 +13,8 @@ use std::alloc::{AllocError, Global};
 
 /// What a pull of the target from the source would count. It finds this as the pull does, and changes neither device.
 ///
-/// Of what a pull asks it uses one thing alone, that what both devices hold of one version is of one picture. Its only
-/// error is want of memory, and none is wanted where the target knows all that the source holds, and stores nothing stale.
+/// It asks what a pull asks. Its only error is want of memory, and none is wanted where the target knows all that the source
+/// holds and stores nothing stale.
 pub fn preview(alloc: Global, target: &Device, source: &Device) -> Result<PullCounts, AllocError>
     requires { MayPull target.now source.now }
     ensures counts { IfOk result (λ counts. (t s : ModelDevice) → Shows target.now t → Shows source.now s → counts ≡ counts_of t s) }

@@ -1,14 +1,13 @@
 -- Words with commas between them, and items in the same way, one more at a time.
 use Rattle.std.proofs.Common.{◌≡◌, ◌≢◌, ◌<◌, ◌≤◌, ◌+◌, ◌∷◌, ◌++◌, ℕ, List, [], length, take, map, get_or, slice_get, Some, refl, sym, ap, ◌∙◌, append_assoc, append-nil, arith}
 use Rattle.std.specs.List.{join_with_byte}
-use Rattle.std.proofs.lemmas.List.{take_more, length-take-le, take_all, map-append}
+use Rattle.std.proofs.lemmas.List.{length-map, take_more, length-take-le, take_all, map-append}
 use Rattle.std.proofs.lemmas.Option.{get_or_from_slice_get, slice_get_within}
 use Rattle.std.specs.Fmt.{decimal}
 use Rattle.photo_record.specs.Showing.{words_text}
 use Rattle.item_knowledge.specs.Entries.{Entry}
 use Rattle.fleet_model.specs.Contents.{Contents}
 use Rattle.photo_script.specs.Reports.{pictures_text, bound_text, bounds_text}
-use Rattle.photo_script.proofs.Places.{length-map}
 
 join-push : (c : ℕ) (xs : List (List ℕ)) (y : List ℕ) → 1 ≤ length xs → join_with_byte c (xs ++ y ∷ []) ≡ join_with_byte c xs ++ (c ∷ y)
 join-push c [] y some = absurd (omega arith)
@@ -41,7 +40,7 @@ module _ {X : Type 0} (c : ℕ) (text : X → List ℕ) (xs : List X) where
   -- one item more behind some
   pub joined_to-more : (i : ℕ) (d : X) → 1 ≤ i → i < length xs → joined_to c text xs (i + 1) ≡ joined_to c text xs i ++ (c ∷ text (get_or xs i d))
   joined_to-more i d some within =
-      let front : length (map text (take i xs)) ≡ i = length-map text (take i xs) ∙ length-take-le i xs (omega arith) in
+      let front : length (map text (take i xs)) ≡ i = length-map (take i xs) text ∙ length-take-le i xs (omega arith) in
       let more = ap (map text) (take_more xs i d within) ∙ map-append text (take i xs) (get_or xs i d ∷ []) in
       ap (join_with_byte c) more ∙ join-push c (map text (take i xs)) (text (get_or xs i d)) (omega arith)
 

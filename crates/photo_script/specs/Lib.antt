@@ -1,12 +1,3 @@
-pub mod Limits
-pub mod Coding
-pub mod Lines
-pub mod Fields
-pub mod Earlier
-pub mod Saying
-pub mod Reading
-pub mod Steps
-pub mod Sharing
 pub mod Reports
 pub mod Tallies
 pub mod Laws

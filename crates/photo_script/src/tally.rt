@@ -1,13 +1,13 @@
-// Commands by their kinds, and what the pulls of a run moved.
+// What a run did, by its reports.
 ghost use Rattle.std.specs.Prelude.{◌≡◌, ◌≤◌, ◌*◌, length, map};
 ghost use Rattle.std.specs.List.{AllByRecursion, AllZip, sum_by};
 ghost use Rattle.fleet_model.specs.Limits.{max_commands};
 ghost use Rattle.photo_script.specs.Reports.{Tells, answer_of};
 ghost use Rattle.fleet_model.specs.Runs.{Fleet, reports_of};
-ghost use Rattle.fleet_model.specs.Tallies.{tally_of_commands, totals_of, max_moved};
+ghost use Rattle.fleet_model.specs.Tallies.{totals_of, max_moved};
 ghost use Rattle.photo_script.specs.Tallies.{moved_by};
 
-use crate::{Command, Report, Script, Tally, Totals};
+use crate::{Report, Script, Totals};
 
 /// The totals of a script's run, by its reports.
 ///
@@ -39,32 +39,4 @@ fn moved_by(reports: &[Report]) -> u64
         }
     }
     moved
-}
-
-// How many of the commands are of each kind.
-pub(crate) fn tally_of(commands: &[Command]) -> Tally
-    requires { length commands.now ≤ max_commands }
-    ensures { result ≡ tally_of_commands commands.now }
-{
-    let mut tally = Tally {
-        changes: 0,
-        pulls: 0,
-        reports: 0,
-    };
-    for command in commands {
-        match command {
-            Command::New { .. }
-            | Command::Edit { .. }
-            | Command::Remove { .. }
-            | Command::Narrow { .. }
-            | Command::Refilter { .. } => tally.changes += 1,
-            Command::Pull { .. } => tally.pulls += 1,
-            Command::Preview { .. }
-            | Command::List { .. }
-            | Command::Conflicts { .. }
-            | Command::Knowledge { .. }
-            | Command::Knows { .. } => tally.reports += 1,
-        }
-    }
-    tally
 }

@@ -1,7 +1,7 @@
 -- What the run of a script in memory prints.
 use Rattle.std.specs.Prelude.{◌≡◌, ℕ, List, Ok}
 use Rattle.fleet_model.specs.Contents.{Contents}
-use Rattle.photo_script.specs.Reading.{script_of}
+use Rattle.script_reader.specs.Reading.{script_of}
 use Rattle.photo_script.specs.Reports.{Answer, texts_from}
 use Rattle.fleet_steps.specs.Outcomes.{AreRight}
 use Rattle.fleet_model.specs.Sound.{IsSoundThroughout}

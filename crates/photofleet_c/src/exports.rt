@@ -1,8 +1,8 @@
 //! The calls as C sees them. `Global` takes no bytes: C passes nothing for it.
 ghost use Rattle.std.specs.Prelude.{◌≡◌, ◌≢◌, ◌⊎◌, ℕ, List, Err};
-ghost use Rattle.photo_script.specs.Reading.{script_of};
-ghost use Rattle.photo_script.specs.declared.fault.ScriptFault.{ScriptFault};
-ghost use Rattle.photo_script.specs.declared.fault.ScriptFault.TheVariants.{NoMemory};
+ghost use Rattle.script_reader.specs.Reading.{script_of};
+ghost use Rattle.script_reader.specs.declared.fault.ScriptFault.{ScriptFault};
+ghost use Rattle.script_reader.specs.declared.fault.ScriptFault.TheVariants.{NoMemory};
 ghost use Rattle.photofleet_c.specs.Placed.{HasNoRoom, Holds, IsOffered};
 ghost use Rattle.photofleet_c.specs.Printed.{IsPrinted};
 ghost use Rattle.photofleet_c.specs.Statuses.{IsPlainStatus};

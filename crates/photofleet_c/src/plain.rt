@@ -2,10 +2,10 @@
 ghost use Rattle.std.specs.Prelude.{◌≡◌, ◌≢◌, ◌⊎◌, ◌≤◌, length, map, string_bytes, Err, IfOk, IfErr};
 ghost use Rattle.std.specs.List.{AllByRecursion};
 ghost use Rattle.fleet_model.specs.Limits.{max_commands};
-ghost use Rattle.photo_script.specs.Reading.{script_of};
+ghost use Rattle.script_reader.specs.Reading.{script_of};
 ghost use Rattle.photo_script.specs.Reports.{answer_of, texts_from, IsAbout};
-ghost use Rattle.photo_script.specs.declared.fault.ScriptFault.{ScriptFault};
-ghost use Rattle.photo_script.specs.declared.fault.ScriptFault.TheVariants as script;
+ghost use Rattle.script_reader.specs.declared.fault.ScriptFault.{ScriptFault};
+ghost use Rattle.script_reader.specs.declared.fault.ScriptFault.TheVariants as script;
 ghost use Rattle.fleet_steps.specs.declared.fault.RunError.TheVariants as error;
 ghost use Rattle.photofleet_c.specs.Printed.{IsOutput, IsPrinted};
 

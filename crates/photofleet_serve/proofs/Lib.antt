@@ -1,6 +1,5 @@
 pub mod CommandLines
 pub mod Numbers
 pub mod Workers
-pub mod Outputs
 pub mod StatusLemmas
 pub mod WordExamples

@@ -1,6 +1,6 @@
 //! What the program does, from the words to the exit status.
 ghost use Rattle.std.specs.Prelude.{◌≡◌, ◌⊎◌, ℕ, List, true, map, Err, OnOk, IfSome};
-ghost use Rattle.photo_script.specs.declared.fault.ScriptFault as script;
+ghost use Rattle.script_reader.specs.declared.fault.ScriptFault as script;
 ghost use Rattle.fleet_steps.specs.declared.fault.RunError.TheVariants.{Script, Write};
 ghost use Rattle.photofleet_serve.specs.Status.{is_status, status_of};
 ghost use Rattle.photofleet_serve.specs.Asked.{Work, work_of, AsksForHelp, AreRefused, Asks, OfFile};
@@ -9,9 +9,9 @@ ghost use Rattle.photofleet_serve.specs.Doing.{AppendsSome, WritesAll, WritesSom
 use crate::opener::Opener;
 use crate::refusals::refused;
 use crate::statuses::status_of;
-use crate::streams::{plan_stream, replay_stream, workers_stream};
+use crate::streams::workers_stream;
 use crate::words::{Job, Request, request_of};
-use fleet_runner::{RunError, plain_stream};
+use fleet_runner::{RunError, plain_stream, plan_stream, replay_stream};
 use std::alloc::Global;
 use std::convert::AsStr;
 use std::io::Write;

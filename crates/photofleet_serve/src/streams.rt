@@ -1,15 +1,12 @@
-//! Work on a script, from a reader's bytes to what is printed.
-ghost use Rattle.std.specs.Prelude.{◌≡◌, ◌≢◌, ◌⊎◌, OnOk, IfErr, IfSome, Err};
-ghost use Rattle.photo_script.specs.declared.fault.ScriptFault.{ScriptFault};
-ghost use Rattle.fleet_steps.specs.declared.fault.RunError.TheVariants.{NoMemory, NoWorker, NotLawful, Script, Write};
-ghost use Rattle.fleet_runner.specs.Outputs.{IsOfPlainRun, IsOfWorkersRun};
-ghost use Rattle.photofleet_serve.specs.Asked.{run, replay, batches};
-ghost use Rattle.photofleet_serve.specs.Doing.{IsUnlawfulFor, WritesAll, WritesSome, WritesPart};
+//! A run by workers, from a reader's bytes to what is printed.
+ghost use Rattle.std.specs.Prelude.{◌≡◌, ◌⊎◌, OnOk, IfErr, IfSome, Err};
+ghost use Rattle.script_reader.specs.declared.fault.ScriptFault.{ScriptFault};
+ghost use Rattle.fleet_steps.specs.declared.fault.RunError.TheVariants.{NoMemory, NoWorker, Script, Write};
+ghost use Rattle.fleet_runner.specs.Outputs.{IsOfWorkersRun};
+ghost use Rattle.photofleet_serve.specs.Asked.{run};
+ghost use Rattle.photofleet_serve.specs.Doing.{WritesAll, WritesSome, WritesPart};
 
-use fleet_runner::{
-    OpenGate, RunError, Workers, read_source, replay, run_stream, write_plan, write_reports,
-};
-use photo_batcher::plan;
+use fleet_runner::{OpenGate, RunError, Workers, run_stream};
 use std::alloc::Global;
 use std::io::{Read, Write};
 use std::sync::{Arc, Wait};
@@ -40,61 +37,4 @@ pub fn workers_stream<R: Read, W: Write, T: Threads + Wait + Copy + Send + 'stat
         return Err(RunError::NoMemory);
     };
     run_stream(rt, alloc, reader, writer, workers, gate)
-}
-
-/// Reads a script, runs its commands in the order of these numbers, if it is a lawful one, and then writes its reports.
-///
-/// After a `Script` fault and after `NotLawful` nothing is written. `NoMemory` leaves the whole texts of some first
-/// reports, perhaps of none, and `Write` a front of all texts.
-pub fn replay_stream<R: Read, W: Write>(
-    alloc: Global,
-    reader: &mut R,
-    writer: &mut W,
-    order: Vec<u32>,
-) -> Result<(), RunError>
-    ensures written { OnOk result (IfSome (R.remaining reader.old) (WritesAll (W.contents writer.old)
-        (W.contents writer.new) (replay order.items))) }
-    ensures first { result ≡ Err NoMemory → (writer.new ≡ writer.old)
-        ⊎ IfSome (R.remaining reader.old) (WritesSome (W.contents writer.old) (W.contents writer.new) (replay order.items)) }
-    ensures front { result ≡ Err Write
-        → IfSome (R.remaining reader.old) (WritesPart (W.contents writer.old) (W.contents writer.new) (replay order.items)) }
-    ensures unlawful { result ≡ Err NotLawful → (writer.new ≡ writer.old)
-        × IfSome (R.remaining reader.old) (λ input. IsUnlawfulFor input order.items) }
-    ensures nothing { (fault : ScriptFault) → result ≡ Err (Script fault) → writer.new ≡ writer.old }
-    ensures err { IfErr result (λ e. e ≢ NoWorker) }
-{
-    let script = match read_source(alloc, reader) {
-        Ok(script) => script,
-        Err(fault) => return Err(RunError::Script(fault)),
-    };
-    let outcome = replay(alloc, &script, &order)?;
-    // It is long. Given back behind the many small pieces of the outcome it would have the C library go over all of them.
-    drop(order);
-    write_reports(alloc, writer, &script, outcome.reports.as_slice())
-}
-
-/// Reads a script and writes its plan.
-///
-/// After a `Script` fault nothing is written. `NoMemory` and `Write` leave a front of the plan's text, perhaps nothing.
-pub fn plan_stream<R: Read, W: Write>(
-    alloc: Global,
-    reader: &mut R,
-    writer: &mut W,
-) -> Result<(), RunError>
-    ensures written { OnOk result (IfSome (R.remaining reader.old) (WritesAll (W.contents writer.old) (W.contents writer.new) batches)) }
-    ensures first { result ≡ Err NoMemory → (writer.new ≡ writer.old)
-        ⊎ IfSome (R.remaining reader.old) (WritesSome (W.contents writer.old) (W.contents writer.new) batches) }
-    ensures front { result ≡ Err Write
-        → IfSome (R.remaining reader.old) (WritesPart (W.contents writer.old) (W.contents writer.new) batches) }
-    ensures nothing { (fault : ScriptFault) → result ≡ Err (Script fault) → writer.new ≡ writer.old }
-    ensures err { IfErr result IsOfPlainRun }
-{
-    let script = match read_source(alloc, reader) {
-        Ok(script) => script,
-        Err(fault) => return Err(RunError::Script(fault)),
-    };
-    let Ok(plan) = plan(alloc, &script) else {
-        return Err(RunError::NoMemory);
-    };
-    write_plan(alloc, writer, &plan)
 }

@@ -4,7 +4,7 @@ use crate::field_cause as causes;
 use crate::filter_cause::bad_filter;
 use crate::lines::{Line, Span};
 use crate::word_cause::bad_words;
-use photo_script::{LineFault, ScriptFault};
+use script_reader::{LineFault, ScriptFault};
 use std::alloc::{AllocError, Global};
 use std::str::from_utf8;
 use unicode_width::UnicodeWidthStr;

@@ -8,17 +8,17 @@ use Rattle.std.proofs.lemmas.List.{append-nil}
 use Rattle.std.proofs.lemmas.List.Sums.{fails_before_first}
 use Rattle.std.proofs.lemmas.List.Folds.{list_any_none}
 use Rattle.std.proofs.lemmas.Slice.Eq.{bytes_eq-Decides}
-use Rattle.photo_script.specs.Earlier.{Earlier, earlier, declared_by, made_by, names_of, pictures_of}
-use Rattle.photo_script.specs.Fields.{is_word, is_name, is_decimal, is_picture, number_of, picture_of, place_of}
-use Rattle.photo_script.specs.Lines.{fields_of, third_field_on}
+use Rattle.script_reader.specs.Earlier.{Earlier, earlier, declared_by, made_by, names_of, pictures_of}
+use Rattle.script_reader.specs.Fields.{is_word, is_name, is_decimal, is_picture, number_of, picture_of, place_of}
+use Rattle.script_reader.specs.Lines.{fields_of, third_field_on}
 use Rattle.fleet_model.specs.Limits.{max_devices, max_commands}
-use Rattle.photo_script.specs.Limits.{max_line_bytes}
-use Rattle.photo_script.specs.Reading.{sayings, with_front, commands_said}
-use Rattle.photo_script.specs.Saying.{◌>>=◌, or_fault, declaration_said, device_line_said, command_said, creation_said, new_line_said, device_said, new_picture_said, command_line_said, fields_said, said}
+use Rattle.script_reader.specs.Limits.{max_line_bytes}
+use Rattle.script_reader.specs.Reading.{sayings, with_front, commands_said}
+use Rattle.script_reader.specs.Saying.{◌>>=◌, or_fault, declaration_said, device_line_said, command_said, creation_said, new_line_said, device_said, new_picture_said, command_line_said, fields_said, said}
 use Rattle.fleet_model.specs.declared.command.Command.{Command}
-use Rattle.photo_script.specs.declared.fault.LineFault.{LineFault}
-use Rattle.photo_script.specs.declared.fault.LineFault.TheVariants as fault
-use Rattle.photo_script.specs.declared.fault.ScriptFault.{ScriptFault}
+use Rattle.script_reader.specs.declared.fault.LineFault.{LineFault}
+use Rattle.script_reader.specs.declared.fault.LineFault.TheVariants as fault
+use Rattle.script_reader.specs.declared.fault.ScriptFault.{ScriptFault}
 use Rattle.script_text.specs.Printable.{AllDiffer}
 use Rattle.script_text.proofs.Adding.{names-more, pictures-more}
 use Rattle.script_text.proofs.Differing.{differ-more, each-other, each-picture}

@@ -13,15 +13,15 @@ use Rattle.photo_filter_text.specs.Printed.{◌␣◌, text_of}
 use Rattle.photo_filter_rules.specs.Filters.{filter_of}
 use Rattle.photo_filter_rules.proofs.Found.{found}
 use Rattle.fleet_model.specs.Contents.{Contents}
-use Rattle.photo_script.specs.Earlier.{Earlier, earlier, declared_by, filter_declared_by, made_by, is_command, names_of, filters_of, pictures_of, commands_of}
-use Rattle.photo_script.specs.Fields.{is_name, place_of}
+use Rattle.script_reader.specs.Earlier.{Earlier, earlier, declared_by, filter_declared_by, made_by, is_command, names_of, filters_of, pictures_of, commands_of}
+use Rattle.script_reader.specs.Fields.{is_name, place_of}
 use Rattle.fleet_model.specs.Limits.{max_devices, max_commands}
-use Rattle.photo_script.specs.Lines.{fields_of, third_field_on}
-use Rattle.photo_script.specs.Reading.{sayings, with_front, commands_said}
-use Rattle.photo_script.specs.Saying.{said, fields_said}
+use Rattle.script_reader.specs.Lines.{fields_of, third_field_on}
+use Rattle.script_reader.specs.Reading.{sayings, with_front, commands_said}
+use Rattle.script_reader.specs.Saying.{said, fields_said}
 use Rattle.fleet_model.specs.declared.command.Command.{Command}
-use Rattle.photo_script.specs.declared.fault.LineFault.{LineFault}
-use Rattle.photo_script.specs.declared.fault.ScriptFault.{ScriptFault}
+use Rattle.script_reader.specs.declared.fault.LineFault.{LineFault}
+use Rattle.script_reader.specs.declared.fault.ScriptFault.{ScriptFault}
 use Rattle.script_text.specs.Laws.{IsBefore}
 use Rattle.script_text.specs.Texts.{line_of_command, line_of_device, lines_of_devices}
 use Rattle.script_text.specs.Printable.{FitsFilter, made_in, pictures_made, AllDiffer, IsShort}

@@ -12,13 +12,13 @@ use Rattle.photo_filter_rules.specs.Matching.{IsInRange}
 use Rattle.photo_version.specs.Author.{device_of_author}
 use Rattle.photo_version.specs.Version.{Version}
 use Rattle.fleet_model.specs.Contents.{Contents, IsWithin, record_of}
-use Rattle.photo_script.specs.Earlier.{Earlier, declared_by, filter_declared_by, made_by, is_command}
-use Rattle.photo_script.specs.Fields.{is_name}
-use Rattle.photo_script.specs.Limits.{max_line_bytes}
-use Rattle.photo_script.specs.Lines.{fields_of, third_field_on, is_not_empty}
+use Rattle.script_reader.specs.Earlier.{Earlier, declared_by, filter_declared_by, made_by, is_command}
+use Rattle.script_reader.specs.Fields.{is_name}
+use Rattle.script_reader.specs.Limits.{max_line_bytes}
+use Rattle.script_reader.specs.Lines.{fields_of, third_field_on, is_not_empty}
 use Rattle.photo_record.specs.Showing.{words_text}
 use Rattle.photo_script.specs.Reports.{name_of, version_text}
-use Rattle.photo_script.specs.Saying.{said, fields_said, device_said}
+use Rattle.script_reader.specs.Saying.{said, fields_said, device_said}
 use Rattle.fleet_model.specs.declared.command.Command.{Command}
 use Rattle.fleet_model.specs.declared.command.Command.TheVariants as command
 use Rattle.script_text.specs.Laws.{IsBefore}

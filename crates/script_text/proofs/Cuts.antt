@@ -7,8 +7,8 @@ use Rattle.std.proofs.lemmas.List.{drop_at, take_at, length-append, get_or_at, g
 use Rattle.std.proofs.lemmas.List.Splits.{slice_split_at, slice_split_none, slice_split-cons_no}
 use Rattle.std.proofs.lemmas.List.Sums.{position_or_len_is}
 use Rattle.std.proofs.lemmas.List.Folds.{list_any_at}
-use Rattle.photo_script.specs.Lines.{pieces_of, without_last_empty, lines_of, is_not_empty, fields_of, without_spaces, behind_field, third_field_on}
-use Rattle.photo_script.specs.Fields.{cut_at}
+use Rattle.script_reader.specs.Lines.{pieces_of, without_last_empty, lines_of, is_not_empty, fields_of, without_spaces, behind_field, third_field_on}
+use Rattle.script_reader.specs.Fields.{cut_at}
 use Rattle.script_text.specs.Texts.{ended}
 use Rattle.script_text.proofs.Bytes.{is_from, from-weaker, from-append, none-is}
 

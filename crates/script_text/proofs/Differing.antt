@@ -12,7 +12,7 @@ use Rattle.std.proofs.lemmas.List.Elements.{All-push, All-nil, recursion_from_Al
 use Rattle.std.proofs.lemmas.List.Folds.{list_any-append, list_any_none, list_any_at}
 use Rattle.std.proofs.lemmas.Option.{get_or_from_slice_get, slice_get_within}
 use Rattle.std.proofs.lemmas.Slice.Eq.{bytes_eq-Decides}
-use Rattle.photo_script.specs.Fields.{is_name}
+use Rattle.script_reader.specs.Fields.{is_name}
 use Rattle.fleet_model.specs.declared.command.Command.{Command}
 use Rattle.script_text.specs.Printable.{AllDiffer, made_in, pictures_made}
 use Rattle.script_text.proofs.NameBytes.{differ, name-at}

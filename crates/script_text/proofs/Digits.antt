@@ -11,9 +11,9 @@ use Rattle.std.proofs.lemmas.List.Elements.{All-cons, All-nil}
 use Rattle.std.proofs.lemmas.Str.Parse.{IsNumeralModel, numerals_by_value, tells_all_ascii_digits}
 use Rattle.photo_record.specs.Limits.{IsPicNo, max_rating}
 use Rattle.photo_record.specs.Reading.{rating_of_text}
-use Rattle.photo_script.specs.Limits.{max_version, max_epoch}
-use Rattle.photo_script.specs.Fields.{is_decimal, number_of, is_picture, picture_of, is_version_number, version_number_of, is_epoch, epoch_of}
-use Rattle.photo_script.specs.Lines.{is_not_empty}
+use Rattle.script_reader.specs.Limits.{max_version, max_epoch}
+use Rattle.script_reader.specs.Fields.{is_decimal, number_of, is_picture, picture_of, is_version_number, version_number_of, is_epoch, epoch_of}
+use Rattle.script_reader.specs.Lines.{is_not_empty}
 use Rattle.script_text.proofs.Bytes.{is_from, from-cons, from-weaker}
 use Rattle.script_text.proofs.Cuts.{IsField}
 

@@ -8,7 +8,7 @@ use Rattle.photo_filter_text.specs.Tree.{Tree, All, Nothing, Rate, On, Keyword, 
 use Rattle.photo_filter_text.specs.Printed.{text_of, cmp_text, date_text, civil_text, digit, two_digits}
 use Rattle.photo_filter_text.specs.Tokens.{Token}
 use Rattle.photo_filter_text.specs.Grammar.{IsTest, all, none, rating, day, keyword, IsFactor, negation, brackets, test, IsTerm, factor, conjunction, IsExpr, term, disjunction}
-use Rattle.photo_script.specs.Lines.{fields_of, without_spaces}
+use Rattle.script_reader.specs.Lines.{fields_of, without_spaces}
 use Rattle.script_text.proofs.Bytes.{is_from, from-append, from-cons, from-weaker}
 use Rattle.script_text.proofs.Cuts.{IsField, fields-some}
 use Rattle.script_text.proofs.Wording.{read-plain}

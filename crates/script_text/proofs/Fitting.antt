@@ -3,9 +3,9 @@ use Rattle.std.proofs.Common.{◌≡◌, ℕ, ◌≤◌, true, List, [], ◌∷�
 use Rattle.std.specs.List.{AllByRecursion}
 use Rattle.photo_filter_text.specs.Tree.{Tree}
 use Rattle.fleet_model.specs.Contents.{Contents, IsScript}
-use Rattle.photo_script.specs.Fields.{is_name}
-use Rattle.photo_script.specs.Limits.{max_text_bytes}
-use Rattle.photo_script.specs.Reading.{script_of}
+use Rattle.script_reader.specs.Fields.{is_name}
+use Rattle.script_reader.specs.Limits.{max_text_bytes}
+use Rattle.script_reader.specs.Reading.{script_of}
 use Rattle.fleet_model.specs.declared.command.Command.{Command}
 use Rattle.script_text.specs.Texts.{line_of_command, lines_of_devices, text_of_script}
 use Rattle.script_text.specs.Printable.{FitsFilter, FitsCommand, IsShort, HasValues, AllDiffer, pictures_made, IsPrintable}

@@ -23,18 +23,18 @@ use Rattle.photo_filter_rules.proofs.Found.{found}
 use Rattle.photo_version.specs.Author.{Author, author, author_at, device_of_author, epoch_of_author}
 use Rattle.photo_version.specs.Version.{Version, version}
 use Rattle.fleet_model.specs.Contents.{Contents, IsWithin, record_of}
-use Rattle.photo_script.specs.Earlier.{Earlier}
-use Rattle.photo_script.specs.Fields.{is_name, place_of, is_decimal, number_of, cut_at_colon, cut_at_dot, epoch_of, is_epoch, version_number_of, is_version_number}
+use Rattle.script_reader.specs.Earlier.{Earlier}
+use Rattle.script_reader.specs.Fields.{is_name, place_of, is_decimal, number_of, cut_at_colon, cut_at_dot, epoch_of, is_epoch, version_number_of, is_version_number}
 use Rattle.fleet_model.specs.Limits.{max_devices, max_commands}
-use Rattle.photo_script.specs.Limits.{max_epoch, max_version}
-use Rattle.photo_script.specs.Lines.{fields_of, third_field_on, is_not_empty}
+use Rattle.script_reader.specs.Limits.{max_epoch, max_version}
+use Rattle.script_reader.specs.Lines.{fields_of, third_field_on, is_not_empty}
 use Rattle.photo_record.specs.Showing.{words_text}
 use Rattle.photo_version.specs.Showing.{epoch_text}
 use Rattle.photo_script.specs.Reports.{name_of, version_text}
-use Rattle.photo_script.specs.Saying.{or_fault, device_said, picture_said, new_picture_said, record_said, filter_said, declaration_said, device_line_said, command_said, creation_said, new_line_said, edition_said, edit_line_said, filtering_said, device_and_filter_said, narrow_line_said, refilter_line_said, author_said, version_said, question_said, knows_line_said, question_line_said, command_line_said, fields_said, said}
+use Rattle.script_reader.specs.Saying.{or_fault, device_said, picture_said, new_picture_said, record_said, filter_said, declaration_said, device_line_said, command_said, creation_said, new_line_said, edition_said, edit_line_said, filtering_said, device_and_filter_said, narrow_line_said, refilter_line_said, author_said, version_said, question_said, knows_line_said, question_line_said, command_line_said, fields_said, said}
 use Rattle.fleet_model.specs.declared.command.Command.{Command}
 use Rattle.fleet_model.specs.declared.command.Command.TheVariants as command
-use Rattle.photo_script.specs.declared.fault.LineFault.TheVariants as fault
+use Rattle.script_reader.specs.declared.fault.LineFault.TheVariants as fault
 use Rattle.script_text.specs.Laws.{HasTyped}
 use Rattle.script_text.specs.Texts.{line_of_command, line_of_device}
 use Rattle.script_text.specs.Printable.{FitsVersion, FitsCommand, AreWords, HasWords, HasValues}

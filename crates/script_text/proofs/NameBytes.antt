@@ -8,8 +8,8 @@ use Rattle.std.proofs.lemmas.List.{get_or_at, get_or_append_left, length-append}
 use Rattle.std.proofs.lemmas.List.Elements.{All-cons, All-nil, All-get_or, All-from_recursion}
 use Rattle.std.proofs.lemmas.List.Sums.{position_or_len_is}
 use Rattle.std.proofs.lemmas.Slice.Eq.{bytes_eq-Decides}
-use Rattle.photo_script.specs.Fields.{is_name, is_name_character, place_of}
-use Rattle.photo_script.specs.Lines.{is_not_empty}
+use Rattle.script_reader.specs.Fields.{is_name, is_name_character, place_of}
+use Rattle.script_reader.specs.Lines.{is_not_empty}
 use Rattle.script_text.specs.Printable.{AllDiffer}
 use Rattle.script_text.proofs.Bytes.{is_from, from-cons, from-weaker}
 use Rattle.script_text.proofs.Cuts.{IsField, some-cons}

@@ -11,16 +11,16 @@ use Rattle.photo_filter_text.specs.Tree.{Tree}
 use Rattle.photo_filter_text.specs.Printed.{IsSound}
 use Rattle.photo_filter_rules.specs.Matching.{IsInRange}
 use Rattle.fleet_model.specs.Contents.{Contents, contents, IsWithin, record_of}
-use Rattle.photo_script.specs.Earlier.{earlier, made_by, names_of, filters_of, pictures_of}
-use Rattle.photo_script.specs.Fields.{is_name}
-use Rattle.photo_script.specs.Limits.{max_text_bytes}
-use Rattle.photo_script.specs.Lines.{lines_of, fields_of}
-use Rattle.photo_script.specs.Reading.{sayings, commands_said, script_of_commands, script_of}
-use Rattle.photo_script.specs.Saying.{said}
+use Rattle.script_reader.specs.Earlier.{earlier, made_by, names_of, filters_of, pictures_of}
+use Rattle.script_reader.specs.Fields.{is_name}
+use Rattle.script_reader.specs.Limits.{max_text_bytes}
+use Rattle.script_reader.specs.Lines.{lines_of, fields_of}
+use Rattle.script_reader.specs.Reading.{sayings, commands_said, script_of_commands, script_of}
+use Rattle.script_reader.specs.Saying.{said}
 use Rattle.fleet_model.specs.declared.command.Command.{Command}
-use Rattle.photo_script.specs.declared.fault.LineFault.{LineFault}
-use Rattle.photo_script.specs.declared.fault.ScriptFault.{ScriptFault}
-use Rattle.photo_script.specs.declared.fault.ScriptFault.TheVariants.{TooLarge, NotUtf8}
+use Rattle.script_reader.specs.declared.fault.LineFault.{LineFault}
+use Rattle.script_reader.specs.declared.fault.ScriptFault.{ScriptFault}
+use Rattle.script_reader.specs.declared.fault.ScriptFault.TheVariants.{TooLarge, NotUtf8}
 use Rattle.script_text.specs.Laws.{HasTyped, ReadIsPrintable}
 use Rattle.script_text.specs.Texts.{line_of_command, line_of_device, lines_of_devices, lines_of_script, text_of_script}
 use Rattle.script_text.specs.Printable.{HasValues, AllDiffer, pictures_made, made_in}

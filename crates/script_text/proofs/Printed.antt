@@ -7,12 +7,12 @@ use Rattle.std.proofs.lemmas.List.Concat.{flat_map-append}
 use Rattle.photo_filter_text.specs.Tree.{Tree}
 use Rattle.photo_filter_rules.specs.Matching.{IsInRange}
 use Rattle.fleet_model.specs.Contents.{Contents, IsWithin, record_of}
-use Rattle.photo_script.specs.Earlier.{declared_by, filter_declared_by, names_of, filters_of, commands_of}
-use Rattle.photo_script.specs.Fields.{is_name}
-use Rattle.photo_script.specs.Lines.{fields_of, third_field_on}
-use Rattle.photo_script.specs.Reading.{sayings, commands_said, script_of_commands, script_of_lines}
+use Rattle.script_reader.specs.Earlier.{declared_by, filter_declared_by, names_of, filters_of, commands_of}
+use Rattle.script_reader.specs.Fields.{is_name}
+use Rattle.script_reader.specs.Lines.{fields_of, third_field_on}
+use Rattle.script_reader.specs.Reading.{sayings, commands_said, script_of_commands, script_of_lines}
 use Rattle.fleet_model.specs.declared.command.Command.{Command}
-use Rattle.photo_script.proofs.Whole.{script_of-text}
+use Rattle.script_reader.proofs.Whole.{script_of-text}
 use Rattle.script_text.specs.Laws.{PrintedIsRead}
 use Rattle.script_text.specs.Texts.{line_of_command, lines_of_devices, lines_of_script, text_of_script}
 use Rattle.script_text.specs.Printable.{FitsFilter, FitsCommand, IsShort, HasValues, AllDiffer, pictures_made}

@@ -6,12 +6,12 @@ use Rattle.photo_filter_text.specs.Tree.{Tree}
 use Rattle.photo_filter_rules.specs.Filters.{IsFilterOf}
 use Rattle.photo_filter_rules.proofs.Found.{found}
 use Rattle.photo_version.specs.Version.{Version}
-use Rattle.photo_script.specs.Earlier.{Earlier}
-use Rattle.photo_script.specs.Fields.{is_name, place_of}
+use Rattle.script_reader.specs.Earlier.{Earlier}
+use Rattle.script_reader.specs.Fields.{is_name, place_of}
 use Rattle.fleet_model.specs.Limits.{max_devices, max_commands}
-use Rattle.photo_script.specs.Saying.{or_fault, device_said, new_picture_said, record_said, filter_said, declaration_said, device_line_said, command_said, creation_said, new_line_said, picture_said, edition_said, edit_line_said, removal_said, remove_line_said, two_said, two_devices_said, pull_line_said, preview_line_said, filtering_said, device_and_filter_said, narrow_line_said, refilter_line_said, list_line_said, conflicts_line_said, version_said, knowledge_line_said, question_said, knows_line_said, question_line_said, command_line_said, fields_said}
+use Rattle.script_reader.specs.Saying.{or_fault, device_said, new_picture_said, record_said, filter_said, declaration_said, device_line_said, command_said, creation_said, new_line_said, picture_said, edition_said, edit_line_said, removal_said, remove_line_said, two_said, two_devices_said, pull_line_said, preview_line_said, filtering_said, device_and_filter_said, narrow_line_said, refilter_line_said, list_line_said, conflicts_line_said, version_said, knowledge_line_said, question_said, knows_line_said, question_line_said, command_line_said, fields_said}
 use Rattle.fleet_model.specs.declared.command.Command.TheVariants as command
-use Rattle.photo_script.specs.declared.fault.LineFault.TheVariants as fault
+use Rattle.script_reader.specs.declared.fault.LineFault.TheVariants as fault
 
 filter-said : (text : List ℕ) (tree : Tree) → IsFilterOf text tree → filter_said text ≡ Ok tree
 unfolding filter_said

@@ -16,14 +16,14 @@ use Rattle.photo_version.specs.Author.{Author, author_at, device_of_author, epoc
 use Rattle.photo_version.specs.Version.{Version, version}
 use Rattle.photo_version.proofs.AuthorLemmas.{parts_back}
 use Rattle.fleet_model.specs.Contents.{Contents}
-use Rattle.photo_script.specs.Earlier.{Earlier}
-use Rattle.photo_script.specs.Limits.{max_version, max_epoch}
-use Rattle.photo_script.specs.Fields.{is_name, place_of, is_colon, is_dot, cut_at_dot}
+use Rattle.script_reader.specs.Earlier.{Earlier}
+use Rattle.script_reader.specs.Limits.{max_version, max_epoch}
+use Rattle.script_reader.specs.Fields.{is_name, place_of, is_colon, is_dot, cut_at_dot}
 use Rattle.photo_record.specs.Showing.{words_text}
 use Rattle.photo_version.specs.Showing.{epoch_text}
 use Rattle.photo_script.specs.Reports.{name_of, author_text, version_text}
-use Rattle.photo_script.specs.Saying.{or_fault, device_said, picture_said, new_picture_said, record_said, author_said, version_said}
-use Rattle.photo_script.specs.declared.fault.LineFault.TheVariants as fault
+use Rattle.script_reader.specs.Saying.{or_fault, device_said, picture_said, new_picture_said, record_said, author_said, version_said}
+use Rattle.script_reader.specs.declared.fault.LineFault.TheVariants as fault
 use Rattle.script_text.specs.Printable.{AllDiffer, FitsVersion, AreWords}
 use Rattle.script_text.proofs.Bytes.{is_from, from-append, none-is, from-cons}
 use Rattle.script_text.proofs.Cuts.{IsField, cut-there, some-append}

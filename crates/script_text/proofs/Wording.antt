@@ -20,7 +20,7 @@ use Rattle.photo_record.specs.declared.fault.WordFault.TheVariants.{Empty, BadCh
 use Rattle.unicode_normalization.specs.Forms.{nfc}
 use Rattle.photo_record.proofs.ReadLemmas.{word_itself}
 use Rattle.photo_record.proofs.SetLemmas.{with_piece-absent, words_of_text-dash, words_of_text-pieces, rising_tail}
-use Rattle.photo_script.specs.Lines.{is_not_empty}
+use Rattle.script_reader.specs.Lines.{is_not_empty}
 use Rattle.photo_record.specs.Showing.{words_text}
 use Rattle.script_text.proofs.Bytes.{is_from, from-places, from-append}
 use Rattle.script_text.proofs.Cuts.{IsField}

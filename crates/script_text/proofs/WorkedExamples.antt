@@ -10,8 +10,8 @@ use Rattle.photo_filter_text.specs.Printed.{date_text}
 use Rattle.photo_filter_rules.specs.Filters.{filter_of}
 use Rattle.photo_record.specs.Calendar.{date_of, years_off, months_off}
 use Rattle.photo_record.specs.Reading.{day_of_text, words_of_text, word_of_text}
-use Rattle.photo_script.specs.Saying.{said, fields_said, command_line_said, question_line_said, device_line_said, filter_said, declaration_said, new_line_said, creation_said, command_said, device_said, new_picture_said, record_said, list_line_said, picture_said, edition_said, edit_line_said, removal_said, remove_line_said, two_said, two_devices_said, pull_line_said, preview_line_said, filtering_said, device_and_filter_said, narrow_line_said, refilter_line_said, conflicts_line_said, knowledge_line_said, knows_line_said, question_said, author_said, version_said}
-use Rattle.photo_script.specs.Reading.{script_of}
+use Rattle.script_reader.specs.Saying.{said, fields_said, command_line_said, question_line_said, device_line_said, filter_said, declaration_said, new_line_said, creation_said, command_said, device_said, new_picture_said, record_said, list_line_said, picture_said, edition_said, edit_line_said, removal_said, remove_line_said, two_said, two_devices_said, pull_line_said, preview_line_said, filtering_said, device_and_filter_said, narrow_line_said, refilter_line_said, conflicts_line_said, knowledge_line_said, knows_line_said, question_said, author_said, version_said}
+use Rattle.script_reader.specs.Reading.{script_of}
 use Rattle.script_text.specs.Texts.{line_of_command}
 use Rattle.script_text.specs.Examples.{EachKind, NotAgain}
 

@@ -7,11 +7,11 @@ use Rattle.photo_filter_text.specs.Tree.{All, Rate, Not, Keyword, Both, Either}
 use Rattle.photo_version.specs.Author.{author, author_at}
 use Rattle.photo_version.specs.Version.{version}
 use Rattle.fleet_model.specs.Contents.{Contents, contents}
-use Rattle.photo_script.specs.Reading.{script_of}
+use Rattle.script_reader.specs.Reading.{script_of}
 use Rattle.fleet_model.specs.declared.command.Command.{Command}
 use Rattle.fleet_model.specs.declared.command.Command.TheVariants as command
-use Rattle.photo_script.specs.declared.fault.LineFault.TheVariants as fault
-use Rattle.photo_script.specs.declared.fault.ScriptFault.TheVariants.{Line}
+use Rattle.script_reader.specs.declared.fault.LineFault.TheVariants as fault
+use Rattle.script_reader.specs.declared.fault.ScriptFault.TheVariants.{Line}
 use Rattle.script_text.specs.Texts.{text_of_script}
 
 abbrev pub beach : Record

@@ -9,11 +9,11 @@ use Rattle.photo_filter_rules.specs.Alternatives.{is_too_wide}
 use Rattle.photo_filter_rules.specs.declared.polarity.Polarity.TheVariants.{Plain}
 use Rattle.photo_filter_rules.specs.Matching.{IsInRange}
 use Rattle.fleet_model.specs.Contents.{Contents, IsScript, IsWithin, record_of}
-use Rattle.photo_script.specs.Earlier.{Earlier}
-use Rattle.photo_script.specs.Fields.{is_name}
+use Rattle.script_reader.specs.Earlier.{Earlier}
+use Rattle.script_reader.specs.Fields.{is_name}
 use Rattle.fleet_model.specs.Limits.{max_commands}
-use Rattle.photo_script.specs.Reading.{script_of}
-use Rattle.photo_script.specs.Saying.{said}
+use Rattle.script_reader.specs.Reading.{script_of}
+use Rattle.script_reader.specs.Saying.{said}
 use Rattle.fleet_model.specs.declared.command.Command.{Command}
 use Rattle.fleet_model.specs.declared.command.Command.TheVariants as command
 use Rattle.script_text.specs.Texts.{line_of_command, text_of_script}

@@ -12,8 +12,8 @@ use Rattle.photo_filter_text.specs.Tree.{Tree}
 use Rattle.photo_filter_text.specs.Printed.{text_of}
 use Rattle.photo_filter_rules.specs.Filters.{IsFilterOf}
 use Rattle.fleet_model.specs.Contents.{Contents}
-use Rattle.photo_script.specs.Fields.{is_name}
-use Rattle.photo_script.specs.Limits.{max_text_bytes, max_line_bytes, max_version, max_epoch}
+use Rattle.script_reader.specs.Fields.{is_name}
+use Rattle.script_reader.specs.Limits.{max_text_bytes, max_line_bytes, max_version, max_epoch}
 use Rattle.photo_script.specs.Reports.{IsOfScript}
 use Rattle.fleet_model.specs.declared.command.Command.{Command}
 use Rattle.fleet_model.specs.declared.command.Command.TheVariants as command

@@ -2,7 +2,7 @@
 ghost use Rattle.std.specs.Prelude.{◌≡◌, ◌≤◌, ◌↔◌, IsTrue, true, length, take};
 ghost use Rattle.std.specs.List.{AllByRecursion, list_any};
 ghost use Rattle.std.specs.Str.{bytes_eq};
-ghost use Rattle.photo_script.specs.Fields.{is_name};
+ghost use Rattle.script_reader.specs.Fields.{is_name};
 ghost use Rattle.script_text.specs.Printable.{AllDiffer};
 
 use crate::limits::MAX_NAME_CHARACTERS;

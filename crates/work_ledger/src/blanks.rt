@@ -6,7 +6,7 @@ ghost use Rattle.work_ledger.specs.Stakes.{IsCountable, nothing_done, stake};
 use crate::names::Books;
 use crate::page::Page;
 use crate::share::{NOTHING, Share};
-use photo_script::Tally;
+use fleet_model::Tally;
 use std::marker::Model;
 use std::sync::ledger;
 use std::sync::ledger::{Blank, Book};

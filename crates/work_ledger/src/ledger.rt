@@ -9,7 +9,7 @@ use crate::kind::Kind;
 use crate::names::Books;
 use crate::page::Page;
 use crate::share::Share;
-use photo_script::{Tally, Totals};
+use fleet_model::{Tally, Totals};
 use std::alloc::{AllocError, Global};
 use std::sync::{Arc, Mutex, Wait};
 

@@ -7,7 +7,7 @@ ghost use Rattle.work_ledger.specs.Stakes.{IsCountable, Within, given, kinds_of,
 use crate::names::{
     Books, ChangesDone, ChangesLeft, Moved, PullsDone, PullsLeft, ReportsDone, ReportsLeft,
 };
-use photo_script::Totals;
+use fleet_model::Totals;
 use std::sync::ledger::{Book, Share};
 
 // The book, with the standard ledgers' books that say what it has to be.

@@ -10,7 +10,7 @@ use crate::names::{
     Books, ChangesDone, ChangesLeft, Moved, PullsDone, PullsLeft, ReportsDone, ReportsLeft,
 };
 use crate::page::Page;
-use photo_script::{Tally, Totals};
+use fleet_model::{Tally, Totals};
 use std::marker::Model;
 use std::sync::ledger;
 

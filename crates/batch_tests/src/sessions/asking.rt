@@ -1,8 +1,7 @@
 // What a session is asked.
 use super::working::pulls;
 use super::{filter_of, has};
-use fleet_questions::{holding, knowing, lacking, pull_moves, selected};
-use fleet_session::{FleetFault, Session};
+use live_fleet::{FleetFault, Session, holding, knowing, lacking, pull_moves, selected};
 use photo_device::{Conflict, Device, HeldSet, SharedHeld};
 use photo_record::PicNo;
 use photo_script::{Command, Report};

@@ -1,5 +1,5 @@
 // A script whose commands a session is given by number.
-use fleet_session::Session;
+use live_fleet::{FleetFault, Session};
 use photo_script::{Script, read_script, report_text};
 use std::alloc::Global;
 
@@ -34,10 +34,17 @@ fn tells(alloc: Global, session: &mut Session, script: &Script) -> bool {
             return false;
         }
     }
-    session.run_number(script, 0).is_err()
-        && session.run_number(script, 4).is_err()
+    has_no_command(session, script, 0)
+        && has_no_command(session, script, 4)
         && session.fleet().commands() == 3
         && session.fleet().log().len() == 1
+}
+
+fn has_no_command(session: &mut Session, script: &Script, number: u32) -> bool {
+    match session.run_number(script, number) {
+        Ok(_) => false,
+        Err(fault) => fault == FleetFault::NoCommand,
+    }
 }
 
 fn is_told(

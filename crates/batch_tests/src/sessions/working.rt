@@ -1,6 +1,6 @@
 // What is done by a session.
 use super::filter_of;
-use fleet_session::{FleetFault, Session};
+use live_fleet::{FleetFault, Session};
 use photo_device::Place;
 use photo_record::{Day, PicNo, Rating, Record, Words};
 use std::alloc::Global;

@@ -2,7 +2,7 @@ use Rattle.std.proofs.Common.{◌≡◌, length, Bool, true, ◌&&◌, sym, ap, 
 use Rattle.std.proofs.lemmas.Iterator.{YieldsList-from_slice}
 use Rattle.std.proofs.lemmas.Iterator.Search.{all_from_yields_List}
 use Rattle.std.proofs.lemmas.Bool.{lt-ltb}
-use Rattle.photo_script.specs.Fields.{is_name_character, is_name}
+use Rattle.script_reader.specs.Fields.{is_name_character, is_name}
 use Rattle.script_text.proofs.name.is_name.Goals as goal
 
 both_true : (a b x : Bool) → a ≡ true → b ≡ true → (a && (b && x)) ≡ x

@@ -1,5 +1,0 @@
-mod Sorted
-mod Shown
-mod Holders
-mod SaysYes
-mod WorkedExamples

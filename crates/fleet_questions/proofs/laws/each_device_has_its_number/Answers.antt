@@ -1,5 +1,0 @@
-use Rattle.fleet_questions.proofs.Holders.{has_numbers}
-use Rattle.fleet_questions.proofs.laws.each_device_has_its_number.Goals as goal
-
-pub returns : goal.returns
-returns c = has_numbers c.args.fleet.now c.devices-devices.ensures.came

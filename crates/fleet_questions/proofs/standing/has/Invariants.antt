@@ -1,8 +1,0 @@
-use Rattle.std.proofs.Common.{◌≡◌, drop}
-use Rattle.block_list.specs.Blocks.{joined}
-use Rattle.fleet_questions.specs.Standing.{has}
-use Rattle.fleet_questions.proofs.standing.has.Given as goal
-
--- what the blocks that are left have is what all have
-abbrev pub invariant-loop-block : goal.invariant-loop-block
-invariant-loop-block l = has l.picture (joined (drop l.block-index l.block-items)) ≡ has l.picture (joined l.block-items)

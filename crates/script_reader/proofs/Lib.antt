@@ -1,0 +1,21 @@
+mod Accepted
+mod Arguments
+mod WorkedExamples
+mod Changing
+mod Commands
+mod Cuts
+mod FilterTexts
+mod Gathered
+mod HasField
+mod Knowing
+mod Moving
+mod Numbers
+mod Places
+mod Returns
+mod SharingLemmas
+mod Spaces
+mod Taken
+mod Taking
+mod Trailing
+mod Turns
+pub mod Whole

@@ -1,0 +1,11 @@
+pub mod Limits
+pub mod Coding
+pub mod Lines
+pub mod Fields
+pub mod Earlier
+pub mod Saying
+pub mod Reading
+pub mod Steps
+pub mod Sharing
+pub mod Laws
+pub mod Examples

@@ -1,0 +1,72 @@
+-- Machinery of the proofs, which only contracts of private functions cite: how what a reader does is tied to what lines
+-- say, where memory may be refused instead.
+use Rattle.std.specs.Prelude.{◌≡◌, ℕ, true, false, ◌||◌, ◌==◌, if◌then◌else◌, List, [], ◌++◌, length, map, Option, Some, option_to_list, Result, Ok, Err}
+use Rattle.std.specs.Borrow.{Bor}
+use Rattle.std.specs.BTreeSet.{contains}
+use Rattle.std.specs.List.{list_any}
+use Rattle.std.specs.Ordering.{nat_cmp}
+use Rattle.fleet_model.specs.Contents.{contents}
+use Rattle.script_reader.specs.Earlier.{Earlier, declared_by, filter_declared_by, made_by, is_command}
+use Rattle.fleet_model.specs.declared.command.Command.{Command}
+use Rattle.script_reader.specs.declared.reader.Reader.{Reader}
+use Rattle.script_reader.specs.Saying.{with_room, device_said}
+use Rattle.script_reader.specs.declared.fault.LineFault.{LineFault}
+use Rattle.script_reader.specs.declared.fault.ScriptFault.{ScriptFault}
+use Rattle.script_reader.specs.declared.fault.ScriptFault.TheVariants as script
+use Rattle.script_reader.specs.declared.refusal.Refusal.{Refusal}
+use Rattle.script_reader.specs.declared.refusal.Refusal.TheVariants.{Memory, Fault}
+
+abbrev pub fault_at : ℕ → Refusal → ScriptFault
+fault_at line Memory = script.NoMemory
+fault_at line (Fault fault) = script.Line line fault
+
+-- the refusal is that fault, unless memory was refused
+abbrev pub Refuses : {A : Type 0} → Refusal → Result A LineFault → Type 0
+Refuses Memory said = Unit {0}
+Refuses (Fault fault) said = said ≡ Err fault
+
+-- the answer, seen by a view, is what is said, unless memory was refused
+abbrev pub Gives : {A B : Type 0} → (A → B) → Result A Refusal → Result B LineFault → Type 0
+Gives view (Ok x) said = said ≡ Ok (view x)
+Gives view (Err e) said = Refuses e said
+
+-- what the lines tell that a reader has taken
+abbrev pub seen : Reader → Earlier
+seen r = record { names = r.script.names; makes = λ p. contains nat_cmp r.pictures p; commands = length r.script.commands }
+
+-- a reader has taken one line more, of these fields and this text from the third on, which says that command
+pub record Takes (old : Reader) (fields : List (List ℕ)) (filter : List ℕ) (said : Option Command) (new : Reader) : Type 0 where
+  pub names : new.script.names ≡ old.script.names ++ declared_by fields
+  pub filters : new.script.filters ≡ old.script.filters ++ filter_declared_by fields filter
+  pub commands : new.script.commands ≡ old.script.commands ++ option_to_list said
+  pub makes : (p : ℕ) → contains nat_cmp new.pictures p ≡ (contains nat_cmp old.pictures p || list_any (λ q. q == p) (made_by fields))
+  pub counted : length (option_to_list said) ≡ (if is_command fields then 1 else 0)
+
+-- a reader has taken the line, or it is refused as it is said
+abbrev pub Reads : Reader → List (List ℕ) → List ℕ → Result (Option Command) LineFault → Result (Unit {0}) Refusal → Reader → Type 0
+Reads old fields filter said (Ok done) new = (x : Option Command) × (said ≡ Ok x) × Takes old fields filter x new
+Reads old fields filter said (Err e) new = Refuses e said
+
+-- a reader of no lines
+pub record IsFirst (r : Reader) : Type 0 where
+  pub script : r.script ≡ contents [] [] []
+  pub makes : (p : ℕ) → contains nat_cmp r.pictures p ≡ false
+
+-- the place of a declared device, where there is room for one command more
+unfoldable pub first_said : Earlier → List ℕ → Result ℕ LineFault
+first_said before name = with_room before (device_said before name)
+
+-- a reader has taken a line of these fields and this text from the third on, but not yet the command that it says
+pub record Lacks (before : Reader) (fields : List (List ℕ)) (filter : List ℕ) (now : Reader) : Type 0 where
+  pub script : now.script ≡ before.script
+  pub no_name : declared_by fields ≡ []
+  pub no_filter : filter_declared_by fields filter ≡ []
+  pub makes : (p : ℕ) → contains nat_cmp now.pictures p ≡ (contains nat_cmp before.pictures p || list_any (λ q. q == p) (made_by fields))
+  pub counts : is_command fields ≡ true
+
+-- and then that command, unless memory was refused
+abbrev pub TakesLast : Command → Reader → Result (Unit {0}) Refusal → Reader → Type 0
+TakesLast command old result new = (before : Reader) (fields : List (List ℕ)) (filter : List ℕ) → Lacks before fields filter old → Reads before fields filter (Ok (Some command)) result new
+
+abbrev pub texts : List (Bor (List ℕ)) → List (List ℕ)
+texts fields = map (λ f. f.now) fields

@@ -1,0 +1,142 @@
+// The fields of a line, and what single ones denote.
+ghost use Rattle.std.specs.Prelude.{◌≡◌, ◌≢◌, ◌<◌, ◌^◌, [], true, None, Some, IfSome, SomeIff, MatchOption, map, OnOk, OnErr};
+ghost use Rattle.script_reader.specs.Lines.{fields_of, without_spaces, behind_field, third_field_on};
+ghost use Rattle.script_reader.specs.Fields.{is_name, cut_at_colon, cut_at_dot, epoch_of, is_decimal, number_of, picture_of, version_number_of};
+ghost use Rattle.script_reader.specs.Saying.{filter_said};
+ghost use Rattle.script_reader.specs.Steps.{Gives};
+
+use crate::LineFault;
+use crate::limits::{MAX_EPOCH, MAX_NAME_CHARACTERS, MAX_VERSION};
+use crate::refusal::Refusal;
+use photo_filter_rules::{BuildFault, Filter};
+use photo_filter_text::FilterFault;
+use photo_record::PicNo;
+use std::alloc::{AllocError, Global};
+
+/// Puts the fields of a line, what stands between runs of spaces, in place of those that the list has.
+pub fn put_fields<'a>(fields: &mut Vec<&'a str>, line: &'a str) -> Result<(), AllocError>
+    ensures fields { OnOk result (map (λ f. f.now) fields.new.items ≡ fields_of line.now) }
+    ensures memory { OnErr result (fields_of line.now ≢ []) }
+{
+    fields.clear();
+    for piece in line.split(' ') {
+        if !piece.is_empty() {
+            fields.push(piece)?;
+        }
+    }
+    Ok(())
+}
+
+/// The text of a line from its third field on.
+pub fn third_field_on(line: &str) -> &str
+    ensures { result.now ≡ third_field_on line.now }
+{
+    without_spaces(behind_field(behind_field(line)))
+}
+
+// A text without its first field.
+fn behind_field(text: &str) -> &str
+    ensures { result.now ≡ behind_field text.now }
+{
+    match without_spaces(text).split_once(' ') {
+        Some((_, rest)) => rest,
+        None => "",
+    }
+}
+
+fn without_spaces(text: &str) -> &str
+    ensures { result.now ≡ without_spaces text.now }
+{
+    let mut rest = text;
+    while let Some(more) = rest.strip_prefix(' ') {
+        rest = more;
+    }
+    rest
+}
+
+/// Whether a device may have that name.
+pub fn is_name(text: &str) -> bool
+    ensures { result ≡ is_name text.now }
+{
+    let Some((first, others)) = text.as_bytes().split_first() else {
+        return false;
+    };
+    if !first.is_ascii_lowercase() || others.len() >= MAX_NAME_CHARACTERS {
+        return false;
+    }
+    others
+        .iter()
+        .all(|b| b.is_ascii_lowercase() || b.is_ascii_digit())
+}
+
+/// What stands before the first dot of a text and behind it.
+pub fn cut_at_dot(text: &str) -> Option<(&str, &str)>
+    ensures { MatchOption result (cut_at_dot text.now ≡ None) (λ parts. cut_at_dot text.now ≡ Some (parts.0.now, parts.1.now)) }
+{
+    text.split_once('.')
+}
+
+/// What stands before the first colon of a text and behind it.
+pub fn cut_at_colon(text: &str) -> Option<(&str, &str)>
+    ensures { MatchOption result (cut_at_colon text.now ≡ None) (λ parts. cut_at_colon text.now ≡ Some (parts.0.now, parts.1.now)) }
+{
+    text.split_once(':')
+}
+
+// What decimal digits without a leading zero stand for, if it has at most 32 bits.
+fn number_of(text: &str) -> Option<u32>
+    ensures { SomeIff result ((is_decimal text.now ≡ true) × (number_of text.now < 2 ^ 32)) (number_of text.now) }
+{
+    let first = *text.as_bytes().first()?;
+    if first < b'1' || first > b'9' {
+        return None;
+    }
+    text.parse().ok()
+}
+
+/// The picture number that a field denotes: decimal without a leading zero.
+pub fn picture_of(text: &str) -> Option<PicNo>
+    ensures { result ≡ picture_of text.now }
+{
+    PicNo::new(number_of(text)?)
+}
+
+/// The epoch behind a dot, in the same way.
+pub fn epoch_of(text: &str) -> Option<u32>
+    ensures { result ≡ epoch_of text.now }
+{
+    let number = number_of(text)?;
+    if number == 0 || number > MAX_EPOCH {
+        return None;
+    }
+    Some(number)
+}
+
+/// The number of a version that a text denotes, in the same way.
+pub fn version_number_of(text: &str) -> Option<u32>
+    ensures number { result ≡ version_number_of text.now }
+    ensures above_zero { IfSome result (λ n. 0 < n) }
+{
+    let number = number_of(text)?;
+    if number == 0 || number > MAX_VERSION {
+        return None;
+    }
+    Some(number)
+}
+
+/// The filter that a text is.
+#[tactic(auto, unfolding(crate::specs::Saying::filter_said))]
+pub fn filter_of(alloc: Global, text: &str) -> Result<Filter, Refusal>
+    ensures { Gives (λ f. f) result (filter_said text.now) }
+{
+    let tree = match photo_filter_text::read(alloc, text) {
+        Ok(tree) => tree,
+        Err(FilterFault::NoMemory) => return Err(Refusal::Memory),
+        Err(_) => return Err(Refusal::Fault(LineFault::BadFilter)),
+    };
+    match Filter::build(alloc, tree) {
+        Ok(filter) => Ok(filter),
+        Err((_, BuildFault::NoMemory)) => Err(Refusal::Memory),
+        Err((_, BuildFault::TooWide)) => Err(Refusal::Fault(LineFault::BadFilter)),
+    }
+}

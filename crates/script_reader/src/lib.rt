@@ -1,0 +1,23 @@
+//! Scripts of a photo collection as they are read: which devices there are and what is done on them, in order. Its invariant
+//! (`IsScript`): **a script's commands name its devices**, two different ones where they name two, **and its records are in
+//! range**; devices and commands are no more than the limits.
+#![tactic(auto)]
+
+mod command;
+mod fault;
+mod field;
+pub mod laws;
+mod limits;
+mod names;
+mod reader;
+mod refusal;
+mod script;
+mod tally;
+mod word_sets;
+
+pub use command::devices_of;
+pub use fault::{LineFault, ScriptFault};
+pub use fleet_model::{Command, Tally};
+pub use limits::{MAX_COMMANDS, MAX_DEVICES, MAX_TEXT_BYTES};
+pub use reader::read_script;
+pub use script::Script;
