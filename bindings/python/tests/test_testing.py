@@ -6,9 +6,9 @@ from hypothesis import HealthCheck, Phase, given, settings, strategies as st
 
 import photofleet
 from photofleet import ALL, NONE, Alternative, Edit, Filter, New, Pull, Record, Remove, rated
-from photofleet.testing import FILTERS, Difference, JudgedMachine, commands, devices, difference, filters, records, replayed, runs
+from photofleet.testing import FILTERS, Difference, JudgedMachine, Standing, devices, difference, filters, records, replayed, runs
 
-STEADY = settings(deadline=None, database=None, derandomize=True, max_examples=60, suppress_health_check=list(HealthCheck), print_blob=False)
+STEADY = settings(deadline=None, database=None, derandomize=True, max_examples=50, suppress_health_check=list(HealthCheck), print_blob=False)
 
 ranges = st.tuples(st.integers(0, 5), st.integers(0, 5)).map(lambda it: (min(it), max(it)))
 days = st.lists(st.sampled_from(["0000-01-01", "2024-05-01", "2024-05-02", "9999-12-31"]), min_size=2, max_size=2).map(lambda it: tuple(sorted(it)))
@@ -48,23 +48,23 @@ def test_each_command_can_be_taken_as_the_fleet_stands(data):
 
 
 def test_the_runs_bite():
-    """Of the drawn runs many have a conflict, a drop, a notice, something that waits, and pulls both ways."""
+    """Of the drawn runs many have a conflict, a drop, something that waits, and pulls both ways."""
     seen, drawn = Counter(), []
-    settings(STEADY, max_examples=100, phases=[Phase.generate])(given(runs(most=25))(lambda it: drawn.append(it)))()
+    settings(STEADY, max_examples=60, phases=[Phase.generate])(given(runs(most=20))(lambda it: drawn.append(it)))()
     for declared, run in drawn:
-        found = set()
-        with photofleet.Fleet([f"device {name} {it}" for name, it in declared.items()]) as fleet:
-            for command in run:
-                report = fleet.give(command)
-                if isinstance(report, photofleet.Pulled):
-                    found |= {it for it in ("taken", "handed", "notices", "dropped") if getattr(report.counts, it)}
-                    found |= {"back"} if Pull(command.source, command.target) in run else set()
-                    found |= {"conflict"} if fleet.ask(f"conflicts {command.target}").conflicts else set()
-                found |= {"removal"} if isinstance(command, Remove) else set()
+        found, standing = set(), Standing(declared)
+        for command in run:
+            report = standing.run(command)
+            if isinstance(report, photofleet.Pulled):
+                found |= {it for it in ("taken", "handed", "notices", "dropped") if getattr(report.counts, it)}
+                found |= {"back"} if Pull(command.source, command.target) in run else set()
+            found |= {"removal"} if isinstance(command, Remove) else set()
+            for held in standing.held.values():
+                found |= {"conflict"} if len(held) > len({it.picture for it in held}) else set()
+        standing.fleet.close()
         seen.update(found)
-    assert len(drawn) >= 50
-    for what, least in (("taken", 40), ("handed", 15), ("notices", 1), ("dropped", 15), ("back", 20), ("removal", 20), ("conflict", 3)):
-        assert seen[what] >= least * len(drawn) / 100, (what, seen)
+    for what, least in (("taken", 40), ("handed", 30), ("dropped", 10), ("back", 40), ("removal", 30), ("conflict", 8)):
+        assert seen[what] * 100 >= least * len(drawn), (what, len(drawn), seen)
 
 
 def test_filters_overlap():

@@ -5,8 +5,8 @@ and after each step it compares that with the judge. `devices`, `filters`, `reco
 strategies, for tests of another form.
 
 What is drawn is meant to bite. Most runs that are drawn evenly test nothing: pictures that one device alone holds, pulls
-that move nothing. So there are few pictures, whose edits meet; edits and removals are of what a device holds, and half of
-them of what two devices hold, which makes conflicts; a pull is often followed by the one in the other direction, or by one of
+that move nothing. So there are few pictures, whose edits meet; edits and removals are of what a device holds, most of
+them of what two devices hold, and after an edit another holder often edits the same, which makes conflicts; a pull is often followed by the one in the other direction, or by one of
 the same source by a third device; and filters overlap, so that a version is kept here, waits there and is only noticed
 elsewhere. Every command is one that the fleet can take as it stands, so that no step is lost to a refusal.
 """
@@ -34,6 +34,8 @@ WORDS = ("sea", "sun")
 # Filters that overlap: each pair of them has a record that both select, and most have one that only one of them does.
 FILTERS = (ALL, rated(3), rated(0, 3), rated(2, 4), rated(forbidden=["sea"]), rated(2, required=["sun"]), rated(4))
 PICTURES = 3
+# How many commands are few enough to be changed and left out at once where a run is shrunk
+FEW = 7
 
 
 # Strategies
@@ -51,8 +53,8 @@ def records(words: Sequence[str] = WORDS) -> st.SearchStrategy[Record]:
 
 
 def devices(least: int = 2, most: int = 3, pool: Sequence[Filter] = FILTERS) -> st.SearchStrategy[dict[str, Filter]]:
-    """Devices with their filters, by their names."""
-    return st.lists(filters(pool), min_size=least, max_size=most).map(lambda drawn: dict(zip(NAMES, drawn)))
+    """Devices with their filters, by their names. Half of them have the first filter, as a server has that keeps everything."""
+    return st.lists(st.one_of(st.just(pool[0]), filters(pool)), min_size=least, max_size=most).map(lambda drawn: dict(zip(NAMES, drawn)))
 
 
 class Standing:
@@ -107,6 +109,18 @@ class Standing:
         everywhere = Counter(picture for held in self.held.values() for picture in {it.picture for it in held})
         return [(name, it) for name, held in self.held.items() for it in sorted({it.picture for it in held}) if everywhere[it] >= least]
 
+    def brings(self, pull: Pull) -> bool:
+        """Whether the source holds what the target doesn't hold."""
+        versions = {it.version for it in self.held[pull.target]}
+        return any(it.version not in versions for it in self.held[pull.source])
+
+    def rivals(self) -> list[tuple[str, int]]:
+        """The devices that hold the picture whose version was made last, beside the one that made it."""
+        last = next((it for it in reversed(self.given) if isinstance(it, (Edit, Remove))), None)
+        if last is None:
+            return []
+        return [(name, last.picture) for name in self.held if name != last.device and self.holds(name, last.picture)]
+
     def narrower(self, name: str, pool: Sequence[Filter] = FILTERS) -> list[Filter]:
         return [it for it in pool if self.filters[name].covers(it) and it != self.filters[name]]
 
@@ -120,13 +134,21 @@ def edits(standing: Standing, shared_by: int = 1) -> st.SearchStrategy[Edit]:
     return st.builds(lambda at, record: Edit(at[0], at[1], record), held, records())
 
 
+def rival_edits(standing: Standing) -> st.SearchStrategy[Edit]:
+    """Edits of what another device has just edited or removed."""
+    return st.builds(lambda at, record: Edit(at[0], at[1], record), st.sampled_from(standing.rivals()), records())
+
+
 def removals(standing: Standing, shared_by: int = 1) -> st.SearchStrategy[Remove]:
     return st.sampled_from(standing.held_by(shared_by)).map(lambda at: Remove(at[0], at[1]))
 
 
 def pulls(standing: Standing) -> st.SearchStrategy[Pull]:
+    """Pulls, and of three two that move or tell something, where there are such."""
     names = sorted(standing.filters)
-    return st.sampled_from([Pull(target, source) for target in names for source in names if target != source])
+    every = [Pull(target, source) for target in names for source in names if target != source]
+    moving = [it for it in every if standing.brings(it)]
+    return st.sampled_from(moving * (2 * len(every) // max(len(moving), 1)) + every)
 
 
 def following_pulls(standing: Standing) -> st.SearchStrategy[Pull]:
@@ -147,18 +169,23 @@ def refilterings(standing: Standing, pool: Sequence[Filter] = FILTERS) -> st.Sea
 
 
 def commands(standing: Standing) -> st.SearchStrategy[Change]:
-    """Commands that the fleet can take as it stands."""
+    """Commands that the fleet can take as it stands. As long as there is no picture one is made."""
     kinds: list[st.SearchStrategy[Any]] = [makes(standing)] if standing.made < standing.pictures else []
+    if not standing.made:
+        return kinds[0]
     kinds += [pulls(standing)] * 2
     if standing.last_pull:
         kinds.append(following_pulls(standing))
-    for shared_by in (1, 2):
-        if standing.held_by(shared_by):
-            kinds += [edits(standing, shared_by), removals(standing, shared_by)]
+    if standing.held_by():
+        kinds += [edits(standing), removals(standing, 2 if standing.held_by(2) else 1)]
+    if standing.held_by(2):
+        kinds.append(edits(standing, 2))
+    if standing.rivals():
+        kinds += [rival_edits(standing)] * 2
     if any(standing.narrower(it) for it in standing.filters):
         kinds.append(narrowings(standing))
     kinds.append(refilterings(standing))
-    return st.one_of(kinds)
+    return st.integers(0, len(kinds) - 1).flatmap(lambda it: kinds[it])
 
 
 @st.composite
@@ -168,7 +195,7 @@ def runs(draw: st.DrawFn, declared: st.SearchStrategy[dict[str, Filter]] | None 
     start = draw(declared if declared is not None else devices())
     standing, given = Standing(start, library=library), []
     with standing.fleet:
-        for _ in range(draw(st.integers(1, most))):
+        for _ in range(draw(st.integers(min(most, 8), most))):
             given.append(draw(commands(standing)))
             standing.run(given[-1])
     return start, given
@@ -284,6 +311,12 @@ class JudgedMachine(RuleBasedStateMachine):
     def edits_a_shared_one(self, data: st.DataObject) -> None:
         self.step(data.draw(edits(self._now(), 2), label="command"))
 
+    @precondition(_takes("edit"))
+    @precondition(_stands(lambda standing, self: standing.rivals()))
+    @rule(data=st.data())
+    def edits_against_another(self, data: st.DataObject) -> None:
+        self.step(data.draw(rival_edits(self._now()), label="command"))
+
     @precondition(_takes("remove"))
     @precondition(_stands(lambda standing, self: standing.held_by()))
     @rule(data=st.data())
@@ -297,6 +330,7 @@ class JudgedMachine(RuleBasedStateMachine):
         self.step(data.draw(removals(self._now(), 2), label="command"))
 
     @precondition(_takes("pull"))
+    @precondition(_stands(lambda standing, self: standing.made))
     @rule(data=st.data())
     def pulls_one(self, data: st.DataObject) -> None:
         self.step(data.draw(pulls(self._now()), label="command"))
@@ -308,12 +342,13 @@ class JudgedMachine(RuleBasedStateMachine):
         self.step(data.draw(following_pulls(self._now()), label="command"))
 
     @precondition(_takes("narrow"))
-    @precondition(_stands(lambda standing, self: any(standing.narrower(it, self.filters) for it in standing.filters)))
+    @precondition(_stands(lambda standing, self: standing.made and any(standing.narrower(it, self.filters) for it in standing.filters)))
     @rule(data=st.data())
     def narrows_one(self, data: st.DataObject) -> None:
         self.step(data.draw(narrowings(self._now(), self.filters), label="command"))
 
     @precondition(_takes("refilter"))
+    @precondition(_stands(lambda standing, self: standing.made))
     @rule(data=st.data())
     def refilters_one(self, data: st.DataObject) -> None:
         self.step(data.draw(refilterings(self._now(), self.filters), label="command"))
@@ -406,19 +441,46 @@ def _plainer(declared: Mapping[str, Filter], given: Sequence[Change], pool: Sequ
         yield from ((dict(declared), [*given[:at], it, *given[at + 1 :]]) for it in others)
 
 
+def _merged(declared: Mapping[str, Filter], given: Sequence[Change]) -> Iterable[tuple[dict[str, Filter], list[Change]]]:
+    """The same with a device less, another one in its place."""
+    for gone in declared:
+        left = {name: it for name, it in declared.items() if name != gone}
+        for other in left:
+            moved = [_named(it, {**dict(zip(left, left)), gone: other}) for it in given]
+            yield left, [it for it in moved if not (isinstance(it, Pull) and it.target == it.source)]
+
+
+def _narrowed(declared: Mapping[str, Filter], given: Sequence[Change]) -> Iterable[tuple[dict[str, Filter], list[Change]]]:
+    """The same with a device that has from the beginning what it is narrowed to."""
+    for at, it in enumerate(given):
+        if isinstance(it, (Narrow, Refilter)):
+            yield {**declared, it.device: it.filter}, [*given[:at], *given[at + 1 :]]
+
+
+def _redirected(declared: Mapping[str, Filter], given: Sequence[Change]) -> Iterable[tuple[dict[str, Filter], list[Change]]]:
+    """The same with a command less, and another pull in the place of one."""
+    every = [Pull(target, source) for target in declared for source in declared if target != source]
+    for at, it in enumerate(given):
+        for other in every if isinstance(it, Pull) else ():
+            changed = [*given[:at], other, *given[at + 1 :]]
+            yield from ((dict(declared), [*changed[:gone], *changed[gone + 1 :]]) for gone in range(len(given)) if gone != at)
+
+
+def _named(command: Change, names: Mapping[str, str]) -> Change:
+    if isinstance(command, Pull):
+        return Pull(names[command.target], names[command.source])
+    return replace(command, device=names[command.device])
+
+
 def _renamed(declared: Mapping[str, Filter], given: Sequence[Change]) -> tuple[dict[str, Filter], list[Change]]:
     """The same with the first names, and the pictures counted from 1."""
     names = dict(zip(declared, NAMES))
     numbers: dict[int, int] = {}
     renamed: list[Change] = []
     for command in given:
-        if isinstance(command, Pull):
-            renamed.append(Pull(names[command.target], names[command.source]))
-        elif isinstance(command, (Narrow, Refilter)):
-            renamed.append(replace(command, device=names[command.device]))
-        else:
-            number = numbers.setdefault(command.picture, len(numbers) + 1)
-            renamed.append(replace(command, device=names[command.device], picture=number))
+        if isinstance(command, (New, Edit, Remove)):
+            command = replace(command, picture=numbers.setdefault(command.picture, len(numbers) + 1))
+        renamed.append(_named(command, names))
     return {names[name]: it for name, it in declared.items()}, renamed
 
 
@@ -436,7 +498,10 @@ def shrunk(machine: type[JudgedMachine], found: Difference) -> Difference:
         for fewer, commands in chain(
             tried if len(declared) > 1 else (),
             ((dict(declared), it) for it in _fewer(given)),
+            _merged(declared, given) if len(declared) > machine.least_devices else (),
+            _narrowed(declared, given),
             _plainer(declared, given, list(machine.filters)),
+            _redirected(declared, given) if len(given) <= FEW else (),
         ):
             other = replayed(machine, fewer, commands)
             if other is not None:
