@@ -15,6 +15,7 @@ class Household(JudgedMachine):
     """The engine against the judge: what each command reports, and all that each device holds."""
 
     kind = engine.Device
+    edits_removed = True
 
     def open(self, devices):
         self.devices = {name: self.kind(name, keeps) for name, keeps in devices.items()}

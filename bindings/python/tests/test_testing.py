@@ -132,10 +132,30 @@ def test_a_report_that_differs_is_found():
     assert (found.engine, found.judge) == (photofleet.Version("a", 0, 1), photofleet.Version("a", 0, 2))
 
 
-def test_an_error_of_the_engine_tells_the_script():
-    with pytest.raises(KeyError) as raised:
-        difference(Raises, runs=200, steps=10, seed=0)
-    assert any("edit " in it for it in raised.value.__notes__)
+def test_an_error_of_the_engine_is_a_difference():
+    found = difference(Raises, runs=200, steps=10, seed=0)
+    assert found.lines == ["device a all", "new a 1 0 2024-05-01 -", "edit a 1 0 2024-05-01 -"]
+    assert (found.engine, found.judge) == ("raised KeyError(1)", "2 made a:2 store") and isinstance(found.__cause__, KeyError)
+
+
+class EditsRemoved(Keeps):
+    """It has no removals, so that it raises where it edits what was removed."""
+
+    def edit(self, device, picture, record):
+        assert self.own[device][picture] is not None
+        super().edit(device, picture, record)
+
+    def remove(self, device, picture):
+        self.own[device][picture] = None
+
+
+class EditsAll(EditsRemoved):
+    edits_removed = True
+
+
+def test_what_was_removed_is_edited_where_it_is_wanted():
+    assert difference(EditsRemoved, runs=50, steps=10, seed=0) is None
+    assert [it.split()[0] for it in difference(EditsAll, runs=200, steps=10, seed=0).lines] == ["device", "new", "remove", "edit"]
 
 
 def test_a_run_is_replayed():

@@ -60,7 +60,9 @@ def devices(least: int = 2, most: int = 3, pool: Sequence[Filter] = FILTERS) -> 
 class Standing:
     """A fleet as it stands by the judge: the devices with their filters, what they hold, and the lines so far."""
 
-    def __init__(self, declared: Mapping[str, Filter], *, library: Library | str | os.PathLike[str] | None = None, pictures: int = PICTURES):
+    def __init__(self, declared: Mapping[str, Filter], *, library: Library | str | os.PathLike[str] | None = None, pictures: int = PICTURES,
+                 edits_removed: bool = True):
+        self.edits_removed = edits_removed
         self.declared, self.filters = dict(declared), dict(declared)
         self.given: list[Change] = []
         self.lines = [f"device {name} {text}" for name, text in declared.items()]
@@ -90,11 +92,15 @@ class Standing:
             self.held[name] = listed.held
         return report
 
+    def _edited(self, name: str) -> set[int]:
+        """The pictures that the device holds and that may be edited."""
+        return {it.picture for it in self.held[name] if self.edits_removed or it.record is not None}
+
     def holds(self, name: str, picture: int) -> bool:
-        return any(it.picture == picture for it in self.held[name])
+        return picture in self._edited(name)
 
     def takes(self, command: Change) -> bool:
-        """Whether the fleet can take the command as it stands: no fault, and no refusal."""
+        """Whether the fleet can take the command as it stands, without a fault and without a refusal."""
         match command:
             case New():
                 return all(not isinstance(it, New) or it.picture != command.picture for it in self.given)
@@ -106,8 +112,8 @@ class Standing:
 
     def held_by(self, least: int = 1) -> list[tuple[str, int]]:
         """Devices with a picture of theirs that at least so many devices hold."""
-        everywhere = Counter(picture for held in self.held.values() for picture in {it.picture for it in held})
-        return [(name, it) for name, held in self.held.items() for it in sorted({it.picture for it in held}) if everywhere[it] >= least]
+        everywhere = Counter(picture for name in self.held for picture in self._edited(name))
+        return [(name, it) for name in self.held for it in sorted(self._edited(name)) if everywhere[it] >= least]
 
     def brings(self, pull: Pull) -> bool:
         """Whether the source holds what the target doesn't hold."""
@@ -246,6 +252,8 @@ class JudgedMachine(RuleBasedStateMachine):
     filters: ClassVar[Sequence[Filter]] = FILTERS
     #: how many pictures are drawn at most
     pictures: ClassVar[int] = PICTURES
+    #: whether a picture is edited, or removed again, of which the device holds nothing but its removal, as a fleet may do
+    edits_removed: ClassVar[bool] = False
 
     standing: Standing | None = None
 
@@ -289,7 +297,7 @@ class JudgedMachine(RuleBasedStateMachine):
 
     def begin(self, declared: Mapping[str, Filter]) -> None:
         """Opens the judge and the engine."""
-        self.standing = Standing(declared, library=self.library, pictures=self.pictures)
+        self.standing = Standing(declared, library=self.library, pictures=self.pictures, edits_removed=self.edits_removed)
         self.open(dict(declared))
         self._compare_all()
 
@@ -365,8 +373,9 @@ class JudgedMachine(RuleBasedStateMachine):
         try:
             answer = self._does(command)
         except Exception as error:
-            error.add_note("the engine was given\n" + "\n".join(f"    {it}" for it in self._now().lines))
-            raise
+            if type(error).__module__.startswith("hypothesis"):
+                raise
+            raise Difference(self._now(), "the last command", f"raised {error!r}", report.text.rstrip("\n")) from error
         if answer is not None and answer != report.answer:
             raise Difference(self._now(), "the report", answer, report.answer)
         self._compare_all()
