@@ -1,5 +1,5 @@
 -- The answers of a run speak of devices of its script.
-use Rattle.std.proofs.Common.{◌≡◌, ◌⊎◌, ℕ, zero, suc, ◌+◌, ◌/◌, ◌<◌, ◌≤◌, Bool, true, false, not, ◌&&◌, ◌||◌, eqb, ltb, cond, List, [], ◌∷◌, ◌++◌, length, get_or, set, map, inl, inr, refl, sym, ◌∙◌, subst, arith}
+use Rattle.std.proofs.Common.{◌≡◌, ◌⊎◌, ℕ, ◌+◌, ◌/◌, ◌<◌, ◌≤◌, Bool, true, false, not, ◌&&◌, ◌||◌, eqb, ltb, cond, List, [], ◌∷◌, ◌++◌, length, map, inl, inr, refl, sym, ◌∙◌, subst, arith}
 use Rattle.std.proofs.lemmas.Bool.{and_parts, or_cases, or_left, or_right, eqb-true}
 use Rattle.std.specs.Prelude.{filter, Option, Some, None, IfSome}
 use Rattle.photo_record.specs.declared.record.Record.{Record}
@@ -12,7 +12,7 @@ use Rattle.photo_version.specs.Author.{epoch_of_author, same_author}
 use Rattle.photo_version.specs.Version.{Version, same_version}
 use Rattle.item_knowledge.specs.Fragments.{knows}
 use Rattle.photo_model.specs.Entry.{Entry, entry_before, others, put_entry_if, put_entries, is_of_other, supersedes}
-use Rattle.photo_model.specs.Device.{ModelDevice, known, holds, knows_entry, selects, new_entry, next_version, made, is_held, narrowed, moved}
+use Rattle.photo_model.specs.Device.{ModelDevice, known, holds, knows_entry, selects, new_entry, next_version, made, is_held, narrowed}
 use Rattle.photo_model.specs.Refiltered.{refiltered}
 use Rattle.photo_model.specs.Conflicts.{conflicts_of, versions_of, pictures_of}
 use Rattle.photo_model.specs.Telling.{tell}
@@ -20,9 +20,9 @@ use Rattle.photo_model.specs.Pull.{taken, handed, noticed, told, learns_all, lea
 use Rattle.fleet_model.specs.declared.command.Command.{Command}
 use Rattle.fleet_model.specs.declared.command.Command.TheVariants as command
 use Rattle.fleet_model.specs.Contents.{Contents, devices_of}
-use Rattle.fleet_model.specs.Answers.{NotHeld, NotNarrower, Narrowed, Exactly}
+use Rattle.fleet_model.specs.Answers.{NotHeld, NotNarrower, Exactly}
 use Rattle.photo_script.specs.Reports.{Answer, Tells, TellsKnowledge, IsOfScript, AreOfScript, IsConflictOfScript, AreConflictsOfScript, IsAbout}
-use Rattle.fleet_model.specs.Runs.{Effect, effect, making, telling, changing, narrowing, pulling, previewing, opening_from}
+use Rattle.fleet_model.specs.Runs.{effect, making, telling, changing, narrowing, pulling, previewing, opening_from}
 use Rattle.fleet_steps.specs.Running.{IsOfRun, IsOfFleet}
 use Rattle.photo_model.proofs.AllLemmas.{all_append, all_filter, all_put}
 use Rattle.fleet_steps.proofs.KnownLemmas.{each_known}

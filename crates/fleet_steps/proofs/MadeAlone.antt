@@ -1,5 +1,5 @@
 -- What a device holds of the version that a command on it alone has just made.
-use Rattle.std.proofs.Common.{◌≡◌, ℕ, Bool, true, false, cond, [], ◌++◌, refl, ap, subst}
+use Rattle.std.proofs.Common.{◌≡◌, ℕ, Bool, true, false, cond, ◌++◌, ap, subst}
 use Rattle.std.specs.Prelude.{Some, None}
 use Rattle.std.specs.Option.{option_to_list}
 use Rattle.photo_record.specs.declared.record.Record.{Record}
@@ -14,8 +14,7 @@ use Rattle.fleet_model.specs.Answers.{Exactly, NotHeld}
 use Rattle.photo_script.specs.Reports.{Answer, Tells}
 use Rattle.fleet_model.specs.Runs.{effect, making, telling, changing}
 use Rattle.fleet_steps.specs.Issued.{picture_of, version_told}
-use Rattle.fleet_steps.proofs.Issued.{making_issued, narrowing_logs}
-use Rattle.fleet_model.proofs.Effects.{changing_second, narrowing_second}
+use Rattle.fleet_steps.proofs.Issued.{making_issued}
 
 abbrev IsFound : Kept → ℕ → Version → Command → ModelDevice → Type 0
 IsFound d p v c m = entries_of (option_to_list (find_version_of p v (d.store ++ d.out))) ≡ (effect c m None).entries

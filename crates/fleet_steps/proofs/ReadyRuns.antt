@@ -1,5 +1,5 @@
 -- Devices that open are ready for a pull, and after a command they are so again.
-use Rattle.std.proofs.Common.{◌≡◌, ℕ, ◌+◌, List, [], length, subst}
+use Rattle.std.proofs.Common.{ℕ, ◌+◌, [], length, subst}
 use Rattle.std.specs.List.{AllZip}
 use Rattle.photo_device.specs.Device.{Shows}
 use Rattle.fleet_model.specs.Contents.{IsWithin, record_of}

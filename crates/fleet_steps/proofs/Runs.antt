@@ -1,5 +1,5 @@
 -- How many versions devices have made that show model devices, and that they have room for one more.
-use Rattle.std.proofs.Common.{◌≡◌, ℕ, ◌<◌, ◌≤◌, List, [], ◌∷◌, sym, subst, arith}
+use Rattle.std.proofs.Common.{ℕ, ◌<◌, ◌≤◌, List, [], ◌∷◌, sym, subst, arith}
 use Rattle.std.specs.List.{AllZip, AllByRecursion}
 use Rattle.photo_version.specs.Author.{Author, epoch_of_author}
 use Rattle.photo_model.specs.Device.{ModelDevice}

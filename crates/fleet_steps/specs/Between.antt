@@ -1,6 +1,5 @@
 -- What the devices of a run have to be for a command, and what a command makes of them.
-use Rattle.std.specs.Prelude.{◌≡◌, ℕ, ◌<◌, ◌≤◌, List, map, slice_set, None}
-use Rattle.std.specs.Option.{option_map}
+use Rattle.std.specs.Prelude.{◌≡◌, ℕ, ◌<◌, ◌≤◌, List, map, None}
 use Rattle.std.specs.List.{AllZip, AllByRecursion}
 use Rattle.photo_version.specs.Author.{epoch_of_author}
 use Rattle.photo_model.specs.Device.{ModelDevice}
@@ -8,8 +7,6 @@ use Rattle.photo_device.specs.Device.{Kept, Shows, unstaged}
 use Rattle.fleet_model.specs.Steps.{devices_after}
 pub use Rattle.photo_pull.specs.MayPull.{MayPull}
 use Rattle.fleet_model.specs.declared.command.Command.{Command}
-use Rattle.fleet_model.specs.Contents.{devices_of}
-use Rattle.fleet_model.specs.Runs.{Effect, effect, device_at, with_second}
 use Rattle.fleet_model.specs.Ready.{IsReady}
 
 -- the devices show such of which each may pull from each other

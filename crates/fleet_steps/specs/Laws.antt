@@ -8,12 +8,12 @@ use Rattle.fleet_model.specs.Contents.{Contents, IsWithin, IsScript}
 use Rattle.script_reader.specs.Reading.{script_of}
 use Rattle.photo_script.specs.Reports.{Answer, Tells}
 use Rattle.fleet_model.specs.declared.command.Command.{Command}
-use Rattle.fleet_model.specs.Runs.{opening_from, run_in_order, numbers_to}
+use Rattle.fleet_model.specs.Runs.{opening_from, run_in_order}
 use Rattle.photo_script.specs.Tallies.{moved_by}
 use Rattle.fleet_model.specs.Steps.{effect_on}
 use Rattle.fleet_steps.specs.Between.{AreReady, HaveMadeAtMost, HaveRoom, HaveRun}
 use Rattle.fleet_steps.specs.Outcomes.{AreRight}
-use Rattle.fleet_model.specs.Sound.{IsSoundAndKept, IsSoundThroughout}
+use Rattle.fleet_model.specs.Sound.{IsSoundThroughout}
 
 -- so it is from the bytes on: of whatever is accepted as the text of a script
 abbrev pub AcceptedStaysSound : Type 0

@@ -1,7 +1,7 @@
 -- Machinery of the proofs: how far a run of some commands of a script has come, and what it has given in the end.
 use Rattle.std.specs.Prelude.{◌≡◌, ℕ, ◌<◌, ◌≤◌, true, List, length, map, Option, Some, None, IsPermutation}
 use Rattle.std.specs.List.{AllZip, AllByRecursion}
-use Rattle.photo_version.specs.Author.{device_of_author, epoch_of_author}
+use Rattle.photo_version.specs.Author.{device_of_author}
 use Rattle.photo_version.specs.Version.{Version}
 use Rattle.photo_device.specs.declared.held.Held.{Held}
 use Rattle.photo_model.specs.Entry.{Entry}
