@@ -2,7 +2,7 @@
 use Rattle.std.proofs.Common.{◌≡◌, ℕ, zero, suc, ◌+◌, ◌<◌, ◌≤◌, false, List, [], ◌∷◌, length, get_or, refl, sym, ap, ◌∙◌, subst, arith}
 use Rattle.std.proofs.lemmas.Bool.{false≢true}
 use Rattle.std.specs.Prelude.{Option, Some, None, IfSome}
-use Rattle.std.specs.List.{AllZip, AllByRecursion}
+use Rattle.std.specs.List.{AllByRecursion}
 use Rattle.photo_record.specs.declared.record.Record.{Record}
 use Rattle.photo_filter_text.specs.Tree.{Tree, All}
 use Rattle.photo_version.specs.Author.{author, device_of_author}
@@ -10,16 +10,13 @@ use Rattle.photo_version.specs.Words.{device_back}
 use Rattle.photo_version.specs.Version.{Version}
 use Rattle.photo_model.specs.Device.{ModelDevice, known, holds, opening}
 use Rattle.fleet_model.specs.declared.command.Command.{Command}
-use Rattle.fleet_model.specs.Contents.{Contents, IsWithin, IsScript, record_of}
-use Rattle.fleet_model.specs.Runs.{Fleet, device_at, opening_from, run_in_order, numbers_to}
+use Rattle.fleet_model.specs.Contents.{Contents, IsScript, record_of}
+use Rattle.fleet_model.specs.Runs.{device_at, opening_from, run_in_order, numbers_to}
 use Rattle.fleet_model.specs.Members.{In}
-use Rattle.fleet_model.specs.Steps.{devices_after}
 use Rattle.fleet_model.specs.Ready.{IsReady}
 use Rattle.fleet_model.proofs.Members.{in_nothing}
-use Rattle.fleet_model.proofs.Zipped.{zip_long}
-use Rattle.fleet_model.proofs.Runs.{opening_at_most}
 use Rattle.fleet_model.proofs.ReadySteps.{making_ready, narrowing_ready, refiltering_ready, pulling_ready}
-use Rattle.fleet_model.proofs.EachCommand.{IsKept, FitsAll, by_command, after_each, after_all_of}
+use Rattle.fleet_model.proofs.EachCommand.{IsKept, FitsAll, after_each, after_all_of}
 
 -- the device at a place of those that a script opens with
 opened_or : (n k : ℕ) (filters : List Tree) (d : ModelDevice) → k < length (opening_from n filters) → (tree : Tree) × (get_or (opening_from n filters) k d ≡ opening (author (n + k)) tree)

@@ -1,14 +1,14 @@
 -- What a command leaves true of all devices, and how many versions they have made and epochs begun after it.
 use Rattle.std.proofs.Common.{◌≡◌, ℕ, ◌%◌, ◌+◌, ◌<◌, ◌≤◌, true, false, cond, List, [], ◌∷◌, length, set, sym, ◌∙◌, refl, subst, le_refl, arith}
 use Rattle.std.specs.Prelude.{Option, Some, None, IfSome}
-use Rattle.std.specs.List.{AllZip, AllByRecursion}
+use Rattle.std.specs.List.{AllByRecursion}
 use Rattle.std.specs.Option.{option_map}
 use Rattle.std.proofs.lemmas.List.{length-set}
 use Rattle.photo_record.specs.declared.record.Record.{Record}
 use Rattle.photo_record.specs.declared.record.Record.TheVariants.{Removed}
 use Rattle.photo_filter_text.specs.Tree.{Tree, All}
 use Rattle.photo_filter_rules.specs.Covers.{covers}
-use Rattle.photo_version.specs.Author.{Author, author, epoch_of_author}
+use Rattle.photo_version.specs.Author.{author, epoch_of_author}
 use Rattle.photo_model.specs.Device.{ModelDevice, opening, made, is_held}
 use Rattle.photo_model.specs.Refiltered.{refiltered}
 use Rattle.fleet_model.specs.declared.command.Command.{Command}

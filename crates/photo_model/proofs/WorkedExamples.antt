@@ -1,9 +1,8 @@
 -- The worked pulls: what is taken and told computes, and what holds of every picture and version is shown.
 use Rattle.std.proofs.Common.{◌≡◌, true, false, refl, arith}
 use Rattle.std.proofs.lemmas.Bool.{false≢true}
-use Rattle.std.proofs.lemmas.Bool.Decides.{nat_tests}
 use Rattle.photo_model.specs.Pull.{IsTaughtNothing}
-use Rattle.photo_model.specs.Examples.{nth, camera, informed, phone, choosy, emptied, TheUpToDate, TheTaughtNothing, TheModelPull}
+use Rattle.photo_model.specs.Examples.{nth, informed, phone, TheUpToDate, TheTaughtNothing, TheModelPull}
 
 no : false ≡ true → ⊥
 no e = false≢true e

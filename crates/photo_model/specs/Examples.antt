@@ -1,11 +1,11 @@
 -- Small pulls, worked: what is up to date, and what a pull takes and tells.
-use Rattle.std.specs.Prelude.{◌≡◌, ℕ, Bool, true, false, pos, nat_le, ◌==◌, ◌&&◌, ◌||◌, List, [], ◌∷◌}
+use Rattle.std.specs.Prelude.{◌≡◌, ℕ, true, false, pos, ◌==◌, ◌&&◌, ◌||◌, List, [], ◌∷◌}
 use Rattle.photo_record.specs.declared.record.Record.{Record}
 use Rattle.photo_record.specs.declared.record.Record.TheVariants.{Picture, Removed}
 use Rattle.photo_filter_text.specs.declared.tree.Cmp.TheVariants.{AtLeast}
-use Rattle.photo_filter_text.specs.Tree.{Tree, All, Rate}
+use Rattle.photo_filter_text.specs.Tree.{All, Rate}
 use Rattle.photo_version.specs.Author.{author}
-use Rattle.photo_version.specs.Version.{Version, Versions, version}
+use Rattle.photo_version.specs.Version.{Version, version}
 use Rattle.photo_version.specs.Vector.{Bound, denotes}
 use Rattle.photo_model.specs.Entry.{Entry}
 use Rattle.photo_model.specs.Device.{ModelDevice}
