@@ -17,7 +17,7 @@ use Rattle.photo_script.specs.Reports.{Plain, Answer, Tells, answer_of}
 use Rattle.fleet_model.specs.Runs.{Effect, effect, making, telling}
 use Rattle.fleet_model.specs.Tallies.{kind_of}
 use Rattle.photo_script.specs.Tallies.{moved_by}
-use Rattle.photo_script.specs.Tallies as kind
+use Rattle.fleet_model.specs.Tallies as kind
 use Rattle.work_ledger.specs.declared.kind.Kind.{Kind}
 use Rattle.work_ledger.specs.declared.kind.Kind.TheVariants.{Change, Pull, Report}
 use Rattle.work_ledger.specs.Stakes.{Stake, stake, tally, totals, none_left, plus, less, both, given, Within}

@@ -15,7 +15,7 @@ use Rattle.photo_script.specs.Reports.{Answer, Tells, answer_of}
 use Rattle.fleet_model.specs.Runs.{numbers_to}
 use Rattle.fleet_model.specs.Tallies.{tally_of, kind_of, is_change, is_pull, is_question, moved_by_report}
 use Rattle.photo_script.specs.Tallies.{moved_by}
-use Rattle.photo_script.specs.Tallies as kind
+use Rattle.fleet_model.specs.Tallies as kind
 use Rattle.photo_batcher.specs.Related.{IsNumber}
 use Rattle.photo_batcher.specs.Orders.{times, IsLawful}
 use Rattle.photo_batcher.proofs.Counting.{split, times_cons, times_append}

@@ -9,7 +9,7 @@ use Rattle.fleet_model.specs.Answers.{Made, NotHeld, NotNarrower, Narrowed, Refi
 use Rattle.photo_script.specs.Reports.{Plain, Answer, KnowledgeOf, answer_of}
 use Rattle.fleet_model.specs.Tallies.{kind_of}
 use Rattle.photo_script.specs.Tallies.{moved_by}
-use Rattle.photo_script.specs.Tallies as kind
+use Rattle.fleet_model.specs.Tallies as kind
 use Rattle.work_ledger.specs.declared.kind.Kind.{Kind}
 use Rattle.work_ledger.specs.declared.kind.Kind.TheVariants.{Change, Pull, Report}
 use Rattle.work_ledger.specs.Stakes.{tally, totals, none_left}
