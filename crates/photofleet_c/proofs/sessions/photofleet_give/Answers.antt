@@ -8,8 +8,8 @@ pub returns-clause-told : goal.returns-clause-told
 returns-clause-told c =
     let was = sym c.in-Some.ensures.same ∙ ap Some (sym (c.deref.ensures ∙ c.into_box-kept.ensures)) in
     elim c.match-stepped.branch [
-    | in-Ok w ↦ told_done _ c.deref.result.now _ _ _ _ _ was w.status-is
-    | in-Err w ↦ told_no_step _ c.deref.result.now _ _ _ _ _ _ was w.status-is w.in-Err.ensures.err
+      | in-Ok w ↦ told_done _ c.deref.result.now _ _ _ _ _ was w.status-is
+      | in-Err w ↦ told_no_step _ c.deref.result.now _ _ _ _ _ _ was w.status-is w.in-Err.ensures.err
     ]
 
 pub returns-clause-done : goal.returns-clause-done
