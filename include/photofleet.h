@@ -2,7 +2,7 @@
 
    What holds of every call:
 
-   - It is proved for callers that keep the conditions told here. Nothing checks that they do.
+   - It is proved, but for the last two, for callers that keep the conditions told here. Nothing checks that they do.
    - A pointer is never null, also where the length beside it is 0, and points to as many bytes as that says. No two of
      the memories that a call is given overlap, and no other thread writes to what it reads or reads what it writes.
    - A call starts no thread, waits for nothing, reads no file and prints nothing. It takes memory by malloc and realloc
@@ -86,6 +86,13 @@ uint8_t photofleet_ask(photofleet_session *session, const uint8_t *line, size_t 
 /* Closes a session, and gives back its memory. DONE: it was open. BAD_SESSION: it is closed already. A closed one can be opened
    again. */
 uint8_t photofleet_close(photofleet_session *session);
+
+/* The version of the library, such as "1.0.0". The text stands in the library, ends with a byte of 0, and is never freed. */
+const char *photofleet_version(void);
+
+/* What a status says, in a few words, such as "memory was refused"; of a number that is no status "unknown status", so it is
+   never null. The text is as that of the version. Both calls are plain C, beside what is proved. */
+const char *photofleet_status_text(uint8_t status);
 
 #ifdef __cplusplus
 }

@@ -3,7 +3,7 @@ use Rattle.std.proofs.Common.{◌≡◌, ◌⊎◌, ℕ, List, inl, inr, refl, a
 use Rattle.std.specs.Prelude.{Option, Some, None}
 use Rattle.photofleet_c.specs.declared.session.Session.{Session}
 use Rattle.photofleet_c.specs.Placed.{IsUntouched}
-use Rattle.photofleet_c.specs.Sessions.{IsStep, TellsLine, TellsNoStep}
+use Rattle.photofleet_c.specs.Sessions.{IsStep, TellsLine, TellsNoStep, told}
 
 some_none : {A : Type 0} (o : Option A) (x : A) → o ≡ Some x → o ≡ None → ⊥
 some_none o x is none = cc
@@ -38,7 +38,7 @@ told_no_step kept session line old new written status found was same missing = r
   untouched = λ e. absurd (not_two found missing.which e);
   fault = λ e. (session, was, missing.fault e);
   want = missing.want;
-  small = λ e. let s = missing.small e in (s.0, _, record { session = session; was = was; has = s.1; tells = refl }, s.2);
+  small = λ e. let s = missing.small e in (s.0, told session s.0, record { session = session; was = was; has = s.1; tells = refl }, s.2);
 })
 
 -- none was kept
