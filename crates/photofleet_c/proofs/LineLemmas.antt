@@ -2,8 +2,7 @@
 use Rattle.std.proofs.Common.{◌≡◌, ◌⊎◌, ℕ, List, inl, inr, refl, arith}
 use Rattle.std.specs.Prelude.{Option, Some, None}
 use Rattle.photofleet_c.specs.declared.session.Session.{Session}
-use Rattle.photofleet_c.specs.Placed.{IsUntouched}
-use Rattle.photofleet_c.specs.Sessions.{IsStep, TellsLine, TellsNoStep, told}
+use Rattle.photofleet_c.specs.Sessions.{TellsLine, TellsNoStep, told}
 
 some_none : {A : Type 0} (o : Option A) (x : A) → o ≡ Some x → o ≡ None → ⊥
 some_none o x is none = cc
@@ -40,14 +39,3 @@ told_no_step kept session line old new written status found was same missing = r
   want = missing.want;
   small = λ e. let s = missing.small e in (s.0, told session s.0, record { session = session; was = was; has = s.1; tells = refl }, s.2);
 })
-
--- none was kept
-pub told_closed : (kept : Option Session) (line old new : List ℕ) (written status : ℕ) → kept ≡ None → status ≡ 2 → IsUntouched old new written → TellsLine kept line old new written status
-told_closed kept line old new written status none two untouched = record {
-  which = inr (inl two);
-  closed = (λ e. none, λ e. two);
-  untouched = λ e. untouched;
-  fault = λ e. absurd (omega arith);
-  want = λ e. absurd (omega arith);
-  small = λ e. absurd (omega arith);
-}
