@@ -8,9 +8,6 @@ use Rattle.block_list.specs.Blocks.{joined}
 use Rattle.block_list.proofs.Joined.{joined_set, parts, up_to}
 
 module _ {T : Type 0} where
-  abbrev filled_only : List (Vec T Global) → List (Vec T Global)
-  filled_only blocks = filter (λ (block : Vec T Global). not (eqb (length block.items) 0)) blocks
-
   filter_twice : (p : T → Bool) (xs : List T) → filter p (filter p xs) ≡ filter p xs
   filter_twice p [] = refl
   filter_twice p (x ∷ xs) = grind (arith, filter_twice p xs)

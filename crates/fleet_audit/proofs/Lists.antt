@@ -1,16 +1,14 @@
 -- Tests over lists: a part and the rest, a filter, another order, and where a test turns.
-use Rattle.std.proofs.Common.{◌≡◌, ℕ, zero, suc, ◌+◌, ◌<◌, Bool, true, false, cond, not, ◌==◌, ltb, max, ◌&&◌, ◌||◌, List, [], ◌∷◌, ◌++◌, Bor, length, get_or, take, drop, refl, sym, ap, ap₂, ◌∙◌, inl, inr, arith}
-use Rattle.std.specs.Prelude.{filter, is_some, Option, Some, None, Vec}
-use Rattle.std.specs.declared.alloc.Global.{Global}
+use Rattle.std.proofs.Common.{◌≡◌, ℕ, zero, suc, ◌<◌, Bool, true, false, cond, not, ◌==◌, ltb, max, ◌&&◌, ◌||◌, List, [], ◌∷◌, ◌++◌, Bor, length, get_or, take, drop, refl, sym, ap, ap₂, ◌∙◌, inl, inr, arith}
+use Rattle.std.specs.Prelude.{filter, is_some, Option, Some, None}
 use Rattle.std.specs.Option.{option_copied}
 use Rattle.std.specs.List.{list_any, list_all}
 use Rattle.std.specs.List.Sorted.{IsPermutation, IsPartitionPoint}
 use Rattle.std.proofs.lemmas.Bool.{cases_lt, lt-ltb, le-ltb, cases_Bool, eqb-true}
-use Rattle.std.proofs.lemmas.List.{take-append-drop, nil_from_length, drop_more}
+use Rattle.std.proofs.lemmas.List.{take-append-drop, nil_from_length}
 use Rattle.std.proofs.lemmas.List.Folds.{list_all-append}
 use Rattle.std.proofs.lemmas.List.Sorted.{list_any-IsPermutation}
 use Rattle.photo_version.specs.Version.{Version, same_version}
-use Rattle.block_list.specs.Blocks.{joined}
 use Rattle.photo_device.specs.declared.held.Held.{Held}
 use Rattle.photo_device.specs.Held.{is_of, find_version, find_version_of, has_version_of}
 use Rattle.photo_device.specs.Device.{Kept}
@@ -143,9 +141,3 @@ found_has picture v (d ∷ ds) h = elim (cases_Bool (has_version_of picture v (d
     or_true : (b : Bool) → (b || true) ≡ true
     or_true true = refl
     or_true false = refl
-
--- of blocks gone along, the next one and those behind it
-pub next_block : (t : Held → Bool) (blocks : List (Vec Held Global)) (i : ℕ) (b : Vec Held Global) → i < length blocks → get_or blocks i b ≡ b → list_all t (joined (drop i blocks)) ≡ (list_all t b.items && list_all t (joined (drop (i + 1) blocks)))
-next_block t blocks i b l is =
-    ap (λ bs. list_all t (joined bs)) (drop_more blocks i b l ∙ ap (λ x. x ∷ drop (i + 1) blocks) is)
-    ∙ list_all-append t b.items (joined (drop (i + 1) blocks))

@@ -2,10 +2,9 @@
 use Rattle.std.proofs.Common.{◌≡◌, ℕ, zero, suc, ◌+◌, ◌<◌, ◌≤◌, Bool, true, false, ◌==◌, ltb, max, ◌&&◌, ◌||◌, List, [], ◌∷◌, length, get_or, take, drop, refl, sym, subst, ap, ◌∙◌, inl, inr, arith, add-one}
 use Rattle.std.proofs.Math.Bool.{or-false}
 use Rattle.std.specs.Prelude.{filter, not, Option}
-use Rattle.std.specs.List.{list_any, AllAdjacentBelow}
+use Rattle.std.specs.List.{list_any}
 use Rattle.std.specs.List.Sorted.{IsPartitionedBy}
 use Rattle.std.proofs.lemmas.Bool.{and_parts, and_from, leb-true, le-leb, cases_eq, cases_Bool}
-use Rattle.std.proofs.lemmas.List.{get_or-take, length-take-le}
 use Rattle.std.proofs.lemmas.List.Folds.{list_any_more}
 use Rattle.photo_version.specs.Author.{same_author}
 use Rattle.photo_version.specs.Version.{Version}
@@ -56,13 +55,6 @@ module _ (helds : List Held) (stretch : IsStretch helds) where
         | inl same ↦ rw same e
         | inr less ↦ down i j d (omega arith) (omega arith) (denotes_earlier bounds _ _ (next_at j d l) e)
       ]
-
--- a stretch that is a list's front
-pub front_stretch : (helds front : List Held) (n : ℕ) → front ≡ take n helds → n ≤ length helds → AllAdjacentBelow Follows helds n → IsStretch front
-front_stretch helds front n is within all = subst IsStretch (sym is) (λ k d l.
-    let long = length-take-le n helds within in
-    let here : k + 1 < n = omega arith in
-    rw (get_or-take n helds k d (omega arith), get_or-take n helds (k + 1) d here) (all k d here))
 
 -- one more version of the log
 module _ (viewer : Option Kept) (made stretch : List Held) (i count : ℕ) (w : Held) (l : i < length made) (is : get_or made i w ≡ w)

@@ -27,10 +27,6 @@ piece_cut before here after piece rest text so_far part = record {
   written = Appends-trans before here after so_far.front part.front so_far.written part.written;
 }
 
--- nothing more is written
-pub left_off : (before here : Option (List ℕ)) (rest text : List ℕ) → IsWrittenTo before here rest text → AppendsFront before here text
-left_off before here rest text so_far = record { front = so_far.front; rest = rest; whole = so_far.whole; written = so_far.written }
-
 -- of so many commands the line of one is next
 next_line : (p : Planned) (place count : ℕ) → place < count → lines_from p (place + 1) (count - place) ≡ command_line p (place + 1) ++ lines_from p ((place + 1) + 1) (count - (place + 1))
 next_line p place count h = let left : count - place ≡ suc (count - (place + 1)) = omega arith in ap (lines_from p (place + 1)) left
@@ -50,12 +46,6 @@ line_cut before here after p place count line text h is so_far part =
 -- after the last command only the last line is left
 last_line : (p : Planned) (place count : ℕ) → place ≡ count → lines_from p (place + 1) (count - place) ≡ count_line p
 last_line p place count all = let none : count - place ≡ 0 = omega arith in ap (lines_from p (place + 1)) none
-
-pub last_written : (before here after : Option (List ℕ)) (p : Planned) (place count : ℕ) (line text : List ℕ) → place ≡ count → line ≡ count_line p
-    → IsWrittenTo before here (lines_from p (place + 1) (count - place)) text → Appends here after line → Appends before after text
-last_written before here after p place count line text all is so_far more =
-    let to = subst (λ (l : List ℕ). IsWrittenTo before here l text) (last_line p place count all) so_far in
-    subst (Appends before after) to.whole (Appends-trans before here after to.front (count_line p) to.written (subst (Appends here after) is more))
 
 pub last_cut : (before here after : Option (List ℕ)) (p : Planned) (place count : ℕ) (line text : List ℕ) → place ≡ count → line ≡ count_line p
     → IsWrittenTo before here (lines_from p (place + 1) (count - place)) text → AppendsFront here after line → AppendsFront before after text

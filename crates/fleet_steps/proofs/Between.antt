@@ -224,17 +224,3 @@ one_wants (Err refused) devices c k d old place is h wants = λ models shown.
     let m = device_at models k in
     let before : Shows old m = subst (λ (x : Kept). Shows x m) (sym is) (zip_at Shows devices models k d (opening (author k) All) shown h) in
     subst (λ (j : ℕ). MayWantMemory c (device_at models j)) place (wants m before)
-
-pub two_want : {E : Type 0} (r : Result Report E) (devices : List Kept) (c : Command) (s : ℕ) → (devices_of c).1 ≡ Some s → OnErr r ((models : List ModelDevice) → AllZip Shows devices models → MayWantMemory c (device_at models (devices_of c).0))
-two_want (Ok report) devices c s two = tt
-two_want (Err refused) devices (command.New k p r) s two = cc
-two_want (Err refused) devices (command.Edit k p r) s two = cc
-two_want (Err refused) devices (command.Remove k p) s two = cc
-two_want (Err refused) devices (command.Pull t k) s two = λ models shown. tt
-two_want (Err refused) devices (command.Narrow k tree) s two = cc
-two_want (Err refused) devices (command.Refilter k tree) s two = cc
-two_want (Err refused) devices (command.Preview t k) s two = λ models shown. tt
-two_want (Err refused) devices (command.List k) s two = cc
-two_want (Err refused) devices (command.Conflicts k) s two = cc
-two_want (Err refused) devices (command.Knowledge k) s two = cc
-two_want (Err refused) devices (command.Knows k p v) s two = cc

@@ -141,24 +141,3 @@ none_named models (command.List k) of = refl
 none_named models (command.Conflicts k) of = refl
 none_named models (command.Knowledge k) of = refl
 none_named models (command.Knows k q w) of = refl
-
-pub change_not_told : (m : ModelDevice) (q : ℕ) (r : Record) (a : Answer) → Tells a (changing m None q r).report → version_told a ≡ None → (changing m None q r).entries ≡ []
-change_not_told m q r a told is = by_test (is_held m q) told
-  where
-    by_test : (b : Bool) → Tells a (cond b (making m None q r) (telling m None (Exactly NotHeld))).report → (cond b (making m None q r) (telling m None (Exactly NotHeld))).entries ≡ []
-    by_test true told = let was_made = ap version_told told in cc
-    by_test false told = refl
-
--- nor does one of which no version is told
-pub none_told : (models : List ModelDevice) (c : Command) (a : Answer) → Tells a (effect_on models c).report → version_told a ≡ None → (effect_on models c).entries ≡ []
-none_told models (command.New k q r) a told is = let was_made = ap version_told told in cc
-none_told models (command.Edit k q r) a told is = change_not_told (device_at models k) q r a told is
-none_told models (command.Remove k q) a told is = change_not_told (device_at models k) q Removed a told is
-none_told models (command.Pull t s) a told is = pulling_logs (device_at models t) (Some (device_at models s))
-none_told models (command.Narrow k tree) a told is = narrowing_logs (device_at models k) None tree
-none_told models (command.Refilter k tree) a told is = refl
-none_told models (command.Preview t s) a told is = refl
-none_told models (command.List k) a told is = refl
-none_told models (command.Conflicts k) a told is = refl
-none_told models (command.Knowledge k) a told is = refl
-none_told models (command.Knows k q w) a told is = refl

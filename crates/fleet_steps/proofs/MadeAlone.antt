@@ -14,7 +14,7 @@ use Rattle.fleet_model.specs.Answers.{Exactly, NotHeld}
 use Rattle.photo_script.specs.Reports.{Answer, Tells}
 use Rattle.fleet_model.specs.Runs.{effect, making, telling, changing}
 use Rattle.fleet_steps.specs.Issued.{picture_of, version_told}
-use Rattle.fleet_steps.proofs.Issued.{making_issued, change_not_told, narrowing_logs}
+use Rattle.fleet_steps.proofs.Issued.{making_issued, narrowing_logs}
 use Rattle.fleet_model.proofs.Effects.{changing_second, narrowing_second}
 
 abbrev IsFound : Kept → ℕ → Version → Command → ModelDevice → Type 0
@@ -39,43 +39,3 @@ made_is d m (command.List k) a p v of is shown told = cc
 made_is d m (command.Conflicts k) a p v of is shown told = cc
 made_is d m (command.Knowledge k) a p v of is shown told = cc
 made_is d m (command.Knows k q w) a p v of is shown told = cc
-
-pub none_made : (m : ModelDevice) (c : Command) → picture_of c ≡ None → (effect c m None).entries ≡ []
-none_made m (command.New k q r) of = cc
-none_made m (command.Edit k q r) of = cc
-none_made m (command.Remove k q) of = cc
-none_made m (command.Pull t s) of = refl
-none_made m (command.Narrow k tree) of = narrowing_logs m None tree
-none_made m (command.Refilter k tree) of = refl
-none_made m (command.Preview t s) of = refl
-none_made m (command.List k) of = refl
-none_made m (command.Conflicts k) of = refl
-none_made m (command.Knowledge k) of = refl
-none_made m (command.Knows k q w) of = refl
-
-pub none_told : (m : ModelDevice) (c : Command) (a : Answer) → Tells a (effect c m None).report → version_told a ≡ None → (effect c m None).entries ≡ []
-none_told m (command.New k q r) a told is = let was_made = ap version_told told in cc
-none_told m (command.Edit k q r) a told is = change_not_told m q r a told is
-none_told m (command.Remove k q) a told is = change_not_told m q Removed a told is
-none_told m (command.Pull t s) a told is = refl
-none_told m (command.Narrow k tree) a told is = narrowing_logs m None tree
-none_told m (command.Refilter k tree) a told is = refl
-none_told m (command.Preview t s) a told is = refl
-none_told m (command.List k) a told is = refl
-none_told m (command.Conflicts k) a told is = refl
-none_told m (command.Knowledge k) a told is = refl
-none_told m (command.Knows k q w) a told is = refl
-
--- a command on one device leaves no second one
-pub alone_second : (m : ModelDevice) (c : Command) → (effect c m None).second ≡ None
-alone_second m (command.New k q r) = refl
-alone_second m (command.Edit k q r) = changing_second m None q r
-alone_second m (command.Remove k q) = changing_second m None q Removed
-alone_second m (command.Pull t s) = refl
-alone_second m (command.Narrow k tree) = narrowing_second m None tree
-alone_second m (command.Refilter k tree) = refl
-alone_second m (command.Preview t s) = refl
-alone_second m (command.List k) = refl
-alone_second m (command.Conflicts k) = refl
-alone_second m (command.Knowledge k) = refl
-alone_second m (command.Knows k q w) = refl

@@ -28,13 +28,6 @@ two_as_they_were (Err refused) devices new t s d e target source a b is_t is_s o
     ∙ map-set_same unstaged (set devices t a) s b e (second ∙ ap unstaged (is_s ∙ sym (get_or-set_other devices t s a e other)))
     ∙ map-set_same unstaged devices t a d (first ∙ ap unstaged is_t)
 
-pub two_settled : (devices new : List Kept) (t s : ℕ) (d e target source a b : Kept) → target ≡ get_or devices t d → source ≡ get_or devices s e → t < length devices → s < length devices → new ≡ set (set devices t a) s b
-    → (target.staged ≡ None → a.staged ≡ None) → (source.staged ≡ None → b.staged ≡ None) → AreSettled devices → AreSettled new
-two_settled devices new t s d e target source a b is_t is_s ht hs is_new first second all =
-    let at_t : target.staged ≡ None = ap (λ (x : Kept). x.staged) is_t ∙ all_at (λ (x : Kept). x.staged ≡ None) devices t d all ht in
-    let at_s : source.staged ≡ None = ap (λ (x : Kept). x.staged) is_s ∙ all_at (λ (x : Kept). x.staged ≡ None) devices s e all hs in
-    subst AreSettled (sym is_new) (all_set (λ (x : Kept). x.staged ≡ None) (set devices t a) s b (all_set (λ (x : Kept). x.staged ≡ None) devices t a all (first at_t)) (second at_s))
-
 -- where nothing is staged, devices that are as they were are the same
 
 settled_is : (d : Kept) → d.staged ≡ None → d ≡ unstaged d

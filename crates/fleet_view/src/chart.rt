@@ -4,13 +4,13 @@ ghost use Rattle.std.specs.Prelude.{◌<◌, length};
 use crate::columns::{Band, Columned, Columns, columned_by, digits_of, layout_of};
 use crate::escaping::push_escaped;
 use crate::filters::{push_whole_filter, shown_filter};
+use crate::layout::Layout;
 use crate::names::device_name;
 use crate::running::push_run;
 use crate::style::{LEGEND, STYLE};
 use photo_script::Script;
 use std::alloc::{AllocError, Global};
 use unicode_width::UnicodeWidthStr;
-use view_parts::Layout;
 
 /// Puts the text of `chart` behind another: the script's run as an SVG.
 pub fn push_chart(

@@ -1,8 +1,8 @@
 //! The columns of the chart, from left to right, and how wide it is for a script.
+use crate::layout::Layout;
 use photo_batcher::{Plan, plan};
 use photo_script::{Command, Script, devices_of};
 use std::alloc::{AllocError, Global};
-use view_parts::Layout;
 
 /// What a column of the chart stands for.
 #[derive(Clone, Copy)]

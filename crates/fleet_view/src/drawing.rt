@@ -1,8 +1,8 @@
 //! What is drawn of a run, in two layers, and the marks that it is drawn with.
 use crate::escaping::push_escaped;
+use crate::layout::Layout;
 use crate::strife::Since;
 use std::alloc::{AllocError, Global};
-use view_parts::Layout;
 
 /// What is drawn of a run: what lies below, and what lies above it.
 #[derive(Drop)]

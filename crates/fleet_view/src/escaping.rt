@@ -1,6 +1,23 @@
 //! Texts as they stand in XML.
+ghost use Rattle.std.specs.Prelude.{◌≡◌, option_map};
+ghost use Rattle.fleet_view.specs.Escapes.{escape_of};
+
 use std::alloc::AllocError;
-use view_parts::escape_of;
+
+/// What stands for a character in XML, where it doesn't stand for itself: the marks of tags and entities have names, and what
+/// no XML may have is shown as U+FFFD.
+pub fn escape_of(c: char) -> Option<&'static str>
+    ensures { option_map (λ s. s.now) result ≡ escape_of c }
+{
+    match c {
+        '&' => Some("&amp;"),
+        '<' => Some("&lt;"),
+        '>' => Some("&gt;"),
+        '"' => Some("&quot;"),
+        '\0'..='\x1f' | '\u{fffe}' | '\u{ffff}' => Some("\u{fffd}"),
+        _ => None,
+    }
+}
 
 /// Puts a text behind another as XML has it.
 pub fn push_escaped(text: &mut String, plain: &str) -> Result<(), AllocError> {

@@ -1,5 +1,6 @@
 //! Shows scripts of a photo collection to people: where each picture is once a script has run, its run as a chart, and what
-//! is wrong with a script that is refused. What is shown comes from public calls of the libraries alone.
+//! is wrong with a script that is refused. Its invariant: **what is shown comes from public calls of the libraries alone**, and
+//! what a part of a view gives is what its contract says of it, whatever view it stands in.
 #![tactic(auto)]
 
 mod chart;
@@ -10,13 +11,17 @@ mod escaping;
 mod events;
 mod filters;
 mod helps;
+mod layout;
 mod moves;
 mod names;
+mod padding;
 mod playing;
 mod refusals;
 mod running;
 mod serve;
 mod source;
+mod standing;
+mod statuses;
 mod strife;
 mod style;
 mod table;
@@ -25,11 +30,11 @@ mod words;
 
 use refusals::without_words;
 use serve::serve;
+use statuses::without_memory;
 use std::alloc::Global;
 use std::env;
 use std::io::{self, BufWriter, Write};
 use std::process::ExitCode;
-use view_parts::without_memory;
 
 fn main(rt: HostRuntime) -> ExitCode {
     ExitCode::from(status(&rt))

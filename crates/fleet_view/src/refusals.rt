@@ -1,12 +1,12 @@
 //! Answers to command lines that ask for no view: help, and why words are refused.
 ghost use Rattle.std.specs.Prelude.{◌≡◌, ◌⊎◌};
 
+use crate::statuses::{BAD_WORDS, DONE, status_of, without_memory};
 use crate::words::command_line;
 use clap::error::ErrorKind;
 use fleet_steps::RunError;
 use std::alloc::{AllocError, Global};
 use std::io::{self, Write};
-use view_parts::{BAD_WORDS, DONE, status_of, without_memory};
 
 /// Help is asked for, or the words are refused.
 pub fn refused<W: Write, E: Write>(

@@ -4,11 +4,11 @@ ghost use Rattle.std.specs.Prelude.{◌≡◌, ◌≤◌, ◌<◌, ◌+◌, leng
 use crate::columns::Columned;
 use crate::drawing::Drawing;
 use crate::events::draw_command;
+use crate::layout::Layout;
 use crate::strife::{finish_strife, note_strife};
 use live_fleet::Fleet;
 use photo_script::Script;
 use std::alloc::{AllocError, Global};
-use view_parts::Layout;
 
 /// Runs the script, and puts what is drawn of it behind a text.
 pub fn push_run(

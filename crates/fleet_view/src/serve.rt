@@ -2,6 +2,7 @@
 use crate::chart::push_chart;
 use crate::refusals::refused;
 use crate::source::read_bytes;
+use crate::statuses::{BAD_SCRIPT, DONE, status_of};
 use crate::whereabouts::push_whereabouts;
 use crate::words::{Request, View, request_of};
 use fleet_steps::RunError;
@@ -11,7 +12,6 @@ use std::alloc::Global;
 use std::convert::AsStr;
 use std::io::Write;
 use std::rt::Files;
-use view_parts::{BAD_SCRIPT, DONE, status_of};
 
 // What is told of a script that has no fault.
 const NO_FAULT: &str = "no fault: it is a script\n";

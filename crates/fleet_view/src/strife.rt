@@ -15,8 +15,9 @@ pub struct Since {
     pictures: usize,
 }
 
-/// Notes the conflicts of the device that the command of that number changed, behind it: where there are more than before
-/// they get a mark, and where there are none any more a band is drawn from the first to here.
+/// Notes the conflicts of the devices that the command of that number may have changed, behind it: where there are more than
+/// before they get a mark, and where there are none any more a band is drawn from the first to here. A pull changes its source
+/// too, whose out loses what it hands over.
 pub fn note_strife(
     drawing: &mut Drawing,
     script: &Script,
@@ -31,18 +32,15 @@ pub fn note_strife(
     if !is_change(command) {
         return Ok(());
     }
-    let (place, _) = devices_of(command);
-    let spot = Spot {
-        column,
-        device: place,
-    };
-    match fleet.devices().get(usize::from(place)) {
-        Some(device) => note_device(drawing, script, device, number, spot),
+    let (device, source) = devices_of(command);
+    note_spot(drawing, script, fleet, number, Spot { column, device })?;
+    match source {
+        Some(device) => note_spot(drawing, script, fleet, number, Spot { column, device }),
         None => Ok(()),
     }
 }
 
-// Whether the command can change what its device holds.
+// Whether the command can change what its devices hold.
 fn is_change(command: &Command) -> bool {
     matches!(
         command,
@@ -53,6 +51,19 @@ fn is_change(command: &Command) -> bool {
             | Command::Narrow { .. }
             | Command::Refilter { .. }
     )
+}
+
+fn note_spot(
+    drawing: &mut Drawing,
+    script: &Script,
+    fleet: &Fleet,
+    number: u32,
+    spot: Spot,
+) -> Result<(), AllocError> {
+    match fleet.devices().get(usize::from(spot.device)) {
+        Some(device) => note_device(drawing, script, device, number, spot),
+        None => Ok(()),
+    }
 }
 
 fn note_device(

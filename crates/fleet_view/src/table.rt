@@ -1,7 +1,7 @@
 //! A table for a terminal: each column is as wide as its widest cell.
+use crate::padding::missing;
 use std::alloc::{AllocError, Global};
 use unicode_width::UnicodeWidthStr;
-use view_parts::missing;
 
 // Between two columns.
 const GAP: usize = 2;

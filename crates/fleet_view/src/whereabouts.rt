@@ -5,6 +5,7 @@ use crate::current::{current_of, is_current};
 use crate::moves::push_moves;
 use crate::names::{device_name, push_version};
 use crate::playing::play;
+use crate::standing::{Standing, standing_of};
 use crate::table::Table;
 use live_fleet::Fleet;
 use photo_device::{Device, Held};
@@ -12,7 +13,6 @@ use photo_record::Record;
 use photo_script::Script;
 use std::alloc::{AllocError, Global};
 use std::collections::BTreeMap;
-use view_parts::{Standing, standing_of};
 
 // What the marks of a cell mean.
 const LEGEND: &str =

@@ -1,5 +1,5 @@
 -- A batch dealt to workers, command by command.
-use Rattle.std.proofs.Common.{◌≡◌, ◌≢◌, ℕ, zero, suc, ◌+◌, ◌-◌, ◌<◌, ◌%◌, Bool, true, false, ◌==◌, cond, List, [], ◌∷◌, ◌++◌, ◌⊎◌, inl, inr, length, get_or, set, map, take, drop, replicate, refl, sym, ap, ◌∙◌, subst, arith, append_assoc, append-nil, length-set}
+use Rattle.std.proofs.Common.{◌≡◌, ◌≢◌, ℕ, zero, suc, ◌+◌, ◌<◌, ◌%◌, Bool, true, false, ◌==◌, cond, List, [], ◌∷◌, ◌++◌, ◌⊎◌, inl, inr, length, get_or, set, map, take, drop, replicate, refl, sym, ap, ◌∙◌, subst, arith, append_assoc, append-nil, length-set}
 use Rattle.std.specs.Prelude.{Option, Some, None, IfSome, IsSome, IsPermutation, Vec}
 use Rattle.std.specs.List.{AllByRecursion, flat_map}
 use Rattle.std.proofs.lemmas.List.{get_or-set_same, get_or-set_other, map-append, length-map, length-replicate}
@@ -13,7 +13,6 @@ use Rattle.photo_batcher.specs.Orders.{times}
 use Rattle.photo_batcher.proofs.Counting.{times_cons, times_append}
 use Rattle.photo_batcher.proofs.Turns.{all_by_times, self_counts}
 use Rattle.photo_batcher.proofs.Exchange.{used}
-use Rattle.photo_batcher.proofs.Befores.{works_cases}
 use Rattle.photo_batcher.proofs.Lasts.{works_first, works_second}
 use Rattle.photo_batcher.proofs.Checked.{at_place}
 use Rattle.photo_model.proofs.AllLemmas.{all_front, all_back, all_append}
@@ -38,13 +37,6 @@ not_yet_used script members i k apart below used = all_by_times (λ m. uses scri
         let once = apart.once n in
         let not : m ≡ n → ⊥ = λ same. let there = subst (λ x. 0 < times x (take i members)) same stands in omega (arith, here, one, self, once, there) in
         absurd (apart.apart m n (omega (arith, whole, stands)) (omega (arith, here, one, self)) not (record { device = k; first = is; second = used }))
-
--- a device of a command is one of the script
-pub used_within : (script : Contents) (n k : ℕ) (count : ℕ) (c : Command) → command_of script n ≡ Some c → IsWithin count c → uses script n k ≡ true → k < count
-used_within script n k count c is within used = elim (works_cases c k (let same : uses script n k ≡ works_on c k = rw is refl in sym same ∙ used)) [
-  | inl first ↦ subst (λ j. j < count) first within.0
-  | inr second ↦ (subst (λ o. IfSome o (λ s. (s < count) × (s ≢ (devices_of c).0))) second within.1).0
-]
 
 pub taken_is : (script : Contents) (n : ℕ) (c : Command) (slots : List (Option Kept)) → command_of script n ≡ Some c → taken_slots script n slots ≡ in_places c None (Some None) slots
 taken_is script n c slots is = rw is refl
@@ -193,20 +185,10 @@ same_some x y e = cc
 abbrev pub AreHere : Contents → ℕ → List (Option Kept) → Type 0
 AreHere script n slots = (k : ℕ) → k < length slots → uses script n k ≡ true → (x : Option Kept) → IsSome (get_or slots k x)
 
-pub first_low : (count : ℕ) (c : Command) (place : ℕ) → IsWithin count c → place ≡ (devices_of c).0 → place < count
-first_low count c place within is = let low = within.0 in omega (arith, low, is)
-
 pub first_here : (script : Contents) (n : ℕ) (c : Command) (place : ℕ) (slots : List (Option Kept)) → command_of script n ≡ Some c → IsWithin (length script.names) c → length slots ≡ length script.names → place ≡ (devices_of c).0 → AreHere script n slots → (x : Option Kept) → IsSome (get_or slots place x)
 first_here script n c place slots is within long at here x =
     let low = within.0 in
     subst (λ (j : ℕ). IsSome (get_or slots j x)) (sym at) (here (devices_of c).0 (omega (arith, low, long)) (used script n (devices_of c).0 c is (works_first c)) x)
-
-pub second_low : (count : ℕ) (c : Command) (other : Option ℕ) (slots : List (Option Kept)) → IsWithin count c → length slots ≡ count → other ≡ (devices_of c).1 → IfSome other (λ k. k < length slots)
-second_low count c other slots within long at = subst (λ o. IfSome o (λ k. k < length slots)) (sym at) (by_cases (devices_of c).1 within.1)
-  where
-    by_cases : (o : Option ℕ) → IfSome o (λ s. (s < count) × (s ≢ (devices_of c).0)) → IfSome o (λ k. k < length slots)
-    by_cases None w = tt
-    by_cases (Some k) w = let low = w.0 in omega (arith, low, long)
 
 pub second_here : (script : Contents) (n : ℕ) (c : Command) (place : ℕ) (other : Option ℕ) (slots : List (Option Kept)) → command_of script n ≡ Some c → IsWithin (length script.names) c → length slots ≡ length script.names → place ≡ (devices_of c).0 → other ≡ (devices_of c).1 → AreHere script n slots
     → IfSome other (λ k. (x : Option Kept) → IsSome (get_or (set slots place None) k x))
@@ -239,9 +221,6 @@ job_taken script n c slots devices place other job is within long same at second
 pub slots_taken : (script : Contents) (n : ℕ) (c : Command) (place : ℕ) (other : Option ℕ) (slots one two : List (Option Kept)) → command_of script n ≡ Some c → place ≡ (devices_of c).0 → other ≡ (devices_of c).1 → one ≡ set slots place None → two ≡ with_other other (Some None) one → two ≡ taken_slots script n slots
 slots_taken script n c place other slots one two is at second first then =
     then ∙ (λ i. with_other (second i) (Some None) (first i)) ∙ ap (λ (k : ℕ). with_other (devices_of c).1 (Some None) (set slots k None)) at ∙ sym (taken_is script n c slots is)
-
-pub taken_long : (script : Contents) (n : ℕ) (c : Command) (slots : List (Option Kept)) → command_of script n ≡ Some c → length (taken_slots script n slots) ≡ length slots
-taken_long script n c slots is = ap length (taken_is script n c slots is) ∙ in_places_long c None (Some None) slots
 
 -- the number at a place of the batch
 pub numbered_at : (script : Contents) (members : List ℕ) (i : ℕ) → AllByRecursion (IsNumber script) members → i < length members → IsNumber script (get_or members i 0)

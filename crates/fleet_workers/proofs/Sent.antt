@@ -30,18 +30,6 @@ use Rattle.fleet_workers.specs.contracts.parcel.Parcel as parcel
 use Rattle.fleet_workers.specs.contracts.work.Job as job
 use Rattle.fleet_workers.specs.contracts.work.Done as done
 
-pub tree_send : IsSend tree.the_row
-tree_send = first_of (
-  search (memory.the_field_send, memory.the_send, memory.the_field_sync, memory.the_sync, global.the_field_send, global.the_send, global.the_field_sync, global.the_sync, vec.the_send, vec.the_sync, string.the_field_send, string.the_send, string.the_field_sync, string.the_sync, box.the_send, box.the_sync, cmp.the_field_send, cmp.the_send, cmp.the_field_sync, cmp.the_sync, day.the_send, day.the_sync, rating.the_send, rating.the_sync, word.the_send, word.the_sync, crosses, knot.crosses, sendable) depth 60 fits 20000,
-  search (memory.the_field_send, memory.the_send, memory.the_field_sync, memory.the_sync, global.the_field_send, global.the_send, global.the_field_sync, global.the_sync, vec.the_send, vec.the_sync, string.the_field_send, string.the_send, string.the_field_sync, string.the_sync, box.the_send, box.the_sync, cmp.the_field_send, cmp.the_send, cmp.the_field_sync, cmp.the_sync, day.the_send, day.the_sync, rating.the_send, rating.the_sync, word.the_send, word.the_sync, crosses, knot.crosses_both, sendable) depth 60 fits 20000,
-)
-
-pub tree_sync : IsSync tree.the_row
-tree_sync = first_of (
-  search (memory.the_field_send, memory.the_send, memory.the_field_sync, memory.the_sync, global.the_field_send, global.the_send, global.the_field_sync, global.the_sync, vec.the_send, vec.the_sync, string.the_field_send, string.the_send, string.the_field_sync, string.the_sync, box.the_send, box.the_sync, cmp.the_field_send, cmp.the_send, cmp.the_field_sync, cmp.the_sync, day.the_send, day.the_sync, rating.the_send, rating.the_sync, word.the_send, word.the_sync, crosses, knot.crosses, sendable) depth 60 fits 20000,
-  search (memory.the_field_send, memory.the_send, memory.the_field_sync, memory.the_sync, global.the_field_send, global.the_send, global.the_field_sync, global.the_sync, vec.the_send, vec.the_sync, string.the_field_send, string.the_send, string.the_field_sync, string.the_sync, box.the_send, box.the_sync, cmp.the_field_send, cmp.the_send, cmp.the_field_sync, cmp.the_sync, day.the_send, day.the_sync, rating.the_send, rating.the_sync, word.the_send, word.the_sync, crosses, knot.crosses_both, sendable) depth 60 fits 20000,
-)
-
 pub filter_send : IsSend filter_.the_row
 filter_send = first_of (
   search (memory.the_field_send, memory.the_send, memory.the_field_sync, memory.the_sync, global.the_field_send, global.the_send, global.the_field_sync, global.the_sync, vec.the_send, vec.the_sync, string.the_field_send, string.the_send, string.the_field_sync, string.the_sync, box.the_send, box.the_sync, alternative.the_send, alternative.the_sync, span.the_field_send, span.the_send, span.the_field_sync, span.the_sync, cmp.the_field_send, cmp.the_send, cmp.the_field_sync, cmp.the_sync, day.the_send, day.the_sync, rating.the_send, rating.the_sync, word.the_send, word.the_sync, crosses, knot.crosses, sendable) depth 60 fits 20000,

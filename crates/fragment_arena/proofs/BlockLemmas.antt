@@ -1,7 +1,7 @@
 -- The rows of an arena are those of its blocks, one block behind the other.
 use Rattle.std.proofs.Common.{◌≡◌, ℕ, zero, suc, ◌+◌, ◌-◌, ◌<◌, ◌≤◌, List, [], ◌∷◌, ◌++◌, length, take, drop, get_or, set, refl, sym, ap, subst, ◌∙◌, arith, append_assoc, append-nil, length-append, length-set}
 use Rattle.std.proofs.Math.ListN.{get_or-append}
-use Rattle.std.proofs.Math.Seq.{get_or-append-add, get_or-append_seam, take-append-le, drop-append-le, drop-append-add, take-suc, take_all}
+use Rattle.std.proofs.Math.Seq.{get_or-append-add, take-append-le, drop-append-le, drop-append-add, take-suc}
 use Rattle.std.proofs.lemmas.List.{length-drop, get_or-set_same}
 use Rattle.fragment_arena.specs.Arena.{run}
 use Rattle.fragment_arena.specs.Rows.{Rows, no_block, block_at, last_block, rows_of, before, IsIn, IsStretch, IsArena}
@@ -34,11 +34,6 @@ pub last-set : (blocks : List Rows) (k : ℕ) (b : Rows) → k + 1 ≡ length bl
 last-set blocks k b last =
     let place : length (set blocks k b) - 1 ≡ k = omega (arith, last, length-set blocks k b) in
     ap (block_at (set blocks k b)) place ∙ get_or-set_same blocks k b no_block (omega (arith, last))
-
-pub last-added : (blocks : List Rows) (b : Rows) → last_block (blocks ++ b ∷ []) ≡ b
-last-added blocks b =
-    let place : length (blocks ++ b ∷ []) - 1 ≡ length blocks = omega (arith, length-append blocks (b ∷ [])) in
-    ap (block_at (blocks ++ b ∷ [])) place ∙ get_or-append_seam blocks b [] no_block
 
 pub last-at : (blocks : List Rows) (k : ℕ) → k + 1 ≡ length blocks → last_block blocks ≡ block_at blocks k
 last-at blocks k last = let place : length blocks - 1 ≡ k = omega (arith, last) in ap (block_at blocks) place
@@ -98,20 +93,12 @@ run-in blocks place block row to end is low high far =
     let inside : row + (end - row) ≤ length (block_at blocks block).rows = omega (arith, low, high) in
     (λ i. take (count i) (drop (sym is.counted i) (rows_of blocks))) ∙ run-place blocks block row (end - row) is.block_is_there inside
 
-block-within : (blocks : List Rows) (k : ℕ) → k < length blocks → before blocks k + length (block_at blocks k).rows ≤ length (rows_of blocks)
-block-within [] k lt = absurd (omega (arith, lt))
-block-within (b ∷ bs) zero lt = omega (arith, length-append b.rows (rows_of bs))
-block-within (b ∷ bs) (suc k) lt = omega (arith, length-append b.rows (rows_of bs), block-within bs k (omega (arith, lt)))
-
 -- copies of blocks
 
 pub copied : (blocks copies : List Rows) (i : ℕ) (b d : Rows) → i < length blocks → b.rows ≡ (get_or blocks i d).rows → rows_of copies ≡ rows_of (take i blocks) → rows_of (copies ++ b ∷ []) ≡ rows_of (take (i + 1) blocks)
 copied blocks copies i b d lt same so_far =
     let next : i + 1 ≡ suc i = omega arith in
     rows-added copies b ∙ (λ j. so_far j ++ same j) ∙ sym (rows-added (take i blocks) (get_or blocks i d)) ∙ ap rows_of (sym (take-suc blocks i d lt)) ∙ ap (λ n. rows_of (take n blocks)) (sym next)
-
-pub all-copied : (blocks copies : List Rows) (i : ℕ) → i ≡ length blocks → rows_of copies ≡ rows_of (take i blocks) → rows_of copies ≡ rows_of blocks
-all-copied blocks copies i end so_far = so_far ∙ ap rows_of (take_all i blocks (omega (arith, end)))
 
 -- what holds of an arena when rows come into its last block
 pub arena-more : (blocks : List Rows) (count words slots k taken_words taken_slots : ℕ) (b : Rows) (more : List (List ℕ)) → IsArena blocks count words slots → k + 1 ≡ length blocks

@@ -1,6 +1,6 @@
 -- Rows that are cut out of words by the places where they end.
 use Rattle.std.proofs.Common.{◌≡◌, ℕ, zero, suc, ◌+◌, ◌-◌, ◌<◌, ◌≤◌, List, [], ◌∷◌, ◌++◌, length, take, drop, get_or, set, map, refl, sym, ap, subst, ◌∙◌, arith, length-append, length-set, ◌^◌}
-use Rattle.std.proofs.Math.Seq.{take-length, take-append-le, drop-append-le, drop-append-add, take-take, drop-drop, take-set-le, take-set-lt, drop-set-lt, drop-set-add, get_or-drop}
+use Rattle.std.proofs.Math.Seq.{take-length, take-append-le, drop-append-le, drop-append-add, take-take, drop-drop, drop-set-lt, get_or-drop}
 use Rattle.std.proofs.lemmas.List.{drop-take, length-drop, length-take, get_or_read_under, take_more_set, map_more}
 use Rattle.fragment_arena.specs.Arena.{run, words_in}
 use Rattle.fragment_arena.specs.Rows.{cut_at, AreEnds, CanMove}
@@ -21,16 +21,6 @@ pub begins-low : (from : ℕ) (ends : List ℕ) (len i : ℕ) → AreEnds from e
 begins-low from ends len zero a le = end-low from ends len a
 begins-low from [] len (suc i) a le = absurd (omega (arith, le))
 begins-low from (e ∷ es) len (suc i) a le = begins-low e es len i a.1 (omega (arith, le))
-
-pub begins-high : (from : ℕ) (ends : List ℕ) (len i : ℕ) → AreEnds from ends len → i ≤ length ends → from ≤ begin_of from ends i
-begins-high from ends len zero a le = omega arith
-begins-high from [] len (suc i) a le = absurd (omega (arith, le))
-begins-high from (e ∷ es) len (suc i) a le = omega (arith, a.0, begins-high e es len i a.1 (omega (arith, le)))
-
-pub ends-rise : (from : ℕ) (ends : List ℕ) (len i : ℕ) → AreEnds from ends len → i < length ends → begin_of from ends i ≤ get_or ends i 0
-ends-rise from [] len i a lt = absurd (omega (arith, lt))
-ends-rise from (e ∷ es) len zero a lt = a.0
-ends-rise from (e ∷ es) len (suc i) a lt = ends-rise e es len i a.1 (omega (arith, lt))
 
 pub cut-read : (ws : List ℕ) (from : ℕ) (ends : List ℕ) (i : ℕ) → i < length ends
     → get_or (cut_at ws from ends) i [] ≡ take (get_or ends i 0 - begin_of from ends i) (drop (begin_of from ends i) ws)
@@ -197,31 +187,6 @@ module _ (ws : List ℕ) (ends : List ℕ) (a b : ℕ) (h : AreEnds 0 ends (leng
 
 -- A word is written over
 
-pub untouched : (ws : List ℕ) (p w from : ℕ) (ends : List ℕ) (len : ℕ) → AreEnds from ends len → p < from → cut_at (set ws p w) from ends ≡ cut_at ws from ends
-untouched ws p w from [] len a lt = refl
-untouched ws p w from (e ∷ es) len a lt =
-    let next : p < e = omega (arith, lt, a.0) in
-    λ i. take (e - from) (drop-set-lt from ws p w lt i) ∷ untouched ws p w e es len a.1 next i
-
-put-after : (xs : List ℕ) (at from len w : ℕ) → from + len ≤ at → take len (drop from (set xs at w)) ≡ take len (drop from xs)
-put-after xs at from len w le =
-    let rest : from + (at - from) ≡ at = omega (arith, le) in let past : len ≤ at - from = omega (arith, le) in
-    ap (λ k. take len (drop from (set xs k w))) (sym rest) ∙ ap (take len) (drop-set-add from xs (at - from) w) ∙ take-set-le len (drop from xs) (at - from) w past
-
-put-within : (xs : List ℕ) (i from len w : ℕ) → i < len → take len (drop from (set xs (from + i) w)) ≡ set (take len (drop from xs)) i w
-put-within xs i from len w lt = ap (take len) (drop-set-add from xs i w) ∙ take-set-lt len (drop from xs) i w lt
-
-pub cut-put : (ws : List ℕ) (from : ℕ) (ends : List ℕ) (len i j w : ℕ) → AreEnds from ends len → i < length ends → begin_of from ends i + j < get_or ends i 0
-    → cut_at (set ws (begin_of from ends i + j) w) from ends ≡ set (cut_at ws from ends) i (set (get_or (cut_at ws from ends) i []) j w)
-cut-put ws from [] len i j w a lt inside = absurd (omega (arith, lt))
-cut-put ws from (e ∷ es) len zero j w a lt inside =
-    λ i. put-within ws j from (e - from) w (omega (arith, inside)) i ∷ untouched ws (from + j) w e es len a.1 inside i
-cut-put ws from (e ∷ es) len (suc k) j w a lt inside =
-    let below : k < length es = omega (arith, lt) in
-    let high = begins-high e es len k a.1 (omega (arith, below)) in
-    let past : from + (e - from) ≤ begin_of e es k + j = omega (arith, high, a.0) in
-    λ i. put-after ws (begin_of e es k + j) from (e - from) w past i ∷ cut-put ws e es len k j w a.1 below inside i
-
 -- Rows as a block keeps them
 
 module _ (ws ends : List ℕ) (rows : List (List ℕ)) (is : cut_at ws 0 ends ≡ rows) (a : AreEnds 0 ends (length ws)) where
@@ -232,9 +197,6 @@ module _ (ws ends : List ℕ) (rows : List (List ℕ)) (is : cut_at ws 0 ends �
   begin-is i le =
       let counted = begins-count ws 0 ends i a (omega (arith, le, count-is)) in
       ap (λ rs. words_in (take i rs)) (sym is) ∙ omega (arith, counted)
-
-  pub begin-inside : (i : ℕ) → i ≤ length rows → words_in (take i rows) ≤ length ws
-  begin-inside i le = omega (arith, begin-is i le, begins-low 0 ends (length ws) i a (omega (arith, le, count-is)))
 
   pub end-is : (i : ℕ) → i < length rows → words_in (take i rows) + length (get_or rows i []) ≡ get_or ends i 0
   end-is i lt =
@@ -261,13 +223,6 @@ module _ (ws ends : List ℕ) (rows : List (List ℕ)) (is : cut_at ws 0 ends �
       let place = begin-is i (omega (arith, lt)) in
       let count : len ≡ get_or ends i 0 - begin_of 0 ends i = omega (arith, end-is i lt, place, long) in
       (λ k. take (count k) (drop (place k) ws)) ∙ sym (cut-read ws 0 ends i below) ∙ ap (λ rs. get_or rs i []) is
-
-  pub put-is : (i j w : ℕ) → i < length rows → j < length (get_or rows i []) → cut_at (set ws (words_in (take i rows) + j) w) 0 ends ≡ set rows i (set (get_or rows i []) j w)
-  put-is i j w lt inside =
-      let below : i < length ends = omega (arith, lt, count-is) in
-      let place = begin-is i (omega (arith, lt)) in
-      let there : begin_of 0 ends i + j < get_or ends i 0 = omega (arith, end-is i lt, place, inside) in
-      ap (λ n. cut_at (set ws (n + j) w) 0 ends) place ∙ cut-put ws 0 ends (length ws) i j w a below there ∙ ap (λ rs. set rs i (set (get_or rs i []) j w)) is
 
   -- one row more
   pub placed-is : (row : List ℕ) (e : ℕ) → e ≡ length ws + length row → cut_at (ws ++ row) 0 (ends ++ e ∷ []) ≡ rows ++ row ∷ []
@@ -317,11 +272,6 @@ moved-one first at old new i n d lt is h =
       rest = drop-set-lt (i + 1) new i n past ∙ sym (drop-drop 1 i new) ∙ ap (drop 1) h.rest ∙ drop-drop 1 i old;
       long = length-set new i n ∙ h.long;
     }
-
-pub all-moved : (first at : ℕ) (old new : List ℕ) (i : ℕ) → i ≡ length old → AreMoved first at old new i → new ≡ map (λ e. e - first + at) old
-all-moved first at old new i end h =
-    let whole : i ≡ length new = omega (arith, end, h.long) in
-    sym (ap (λ k. take k new) whole ∙ take-length new) ∙ h.moved ∙ ap (map (λ e. e - first + at)) (ap (λ k. take k old) end ∙ take-length old)
 
 -- A run of another block's rows is placed behind the rows of a block
 

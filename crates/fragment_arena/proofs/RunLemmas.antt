@@ -1,11 +1,8 @@
 -- A run of rows of another arena, placed stretch by stretch.
-use Rattle.std.proofs.Common.{◌≡◌, ℕ, zero, suc, ◌+◌, ◌-◌, ◌<◌, ◌≤◌, List, [], ◌∷◌, ◌++◌, length, take, drop, sym, ap, ◌∙◌, arith, append-nil, append_assoc}
+use Rattle.std.proofs.Common.{◌≡◌, ℕ, zero, suc, ◌+◌, ◌-◌, ◌<◌, ◌≤◌, List, [], ◌∷◌, ◌++◌, length, take, drop, sym, ap, ◌∙◌, arith, append_assoc}
 use Rattle.std.proofs.Math.Seq.{take-add, drop-nil}
 use Rattle.std.proofs.lemmas.List.{length-drop, length-take}
 use Rattle.fragment_arena.specs.Arena.{run, words_in}
-
-pub run-none : (rows : List (List ℕ)) (to : ℕ) → run rows to to ≡ []
-run-none rows to = let none : to - to ≡ 0 = omega arith in ap (λ k. take k (drop to rows)) none
 
 pub drop-drop : {A : Type 0} (n m : ℕ) (xs : List A) → drop n (drop m xs) ≡ drop (m + n) xs
 drop-drop n zero xs = let same : n ≡ 0 + n = omega arith in ap (λ k. drop k xs) same
@@ -46,22 +43,6 @@ many-placed rows from to place end old new next old_words new_words next_words o
       words = omega (arith, count, words, h.words);
       slots = omega (arith, slots, h.slots, low, lt);
     }
-
-pub all-placed : (rows : List (List ℕ)) (from to place : ℕ) (old new : List (List ℕ)) (old_words new_words old_slots new_slots : ℕ) → place ≡ to
-    → IsPlaced rows from to place old new old_words new_words old_slots new_slots
-    → (new ≡ old ++ run rows from to) × (new_words + words_in (run rows from to) ≡ old_words) × (new_slots + (to - from) ≡ old_slots)
-all-placed rows from to place old new old_words new_words old_slots new_slots end h =
-    let none : run rows place to ≡ [] = ap (λ k. run rows k to) end ∙ run-none rows to in
-    let count : words_in (run rows place to) ≡ 0 = ap words_in none in
-    (sym (append-nil new) ∙ ap (λ rs. new ++ rs) (sym none) ∙ h.placed, omega (arith, count, h.words), omega (arith, h.slots, end))
-
--- there is room for the rest of a run
-pub room-left : (rows : List (List ℕ)) (from to place : ℕ) (old new : List (List ℕ)) (old_words new_words old_slots new_slots : ℕ) → from ≤ place → place < to
-    → words_in (run rows from to) ≤ old_words → to - from ≤ old_slots → IsPlaced rows from to place old new old_words new_words old_slots new_slots → (words_in (run rows place to) ≤ new_words) × (to - place ≤ new_slots)
-room-left rows from to place old new old_words new_words old_slots new_slots low lt words slots h = (omega (arith, words, h.words), omega (arith, slots, h.slots, low, lt))
-
-pub words-none : (rows : List (List ℕ)) (place to : ℕ) → place ≡ to → words_in (run rows place to) ≡ 0
-words-none rows place to end = ap words_in (ap (λ k. run rows k to) end ∙ run-none rows to)
 
 -- the words of the rows before a run and those of the run are those of the rows before its end
 pub words-between : (rows : List (List ℕ)) (from to : ℕ) → from ≤ to → words_in (take from rows) + words_in (run rows from to) ≡ words_in (take to rows)

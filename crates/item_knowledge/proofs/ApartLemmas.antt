@@ -23,12 +23,6 @@ use Rattle.item_knowledge.proofs.UnionLemmas.{union_order, beyond_of}
 
 -- Fragments of one picture each, whose vectors differ, are what is gathered
 
-pub singles_same : (star : List Entry) (f : ℕ × ℕ → List Entry) (r : ℕ × (ℕ × ℕ)) (rs : List (ℕ × (ℕ × ℕ))) → same_entries star (f r.1) ≡ true → singles star f (r ∷ rs) ≡ singles star f rs
-singles_same star f r rs h = rw h refl
-
-pub singles_other : (star : List Entry) (f : ℕ × ℕ → List Entry) (r : ℕ × (ℕ × ℕ)) (rs : List (ℕ × (ℕ × ℕ))) → same_entries star (f r.1) ≡ false → singles star f (r ∷ rs) ≡ of_one r.0 (f r.1) ∷ singles star f rs
-singles_other star f r rs h = rw h refl
-
 -- Where their vectors differ they are what is gathered
 
 abbrev apart_of : List (ℕ × List Entry) → List Fragment

@@ -8,9 +8,6 @@ use Rattle.item_knowledge.specs.Fragments.{is_empty, first, lists, rises}
 pub lists_head : (p : ℕ) (ps : List ℕ) → lists (p ∷ ps) p ≡ true
 lists_head p ps = grind (arith, nat_tests)
 
-pub lists_other : (q : ℕ) (ps : List ℕ) (p : ℕ) → (q ≡ p → ⊥) → lists (q ∷ ps) p ≡ lists ps p
-lists_other q ps p h = rw (ne_eqb q p h) refl
-
 -- what holds of all holds of each that is listed
 pub listed : (test : ℕ → Bool) (ps : List ℕ) (p : ℕ) → list_all test ps ≡ true → lists ps p ≡ true → test p ≡ true
 listed test [] p h l = absurd (grind (arith, nat_tests))

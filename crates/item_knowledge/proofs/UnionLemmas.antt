@@ -64,12 +64,6 @@ knows_vector (s ∷ gs) p v h = knows_known s gs p v (normal_parts s gs h)
 pub entries_order : (fs : List Fragment) (xs : List (ℕ × ℕ)) (k : ℕ) → IsSide fs xs → k < length fs → in_order (entries_at fs k) ≡ true
 entries_order fs xs k h l = (and_parts (in_order (entries_at fs k)) (list_all (λ (e : Entry). is_entry e) (entries_at fs k)) (above fs xs k h l).vector).0
 
--- a star of one entry
-pub one_star : (a n : ℕ) → is_entry (a, n) ≡ true → IsSide (record { pictures = []; entries = (a, n) ∷ [] } ∷ []) []
-one_star a n e =
-    let v : is_vector ((a, n) ∷ []) ≡ true = and_from _ _ refl (and_from _ _ e refl) in
-    record { star = omega arith; above = and_from _ _ (and_from _ _ v (leq_self ((a, n) ∷ []) v)) refl; order = refl; positive = refl; range = refl }
-
 -- the numbers of an index are those of fragments
 pub side_at : (fs : List Fragment) (xs : List (ℕ × ℕ)) (i : ℕ) → IsSide fs xs → i < length xs → (get_or xs i (0, 0)).1 < length fs
 side_at fs xs i h l = ltb-true (get_or xs i (0, 0)).1 (length fs) (all_at (λ (r : ℕ × ℕ). ltb r.1 (length fs)) xs i (0, 0) h.range l)

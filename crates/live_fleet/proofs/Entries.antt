@@ -1,18 +1,14 @@
 -- What a command puts into the log.
-use Rattle.std.proofs.Common.{◌≡◌, ℕ, ◌+◌, ◌<◌, Bool, true, false, cond, List, [], ◌∷◌, ◌++◌, ap, refl, sym, ◌∙◌}
+use Rattle.std.proofs.Common.{◌≡◌, ℕ, Bool, true, false, cond, List, [], ◌∷◌, ◌++◌, ap, refl, sym, ◌∙◌}
 use Rattle.std.specs.Prelude.{Option, None, is_some}
 use Rattle.std.specs.Option.{option_to_list}
 use Rattle.std.proofs.lemmas.List.{map-append}
 use Rattle.photo_record.specs.declared.record.Record.{Record}
 use Rattle.photo_record.specs.declared.record.Record.TheVariants.{Removed}
-use Rattle.photo_version.specs.Version.{Version, version}
-use Rattle.photo_version.specs.Vector.{denotes}
-use Rattle.item_knowledge.specs.Fragments.{knows}
 use Rattle.photo_device.specs.declared.held.Held.{Held}
 use Rattle.photo_model.specs.Entry.{Entry}
 use Rattle.photo_device.specs.Held.{entry_of, entries_of}
 use Rattle.photo_model.specs.Device.{ModelDevice, new_entry, is_held}
-use Rattle.photo_device.specs.Device.{Kept, Shows}
 use Rattle.fleet_model.specs.declared.command.Command.{Command}
 use Rattle.fleet_model.specs.declared.command.Command.TheVariants as command
 use Rattle.fleet_model.specs.Answers.{NotHeld, Exactly}
@@ -23,16 +19,6 @@ use Rattle.fleet_model.specs.Steps.{effect_on}
 use Rattle.fleet_steps.specs.Issued.{version_told}
 use Rattle.fleet_steps.proofs.Issued.{none_named}
 use Rattle.live_fleet.specs.Entries.{entry_if_made, if_told}
-
--- a version that has the parts of the device's next one shows its entry
-pub next_shown : (d : Kept) (m : ModelDevice) (p : ℕ) (r : Record) (held : Held) → 0 < p → held.picture ≡ p → held.version ≡ version d.author (d.counter + 1)
-    → ((v : Version) → denotes held.made_with v ≡ knows d.knowledge p v) → held.content ≡ r → Shows d m → entry_of held ≡ new_entry m p r
-next_shown d m p r held above picture is history content shows = λ i. record {
-  picture = picture i;
-  version = (is ∙ (λ j. version (shows.author j) (shows.counter j + 1))) i;
-  history = λ v. (history v ∙ shows.known p above v) i;
-  content = content i;
-}
 
 -- what is logged of a change: the new entry, where a version is told
 change_logs : (d : ModelDevice) (other : Option ModelDevice) (p : ℕ) (r : Record) (a : Answer) → Tells a (changing d other p r).report → if_told a (new_entry d p r ∷ []) ≡ (changing d other p r).entries

@@ -71,9 +71,6 @@ put_in_row row_of members batch n new d is h =
 
 -- going back
 
-pub gone_none : (p : Planned) (number : ℕ) → 0 < number → number ≤ length p.batches → IsGoneBack p number number (number ∷ [])
-gone_none p number some within = record { linked = tt; ends = refl; rest = []; head = refl; some = some; within = within }
-
 pub gone_more : (p : Planned) (number last before : ℕ) (chain : List ℕ) → IsGoneBack p number last chain → after_in p last ≡ Some before → 0 < before → before < last → IsGoneBack p number before (chain ++ before ∷ [])
 gone_more p number last before chain g is above less =
     let whole : reverse (chain ++ before ∷ []) ≡ before ∷ last ∷ g.rest = reverse-append chain (before ∷ []) ∙ ap (λ (l : List ℕ). before ∷ l) g.head in

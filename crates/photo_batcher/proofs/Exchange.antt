@@ -80,14 +80,6 @@ done_same c e x ds a =
     let second = second_same (devices_of e).1 (devices_of c).0 (devices_of c).1 x ds a.first_not a.seconds in
     λ i. effect e (first i) (second i)
 
-after_is : (f : Fleet) (n : ℕ) (c : Command) → after_command f n c ≡ record {
-  devices = put (devices_of c).0 (devices_of c).1 (done_on f.devices c) f.devices;
-  reports = set f.reports (n - 1) (Some (done_on f.devices c).report);
-  log = f.log ++ (done_on f.devices c).entries;
-}
-unfolding done_on put
-after_is f n c = refl
-
 log_turned : (log xs ys : List Entry) → IsPermutation ((log ++ ys) ++ xs) ((log ++ xs) ++ ys)
 log_turned log xs ys =
     subst (λ (l : List Entry). IsPermutation l ((log ++ xs) ++ ys)) (sym (append_assoc log ys xs))

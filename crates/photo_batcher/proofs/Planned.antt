@@ -210,27 +210,6 @@ module _ (script : Contents) where
 
 -- what the code asks and has
 
-pub free_at : (batches : List ℕ) (n : ℕ) → 0 < n → free_behind (entry_of batches) n ≡ slice_index batches (n - 1) + 1
-free_at batches zero h = absurd (omega arith)
-free_at batches (suc n) h = let same : suc n - 1 ≡ n = omega arith in ap (λ k. slice_index batches k + 1) (sym same)
-
-pub places_are : (script : Contents) (n first : ℕ) (second : Option ℕ) (c : Command) → 0 < n → slice_get script.commands (n - 1) ≡ Some c → IsWithin (length script.names) c → first ≡ (devices_of c).0 → second ≡ (devices_of c).1 → ArePlaces script n first second
-places_are script zero first second c some here within one two = absurd (omega arith)
-places_are script (suc n) first second c some here within one two =
-    let same : suc n - 1 ≡ n = omega arith in
-    record {
-      command = c;
-      is = ap (slice_get script.commands) (sym same) ∙ here;
-      first_is = one;
-      second_is = two;
-      first_in = let w = within.0 in omega arith;
-      second_in = subst (λ (o : Option ℕ). IfSome o (λ k. k < length script.names)) (sym two) (inside (devices_of c).1 (devices_of c).0 within.1);
-    }
-  where
-    inside : (o : Option ℕ) (p : ℕ) → IfSome o (λ k. (k < length script.names) × (k ≢ p)) → IfSome o (λ k. k < length script.names)
-    inside None p w = tt
-    inside (Some k) p w = w.0
-
 pub low_last : (script : Contents) (n first : ℕ) (last batches afters : List ℕ) → IsPlannedTo script n last batches afters → first < length script.names → slice_index last first ≤ length batches
 low_last script n first last batches afters p h = let is = p.lasts first h in let low = last_below script n first in let many = p.many in omega arith
 

@@ -17,9 +17,6 @@ use Rattle.photo_filter_text.specs.Cuts.{ends_token, starts_token}
 abbrev pub parts : List ℕ → List (List ℕ)
 parts bs = slice_split is_space (flat_map with_room bs)
 
-pub tokens-space : (bs : List ℕ) → tokens_of (32 ∷ bs) ≡ tokens_of bs
-tokens-space bs = refl
-
 -- the parts of a text that begins with a byte which ends a token
 parts-cut : (b : ℕ) (bs : List ℕ) → ends_token b ≡ true → (rest : List (List ℕ)) × (parts (b ∷ bs) ≡ [] ∷ rest)
 parts-cut b bs h = go (eqb b 32) (eqb b 40) (eqb b 41) refl refl refl

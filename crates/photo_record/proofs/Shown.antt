@@ -1,7 +1,6 @@
 -- How values are shown: numbers with zeros in front, and words with commas between them.
 use Rattle.std.proofs.Common.{◌≡◌, ◌-◌, ◌^◌, ℕ, List, [], ◌∷◌, ◌++◌, length, replicate, codes, ap, ◌∙◌, append_assoc, append-nil, arith}
 use Rattle.std.specs.Fmt.{decimal, styled_decimal, format_spec, padded_integral, char_count}
-use Rattle.std.specs.List.{join_with_byte, flat_map}
 use Rattle.photo_record.specs.Calendar.{Civil}
 use Rattle.photo_record.specs.Showing.{padded_decimal}
 
@@ -30,8 +29,3 @@ date_shown date first second third year month day texts next last years months d
     let parts : first ++ 45 ∷ (second ++ 45 ∷ third) ≡ padded_decimal 4 date.year ++ 45 ∷ (padded_decimal 2 date.month ++ 45 ∷ padded_decimal 2 date.day) =
     λ i. one i ++ 45 ∷ (two i ++ 45 ∷ three i) in
     parts ∙ simp append_assoc
-
--- the first word, and the others each with a comma in front
-pub joined_by_commas : (word : List ℕ) (words : List (List ℕ)) → word ++ flat_map (λ w. 44 ∷ w) words ≡ join_with_byte 44 (word ∷ words)
-joined_by_commas word [] = append-nil word
-joined_by_commas word (next ∷ words) = ap (λ t. word ++ 44 ∷ t) (joined_by_commas next words)

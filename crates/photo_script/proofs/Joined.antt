@@ -67,10 +67,3 @@ bounds_behind script (e ∷ es) = (32 ∷ bound_text script e) ++ bounds_behind 
 pub bounds-first : (script : Contents) (e : Entry) (es : List Entry) → bound_text script e ++ bounds_behind script es ≡ bounds_text script (e ∷ es)
 bounds-first script e [] = append-nil (bound_text script e)
 bounds-first script e (f ∷ es) = ap (λ t. bound_text script e ++ (32 ∷ t)) (bounds-first script f es)
-
-pub bounds-turn : (script : Contents) (e : Entry) (rest now : List Entry) (old new all : List ℕ) → now ≡ e ∷ rest → new ≡ (old ++ 32 ∷ []) ++ bound_text script e → old ++ bounds_behind script now ≡ all → new ++ bounds_behind script rest ≡ all
-bounds-turn script e rest now old new all step is done =
-    let item = bound_text script e in
-    let behind = bounds_behind script rest in
-    let regrouped : ((old ++ 32 ∷ []) ++ item) ++ behind ≡ old ++ ((32 ∷ item) ++ behind) = simp append_assoc in
-    ap (λ t. t ++ behind) is ∙ regrouped ∙ ap (λ es. old ++ bounds_behind script es) (sym step) ∙ done

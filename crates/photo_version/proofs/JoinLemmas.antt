@@ -62,15 +62,6 @@ pub record IsJoining (xs ys done : List Bound) (i j : ℕ) : Type 0 where
   pub left_within : i ≤ length xs
   pub right_within : j ≤ length ys
 
-pub joining : (xs ys done : List Bound) → done ≡ [] → is_vector xs ≡ true → is_vector ys ≡ true → IsJoining xs ys done 0 0
-joining xs ys done e h g = record {
-  all = ap (λ zs. zs ++ joined xs ys) e;
-  left = h;
-  right = g;
-  left_within = omega arith;
-  right_within = omega arith;
-}
-
 one_more : (done : List Bound) (z : Bound) (rest before whole : List Bound) → before ≡ z ∷ rest → done ++ before ≡ whole → (done ++ z ∷ []) ++ rest ≡ whole
 one_more done z rest before whole e h = append_assoc done (z ∷ []) rest ∙ (ap (λ zs. done ++ zs) (sym e) ∙ h)
 
@@ -140,9 +131,6 @@ pub record IsComparing (xs ys : List Bound) (i j : ℕ) : Type 0 where
   pub right : is_vector (drop j ys) ≡ true
   pub left_within : i ≤ length xs
   pub right_within : j ≤ length ys
-
-pub comparing : (xs ys : List Bound) → is_vector xs ≡ true → is_vector ys ≡ true → IsComparing xs ys 0 0
-comparing xs ys h g = record { all = refl; left = h; right = g; left_within = omega arith; right_within = omega arith }
 
 within_after : (xs : List Bound) (y : Bound) (ys : List Bound) → is_above y.0 xs ≡ true → is_within xs (y ∷ ys) ≡ is_within xs ys
 within_after [] y ys h = refl
@@ -218,6 +206,3 @@ missing_number xs ys i j x y m l k ex ey p q u =
     let none : denotes (y ∷ drop (j + 1) ys) (version x.0 x.1) ≡ false =
     up_to x y (drop (j + 1) ys) (same_between x.0 y.0 p q) rights.above ∙ and_right (leb 1 x.1) (leb x.1 y.1) (lt-leb x.1 y.1 u) in
     missing xs ys i j x m l ex (ap (λ zs. denotes zs (version x.0 x.1)) (drop_from ys j y k ey) ∙ none)
-
-pub all_compared : (xs ys : List Bound) (i j : ℕ) → IsComparing xs ys i j → length xs ≤ i → is_within xs ys ≡ true
-all_compared xs ys i j m over = sym m.all ∙ ap (λ zs. is_within zs (drop j ys)) (drop_all i xs over)

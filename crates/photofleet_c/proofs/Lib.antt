@@ -1,3 +1,4 @@
 mod Texts
+mod LineLemmas
 mod Loosed
 mod Handles

@@ -16,3 +16,8 @@ pub record HasNoRoom (old new : List ℕ) (written : ℕ) (text : List ℕ) : Ty
 -- the text stands in the memory where it has room
 abbrev pub IsOffered : List ℕ → List ℕ → ℕ → List ℕ → Type 0
 IsOffered old new written text = Holds old new written text ⊎ HasNoRoom old new written text
+
+-- there is no text, and the memory is as it was
+pub record IsUntouched (old new : List ℕ) (written : ℕ) : Type 0 where
+  pub same : new ≡ old
+  pub count : written ≡ 0

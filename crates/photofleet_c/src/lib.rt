@@ -3,10 +3,12 @@
 #![tactic(auto)]
 
 mod exports;
+mod fault_lines;
 mod handle;
 mod loose;
 mod placing;
 mod plain;
+mod refusal;
 mod session;
 mod sessions;
 mod statuses;

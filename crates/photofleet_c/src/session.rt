@@ -1,9 +1,10 @@
 //! What a session has: the lines that were given to it, and what their run prints.
-ghost use Rattle.std.specs.Prelude.{◌≡◌, ◌∷◌, ◌++◌, IfOk};
+ghost use Rattle.std.specs.Prelude.{◌≡◌, ◌∷◌, ◌++◌, IfErr, IfOk};
+ghost use Rattle.photofleet_c.specs.Refused.{IsOfFault, IsWhy};
 ghost use Rattle.photofleet_c.specs.Sessions.{Has, told, with_line};
 
 use crate::plain::plain_text;
-use fleet_steps::RunError;
+use crate::refusal::Refusal;
 use std::alloc::{AllocError, Global};
 
 /// The bytes of a script, and what its run prints.
@@ -15,31 +16,30 @@ pub struct Session {
 
 impl Session {
     /// The session that these lines begin.
-    pub fn of(alloc: Global, lines: &[u8]) -> Result<Session, RunError>
-        ensures { IfOk result (Has lines.now) }
+    pub fn of(alloc: Global, lines: &[u8]) -> Result<Session, Refusal>
+        ensures ok { IfOk result (Has lines.now) }
+        ensures refused { IfErr result (IsWhy lines.now) }
     {
-        let Ok(source) = Vec::from_slice(alloc, lines) else {
-            return Err(RunError::NoMemory);
-        };
-        Session::printed(alloc, source)
+        match plain_text(alloc, lines) {
+            Ok(output) => match Vec::from_slice(alloc, lines) {
+                Ok(source) => Ok(Session { source, output }),
+                Err(_) => Err(Refusal::NoMemory),
+            },
+            Err(refusal) => Err(refusal),
+        }
     }
 
     /// The session with a line behind the others. It runs all of them anew.
-    pub fn with(&self, alloc: Global, line: &[u8]) -> Result<Session, RunError>
-        ensures { IfOk result (Has (with_line self.now line.now)) }
+    pub fn with(&self, alloc: Global, line: &[u8]) -> Result<Session, Refusal>
+        ensures ok { IfOk result (Has (with_line self.now line.now)) }
+        ensures refused { IfErr result (IsOfFault (with_line self.now line.now)) }
     {
         let Ok(source) = joined(alloc, self.source.as_slice(), line) else {
-            return Err(RunError::NoMemory);
+            return Err(Refusal::NoMemory);
         };
-        Session::printed(alloc, source)
-    }
-
-    fn printed(alloc: Global, source: Vec<u8>) -> Result<Session, RunError>
-        ensures { IfOk result (Has source.items) }
-    {
         match plain_text(alloc, source.as_slice()) {
             Ok(output) => Ok(Session { source, output }),
-            Err(error) => Err(error),
+            Err(refusal) => Err(refusal),
         }
     }
 

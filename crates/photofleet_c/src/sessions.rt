@@ -1,19 +1,27 @@
 //! The calls of a session as C sees them. A session is closed, or open and then owned by its handle alone.
-ghost use Rattle.std.specs.Prelude.{◌≡◌, ◌≢◌, None, Some};
+ghost use Rattle.std.specs.Prelude.{◌≡◌, ◌≢◌, ◌↔◌, ◌⊎◌, ℕ, List, None, Some, IfErr, IfOk};
 ghost use Rattle.std.specs.Option.{option_map};
 ghost use Rattle.photofleet_c.specs.declared.session.Session.{Session};
-ghost use Rattle.photofleet_c.specs.Placed.{Holds};
-ghost use Rattle.photofleet_c.specs.Sessions.{Has, told, with_line};
+ghost use Rattle.photofleet_c.specs.Placed.{Holds, IsUntouched};
+ghost use Rattle.photofleet_c.specs.Refused.{IsScript, IsWhy, TellsFault, TellsWant};
+ghost use Rattle.photofleet_c.specs.Sessions.{Has, IsStep, TellsLine};
+ghost use Rattle.photofleet_c.specs.Statuses.{IsClosingStatus, IsOpeningStatus};
 
 use crate::handle::Handle;
 use crate::loose::Loose;
+use crate::refusal::{Refusal, refused};
 use crate::session::Session;
-use crate::statuses::{BAD_SESSION, DONE, NO_RUN};
-use crate::steps::{refused, stepped};
+use crate::statuses::{BAD_SESSION, DONE};
+use crate::steps::stepped;
 use std::alloc::Global;
 use std::mem::replace;
 
-/// Opens a session with some lines, mostly declarations, which are a script by themselves. The session was closed.
+/// Opens a session with some lines, mostly declarations, which are a script by themselves.
+///
+/// - 0: the session is open and has these lines. Nothing is told of them.
+/// - 2: it was open already. Nothing is told.
+/// - 3: the lines are no script, or memory was refused where they were read. The line of the fault is offered.
+/// - 4: the lines are a script, and memory was refused. The line of that is offered.
 #[unsafe(no_mangle)]
 pub extern "C" fn photofleet_open(
     alloc: Global,
@@ -22,7 +30,12 @@ pub extern "C" fn photofleet_open(
     out: &mut [u8],
     written: &mut usize,
 ) -> u8
+    ensures status { IsOpeningStatus result }
     ensures done { result ≡ 0 → (s : Session) × (session.new.kept ≡ Some s) × Has lines.now s }
+    ensures open { (result ≡ 2) ↔ (session.old.kept ≢ None) }
+    ensures untouched { (result ≡ 0) ⊎ (result ≡ 2) → IsUntouched out.old out.new written.new }
+    ensures fault { result ≡ 3 → TellsFault lines.now out.old out.new written.new }
+    ensures want { result ≡ 4 → IsScript lines.now × TellsWant out.old out.new written.new }
     ensures kept { result ≢ 0 → session.new.kept ≡ session.old.kept }
 {
     *written = 0;
@@ -30,20 +43,17 @@ pub extern "C" fn photofleet_open(
         *session = Handle::of(loose);
         return BAD_SESSION;
     }
-    match Session::of(alloc, lines) {
-        Ok(opened) => match Box::new(alloc, opened) {
-            Ok(opened) => {
-                *session = Handle::of(Loose::of(opened));
-                DONE
-            }
-            Err(_) => NO_RUN,
-        },
-        Err(error) => refused(error, out, written),
+    match opened(alloc, lines) {
+        Ok(kept) => {
+            *session = Handle::of(Loose::of(kept));
+            DONE
+        }
+        Err(refusal) => refused(refusal, out, written),
     }
 }
 
 /// Gives a line to a session, and puts the text of what is printed of it into `out`. After any other status than 0 the
-/// session is as it was.
+/// session is as it was, and [`TellsLine`] says what is told.
 #[unsafe(no_mangle)]
 pub extern "C" fn photofleet_give(
     alloc: Global,
@@ -52,8 +62,9 @@ pub extern "C" fn photofleet_give(
     out: &mut [u8],
     written: &mut usize,
 ) -> u8
-    ensures done { result ≡ 0 → (old : Session) × (new : Session) × (session.old.kept ≡ Some old) × (session.new.kept ≡ Some new)
-        × Has (with_line old line.now) new × Holds out.old out.new written.new (told old new) }
+    ensures told { TellsLine session.old.kept line.now out.old out.new written.new result }
+    ensures done { result ≡ 0 → (next : Session) × (text : List ℕ) × IsStep session.old.kept line.now next text
+        × (session.new.kept ≡ Some next) × Holds out.old out.new written.new text }
     ensures kept { result ≢ 0 → session.new.kept ≡ session.old.kept }
 {
     *written = 0;
@@ -81,8 +92,9 @@ pub extern "C" fn photofleet_ask(
     out: &mut [u8],
     written: &mut usize,
 ) -> u8
-    ensures done { result ≡ 0 → (old : Session) × (new : Session) × (session.old.kept ≡ Some old)
-        × Has (with_line old line.now) new × Holds out.old out.new written.new (told old new) }
+    ensures told { TellsLine session.old.kept line.now out.old out.new written.new result }
+    ensures done { result ≡ 0 → (next : Session) × (text : List ℕ) × IsStep session.old.kept line.now next text
+        × Holds out.old out.new written.new text }
     ensures kept { session.new.kept ≡ session.old.kept }
 {
     *written = 0;
@@ -98,11 +110,12 @@ pub extern "C" fn photofleet_ask(
     status
 }
 
-/// Closes a session, and gives back its memory.
+/// Closes a session, and gives back its memory. 2: it is closed already.
 #[unsafe(no_mangle)]
 pub extern "C" fn photofleet_close(alloc: Global, session: &mut Handle) -> u8
+    ensures status { IsClosingStatus result }
+    ensures was_closed { (result ≡ 2) ↔ (session.old.kept ≡ None) }
     ensures closed { session.new.kept ≡ None }
-    ensures was_open { result ≡ 0 → session.old.kept ≢ None }
 {
     match taken(alloc, session) {
         Some(loose) => {
@@ -110,6 +123,20 @@ pub extern "C" fn photofleet_close(alloc: Global, session: &mut Handle) -> u8
             DONE
         }
         None => BAD_SESSION,
+    }
+}
+
+// The session that some lines begin, in a block of its own.
+fn opened(alloc: Global, lines: &[u8]) -> Result<Box<Session>, Refusal>
+    ensures ok { IfOk result (λ kept. Has lines.now kept.value) }
+    ensures refused { IfErr result (IsWhy lines.now) }
+{
+    match Session::of(alloc, lines) {
+        Ok(session) => match Box::new(alloc, session) {
+            Ok(kept) => Ok(kept),
+            Err(_) => Err(Refusal::NoMemory),
+        },
+        Err(refusal) => Err(refusal),
     }
 }
 

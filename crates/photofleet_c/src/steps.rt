@@ -1,16 +1,16 @@
 //! One step of a session.
-ghost use Rattle.std.specs.Prelude.{◌≡◌, ◌≢◌, IfOk, IfErr};
+ghost use Rattle.std.specs.Prelude.{IfOk, IfErr};
 ghost use Rattle.photofleet_c.specs.Placed.{Holds};
-ghost use Rattle.photofleet_c.specs.Sessions.{Has, told, with_line};
+ghost use Rattle.photofleet_c.specs.Sessions.{Has, TellsNoStep, told, with_line};
 
 use crate::placing::place;
+use crate::refusal::refused;
 use crate::session::Session;
-use crate::statuses::{TOO_SMALL, fault_text, status_of};
-use fleet_steps::RunError;
+use crate::statuses::TOO_SMALL;
 use std::alloc::Global;
 
 /// The session with a line more, with the text of what is printed of it in `out`, or the status that says why there is
-/// none: then the text of the fault is offered.
+/// none.
 pub fn stepped(
     alloc: Global,
     session: &Session,
@@ -20,7 +20,7 @@ pub fn stepped(
 ) -> Result<Session, u8>
     ensures next { IfOk result (Has (with_line session.now line.now)) }
     ensures told { IfOk result (λ next. Holds out.old out.new written.new (told session.now next)) }
-    ensures err { IfErr result (λ status. status ≢ 0) }
+    ensures err { IfErr result (TellsNoStep session.now line.now out.old out.new written.new) }
 {
     match session.with(alloc, line) {
         Ok(next) => {
@@ -29,15 +29,6 @@ pub fn stepped(
             }
             Err(TOO_SMALL)
         }
-        Err(error) => Err(refused(error, out, written)),
+        Err(refusal) => Err(refused(refusal, out, written)),
     }
-}
-
-/// Offers the text of a fault, and gives its status.
-pub fn refused(error: RunError, out: &mut [u8], written: &mut usize) -> u8
-    ensures { result ≢ 0 }
-{
-    let text = fault_text(error);
-    place(text.as_str().as_bytes(), out, written);
-    status_of(error)
 }

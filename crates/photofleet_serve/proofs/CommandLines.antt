@@ -1,50 +1,28 @@
 -- What `clap` found on the command line, and what the words ask for.
-use Rattle.std.proofs.Common.{◌≡◌, ◌≢◌, true, false, List, [], sym, ap, ap₂, ◌∙◌, subst, inl, inr, codes, refl}
+use Rattle.std.proofs.Common.{◌≡◌, ◌≢◌, true, false, List, sym, ap, ap₂, ◌∙◌, subst, inl, inr, codes, refl}
 use Rattle.std.specs.Prelude.{Option, Some, None, Box, Bool, not, option_map, option_and_then, unwrap_or}
 use Rattle.std.specs.Box.{box_value}
-use Rattle.clap.specs.Words.{App, Row, Text, HasKind, HasMatchesOf, app_of, fault_of, first_of, found_of, kind_of, rows_of, subcommand_of, subcommand_rows, subcommand_rows_of, is_simple, is_simple_and_free}
+use Rattle.clap.specs.Words.{App, Row, Text, HasKind, app_of, fault_of, first_of, found_of, kind_of, rows_of, subcommand_rows, is_simple_and_free}
 use Rattle.clap.specs.declared.builder.command.Command.{Command}
 use Rattle.clap.specs.declared.builder.command.Command.TheViews.{out-Command}
 use Rattle.clap.specs.declared.error.Error.{Error}
-use Rattle.clap.specs.declared.error.kind.ErrorKind.{ErrorKind}
-use Rattle.clap.specs.declared.error.kind.ErrorKind.TheVariants.{OutOfMemory, MissingSubcommand}
-use Rattle.clap.specs.declared.parser.matches.ArgMatches.{ArgMatches}
+use Rattle.clap.specs.declared.error.kind.ErrorKind.TheVariants.{OutOfMemory}
 use Rattle.clap.specs.declared.parser.matches.SubCommand.{SubCommand}
 use Rattle.clap.specs.declared.parser.matches.ArgMatches.TheViews.{out-SubCommand}
 use Rattle.clap.proofs.OnLiterals.{clap_on_literals}
 use Rattle.clap.proofs.WalkLemmas.{both}
-use Rattle.photofleet_serve.specs.CommandLine.{program, errors_of}
-use Rattle.photofleet_serve.specs.Asked.{Work, AsksRequest, IsRefusal, asked_in, request_shown, work_in}
-use Rattle.photofleet_serve.specs.declared.words.Request.{Request}
-
-program_is_simple : is_simple program ≡ true
-unfolding clap_on_literals
-program_is_simple = refl
+use Rattle.photofleet_serve.specs.CommandLine.{program}
+use Rattle.photofleet_serve.specs.Asked.{Work, IsRefusal, asked_in, work_in}
 
 program_is_free : is_simple_and_free program ≡ true
 unfolding clap_on_literals
 program_is_free = refl
-
--- the program's commands take the words
-pub accepted : (a : App) (words : List Text) → a ≡ program → (is_simple_and_free a ≡ true → fault_of a words ≡ []) → errors_of words ≡ []
-accepted a words is taken = subst (λ (b : App). fault_of b words ≡ []) is (taken (ap is_simple_and_free is ∙ program_is_free))
 
 -- they refuse them
 pub refused : (a : App) (words : List Text) (e : Error) → a ≡ program → (is_simple_and_free a ≡ true → HasKind (fault_of a words) e) → kind_of e ≢ OutOfMemory → IsRefusal words (kind_of e)
 refused a words e is fails other =
     let kinds = subst (λ (b : App). HasKind (fault_of b words) e) is (fails (ap is_simple_and_free is ∙ program_is_free)) in
     elim kinds [ inl memory ↦ absurd (other memory) | inr among ↦ inl among ]
-
-pub rows_found : (a : App) (words : List Text) (m : ArgMatches) → a ≡ program → HasMatchesOf a words m → subcommand_rows_of m ≡ subcommand_of program words
-rows_found a words m is h = subst (λ (b : App). subcommand_rows_of m ≡ subcommand_of b words) is (h (ap is_simple is ∙ program_is_simple)).1
-
-pub asked : (words : List Text) (m : ArgMatches) (request : Request) → errors_of words ≡ [] → subcommand_rows_of m ≡ subcommand_of program words
-    → option_map request_shown (Some request) ≡ option_and_then asked_in (subcommand_rows_of m) → AsksRequest words request
-asked words m request none rows given = record { accepted = none; named = ap (option_and_then asked_in) (sym rows) ∙ sym given }
-
-pub not_asked : (words : List Text) (m : ArgMatches) (k : ErrorKind) → errors_of words ≡ [] → subcommand_rows_of m ≡ subcommand_of program words
-    → None ≡ option_and_then asked_in (subcommand_rows_of m) → k ≡ MissingSubcommand → IsRefusal words k
-not_asked words m k none rows given is = inr (is, (none, ap (option_and_then asked_in) (sym rows) ∙ sym given))
 
 -- the subcommand that was met, by its name and its rows
 pub command_met : {Z : Type 0} (sub : Option (Box SubCommand Z)) (name : Text) (rows : List Row) → Some name ≡ option_map (λ b. (out-SubCommand (box_value b)).name.now) sub
@@ -54,10 +32,6 @@ command_met (Some b) name rows named given =
     let name_is : (out-SubCommand (box_value b)).name.now ≡ name = sym (ap (λ (o : Option Text). unwrap_or o name) named) in
     let rows_is : rows_of (found_of (out-SubCommand (box_value b)).matches) ≡ rows = sym (ap (λ (o : Option (List Row)). unwrap_or o rows) given) in
     ap₂ (λ (n : Text) (rs : List Row). Some (n, rs)) name_is rows_is
-
-pub no_command_met : {Z : Type 0} (sub : Option (Box SubCommand Z)) → None ≡ option_map (λ b. (out-SubCommand (box_value b)).name.now) sub → subcommand_rows sub ≡ None
-no_command_met None none = refl
-no_command_met (Some b) none = cc
 
 -- a command with a file asks for what it does with it
 pub asked_some : (name : Text) (rows : List Row) (file : Text) (work : Option Work) → Some file ≡ first_of (codes "FILE") rows → work ≡ work_in name rows

@@ -1,5 +1,4 @@
 pub mod CommandLines
 pub mod Numbers
 pub mod Workers
-pub mod StatusLemmas
 pub mod WordExamples

@@ -1,5 +1,5 @@
 -- Words that write numbers.
-use Rattle.std.proofs.Common.{◌≡◌, ◌∙◌, ◌<◌, ◌≤◌, ◌+◌, ◌^◌, ℕ, suc, Bool, true, false, refl, sym, ap, arith, List, [], ◌∷◌, ◌++◌, drop, length, Some, None, Result, Ok, Err, get_or, append_assoc, append-nil, drop-cons, drop_of_length-le}
+use Rattle.std.proofs.Common.{◌≡◌, ◌∙◌, ◌<◌, ◌+◌, ◌^◌, ℕ, suc, Bool, true, false, refl, sym, ap, arith, List, [], ◌∷◌, ◌++◌, drop, length, Some, None, Result, Ok, Err, get_or, append_assoc, drop-cons}
 use Rattle.std.proofs.lemmas.Bool.{cond-true, cond-false}
 use Rattle.std.specs.Prelude.{Option, option_map, option_and_then}
 use Rattle.std.specs.Result.{result_unwrap_or}
@@ -50,13 +50,6 @@ no_word = record { ref_ptr = (0, 0); now = [] }
 abbrev pub AreReadTo : List (Bor Text) → ℕ → List ℕ → Type 0
 AreReadTo words i done = option_map (λ ns. done ++ ns) (numbers_in (texts (drop i words))) ≡ numbers_in (texts words)
 
-pub none_read : (words : List (Bor Text)) → AreReadTo words 0 []
-none_read words = go (numbers_in (texts words))
-  where
-    go : (o : Option (List ℕ)) → option_map (λ ns. [] ++ ns) o ≡ o
-    go None = refl
-    go (Some ns) = refl
-
 -- the numbers of the words from place i on
 numbers_left : (words : List (Bor Text)) (i : ℕ) → i < length words
     → numbers_in (texts (drop i words)) ≡ option_and_then (λ m. option_map (λ ns. m ∷ ns) (numbers_in (texts (drop (suc i) words)))) (number_in (get_or words i no_word).now)
@@ -74,11 +67,6 @@ one_read words i done after n lt number is so_far =
     let here : numbers_in (texts (drop i words)) ≡ option_map (λ ns. n ∷ ns) rest =
     numbers_left words i lt ∙ ap (option_and_then (λ m. option_map (λ ns. m ∷ ns) rest)) number in
     rw (next, is) (regrouped done n rest ∙ sym (ap (option_map (λ ns. done ++ ns)) here) ∙ so_far)
-
-pub all_read : (words : List (Bor Text)) (i : ℕ) (done : List ℕ) → length words ≤ i → AreReadTo words i done → Some done ≡ numbers_in (texts words)
-all_read words i done past so_far =
-    let none = ap (λ (ws : List (Bor Text)). option_map (λ ns. done ++ ns) (numbers_in (texts ws))) (drop_of_length-le words past) in
-    sym (ap Some (append-nil done)) ∙ sym none ∙ so_far
 
 pub one_refused : (words : List (Bor Text)) (i : ℕ) (done : List ℕ) → i < length words → number_in (get_or words i no_word).now ≡ None
     → AreReadTo words i done → None ≡ numbers_in (texts words)

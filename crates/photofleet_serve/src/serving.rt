@@ -25,9 +25,10 @@ use std::thread::Threads;
 ///   file whose bytes are a script, and all that was asked for was written, and nothing else: what its run prints, also
 ///   where it ran by several workers, or in an order that was named, which is then lawful; or its plan.
 /// - 2: the words were refused. Nothing was written to `out`.
-/// - 3: the words named a file that can't be opened or read, or that has no script. Nothing was written to `out`.
-/// - 4: memory was refused, or a worker's thread could not be started, or the order isn't lawful. Nothing was written to
-///   `out`, or the whole texts of some first reports, or a front of the plan's text.
+/// - 3: the words named a file that can't be opened or read, or that has no script, or memory was refused while its script
+///   was read. Nothing was written to `out`.
+/// - 4: memory was refused elsewhere, or a worker's thread could not be started, or the order isn't lawful. Nothing was
+///   written to `out`, or the whole texts of some first reports, or a front of the plan's text.
 /// - 5: a write failed. A front of what was asked for was written, or of help or the version.
 ///
 /// What went wrong is told to `err`; a failed write to `err` changes no status. Which words ask for help, are refused

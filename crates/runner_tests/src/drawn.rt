@@ -1,13 +1,16 @@
-//! Scripts drawn by chance from a seed: five devices, and as many commands as are asked for. Equal ones on every machine.
+//! Scripts drawn by chance from a seed: five devices, and as many commands as are asked for. Equal ones on every machine. Among
+//! their pulls are some of each kind, which a test counts.
 ghost use Rattle.std.specs.Prelude.{◌<◌};
 
+use fleet_runner::run_plain;
+use photo_script::{Report, Script, read_script};
 use std::alloc::{AllocError, Global};
 
 /// How many commands a drawn script has at most.
 pub const COMMANDS: u32 = 60;
 
-/// The kinds of command by whose number scripts are drawn: the first eight make, remove and pull, and with all ten scripts
-/// refilter and preview besides.
+/// The kinds of draws by whose number scripts are drawn: the first eight make, remove and pull, and with all ten scripts refilter
+/// and preview besides.
 pub const SOME_KINDS: u32 = 8;
 
 pub const ALL_KINDS: u32 = 10;
@@ -39,21 +42,36 @@ impl Chance {
     }
 }
 
-/// The script of a seed with so many kinds of command, up to that many of its commands.
+/// The script of a seed with so many kinds of draws, up to that many of its commands.
 pub fn drawn(alloc: Global, seed: u16, kinds: u32, commands: u32) -> Result<String, AllocError>
     requires { 0 < kinds }
 {
+    let mut lines = String::new(alloc);
+    let mut chance = Chance::new(seed);
+    let count = commands.min(COMMANDS);
+    for i in 0..count {
+        push_draw(&mut lines, &mut chance, kinds, i + 1)?;
+    }
+    front(alloc, lines.as_str(), count)
+}
+
+// The devices, and so many of the lines behind them.
+fn front(alloc: Global, lines: &str, count: u32) -> Result<String, AllocError> {
     let mut text = String::new(alloc);
     text.push_str(DEVICES)?;
-    let mut chance = Chance::new(seed);
-    for i in 0..commands.min(COMMANDS) {
-        push_command(&mut text, &mut chance, kinds, i + 1)?;
+    let mut left = count;
+    for line in lines.lines() {
+        if left == 0 {
+            return Ok(text);
+        }
+        left -= 1;
+        write!(text, "{line}\n")?;
     }
     Ok(text)
 }
 
-// The command of that number, from 1.
-fn push_command(
+// The commands of the draw of that number, from 1: one, or the four of a turn.
+fn push_draw(
     text: &mut String,
     chance: &mut Chance,
     kinds: u32,
@@ -75,6 +93,7 @@ fn push_command(
             write!(text, "remove {} {picture}\n", name(device))?;
             Ok(())
         }
+        4 => push_turn(text, chance, number),
         8 => {
             let filter = filter(chance.draw(5));
             write!(text, "refilter {} {filter}\n", name(device))?;
@@ -94,6 +113,19 @@ fn push_pair(
 ) -> Result<(), AllocError> {
     let source = (device % 5 + 1 + chance.draw(4)) % 5;
     write!(text, "{word} {} {}\n", name(device), name(source))?;
+    Ok(())
+}
+
+// What another device took from `a` is edited into what that one isn't to keep, so that its next pull notices it.
+fn push_turn(text: &mut String, chance: &mut Chance, picture: u32) -> Result<(), AllocError> {
+    let other = 1 + chance.draw(4);
+    let (kept, left) = if other == 4 { ("-", "x") } else { ("x", "-") };
+    let name = name(other);
+    write!(text, "new a {picture} 5 2024-01-01 {kept}\npull {name} a\n")?;
+    write!(
+        text,
+        "edit a {picture} 1 2024-01-01 {left}\npull {name} a\n"
+    )?;
     Ok(())
 }
 
@@ -136,7 +168,7 @@ fn filter(number: u32) -> &'static str {
 
 // The first commands of seed 1, worked by hand.
 const FIRST: &str =
-    "device a all\ndevice b rating >= 3\ndevice c rating >= 4\ndevice d keyword x\ndevice e not keyword x\npull d a\nremove b 2\nedit e 1 0 2024-01-01 x\npull e a\nnew d 5 3 2024-01-01 x\nnew b 6 2 2024-01-01 -\npull b a\npull b d\nedit b 6 5 2024-01-01 -\n";
+    "device a all\ndevice b rating >= 3\ndevice c rating >= 4\ndevice d keyword x\ndevice e not keyword x\npull d a\nremove b 2\nedit e 1 0 2024-01-01 x\npull e a\nnew d 5 3 2024-01-01 x\nnew b 6 2 2024-01-01 -\npull b a\npull b d\nedit b 6 5 2024-01-01 -\npull b a\nedit d 6 0 2024-01-01 -\nnew a 12 5 2024-01-01 -\npull e a\nedit a 12 1 2024-01-01 x\npull e a\n";
 
 fn draws(alloc: Global, seed: u16, commands: u32, wanted: &str) -> bool {
     match drawn(alloc, seed, SOME_KINDS, commands) {
@@ -147,5 +179,66 @@ fn draws(alloc: Global, seed: u16, commands: u32, wanted: &str) -> bool {
 
 #[test]
 fn first_commands_of_a_seed(rt: HostRuntime) {
-    assert!(rt; draws(rt.alloc(), 1, 9, FIRST));
+    assert!(rt; draws(rt.alloc(), 1, 15, FIRST));
+}
+
+// Adds a pull: there is one more, and one more of which each count is above 0, or of which all was learned.
+fn add(sums: &mut [u32; 6], report: &Report) {
+    if let Report::Pulled(counts) = report {
+        let is_above = [
+            true,
+            counts.taken > 0,
+            counts.handed > 0,
+            counts.notices > 0,
+            counts.dropped > 0,
+            counts.learned,
+        ];
+        for i in 0..6 {
+            if is_above[i] {
+                sums[i] = sums[i].saturating_add(1);
+            }
+        }
+    }
+}
+
+// Adds the pulls of the run of a script.
+fn add_all(alloc: Global, script: &Script, sums: &mut [u32; 6]) -> bool {
+    match run_plain(alloc, script) {
+        Ok(outcome) => {
+            for report in outcome.reports.as_slice() {
+                add(sums, report);
+            }
+            true
+        }
+        Err(_) => false,
+    }
+}
+
+fn add_drawn(alloc: Global, seed: u16, kinds: u32, sums: &mut [u32; 6]) -> bool
+    requires { 0 < kinds }
+{
+    let Ok(text) = drawn(alloc, seed, kinds, COMMANDS) else {
+        return false;
+    };
+    match read_script(alloc, text.as_bytes()) {
+        Ok(script) => add_all(alloc, &script, sums),
+        Err(_) => false,
+    }
+}
+
+// A tenth of the pulls each take, are handed, notice, drop and learn something.
+#[test]
+fn pulls_of_each_kind(rt: HostRuntime) {
+    let mut sums = [0u32; 6];
+    for seed in 1..21 {
+        assert!(rt; add_drawn(rt.alloc(), seed, SOME_KINDS, &mut sums));
+        assert!(rt; add_drawn(rt.alloc(), seed, ALL_KINDS, &mut sums));
+    }
+    for above in sums {
+        assert!(rt;
+            above > 0 && above.saturating_mul(10) >= sums[0],
+            "{above} of {}",
+            sums[0]
+        );
+    }
 }

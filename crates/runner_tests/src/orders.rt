@@ -24,7 +24,7 @@ fn replays(
     order: &[u32],
     output: &str,
     totals: [u64; 4],
-    log: &[(u32, u16, u32)],
+    log: &[(u32, u16, u32, u32)],
 ) -> bool {
     match replay(alloc, script, order) {
         Ok(outcome) => {
@@ -43,7 +43,7 @@ fn gives_the_run(
     order: &[u32],
     output: &str,
     totals: [u64; 4],
-    log: &[(u32, u16, u32)],
+    log: &[(u32, u16, u32, u32)],
 ) -> bool {
     match read_script(alloc, text.as_bytes()) {
         Ok(script) => replays(alloc, &script, order, output, totals, log),
@@ -61,7 +61,7 @@ fn lawful_orders_give_the_run(rt: HostRuntime) {
             &[2, 1, 4, 3, 6, 5, 7],
             REPORTS,
             totals,
-            &[(2, 2, 1), (1, 0, 1)]
+            &[(2, 2, 0, 1), (1, 0, 0, 1)]
         )
     );
     assert!(rt;
@@ -71,7 +71,7 @@ fn lawful_orders_give_the_run(rt: HostRuntime) {
             &[1, 2, 3, 4, 5, 6, 7],
             REPORTS,
             totals,
-            &[(1, 0, 1), (2, 2, 1)]
+            &[(1, 0, 0, 1), (2, 2, 0, 1)]
         )
     );
 }

@@ -1,5 +1,6 @@
 //! Whether devices are the same.
 use photo_device::{Device, HeldSet};
+use photo_filter_rules::Filter;
 
 fn same_held(one: &HeldSet, other: &HeldSet) -> bool {
     if one.len() != other.len() {
@@ -13,8 +14,14 @@ fn same_held(one: &HeldSet, other: &HeldSet) -> bool {
     true
 }
 
+fn same_filter(one: &Filter, other: &Filter) -> bool {
+    one.alternatives() == other.alternatives() && one.tree() == other.tree()
+}
+
 fn same(one: &Device, other: &Device) -> bool {
-    one.counter() == other.counter()
+    one.author() == other.author()
+        && one.counter() == other.counter()
+        && same_filter(one.filter(), other.filter())
         && same_held(one.store(), other.store())
         && same_held(one.out(), other.out())
         && one.knowledge().same(other.knowledge())

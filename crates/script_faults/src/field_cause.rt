@@ -1,7 +1,7 @@
-//! The causes of the faults of a line's fields, but for words and filters.
+//! The causes of the faults of a line's fields, but for numbers, words and filters.
 use crate::cause::{Cause, Known, LINES, form_of};
 use crate::lines::{Line, Span, count_fields, earlier, first_command};
-use photo_record::Rating;
+use crate::number_cause::author_in;
 use std::alloc::{AllocError, Global};
 use strsim::levenshtein;
 
@@ -124,26 +124,6 @@ fn unknown_span(text: &str, line: Line<'_>) -> Span {
     }
 }
 
-// In the fourth field, the name of a version's device and what stands between that and the colon.
-fn author_in(line: Line<'_>) -> (Span, Option<Span>) {
-    let Span { from, to } = line.span(3);
-    let text = line.at(Span { from, to });
-    let colon = text.find(':').unwrap_or(text.len());
-    let author = text.get(..colon).unwrap_or(text);
-    let to = from.saturating_add(colon);
-    match author.find('.') {
-        Some(dot) => {
-            let end = from.saturating_add(dot);
-            let epoch = Span {
-                from: end.saturating_add(1),
-                to,
-            };
-            (Span { from, to: end }, Some(epoch))
-        }
-        None => (Span { from, to }, None),
-    }
-}
-
 /// F9: the name is declared again.
 pub fn repeated_device<'a>(text: &str, line: Line<'a>) -> Cause<'a> {
     let first = earlier(text, line.number, "device", 1, line.field(1));
@@ -170,111 +150,59 @@ pub fn late_device<'a>(text: &str, line: Line<'a>) -> Cause<'a> {
     }
 }
 
-/// F11: a picture's number is none, or a version.
-pub fn bad_number<'a>(line: Line<'a>) -> Cause<'a> {
-    match number_fault(line.field(2), 999_999_999) {
-        Some(known) => Cause {
-            span: line.span(2),
-            expected: "a picture's number from 1 to 999999999",
-            known: Known::Said(known),
-            mend: "write the number in digits, without zeros in front",
-        },
-        None => version_cause(line),
-    }
-}
-
-// The fault is in a version: it has no colon, or what is its epoch or its number is none.
-fn version_cause<'a>(line: Line<'a>) -> Cause<'a> {
-    let (author, epoch) = author_in(line);
-    let whole = line.span(3);
-    let Some((_, number)) = line.at(whole).split_once(':') else {
-        return Cause {
-            span: whole,
-            expected: "a version, NAME:N or NAME.E:N",
-            known: Known::Said("it has no colon"),
-            mend: "write a colon and the version's number behind the device's name",
-        };
-    };
-    if let Some(span) = epoch {
-        if let Some(known) = number_fault(line.at(span), 100_000) {
-            return Cause {
-                span,
-                expected: "an epoch from 1 to 100000; the first one isn't written",
-                known: Known::Said(known),
-                mend: "leave the dot and the epoch out for the first epoch",
-            };
-        }
-    }
-    let colon = epoch.unwrap_or(author).to;
-    Cause {
-        span: Span {
-            from: colon.saturating_add(1),
-            to: whole.to,
-        },
-        expected: "the version's number from 1 to 100000",
-        known: match number_fault(number, 100_000) {
-            Some(known) => Known::Said(known),
-            None => Known::Nothing,
-        },
-        mend: "write the number in digits, without zeros in front",
-    }
-}
-
-// Why a text is no number from 1 to a greatest one.
-fn number_fault(text: &str, greatest: u32) -> Option<&'static str> {
-    if text.is_empty() {
-        return Some("nothing stands there");
-    }
-    for c in text.chars() {
-        if !c.is_ascii_digit() {
-            return Some("it has a character that is no digit");
-        }
-    }
-    if text.starts_with('0') {
-        return Some("it begins with a zero");
-    }
-    match text.parse::<u32>() {
-        Ok(number) if number <= greatest => None,
-        _ => Some("it is too great"),
-    }
-}
-
 /// F12: a rating is none.
 pub fn bad_rating<'a>(line: Line<'a>) -> Cause<'a> {
-    let text = line.field(3);
     Cause {
         span: line.span(3),
         expected: "a rating, one digit from 0 to 5",
-        known: match Rating::read(text) {
-            None if text.len() > 1 => Known::Said("it has more than one character"),
-            _ => Known::Nothing,
-        },
+        known: Known::Said(rating_fault(line.field(3))),
         mend: "give the picture a rating from 0 to 5",
+    }
+}
+
+// Why a text is no rating.
+fn rating_fault(text: &str) -> &'static str {
+    let mut characters = text.chars();
+    match (characters.next(), characters.next()) {
+        (_, Some(_)) => "it has more than one character",
+        (Some(digit), None) if digit.is_ascii_digit() => "it is greater than 5",
+        _ => "it is no digit from 0 to 5",
     }
 }
 
 /// F13: a date is none.
 pub fn bad_date<'a>(line: Line<'a>) -> Cause<'a> {
-    let text = line.field(4);
-    let (mut digits, mut dashes) = (0usize, 0usize);
-    for c in text.chars() {
-        if c.is_ascii_digit() {
-            digits = digits.saturating_add(1);
-        } else if c == '-' {
-            dashes = dashes.saturating_add(1);
-        }
-    }
-    let is_written = text.len() == 10 && digits == 8 && dashes == 2;
     Cause {
         span: line.span(4),
         expected: "a date of the calendar, YYYY-MM-DD",
-        known: Known::Said(if is_written {
-            "the calendar has no such day"
-        } else {
-            "it is not written as four digits, two and two, with - between them"
-        }),
+        known: Known::Said(date_fault(line.field(4))),
         mend: "write 2026-07-03 for the third of July 2026",
     }
+}
+
+/// Why a text is no date.
+pub fn date_fault(text: &str) -> &'static str {
+    if has_form_of_date(text) {
+        "the calendar has no such day"
+    } else {
+        "it is not written as four digits, two and two, with - between them"
+    }
+}
+
+// Whether a text is four digits, two and two, with - between them.
+fn has_form_of_date(text: &str) -> bool {
+    let mut places = 0usize;
+    for c in text.chars() {
+        let is_right = match places {
+            4 | 7 => c == '-',
+            _ => c.is_ascii_digit(),
+        };
+        if !is_right {
+            return false;
+        }
+        places = places.saturating_add(1);
+    }
+    places == 10
 }
 
 /// F16: an earlier line makes the picture.
@@ -329,7 +257,7 @@ impl<'a> Nearest<'a> {
     // Looks at one name more.
     fn try_name(&mut self, alloc: Global, word: &str, name: &'a str) -> Result<(), AllocError> {
         let distance = levenshtein(alloc, word, name)?;
-        if distance < self.distance && distance < word.len() {
+        if distance < self.distance && distance < word.chars().count() {
             self.name = Some(name);
             self.distance = distance;
         }

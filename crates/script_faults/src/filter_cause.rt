@@ -40,7 +40,7 @@ fn told(span: Span, fault: Option<FilterFault>) -> Cause<'static> {
         Some(FilterFault::TooManyTokens) => ("it has over 256 tokens", "write a shorter filter"),
         Some(FilterFault::Empty) => ("it is empty", "write all, or another test"),
         _ => (
-            "it is too wide: written out, it has over 64 alternatives",
+            "it is too wide: written out, it or a part of it has over 64 alternatives",
             "join fewer tests by or inside of and",
         ),
     };

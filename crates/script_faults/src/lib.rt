@@ -6,6 +6,7 @@ mod cause;
 mod field_cause;
 mod filter_cause;
 mod lines;
+mod number_cause;
 mod telling;
 mod word_cause;
 

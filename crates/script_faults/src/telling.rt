@@ -3,6 +3,7 @@ use crate::cause::Cause;
 use crate::field_cause as causes;
 use crate::filter_cause::bad_filter;
 use crate::lines::{Line, Span};
+use crate::number_cause::bad_number;
 use crate::word_cause::bad_words;
 use script_reader::{LineFault, ScriptFault};
 use std::alloc::{AllocError, Global};
@@ -90,7 +91,7 @@ fn cause_of<'a>(
         LineFault::UnknownDevice => causes::unknown_device(alloc, script, line),
         LineFault::RepeatedDevice => Ok(causes::repeated_device(script, line)),
         LineFault::LateDevice => Ok(causes::late_device(script, line)),
-        LineFault::BadNumber => Ok(causes::bad_number(line)),
+        LineFault::BadNumber => Ok(bad_number(line)),
         LineFault::BadRating => Ok(causes::bad_rating(line)),
         LineFault::BadDate => Ok(causes::bad_date(line)),
         LineFault::BadKeyword => bad_words(alloc, line),

@@ -88,10 +88,13 @@ fn of_word(fault: WordFault) -> (&'static str, &'static str) {
             "leave out the comma that is too much",
         ),
         WordFault::BadCharacter => (
-            "the word has a quote, a bracket or a control character, as a tab is",
+            "the word has a double quote, a bracket or a control character",
             "leave that character out",
         ),
-        WordFault::TooLong => ("the word has over 64 bytes", "write a shorter word"),
+        WordFault::TooLong => (
+            "the word has over 64 bytes in Unicode's form C",
+            "write a shorter word",
+        ),
         _ => ("", COMMAS),
     }
 }

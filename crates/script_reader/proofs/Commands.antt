@@ -88,20 +88,6 @@ reads-memory old new fields filter said r h =
     let p = err_from_is_err_and r h in
     reads-refused old new fields filter said r p.0 p.1 (subst (λ e. Refuses e said) (sym p.2) tt)
 
--- where what a command needs is refused, so is its line
-pub needs-refused : {A : Type 0} (r : Result A LineFault) (f : LineFault) (next : A → Result (Option Command) LineFault) → Err f ≡ r → (r >>= next) ≡ Err f
-needs-refused (Ok x) f next e = cc
-needs-refused (Err g) f next e = cc
-
--- and where it is said, so is the line
-pub needs-said : {A : Type 0} (r : Result A LineFault) (x : A) (next : A → Result (Option Command) LineFault) → r ≡ Ok x → (r >>= next) ≡ next x
-needs-said r x next e = ap (λ s. s >>= next) e
-
--- or memory was refused
-pub needs-refuse : {A : Type 0} (r : Result A LineFault) (e : Refusal) (next : A → Result (Option Command) LineFault) → Refuses e r → Refuses e (r >>= next)
-needs-refuse r Memory next refused = tt
-needs-refuse r (Fault f) next refused = needs-refused r f next (sym refused)
-
 -- a line that declares no device and makes no picture lacks but its command from the first
 pub lacks-first : (r : Reader) (fields : List (List ℕ)) (filter : List ℕ) → declared_by fields ≡ [] → filter_declared_by fields filter ≡ [] → made_by fields ≡ [] → is_command fields ≡ true → Lacks r fields filter r
 lacks-first r fields filter no_name no_filter no_picture counts = record {
@@ -124,11 +110,6 @@ no_picture : (word : List ℕ) (arguments : List (List ℕ)) → is_word word (c
 no_picture word [] other = refl
 no_picture word (device ∷ []) other = refl
 no_picture word (device ∷ picture ∷ more) other = rw other refl
-
--- so the line of another command lacks but its command from the first, whatever its other fields
-pub lacks-other : (r : Reader) (word : List ℕ) (arguments : List (List ℕ)) (filter : List ℕ) → is_word word (codes "device") ≡ false → is_word word (codes "new") ≡ false → is_comment word ≡ false → Lacks r (word ∷ arguments) filter r
-lacks-other r word arguments filter no_device no_new no_comment =
-    lacks-first r (word ∷ arguments) filter (no_name word arguments no_device) (rw no_device refl) (no_picture word arguments no_new) (rw (no_comment, no_device) refl)
 
 -- and whatever sets of words it keeps
 pub lacks_with_sets : (before now : Reader) (sets : ℕ) (fields : List (List ℕ)) (filter : List ℕ) → Lacks before fields filter now → Lacks before fields filter (record now { words = sets })

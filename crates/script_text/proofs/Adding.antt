@@ -54,9 +54,6 @@ pub record IsDeviceLine (name : List ℕ) (filter : Tree) (line : List ℕ) : Ty
   pub counts : is_command (fields_of line) ≡ false
   pub says : (before : Earlier) → before.commands ≤ 0 → length before.names < max_devices → place_of before.names name ≡ None → said before line ≡ Ok None
 
-none-made : (name first : List ℕ) (more : List (List ℕ)) → made_by (codes "device" ∷ name ∷ first ∷ more) ≡ []
-none-made name first more = refl
-
 pub device-said : (name : List ℕ) (filter : Tree) → is_name name ≡ true → FitsFilter filter → IsShort (line_of_device name filter) → IsDeviceLine name filter (line_of_device name filter)
 device-said name filter good fits short =
     let b = filter-begins filter in

@@ -1,9 +1,9 @@
 -- Texts of bytes from a bound on: without ends of lines, without spaces.
 use Rattle.std.proofs.Common.{◌≡◌, ℕ, suc, ◌<◌, ◌≤◌, Bool, true, false, eqb, leb, List, [], ◌∷◌, ◌++◌, length, get_or, refl, ◌∙◌, arith}
-use Rattle.std.specs.List.{All, list_all, list_any}
+use Rattle.std.specs.List.{All, list_all}
 use Rattle.std.proofs.lemmas.Bool.{and_parts, and_from, ne_eqb, leb-true, le-leb}
 use Rattle.std.proofs.lemmas.List.Elements.{All-cons, All-nil}
-use Rattle.std.proofs.lemmas.List.Folds.{list_all-append, list_any_none}
+use Rattle.std.proofs.lemmas.List.Folds.{list_all-append}
 
 -- no byte is below the bound
 abbrev pub is_from : ℕ → List ℕ → Bool
@@ -33,6 +33,3 @@ none-is c low (b ∷ bs) lt h =
     let parts = and_parts (leb low b) (is_from low bs) h in
     let at : low ≤ b = leb-true low b parts.0 in
     All-cons (λ x. eqb x c ≡ false) b bs (ne_eqb b c (λ e. absurd (omega arith))) (none-is c low bs lt parts.1)
-
-pub not-any : (c low : ℕ) (bs : List ℕ) → c < low → is_from low bs ≡ true → list_any (λ b. eqb b c) bs ≡ false
-not-any c low bs lt h = list_any_none (λ b. eqb b c) bs (none-is c low bs lt h)

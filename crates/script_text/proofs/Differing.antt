@@ -8,14 +8,14 @@ use Rattle.std.specs.Ordering.{nat_cmp, is_eq}
 use Rattle.std.proofs.lemmas.Bool.{cases_lt, false≢true, eq-eqb}
 use Rattle.std.proofs.lemmas.List.{append-nil, get_or_at, get_or_append_left, take_more, take_all, drop_more, take-append-drop}
 use Rattle.std.proofs.lemmas.List.Concat.{flat_map-append}
-use Rattle.std.proofs.lemmas.List.Elements.{All-push, All-nil, recursion_from_All}
+use Rattle.std.proofs.lemmas.List.Elements.{All-push, recursion_from_All}
 use Rattle.std.proofs.lemmas.List.Folds.{list_any-append, list_any_none, list_any_at}
 use Rattle.std.proofs.lemmas.Option.{get_or_from_slice_get, slice_get_within}
 use Rattle.std.proofs.lemmas.Slice.Eq.{bytes_eq-Decides}
 use Rattle.script_reader.specs.Fields.{is_name}
 use Rattle.fleet_model.specs.declared.command.Command.{Command}
 use Rattle.script_text.specs.Printable.{AllDiffer, made_in, pictures_made}
-use Rattle.script_text.proofs.NameBytes.{differ, name-at}
+use Rattle.script_text.proofs.NameBytes.{differ}
 use Rattle.script_text.proofs.Adding.{not-made}
 
 module _ {X : Type 0} where
@@ -43,9 +43,6 @@ pub record NamesAre (names : List (List ℕ)) (i : ℕ) : Type 0 where
   pub named : All (λ name. is_name name ≡ true) (take i names)
   pub apart : AllDiffer (take i names)
 
-pub names-none : (names : List (List ℕ)) → NamesAre names 0
-names-none names = record { named = All-nil (λ name. is_name name ≡ true); apart = λ i j d lt within. absurd (omega arith) }
-
 -- a name is none of those before it
 none-before : (front : List (List ℕ)) (name : List ℕ) (rest : List (List ℕ)) → AllDiffer (front ++ name ∷ rest) → list_any (bytes_eq name) front ≡ false
 none-before front name rest apart =
@@ -64,11 +61,6 @@ module _ (names : List (List ℕ)) (i : ℕ) (name : List ℕ) (at : slice_get n
     apart = subst AllDiffer (sym (one-more names i name at)) (differ-more (take i names) name h.apart (each-other (take i names) name other));
   }
 
-  pub name-bad : is_name name ≡ false → AllByRecursion (λ n. is_name n ≡ true) names → ⊥
-  name-bad bad named =
-      let good = name-at names i named (slice_get_within names i name at) in
-      false≢true (sym bad ∙ ap is_name (sym (get_or_from_slice_get names i name [] at)) ∙ good)
-
   pub name-again : list_any (bytes_eq name) (take i names) ≡ true → AllDiffer names → ⊥
   name-again again apart = false≢true (sym (none-before (take i names) name (drop (i + 1) names) (subst AllDiffer (whole names i name at) apart)) ∙ again)
 
@@ -83,9 +75,6 @@ names-apart names i all h = subst AllDiffer (take_all i names all) h.apart
 pub record AreMadeOnce (commands : List Command) (made : BTreeSet ℕ) (i : ℕ) : Type 0 where
   pub has : (p : ℕ) → contains nat_cmp made p ≡ list_any (λ q. eqb q p) (pictures_made (take i commands))
   pub apart : AllDiffer (pictures_made (take i commands))
-
-pub made-none : (commands : List Command) (made : BTreeSet ℕ) → ((p : ℕ) → contains nat_cmp made p ≡ false) → AreMadeOnce commands made 0
-made-none commands made none = record { has = none; apart = λ i j d lt within. absurd (omega arith) }
 
 pub each-picture : (front : List ℕ) (p : ℕ) → list_any (λ q. eqb q p) front ≡ false → (k : ℕ) (d : ℕ) → k < length front → get_or front k d ≢ p
 each-picture front p none k d lt e = false≢true (sym none ∙ list_any_at (λ q. eqb q p) front k d lt (eq-eqb (get_or front k d) p e))

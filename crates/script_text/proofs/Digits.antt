@@ -20,9 +20,6 @@ use Rattle.script_text.proofs.Cuts.{IsField}
 own : IsNumeralModel (λ ds. all_ascii_digits ds ≡ true) (digits_value 10)
 own = numerals_by_value _ tells_all_ascii_digits
 
-abbrev IsSmall : ℕ → Type 0
-IsSmall n = n < 2 ^ 64
-
 digits-from : (ds : List ℕ) → all_ascii_digits ds ≡ true → is_from 48 ds ≡ true
 digits-from [] h = refl
 digits-from (d ∷ ds) h =

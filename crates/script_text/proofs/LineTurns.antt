@@ -1,7 +1,7 @@
 -- The lines of a script, put behind a text one by one, and whether they fit.
-use Rattle.std.proofs.Common.{◌≡◌, ℕ, ◌+◌, ◌≤◌, List, [], ◌∷◌, ◌++◌, length, drop, map, slice_get, Some, refl, sym, ap, subst, ◌∙◌, append_assoc}
+use Rattle.std.proofs.Common.{◌≡◌, ℕ, ◌+◌, List, ◌∷◌, ◌++◌, drop, map, slice_get, Some, sym, ap, subst, ◌∙◌, append_assoc}
 use Rattle.std.specs.List.{AllByRecursion}
-use Rattle.std.proofs.lemmas.List.{append-nil, drop_more, drop_all}
+use Rattle.std.proofs.lemmas.List.{drop_more}
 use Rattle.std.proofs.lemmas.Option.{get_or_from_slice_get, slice_get_within}
 use Rattle.photo_filter_text.specs.Tree.{Tree}
 use Rattle.fleet_model.specs.Contents.{Contents}
@@ -19,9 +19,6 @@ pub record DevicesArePut (names : List (List ℕ)) (filters : List Tree) (old no
   pub text : now ++ text_of_lines (lines_of_devices (drop i names) (drop i filters)) ≡ old ++ text_of_lines (lines_of_devices names filters)
   pub fit : FitDevices (drop i names) (drop i filters) → FitDevices names filters
   pub needs : FitDevices names filters → FitDevices (drop i names) (drop i filters)
-
-pub no-devices : (names : List (List ℕ)) (filters : List Tree) (old : List ℕ) → DevicesArePut names filters old old 0
-no-devices names filters old = record { text = refl; fit = λ h. h; needs = λ h. h }
 
 module _ (names : List (List ℕ)) (filters : List Tree) (old now : List ℕ) (i : ℕ) (h : DevicesArePut names filters old now i) where
   module _ (name : List ℕ) (filter : Tree) (named : slice_get names i ≡ Some name) (filtered : slice_get filters i ≡ Some filter) where
@@ -48,24 +45,12 @@ module _ (names : List (List ℕ)) (filters : List Tree) (old now : List ℕ) (i
     pub device-refused : (FitsDevice name filter → ⊥) → FitDevices names filters → ⊥
     device-refused bad g = bad (fit-to (h.needs g)).0
 
-  none-left : length names ≤ i → drop i names ≡ []
-  none-left whole = drop_all i names whole
-
-  pub devices-put : length names ≤ i → now ≡ old ++ text_of_lines (lines_of_devices names filters)
-  devices-put whole = sym (append-nil now) ∙ ap (λ ns. now ++ text_of_lines (lines_of_devices ns (drop i filters))) (sym (none-left whole)) ∙ h.text
-
-  pub devices-fit : length names ≤ i → FitDevices names filters
-  devices-fit whole = h.fit (subst (λ ns. FitDevices ns (drop i filters)) (sym (none-left whole)) tt)
-
 -- the same of commands
 pub record CommandsArePut (s : Contents) (commands : List Command) (old now : List ℕ) (i : ℕ) : Type 0 where
   pub text : now ++ text_of_lines (map (line_of_command s) (drop i commands)) ≡ old ++ text_of_lines (map (line_of_command s) commands)
   pub fit : AllByRecursion (FitsLine s) (drop i commands) → AllByRecursion (FitsLine s) commands
   pub needs : AllByRecursion (FitsLine s) commands → AllByRecursion (FitsLine s) (drop i commands)
   pub values : AllByRecursion HasValues (drop i commands) → AllByRecursion HasValues commands
-
-pub no-commands : (s : Contents) (commands : List Command) (old : List ℕ) → CommandsArePut s commands old old 0
-no-commands s commands old = record { text = refl; fit = λ h. h; needs = λ h. h; values = λ h. h }
 
 module _ (s : Contents) (commands : List Command) (old now : List ℕ) (i : ℕ) (h : CommandsArePut s commands old now i) where
   module _ (x : Command) (at : slice_get commands i ≡ Some x) where
@@ -78,18 +63,3 @@ module _ (s : Contents) (commands : List Command) (old now : List ℕ) (i : ℕ)
       needs = λ g. (subst (AllByRecursion (FitsLine s)) (left commands i x at) (h.needs g)).1;
       values = λ g. h.values (subst (AllByRecursion HasValues) (sym (left commands i x at)) (has, g));
     }
-
-    pub command-refused : (FitsLine s x → ⊥) → AllByRecursion (FitsLine s) commands → ⊥
-    command-refused bad g = bad (subst (AllByRecursion (FitsLine s)) (left commands i x at) (h.needs g)).0
-
-  none-after : length commands ≤ i → drop i commands ≡ []
-  none-after whole = drop_all i commands whole
-
-  pub commands-put : length commands ≤ i → now ≡ old ++ text_of_lines (map (line_of_command s) commands)
-  commands-put whole = sym (append-nil now) ∙ ap (λ xs. now ++ text_of_lines (map (line_of_command s) xs)) (sym (none-after whole)) ∙ h.text
-
-  pub commands-fit : length commands ≤ i → AllByRecursion (FitsLine s) commands
-  commands-fit whole = h.fit (subst (AllByRecursion (FitsLine s)) (sym (none-after whole)) tt)
-
-  pub commands-have : length commands ≤ i → AllByRecursion HasValues commands
-  commands-have whole = h.values (subst (AllByRecursion HasValues) (sym (none-after whole)) tt)

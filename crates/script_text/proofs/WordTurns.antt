@@ -1,11 +1,10 @@
 -- Words with commas between them, one more at a time.
-use Rattle.std.proofs.Common.{◌≡◌, ◌≢◌, ◌<◌, ◌≤◌, ◌+◌, ◌∷◌, ◌++◌, ℕ, List, [], length, take, slice_get, Some, refl, sym, ap, subst, ◌∙◌, append_assoc, IsUtf8, codes, arith}
+use Rattle.std.proofs.Common.{◌≡◌, ◌<◌, ◌≤◌, ◌+◌, ◌∷◌, ◌++◌, ℕ, List, [], length, take, slice_get, Some, refl, sym, ap, subst, ◌∙◌, append_assoc, IsUtf8, codes, arith}
 use Rattle.std.specs.List.{All, join_with_byte}
 use Rattle.std.proofs.lemmas.List.{take_more, length-take-le, take_all}
-use Rattle.std.proofs.lemmas.List.Elements.{All-push, All-nil, recursion_from_All}
+use Rattle.std.proofs.lemmas.List.Elements.{All-push, recursion_from_All}
 use Rattle.std.proofs.lemmas.Option.{get_or_from_slice_get, slice_get_within}
 use Rattle.photo_record.specs.Word.{IsWordSet}
-use Rattle.photo_record.specs.Showing.{words_text}
 use Rattle.script_text.specs.Printable.{AreWords}
 
 join-push : (c : ℕ) (xs : List (List ℕ)) (y : List ℕ) → 1 ≤ length xs → join_with_byte c (xs ++ y ∷ []) ≡ join_with_byte c xs ++ (c ∷ y)
@@ -21,18 +20,6 @@ pub record AreWritten (words : List (List ℕ)) (old now : List ℕ) (i : ℕ) :
 one-more : (words : List (List ℕ)) (i : ℕ) (w : List ℕ) → slice_get words i ≡ Some w → take (i + 1) words ≡ take i words ++ w ∷ []
 one-more words i w at = take_more words i [] (slice_get_within words i w at) ∙ ap (λ x. take i words ++ x ∷ []) (get_or_from_slice_get words i w [] at)
 
-pub written-first : (words : List (List ℕ)) (old now w : List ℕ) → slice_get words 0 ≡ Some w → IsUtf8 w → now ≡ old ++ w → AreWritten words old now 1
-written-first words old now w at utf8 is =
-    let one : take 1 words ≡ w ∷ [] = first words w at in
-    record {
-      text = is ∙ ap (λ ws. old ++ join_with_byte 44 ws) (sym one);
-      utf8 = subst (All IsUtf8) (sym one) (All-push IsUtf8 [] w (All-nil IsUtf8) utf8);
-    }
-  where
-    first : (words : List (List ℕ)) (w : List ℕ) → slice_get words 0 ≡ Some w → take 1 words ≡ w ∷ []
-    first [] w at = cc
-    first (v ∷ vs) w at = let same : v ≡ w = cc in ap (λ x. x ∷ []) same
-
 pub written-more : (words : List (List ℕ)) (old now new w : List ℕ) (i : ℕ) → 1 ≤ i → AreWritten words old now i → slice_get words i ≡ Some w → IsUtf8 w → new ≡ (now ++ codes ",") ++ w → AreWritten words old new (i + 1)
 written-more words old now new w i some h at utf8 is =
     let front = join_with_byte 44 (take i words) in
@@ -44,10 +31,6 @@ written-more words old now new w i some h at utf8 is =
       text = is ∙ ap (λ t. (t ++ codes ",") ++ w) h.text ∙ regrouped ∙ ap (λ t. old ++ t) (sym (ap (join_with_byte 44) more ∙ join-push 44 (take i words) w (omega arith)));
       utf8 = subst (All IsUtf8) (sym more) (All-push IsUtf8 (take i words) w h.utf8 utf8);
     }
-
-pub written-all : (words : List (List ℕ)) (old now : List ℕ) (i : ℕ) → words ≢ [] → length words ≤ i → AreWritten words old now i → now ≡ old ++ words_text words
-written-all [] old now i some whole h = absurd (some refl)
-written-all (w ∷ ws) old now i some whole h = h.text ∙ ap (λ l. old ++ join_with_byte 44 l) (take_all i (w ∷ ws) whole)
 
 pub words-all : (words : List (List ℕ)) (old now : List ℕ) (i : ℕ) → IsWordSet words → length words ≤ i → AreWritten words old now i → AreWords words
 words-all words old now i set whole h = (set, recursion_from_All IsUtf8 words (subst (All IsUtf8) (take_all i words whole) h.utf8))
