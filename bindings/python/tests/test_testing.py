@@ -1,5 +1,6 @@
 """The strategies and the state machine, and filters as values against the judge."""
 from collections import Counter
+from itertools import combinations
 
 import pytest
 from hypothesis import HealthCheck, Phase, given, settings, strategies as st
@@ -69,11 +70,12 @@ def test_the_runs_bite():
 
 def test_filters_overlap():
     drawn = set()
-    settings(STEADY, max_examples=100)(given(filters())(drawn.add))()
+    settings(STEADY, max_examples=100)(given(filters())(lambda it: drawn.add(it)))()
     assert len(drawn) > 4 and drawn <= set(FILTERS)
     some = [Record(rating, words=said) for rating in range(6) for said in ((), ("sea",), ("sun",), ("sea", "sun"))]
-    narrow = [(one, other) for one in FILTERS for other in FILTERS if one != other]
-    assert sum(any(one.selects(it) and other.selects(it) for it in some) for one, other in narrow) == len(narrow)
+    pairs = list(combinations(FILTERS, 2))
+    assert sum(any(one.selects(it) and other.selects(it) for it in some) for one, other in pairs) == len(pairs) - 1
+    assert all(any(one.selects(it) != other.selects(it) for it in some) for one, other in pairs)
 
 
 class Keeps(JudgedMachine):

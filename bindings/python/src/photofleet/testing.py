@@ -31,7 +31,7 @@ from .values import ALL, Filter, Held, Record, rated
 NAMES = "abcdefgh"
 DAYS = ("2024-05-01", "2024-05-02")
 WORDS = ("sea", "sun")
-# Filters that overlap: each pair of them has a record that both select, and most have one that only one of them does.
+# Filters that overlap: all but one pair of them have a record that both select, and each has one that only one of them does.
 FILTERS = (ALL, rated(3), rated(0, 3), rated(2, 4), rated(forbidden=["sea"]), rated(2, required=["sun"]), rated(4))
 PICTURES = 3
 # How many commands are few enough to be changed and left out at once where a run is shrunk
@@ -101,6 +101,8 @@ class Standing:
 
     def takes(self, command: Change) -> bool:
         """Whether the fleet can take the command as it stands, without a fault and without a refusal."""
+        if not _names(command) <= set(self.filters):
+            return False
         match command:
             case New():
                 return all(not isinstance(it, New) or it.picture != command.picture for it in self.given)
@@ -360,6 +362,17 @@ class JudgedMachine(RuleBasedStateMachine):
     @rule(data=st.data())
     def refilters_one(self, data: st.DataObject) -> None:
         self.step(data.draw(refilterings(self._now(), self.filters), label="command"))
+
+    @precondition(lambda self: self._has_nothing_to_do())
+    @rule()
+    def rests(self) -> None:
+        """No command is left that the engine has and the fleet can take: of engines without pulls."""
+
+    def _has_nothing_to_do(self) -> bool:
+        standing = self._now()
+        has = {name: _takes(name)(self) for name in ("new", "edit", "remove", "pull", "refilter")}
+        makes_or_moves = has["new"] and standing.made < self.pictures or (has["pull"] or has["refilter"]) and standing.made > 0
+        return not makes_or_moves and not (standing.held_by() and (has["edit"] or has["remove"]))
 
     # What is compared.
 
