@@ -1,15 +1,15 @@
 -- What the calls of a device make of the model device that it shows.
-use Rattle.std.proofs.Common.{◌≡◌, ℕ, zero, suc, ◌+◌, ◌-◌, ◌≤◌, Bool, true, false, not, cond, eqb, ◌&&◌, ◌||◌, List, [], ◌∷◌, ◌++◌, length, take, refl, sym, ap, ◌∙◌, arith}
+use Rattle.std.proofs.Common.{◌≡◌, ℕ, zero, suc, ◌+◌, ◌-◌, ◌≤◌, Bool, true, false, not, cond, eqb, ◌&&◌, ◌||◌, List, [], ◌∷◌, ◌++◌, length, take, refl, sym, ap, ◌∙◌, length-append, arith}
 use Rattle.std.specs.Prelude.{filter, map}
 use Rattle.std.specs.List.{list_any}
 use Rattle.std.proofs.lemmas.Bool.Decides.{nat_tests}
 use Rattle.std.proofs.Math.Seq.{take-append_seam}
-use Rattle.std.proofs.lemmas.List.{length-map}
+use Rattle.std.proofs.lemmas.List.{length-map, map-append}
 use Rattle.std.proofs.lemmas.List.Filters.{length-filter_both}
 use Rattle.photo_record.specs.declared.record.Record.{Record}
 use Rattle.photo_filter_text.specs.Tree.{Tree}
 use Rattle.photo_filter_rules.specs.Matching.{matches}
-use Rattle.photo_version.specs.Author.{next_author}
+use Rattle.photo_version.specs.Author.{Author, next_author}
 use Rattle.photo_version.specs.Version.{Version, Versions, same_version}
 use Rattle.photo_model.specs.Entry.{Entry, others, put_entry_if, put_entries}
 use Rattle.photo_model.specs.Device.{ModelDevice, known, holds, selects, next_version, new_entry, made}
@@ -50,30 +50,45 @@ makes d picture content e store out every is stored waiting learned = λ i. reco
   every = (learned ∙ ap (λ (x : Entry). λ v. d.every v || same_version x.version v) is) i;
 }
 
-pub refilters : (tree : Tree) (d : ModelDevice) (held store out : List Entry) (of : ℕ → Versions) → held ≡ holds d
+pub refilters : (tree : Tree) (d : ModelDevice) (author : Author) (held store out : List Entry) (every : Versions) (of : ℕ → Versions) → author ≡ next_author d.author → held ≡ holds d
     → store ≡ put_entries (filter (λ e. matches tree e.content) held) [] → out ≡ put_entries (filter (λ e. not (matches tree e.content)) held) []
-    → ((p : ℕ) (v : Version) → of p v ≡ tell held p v)
-    → record { author = next_author d.author; tree = tree; counter = 0; store = store; out = out; every = λ v. false; of = of } ≡ refiltered tree d
-refilters tree d held store out of held_is stored waiting tells = λ i. record {
-  author = next_author d.author;
+    → every ≡ (λ v. false) → ((p : ℕ) (v : Version) → of p v ≡ tell held p v)
+    → record { author = author; tree = tree; counter = 0; store = store; out = out; every = every; of = of } ≡ refiltered tree d
+refilters tree d author held store out every of author_is held_is stored waiting learned tells = λ i. record {
+  author = author_is i;
   tree = tree;
   counter = 0;
   store = (stored ∙ ap (λ es. put_entries (filter (λ e. matches tree e.content) es) []) held_is) i;
   out = (waiting ∙ ap (λ es. put_entries (filter (λ e. not (matches tree e.content)) es) []) held_is) i;
-  every = λ v. false;
+  every = learned i;
   of = λ p v. (tells p v ∙ ap (λ es. tell es p v) held_is) i;
 }
 
-pub pulls : (t s : ModelDevice) (new store out : List Entry) (every : Versions) (of : ℕ → Versions) → new ≡ taken t s ++ handed t s
-    → store ≡ put_entries (filter (λ e. matches t.tree e.content) new) (filter (λ e. not (leaves_store t s e)) t.store)
-    → out ≡ put_entries (filter (λ e. not (matches t.tree e.content)) new) (filter (λ e. not (leaves_out t s e)) t.out)
-    → every ≡ (pulled t s).every → of ≡ (pulled t s).of → record t { store = store; out = out; every = every; of = of } ≡ pulled t s
-pulls t s new store out every of new_is stored waiting learned learned_of = λ i. record t {
+pub pulls : (t s : ModelDevice) (tree : Tree) (new store out : List Entry) (every : Versions) (of : ℕ → Versions) → tree ≡ t.tree → new ≡ taken t s ++ handed t s
+    → store ≡ put_entries (filter (selects t) new) (filter (λ e. not (leaves_store t s e)) t.store)
+    → out ≡ put_entries (filter (λ e. not (selects t e)) new) (filter (λ e. not (leaves_out t s e)) t.out)
+    → every ≡ (pulled t s).every → of ≡ (pulled t s).of → record t { tree = tree; store = store; out = out; every = every; of = of } ≡ pulled t s
+pulls t s tree new store out every of tree_is new_is stored waiting learned learned_of = λ i. record t {
+  tree = tree_is i;
   store = (stored ∙ ap (λ es. put_entries (filter (selects t) es) (filter (λ e. not (leaves_store t s e)) t.store)) new_is) i;
   out = (waiting ∙ ap (λ es. put_entries (filter (λ e. not (selects t e)) es) (filter (λ e. not (leaves_out t s e)) t.out)) new_is) i;
   every = learned i;
   of = learned_of i;
 }
+
+-- one list behind another
+pub two_held : (a b ab : List ListEntry) (xs ys : List Entry) → entries_of a ≡ xs → entries_of b ≡ ys → ab ≡ a ++ b → entries_of ab ≡ xs ++ ys
+two_held a b ab xs ys a_is b_is ab_is = ap entries_of ab_is ∙ map-append entry_of a b ∙ (λ i. a_is i ++ b_is i)
+
+pub counted : (list : List ListEntry) (entries : List Entry) (n : ℕ) → n ≡ length list → entries_of list ≡ entries → n ≡ length entries
+counted list entries n n_is is = n_is ∙ sym (length-map list entry_of) ∙ ap length is
+
+-- two of three lists are no more than all
+pub in_all : (xs ys zs : List Entry) (all : List ListEntry) (m n : ℕ) → entries_of all ≡ xs ++ ys ++ zs → m ≡ length xs → n ≡ length ys → m + n ≤ length all
+in_all xs ys zs all m n all_is m_is n_is =
+    let whole : length all ≡ length (xs ++ ys) + length zs = sym (length-map all entry_of) ∙ ap length all_is ∙ length-append (xs ++ ys) zs in
+    let front = length-append xs ys in
+    omega arith
 
 -- what a target knows after a pull of every picture, and of single ones
 

@@ -4,6 +4,7 @@ use Rattle.std.specs.Prelude.{map, filter, unwrap_or, Some, None}
 use Rattle.std.specs.List.{list_any, prefix_len, position, position_or_len, insert}
 use Rattle.std.proofs.lemmas.Bool.Decides.{nat_tests}
 use Rattle.std.proofs.lemmas.List.{map-append, take_more}
+use Rattle.std.proofs.lemmas.List.Folds.{list_any-append}
 use Rattle.photo_model.specs.Ordered.{put}
 
 module _ {A B : Type 0} (f : A → B) where
@@ -27,6 +28,10 @@ module _ {A B : Type 0} (f : A → B) where
   pub list_any-map : (q : B → Bool) (xs : List A) → list_any q (map f xs) ≡ list_any (λ x. q (f x)) xs
   list_any-map q [] = refl
   list_any-map q (x ∷ xs) = ap (λ b. q (f x) || b) (list_any-map q xs)
+
+-- a test of two lists, one behind the other
+pub any_of_both : {A : Type 0} (q : A → Bool) (xs ys : List A) → list_any q (xs ++ ys) ≡ (list_any q xs || list_any q ys)
+any_of_both q xs ys = list_any-append q xs ys
 
 -- a test of those that pass another
 pub list_any-filter : {A : Type 0} (q r : A → Bool) (xs : List A) → list_any q (filter r xs) ≡ list_any (λ x. r x && q x) xs

@@ -10,7 +10,7 @@ ghost use Rattle.test_list_device.specs.Entries.{entry_of};
 ghost use Rattle.test_list_device.specs.Shown.{shown};
 
 use crate::known::{has, has_of, tell_all, versions_of};
-use crate::lists::{copied, others, put_in, sort_in};
+use crate::lists::{copied, others, put_in, sort_in, supersedes_any};
 use crate::{Known, ListEntry};
 use photo_filter_rules::Filter;
 use photo_model::Place;
@@ -69,11 +69,11 @@ impl ListDevice {
     }
 
     /// Whether it holds something that an entry supersedes.
+    #[tactic(auto, using(crate::proofs::Mapped::any_of_both))]
     pub(crate) fn holds_older(&self, entry: &ListEntry) -> bool
         ensures { result ≡ list_any (model.supersedes (entry_of entry.now)) (holds (shown self.now)) }
     {
-        self.store.iter().any(|e| entry.supersedes(e))
-            || self.out.iter().any(|e| entry.supersedes(e))
+        supersedes_any(entry, &self.store) || supersedes_any(entry, &self.out)
     }
 
     // The versions that it knows of a picture. The only error is want of memory.

@@ -1,8 +1,8 @@
 // Lists of entries: their copies, and how entries come into them.
 ghost use Rattle.std.specs.Prelude.{◌≡◌, ◌≤◌, not, filter, length, IfOk, OnOk};
-ghost use Rattle.std.specs.List.{prefix_len};
+ghost use Rattle.std.specs.List.{prefix_len, list_any};
 ghost use Rattle.photo_filter_rules.specs.Matching.{matches};
-ghost use Rattle.photo_model.specs.Entry.{entry_before, others, put_entry, put_entry_if, put_entries, superseded_by, is_among};
+ghost use Rattle.photo_model.specs.Entry.{entry_before, others, put_entry, put_entry_if, put_entries, supersedes, superseded_by, is_among};
 ghost use Rattle.photo_model.specs.Device.{place_for};
 ghost use Rattle.test_list_device.specs.Entries.{entry_of, entries_of};
 
@@ -42,6 +42,13 @@ pub(crate) fn is_superseded(list: &[ListEntry], entry: &ListEntry) -> bool
     ensures { result ≡ superseded_by (entries_of list.now) (entry_of entry.now) }
 {
     list.iter().any(|other| other.supersedes(entry))
+}
+
+/// Whether this entry supersedes one of the list.
+pub(crate) fn supersedes_any(entry: &ListEntry, list: &[ListEntry]) -> bool
+    ensures { result ≡ list_any (supersedes (entry_of entry.now)) (entries_of list.now) }
+{
+    list.iter().any(|other| entry.supersedes(other))
 }
 
 /// Whether an entry of the list is of that version.
