@@ -1,8 +1,6 @@
 -- What the calls of a device make of the model device that it shows.
 use Rattle.std.proofs.Common.{◌≡◌, ℕ, zero, suc, ◌+◌, ◌-◌, ◌≤◌, Bool, true, false, not, cond, eqb, ◌&&◌, ◌||◌, List, [], ◌∷◌, ◌++◌, length, take, refl, sym, ap, ◌∙◌, length-append, arith}
 use Rattle.std.specs.Prelude.{filter, map}
-use Rattle.std.specs.List.{list_any}
-use Rattle.std.proofs.lemmas.Bool.Decides.{nat_tests}
 use Rattle.std.proofs.Math.Seq.{take-append_seam}
 use Rattle.std.proofs.lemmas.List.{length-map, map-append}
 use Rattle.std.proofs.lemmas.List.Filters.{length-filter_both}
@@ -12,10 +10,10 @@ use Rattle.photo_filter_rules.specs.Matching.{matches}
 use Rattle.photo_version.specs.Author.{Author, next_author}
 use Rattle.photo_version.specs.Version.{Version, Versions, same_version}
 use Rattle.photo_model.specs.Entry.{Entry, others, put_entry_if, put_entries}
-use Rattle.photo_model.specs.Device.{ModelDevice, known, holds, selects, next_version, new_entry, made}
+use Rattle.photo_model.specs.Device.{ModelDevice, holds, selects, new_entry, made}
 use Rattle.photo_model.specs.Telling.{tell}
 use Rattle.photo_model.specs.Refiltered.{refiltered}
-use Rattle.photo_model.specs.Pull.{taken, handed, told, learns_all, leaves_store, leaves_out, pulled}
+use Rattle.photo_model.specs.Pull.{taken, handed, told, leaves_store, leaves_out, pulled}
 use Rattle.test_list_device.specs.declared.list_entry.ListEntry.{ListEntry}
 use Rattle.test_list_device.specs.declared.known.Known.{Known}
 use Rattle.test_list_device.specs.Sets.{listed, listed_of}
@@ -90,15 +88,7 @@ in_all xs ys zs all m n all_is m_is n_is =
     let front = length-append xs ys in
     omega arith
 
--- what a target knows after a pull of every picture, and of single ones
-
-pub every_then : (b : Bool) (more old all : List Version) → all ≡ cond b (old ++ more) old → listed all ≡ (λ v. listed old v || (b && listed more v))
-every_then true more old all all_is = ap listed all_is ∙ (λ i v. listed-append old more v i)
-every_then false more old all all_is = ap listed all_is ∙ (λ i v. same v i)
-  where
-    same : (v : Version) → listed old v ≡ (listed old v || (false && listed more v))
-    same v = grind arith
-
+-- what a target knows after a pull of single pictures
 pub of_then : (b : Bool) (more old heard all : List Known) (news : List Entry) → ((p : ℕ) (v : Version) → listed_of heard p v ≡ (listed_of old p v || tell news p v)) → all ≡ cond b (heard ++ more) heard
     → listed_of all ≡ (λ p v. listed_of old p v || (tell news p v || (b && listed_of more p v)))
 of_then true more old heard all news tells all_is = ap listed_of all_is ∙ (λ i p v. (listed_of-append heard more p v ∙ ap (λ b. b || listed_of more p v) (tells p v) ∙ joined (listed_of old p v) (tell news p v) (listed_of more p v)) i)

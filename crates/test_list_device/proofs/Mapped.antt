@@ -1,9 +1,8 @@
 -- Lists that are seen as lists of what their elements stand for.
-use Rattle.std.proofs.Common.{◌≡◌, ℕ, zero, suc, ◌+◌, ◌<◌, ◌≤◌, Bool, true, false, not, cond, ltb, ◌&&◌, ◌||◌, List, [], ◌∷◌, ◌++◌, length, get_or, take, drop, refl, sym, ap, ◌∙◌, arith, add-one}
+use Rattle.std.proofs.Common.{◌≡◌, ℕ, suc, ◌+◌, ◌≤◌, Bool, true, false, not, cond, ltb, ◌||◌, List, [], ◌∷◌, ◌++◌, length, refl, ap, ◌∙◌, arith}
 use Rattle.std.specs.Prelude.{map, filter, unwrap_or, Some, None}
 use Rattle.std.specs.List.{list_any, prefix_len, position, position_or_len, insert}
 use Rattle.std.proofs.lemmas.Bool.Decides.{nat_tests}
-use Rattle.std.proofs.lemmas.List.{map-append, take_more}
 use Rattle.std.proofs.lemmas.List.Folds.{list_any-append}
 use Rattle.photo_model.specs.Ordered.{put}
 
@@ -33,31 +32,15 @@ module _ {A B : Type 0} (f : A → B) where
 pub any_of_both : {A : Type 0} (q : A → Bool) (xs ys : List A) → list_any q (xs ++ ys) ≡ (list_any q xs || list_any q ys)
 any_of_both q xs ys = list_any-append q xs ys
 
--- a test of those that pass another
-pub list_any-filter : {A : Type 0} (q r : A → Bool) (xs : List A) → list_any q (filter r xs) ≡ list_any (λ x. r x && q x) xs
-list_any-filter q r [] = refl
-list_any-filter q r (x ∷ xs) = let rest = list_any-filter q r xs in grind (arith, nat_tests)
-
--- a loop over the front of a list has come one further
-pub map-one_more : {A B : Type 0} (f : A → B) (done xs : List A) (i : ℕ) (x y : A) → map f done ≡ map f (take i xs) → f y ≡ f x → get_or xs i x ≡ x → i < length xs → map f (done ++ y ∷ []) ≡ map f (take (i + 1) xs)
-map-one_more f done xs i x y so_far alike at within =
-    map-append f done (y ∷ [])
-    ∙ (λ j. so_far j ++ alike j ∷ [])
-    ∙ ap (λ z. map f (take i xs) ++ f z ∷ []) (sym at)
-    ∙ sym (map-append f (take i xs) (get_or xs i x ∷ []))
-    ∙ ap (map f) (sym (take_more xs i x within))
-
 prefix-within : {A : Type 0} (p : A → Bool) (xs : List A) → prefix_len p xs ≤ length xs
 prefix-within p [] = omega arith
 prefix-within p (x ∷ xs) = let rest = prefix-within p xs in grind (arith, nat_tests)
 
 -- the place that a search gives, or the end
-pub placed : {A : Type 0} (p : A → Bool) (xs : List A) (n : ℕ) → n ≡ unwrap_or (position (λ x. not (p x)) xs) (length xs) → (n ≡ prefix_len p xs) × (n ≤ length xs)
+pub placed : {A : Type 0} (p : A → Bool) (xs : List A) (n : ℕ) → n ≡ unwrap_or (position (λ x. not (p x)) xs) (length xs) → n ≡ prefix_len p xs
 placed p xs n n_is =
     let same : position_or_len (λ x. not (p x)) xs ≡ prefix_len p xs = λ i. prefix_len (λ x. twice (p x) i) xs in
-    let within = prefix-within p xs in
-    let found : n ≡ prefix_len p xs = n_is ∙ ap (λ m. unwrap_or (cond (ltb m (length xs)) (Some m) None) (length xs)) same ∙ by (prefix_len p xs) (length xs) within in
-    (found, omega arith)
+    n_is ∙ ap (λ m. unwrap_or (cond (ltb m (length xs)) (Some m) None) (length xs)) same ∙ by (prefix_len p xs) (length xs) (prefix-within p xs)
   where
     twice : (b : Bool) → not (not b) ≡ b
     twice true = refl

@@ -12,4 +12,4 @@ pub returns-clause-place : goal.returns-clause-place
 returns-clause-place c =
     let stands_before = λ (e : ListEntry). entry_before (entry_of e) (entry_of c.args.entry.now) in
     let found = position_from_yields_List (λ (e : ListEntry). not (stands_before e)) _ _ c.position.result c.position.ensures.ran (YieldsList-from_slice c.args.list.now cc) (λ x b q k. search (rules, tests)) in
-    (placed stands_before c.args.list.now c.unwrap_or.result (c.unwrap_or.ensures ∙ ap (λ o. unwrap_or o (length c.args.list.now)) found)).0
+    placed stands_before c.args.list.now c.unwrap_or.result (c.unwrap_or.ensures ∙ ap (λ o. unwrap_or o (length c.args.list.now)) found)

@@ -1,9 +1,7 @@
-use Rattle.std.proofs.Common.{◌∙◌, ap, Bool, not, ◌&&◌, ◌||◌, rules}
-use Rattle.std.specs.List.{list_any}
+use Rattle.std.proofs.Common.{◌∙◌, ap, Bool, not, rules}
 use Rattle.std.proofs.lemmas.Fn.{filter_same}
-use Rattle.photo_model.specs.Entry.{Entry, supersedes}
-use Rattle.photo_model.specs.Device.{ModelDevice, knows_entry, selects, holds}
-use Rattle.photo_model.specs.Pull.{leaves_store, leaves_out}
+use Rattle.photo_model.specs.Entry.{Entry}
+use Rattle.photo_model.specs.Device.{ModelDevice, knows_entry}
 use Rattle.test_list_device.specs.declared.list_entry.ListEntry.{ListEntry}
 use Rattle.test_list_device.specs.Entries.{entry_of, entries_of}
 use Rattle.test_list_device.specs.Shown.{shown}

@@ -1,4 +1,4 @@
-use Rattle.std.proofs.Common.{◌∙◌, ap, Bool, not, ◌&&◌, ◌||◌, rules}
+use Rattle.std.proofs.Common.{◌∙◌, ap, Bool, not, ◌||◌, rules}
 use Rattle.std.specs.Prelude.{List, filter}
 use Rattle.std.proofs.lemmas.Fn.{filter_same}
 use Rattle.photo_model.specs.Entry.{Entry, superseded_by}

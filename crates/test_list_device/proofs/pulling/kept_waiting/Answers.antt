@@ -1,9 +1,8 @@
-use Rattle.std.proofs.Common.{◌∙◌, ap, Bool, not, ◌&&◌, ◌||◌, rules}
+use Rattle.std.proofs.Common.{◌∙◌, ap, Bool, not, rules}
 use Rattle.std.specs.Prelude.{List, filter}
 use Rattle.std.proofs.lemmas.Fn.{filter_same}
 use Rattle.photo_model.specs.Entry.{Entry, superseded_by}
 use Rattle.photo_model.specs.Device.{ModelDevice}
-use Rattle.photo_model.specs.Pull.{is_stale}
 use Rattle.test_list_device.specs.declared.list_entry.ListEntry.{ListEntry}
 use Rattle.test_list_device.specs.Entries.{entry_of, entries_of}
 use Rattle.test_list_device.specs.Shown.{shown}

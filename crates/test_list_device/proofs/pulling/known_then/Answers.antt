@@ -1,4 +1,4 @@
-use Rattle.std.proofs.Common.{◌≡◌, ◌++◌, ◌||◌, cond, ◌∙◌, ap, rules}
+use Rattle.std.proofs.Common.{◌≡◌, ◌++◌, ◌||◌, cond, ◌∙◌, rules}
 use Rattle.photo_filter_rules.specs.Covers.{covers}
 use Rattle.photo_model.specs.Pull.{told}
 use Rattle.photo_model.specs.Telling.{tell}

@@ -12,5 +12,5 @@ returns-clause-source c =
     let t = shown c.args.target.now in
     let s = shown c.args.source.now in
     let waits = kept_by (knows_entry t) c.args.source.now.out.items c.retain.new.self.items s.out
-        (filter_same _ (λ (e : ListEntry). knows_entry t (entry_of e)) _ (λ x b f k. search rules) _ _ c.retain.ensures.filtered) refl in
+    (filter_same _ (λ (e : ListEntry). knows_entry t (entry_of e)) _ (λ x b f k. search rules) _ _ c.retain.ensures.filtered) refl in
     λ i. record s { out = waits i }

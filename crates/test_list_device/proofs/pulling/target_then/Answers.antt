@@ -1,4 +1,4 @@
-use Rattle.std.proofs.Common.{◌≡◌, ◌+◌, ◌-◌, ◌≤◌, ◌++◌, length, not, sym, ap, ◌∙◌, length-append, arith}
+use Rattle.std.proofs.Common.{◌≡◌, ◌+◌, ◌-◌, ◌++◌, length, not, sym, ap, ◌∙◌, length-append, arith}
 use Rattle.std.specs.Prelude.{filter}
 use Rattle.photo_model.specs.Entry.{Entry, put_entries}
 use Rattle.photo_model.specs.Device.{selects}
