@@ -51,7 +51,7 @@ uint8_t photofleet_plain(const uint8_t *script, size_t script_length, uint8_t *o
 
 /* A session: lines that were given one after another, with what their run prints. It begins closed, as '= {0}'. No other
    program part reads or writes its fields, and it isn't copied while it is open: it is one owner of memory. A session is used
-   by one call at a time and stays on its thread. */
+   by one call at a time; it belongs to no thread. */
 typedef struct {
     void *at;
     bool is_open;

@@ -1,4 +1,4 @@
-/* What the library has beside the proved calls: two texts that stand in it. tools/build-c says which VERSION it is. */
+/* What the library has beside the proved calls: two texts that stand in it. tools/build/build-c says which VERSION it is. */
 #include <photofleet.h>
 
 const char *photofleet_version(void) {

@@ -1,7 +1,7 @@
 """Builds the wheel of this folder for pip, with nothing but Python's own library, so that no network is needed.
 
 The wheel has the package src/photofleet, and beside it the shared library where one is at hand: the file that
-PHOTOFLEET_LIBRARY names, or else out/c/libphotofleet.so of the repository, as tools/build-c makes it. Without one the
+PHOTOFLEET_LIBRARY names, or else out/c/libphotofleet.so of the repository, as tools/build/build-c makes it. Without one the
 package looks for the library when it is used.
 """
 import base64

@@ -1,5 +1,5 @@
 //! Finds the library: where PHOTOFLEET_LIBRARY says (a file, or the folder that it is in), else by pkg-config, else in
-//! out/c of the repository that this crate lies in, where tools/build-c puts it.
+//! out/c of the repository that this crate lies in, where tools/build/build-c puts it.
 use std::path::{Path, PathBuf};
 use std::process::Command;
 
@@ -18,7 +18,7 @@ fn main() {
     }
     let built = Path::new(env!("CARGO_MANIFEST_DIR")).join("../../out/c");
     if !link_folder(&built) {
-        panic!("there is no libphotofleet: tools/build-c makes it, and PHOTOFLEET_LIBRARY tells where it is");
+        panic!("there is no libphotofleet: tools/build/build-c makes it, and PHOTOFLEET_LIBRARY tells where it is");
     }
 }
 

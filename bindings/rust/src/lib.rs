@@ -156,7 +156,7 @@ pub struct Fleet {
 }
 
 // SAFETY: `at` points to memory of the fleet's own, which the library took by malloc and any thread may free. The library
-// has no memory of a thread's own (tools/check-bindings looks), and the calls on one fleet come one after another: those of
+// has no memory of a thread's own (tools/gate/check-bindings looks), and the calls on one fleet come one after another: those of
 // `&mut self` by that, those of `&self` since no two threads have it.
 unsafe impl Send for Fleet {}
 

@@ -11,7 +11,7 @@ use Rattle.photo_script.specs.Laws.{AnswersAreOne}
 use Rattle.fleet_model.specs.Contents.{Contents}
 use Rattle.script_reader.specs.Reading.{script_of}
 use Rattle.fleet_model.specs.Answers.{ModelReport, Exactly, KnowledgeIs}
-use Rattle.photo_script.specs.Reports.{Answer, KnowledgeOf, text_of}
+use Rattle.photo_script.specs.Reports.{Answer, Plain, KnowledgeOf, text_of}
 use Rattle.fleet_model.specs.Runs.{run, reports_of}
 use Rattle.fleet_runner.specs.Outputs.{IsOutput, WritesOutput}
 use Rattle.fleet_runner.specs.Examples.{AreAsTold, stored_text, stored_run, printed, below_the_filter, printed_below, with_the_word, changes, printed_changes, two_versions, printed_two_versions, narrower, printed_narrower, refilters, printed_refilters, previews, printed_previews, never_made}
@@ -23,7 +23,7 @@ star n = record { pictures = []; entries = (0, n) ∷ [] } ∷ []
 
 -- the right answers of a run, where each knowledge is of those fragments, or of the first device up to a number
 abbrev answer_to : List Fragment → ModelReport → Answer
-answer_to fragments (Exactly a) = a
+answer_to fragments (Exactly a) = Plain a
 answer_to fragments (KnowledgeIs device known) = KnowledgeOf device fragments
 
 abbrev answers_to : ℕ → Contents → List Answer

@@ -1,9 +1,9 @@
 //! The run of a script as a chart: what stands still in it, and the drawing of all commands.
 ghost use Rattle.std.specs.Prelude.{◌<◌, length};
 
-use crate::columns::{Band, Columned, Columns, columned_by, digits_of, layout_of};
+use crate::columns::{Band, Columned, Columns, columned_by, layout_of};
 use crate::escaping::push_escaped;
-use crate::filters::{push_whole_filter, shown_filter};
+use crate::filters::{AT_LEFT, push_whole_filter, shown_filter};
 use crate::layout::Layout;
 use crate::names::device_name;
 use crate::running::push_run;
@@ -31,7 +31,7 @@ fn push_columned(
     columned: &Columned,
 ) -> Result<(), AllocError> {
     let left = left_width(alloc, script)?;
-    let layout = layout_of(script, columned.width(), left, digits_of(script));
+    let layout = layout_of(alloc, script, columned, left, names_width(script))?;
     push_head(text, &layout)?;
     push_words(text, script, columns)?;
     text.push_str(STYLE)?;
@@ -39,8 +39,18 @@ fn push_columned(
     for place in 0..script.devices() {
         push_lane(alloc, text, script, &layout, place as u16)?;
     }
+    let legend = layout.legend();
     push_run(alloc, text, script, layout, columned)?;
-    push_legend(text, &layout)
+    push_legend(text, legend)
+}
+
+// How wide the devices' names are.
+fn names_width(script: &Script) -> usize {
+    let mut widest = 0usize;
+    for place in 0..script.devices() {
+        widest = widest.max(device_name(script, place as u16).width());
+    }
+    widest
 }
 
 // How wide the names and filters at the left are.
@@ -58,7 +68,7 @@ fn filter_width(alloc: Global, script: &Script, place: u16) -> Result<usize, All
     if usize::from(place) >= script.devices() {
         return Ok(0);
     }
-    let shown = shown_filter(alloc, script.filter(place))?;
+    let shown = shown_filter(alloc, script.filter(place), AT_LEFT)?;
     Ok(shown.as_str().width())
 }
 
@@ -93,12 +103,8 @@ fn push_words(text: &mut String, script: &Script, columns: Columns) -> Result<()
 }
 
 fn push_lane_words(text: &mut String, script: &Script, place: u16) -> Result<(), AllocError> {
-    if usize::from(place) >= script.devices() {
-        return Ok(());
-    }
-    let name = script.name(place);
-    write!(text, " {name} keeps ")?;
-    push_whole_filter(text, script.filter(place))?;
+    text.push_str(" ")?;
+    push_lane_title(text, script, place)?;
     text.push_str(";")
 }
 
@@ -152,7 +158,7 @@ fn push_band(
     Ok(())
 }
 
-// The lane of a device, with its name and the filter that it has at first.
+// The lane of a device, with its name, again and again, and the filter that it has at first.
 fn push_lane(
     alloc: Global,
     text: &mut String,
@@ -160,19 +166,49 @@ fn push_lane(
     layout: &Layout,
     place: u16,
 ) -> Result<(), AllocError> {
-    let (y, from, end) = (layout.y(place), layout.start(), layout.end());
-    let (above, below) = (y - 4, y + 12);
-    let name = device_name(script, place);
-    write!(
-        text,
-        "<g><title>{name}</title><path class=\"lane\" d=\"M{from} {y}H{end}\"/>\n<text class=\"name\" x=\"12\" y=\"{above}\">{name}</text>\n"
-    )?;
+    text.push_str("<g><title>")?;
+    push_lane_title(text, script, place)?;
+    push_lane_line(text, script, layout, place)?;
     if usize::from(place) < script.devices() {
+        let below = layout.y(place) + 12;
         write!(text, "<text class=\"note\" x=\"12\" y=\"{below}\">")?;
         push_shown_filter(alloc, text, script, place)?;
         text.push_str("</text>")?;
     }
     text.push_str("</g>\n")
+}
+
+// The device's name, and its whole filter.
+fn push_lane_title(text: &mut String, script: &Script, place: u16) -> Result<(), AllocError> {
+    if usize::from(place) >= script.devices() {
+        return Ok(());
+    }
+    let name = script.name(place);
+    write!(text, "{name} keeps ")?;
+    push_whole_filter(text, script.filter(place))
+}
+
+fn push_lane_line(
+    text: &mut String,
+    script: &Script,
+    layout: &Layout,
+    place: u16,
+) -> Result<(), AllocError> {
+    let (y, from, end) = (layout.y(place), layout.start(), layout.end());
+    let above = y - 4;
+    let name = device_name(script, place);
+    write!(
+        text,
+        "</title><path class=\"lane\" d=\"M{from} {y}H{end}\"/>\n<text class=\"name\" x=\"12\" y=\"{above}\">{name}</text>\n"
+    )?;
+    for again in layout.names() {
+        let x = from + u64::from(*again) + 8;
+        writeln!(
+            text,
+            "<text class=\"name\" x=\"{x}\" y=\"{above}\">{name}</text>"
+        )?;
+    }
+    Ok(())
 }
 
 fn push_shown_filter(
@@ -183,12 +219,12 @@ fn push_shown_filter(
 ) -> Result<(), AllocError>
     requires { place < length script.now.names }
 {
-    let shown = shown_filter(alloc, script.filter(place))?;
+    let shown = shown_filter(alloc, script.filter(place), AT_LEFT)?;
     push_escaped(text, &shown)
 }
 
-fn push_legend(text: &mut String, layout: &Layout) -> Result<(), AllocError> {
-    let y = layout.legend();
+// The legend, whose first line stands so far from the top.
+fn push_legend(text: &mut String, y: u64) -> Result<(), AllocError> {
     writeln!(text, "<g transform=\"translate(12 {y})\">")?;
     text.push_str(LEGEND)?;
     text.push_str("</g>\n</svg>\n")

@@ -128,31 +128,47 @@ fn is_between(script: &Script, number: u32) -> bool {
 // The most columns of a chart with texts in it.
 const MOST_LABELLED: usize = 500;
 
-/// The layout of a chart whose texts at the left have so many columns of a terminal, and whose greatest number in a label has
-/// so many digits.
-pub fn layout_of(script: &Script, columns: usize, left: usize, digits: u16) -> Layout {
-    let labelled = columns <= MOST_LABELLED;
-    let step = if labelled {
-        digits.clamp(3, 12) * 7 + 13
-    } else {
-        8
-    };
-    Layout {
-        left: (left.clamp(10, 46) * 13 / 2 + 26) as u16,
-        step,
-        columns: columns.min(1_000_000) as u32,
-        lanes: script.devices() as u16,
-        labelled,
+/// The layout of a chart whose texts at the left have so many columns of a terminal, and the devices' names so many.
+pub fn layout_of(
+    alloc: Global,
+    script: &Script,
+    columned: &Columned,
+    left: usize,
+    names: usize,
+) -> Result<Layout, AllocError> {
+    let labelled = columned.width() <= MOST_LABELLED;
+    let left = (left.clamp(10, 30) * 13 / 2 + 26) as u16;
+    let room = (names.min(20) * 9 + 16) as u16;
+    let mut layout = Layout::new(alloc, left, script.devices() as u16, labelled)?;
+    let digits = digits_of(alloc, script, columned)?;
+    for most in &digits {
+        layout.push_column(if labelled { width_of(*most) } else { 8 }, room)?;
     }
+    Ok(layout)
 }
 
-/// How many digits the greatest number of a picture has that a change names.
-pub fn digits_of(script: &Script) -> u16 {
-    let mut greatest = 0;
-    for place in 0..script.commands() {
-        greatest = picture_of(script.command(place as u32 + 1)).max(greatest);
+// How wide a column with a number of so many digits is.
+fn width_of(digits: u16) -> u16 {
+    digits.clamp(3, 9) * 7 + 13
+}
+
+// Of each column, how many digits the greatest number of a picture has that a change in it names.
+fn digits_of(alloc: Global, script: &Script, columned: &Columned) -> Result<Vec<u16>, AllocError> {
+    let mut digits = vec![in alloc; 1; columned.width()]?;
+    for (place, column) in columned.columns.iter().enumerate() {
+        if let Some(most) = digits.get_mut(*column as usize) {
+            *most = digits_at(script, place).max(*most);
+        }
     }
-    match greatest {
+    Ok(digits)
+}
+
+// How many digits the number of the picture has that the command at a place names; 1 where it names none.
+fn digits_at(script: &Script, place: usize) -> u16 {
+    if place >= script.commands() {
+        return 1;
+    }
+    match picture_of(script.command(place as u32 + 1)) {
         0..=9 => 1,
         10..=99 => 2,
         100..=999 => 3,

@@ -3,7 +3,7 @@ ghost use Rattle.std.specs.Prelude.{◌≤◌, ◌<◌, length};
 
 use crate::columns::picture_of;
 use crate::drawing::{Drawing, Spot};
-use crate::filters::{push_whole_filter, shown_filter};
+use crate::filters::{AT_MARK, push_whole_filter, shown_filter};
 use crate::names::{device_name, push_version};
 use photo_device::Place;
 use photo_filter_rules::Filter;
@@ -11,13 +11,14 @@ use photo_pull::PullCounts;
 use photo_script::{Command, Report, Script, devices_of};
 use std::alloc::AllocError;
 
-/// Draws the command of that number in a column, by the report on it.
+/// Draws the command of that number in a column, by the report on it and what it moved.
 pub fn draw_command(
     drawing: &mut Drawing,
     script: &Script,
     number: u32,
     column: u32,
     report: &Report,
+    moved: &str,
 ) -> Result<(), AllocError>
     requires first { 0 < number }
     requires within { number ≤ length script.now.commands }
@@ -26,6 +27,7 @@ pub fn draw_command(
     drawing.above.push_str("<g><title>")?;
     push_title(&mut drawing.above, script, number, command)?;
     push_outcome(&mut drawing.above, script, command, report)?;
+    push_moves_of(&mut drawing.above, report, moved)?;
     drawing.above.push_str("</title>")?;
     draw_marks(drawing, column, command, report)?;
     drawing.above.push_str("</g>\n")
@@ -83,11 +85,51 @@ fn push_outcome(
                 Place::Out => ", in the out",
             })
         }
-        Report::NotHeld | Report::NotNarrower => title.push_str(", which is refused"),
+        Report::NotHeld => push_not_held(title, script, command),
+        Report::NotNarrower => push_not_narrower(title, command),
         Report::Narrowed(_) | Report::Refiltered { .. } => push_filter(title, command),
         Report::Pulled(counts) | Report::Preview(counts) => push_counts(title, counts),
         _ => Ok(()),
     }
+}
+
+// Why a version was not made.
+fn push_not_held(title: &mut String, script: &Script, command: &Command) -> Result<(), AllocError> {
+    let (device, _) = devices_of(command);
+    let name = device_name(script, device);
+    write!(
+        title,
+        ", which is refused: {name} holds no version of the picture"
+    )
+}
+
+// Why a filter was not narrowed.
+fn push_not_narrower(title: &mut String, command: &Command) -> Result<(), AllocError> {
+    push_filter(title, command)?;
+    title.push_str(", which is refused: the device's filter doesn't cover that one")
+}
+
+// The most versions whose names a title has.
+const NAMED: usize = 20;
+
+// Which versions a pull moved, those from an out in brackets, or would move. Each has two words, the picture's number and its own name.
+fn push_moves_of(title: &mut String, report: &Report, moved: &str) -> Result<(), AllocError> {
+    let verb = match report {
+        Report::Pulled(_) => "; moved",
+        Report::Preview(_) => "; would move",
+        _ => return Ok(()),
+    };
+    if moved.is_empty() {
+        return Ok(());
+    }
+    title.push_str(verb)?;
+    for word in moved.split(' ').skip(1).take(2 * NAMED) {
+        write!(title, " {word}")?;
+    }
+    if moved.split(' ').nth(2 * NAMED + 1).is_some() {
+        title.push_str(" and more")?;
+    }
+    Ok(())
 }
 
 // The filter that a command gives a device.
@@ -166,7 +208,7 @@ fn draw_filter(drawing: &mut Drawing, spot: Spot, command: &Command) -> Result<(
 }
 
 fn note_filter(drawing: &mut Drawing, spot: Spot, filter: &Filter) -> Result<(), AllocError> {
-    let shown = shown_filter(drawing.alloc, filter)?;
+    let shown = shown_filter(drawing.alloc, filter, AT_MARK)?;
     drawing.note(spot, 0, 0, &shown)
 }
 

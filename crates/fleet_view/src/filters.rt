@@ -4,23 +4,25 @@ use photo_filter_rules::Filter;
 use photo_filter_text::print;
 use std::alloc::{AllocError, Global};
 
-// The most characters that a lane shows of its filter.
-const SHOWN: usize = 44;
+/// The most characters that a lane shows of its filter.
+pub const AT_LEFT: usize = 28;
+/// The most characters that stand below another filter's mark.
+pub const AT_MARK: usize = 16;
 
-/// A filter's text, cut where it is long.
-pub fn shown_filter(alloc: Global, filter: &Filter) -> Result<String, AllocError> {
+/// A filter's text, cut where it has more than so many characters.
+pub fn shown_filter(alloc: Global, filter: &Filter, most: usize) -> Result<String, AllocError> {
     let whole = print(alloc, filter.tree())?;
-    cut(alloc, &whole)
+    cut(alloc, &whole, most)
 }
 
-fn cut(alloc: Global, whole: &str) -> Result<String, AllocError> {
+fn cut(alloc: Global, whole: &str, most: usize) -> Result<String, AllocError> {
     let mut text = String::new(alloc);
-    push_cut(&mut text, whole)?;
+    push_cut(&mut text, whole, most)?;
     Ok(text)
 }
 
-fn push_cut(text: &mut String, whole: &str) -> Result<(), AllocError> {
-    for c in whole.chars().take(SHOWN) {
+fn push_cut(text: &mut String, whole: &str, most: usize) -> Result<(), AllocError> {
+    for c in whole.chars().take(most) {
         text.push(c)?;
     }
     if text.len() < whole.len() {

@@ -8,6 +8,7 @@ pub const OVERVIEW: &str =
     fleet_view where my.script 3 7        the same of the pictures 3 and 7
     fleet_view chart my.script > my.svg   the run as a picture, for a browser
     fleet_view fault my.script            where the script's fault is, and how it is mended
+    fleet_view where - < my.script        each of them takes - for standard input
 
 Exit status: 0 done, 2 refused words, 3 script fault, 4 no memory, 5 output not written.";
 
@@ -34,13 +35,16 @@ pub const CHART: &str =
 dot is a version that was made, under its picture's number: filled in the store, hollow in the out.
 An arrow is a pull, with what was taken (t), handed over (h) and dropped (d). A cross is a refused
 command, a square another filter, a triangle a conflict, which lasts as long as the broad band.
-Each mark tells more where the mouse rests on it. Above 500 columns there are no texts in the lanes.
+Each mark tells more where the mouse rests on it: a pull which versions it moved, those from an out in
+brackets, and a refused command why. Above 500 columns there are no texts in the lanes.
 
 Exit status: 0 done, 2 refused words, 3 script fault, 4 no memory, 5 output not written.";
 
 /// The end of the help of `fault`.
 pub const FAULT: &str =
     "The fault is told as 'photofleet' tells it, on standard output. Of a line's fault follow the line, a
-caret under what is wrong, what may stand there, what is known of the cause, and how it is mended.
+caret under what is wrong, what may stand there, what is known of the cause, and how it is mended. Of a
+script without a fault follows a remark on what is rarely meant, as one word with ; in it; or, where an
+order of its commands is given that 'photofleet replay' refuses, which number is wrong, and why.
 
 Exit status: 0 no fault, 2 refused words, 3 a fault, which is told, 4 no memory, 5 output not written.";

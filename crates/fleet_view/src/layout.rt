@@ -1,25 +1,29 @@
 //! Where in a chart what stands: columns from left to right, a lane for each device from top to bottom.
 ghost use Rattle.std.specs.Prelude.{◌≡◌, ◌+◌, ◌*◌, ◌≤◌};
 
+use std::alloc::{AllocError, Global};
+
 /// How wide the parts of the chart are, in pixels.
-#[derive(Clone, Copy, Debug, PartialEq, Eq)]
+#[derive(Drop)]
 pub struct Layout {
     /// The room at the left, for the devices' names and filters.
-    pub left: u16,
-    /// The width of a column.
-    pub step: u16,
-    /// How many columns there are.
-    pub columns: u32,
+    left: u16,
     /// How many lanes there are.
-    pub lanes: u16,
+    lanes: u16,
     /// Whether there is room for texts in the columns.
     pub labelled: bool,
+    /// Where each column begins behind the room at the left, and last where the last one ends.
+    edges: Vec<u32>,
+    /// The middle of each column.
+    middles: Vec<u32>,
+    /// Where the devices' names stand again.
+    names: Vec<u32>,
 }
 
-// The least room at the left, and the widest that all columns together may be.
+// The least room at the left.
 const LEAST: u64 = 20;
-
-const WIDEST: u64 = 1_000_000_000;
+// From where the names stand up to where they stand again: about a screen's width.
+const SCREEN: u32 = 1_200;
 // The first lane, and from a lane to the next.
 const TOP: u64 = 84;
 
@@ -32,6 +36,37 @@ const LEGEND: u64 = 880;
 const RIGHT: u64 = 40;
 
 impl Layout {
+    /// No column yet.
+    pub fn new(alloc: Global, left: u16, lanes: u16, labelled: bool) -> Result<Layout, AllocError> {
+        let edges = vec![in alloc; 0]?;
+        Ok(Layout {
+            left,
+            lanes,
+            labelled,
+            edges,
+            middles: Vec::new(alloc),
+            names: Vec::new(alloc),
+        })
+    }
+
+    /// One column more, so wide. Where a screen's width lies behind the last names, these stand again before it, with so much
+    /// room.
+    pub fn push_column(&mut self, width: u16, room: u16) -> Result<(), AllocError> {
+        let mut from = self.edges.last().copied().unwrap_or(0);
+        let names = self.names.last().copied().unwrap_or(0);
+        if from.saturating_sub(names) > SCREEN {
+            self.names.push(from)?;
+            from = from.saturating_add(u32::from(room));
+            if let Some(edge) = self.edges.last_mut() {
+                *edge = from;
+            }
+        }
+        self.middles
+            .push(from.saturating_add(u32::from(width / 2)))?;
+        self.edges.push(from.saturating_add(u32::from(width)))?;
+        Ok(())
+    }
+
     /// Where the lanes begin.
     pub fn start(&self) -> u64
         ensures least { 20 ≤ result }
@@ -40,28 +75,39 @@ impl Layout {
         u64::from(self.left).max(LEAST)
     }
 
-    /// Where a column begins.
+    /// Where a column begins; where the last one ends if there is none of that number.
     pub fn edge(&self, column: u32) -> u64
         ensures least { 20 ≤ result }
-        ensures most { result ≤ 1_000_065_535 }
+        ensures most { result ≤ 4_295_032_830 }
     {
-        let before = u64::from(self.step).saturating_mul(u64::from(column));
-        self.start() + before.min(WIDEST)
+        match self.edges.get(column as usize) {
+            Some(edge) => self.start() + u64::from(*edge),
+            None => self.end(),
+        }
     }
 
     /// The middle of a column.
     pub fn x(&self, column: u32) -> u64
         ensures least { 20 ≤ result }
-        ensures most { result ≤ 1_000_131_070 }
+        ensures most { result ≤ 4_295_032_830 }
     {
-        self.edge(column) + u64::from(self.step / 2)
+        match self.middles.get(column as usize) {
+            Some(middle) => self.start() + u64::from(*middle),
+            None => self.end(),
+        }
     }
 
     /// Where the lanes end.
     pub fn end(&self) -> u64
-        ensures { result ≤ 1_000_065_535 }
+        ensures least { 20 ≤ result }
+        ensures most { result ≤ 4_295_032_830 }
     {
-        self.edge(self.columns)
+        self.start() + u64::from(self.edges.last().copied().unwrap_or(0))
+    }
+
+    /// Where the names stand again, from the left.
+    pub fn names(&self) -> &[u32] {
+        &self.names
     }
 
     /// The lane of a device.

@@ -14,9 +14,11 @@ mod helps;
 mod layout;
 mod moves;
 mod names;
+mod orders;
 mod padding;
 mod playing;
 mod refusals;
+mod remarks;
 mod running;
 mod serve;
 mod source;
@@ -52,7 +54,7 @@ fn status(rt: &HostRuntime) -> u8 {
 // Output is gathered before it is written.
 fn answer<E: Write>(rt: &HostRuntime, words: &[String], err: &mut E) -> u8 {
     match BufWriter::new(rt.alloc(), rt.stdout()) {
-        Ok(mut out) => serve(rt, rt.alloc(), words, &mut out, err),
+        Ok(mut out) => serve(rt, rt.alloc(), words, &mut rt.stdin(), &mut out, err),
         Err(_) => without_memory(err),
     }
 }

@@ -116,9 +116,9 @@ fn push_line(
     )
 }
 
-// What a pull would bring of the pictures that are asked for: what the target doesn't know of the source's store and is to
-// keep, and what it doesn't know of the source's out.
-fn push_moved(
+/// What a pull would bring of the pictures that are asked for: what the target doesn't know of the source's store and is to
+/// keep, and what it doesn't know of the source's out.
+pub fn push_moved(
     moved: &mut String,
     script: &Script,
     target: &Device,

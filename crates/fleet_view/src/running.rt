@@ -5,9 +5,10 @@ use crate::columns::Columned;
 use crate::drawing::Drawing;
 use crate::events::draw_command;
 use crate::layout::Layout;
+use crate::moves::push_moved;
 use crate::strife::{finish_strife, note_strife};
 use live_fleet::Fleet;
-use photo_script::Script;
+use photo_script::{Command, Script, devices_of};
 use std::alloc::{AllocError, Global};
 
 /// Runs the script, and puts what is drawn of it behind a text.
@@ -71,6 +72,27 @@ fn draw_next(
     ensures long { length fleet.new.devices ≡ length fleet.old.devices }
     ensures count { fleet.new.commands ≤ fleet.old.commands + 1 }
 {
+    let moved = moved_by(drawing.alloc, script, fleet, script.command(number))?;
     let report = fleet.run(script.command(number))?;
-    draw_command(drawing, script, number, column, &report)
+    draw_command(drawing, script, number, column, &report, &moved)
+}
+
+// The versions that a pull moves, or would move: none of another command.
+fn moved_by(
+    alloc: Global,
+    script: &Script,
+    fleet: &Fleet,
+    command: &Command,
+) -> Result<String, AllocError> {
+    let mut moved = String::new(alloc);
+    if let (target, Some(source)) = devices_of(command) {
+        let devices = fleet.devices();
+        if let (Some(target), Some(source)) = (
+            devices.get(usize::from(target)),
+            devices.get(usize::from(source)),
+        ) {
+            push_moved(&mut moved, script, target, source, &[])?;
+        }
+    }
+    Ok(moved)
 }

@@ -1,17 +1,20 @@
 //! What the program does, from the words to the exit status.
 use crate::chart::push_chart;
+use crate::orders::push_order;
 use crate::refusals::refused;
-use crate::source::read_bytes;
+use crate::remarks::push_remarks;
+use crate::source::{Unread, read_bytes};
 use crate::statuses::{BAD_SCRIPT, DONE, status_of};
 use crate::whereabouts::push_whereabouts;
 use crate::words::{Request, View, request_of};
 use fleet_steps::RunError;
 use photo_script::{Script, ScriptFault, read_script};
 use script_faults::fault_view;
-use std::alloc::Global;
+use std::alloc::{AllocError, Global};
 use std::convert::AsStr;
-use std::io::Write;
+use std::io::{self, Read, Write};
 use std::rt::Files;
+use std::str::from_utf8;
 
 // What is told of a script that has no fault.
 const NO_FAULT: &str = "no fault: it is a script\n";
@@ -19,44 +22,78 @@ const NO_FAULT: &str = "no fault: it is a script\n";
 /// Does what a command line asks for, and gives the exit status. `words` begins with the program's name.
 ///
 /// 0: what was asked for is written to `out`. 2: the words were refused. 3: the file can't be read or has no script; `fault`
-/// wrote why. 4: memory was refused. 5: a write failed. What went wrong is told to `err`.
-pub fn serve<S: AsStr, R: Files, W: Write, E: Write>(
+/// wrote why, or why an order isn't lawful. 4: memory was refused. 5: a write failed. What went wrong is told to `err`.
+pub fn serve<S: AsStr, R: Files, I: Read, W: Write, E: Write>(
     rt: &R,
     alloc: Global,
     words: &[S],
+    input: &mut I,
     out: &mut W,
     err: &mut E,
 ) -> u8 {
     match request_of(alloc, words) {
-        Ok(request) => match perform(rt, alloc, &request, out) {
-            Ok(status) => status,
-            Err(error) => status_of(Err(error), err),
-        },
+        Ok(request) => {
+            let source = read_bytes(rt, alloc, request.file, input);
+            answer(alloc, &request, &source, out, err)
+        }
         Err(refusal) => refused(alloc, &refusal, out, err),
     }
 }
 
-// Writes what is asked for of a file, once all of it is made, and gives the status.
-fn perform<R: Files, W: Write>(
-    rt: &R,
+// Answers by what was read.
+fn answer<W: Write, E: Write>(
     alloc: Global,
     request: &Request<'_>,
+    source: &Result<Vec<u8>, Unread>,
+    out: &mut W,
+    err: &mut E,
+) -> u8 {
+    match perform(alloc, request, source, out) {
+        Ok(status) => status,
+        Err(error) => {
+            let status = status_of(Err(error), err);
+            if let Err(Unread::System(reason)) = source {
+                let file = request.file;
+                let _ = writeln!(err, "known:    {file}: {reason}");
+            }
+            status
+        }
+    }
+}
+
+// Writes what is asked for of a file, once all of it is made, and gives the status.
+fn perform<W: Write>(
+    alloc: Global,
+    request: &Request<'_>,
+    source: &Result<Vec<u8>, Unread>,
     out: &mut W,
 ) -> Result<u8, RunError> {
     let mut text = String::new(alloc);
-    let status = push_asked(rt, alloc, &mut text, request)?;
+    let status = match source {
+        Ok(bytes) => push_answer(alloc, &mut text, bytes, &request.view)?,
+        Err(Unread::Script(fault)) => push_fault(alloc, &mut text, &[], *fault, &request.view)?,
+        Err(Unread::System(reason)) => push_unread(&mut text, request, reason)?,
+    };
     write_whole(out, &text, status)
 }
 
-fn push_asked<R: Files>(
-    rt: &R,
-    alloc: Global,
+// Tells why a file can't be read, where its fault is asked for.
+fn push_unread(
     text: &mut String,
     request: &Request<'_>,
+    reason: &io::Error,
 ) -> Result<u8, RunError> {
-    match read_bytes(rt, alloc, request.file) {
-        Ok(bytes) => push_answer(alloc, text, &bytes, &request.view),
-        Err(fault) => push_fault(alloc, text, &[], fault, &request.view),
+    let View::Fault(_) = request.view else {
+        return Err(RunError::Script(ScriptFault::Read));
+    };
+    let (file, fault) = (request.file, ScriptFault::Read);
+    let pushed = write!(
+        text,
+        "script fault: {fault}\nknown:    {file}: {reason}\nmend:     look at its name, and whether it is a folder\n"
+    );
+    match pushed {
+        Ok(()) => Ok(BAD_SCRIPT),
+        Err(_) => Err(RunError::NoMemory),
     }
 }
 
@@ -68,7 +105,7 @@ fn push_answer(
     view: &View,
 ) -> Result<u8, RunError> {
     match read_script(alloc, bytes) {
-        Ok(script) => push_view(alloc, text, &script, view),
+        Ok(script) => push_view(alloc, text, bytes, &script, view),
         Err(fault) => push_fault(alloc, text, bytes, fault, view),
     }
 }
@@ -76,18 +113,45 @@ fn push_answer(
 fn push_view(
     alloc: Global,
     text: &mut String,
+    bytes: &[u8],
     script: &Script,
     view: &View,
 ) -> Result<u8, RunError> {
     let pushed = match view {
         View::Where(pictures) => push_whereabouts(alloc, text, script, pictures),
         View::Chart(columns) => push_chart(alloc, text, script, *columns),
-        View::Fault => text.push_str(NO_FAULT),
+        View::Fault(order) => return push_no_fault(alloc, text, bytes, script, order),
     };
     match pushed {
         Ok(()) => Ok(DONE),
         Err(_) => Err(RunError::NoMemory),
     }
+}
+
+// What is said of a script that has no fault, and of an order of its commands where one is given.
+fn push_no_fault(
+    alloc: Global,
+    text: &mut String,
+    bytes: &[u8],
+    script: &Script,
+    order: &[u32],
+) -> Result<u8, RunError> {
+    let told = if order.is_empty() {
+        push_remarked(text, bytes)
+    } else {
+        push_order(alloc, text, script, order)
+    };
+    match told {
+        Ok(true) => Ok(DONE),
+        Ok(false) => Ok(BAD_SCRIPT),
+        Err(_) => Err(RunError::NoMemory),
+    }
+}
+
+fn push_remarked(text: &mut String, bytes: &[u8]) -> Result<bool, AllocError> {
+    text.push_str(NO_FAULT)?;
+    push_remarks(text, from_utf8(bytes).unwrap_or(""))?;
+    Ok(true)
 }
 
 // Tells a script's fault where that is asked for. Else it is an error, and want of memory is as that of any command.

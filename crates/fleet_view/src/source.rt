@@ -1,31 +1,49 @@
-//! The bytes of the files that the command line names.
+//! The bytes of the files that the command line names; `-` is standard input.
 use photo_script::{MAX_TEXT_BYTES, ScriptFault};
 use std::alloc::Global;
 use std::fs;
-use std::io::Read;
+use std::io::{self, Read};
 use std::rt::Files;
 
-/// The bytes of a file, which are no more than a script may have.
-pub fn read_bytes<R: Files>(rt: &R, alloc: Global, file: &str) -> Result<Vec<u8>, ScriptFault> {
-    let Ok(mut source) = fs::open(rt, file) else {
-        return Err(ScriptFault::Read);
-    };
-    bytes_of(alloc, &mut source)
+/// Why there are no bytes.
+#[derive(Drop)]
+pub enum Unread {
+    /// The system says why.
+    System(io::Error),
+    /// They are too many, or memory was refused.
+    Script(ScriptFault),
 }
 
-fn bytes_of<R: Read>(alloc: Global, reader: &mut R) -> Result<Vec<u8>, ScriptFault> {
+/// The bytes of a file, or of standard input, which are no more than a script may have.
+pub fn read_bytes<R: Files, I: Read>(
+    rt: &R,
+    alloc: Global,
+    file: &str,
+    input: &mut I,
+) -> Result<Vec<u8>, Unread> {
+    if file == "-" {
+        return bytes_of(alloc, input);
+    }
+    match fs::open(rt, file) {
+        Ok(mut source) => bytes_of(alloc, &mut source),
+        Err(error) => Err(Unread::System(error)),
+    }
+}
+
+fn bytes_of<R: Read>(alloc: Global, reader: &mut R) -> Result<Vec<u8>, Unread> {
     let mut bytes = Vec::new(alloc);
     let mut piece = [0u8; 4096];
     while bytes.len() <= MAX_TEXT_BYTES {
-        let Ok(count) = reader.read(&mut piece) else {
-            return Err(ScriptFault::Read);
+        let count = match reader.read(&mut piece) {
+            Ok(count) => count,
+            Err(error) => return Err(Unread::System(error)),
         };
         if count == 0 {
             return Ok(bytes);
         }
         if bytes.extend_from_slice(&piece[..count]).is_err() {
-            return Err(ScriptFault::NoMemory);
+            return Err(Unread::Script(ScriptFault::NoMemory));
         }
     }
-    Err(ScriptFault::TooLarge)
+    Err(Unread::Script(ScriptFault::TooLarge))
 }

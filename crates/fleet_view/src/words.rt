@@ -20,8 +20,8 @@ pub enum View {
     Where(Vec<u32>),
     /// A chart of its run.
     Chart(Columns),
-    /// What is wrong with it.
-    Fault,
+    /// What is wrong with it, or with that order of its commands where one is given.
+    Fault(Vec<u32>),
 }
 
 /// What the words ask for, which begin with the program's name, or why they are refused.
@@ -63,7 +63,7 @@ fn request_in<'a>(
 // What a command with its arguments shows.
 fn view_in(alloc: Global, name: &str, given: &ArgMatches<'_>) -> Result<Option<View>, AllocError> {
     match name {
-        "where" => match pictures_in(alloc, given)? {
+        "where" => match numbers_in(alloc, given, "PICTURE")? {
             Some(pictures) => Ok(Some(View::Where(pictures))),
             None => Ok(None),
         },
@@ -75,22 +75,29 @@ fn view_in(alloc: Global, name: &str, given: &ArgMatches<'_>) -> Result<Option<V
             };
             Ok(Some(View::Chart(columns)))
         }
-        "fault" => Ok(Some(View::Fault)),
+        "fault" => match numbers_in(alloc, given, "ORDER")? {
+            Some(order) => Ok(Some(View::Fault(order))),
+            None => Ok(None),
+        },
         _ => Ok(None),
     }
 }
 
-// The pictures that are named, perhaps none.
-fn pictures_in(alloc: Global, given: &ArgMatches<'_>) -> Result<Option<Vec<u32>>, AllocError> {
-    let mut pictures = Vec::new(alloc);
-    let words: &[&str] = given.get_strs("PICTURE").unwrap_or(&[]);
+// The numbers of an argument, perhaps none.
+fn numbers_in(
+    alloc: Global,
+    given: &ArgMatches<'_>,
+    argument: &str,
+) -> Result<Option<Vec<u32>>, AllocError> {
+    let mut numbers = Vec::new(alloc);
+    let words: &[&str] = given.get_strs(argument).unwrap_or(&[]);
     for word in words {
-        let Ok(picture) = word.parse::<u32>() else {
+        let Ok(number) = word.parse::<u32>() else {
             return Ok(None);
         };
-        pictures.push(picture)?;
+        numbers.push(number)?;
     }
-    Ok(Some(pictures))
+    Ok(Some(numbers))
 }
 
 /// The program's command line.
@@ -136,17 +143,18 @@ fn chart_command<'a>(alloc: Global) -> Result<Command<'a>, AllocError> {
         .arg(file_argument(alloc))
 }
 
-// `fault FILE`
+// `fault FILE [ORDER]...`
 fn fault_command<'a>(alloc: Global) -> Result<Command<'a>, AllocError> {
     Command::new(alloc, "fault")
         .about("Tells what is wrong with a script, where, and how it is mended")
         .after_help(FAULT)
-        .arg(file_argument(alloc))
+        .arg(file_argument(alloc))?
+        .arg(order_argument(alloc))
 }
 
 fn file_argument<'a>(alloc: Global) -> Arg<'a> {
     Arg::new(alloc, "FILE")
-        .help("The file with the script")
+        .help("The file with the script, or - for standard input")
         .required(true)
         .action(ArgAction::Set)
 }
@@ -156,6 +164,14 @@ fn picture_argument<'a>(alloc: Global) -> Arg<'a> {
         .help("The numbers of the pictures that are asked for; all where none is said")
         .num_args(0..)
         .value_parser(value_parser!(u32).range(1..=999_999_999))
+        .action(ArgAction::Append)
+}
+
+fn order_argument<'a>(alloc: Global) -> Arg<'a> {
+    Arg::new(alloc, "ORDER")
+        .help("The numbers of the script's commands in the order of a 'photofleet replay'")
+        .num_args(0..)
+        .value_parser(value_parser!(u32).range(0..=999_999_999))
         .action(ArgAction::Append)
 }
 

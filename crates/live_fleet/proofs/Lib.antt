@@ -10,3 +10,4 @@ mod Shown
 mod Holders
 mod SaysYes
 mod WorkedQuestions
+pub mod Due

@@ -10,13 +10,17 @@ use Rattle.live_fleet.specs.declared.fault.FleetFault.TheVariants.{NoMemory, NoD
 abbrev pub RefusesAsDue : {X : Type 0} → (FleetFault → Type 0) → Result X FleetFault → Type 0
 RefusesAsDue IsDue result = (fault : FleetFault) → fault ≢ NoMemory → (result ≡ Err fault) ↔ IsDue fault
 
--- what is due to a command: NoDevice where it doesn't work on devices that there are, two different ones if it has two; Full
--- where it does, and so many commands have run that there is no room for one more
+-- what is due to a call whose devices are there where `there` holds: NoDevice where it doesn't; Full where it does, and so many
+-- commands have run that there is no room for one more
+abbrev pub IsDueUnless : Type 0 → KeptFleet → FleetFault → Type 0
+IsDueUnless there f NoMemory = ⊥
+IsDueUnless there f NoDevice = there → ⊥
+IsDueUnless there f NoCommand = ⊥
+IsDueUnless there f Full = there × (f.commands ≡ 4_294_967_295)
+
+-- what is due to a command: its devices are there where they are among the fleet's, two different ones if it has two
 abbrev pub IsDueTo : Command → KeptFleet → FleetFault → Type 0
-IsDueTo c f NoMemory = ⊥
-IsDueTo c f NoDevice = IsWithin (length f.devices) c → ⊥
-IsDueTo c f NoCommand = ⊥
-IsDueTo c f Full = IsWithin (length f.devices) c × (f.commands ≡ 4_294_967_295)
+IsDueTo c f = IsDueUnless (IsWithin (length f.devices) c) f
 
 -- what is due to a question, which isn't counted: NoDevice as to a command
 abbrev pub IsDueToQuestion : Command → KeptFleet → FleetFault → Type 0

@@ -1,5 +1,5 @@
 //! Runs scripts of a photo collection and prints the reports, or tells which of their commands can run at once. **Its words, files
-//! and outputs are the system's**; what is done with them `photofleet_serve` says.
+//! and outputs are the system's**; what is done with them `photofleet_cli` says.
 #![tactic(auto)]
 
 mod arguments;
@@ -7,7 +7,7 @@ mod opener;
 
 use arguments::Arguments;
 use opener::FileOpener;
-use photofleet_serve::{serve, without_memory, without_words};
+use photofleet_cli::{serve, without_memory, without_words};
 use std::io::BufWriter;
 use std::process::ExitCode;
 use std::sync::Wait;

@@ -1,6 +1,6 @@
 //! The files of the system, and standard input, which is named `-`.
 use photo_script::ScriptFault;
-use photofleet_serve::Opener;
+use photofleet_cli::Opener;
 use std::io::Read;
 use std::rt::{Files, Stdin};
 use std::{fs, io};

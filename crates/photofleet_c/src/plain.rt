@@ -5,6 +5,7 @@ ghost use Rattle.fleet_model.specs.Limits.{max_commands};
 ghost use Rattle.photo_script.specs.Reports.{answer_of, texts_from, IsAbout};
 ghost use Rattle.photofleet_c.specs.Printed.{IsOutput, IsPrinted};
 ghost use Rattle.photofleet_c.specs.Refused.{IsWhy};
+ghost use Rattle.photofleet_c.specs.declared.refusal.Refusal.TheVariants.{NoMemory};
 
 use crate::refusal::Refusal;
 use fleet_steps::laws::accepted_stays_sound;

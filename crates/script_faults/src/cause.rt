@@ -1,5 +1,6 @@
 //! What is told of a line's fault beside its name: where it is, what may stand there, what is known of it, and a mend.
-use crate::lines::Span;
+use crate::lines::{Line, Span};
+use crate::odd::odd_in;
 use std::alloc::AllocError;
 
 /// What is told of a line's fault.
@@ -14,6 +15,29 @@ pub struct Cause<'a> {
     /// How the line is mended.
     pub mend: &'static str,
 }
+
+impl<'a> Cause<'a> {
+    /// The same; but where its part of the line has a character that is easily overlooked, that is the cause.
+    pub fn unless_odd(self, line: Line<'a>) -> Cause<'a> {
+        self.unless_odd_in(line, self.span)
+    }
+
+    /// The same of another part of the line.
+    pub fn unless_odd_in(self, line: Line<'a>, part: Span) -> Cause<'a> {
+        match odd_in(line, part) {
+            Some((span, odd)) => Cause {
+                span,
+                expected: self.expected,
+                known: Known::Said(odd.known),
+                mend: odd.mend,
+            },
+            None => self,
+        }
+    }
+}
+
+/// The mend of a remark that stands behind something else.
+pub const REMARK: &str = "put the remark on a line of its own, which begins with #";
 
 /// What is known of a fault's cause.
 #[derive(Clone, Copy)]
@@ -41,6 +65,10 @@ impl Known<'_> {
             Known::Counted(before, number, behind) => writeln!(
                 text,
                 "known:    {before}{number}{behind}"
+            ),
+            Known::Fields(1, wanted) => writeln!(
+                text,
+                "known:    the line has 1 field, and its form has {wanted}"
             ),
             Known::Fields(found, wanted) => writeln!(
                 text,

@@ -1,9 +1,10 @@
 //! The causes of the faults of a line's fields, but for numbers, words and filters.
-use crate::cause::{Cause, Known, LINES, form_of};
+use crate::cause::{Cause, Known, LINES, REMARK, form_of};
 use crate::lines::{Line, Span, count_fields, earlier, first_command};
-use crate::number_cause::author_in;
+use crate::nearest::Nearest;
+use crate::number_cause::{author_in, is_picture};
+use photo_record::{Day, Rating};
 use std::alloc::{AllocError, Global};
-use strsim::levenshtein;
 
 /// F4: the line is too long.
 pub fn too_long<'a>(line: Line<'a>) -> Cause<'a> {
@@ -11,19 +12,24 @@ pub fn too_long<'a>(line: Line<'a>) -> Cause<'a> {
         span: Span { from: 0, to: 1 },
         expected: "a line of at most 1,024 bytes, be it a comment",
         known: Known::Counted("the line has ", line.text.len(), " bytes"),
-        mend: "cut the line",
+        mend: if line.text.contains('\r') {
+            "end each line with a line feed (LF): a carriage return (CR) alone ends none"
+        } else {
+            "cut the line"
+        },
     }
 }
 
 /// F5: no line begins with such a word.
 pub fn unknown_command<'a>(alloc: Global, line: Line<'a>) -> Result<Cause<'a>, AllocError> {
     let known = nearest_word(alloc, line.field(0))?;
-    Ok(Cause {
+    let cause = Cause {
         span: line.span(0),
         expected: "device, new, edit, remove, pull, narrow, refilter, preview, list, conflicts, knowledge or knows",
         known,
         mend: "begin the line with one of these words, or with # where it is a comment",
-    })
+    };
+    Ok(cause.unless_odd(line))
 }
 
 // Which word that a line may begin with is near to another.
@@ -36,47 +42,112 @@ fn nearest_word<'a>(alloc: Global, word: &str) -> Result<Known<'a>, AllocError> 
 }
 
 /// F6: there are too many fields or too few.
-pub fn wrong_fields<'a>(line: Line<'a>) -> Cause<'a> {
+pub fn wrong_fields<'a>(text: &str, line: Line<'a>) -> Cause<'a> {
     let form = form_of(line.field(0));
     let (found, wanted) = (count_fields(line.text), count_fields(form));
-    Cause {
-        span: if found < wanted {
-            line.end()
-        } else {
-            line.rest(wanted)
-        },
+    if found > wanted {
+        return too_many_fields(text, line, form, Known::Fields(found, wanted));
+    }
+    let whole = Span {
+        from: 0,
+        to: line.text.len(),
+    };
+    let cause = Cause {
+        span: line.end(),
         expected: form,
         known: Known::Fields(found, wanted),
-        mend: fields_mend(found < wanted, form.ends_with("WORDS")),
+        mend: if form.ends_with("WORDS") {
+            "say what is missing; a picture without words has - in their place"
+        } else {
+            "say what is missing"
+        },
+    };
+    cause.unless_odd_in(line, whole)
+}
+
+// What is too much is one field, or else all that stands behind the last one.
+fn too_many_fields<'a>(
+    text: &str,
+    line: Line<'a>,
+    form: &'static str,
+    known: Known<'a>,
+) -> Cause<'a> {
+    let stray = stray_field(text, line, form);
+    let span = stray.unwrap_or(line.rest(count_fields(form)));
+    let mend = if line.at(span).starts_with('#') {
+        REMARK
+    } else if stray.is_some() {
+        "leave this field out"
+    } else if form.ends_with("WORDS") {
+        "leave out what is too much; a picture's words have commas between them and no spaces"
+    } else {
+        "leave out what is too much; behind # a line of its own may say anything"
+    };
+    Cause {
+        span,
+        expected: form,
+        known,
+        mend,
     }
 }
 
-// How a line is mended that has too few fields or too many; of a picture the last one has its words.
-fn fields_mend(too_few: bool, of_picture: bool) -> &'static str {
-    match (too_few, of_picture) {
-        (true, true) => "say what is missing; a picture without words has - in their place",
-        (true, false) => "say what is missing",
-        (false, true) =>
-            "leave out what is too much; a picture's words have commas between them and no spaces",
-        (false, false) => "leave out what is too much; behind # a line of its own may say anything",
+// The first field that isn't what stands there in the line's form, where the next one is that.
+fn stray_field(text: &str, line: Line<'_>, form: &str) -> Option<Span> {
+    for (i, name) in form.split(' ').enumerate().skip(1) {
+        if !fits(text, line, i, name) {
+            let next = i.saturating_add(1);
+            return if fits(text, line, next, name) {
+                Some(line.span(i))
+            } else {
+                None
+            };
+        }
+    }
+    None
+}
+
+// Whether a field of the line is one that has such a name in its form.
+fn fits(text: &str, line: Line<'_>, i: usize, name: &str) -> bool {
+    let field = line.field(i);
+    match name {
+        "DEV" | "TARGET" | "SOURCE" => earlier(text, line.number, "device", 1, field).is_some(),
+        "PIC" => is_picture(field),
+        "RATING" => Rating::read(field).is_some(),
+        "DATE" => Day::read(field).is_some(),
+        "VERSION" => field.contains(':'),
+        _ => true,
     }
 }
 
 /// F7: a declared name is none.
 pub fn bad_name<'a>(line: Line<'a>) -> Cause<'a> {
-    let name = line.field(1);
-    let known = match (name.chars().next(), name.chars().count()) {
-        (Some(first), _) if !first.is_ascii_lowercase() => Known::Said(
-            "it doesn't begin with a small letter from a to z",
-        ),
-        (_, count) if count > 16 => Known::Counted("it has ", count, " characters"),
-        _ => Known::Said("it has a character that is no small letter from a to z and no digit"),
-    };
-    Cause {
+    let (known, mend) = name_fault(line.field(1));
+    let cause = Cause {
         span: line.span(1),
         expected: "a letter from a to z, and then at most 15 such letters and digits",
         known,
-        mend: "write the name small and without other signs, as attic for Attic",
+        mend,
+    };
+    cause.unless_odd(line)
+}
+
+// Why a text is no name, and how it is mended.
+fn name_fault<'a>(name: &str) -> (Known<'a>, &'static str) {
+    let small = "write the name small and without other signs, as attic for Attic";
+    let count = name.chars().count();
+    match name.chars().next() {
+        Some(first) if !first.is_ascii_lowercase() => (
+            Known::Said("it doesn't begin with a small letter from a to z"),
+            small,
+        ),
+        _ if count > 16 => (
+            Known::Counted("it has ", count, " characters"),
+            "write a shorter name",
+        ),
+        _ => (
+            Known::Said("it has a character that is no small letter from a to z and no digit"),
+            small,
+        ),
     }
 }
 
@@ -88,12 +159,13 @@ pub fn unknown_device<'a>(
 ) -> Result<Cause<'a>, AllocError> {
     let span = unknown_span(text, line);
     let known = nearest_device(alloc, text, line.number, line.at(span))?;
-    Ok(Cause {
+    let cause = Cause {
         span,
         expected: "the name of a device that a line above declares",
         known,
         mend: "spell the name as its 'device' line does, or declare the device above all commands",
-    })
+    };
+    Ok(cause.unless_odd(line))
 }
 
 // Which name that one of the first so many lines declares is near to another.
@@ -152,16 +224,17 @@ pub fn late_device<'a>(text: &str, line: Line<'a>) -> Cause<'a> {
 
 /// F12: a rating is none.
 pub fn bad_rating<'a>(line: Line<'a>) -> Cause<'a> {
-    Cause {
+    let cause = Cause {
         span: line.span(3),
         expected: "a rating, one digit from 0 to 5",
         known: Known::Said(rating_fault(line.field(3))),
         mend: "give the picture a rating from 0 to 5",
-    }
+    };
+    cause.unless_odd(line)
 }
 
-// Why a text is no rating.
-fn rating_fault(text: &str) -> &'static str {
+/// Why a text is no rating.
+pub fn rating_fault(text: &str) -> &'static str {
     let mut characters = text.chars();
     match (characters.next(), characters.next()) {
         (_, Some(_)) => "it has more than one character",
@@ -172,20 +245,28 @@ fn rating_fault(text: &str) -> &'static str {
 
 /// F13: a date is none.
 pub fn bad_date<'a>(line: Line<'a>) -> Cause<'a> {
-    Cause {
+    let (known, mend) = date_fault(line.field(4));
+    let cause = Cause {
         span: line.span(4),
         expected: "a date of the calendar, YYYY-MM-DD",
-        known: Known::Said(date_fault(line.field(4))),
-        mend: "write 2026-07-03 for the third of July 2026",
-    }
+        known: Known::Said(known),
+        mend,
+    };
+    cause.unless_odd(line)
 }
 
-/// Why a text is no date.
-pub fn date_fault(text: &str) -> &'static str {
+/// Why a text is no date, and how it is mended.
+pub fn date_fault(text: &str) -> (&'static str, &'static str) {
     if has_form_of_date(text) {
-        "the calendar has no such day"
+        (
+            "the calendar has no such day",
+            "take a day that its month has",
+        )
     } else {
-        "it is not written as four digits, two and two, with - between them"
+        (
+            "it is not written as four digits, two and two, with - between them",
+            "write 2026-07-03 for the third of July 2026",
+        )
     }
 }
 
@@ -236,39 +317,5 @@ pub fn same_device<'a>(line: Line<'a>) -> Cause<'a> {
         expected: "another device than the target",
         known: Known::Said("both names are those of one device"),
         mend: "name the device from which the first one is to learn",
-    }
-}
-
-// The name that is nearest to a word.
-#[derive(Clone, Copy)]
-struct Nearest<'a> {
-    name: Option<&'a str>,
-    distance: usize,
-}
-
-impl<'a> Nearest<'a> {
-    fn new() -> Nearest<'a> {
-        Nearest {
-            name: None,
-            distance: 3,
-        }
-    }
-
-    // Looks at one name more.
-    fn try_name(&mut self, alloc: Global, word: &str, name: &'a str) -> Result<(), AllocError> {
-        let distance = levenshtein(alloc, word, name)?;
-        if distance < self.distance && distance < word.chars().count() {
-            self.name = Some(name);
-            self.distance = distance;
-        }
-        Ok(())
-    }
-
-    // What is said of a word that none of the names is.
-    fn known(&self, word: &str) -> Known<'a> {
-        match self.name {
-            Some(name) if name != word => Known::Near(name),
-            _ => Known::Nothing,
-        }
     }
 }

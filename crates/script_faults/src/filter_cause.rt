@@ -1,6 +1,8 @@
 //! The cause of a filter's fault.
 use crate::cause::{Cause, Known};
+use crate::filter_hint::{Hint, Place, hint_at};
 use crate::lines::{Line, Span};
+use crate::word_cause::of_word;
 use photo_filter_text::{FilterFault, read};
 use photo_record::{Word, WordFault};
 use std::alloc::{AllocError, Global};
@@ -14,8 +16,8 @@ pub fn bad_filter<'a>(alloc: Global, line: Line<'a>) -> Result<Cause<'a>, AllocE
     let fault = filter_fault(alloc, line.at(whole));
     let span = match fault {
         Some(FilterFault::NoMemory) => return Err(AllocError),
-        Some(FilterFault::Unexpected(k)) => return Ok(unexpected(line, whole, k)),
-        Some(FilterFault::BadWord) => bad_word(alloc, line, whole)?,
+        Some(FilterFault::Unexpected(k)) => return unexpected(alloc, line, whole, k),
+        Some(FilterFault::BadWord) => return bad_word(alloc, line, whole),
         Some(FilterFault::EndsEarly) => line.end(),
         _ => whole,
     };
@@ -25,10 +27,6 @@ pub fn bad_filter<'a>(alloc: Global, line: Line<'a>) -> Result<Cause<'a>, AllocE
 // What is told of the filter at a part of its line; where it has no fault it is too wide.
 fn told(span: Span, fault: Option<FilterFault>) -> Cause<'static> {
     let (known, mend) = match fault {
-        Some(FilterFault::BadWord) => (
-            "it stands in the place of a keyword's word and is none",
-            "write a word without commas, quotes and brackets",
-        ),
         Some(FilterFault::EndsEarly) => (
             "the filter ends too early",
             "close each bracket, and write a test behind each and, or and not",
@@ -61,39 +59,55 @@ fn filter_fault(alloc: Global, text: &str) -> Option<FilterFault> {
 }
 
 // The filter, which is a part of a line, goes wrong at its token k, counted from 1.
-fn unexpected<'a>(line: Line<'a>, whole: Span, k: usize) -> Cause<'a> {
+fn unexpected<'a>(
+    alloc: Global,
+    line: Line<'a>,
+    whole: Span,
+    k: usize,
+) -> Result<Cause<'a>, AllocError> {
+    let (span, place) = token_at(line, whole, k);
+    let behind = Span {
+        from: span.to,
+        to: whole.to,
+    };
+    let stands_before = k == 1 && filter_fault(alloc, line.at(behind)).is_none();
+    let hint = if stands_before {
+        before_filter(line.field(0))
+    } else {
+        hint_at(alloc, place, line.at(span))?
+    };
+    let cause = Cause {
+        span,
+        expected: EXPECTED,
+        known: hint.known.unwrap_or(Known::Token(k, line.at(span))),
+        mend: hint.mend,
+    };
+    Ok(cause.unless_odd(line))
+}
+
+// The filter's token k, and what may stand in its place, where what may stand there stands before it.
+fn token_at(line: Line<'_>, whole: Span, k: usize) -> (Span, Place) {
     let mut behind = whole;
-    let mut span = line.end();
-    for _ in 0..k {
+    let (mut span, mut place) = (line.end(), Place::Test);
+    for i in 0..k {
+        if i > 0 {
+            place = place.behind(line.at(span));
+        }
         span = first_token(line, behind).unwrap_or(line.end());
         behind.from = span.to;
     }
-    let token = line.at(span);
-    Cause {
-        span,
-        expected: EXPECTED,
-        known: Known::Token(k, token),
-        mend: hint(token),
-    }
+    (span, place)
 }
 
-// What may mend a token.
-fn hint(token: &str) -> &'static str {
-    if token.starts_with(['<', '>', '=']) {
-        return "the operators are >=, <= and =, with a space on either side";
-    }
-    if token.contains(['<', '>', '=']) {
-        return "write spaces round the operator, as in rating >= 4";
-    }
-    for c in token.chars() {
-        if c.is_ascii_uppercase() {
-            return "write and, or, not and the tests' names small";
-        }
-    }
-    match token.chars().next() {
-        Some(c) if c.is_ascii_digit() =>
-            "a rating is one digit from 0 to 5, and a date is written 2026-12-31",
-        _ => "put and or or between two tests, and keyword before each word",
+// What is told of a token before a text that is a filter by itself.
+fn before_filter<'a>(word: &str) -> Hint<'a> {
+    Hint {
+        known: Some(Known::Said("what stands behind it is a filter")),
+        mend: if word == "device" {
+            "leave it out, or write the name as one word"
+        } else {
+            "leave it out"
+        },
     }
 }
 
@@ -120,28 +134,51 @@ fn first_token(line: Line<'_>, part: Span) -> Option<Span> {
     }
 }
 
-// The first token in the place of a keyword's word that is none; the whole filter where each is one.
-fn bad_word(alloc: Global, line: Line<'_>, whole: Span) -> Result<Span, AllocError> {
+// The first token in the place of a keyword's word that is none.
+fn bad_word<'a>(alloc: Global, line: Line<'a>, whole: Span) -> Result<Cause<'a>, AllocError> {
     let mut behind = whole;
     let mut is_word = false;
     for _ in 0..line.text.len() {
         let Some(span) = first_token(line, behind) else {
-            return Ok(whole);
+            return Ok(told_of_word(whole, WordFault::Empty));
         };
         let token = line.at(span);
-        if is_word && !reads_as_word(alloc, token)? {
-            return Ok(span);
+        if is_word {
+            if let Some(fault) = word_fault(alloc, token)? {
+                return Ok(told_of_word(span, fault).unless_odd(line));
+            }
         }
         is_word = !is_word && token == "keyword";
         behind.from = span.to;
     }
-    Ok(whole)
+    Ok(told_of_word(whole, WordFault::Empty))
 }
 
-fn reads_as_word(alloc: Global, token: &str) -> Result<bool, AllocError> {
-    match Word::read(alloc, token) {
-        Ok(_) => Ok(true),
+fn told_of_word<'a>(span: Span, fault: WordFault) -> Cause<'a> {
+    let (known, mend) = match fault {
+        WordFault::BadCharacter => (
+            "the word has a comma, a double quote or a control character",
+            "write one word behind each keyword, without that character",
+        ),
+        WordFault::TooLong => of_word(fault),
+        _ => (
+            "it stands in the place of a keyword's word and is none",
+            "write a word without commas, quotes and brackets",
+        ),
+    };
+    Cause {
+        span,
+        expected: EXPECTED,
+        known: Known::Said(known),
+        mend,
+    }
+}
+
+// Why a text is no word.
+fn word_fault(alloc: Global, text: &str) -> Result<Option<WordFault>, AllocError> {
+    match Word::read(alloc, text) {
+        Ok(_) => Ok(None),
         Err(WordFault::NoMemory) => Err(AllocError),
-        Err(_) => Ok(false),
+        Err(fault) => Ok(Some(fault)),
     }
 }

@@ -5,8 +5,11 @@
 mod cause;
 mod field_cause;
 mod filter_cause;
+mod filter_hint;
 mod lines;
+mod nearest;
 mod number_cause;
+mod odd;
 mod telling;
 mod word_cause;
 

@@ -9,6 +9,10 @@ const MOST_VERSIONS: u32 = 100_000;
 
 /// F11: a picture's number is none, or a version.
 pub fn bad_number<'a>(line: Line<'a>) -> Cause<'a> {
+    number_cause(line).unless_odd(line)
+}
+
+fn number_cause<'a>(line: Line<'a>) -> Cause<'a> {
     match NumberFault::of(line.field(2), MOST_PICTURES) {
         Some(fault) => Cause {
             span: line.span(2),
@@ -79,6 +83,11 @@ pub fn author_in(line: Line<'_>) -> (Span, Option<Span>) {
         }
         None => (Span { from, to }, None),
     }
+}
+
+/// Whether a text is the number of a picture.
+pub fn is_picture(text: &str) -> bool {
+    NumberFault::of(text, MOST_PICTURES).is_none()
 }
 
 // Why a text is no number from 1 to a greatest one.

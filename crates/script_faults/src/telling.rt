@@ -4,6 +4,7 @@ use crate::field_cause as causes;
 use crate::filter_cause::bad_filter;
 use crate::lines::{Line, Span};
 use crate::number_cause::bad_number;
+use crate::odd::odd_of;
 use crate::word_cause::bad_words;
 use script_reader::{LineFault, ScriptFault};
 use std::alloc::{AllocError, Global};
@@ -86,7 +87,7 @@ fn cause_of<'a>(
     match fault {
         LineFault::LineTooLong => Ok(causes::too_long(line)),
         LineFault::UnknownCommand => causes::unknown_command(alloc, line),
-        LineFault::WrongFields => Ok(causes::wrong_fields(line)),
+        LineFault::WrongFields => Ok(causes::wrong_fields(script, line)),
         LineFault::BadName => Ok(causes::bad_name(line)),
         LineFault::UnknownDevice => causes::unknown_device(alloc, script, line),
         LineFault::RepeatedDevice => Ok(causes::repeated_device(script, line)),
@@ -135,14 +136,14 @@ fn push_carets(
     text.push_str("\n")
 }
 
-// Puts a text behind another as it is shown: control characters, as a tab is, have a mark in their place.
+// Puts a text behind another as it is shown: characters that are easily overlooked have a mark in their place.
 fn push_shown(text: &mut String, part: &str) -> Result<(), AllocError> {
     let start = text.len();
     for c in part.chars() {
         if text.len().saturating_sub(start) >= SHOWN {
             return text.push_str("\u{2026}");
         }
-        text.push(if c.is_control() { '\u{fffd}' } else { c })?;
+        text.push(if odd_of(c).is_some() { '\u{fffd}' } else { c })?;
     }
     Ok(())
 }

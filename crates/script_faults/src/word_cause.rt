@@ -20,14 +20,23 @@ pub fn bad_words<'a>(alloc: Global, line: Line<'a>) -> Result<Cause<'a>, AllocEr
     for (place, piece) in words.split(',').enumerate() {
         let to = from.saturating_add(piece.len());
         if let Some((known, mend)) = piece_fault(alloc, words, place, piece)? {
-            return Ok(told(Span { from, to }, known, mend));
+            let cause = told(Span { from, to }, known, mend);
+            return Ok(if has_control(piece) {
+                cause.unless_odd(line)
+            } else {
+                cause
+            });
         }
         from = to.saturating_add(1);
     }
     Ok(told(whole, "", COMMAS))
 }
 
-fn told(span: Span, known: &'static str, mend: &'static str) -> Cause<'static> {
+fn has_control(piece: &str) -> bool {
+    piece.chars().any(|c| c.is_control())
+}
+
+fn told<'a>(span: Span, known: &'static str, mend: &'static str) -> Cause<'a> {
     Cause {
         span,
         expected: EXPECTED,
@@ -80,8 +89,8 @@ fn reads_as(alloc: Global, piece: &str, word: &Word) -> Result<bool, AllocError>
     }
 }
 
-// What is known of a word that is none, and how it is mended.
-fn of_word(fault: WordFault) -> (&'static str, &'static str) {
+/// What is known of a word that is none, and how it is mended.
+pub fn of_word(fault: WordFault) -> (&'static str, &'static str) {
     match fault {
         WordFault::Empty => (
             "no word stands there",

@@ -107,7 +107,7 @@ def find_library() -> str:
     found = os.environ.get("PHOTOFLEET_LIBRARY") or _of_package() or _of_pkg_config() or ctypes.util.find_library("photofleet")
     if not found:
         raise LibraryNotFound(
-            "there is no libphotofleet.so in the package, and none of the system's: tools/build-c makes it, "
+            "there is no libphotofleet.so in the package, and none of the system's: tools/build/build-c makes it, "
             "and PHOTOFLEET_LIBRARY tells where it is"
         )
     return found

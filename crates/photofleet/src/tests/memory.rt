@@ -3,7 +3,7 @@ ghost use Rattle.std.specs.Prelude.{Some, None, codes, if◌then◌else◌};
 ghost use Rattle.std.specs.Str.{bytes_eq};
 
 use photo_script::ScriptFault;
-use photofleet_serve::{Opener, serve};
+use photofleet_cli::{Opener, serve};
 use std::alloc::Global;
 use std::io::{self, ErrorKind, Write};
 use std::sync::Wait;

@@ -1,7 +1,7 @@
 //! Command lines: their statuses, and what is printed and told.
 use super::memory::{Full, OUTPUT, SCRIPT, Shelf, Sink, does, runs, serves};
 use crate::arguments::Arguments;
-use photofleet_serve::{serve, without_words};
+use photofleet_cli::{serve, without_words};
 use std::alloc::Global;
 use std::env::{Env, FillError};
 use std::io::{self, BufWriter, Write};

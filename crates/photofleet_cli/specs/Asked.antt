@@ -1,0 +1,102 @@
+-- What the words of a command line ask for.
+use Rattle.std.specs.Prelude.{◌≡◌, ◌⊎◌, ℕ, List, [], ◌∷◌, map, Option, Some, None, IfSome, codes, if◌then◌else◌, option_map, option_and_then, unwrap_or}
+use Rattle.std.specs.Borrow.{Bor}
+use Rattle.std.specs.Str.{bytes_eq}
+use Rattle.std.specs.Str.Parse.{digits_value, without_leading_plus}
+use Rattle.clap.specs.ValueTests.{is_unsigned_in}
+use Rattle.clap.specs.Words.{Row, Text, IsAmong, all_of, subcommand_of, first_of, one_of}
+use Rattle.clap.specs.declared.error.kind.ErrorKind.{ErrorKind}
+use Rattle.clap.specs.declared.error.kind.ErrorKind.TheVariants.{DisplayHelp, DisplayVersion, MissingSubcommand}
+use Rattle.fleet_workers.specs.Limits.{max_workers}
+use Rattle.photofleet_cli.specs.CommandLine.{program, errors_of}
+use Rattle.photofleet_cli.specs.declared.words.Job.{Job}
+use Rattle.photofleet_cli.specs.declared.words.Job.TheVariants as job
+use Rattle.photofleet_cli.specs.declared.words.Request.{Request}
+
+-- what is done with a script: its run command by command, its run by so many workers, its run in an order, or its plan
+pub data Work : Type 0 where
+  plain : Work
+  run : ℕ → Work
+  replay : List ℕ → Work
+  batches : Work
+
+-- the number that a word writes, where it has at most 32 bits
+abbrev pub number_in : Text → Option ℕ
+number_in word = if is_unsigned_in 0 4294967295 word then Some (digits_value 10 (without_leading_plus word)) else None
+
+-- the numbers that the words write, where each writes one
+abbrev pub numbers_in : List Text → Option (List ℕ)
+numbers_in [] = Some []
+numbers_in (word ∷ more) = option_and_then (λ n. option_map (λ ns. n ∷ ns) (numbers_in more)) (number_in word)
+
+-- the order that `replay` was given
+abbrev pub order_in : List Row → Option (List ℕ)
+order_in rows = numbers_in (unwrap_or (all_of (codes "ORDER") rows) [])
+
+-- the number of workers that a word writes, where there may be so many
+abbrev pub workers_of : Text → Option ℕ
+workers_of word = if is_unsigned_in 1 max_workers word then Some (digits_value 10 (without_leading_plus word)) else None
+
+-- the number of workers that `run` was given
+abbrev pub workers_in : List Row → Option ℕ
+workers_in rows = option_and_then workers_of (one_of (codes "workers") rows)
+
+-- what the command of that name does, with its arguments
+abbrev pub work_in : Text → List Row → Option Work
+work_in name rows =
+    if bytes_eq name (codes "plain") then Some plain
+    else (if bytes_eq name (codes "run") then option_map run (workers_in rows)
+    else (if bytes_eq name (codes "replay") then option_map replay (order_in rows)
+    else (if bytes_eq name (codes "batches") then Some batches else None)))
+
+-- the file that it was given, and what it does with the script
+abbrev pub asked_in : Text × List Row → Option (Text × Work)
+asked_in (name, rows) = option_and_then (λ file. option_map (λ work. (file, work)) (work_in name rows)) (first_of (codes "FILE") rows)
+
+-- what the words name: a file, and what is done with its script
+abbrev pub asked_of : List Text → Option (Text × Work)
+asked_of words = option_and_then asked_in (subcommand_of program words)
+
+-- the words are accepted, and ask for that work on that file
+pub record Asks (words : List Text) (file : Text) (work : Work) : Type 0 where
+  pub accepted : errors_of words ≡ []
+  pub named : asked_of words ≡ Some (file, work)
+
+-- the kinds of error by which `clap` says that the words ask for help or for the version
+abbrev pub IsWish : ErrorKind → Type 0
+IsWish k = (k ≡ DisplayHelp) ⊎ (k ≡ DisplayVersion)
+
+-- the words ask for help or for the version
+abbrev pub AsksForHelp : List Text → Type 0
+AsksForHelp words = (k : ErrorKind) × IsWish k × IsAmong k (errors_of words)
+
+-- the words may be answered by an error of that kind
+abbrev pub IsRefusal : List Text → ErrorKind → Type 0
+IsRefusal words k = IsAmong k (errors_of words) ⊎ ((k ≡ MissingSubcommand) × ((errors_of words ≡ []) × (asked_of words ≡ None)))
+
+-- the words have an error, and it is no wish for help or for the version
+abbrev pub AreRefused : List Text → Type 0
+AreRefused words = (k : ErrorKind) × (IsWish k → ⊥) × IsRefusal words k
+
+-- the words ask for some work on a file, and the file's bytes, where they are known, are such for that work
+pub record OfFile (content : List ℕ → Option (List ℕ)) (words : List Text) (IsSuch : Work → List ℕ → Type 0) : Type 0 where
+  pub file : Text
+  pub work : Work
+  pub asked : Asks words file work
+  pub bytes : IfSome (content file) (IsSuch work)
+
+-- the code's values as the definitions see them
+abbrev pub work_of : Job → Work
+work_of job.Plain = plain
+work_of (job.Run workers) = run workers
+work_of (job.Replay order) = replay order.items
+work_of job.Batches = batches
+
+abbrev pub request_shown : Request → Text × Work
+request_shown request = (request.file.now, work_of request.job)
+
+abbrev pub AsksRequest : List Text → Request → Type 0
+AsksRequest words request = Asks words request.file.now (work_of request.job)
+
+abbrev pub texts : List (Bor Text) → List Text
+texts = map (λ s. s.now)

@@ -1,6 +1,0 @@
-use Rattle.photofleet_serve.proofs.Numbers.{AreReadTo}
-use Rattle.photofleet_serve.proofs.words.numbers_in.Given as goal
-
--- the numbers so far are those of the words so far
-abbrev pub invariant-loop-word : goal.invariant-loop-word
-invariant-loop-word l = AreReadTo l.words l.word-index l.numbers.items

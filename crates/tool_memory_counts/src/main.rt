@@ -1,0 +1,24 @@
+//! Makes the calls that are to take no memory: reads a line such as `vector 1000`, a group of calls and how often, makes
+//! them, and prints whether each answered as it has to. `tools/gate/count-allocations` runs it and counts its allocations.
+#![tactic(auto)]
+
+mod devices;
+mod filters;
+mod fleets;
+mod groups;
+mod held;
+mod ledgers;
+mod runs;
+mod scripts;
+mod staging;
+
+use std::io;
+
+fn main(rt: HostRuntime) -> io::Result<()> {
+    for line in rt.lines(rt.alloc()) {
+        let line = line?;
+        let answered = groups::of_line(&rt, rt.alloc(), line.as_str()) == Some(true);
+        println!(rt; "{answered}")?;
+    }
+    Ok(())
+}

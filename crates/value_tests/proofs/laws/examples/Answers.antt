@@ -1,8 +1,0 @@
-use Rattle.value_tests.proofs.WorkedExamples.{taken_out_as_told, gathered_as_told}
-use Rattle.value_tests.proofs.laws.examples.Goals as goal
-
-pub returns-clause-taken : goal.returns-clause-taken
-returns-clause-taken c = taken_out_as_told
-
-pub returns-clause-gathered : goal.returns-clause-gathered
-returns-clause-gathered c = gathered_as_told

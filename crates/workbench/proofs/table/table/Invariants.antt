@@ -1,5 +1,0 @@
-use Rattle.workbench.proofs.TableLemmas.{IsTo}
-use Rattle.workbench.proofs.table.table.Given as goal
-
-abbrev pub invariant-loop-i : goal.invariant-loop-i
-invariant-loop-i l = record { pictures : IsTo l.i l.table.items }
