@@ -4,8 +4,8 @@ use crate::pulls::COUNTS;
 use crate::runs::is_run;
 use crate::scripts::{FOUR_DEVICES, is_four, is_read, script_of, unless_changed};
 use fleet_runner::{
-    OpenGate, RunError, Workers, plain_stream, read_source, run_fleet, run_stream, write_plan,
-    write_reports,
+    OpenGate, RunError, Workers, plain_stream, plan_stream, read_source, replay_stream, run_fleet,
+    run_stream, write_plan, write_reports,
 };
 use photo_batcher::Plan;
 use photo_script::{Report, Script, ScriptFault};
@@ -19,6 +19,8 @@ pub fn verdict(alloc: Global, call: &str) -> Option<Verdict> {
     match call {
         "read_source" => Some(judged(reads(alloc), true)),
         "plain_stream" => plain(alloc),
+        "replay_stream" => replayed(alloc),
+        "plan_stream" => planned(alloc),
         _ => None,
     }
 }
@@ -168,6 +170,39 @@ fn runs_plain(alloc: Global, output: &mut Vec<u8>) -> Option<bool> {
     let done = plain_stream(alloc, &mut source, output);
     mark(alloc);
     is_written(done, output.as_slice(), OUTPUT)
+}
+
+fn replayed(alloc: Global) -> Option<Verdict> {
+    let mut output = room(alloc)?;
+    let mut order = Vec::with_capacity(alloc, 2).ok()?;
+    order.push(1).ok()?;
+    order.push(2).ok()?;
+    let right = replays_stream(alloc, &mut output, order);
+    Some(judged(right, is_front(output.as_slice())))
+}
+
+fn replays_stream(alloc: Global, output: &mut Vec<u8>, order: Vec<u32>) -> Option<bool> {
+    let mut source = SCRIPT.as_bytes();
+    mark(alloc);
+    let done = replay_stream(alloc, &mut source, output, order);
+    mark(alloc);
+    is_written(done, output.as_slice(), OUTPUT)
+}
+
+const SCRIPT_PLAN: &str = "1 batch 0 after -\n2 batch 1 after 1\nbatches 2\n";
+
+fn planned(alloc: Global) -> Option<Verdict> {
+    let mut output = room(alloc)?;
+    let right = plans_stream(alloc, &mut output);
+    Some(judged(right, SCRIPT_PLAN.as_bytes().starts_with(output.as_slice())))
+}
+
+fn plans_stream(alloc: Global, output: &mut Vec<u8>) -> Option<bool> {
+    let mut source = SCRIPT.as_bytes();
+    mark(alloc);
+    let done = plan_stream(alloc, &mut source, output);
+    mark(alloc);
+    is_written(done, output.as_slice(), SCRIPT_PLAN)
 }
 
 fn runs_stream<R: Threads + Wait + Copy + Send + 'static>(

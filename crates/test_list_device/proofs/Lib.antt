@@ -1,0 +1,4 @@
+pub mod Calls
+pub mod Mapped
+pub mod Sets
+pub mod Sorting

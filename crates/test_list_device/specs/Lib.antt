@@ -1,0 +1,4 @@
+pub mod Entries
+pub mod Sets
+pub mod Shown
+pub mod News
