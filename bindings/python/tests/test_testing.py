@@ -113,7 +113,7 @@ def runs_of_a_machine():
 
 RUNS = 100
 # Of a hundred runs, in how many this has to happen at least: some half of what was counted
-LEAST = {"waiting": 40, "removed": 30, "handed": 30, "pulled back": 25, "taken": 20, "dropped": 4, "conflict": 4}
+LEAST = {"waiting": 40, "removed": 30, "handed": 30, "pulled back": 25, "taken": 20, "dropped": 2, "conflict": 4}
 
 
 @pytest.mark.parametrize("draw", [runs_of_strategies, runs_of_a_machine])

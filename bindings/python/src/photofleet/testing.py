@@ -187,9 +187,9 @@ def commands(standing: Standing) -> st.SearchStrategy[Change]:
     if standing.held_by():
         kinds += [edits(standing), removals(standing, 2 if standing.held_by(2) else 1)]
     if standing.held_by(2):
-        kinds.append(edits(standing, 2))
+        kinds += [edits(standing, 2)] * 3
     if standing.rivals():
-        kinds += [rival_edits(standing)] * 2
+        kinds += [rival_edits(standing)] * 4
     if any(standing.narrower(it) for it in standing.filters):
         kinds.append(narrowings(standing))
     kinds.append(refilterings(standing))
