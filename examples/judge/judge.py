@@ -82,7 +82,7 @@ TESTS = {
     "The engine as it is": (Household, engine.Device, 200, 1),
     "A removal that comes back": (ShownWithoutEdits, engine.ForgetsRemovals, 5000, 4),
     "An edit that is lost in a conflict": (Shown, engine.LastWriterWins, 5000, 2),
-    "A version that is believed to be seen": (Shown, engine.CountsWhatItSaw, 5000, 4),
+    "A version that is believed to be seen": (Shown, engine.CountsWhatItSaw, 5000, 8),
 }
 
 

@@ -4,11 +4,11 @@
 and after each step it compares that with the judge. `devices`, `filters`, `records`, `commands` and `runs` are its
 strategies, for tests of another form.
 
-What is drawn is meant to bite. Most runs that are drawn evenly test nothing: pictures that one device alone holds, pulls
-that move nothing. So there are few pictures, whose edits meet; edits and removals are of what a device holds, most of
-them of what two devices hold, and after an edit another holder often edits the same, which makes conflicts; a pull is often followed by the one in the other direction, or by one of
-the same source by a third device; and filters overlap, so that a version is kept here, waits there and is only noticed
-elsewhere. Every command is one that the fleet can take as it stands, so that no step is lost to a refusal.
+What is drawn is meant to bite. Evenly drawn runs mostly test nothing: one device alone holds a picture, and pulls move nothing.
+So there are few pictures. Edits and removals are of what a device holds, most often of what two devices hold. After an edit
+another holder often edits the same, which makes a conflict. After a pull often comes the pull back, or one of the same source
+by a third device. Filters overlap, so that a version is kept here, waits there and is only noticed elsewhere. The fleet can
+take every command as it stands, so no step is lost to a refusal.
 """
 from __future__ import annotations
 
@@ -187,9 +187,9 @@ def commands(standing: Standing) -> st.SearchStrategy[Change]:
     if standing.held_by():
         kinds += [edits(standing), removals(standing, 2 if standing.held_by(2) else 1)]
     if standing.held_by(2):
-        kinds.append(edits(standing, 2))
+        kinds += [edits(standing, 2)] * 3
     if standing.rivals():
-        kinds += [rival_edits(standing)] * 2
+        kinds += [rival_edits(standing)] * 4
     if any(standing.narrower(it) for it in standing.filters):
         kinds.append(narrowings(standing))
     kinds.append(refilterings(standing))
@@ -272,6 +272,10 @@ class JudgedMachine(RuleBasedStateMachine):
     def view(self, held: Held) -> Any:
         """What is compared of a version that the judge's device holds; None where the engine doesn't have its like."""
         return held
+
+    def views(self, device: str, held: Sequence[Held]) -> Iterable[Any]:
+        """The same of all versions that the judge's device holds, for an engine that keeps one of several: `view` of each."""
+        return [it for it in map(self.view, held) if it is not None]
 
     def new(self, device: str, picture: int, record: Record) -> object:
         raise NotImplementedError
@@ -410,7 +414,7 @@ class JudgedMachine(RuleBasedStateMachine):
 
     def _compare_all(self) -> None:
         for name, held in self._now().held.items():
-            judged = [it for it in map(self.view, held) if it is not None]
+            judged = list(self.views(name, held))
             own = list(self.holds(name))
             if Counter(own) != Counter(judged):
                 raise Difference(self._now(), f"{name} holds", sorted(map(str, own)), sorted(map(str, judged)))
