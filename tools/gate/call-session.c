@@ -76,13 +76,13 @@ static int make(call_with_bytes *call, const uint8_t *bytes, size_t length, size
     }
 }
 
-/* a line is asked, then given to too little room, and then given */
+/* a line is asked, then given to too little room, of several sizes where no memory is refused, and then given */
 static int give(const uint8_t *line, size_t length) {
     static uint8_t asked[ROOM];
     if (make(photofleet_ask, line, length, ROOM) != PHOTOFLEET_DONE) return WRONG;
     size_t all = written;
     memcpy(asked, told, all);
-    for (size_t room = 0; room < all; room += room + 1)
+    for (size_t room = 0; room < all; room = getenv("REFUSE") ? all : 2 * room + 1)
         if (make(photofleet_give, line, length, room) != PHOTOFLEET_TOO_SMALL || written != all
             || make(photofleet_ask, line, length, room) != PHOTOFLEET_TOO_SMALL || written != all) return WRONG;
     if (make(photofleet_give, line, length, all) != PHOTOFLEET_DONE || written != all || memcmp(told, asked, all)) return WRONG;
