@@ -18,16 +18,26 @@ mod values;
 use std::io::Read;
 use std::process::ExitCode;
 use std::{env, io};
+use told::tell;
 
 fn main(rt: HostRuntime) -> ExitCode {
-    ExitCode::from(u8::from(!is_done(rt)))
+    let Some(source) = made(rt) else {
+        return ExitCode::from(1);
+    };
+    let streamed = streams::runs_stream(rt, rt.alloc(), &source);
+    let run = streams::runs(rt, rt.alloc(), &source);
+    ExitCode::from(u8::from(tell_runs(rt, streamed, run).is_err()))
 }
 
-fn is_done(rt: HostRuntime) -> bool {
-    match count_of(rt) {
-        Some(count) => make_all(rt, count).is_ok(),
-        None => false,
-    }
+fn tell_runs(rt: HostRuntime, streamed: bool, run: bool) -> io::Result<()> {
+    tell(rt, "fleet_runner::run_stream", streamed)?;
+    tell(rt, "fleet_workers::run_fleet", run)
+}
+
+// Makes all calls but the runs by workers, and gives the script of standard input.
+fn made(rt: HostRuntime) -> Option<Vec<u8>> {
+    let count = count_of(rt)?;
+    make_all(rt, count).ok()
 }
 
 // The number that is the one word of the command line.
@@ -39,18 +49,15 @@ fn count_of(rt: HostRuntime) -> Option<u32> {
     }
 }
 
-fn make_all(rt: HostRuntime, count: u32) -> io::Result<()> {
+fn make_all(rt: HostRuntime, count: u32) -> io::Result<Vec<u8>> {
     values::make(rt, count)?;
     knowledges::make(rt, count)?;
     devices::make(rt, count)?;
     pulls::make(rt, count)?;
     fleets::make(rt, count)?;
-    make_on_input(rt)
-}
-
-fn make_on_input(rt: HostRuntime) -> io::Result<()> {
     let mut source = Vec::new(rt.alloc());
     rt.stdin().read_to_end(&mut source)?;
     scripts::make(rt, &source)?;
-    streams::make(rt, &source)
+    streams::make(rt, &source)?;
+    Ok(source)
 }

@@ -10,20 +10,14 @@ use std::io;
 use std::sync::{Arc, Wait};
 use std::thread::Threads;
 
-/// Makes them on the script of these bytes.
+/// Makes those on one thread on the script of these bytes.
 pub fn make(rt: HostRuntime, source: &[u8]) -> io::Result<()> {
     let mut reader = source;
     let mut output = Vec::new(rt.alloc());
     let done = plain_stream(rt.alloc(), &mut reader, &mut output).is_ok();
     tell(rt, "fleet_runner::plain_stream", done)?;
-    let done = runs_stream(rt, rt.alloc(), source);
-    tell(rt, "fleet_runner::run_stream", done)?;
     match read_script(rt.alloc(), source) {
-        Ok(script) => {
-            in_orders(rt, source, &script)?;
-            let done = runs(rt, rt.alloc(), script);
-            tell(rt, "fleet_workers::run_fleet", done)
-        }
+        Ok(script) => in_orders(rt, source, &script),
         Err(_) => Ok(()),
     }
 }
@@ -41,7 +35,8 @@ fn in_orders(rt: HostRuntime, source: &[u8], script: &Script) -> io::Result<()> 
     tell(rt, "fleet_runner::replay_stream", done)
 }
 
-fn runs_stream<R: Threads + Wait + Copy + Send + 'static>(
+/// Whether the run of the script by 256 workers is written.
+pub fn runs_stream<R: Threads + Wait + Copy + Send + 'static>(
     rt: R,
     alloc: Global,
     source: &[u8],
@@ -56,7 +51,23 @@ fn runs_stream<R: Threads + Wait + Copy + Send + 'static>(
     }
 }
 
-fn runs<R: Threads + Wait + Copy + Send + 'static>(rt: R, alloc: Global, script: Script) -> bool {
+/// Whether the script runs by 256 workers.
+pub fn runs<R: Threads + Wait + Copy + Send + 'static>(
+    rt: R,
+    alloc: Global,
+    source: &[u8],
+) -> bool {
+    match read_script(alloc, source) {
+        Ok(script) => runs_script(rt, alloc, script),
+        Err(_) => false,
+    }
+}
+
+fn runs_script<R: Threads + Wait + Copy + Send + 'static>(
+    rt: R,
+    alloc: Global,
+    script: Script,
+) -> bool {
     match (
         Workers::new(256),
         Arc::new(alloc, OpenGate),
