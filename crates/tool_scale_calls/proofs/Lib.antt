@@ -1,2 +1,0 @@
-mod TableLemmas
-pub mod Ready
