@@ -9,6 +9,7 @@ further byte or declarations above the limit. Among what is told of these have t
 of a text, and a tenth each of the pulls has to take, be handed, notice, drop and learn something. The last line is
 'N passed, M failed'.
 """
+import os
 import ctypes
 import glob
 import random
@@ -16,6 +17,7 @@ import re
 import subprocess
 import sys
 
+sys.path.insert(0, f"{os.path.dirname(os.path.dirname(os.path.abspath(__file__)))}/lib")
 from drawn_scripts import Pulls, drawn
 
 LIBRARY, PROGRAM, EXAMPLES = ctypes.CDLL(sys.argv[1]), sys.argv[2], sys.argv[3]
