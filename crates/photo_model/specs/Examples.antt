@@ -11,7 +11,7 @@ use Rattle.photo_model.specs.Entry.{Entry}
 use Rattle.photo_model.specs.Device.{ModelDevice}
 use Rattle.photo_model.specs.Pull.{taken, handed, noticed, is_up_to_date, IsTaughtNothing, pulled, handed_over, counts_of}
 
--- the version that a device made as its number-th, in epoch 0
+-- the number-th version of a device in epoch 0
 abbrev pub nth : ℕ → ℕ → Version
 nth place number = version (author place) number
 
@@ -76,7 +76,7 @@ tidy = knowing ((author 0, 1) ∷ (author 1, 1) ∷ []) phone
 abbrev pub choosy : ModelDevice → ModelDevice
 choosy m = record m { tree = Rate AtLeast 4 }
 
--- a device that knows what it knew and holds nothing
+-- the device with its knowledge, but holding nothing
 abbrev pub emptied : ModelDevice → ModelDevice
 emptied m = record m { store = []; out = [] }
 
