@@ -33,8 +33,8 @@
 //!   ```
 //!
 //! - A share moves to a thread by value and comes back; the `Arc` of the ledger is shared. A function that starts threads
-//!   bounds `B: Books + Send + Sync + 'static`. A thread's promise (`spawn_with`) states its share when it comes back: `share ≡
-//!   stake 1 none_left done`, where `done` is what it had to count.
+//!   bounds `B: Books + Send + Sync + 'static`. A thread's promise (`spawn_with`) states its share when it comes back:
+//!   `share ≡ stake 1 none_left done`, where `done` is what it had to count.
 //! - [`Share::join`] requires that both shares together were given at most 100,000 commands of each kind. A caller that splits
 //!   off a share and joins it again gets this from [`Share::left`], called before the split, whose contract says it of every
 //!   share.
