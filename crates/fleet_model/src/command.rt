@@ -6,7 +6,7 @@ use photo_version::Version;
 /// A command of a script. A device is given by its place in order of declaration, from 0.
 #[derive(Debug, Drop)]
 pub enum Command {
-    /// `new`: the device makes a version of a picture, whether it holds one or not.
+    /// `new`: the device makes a version of a picture; it needn't hold one.
     New {
         device: u16,
         picture: PicNo,

@@ -1,4 +1,5 @@
--- Covering: by their alternatives, one filter selects whatever another selects. The converse fails: it may do so and not cover.
+-- Covering: the alternatives of two filters show that one selects whatever the other selects. It may do so without covering the
+-- other.
 use Rattle.std.specs.Prelude.{Bool, ◌&&◌, int_le, List}
 use Rattle.std.specs.List.{list_any, list_all}
 use Rattle.photo_record.specs.Word.{has_word}

@@ -7,7 +7,8 @@ pub enum FilterFault {
     /// The text has no token.
     #[error("Empty")]
     Empty,
-    /// No filter begins with the tokens up to this one, which is counted from 1 and doesn't stand where a word must come.
+    /// No filter begins with the tokens up to this one, counted from 1. It is a bracket, or it stands where no word has to
+    /// come.
     #[error("Unexpected {0}")]
     Unexpected(usize),
     /// The tokens begin a filter but aren't one.

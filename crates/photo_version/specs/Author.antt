@@ -1,7 +1,7 @@
 -- Authors: devices in their epochs.
 use Rattle.std.specs.Prelude.{ℕ, ◌+◌, ◌*◌, ◌/◌, ◌%◌, Bool, ◌==◌, ◌&&◌, nat_lt}
 
--- an author, a device in one of its epochs, coded as one number: device * 4294967296 + epoch
+-- an author: a device in one of its epochs, coded as device * 4294967296 + epoch, so that each number is one author
 pub record Author : Type 0 where
   pub word : ℕ
 

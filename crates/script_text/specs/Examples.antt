@@ -43,8 +43,8 @@ camera x = contents (codes "cam" ∷ []) (All ∷ []) (x ∷ [])
 abbrev pub worded : List ℕ → Command
 worded word = command.New 0 7 (content.Picture 5 (pos 19_844) (word ∷ []))
 
--- scripts that aren't read back from their texts: with the word `-` alone, with a great version number, and with a removed
--- picture
+-- the empty script has the empty text; and texts that aren't read as their scripts: with the word `-` alone, with a great
+-- version number or epoch, and with a removed picture
 pub record NotAgain : Type 0 where
   pub empty : text_of_script (contents [] [] []) ≡ []
   pub dash : script_of (text_of_script (camera (worded (codes "-")))) ≡ Ok (camera (command.New 0 7 (content.Picture 5 (pos 19_844) [])))
