@@ -85,7 +85,7 @@ impl Day {
     }
 }
 
-// The value of one to four ASCII digits; `None` if the text is anything else.
+// What digits alone stand for, of which there are one to four.
 fn digits(text: &[u8]) -> Option<u16>
     requires { length text.now ≤ 4 }
     ensures { result ≡ (if is_number text.now then Some (number text.now) else None) }
