@@ -1,4 +1,5 @@
--- Sound and kept, for a log of all versions made: each device stores just what it has to store, and no current version is lost.
+-- What is promised of devices, for a log of all versions made: they are sound, and what is current is kept.
+-- Each device stores just what it has to store, and no current version is lost.
 use Rattle.std.specs.Prelude.{◌≡◌, ℕ, ◌≤◌, Bool, true, false, not, ◌&&◌, List, filter, count_by}
 use Rattle.std.specs.List.{list_any, list_all}
 use Rattle.photo_version.specs.Version.{Version, same_version}
@@ -37,8 +38,9 @@ is_kept log devices = list_all (is_held_by devices) (current log)
 abbrev pub occurrences : Version → List Entry → ℕ
 occurrences v entries = count_by (λ e. same_version e.version v) entries
 
--- all devices are sound; some device holds each current version; held entries are in the log; the log has each version at most
--- once; no device holds a version beside one that supersedes it; and a device that knows an entry of the log knows its history
+-- all devices are sound; some device holds each current version; held entries are in the log; the log has each version at
+-- most once; no device holds a version beside one that supersedes it; and a device that knows an entry of the log knows all of
+-- that entry's history
 pub record IsSoundAndKept (fleet : Fleet) : Type 0 where
   pub sound : list_all (is_sound fleet.log) fleet.devices ≡ true
   pub kept : is_kept fleet.log fleet.devices ≡ true

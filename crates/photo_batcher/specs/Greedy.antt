@@ -1,4 +1,4 @@
--- For the proofs: a command's batch, and the command that it goes after, from the last commands on its devices.
+-- Machinery of the proofs: a command's batch, and the command that it goes after, from the last commands on its devices.
 use Rattle.std.specs.Prelude.{◌≡◌, ℕ, zero, suc, ◌+◌, ◌<◌, max, if◌then◌else◌, nat_lt, Option, Some, None}
 use Rattle.fleet_model.specs.Contents.{Contents, command_of, devices_of}
 use Rattle.fleet_model.specs.declared.command.Command.{Command}

@@ -14,7 +14,8 @@ abbrev pub KeepsOrder : Contents → List ℕ → Type 0
 KeepsOrder script [] = Unit {0}
 KeepsOrder script (m ∷ more) = AllByRecursion (λ n. AreRelated script m n → m < n) more × KeepsOrder script more
 
--- a lawful order: it has each command's number once and no other number, and related commands are in order
+-- a lawful order: it has the number of each command of the script once, and no other number;
+-- and related commands stand in the order of their numbers
 pub record IsLawful (script : Contents) (order : List ℕ) : Type 0 where
   pub numbers : AllByRecursion (IsNumber script) order
   pub once : (n : ℕ) → IsNumber script n → times n order ≡ 1

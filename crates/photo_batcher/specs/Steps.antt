@@ -1,4 +1,4 @@
--- For the proofs: plans, orders and chains in progress.
+-- Machinery of the proofs: plans, orders and chains in progress.
 use Rattle.std.specs.Prelude.{◌≡◌, true, ℕ, suc, ◌<◌, ◌≤◌, ◌==◌, if◌then◌else◌, List, [], ◌∷◌, ◌++◌, length, slice_index_or, reverse, Option, Some, None, IfSome, slice_index, slice_set}
 use Rattle.std.specs.List.{AllByRecursion}
 use Rattle.fleet_model.specs.Contents.{Contents, command_of, devices_of}

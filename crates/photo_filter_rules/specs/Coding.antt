@@ -1,5 +1,5 @@
--- For the proofs only: a tree as a list of marks, each part before the tree that it belongs to, and back. With it a proof tells
--- trees apart.
+-- Machinery of the proofs: a tree as a list of marks, each part before the tree that it belongs to, and back. With it a proof
+-- tells trees apart.
 use Rattle.std.specs.Prelude.{◌≡◌, ℕ, ℤ, pos, refl, List, [], ◌∷◌, ◌++◌, if◌then◌else◌, ◌==◌}
 use Rattle.std.specs.Coded.{Coded, code_by, coded×, coded_ℕ, coded_ℤ, coded_list}
 use Rattle.std.proofs.Common.{◌∙◌, ap, sym, append_assoc, append-nil}

@@ -1,5 +1,4 @@
--- Covering: the alternatives of two filters show that one selects whatever the other selects. It may do so without covering the
--- other.
+-- Covering: by their alternatives, one filter selects whatever another selects. It may do so without covering the other.
 use Rattle.std.specs.Prelude.{Bool, ◌&&◌, int_le, List}
 use Rattle.std.specs.List.{list_any, list_all}
 use Rattle.photo_record.specs.Word.{has_word}

@@ -1,4 +1,4 @@
--- For the proofs only: where the code cuts a text. `Tokens` defines the tokens of the language.
+-- Machinery of the proofs: where the code cuts a text. `Tokens` defines the tokens of the language.
 use Rattle.std.specs.Prelude.{ℕ, Bool, true, ◌||◌, not, List, [], ◌∷◌}
 use Rattle.photo_filter_text.specs.Tokens.{is_space, is_bracket_byte}
 

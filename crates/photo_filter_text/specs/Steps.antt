@@ -1,5 +1,5 @@
--- For the proofs only: the reader's steps, one token each. Private contracts alone cite them; `Grammar`, `Fronts` and `Fault`
--- define filters and their faults.
+-- Machinery of the proofs: the reader's steps, one token each. Private contracts alone cite them; `Grammar`, `Fronts` and
+-- `Fault` define filters and their faults.
 use Rattle.std.specs.Prelude.{ℕ, suc, zero, ◌+◌, Bool, true, false, not, ◌||◌, ◌&&◌, nat_lt, if◌then◌else◌, List, [], ◌∷◌, map, reverse, Option, Some, None, is_some, option_map, Result, Ok, Err, codes}
 use Rattle.std.specs.Str.{bytes_eq}
 use Rattle.photo_record.specs.Reading.{rating_of_text, day_of_text, word_of_text}

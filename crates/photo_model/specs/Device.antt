@@ -10,9 +10,8 @@ use Rattle.photo_model.specs.declared.place.Place.{Place}
 use Rattle.photo_model.specs.declared.place.Place.TheVariants.{Store, Out}
 use Rattle.photo_model.specs.Entry.{Entry, others, put_entry_if, put_entries, without}
 
--- a device as the definitions see it: its author, its filter's tree, the number of versions that it has made, the entries that
--- it holds, and the versions that it knows, some for every picture and some for single pictures. Every run keeps store and out
--- in the order of entries
+-- a device: its author, its filter's tree, how many versions it has made, what it holds, and which versions it knows, for every
+-- picture or for single ones. Every run keeps store and out in the order of entries
 pub record ModelDevice : Type 0 where
   pub author : Author
   pub tree : Tree
@@ -70,8 +69,7 @@ place_for tree content = if matches tree content then Store else Out
 abbrev pub new_place : ModelDevice → Record → Place
 new_place m content = place_for m.tree content
 
--- the device after it made a version: the entries of the picture leave, the new entry comes in, and the device knows its
--- version for every picture
+-- the picture's entries leave, the new entry comes in, and the device knows the new version for every picture
 abbrev pub made : ModelDevice → ℕ → Record → ModelDevice
 made m picture content = record m {
   counter = m.counter + 1;

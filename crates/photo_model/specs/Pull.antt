@@ -32,8 +32,7 @@ learns_all t s = covers s.tree t.tree
 abbrev pub is_stale : ModelDevice → ModelDevice → Entry → Bool
 is_stale t s e = learns_all t s && (knows_entry s e && not (is_among s.store e.version))
 
--- the target is up to date: it knows all that the source holds and stores nothing stale, so a pull tells it no version and it
--- gives up none
+-- the target knows all that the source holds and stores nothing stale, so a pull tells it nothing and it gives up nothing
 abbrev pub is_up_to_date : ModelDevice → ModelDevice → Bool
 is_up_to_date t s = not (list_any (λ e. not (knows_entry t e)) (holds s)) && not (list_any (is_stale t s) t.store)
 

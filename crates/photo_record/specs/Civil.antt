@@ -1,4 +1,4 @@
--- For the proofs: the parts of a date of `jiff_core`, which a private function takes apart.
+-- Machinery of the proofs: the parts of a date of `jiff_core`, which a private function takes apart.
 use Rattle.std.specs.Prelude.{◌≡◌, pos}
 use Rattle.jiff_core.specs.declared.civil.date.Date.{Date}
 use Rattle.photo_record.specs.Calendar.{Civil}

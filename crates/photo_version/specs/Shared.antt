@@ -1,4 +1,4 @@
--- For the proofs: the list behind an optional shared pointer; without a pointer it is empty.
+-- Machinery of the proofs: the list behind an optional shared pointer; without a pointer it is empty.
 use Rattle.std.specs.Prelude.{List, [], Option, None, Some}
 use Rattle.std.specs.Arc.{arc_value}
 use Rattle.std.specs.declared.sync.Arc.{Arc}

@@ -1,4 +1,4 @@
--- For the proofs: which parts of a script's text are within the limits. Only contracts of private functions cite this.
+-- Machinery of the proofs: which parts of a script's text are within the limits. Only contracts of private functions cite this.
 use Rattle.std.specs.Prelude.{ℕ, List, [], ◌∷◌}
 use Rattle.photo_filter_text.specs.Tree.{Tree}
 use Rattle.photo_filter_rules.specs.Filters.{IsFilterOf}
