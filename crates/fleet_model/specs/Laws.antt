@@ -9,7 +9,7 @@ use Rattle.fleet_model.specs.Sound.{IsSoundAndKept}
 abbrev pub StaysSoundAndKept : Type 0
 StaysSoundAndKept = (script : Contents) (n : ℕ) → IsScript script → IsSoundAndKept (run_in_order script (numbers_to n))
 
--- the same holds after any commands of the script in any order, repeated or not, up to 4,294,967,295 of them: a device can
--- begin that many epochs
+-- `IsSoundAndKept` holds after any commands of the script in any order, repeated or not, up to 4,294,967,295 of them: a device
+-- can begin that many epochs
 abbrev pub StaysSoundInAnyOrder : Type 0
 StaysSoundInAnyOrder = (script : Contents) (numbers : List ℕ) → IsScript script → length numbers ≤ 4_294_967_295 → IsSoundAndKept (run_in_order script numbers)

@@ -49,6 +49,6 @@ pub record IsSoundAndKept (fleet : Fleet) : Type 0 where
   pub no_older : (d : ModelDevice) (w v : Entry) → In d fleet.devices → In w (holds d) → In v (holds d) → supersedes w v ≡ false
   pub whole : (d : ModelDevice) (w : Entry) (v : Version) → In d fleet.devices → In w fleet.log → knows_entry d w ≡ true → w.history v ≡ true → known d w.picture v ≡ true
 
--- this holds before the first command of the script and after each command
+-- `IsSoundAndKept` holds before the first command of the script and after each command
 abbrev pub IsSoundThroughout : Contents → Type 0
 IsSoundThroughout script = (n : ℕ) → IsSoundAndKept (run_in_order script (numbers_to n))

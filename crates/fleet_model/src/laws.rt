@@ -10,7 +10,8 @@ pub fn stays_sound_and_kept()
     ensures { StaysSoundAndKept }
 {}
 
-/// The same holds after any commands of a script in any order, up to 4,294,967,295 of them, with the log in that order.
+/// Runs in any other order are sound and keep what is current too: any commands of a script, repeated or not, up to
+/// 4,294,967,295 of them, with the log in that order.
 pub fn stays_sound_in_any_order()
     ensures { StaysSoundInAnyOrder }
 {}

@@ -4,7 +4,7 @@ use Rattle.photo_version.specs.Version.{Version}
 use Rattle.photo_model.specs.Entry.{Entry, put_entries}
 use Rattle.photo_model.specs.Device.{ModelDevice}
 
--- a picture with its held versions, in order; there are two or more
+-- a picture with its held versions, in order; a conflict has two or more
 pub record Conflict : Type 0 where
   pub picture : ℕ
   pub versions : List Version
