@@ -35,7 +35,7 @@ abbrev pub joined : List Bound → List Bound → List Bound
 joined [] others = others
 joined (b ∷ bounds) others = raised b (joined bounds others)
 
--- every version of the first bounds is in the set of the others: the last of each bound is
+-- the last version of each bound is in the set of the others, and so are all versions of the bounds
 abbrev pub is_within : List Bound → List Bound → Bool
 is_within bounds others = list_all (λ b. denotes others (version b.0 b.1)) bounds
 
