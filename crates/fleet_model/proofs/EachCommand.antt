@@ -1,4 +1,4 @@
--- What making, narrowing, refiltering and pulling keep is true of a run after each of its commands.
+-- A fact that each command keeps holds after every run.
 use Rattle.std.proofs.Common.{◌≡◌, ℕ, zero, suc, ◌+◌, ◌<◌, ◌≤◌, Bool, true, false, if◌then◌else◌, List, [], ◌∷◌, ◌++◌, inl, inr, length, set, refl, sym, ap, ◌∙◌, subst, subst₂, add-one, arith}
 use Rattle.std.specs.Prelude.{Some, None, IfSome, slice_get, fold}
 use Rattle.std.specs.List.{AllByRecursion}
@@ -24,7 +24,7 @@ use Rattle.fleet_model.proofs.Effects.{all_at, all_are}
 use Rattle.fleet_model.proofs.Places.{two_set}
 use Rattle.fleet_model.proofs.Runs.{long_after, one_later, makes_one_more, opening_at_most}
 
--- a test of records, and a fact on a log and devices that each step keeps where the records of new entries pass
+-- a fact on a log and its devices that each step keeps, provided that the records of new entries pass the test `Fits`
 pub record IsKept (Fits : Record → Type 0) (P : List Entry → List ModelDevice → Type 0) : Type 0 where
   pub removed : Fits Removed
   pub making : (log : List Entry) (ds : List ModelDevice) (k p : ℕ) (r : Record) → P log ds → k < length ds → Fits r → P (log ++ new_entry (device_at ds k) p r ∷ []) (set ds k (made (device_at ds k) p r))
@@ -32,11 +32,11 @@ pub record IsKept (Fits : Record → Type 0) (P : List Entry → List ModelDevic
   pub refiltering : (log : List Entry) (ds : List ModelDevice) (k : ℕ) (tree : Tree) → P log ds → k < length ds → epoch_of_author (device_at ds k).author < 4294967295 → P log (set ds k (refiltered tree (device_at ds k)))
   pub pulling : (log : List Entry) (ds : List ModelDevice) (t s : ℕ) → P log ds → t < length ds → s < length ds → (t ≡ s → ⊥) → P log (two_set ds t (pulled (device_at ds t) (device_at ds s)) s (handed_over (device_at ds t) (device_at ds s)))
 
--- the record of a command passes, if it has one
+-- the command's record passes, if it has one
 abbrev pub FitsAll : (Record → Type 0) → Command → Type 0
 FitsAll Fits c = IfSome (record_of c) Fits
 
--- the fact, with as many devices as there were, none of which has made more than so many versions or begun more epochs
+-- the fact holds; there are `count` devices; each made at most `most` versions in its epoch, and its epoch is at most `most`
 pub record IsAfter (P : List Entry → List ModelDevice → Type 0) (count most : ℕ) (log : List Entry) (devices : List ModelDevice) : Type 0 where
   pub fact : P log devices
   pub long : length devices ≡ count
@@ -45,11 +45,11 @@ pub record IsAfter (P : List Entry → List ModelDevice → Type 0) (count most 
 pub all_got : {X : Type 0} (Q : X → Type 0) (xs : List X) (k : ℕ) (x : X) → AllByRecursion Q xs → slice_get xs k ≡ Some x → Q x
 all_got Q xs k x all here = subst Q (get_or_from_slice_get xs k x x here) (all_at Q xs k x all (slice_get_within xs k x here))
 
--- a narrowing that is done
+-- the effect of a narrowing that takes place
 abbrev pub narrowed_effect : ModelDevice → Tree → Effect
 narrowed_effect d tree = record { first = narrowed tree d; second = None; report = Exactly (Narrowed (moved tree d)); entries = [] }
 
--- the command of a number, and none
+-- what a step does where the script has a command of that number, and where it has none
 pub stepped : (script : Contents) (fleet : Fleet) (n : ℕ) (c : Command) → slice_get script.commands n ≡ Some c → step script fleet (suc n) ≡ after_command fleet (suc n) c
 stepped script fleet n c here = rw here refl
 
@@ -64,7 +64,7 @@ module _ (Fits : Record → Type 0) (P : List Entry → List ModelDevice → Typ
   by_telling : (log : List Entry) (ds : List ModelDevice) (k : ℕ) → P log ds → P (log ++ []) (set ds k (device_at ds k))
   by_telling log ds k old = subst₂ P (sym (append-nil log)) (sym (set-get_or ds k (opening (author k) All))) old
 
-  -- one of two effects on a device alone
+  -- for one device: either of two effects keeps the fact
   by_either : (log : List Entry) (ds : List ModelDevice) (k : ℕ) (x y : Effect) (b : Bool)
       → (b ≡ true → P (log ++ x.entries) (set ds k x.first))
       → P (log ++ y.entries) (set ds k y.first)
@@ -94,7 +94,7 @@ module _ (Fits : Record → Type 0) (P : List Entry → List ModelDevice → Typ
   by_pulling log ds t s old h k apart =
       subst (λ (l : List Entry). P l (two_set ds t (pulled (device_at ds t) (device_at ds s)) s (handed_over (device_at ds t) (device_at ds s)))) (sym (append-nil log)) (K.pulling log ds t s old h k apart)
 
-  -- both devices of a preview are set to themselves
+  -- a preview sets both of its devices to themselves
   by_previewing : (log : List Entry) (ds : List ModelDevice) (t s : ℕ) → P log ds → P (log ++ []) (two_set ds t (device_at ds t) s (device_at ds s))
   by_previewing log ds t s old =
       let first : set ds t (device_at ds t) ≡ ds = set-get_or ds t (opening (author t) All) in
@@ -130,7 +130,7 @@ module _ (Fits : Record → Type 0) (P : List Entry → List ModelDevice → Typ
     opened : IsAfterThem 0 (opening_fleet script)
     opened = record { fact = first; long = length_opening 0 script.filters ∙ is.filtered; few = opening_at_most script.filters 0 }
 
-    -- the command of a number, if there is one
+    -- one step, whether or not the script has a command of that number
     by_step : (n most : ℕ) (fleet : Fleet) → (n < length script.commands → most < 4_294_967_295) → IsAfterThem most fleet → IsAfterThem (most + 1) (step script fleet (suc n))
     by_step n most fleet below old = elim (slice_get_cases script.commands n).1 [
       | inl found ↦
@@ -149,7 +149,7 @@ module _ (Fits : Record → Type 0) (P : List Entry → List ModelDevice → Typ
         (subst (λ (m : ℕ). IsAfterThem m (step script (run_in_order script (numbers_to n)) (suc n))) (add-one n)
         (by_step n n (run_in_order script (numbers_to n)) (λ below. omega (arith, few, below)) (after_each n)))
 
-    -- the same of any numbers, in any order
+    -- any numbers in any order
     after_from : (numbers : List ℕ) (most : ℕ) (fleet : Fleet) → most + length numbers ≤ 4_294_967_295 → IsAfterThem most fleet → IsAfterThem (most + length numbers) (fold (step script) fleet numbers)
     after_from [] most fleet below old = subst (λ (m : ℕ). IsAfterThem m fleet) (omega arith) old
     after_from (zero ∷ more) most fleet below old =

@@ -1,4 +1,4 @@
--- What holds of all devices, and what a command leaves of a second one.
+-- Facts about all devices, and what a command does to its second device.
 use Rattle.std.proofs.Common.{◌≡◌, ℕ, zero, suc, ◌<◌, true, false, cond, List, [], ◌∷◌, ◌++◌, length, get_or, set, refl, arith}
 use Rattle.std.specs.Prelude.{Option}
 use Rattle.std.specs.List.{AllByRecursion}
@@ -27,11 +27,11 @@ all_at P [] k d all h = absurd (omega arith)
 all_at P (y ∷ ys) zero d all h = all.0
 all_at P (y ∷ ys) (suc k) d all h = all_at P ys k d all.1 (omega arith)
 
--- the effect where the filter is narrowed
+-- the effect of a narrowing that takes place
 abbrev pub narrowed_effect : ModelDevice → Option ModelDevice → Tree → Effect
 narrowed_effect d other tree = record { first = narrowed tree d; second = other; report = Exactly (Narrowed (moved tree d)); entries = [] }
 
--- a command on one device leaves a second as it was
+-- a command on one device leaves the second unchanged
 pub changing_second : (d : ModelDevice) (other : Option ModelDevice) (picture : ℕ) (content : Record) → (changing d other picture content).second ≡ other
 changing_second d other picture content =
     elim (is_held d picture) as (λ b. (cond b (making d other picture content) (telling d other (Exactly NotHeld))).second ≡ other) [ true ↦ refl | false ↦ refl ]

@@ -1,4 +1,4 @@
--- What a device holds and knows after it made a version, and what of it is new.
+-- What a device holds and knows after it made a version.
 use Rattle.std.proofs.Common.{◌≡◌, ℕ, true, false, not, ◌||◌, ◌==◌, List, ◌⊎◌, inl, inr, refl, sym}
 use Rattle.std.proofs.lemmas.Bool.{or_cases, or_left, or_right, not-true, not_from_false}
 use Rattle.photo_record.specs.declared.record.Record.{Record}

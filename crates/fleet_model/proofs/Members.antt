@@ -1,4 +1,4 @@
--- What is in a list that `++`, `filter`, `put` and `put_entries` made, and what tests on lists say of what is in them.
+-- Members of lists that `++`, `filter`, `put` and `put_entries` make, and what tests on lists say of members.
 use Rattle.std.proofs.Common.{◌≡◌, Bool, true, false, cond, List, [], ◌∷◌, ◌++◌, ◌⊎◌, inl, inr, filter, refl, sym, ap, ◌∙◌, arith}
 use Rattle.std.specs.List.{list_any, list_all}
 use Rattle.std.proofs.lemmas.Bool.{or_cases, or_left, or_right, and_from}
@@ -30,7 +30,7 @@ in_cond true (here e) = inr (e, refl)
 in_cond true (there i) = inl i
 in_cond false i = inl i
 
--- what passed a test
+-- a member of the filtered list is a member that passed the test
 pub in_passed : {X : Type 0} {x : X} (p : X → Bool) (xs : List X) → In x (filter p xs) → In x xs × (p x ≡ true)
 in_passed p [] i = in_nothing i
 in_passed p (y ∷ xs) i = elim (in_cond (p y) i) [
@@ -65,7 +65,7 @@ pub all_from : {X : Type 0} (p : X → Bool) (xs : List X) → ((x : X) → In x
 all_from p [] h = refl
 all_from p (y ∷ xs) h = and_from _ _ (h y (here refl)) (all_from _ _ (λ x i. h x (there i)))
 
--- an inserted entry is in the list, and so is all that was; nothing else is
+-- the list with an entry inserted has that entry and the old members, and nothing else
 pub put_is_in : {x e : Entry} (xs : List Entry) → x ≡ e → In x (put_entry e xs)
 put_is_in [] h = here h
 put_is_in {x = x} {e = e} (y ∷ xs) h = go (entry_before y e) (put_is_in xs h)
@@ -109,7 +109,7 @@ pub stays_in_put_if : {x : Entry} (b : Bool) (e : Entry) {xs : List Entry} → I
 stays_in_put_if true e i = stays_in_put e i
 stays_in_put_if false e i = i
 
--- the same of all entries of a list
+-- the same for all entries of a list
 pub in_puts : {x : Entry} (es xs : List Entry) → In x (put_entries es xs) → In x es ⊎ In x xs
 in_puts [] xs i = inr i
 in_puts (e ∷ es) xs i = elim (in_put _ _ i) [

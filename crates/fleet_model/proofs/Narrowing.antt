@@ -1,4 +1,4 @@
--- What a device holds after its filter was narrowed.
+-- What a device holds after narrowing.
 use Rattle.std.proofs.Common.{◌≡◌, true, false, not, ◌⊎◌, inl, inr, filter}
 use Rattle.std.proofs.lemmas.Bool.{cases_Bool, not-true, not_from_false}
 use Rattle.photo_filter_text.specs.Tree.{Tree}

@@ -1,4 +1,4 @@
--- No device holds a version twice, so none holds more versions than were made.
+-- No device holds a version twice, so no device holds more versions than were made.
 use Rattle.std.proofs.Common.{◌≡◌, ℕ, ◌+◌, ◌≤◌, Bool, true, false, cond, not, ◌&&◌, List, [], ◌∷◌, ◌++◌, inl, inr, length, filter, refl, sym, ap, ◌∙◌, subst, arith}
 use Rattle.std.specs.List.{sum_by}
 use Rattle.std.proofs.lemmas.Bool.{cases_Bool, not-true}
@@ -21,7 +21,7 @@ use Rattle.fleet_model.proofs.Traced.{IsTracedLog, IsTracedDevice}
 use Rattle.fleet_model.proofs.TracedSteps.{fresh}
 use Rattle.fleet_model.proofs.Times.{is_of, AreOnce, one_or_none, none_of, found}
 
--- a weight of what is held, before and after
+-- the sum of a weight over what is held, before and after a change
 module _ (f : Entry → ℕ) where
   sum_put : (e : Entry) (xs : List Entry) → sum_by f (put_entry e xs) ≡ f e + sum_by f xs
   sum_put e [] = sum_by-cons f e []
@@ -161,7 +161,7 @@ module _ (log : List Entry) (t s : ModelDevice) (L : IsTracedLog log) (T : IsTra
       let old : occurrences v (holds s) ≤ 1 = once v in
       omega arith
 
--- what isn't the first is among the rest
+-- an element other than the first is in the rest
 behind : (e y : Entry) (ys : List Entry) → In e (y ∷ ys) → not (is_of y.version e) ≡ true → In e ys
 behind e y ys (here same) other = clash (is_of y.version e) (is_same_version e.version y.version (ap (λ (x : Entry). x.version) same)) (not-true (is_of y.version e) other)
 behind e y ys (there i) other = i
@@ -173,7 +173,7 @@ none_in : (xs : List Entry) → ((e : Entry) → In e xs → In e []) → length
 none_in [] among = omega arith
 none_in (x ∷ xs) among = in_nothing (among x (here refl))
 
--- entries of a list, none of which stands twice, are no more than it has
+-- a list with no version twice is no longer than a list that has all its entries
 pub no_more : (ys xs : List Entry) → ((e : Entry) → In e xs → In e ys) → AreOnce xs → length xs ≤ length ys
 no_more [] xs among once = none_in xs among
 no_more (y ∷ ys) xs among once =

@@ -1,4 +1,4 @@
--- Lists of devices in which one or two are exchanged.
+-- Lists of devices with one or two devices replaced.
 use Rattle.std.proofs.Common.{◌≡◌, ℕ, ◌<◌, List, inl, inr, length, set, sym, ◌∙◌, subst, length-set}
 use Rattle.std.proofs.lemmas.List.{get_or-set_same, get_or-set_other}
 use Rattle.std.proofs.lemmas.Bool.{cases_eq}
@@ -19,14 +19,14 @@ within_set ds k j d h = subst (λ (n : ℕ). j < n) (length-set ds k d) h
 pub set_within : (ds : List ModelDevice) (k j : ℕ) (d : ModelDevice) → j < length ds → j < length (set ds k d)
 set_within ds k j d h = subst (λ (n : ℕ). j < n) (sym (length-set ds k d)) h
 
--- what is true of the new device and of the others is true of all
+-- a fact that holds of the new device and of the others holds of all
 pub each_changed : (P : ℕ → ModelDevice → Type 0) (ds : List ModelDevice) (k : ℕ) (d : ModelDevice) → k < length ds → P k d → ((j : ℕ) → j < length ds → (j ≡ k → ⊥) → P j (device_at ds j)) → (j : ℕ) → j < length (set ds k d) → P j (device_at (set ds k d) j)
 each_changed P ds k d h new rest j i = elim (cases_eq j k) [
   | inl e ↦ subst (λ (n : ℕ). P n (device_at (set ds k d) n)) (sym e) (subst (P k) (sym (at_same ds k d h)) new)
   | inr ne ↦ subst (P j) (sym (at_other ds k j d ne)) (rest j (within_set ds k j d i) ne)
 ]
 
--- with two
+-- the list with two devices replaced
 abbrev pub two_set : List ModelDevice → ℕ → ModelDevice → ℕ → ModelDevice → List ModelDevice
 two_set ds t x s y = set (set ds t x) s y
 

@@ -1,4 +1,4 @@
--- What the two devices of a pull hold and know after it.
+-- What source and target hold and know after a pull.
 use Rattle.std.proofs.Common.{◌≡◌, ℕ, Bool, true, false, not, ◌&&◌, ◌||◌, ◌++◌, ◌⊎◌, inl, inr, filter, refl, arith}
 use Rattle.std.proofs.lemmas.Bool.{and_parts, or_cases, or_left, or_right, and_from, not-true, not_from_false, or_parts}
 use Rattle.photo_version.specs.Version.{Version}
@@ -23,7 +23,7 @@ pub record IsNoticed (t s : ModelDevice) (e : Entry) : Type 0 where
   pub unknown : knows_entry t e ≡ false
   pub misfits : selects t e ≡ false
 
--- what is known after a pull, as a test of six
+-- what the target knows after a pull, from the six tests that decide it
 abbrev six : (a l b c k d : Bool) → Bool
 six a l b c k d = (a || (l && b)) || (c || (k || (l && d)))
 
@@ -67,7 +67,7 @@ module _ (t s : ModelDevice) where
       let p = and_parts _ _ q.1 in
       record { in_store = r.0; unknown = not-true _ q.0; misfits = not-true _ p.0 }
 
-  -- what comes: what is taken and what is handed over
+  -- the entries that come to the target: taken or handed over
   pub in_coming : {e : Entry} → In e (taken t s ++ handed t s) → IsTaken t s e ⊎ IsHanded t s e
   in_coming i = elim (in_either (taken t s) i) [ inl a ↦ inl (in_taken a) | inr b ↦ inr (in_handed b) ]
 
@@ -95,7 +95,7 @@ module _ (t s : ModelDevice) where
     | inr b ↦ elim b [ inl c ↦ in_right s.store c.in_out | inr d ↦ in_left s.out d.in_store ]
   ]
 
-  -- the target's store, and its out
+  -- the target's store after the pull, and its out
   pub in_store_pulled : {e : Entry} → In e (pulled t s).store → (In e t.store × (leaves_store t s e ≡ false)) ⊎ (In e (taken t s ++ handed t s) × (selects t e ≡ true))
   in_store_pulled {e = e} i = elim (in_puts (filter (selects t) (taken t s ++ handed t s)) (filter (λ (x : Entry). not (leaves_store t s x)) t.store) i) [
     | inl a ↦ inr (in_passed (selects t) (taken t s ++ handed t s) a)
@@ -126,7 +126,7 @@ module _ (t s : ModelDevice) where
   pub out_new : {e : Entry} → In e (taken t s ++ handed t s) → selects t e ≡ false → In e (pulled t s).out
   out_new {e = e} i h = puts_are_in (filter (λ (x : Entry). not (leaves_out t s x)) t.out) (passes (λ (x : Entry). not (selects t x)) i (not_from_false (selects t e) h))
 
-  -- what the target knows afterwards
+  -- what the target knows after the pull
   pub after_is : (p : ℕ) (v : Version) → known (pulled t s) p v ≡ true → (known t p v ≡ true) ⊎ ((tell (told t s) p v ≡ true) ⊎ ((learns_all t s ≡ true) × (known s p v ≡ true)))
   after_is p v h = six_is (t.every v) (learns_all t s) (s.every v) (t.of p v) (tell (told t s) p v) (s.of p v) h
 
@@ -139,7 +139,7 @@ module _ (t s : ModelDevice) where
   pub after_all : (p : ℕ) (v : Version) → learns_all t s ≡ true → known s p v ≡ true → known (pulled t s) p v ≡ true
   after_all p v l h = six_all (t.every v) (learns_all t s) (s.every v) (t.of p v) (tell (told t s) p v) (s.of p v) l h
 
-  -- the source keeps its store
+  -- what the source's out keeps
   pub in_out_handed : {e : Entry} → In e (handed_over t s).out → In e s.out
   in_out_handed i = (in_passed (knows_entry t) s.out i).0
 

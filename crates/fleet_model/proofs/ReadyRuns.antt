@@ -1,4 +1,4 @@
--- After each first part of a script's commands, and after any of them in any order, the devices are ready for a pull.
+-- Devices are ready for a pull after every run of a script's commands, in any order.
 use Rattle.std.proofs.Common.{◌≡◌, ℕ, zero, suc, ◌+◌, ◌<◌, ◌≤◌, false, List, [], ◌∷◌, length, get_or, refl, sym, ap, ◌∙◌, subst, arith}
 use Rattle.std.proofs.lemmas.Bool.{false≢true}
 use Rattle.std.specs.Prelude.{Option, Some, None, IfSome}
@@ -18,7 +18,7 @@ use Rattle.fleet_model.proofs.Members.{in_nothing}
 use Rattle.fleet_model.proofs.ReadySteps.{making_ready, narrowing_ready, refiltering_ready, pulling_ready}
 use Rattle.fleet_model.proofs.EachCommand.{IsKept, FitsAll, after_each, after_all_of}
 
--- the device at a place of those that a script opens with
+-- the device at a place among a script's opening devices
 opened_or : (n k : ℕ) (filters : List Tree) (d : ModelDevice) → k < length (opening_from n filters) → (tree : Tree) × (get_or (opening_from n filters) k d ≡ opening (author (n + k)) tree)
 opened_or n k [] d h = absurd (omega arith)
 opened_or n zero (tree ∷ filters) d h = (tree, ap (λ (m : ℕ). opening (author m) tree) (omega arith))
@@ -31,7 +31,7 @@ opened_at k filters h =
     let r = opened_or 0 k filters (opening (author k) All) h in
     (r.0, r.1 ∙ ap (λ (m : ℕ). opening (author m) r.0) (omega arith))
 
--- the devices that open are ready
+-- the opening devices are ready
 
 opening_known : (n : ℕ) (tree : Tree) (p : ℕ) (v : Version) → known (opening (author n) tree) p v ≡ false
 opening_known n tree p v = refl
@@ -56,7 +56,7 @@ pub all_fit : (commands : List Command) → AllByRecursion (FitsAll (λ r. Unit 
 all_fit [] = tt
 all_fit (c ∷ commands) = (any_fits (record_of c), all_fit commands)
 
--- the log plays no part in it
+-- each step keeps the devices ready; the log doesn't matter
 pub ready_kept : IsKept (λ r. Unit {0}) (λ log ds. IsReady ds)
 ready_kept = record {
   removed = tt;
@@ -69,6 +69,6 @@ ready_kept = record {
 pub run_is_ready : (script : Contents) (n : ℕ) → IsScript script → IsReady (run_in_order script (numbers_to n)).devices
 run_is_ready script n is = (after_each (λ r. Unit {0}) (λ log ds. IsReady ds) ready_kept script is (all_fit script.commands) (opening_ready script.filters) n).fact
 
--- the same after any commands in any order
+-- the devices are ready after any commands in any order
 pub ready_in_order : (script : Contents) (numbers : List ℕ) → IsScript script → length numbers ≤ 4_294_967_295 → IsReady (run_in_order script numbers).devices
 ready_in_order script numbers is few = (after_all_of (λ r. Unit {0}) (λ log ds. IsReady ds) ready_kept script is (all_fit script.commands) (opening_ready script.filters) numbers few).fact

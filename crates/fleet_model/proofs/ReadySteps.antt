@@ -1,4 +1,4 @@
--- What each command leaves is ready for a pull where what it found is.
+-- Each command leaves the devices ready for a pull if they were ready before it.
 use Rattle.std.proofs.Common.{◌≡◌, ℕ, ◌+◌, ◌<◌, ◌≤◌, true, false, List, ◌⊎◌, inl, inr, length, set, refl, sym, ap, ◌∙◌, subst, arith, le_refl, length-set}
 use Rattle.std.proofs.lemmas.Bool.{cases_Bool, and_parts, eqb-true, false≢true}
 use Rattle.photo_record.specs.declared.record.Record.{Record}
@@ -20,7 +20,7 @@ use Rattle.fleet_model.proofs.Refiltering.{in_holds_refiltered, known_refiltered
 use Rattle.fleet_model.proofs.Pulling.{in_holds_pulled, in_holds_handed, coming_is_told, told_held, after_is, after_old, after_told}
 use Rattle.fleet_model.proofs.Epochs.{not_later, next_device, KeepsCount, same_epoch, refiltered_counts}
 
--- a device that knows the version of the picture, and one that holds the entry
+-- some device knows the version for the picture; some device holds the entry
 pub record KnowsIt (devices : List ModelDevice) (p : ℕ) (v : Version) : Type 0 where
   pub place : ℕ
   pub within : place < length devices
@@ -31,7 +31,7 @@ pub record HoldsIt (devices : List ModelDevice) (e : Entry) : Type 0 where
   pub within : place < length devices
   pub here : In e (holds (device_at devices place))
 
--- no version is new: devices that know and hold what there was, and have counted all that they had
+-- the step makes no version: the new devices know and hold only what the old ones did, and keep their counts
 record IsNothingNew (old new : List ModelDevice) : Type 0 where
   long : length new ≡ length old
   same : (k : ℕ) → k < length new → device_of_author (device_at new k).author ≡ device_of_author (device_at old k).author
@@ -74,7 +74,7 @@ module _ (old new : List ModelDevice) (R : IsReady old) (N : IsNothingNew old ne
     held = N.held;
   }
 
--- an entry that a device tells of: what it tells the other knows
+-- after a pull the target knows only what one of the two devices knew before
 told_known : (t s : ModelDevice) → ((e : Entry) → In e (holds s) → IsKnownTo s e) → (p : ℕ) (v : Version) → known (pulled t s) p v ≡ true → (known t p v ≡ true) ⊎ (known s p v ≡ true)
 told_known t s held p v h = elim (after_is t s p v h) [
   | inl mine ↦ inl mine
@@ -101,14 +101,14 @@ still_known t s held e i = elim (in_holds_pulled t s i) [
 ]
 
 module _ (devices : List ModelDevice) (R : IsReady devices) where
-  -- of the device at a place
+  -- the device at a place is one that knows, or one that holds
   known_here : (k : ℕ) → k < length devices → (p : ℕ) (v : Version) → known (device_at devices k) p v ≡ true → KnowsIt devices p v
   known_here k h p v here = record { place = k; within = h; here = here }
 
   held_here : (k : ℕ) → k < length devices → (e : Entry) → In e (holds (device_at devices k)) → HoldsIt devices e
   held_here k h e i = record { place = k; within = h; here = i }
 
-  -- one device exchanged
+  -- one device is replaced
   module _ (k : ℕ) (h : k < length devices) (x : ModelDevice) where
     one_ready : device_of_author x.author ≡ device_of_author (device_at devices k).author → KeepsCount (device_at devices k) x
         → ((p : ℕ) (v : Version) → known x p v ≡ true → known (device_at devices k) p v ≡ true)
@@ -171,7 +171,7 @@ module _ (devices : List ModelDevice) (R : IsReady devices) where
         | inr new ↦ held_here s k e (told_held (device_at devices t) (device_at devices s) (coming_is_told (device_at devices t) (device_at devices s) new))
       ]
 
-  -- a version is made
+  -- a device makes a version
   module _ (k p : ℕ) (r : Record) (h : k < length devices) where
     abbrev maker : ModelDevice
     maker = device_at devices k
@@ -196,14 +196,14 @@ module _ (devices : List ModelDevice) (R : IsReady devices) where
     held_or_new = each_changed (λ n d. (e : Entry) → In e (holds d) → (e ≡ new_entry maker p r) ⊎ In e (holds (device_at devices n))) devices k (made maker p r) h
         (λ e i. elim (in_holds_made maker p r i) [ inl new ↦ inl new | inr old ↦ inr old.0 ]) (λ _ _ _ e i. inr i)
 
-    -- nobody holds the new version yet
+    -- no device holds the new version yet
     not_held : (j : ℕ) → j < length devices → (e : Entry) → In e (holds (device_at devices j)) → e.version ≡ next_version maker → ⊥
     not_held j i e among is =
         let here : known (device_at devices j) e.picture (next_version maker) ≡ true = subst (λ (v : Version). known (device_at devices j) e.picture v ≡ true) is (R.held j i e among).itself in
         let few : maker.counter + 1 ≤ maker.counter = R.own k j e.picture (maker.counter + 1) h i here in
         omega arith
 
-    -- whose author is the maker's device stands at its place
+    -- a device with the maker's number stands at the maker's place
     at_place : (t : ℕ) → t < length devices → device_of_author (device_at devices t).author ≡ device_of_author maker.author → t ≡ k
     at_place t i same = sym (R.author t i) ∙ same ∙ R.author k h
 

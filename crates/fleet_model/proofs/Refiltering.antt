@@ -1,4 +1,4 @@
--- What a device holds and knows after it began its next epoch with any filter.
+-- What a device holds and knows after refiltering.
 use Rattle.std.proofs.Common.{◌≡◌, ℕ, true, false, not, [], inl, inr, filter}
 use Rattle.std.proofs.lemmas.Bool.{cases_Bool, not-true, not_from_false}
 use Rattle.photo_filter_text.specs.Tree.{Tree}
@@ -42,7 +42,7 @@ module _ (tree : Tree) (d : ModelDevice) where
     | inr a ↦ in_right (refiltered tree d).store (comes_to_out i a)
   ]
 
-  -- what it knows an entry tells that it holds
+  -- the refiltered device knows only what its held entries tell
   pub known_refiltered : (p : ℕ) (v : Version) → known (refiltered tree d) p v ≡ true → IsTelling (holds d) p v
   known_refiltered p v h = tell_is (holds d) p v h
 

@@ -1,4 +1,4 @@
--- What a command leaves true of all devices, and how many versions they have made and epochs begun after it.
+-- Facts about all devices that a command keeps, and bounds on the versions made and epochs begun.
 use Rattle.std.proofs.Common.{◌≡◌, ℕ, ◌%◌, ◌+◌, ◌<◌, ◌≤◌, true, false, cond, List, [], ◌∷◌, length, set, sym, ◌∙◌, refl, subst, le_refl, arith}
 use Rattle.std.specs.Prelude.{Option, Some, None, IfSome}
 use Rattle.std.specs.List.{AllByRecursion}
@@ -19,7 +19,7 @@ use Rattle.fleet_model.specs.Runs.{effect, making, telling, changing, narrowing,
 use Rattle.fleet_model.specs.Steps.{effect_on, devices_after, HasMadeAtMost}
 use Rattle.fleet_model.proofs.Effects.{all_set, all_at, all_are, narrowed_effect, changing_second, narrowing_second}
 
--- what holds of all devices, and of what a command makes of those that it works on, holds of all devices after it
+-- a fact that holds of all devices, and of the command's new devices, holds of all devices after the command
 
 with_second_all : (P : ModelDevice → Type 0) (place : Option ℕ) (second : Option ModelDevice) (models : List ModelDevice) → AllByRecursion P models → IfSome second P → AllByRecursion P (with_second place second models)
 with_second_all P (Some k) (Some d) models all here = all_set P models k d all here
@@ -30,7 +30,7 @@ pub after_all : (P : ModelDevice → Type 0) (c : Command) (models : List ModelD
 after_all P c models all first second =
     with_second_all P (devices_of c).1 (effect_on models c).second (set models (devices_of c).0 (effect_on models c).first) (all_set P models (devices_of c).0 (effect_on models c).first all first) second
 
--- so do all devices the second one of a command
+-- the command's second device, if any, has the fact too
 pub second_all : (P : ModelDevice → Type 0) (models : List ModelDevice) (place : Option ℕ) (first count : ℕ) → count ≤ length models → AllByRecursion P models → IfSome place (λ k. (k < count) × (k ≡ first → ⊥)) → IfSome (option_map (device_at models) place) P
 second_all P models None first count long all within = tt
 second_all P models (Some k) first count long all within = let below = within.0 in all_at P models k (opening (author k) All) all (omega arith)
@@ -43,7 +43,7 @@ with_second_long None second models = refl
 pub long_after : (c : Command) (models : List ModelDevice) → length (devices_after models c) ≡ length models
 long_after c models = with_second_long (devices_of c).1 (effect_on models c).second (set models (devices_of c).0 (effect_on models c).first) ∙ length-set models (devices_of c).0 (effect_on models c).first
 
--- a command makes one version at most, and begins one epoch at most
+-- a command makes at most one version and begins at most one epoch
 
 pub one_later : (n : ℕ) (m : ModelDevice) → HasMadeAtMost n m → HasMadeAtMost (n + 1) m
 one_later n m most =
@@ -111,7 +111,7 @@ pub one_more : (n : ℕ) (o : Option ModelDevice) → IfSome o (HasMadeAtMost n)
 one_more n None most = tt
 one_more n (Some m) most = one_later n m most
 
--- so it is of all devices
+-- the same bound for all devices
 pub makes_one_more : (models : List ModelDevice) (c : Command) (n : ℕ) → IsWithin (length models) c → AllByRecursion (HasMadeAtMost n) models → AllByRecursion (HasMadeAtMost (n + 1)) (devices_after models c)
 makes_one_more models c n within most =
     let k = (devices_of c).0 in

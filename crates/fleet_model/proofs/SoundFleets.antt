@@ -1,4 +1,4 @@
--- What each command leaves is sound and loses nothing current where what it found is so.
+-- Each command leaves the devices sound and loses nothing current, if they were sound before it.
 use Rattle.std.proofs.Common.{◌≡◌, ℕ, ◌<◌, true, List, [], ◌∷◌, ◌++◌, ◌⊎◌, inl, inr, length, set, sym, subst}
 use Rattle.std.proofs.lemmas.Bool.{cases_eq}
 use Rattle.photo_record.specs.declared.record.Record.{Record}

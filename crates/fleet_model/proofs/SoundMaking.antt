@@ -1,4 +1,4 @@
--- A device that makes a version stays sound, for the log with the new entry, and so do the others.
+-- After a device makes a version, it and the others are sound for the log with the new entry.
 use Rattle.std.proofs.Common.{◌≡◌, ℕ, ◌≤◌, true, false, ◌==◌, List, [], ◌∷◌, ◌++◌, ◌⊎◌, inl, inr, sym, subst}
 use Rattle.std.proofs.lemmas.Bool.{cases_Bool, eqb-true, eqb-false}
 use Rattle.photo_record.specs.declared.record.Record.{Record}
@@ -30,7 +30,7 @@ module _ (log : List Entry) (d : ModelDevice) (p : ℕ) (r : Record) (L : IsTrac
   logged_new : In (new_entry d p r) (log ++ new_entry d p r ∷ [])
   logged_new = new_logged log d p r L D bounded
 
-  -- a device that doesn't know the new version
+  -- a device that doesn't know the new version stays sound
   pub others_sound : (o : ModelDevice) → IsTracedDevice log o → IsSoundDevice log o → IsSoundDevice (log ++ new_entry d p r ∷ []) o
   others_sound o O S =
       let not_new : (w : Entry) → w ≡ new_entry d p r → knows_entry o w ≡ true → ⊥ = λ w e h. let m = O.made_only w.picture (next_version d) (subst (λ (x : Entry). known o w.picture x.version ≡ true) e h) in is_fresh m.entry m.logged m.is in
@@ -45,7 +45,7 @@ module _ (log : List Entry) (d : ModelDevice) (p : ℕ) (r : Record) (L : IsTrac
       }
 
   module _ (M : IsOrderly log) (S : IsSoundDevice log d) (fits : IsInRange r) where
-    -- what the new entry supersedes was known, with its history
+    -- what the new entry supersedes was known to its maker, with its history
     known_older : (x : Entry) → In x log → Supersedes (new_entry d p r) x → (v : Version) → x.history v ≡ true → known d p v ≡ true
     known_older x i h v k = subst (λ (q : ℕ). known d q v ≡ true) (sym h.same_picture) (S.closed x i (subst (λ (q : ℕ). known d q x.version ≡ true) h.same_picture h.had) v k)
 
@@ -64,11 +64,11 @@ module _ (log : List Entry) (d : ModelDevice) (p : ℕ) (r : Record) (L : IsTrac
       in_range = λ e i. elim (cases i) [ inl a ↦ M.in_range e a | inr b ↦ subst (λ (y : Entry). IsInRange y.content) (sym b) fits ];
     }
 
-    -- a log entry that is known afterwards was known before
+    -- an entry of the old log that the maker knows afterwards it knew before
     knew : (e : Entry) → In e log → knows_entry (made d p r) e ≡ true → knows_entry d e ≡ true
     knew e i h = elim (known_is d p r e.picture e.version h) [ inl a ↦ a | inr b ↦ absurd (is_fresh e i b) ]
 
-    -- nothing of the log supersedes the new entry, and that supersedes what the device knew of the picture
+    -- nothing in the log supersedes the new entry, and the new entry supersedes what its maker knew of the picture
     nothing_newer : (w : Entry) → In w (log ++ new_entry d p r ∷ []) → Supersedes w (new_entry d p r) → ⊥
     nothing_newer w i h = elim (cases i) [
       | inl a ↦ no_history w a h.had
@@ -116,7 +116,7 @@ module _ (log : List Entry) (d : ModelDevice) (p : ℕ) (r : Record) (L : IsTrac
       ];
     }
 
-    -- what nothing supersedes now the device still holds, and the new entry too
+    -- a held entry that nothing supersedes stays held, and the new entry is held
     pub kept_by_maker : (e : Entry) → In e (holds d) → ((w : Entry) → In w (log ++ new_entry d p r ∷ []) → Supersedes w e → ⊥) → In e (holds (made d p r))
     kept_by_maker e i none = elim (cases_Bool (e.picture == p)) [
       | inl a ↦ absurd (none (new_entry d p r) logged_new (is_older e (S.held_known e i) a))

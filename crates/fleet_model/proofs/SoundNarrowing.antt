@@ -1,4 +1,4 @@
--- A device whose filter is narrowed stays sound.
+-- A device stays sound after narrowing.
 use Rattle.std.proofs.Common.{◌≡◌, true, List, inl, inr}
 use Rattle.std.proofs.lemmas.Bool.{false_from_ne_true}
 use Rattle.photo_filter_text.specs.Tree.{Tree}

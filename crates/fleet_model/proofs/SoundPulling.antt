@@ -1,4 +1,4 @@
--- The two devices of a pull stay sound, and lose nothing current.
+-- After a pull both devices are sound and nothing current is lost.
 use Rattle.std.proofs.Common.{◌≡◌, ℕ, Bool, true, false, not, ◌&&◌, List, ◌++◌, ◌⊎◌, inl, inr, refl, ◌∙◌, subst, arith}
 use Rattle.std.proofs.lemmas.Bool.{cases_Bool, or_from, or_parts, false_from_ne_true}
 use Rattle.photo_filter_rules.proofs.Covering.{covers_selects}
@@ -30,15 +30,15 @@ module _ (log : List Entry) (t s : ModelDevice) (L : IsTracedLog log) (TT : IsTr
   is_logged : {e : Entry} → In e (told t s) → In e log
   is_logged i = told_logged log t s L TT TS i
 
-  -- who covers the target selects what the target does
+  -- a source that covers the target selects what the target selects
   selected_too : (e : Entry) → In e log → learns_all t s ≡ true → selects t e ≡ true → selects s e ≡ true
   selected_too e i l h = covers_selects s.tree t.tree e.content (M.in_range e i) l h
 
   told_is_known : {w : Entry} → In w (told t s) → knows_entry (pulled t s) w ≡ true
   told_is_known {w = w} i = after_told t s w.picture w.version (tells_itself w i)
 
-  -- a log entry that the target knows afterwards it knew before, or it is told of it, or of one that supersedes it, or
-  -- it learns all that the source knows
+  -- why the target knows an entry of the log afterwards: it knew it before, was told of it or of one that supersedes it, or
+  -- learned all that the source knows
   entry_cases : (e : Entry) → In e log → knows_entry (pulled t s) e ≡ true → (knows_entry t e ≡ true) ⊎ (In e (told t s) ⊎ (((w : Entry) × In w (told t s) × Supersedes w e) ⊎ ((learns_all t s ≡ true) × (knows_entry s e ≡ true))))
   entry_cases e i h = elim (after_is t s e.picture e.version h) [
     | inl a ↦ inl a
@@ -51,15 +51,15 @@ module _ (log : List Entry) (t s : ModelDevice) (L : IsTracedLog log) (TT : IsTr
     ]
   ]
 
-  -- what supersedes w supersedes what w supersedes
+  -- supersession is transitive
   chain : (x w e : Entry) → In x log → In w log → Supersedes x w → Supersedes w e → Supersedes x e
   chain x w e i j h k = record { same_picture = h.same_picture ∙ k.same_picture; had = M.transitive x w i j h e.version k.had }
 
-  -- who knows a version knows what it supersedes
+  -- a device that knows an entry of the log knows what the entry supersedes
   older_known : (w e : Entry) → In w log → knows_entry s w ≡ true → Supersedes w e → knows_entry s e ≡ true
   older_known w e i h k = subst (λ (q : ℕ). known s q e.version ≡ true) k.same_picture (S.closed w i h e.version k.had)
 
-  -- so what supersedes a version that the target didn't know it didn't know either
+  -- if the target doesn't know a version, it knows nothing that supersedes that version
   newer_unknown : {P : Type 0} {w v : Entry} → In w log → knows_entry t w ≡ true → Supersedes w v → knows_entry t v ≡ false → P
   newer_unknown {w = w} {v = v} i h k u = clash _ (subst (λ (q : ℕ). known t q v.version ≡ true) k.same_picture (T.closed w i h v.version k.had)) u
 
@@ -102,7 +102,7 @@ module _ (log : List Entry) (t s : ModelDevice) (L : IsTracedLog log) (TT : IsTr
     ]
   ]
 
-  -- where the target learns all, what stays in its store and is known to the source is in the source's store too
+  -- under cover, what stays in the target's store and is known to the source is in the source's store
   in_both_stores : (e : Entry) → In e t.store → leaves_store t s e ≡ false → learns_all t s ≡ true → knows_entry s e ≡ true → In e s.store
   in_both_stores e i g l k =
       let stale = (or_parts _ _ g).1 in
@@ -139,7 +139,7 @@ module _ (log : List Entry) (t s : ModelDevice) (L : IsTracedLog log) (TT : IsTr
     ]
   ]
 
-  -- what the target stored, and nothing supersedes that it knows now, it stores still
+  -- the target still stores what it stored, unless it now knows something that supersedes it
   kept_in_store : (e : Entry) → In e log → selects t e ≡ true → ((w : Entry) → In w log → knows_entry (pulled t s) w ≡ true → Supersedes w e → ⊥) → leaves_store t s e ≡ false
   kept_in_store e j m none = or_from _ _
       (false_from_ne_true _ (λ h. let r = superseded_is _ _ h in none r.0 (is_logged r.1) (told_is_known r.1) r.2))

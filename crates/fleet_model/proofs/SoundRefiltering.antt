@@ -1,4 +1,4 @@
--- A device that begins its next epoch with any filter stays sound.
+-- A device stays sound after refiltering.
 use Rattle.std.proofs.Common.{◌≡◌, true, List, ◌⊎◌, inl, inr, refl, ◌∙◌, subst}
 use Rattle.photo_filter_text.specs.Tree.{Tree}
 use Rattle.photo_model.specs.Entry.{Entry}
@@ -11,7 +11,7 @@ use Rattle.fleet_model.proofs.SoundFacts.{IsOrderly, IsSoundDevice}
 use Rattle.fleet_model.proofs.Refiltering.{in_store_refiltered, in_out_refiltered, in_holds_refiltered, comes_to_store, known_refiltered, knows_history, knows_itself}
 
 module _ (log : List Entry) (tree : Tree) (d : ModelDevice) (L : IsTracedLog log) (D : IsTracedDevice log d) (M : IsOrderly log) (S : IsSoundDevice log d) where
-  -- an entry of the log that it knows afterwards it holds, or it holds one that supersedes it
+  -- an entry of the log that the device knows afterwards is held, or something that supersedes it is held
   entry_cases : (e : Entry) → In e log → knows_entry (refiltered tree d) e ≡ true → In e (holds d) ⊎ ((w : Entry) × In w (holds d) × Supersedes w e)
   entry_cases e i h = let r = known_refiltered tree d e.picture e.version h in elim r.tells [
     | inl a ↦ inr (r.entry, r.among, record { same_picture = r.of; had = a })

@@ -1,4 +1,4 @@
--- After commands of a script, in whatever order, each device is sound, and nothing current is lost.
+-- After any commands of a script in any order, each device is sound and nothing current is lost.
 use Rattle.std.proofs.Common.{ℕ, List, [], sym, ap, ◌∙◌, subst, arith}
 use Rattle.photo_filter_text.specs.Tree.{Tree}
 use Rattle.photo_filter_rules.specs.Matching.{IsInRange}
@@ -58,7 +58,7 @@ sound_kept = record {
   pulling = λ log ds t s H h k apart. pulling_sound log ds H t s h k apart;
 }
 
--- what is promised, read off
+-- the promise follows from the facts that runs keep
 pub sound_and_kept : (fleet : Fleet) → IsSoundFleet fleet.log fleet.devices → IsSoundAndKept fleet
 sound_and_kept fleet facts = record {
   sound = all_from (is_sound fleet.log) fleet.devices (each_is_sound fleet.log fleet.devices facts);
@@ -69,7 +69,7 @@ sound_and_kept fleet facts = record {
   whole = knows_whole fleet.log fleet.devices facts;
 }
 
--- after any commands in any order, with the log in that order
+-- the law for any commands in any order, with the log in that order
 pub stays_sound_in_any_order : StaysSoundInAnyOrder
 stays_sound_in_any_order script numbers is few =
     sound_and_kept (run_in_order script numbers) (after_all_of IsInRange IsSoundFleet sound_kept script is is.in_range (opening_sound script.filters) numbers few).fact

@@ -1,4 +1,4 @@
--- 'Sound' and 'kept', as the tests say them, from the facts that are carried.
+-- The facts that runs keep imply the tests 'sound' and 'kept'.
 use Rattle.std.proofs.Common.{◌≡◌, ℕ, zero, suc, ◌<◌, true, false, not, List, [], ◌∷◌, length, get_or, filter, refl, sym, subst, arith}
 use Rattle.std.proofs.lemmas.Bool.{and_parts, and_from, not-true, not_from_false, false_from_ne_true}
 use Rattle.photo_filter_text.specs.Tree.{All}
@@ -13,7 +13,7 @@ use Rattle.fleet_model.proofs.Members.{in_nothing, in_left, in_passed, passes, a
 use Rattle.fleet_model.proofs.Superseding.{clash, Supersedes, supersedes_is, superseded_is, is_superseded, in_is_among}
 use Rattle.fleet_model.proofs.SoundFacts.{IsSoundDevice, IsHeld, IsSoundFleet}
 
--- a place within a list reads what is in it, whatever is read past its end, and each that is in it has a place
+-- reading within a list gives a member whatever the default, and each member has a place
 in_place : {X : Type 0} (xs : List X) (k : ℕ) (d : X) → k < length xs → In (get_or xs k d) xs
 in_place [] k d h = absurd (omega arith)
 in_place (x ∷ xs) zero d h = here refl
@@ -50,7 +50,7 @@ module _ (log : List Entry) (d : ModelDevice) (D : IsSoundDevice log d) where
       (all_from (is_wanted log d) d.store stored_wanted)
 
 module _ (log : List Entry) (devices : List ModelDevice) (H : IsSoundFleet log devices) where
-  -- what is true of the device at each place is true of each device
+  -- a fact about the device at each place is a fact about each device
   of_each : (P : ModelDevice → Type 0) → ((k : ℕ) → k < length devices → P (device_at devices k)) → (d : ModelDevice) → In d devices → P d
   of_each P all d i = let r = place_of devices i in subst P (r.2 (opening (author r.0) All)) (all r.0 r.1)
 

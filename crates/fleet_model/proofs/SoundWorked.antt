@@ -1,4 +1,4 @@
--- The worked devices, computed.
+-- The worked devices, by computation.
 use Rattle.std.proofs.Common.{refl}
 use Rattle.fleet_model.specs.SoundExamples.{SoundIsAsTold}
 

@@ -1,4 +1,4 @@
--- What the tests of the definitions say, as facts.
+-- The tests of the definitions, as facts.
 use Rattle.std.proofs.Common.{◌≡◌, ℕ, Bool, true, false, ◌==◌, List, refl, ap, ap₂, arith, ◌||◌, ◌⊎◌, inl, inr, ◌&&◌}
 use Rattle.std.proofs.lemmas.Bool.{or_cases, or_left, or_right, and_parts, and_from, eqb-true, eq-eqb}
 use Rattle.photo_version.specs.Version.{Version, version, same_version}
@@ -47,7 +47,7 @@ in_is_among {e = e} i = any_from (λ (x : Entry). same_version x.version e.versi
 had_or_is : (v : Version) (w : Entry) → (w.history v || same_version w.version v) ≡ true → (w.history v ≡ true) ⊎ (w.version ≡ v)
 had_or_is v w h = elim (or_cases _ _ h) [ inl a ↦ inl a | inr b ↦ inr (same_version_is _ _ b) ]
 
--- what is told is told by an entry, which has it in its history or is it
+-- some entry tells the version: the entry is of that version, or its history has it
 pub record IsTelling (ws : List Entry) (p : ℕ) (v : Version) : Type 0 where
   pub entry : Entry
   pub among : In entry ws

@@ -1,4 +1,4 @@
--- How often a version stands in a list.
+-- How many entries of a list have a version.
 use Rattle.std.proofs.Common.{◌≡◌, ◌+◌, ◌≤◌, Bool, true, false, cond, List, [], ◌∷◌, ◌⊎◌, inl, inr, refl, arith}
 use Rattle.std.proofs.lemmas.Bool.{cases_Bool}
 use Rattle.std.proofs.lemmas.List.Sums.{sum_by-cons}
@@ -11,7 +11,7 @@ use Rattle.fleet_model.proofs.Superseding.{same_version_is}
 abbrev pub is_of : Version → Entry → Bool
 is_of v e = same_version e.version v
 
--- none stands twice
+-- no version stands in the list twice
 abbrev pub AreOnce : List Entry → Type 0
 AreOnce entries = (v : Version) → occurrences v entries ≤ 1
 
@@ -23,7 +23,7 @@ pub none_of : (b : Bool) → b ≡ false → cond b 1 0 ≤ 0
 none_of true h = cc
 none_of false h = omega arith
 
--- a version stands in a list, or nowhere
+-- no entry has the version, or some entry has it
 pub found : (v : Version) (xs : List Entry) → (occurrences v xs ≡ 0) ⊎ ((x : Entry) × In x xs × (x.version ≡ v))
 found v [] = inl refl
 found v (x ∷ xs) = elim (cases_Bool (is_of v x)) [

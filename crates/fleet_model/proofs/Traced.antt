@@ -1,4 +1,4 @@
--- Whatever devices know and hold comes from the log, and each entry of the log from a device.
+-- What devices know and hold comes from the log, and each entry of the log comes from a device.
 use Rattle.std.specs.Prelude.{◌≡◌, ℕ, ◌<◌, ◌≤◌, true, false, List, length}
 use Rattle.photo_version.specs.Author.{device_of_author, is_earlier_epoch}
 use Rattle.photo_version.specs.Version.{Version}
@@ -8,25 +8,25 @@ use Rattle.fleet_model.specs.Runs.{device_at}
 use Rattle.fleet_model.specs.Members.{In}
 use Rattle.fleet_model.specs.Sound.{occurrences}
 
--- the version is one of the log's
+-- some entry of the log is of that version
 pub record IsMade (log : List Entry) (v : Version) : Type 0 where
   pub entry : Entry
   pub logged : In entry log
   pub is : entry.version ≡ v
 
--- no version stands in the log twice, and each history has versions of the log alone
+-- the log has each version at most once, and its histories have only versions of the log
 pub record IsTracedLog (log : List Entry) : Type 0 where
   pub once : (v : Version) → occurrences v log ≤ 1
   pub distinct : (e f : Entry) → In e log → In f log → e.version ≡ f.version → e ≡ f
   pub made_only : (w : Entry) → In w log → (v : Version) → w.history v ≡ true → IsMade log v
 
--- a device knows versions of the log alone, and holds entries of the log
+-- the device knows only versions of the log and holds only entries of the log
 pub record IsTracedDevice (log : List Entry) (d : ModelDevice) : Type 0 where
   pub made_only : (p : ℕ) (v : Version) → known d p v ≡ true → IsMade log v
   pub logged : (e : Entry) → In e (holds d) → In e log
 
--- the author of the version is one of the devices, in an epoch that has begun, and has counted it if it is the device's
--- present one
+-- the version's author is one of the devices, in an epoch that has begun; in the device's present epoch, its counter has
+-- reached the version
 pub record IsCounted (devices : List ModelDevice) (v : Version) : Type 0 where
   pub within : device_of_author v.author < length devices
   pub begun : is_earlier_epoch (device_at devices (device_of_author v.author)).author v.author ≡ false

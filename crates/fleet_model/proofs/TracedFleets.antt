@@ -1,4 +1,4 @@
--- What each command leaves is traced where what it found is.
+-- Each command leaves the fleet traced to the log if it was traced before.
 use Rattle.std.proofs.Common.{◌≡◌, ℕ, ◌<◌, ◌≤◌, false, List, [], ◌∷◌, ◌++◌, inl, inr, length, set, refl, sym, ap, ◌∙◌, subst, arith, le_refl}
 use Rattle.photo_record.specs.declared.record.Record.{Record}
 use Rattle.photo_filter_text.specs.Tree.{Tree}
@@ -16,7 +16,7 @@ use Rattle.fleet_model.proofs.Traced.{IsTracedDevice, IsCounted, IsTraced}
 use Rattle.fleet_model.proofs.TracedSteps.{others_traced, longer_traced, made_traced, pulled_traced, handed_traced, narrowed_traced, refiltered_traced}
 use Rattle.fleet_model.proofs.Epochs.{not_later, next_device, KeepsCount, same_epoch, refiltered_counts}
 
--- a version that was counted stays so where one device is exchanged for one that has counted as much
+-- a counted version stays counted where a device is replaced by one that keeps its count
 pub still_counted : (ds : List ModelDevice) (k : ℕ) (d : ModelDevice) → k < length ds → KeepsCount (device_at ds k) d → (v : Version) → IsCounted ds v → IsCounted (set ds k d) v
 still_counted ds k d h keeps v c = record {
   within = set_within ds k (device_of_author v.author) d c.within;

@@ -1,4 +1,4 @@
--- A device that makes a version, pulls, hands over, or gets another filter knows and holds what the log has, and no more.
+-- After making, pulling, handing over and filter changes, a device knows and holds only what the log has.
 use Rattle.std.proofs.Common.{◌≡◌, ℕ, ◌+◌, ◌≤◌, true, cond, List, [], ◌∷◌, ◌++◌, ◌⊎◌, inl, inr, refl, sym, ap, ◌∙◌, subst, arith}
 use Rattle.std.proofs.lemmas.Bool.{cases_Bool}
 use Rattle.std.proofs.lemmas.List.Sums.{sum_by-cons, sum_by-append}
@@ -24,7 +24,7 @@ use Rattle.fleet_model.proofs.Refiltering.{in_holds_refiltered, known_refiltered
 pub still_made : {log : List Entry} {v : Version} (more : List Entry) → IsMade log v → IsMade (log ++ more) v
 still_made more m = record { entry = m.entry; logged = in_left more m.logged; is = m.is }
 
--- a longer log
+-- a device stays traced when the log grows
 pub others_traced : (log more : List Entry) (d : ModelDevice) → IsTracedDevice log d → IsTracedDevice (log ++ more) d
 others_traced log more d D = record {
   made_only = λ p v h. still_made more (D.made_only p v h);

@@ -1,4 +1,4 @@
--- What the answer to a command has to be.
+-- The right answer to each command.
 use Rattle.std.specs.Prelude.{ℕ, Bool, List}
 use Rattle.photo_version.specs.Version.{Version, Versions}
 use Rattle.photo_model.specs.declared.place.Place.{Place}
@@ -6,22 +6,22 @@ use Rattle.photo_model.specs.declared.counts.PullCounts.{PullCounts}
 use Rattle.photo_model.specs.Entry.{Entry}
 use Rattle.photo_model.specs.Conflicts.{Conflict}
 
--- an answer that a command may have, but for what a device knows
+-- an answer, except the one that lists a device's knowledge
 pub data RightAnswer : Type 0 where
   Made : Version → Place → RightAnswer
   NotHeld : RightAnswer
   NotNarrower : RightAnswer
   Narrowed : ℕ → RightAnswer
-  -- how many versions are in the store and in the out then
+  -- how many versions the store and the out then have
   Refiltered : ℕ → ℕ → RightAnswer
   Pulled : PullCounts → RightAnswer
-  -- what a pull would move and tell
+  -- the counts that the pull would have
   Preview : PullCounts → RightAnswer
   Listed : ℕ → List Entry → List Entry → RightAnswer
   Conflicts : ℕ → List Conflict → RightAnswer
   Knows : Bool → RightAnswer
 
--- what the answer to a command has to be: one answer, or the knowledge of a device, as the test of a picture and a version
+-- the right report: exactly this answer, or the knowledge of a device, given as a test of pictures and versions
 pub data ModelReport : Type 0 where
   Exactly : RightAnswer → ModelReport
   KnowledgeIs : ℕ → (ℕ → Versions) → ModelReport

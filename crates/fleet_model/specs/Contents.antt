@@ -1,4 +1,4 @@
--- What a script has: its devices' names and filters in order of declaration, and its commands in order.
+-- A script: its devices' names and filters in order of declaration, and its commands in order.
 use Rattle.std.specs.Prelude.{◌≡◌, ◌≢◌, ℕ, zero, suc, ◌<◌, ◌≤◌, List, length, Option, Some, None, IfSome, slice_get}
 use Rattle.std.specs.List.{AllByRecursion}
 use Rattle.photo_record.specs.declared.record.Record.{Record}
@@ -16,12 +16,12 @@ pub record Contents : Type 0 where
 abbrev pub contents : List (List ℕ) → List Tree → List Command → Contents
 contents names filters commands = record { names = names; filters = filters; commands = commands }
 
--- the command of that number, from 1
+-- the command of that number; numbers begin with 1
 abbrev pub command_of : Contents → ℕ → Option Command
 command_of c zero = None
 command_of c (suc n) = slice_get c.commands n
 
--- the devices that a command works on, by their places among the names: one, and perhaps a second
+-- the devices of a command, by their places among the names: one, and for pulls and previews a second
 abbrev pub devices_of : Command → ℕ × Option ℕ
 devices_of (command.New device picture record_) = (device, None)
 devices_of (command.Edit device picture record_) = (device, None)
@@ -35,15 +35,15 @@ devices_of (command.Conflicts device) = (device, None)
 devices_of (command.Knowledge device) = (device, None)
 devices_of (command.Knows device picture v) = (device, None)
 
--- the devices of a command are among the first so many, and its second is not its first
+-- the command's devices have places below `count`, and its second device differs from its first
 abbrev pub IsWithin : ℕ → Command → Type 0
 IsWithin count x = ((devices_of x).0 < count) × IfSome (devices_of x).1 (λ second. (second < count) × (second ≢ (devices_of x).0))
 
--- each command works on declared devices
+-- each command names declared devices only
 abbrev pub NamesDevices : Contents → Type 0
 NamesDevices c = AllByRecursion (IsWithin (length c.names)) c.commands
 
--- the record that a command gives a picture, if it names one
+-- the record that a command gives a picture, if the command states one
 abbrev pub record_of : Command → Option Record
 record_of (command.New device picture content) = Some content
 record_of (command.Edit device picture content) = Some content
@@ -57,11 +57,11 @@ record_of (command.Conflicts device) = None
 record_of (command.Knowledge device) = None
 record_of (command.Knows device picture v) = None
 
--- the ratings and days of all records are ones that there are
+-- all ratings and days in the commands' records are in range
 abbrev pub AreInRange : Contents → Type 0
 AreInRange c = AllByRecursion (λ x. IfSome (record_of x) IsInRange) c.commands
 
--- what is true of every script
+-- what holds of every script
 pub record IsScript (c : Contents) : Type 0 where
   pub devices : length c.names ≤ max_devices
   pub filtered : length c.filters ≡ length c.names

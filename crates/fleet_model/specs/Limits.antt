@@ -1,10 +1,10 @@
--- How long a script is at most.
+-- How large a script may be.
 use Rattle.std.specs.Prelude.{ℕ}
 
--- devices of a script
+-- the most devices in a script
 abbrev pub max_devices : ℕ
 max_devices = 256
 
--- commands of a script
+-- the most commands in a script
 abbrev pub max_commands : ℕ
 max_commands = 100_000

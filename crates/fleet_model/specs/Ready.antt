@@ -1,4 +1,4 @@
--- What a pull asks of two devices.
+-- What a pull asks of its devices.
 use Rattle.std.specs.Prelude.{◌≡◌, ℕ, ◌<◌, ◌≤◌, true, false, List, length}
 use Rattle.photo_version.specs.Author.{device_of_author, is_earlier_epoch}
 use Rattle.photo_version.specs.Version.{Version, version}
@@ -7,14 +7,14 @@ use Rattle.photo_model.specs.Device.{ModelDevice, known, knows_entry, holds}
 use Rattle.fleet_model.specs.Runs.{device_at}
 use Rattle.fleet_model.specs.Members.{In}
 
--- of its picture the device knows the entry's version, and all that it was made with
+-- the device knows, for the entry's picture, the entry's version and its history
 pub record IsKnownTo (d : ModelDevice) (e : Entry) : Type 0 where
   pub itself : knows_entry d e ≡ true
   pub history : (v : Version) → e.history v ≡ true → known d e.picture v ≡ true
 
--- each device has the number of its place, what two devices hold of one version is one entry, and what any of them
--- knows of a device's own versions the device has counted; none knows of a later epoch of a device's; and each knows what it
--- holds, with all that it was made with
+-- devices that are ready for a pull: each stands at its own number; two devices that hold one version hold the same entry;
+-- nobody knows a version that its author hasn't made, or one of a later epoch than its device's; each device knows what it
+-- holds, with its history
 pub record IsReady (devices : List ModelDevice) : Type 0 where
   pub author : (k : ℕ) → k < length devices → device_of_author (device_at devices k).author ≡ k
   pub one : (t s : ℕ) → t < length devices → s < length devices → (e g : Entry) → In e (holds (device_at devices t)) → In g (holds (device_at devices s)) → e.version ≡ g.version → e ≡ g

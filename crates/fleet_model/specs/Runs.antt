@@ -1,4 +1,4 @@
--- What commands do to devices, and what a run of them gives.
+-- What commands do to devices, and what a run gives.
 use Rattle.std.specs.Prelude.{ℕ, zero, suc, ◌+◌, ◌-◌, false, List, [], ◌∷◌, ◌++◌, length, replicate, slice_index_or, slice_set, fold, if◌then◌else◌, Option, Some, None}
 use Rattle.std.specs.List.{flat_map}
 use Rattle.std.specs.Option.{option_map, option_to_list}
@@ -18,14 +18,14 @@ use Rattle.fleet_model.specs.Answers.{Made, NotHeld, NotNarrower, Narrowed, Refi
 use Rattle.fleet_model.specs.declared.command.Command.{Command}
 use Rattle.fleet_model.specs.declared.command.Command.TheVariants as command
 
--- what a command does to the devices that it works on: these devices after it, the report, and what the log gains
+-- what a command does: its devices afterwards, its report, and the entries that it adds to the log
 pub record Effect : Type 0 where
   pub first : ModelDevice
   pub second : Option ModelDevice
   pub report : ModelReport
   pub entries : List Entry
 
--- the first device makes a version of a picture
+-- the first device makes a version of the picture
 abbrev pub making : ModelDevice → Option ModelDevice → ℕ → Record → Effect
 making d other picture content = record {
   first = made d picture content;
@@ -34,19 +34,19 @@ making d other picture content = record {
   entries = new_entry d picture content ∷ [];
 }
 
--- nothing but a report
+-- no device changes; there is only a report
 abbrev pub telling : ModelDevice → Option ModelDevice → ModelReport → Effect
 telling d other report = record { first = d; second = other; report = report; entries = [] }
 
--- the first device makes one where it holds a version of the picture, and nothing happens where it holds none
+-- the first device makes a version if it holds one of the picture, else nothing changes
 abbrev pub changing : ModelDevice → Option ModelDevice → ℕ → Record → Effect
 changing d other picture content = if is_held d picture then making d other picture content else telling d other (Exactly NotHeld)
 
--- a pull that moves and tells nothing
+-- the counts of a pull that moves nothing
 abbrev pub nothing_moved : PullCounts
 nothing_moved = record { taken = 0; handed = 0; notices = 0; dropped = 0; learned = false }
 
--- the first device takes and learns from the second. A pull always has a second
+-- the first device pulls from the second; a pull always has a second device
 abbrev pub pulling : ModelDevice → Option ModelDevice → Effect
 pulling d None = telling d None (Exactly (Pulled nothing_moved))
 pulling d (Some s) = record {
@@ -56,7 +56,7 @@ pulling d (Some s) = record {
   entries = [];
 }
 
--- the first device gets another tree where its own covers that one, and nothing happens where it doesn't
+-- the first device takes a narrower tree, which its own has to cover; else nothing changes
 abbrev pub narrowing : ModelDevice → Option ModelDevice → Tree → Effect
 narrowing d other tree =
     if covers d.tree tree then record {
@@ -66,7 +66,7 @@ narrowing d other tree =
       entries = [];
     } else telling d other (Exactly NotNarrower)
 
--- the first device gets any other tree, and begins its next epoch
+-- the first device takes any tree and begins its next epoch
 abbrev pub refiltering : ModelDevice → Option ModelDevice → Tree → Effect
 refiltering d other tree = record {
   first = refiltered tree d;
@@ -75,7 +75,7 @@ refiltering d other tree = record {
   entries = [];
 }
 
--- what the first device would take and learn from the second. A preview always has a second
+-- what a pull of the first device from the second would give; a preview always has a second device
 abbrev pub previewing : ModelDevice → Option ModelDevice → Effect
 previewing d None = telling d None (Exactly (Preview nothing_moved))
 previewing d (Some s) = telling d (Some s) (Exactly (Preview (counts_of d s)))
@@ -93,24 +93,24 @@ effect (command.Conflicts n) d other = telling d other (Exactly (Conflicts n (co
 effect (command.Knowledge n) d other = telling d other (KnowledgeIs n (known d))
 effect (command.Knows n picture v) d other = telling d other (Exactly (Knows (known d picture v)))
 
--- all devices in order of declaration; the report on each command that has run, at the place of its number; and the
--- log, oldest first
+-- the devices in order of declaration; a slot for each command's report, by its number; and the log of all versions made,
+-- oldest first
 pub record Fleet : Type 0 where
   pub devices : List ModelDevice
   pub reports : List (Option ModelReport)
   pub log : List Entry
 
--- the device at a place in order of declaration
+-- the device at that place, in order of declaration
 abbrev pub device_at : List ModelDevice → ℕ → ModelDevice
 device_at devices n = slice_index_or devices n (opening (author n) All)
 
--- devices with one more exchanged, if there is a second
+-- the list with the second device replaced, if there is one
 abbrev pub with_second : Option ℕ → Option ModelDevice → List ModelDevice → List ModelDevice
 with_second (Some place) (Some d) devices = slice_set devices place d
 with_second (Some place) None devices = devices
 with_second None second devices = devices
 
--- a command of that number runs on the devices that it works on
+-- the fleet after that command ran on its devices
 abbrev pub after_command : Fleet → ℕ → Command → Fleet
 after_command fleet number c =
     let places = devices_of c in
@@ -121,7 +121,7 @@ after_command fleet number c =
       log = fleet.log ++ done.entries;
     }
 
--- the command of that number runs, if there is one
+-- the fleet after the command of that number, unchanged if there is none
 abbrev pub step : Contents → Fleet → ℕ → Fleet
 step script fleet number = by_cases (command_of script number)
   where
@@ -129,7 +129,7 @@ step script fleet number = by_cases (command_of script number)
     by_cases None = fleet
     by_cases (Some c) = after_command fleet number c
 
--- a device for each filter, from a number on, none of which has made or holds anything
+-- a new device for each filter, numbered from n
 abbrev pub opening_from : ℕ → List Tree → List ModelDevice
 opening_from n [] = []
 opening_from n (filter ∷ filters) = opening (author n) filter ∷ opening_from (n + 1) filters
@@ -141,7 +141,7 @@ opening_fleet script = record {
   log = [];
 }
 
--- the fleet after the commands of those numbers, in that order
+-- the fleet after the commands of these numbers, in this order
 abbrev pub run_in_order : Contents → List ℕ → Fleet
 run_in_order script numbers = fold (step script) (opening_fleet script) numbers
 
@@ -150,10 +150,10 @@ abbrev pub numbers_to : ℕ → List ℕ
 numbers_to zero = []
 numbers_to (suc n) = numbers_to n ++ suc n ∷ []
 
--- the fleet after all commands, in the order of their numbers
+-- the fleet after all commands in order
 abbrev pub run : Contents → Fleet
 run script = run_in_order script (numbers_to (length script.commands))
 
--- the reports that there are, in the order of their commands' numbers
+-- the reports of the commands that ran, by number
 abbrev pub reports_of : Fleet → List ModelReport
 reports_of fleet = flat_map option_to_list fleet.reports

@@ -1,4 +1,4 @@
--- Devices that are sound and devices that aren't, worked.
+-- Worked devices: some are sound, some aren't.
 use Rattle.std.specs.Prelude.{◌≡◌, true, false, pos, List, [], ◌∷◌, ◌++◌}
 use Rattle.photo_record.specs.declared.record.Record.{Record}
 use Rattle.photo_record.specs.declared.record.Record.TheVariants.{Picture}
@@ -16,7 +16,7 @@ bright = Picture 5 (pos 19_844) []
 abbrev pub faded : Record
 faded = Picture 1 (pos 19_844) []
 
--- a camera before it makes a picture, with it, and with a later version of it; and another device
+-- a camera with no picture, with one, and with a later version of that; and another device
 abbrev pub empty : ModelDevice
 empty = opening (author 0) All
 
@@ -35,7 +35,7 @@ one = new_entry empty 7 bright ∷ []
 abbrev pub two : List Entry
 two = one ++ new_entry camera 7 faded ∷ []
 
--- a device that is to keep nothing learns of the picture from the camera; then it begins anew, and is to keep all
+-- a device that keeps nothing learns the picture from the camera; then it begins its next epoch, now to keep everything
 abbrev pub frame : ModelDevice
 frame = pulled (opening (author 1) Nothing) camera
 

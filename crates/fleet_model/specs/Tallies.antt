@@ -1,4 +1,4 @@
--- How many commands of each kind a script has, and how many versions the pulls of a run moved.
+-- How many commands of each kind a script has, and how many versions its pulls move.
 use Rattle.std.specs.Prelude.{ℕ, ◌+◌, ◌*◌, Bool, true, false, List, count_by}
 use Rattle.std.specs.List.{sum_by}
 use Rattle.fleet_model.specs.Limits.{max_commands}
@@ -10,7 +10,7 @@ use Rattle.fleet_model.specs.declared.command.Command.TheVariants as command
 use Rattle.fleet_model.specs.declared.tally.Tally.{Tally}
 use Rattle.fleet_model.specs.declared.tally.Totals.{Totals}
 
--- a command changes a device, or is a pull, or asks for a report
+-- a command changes a device, is a pull, or asks for a report
 pub data Kind : Type 0 where
   Change : Kind
   Pull : Kind
@@ -44,7 +44,7 @@ is_question Change = false
 is_question Pull = false
 is_question Question = true
 
--- how many commands are of each kind
+-- the number of commands of each kind
 abbrev pub tally_of_commands : List Command → Tally
 tally_of_commands commands = record {
   changes = count_by (λ c. is_change (kind_of c)) commands;
@@ -55,7 +55,7 @@ tally_of_commands commands = record {
 abbrev pub tally_of : Contents → Tally
 tally_of script = tally_of_commands script.commands
 
--- how many versions the target of a pull took and its source handed over, by the answer to the pull
+-- how many versions a pull took and was handed; 0 for any other answer
 abbrev pub moved_by_right : RightAnswer → ℕ
 moved_by_right (Made v place) = 0
 moved_by_right NotHeld = 0
@@ -76,7 +76,7 @@ moved_by_report (KnowledgeIs device known) = 0
 abbrev pub moved_of : Fleet → ℕ
 moved_of fleet = sum_by moved_by_report (reports_of fleet)
 
--- the tally of a script, and what the pulls of its run moved
+-- the tally of a script, with the number of versions that its pulls moved
 abbrev pub totals_of : Contents → Fleet → Totals
 totals_of script fleet = record {
   changes = (tally_of script).changes;
@@ -85,6 +85,6 @@ totals_of script fleet = record {
   moved = moved_of fleet;
 }
 
--- a pull takes no more versions than there can be commands, and is handed over no more
+-- the most versions that one pull moves: it takes at most one for each command, and is handed as many at most
 abbrev pub max_moved : ℕ
 max_moved = 2 * max_commands

@@ -1,5 +1,5 @@
-//! What a script is, what each command does to model devices, what a run is, and why every run is sound and keeps what is
-//! current. It holds definitions, laws and their proofs, and knows no code that runs a script.
+//! Scripts, what each command does to model devices, runs, and the proof that every run is sound and keeps what is current. The
+//! crate has definitions, laws and their proofs; it uses no code that runs a script.
 #![tactic(auto)]
 
 mod command;

@@ -1,4 +1,4 @@
--- The rows of an arena are those of its blocks, one block behind the other.
+-- The rows of an arena are its blocks' rows, in the order of blocks.
 use Rattle.std.proofs.Common.{◌≡◌, ℕ, zero, suc, ◌+◌, ◌-◌, ◌<◌, ◌≤◌, List, [], ◌∷◌, ◌++◌, length, take, drop, get_or, set, refl, sym, ap, subst, ◌∙◌, arith, append_assoc, append-nil, length-append, length-set}
 use Rattle.std.proofs.Math.ListN.{get_or-append}
 use Rattle.std.proofs.Math.Seq.{get_or-append-add, take-append-le, drop-append-le, drop-append-add, take-suc}
@@ -6,19 +6,19 @@ use Rattle.std.proofs.lemmas.List.{length-drop, get_or-set_same}
 use Rattle.fragment_arena.specs.Arena.{run}
 use Rattle.fragment_arena.specs.Rows.{Rows, no_block, block_at, last_block, rows_of, before, IsIn, IsStretch, IsArena}
 
--- the block at a place that there is, whatever would stand for one that is not
+-- reading an existing block gives it, whatever the default
 pub block_at-any : (blocks : List Rows) (k : ℕ) (d : Rows) → k < length blocks → get_or blocks k d ≡ block_at blocks k
 block_at-any [] k d lt = absurd (omega (arith, lt))
 block_at-any (b ∷ bs) zero d lt = refl
 block_at-any (b ∷ bs) (suc k) d lt = block_at-any bs k d (omega (arith, lt))
 
--- a block comes in place of another with the same rows
+-- replacing a block by one with the same rows keeps the arena's rows
 pub rows-same : (blocks : List Rows) (k : ℕ) (b : Rows) → k < length blocks → b.rows ≡ (block_at blocks k).rows → rows_of (set blocks k b) ≡ rows_of blocks
 rows-same [] k b lt same = absurd (omega (arith, lt))
 rows-same (x ∷ xs) zero b lt same = ap (λ rows. rows ++ rows_of xs) same
 rows-same (x ∷ xs) (suc k) b lt same = ap (λ rows. x.rows ++ rows) (rows-same xs k b (omega (arith, lt)) same)
 
--- rows come behind those of the last block
+-- rows appended to the last block are appended to the arena
 pub rows-more : (blocks : List Rows) (k : ℕ) (b : Rows) (more : List (List ℕ)) → k + 1 ≡ length blocks → b.rows ≡ (block_at blocks k).rows ++ more → rows_of (set blocks k b) ≡ rows_of blocks ++ more
 rows-more [] k b more last new = absurd (omega (arith, last))
 rows-more (x ∷ []) zero b more last new = ap (λ rows. rows ++ []) new ∙ append-nil (x.rows ++ more) ∙ ap (λ rows. rows ++ more) (sym (append-nil x.rows))
@@ -38,12 +38,12 @@ last-set blocks k b last =
 pub last-at : (blocks : List Rows) (k : ℕ) → k + 1 ≡ length blocks → last_block blocks ≡ block_at blocks k
 last-at blocks k last = let place : length blocks - 1 ≡ k = omega (arith, last) in ap (block_at blocks) place
 
--- where there is room for rows there is a block
+-- an arena with capacity for rows has a block
 pub some-block : (blocks : List Rows) → 0 < (last_block blocks).slots → 0 < length blocks
 some-block [] some = absurd (omega (arith, some))
 some-block (b ∷ bs) some = omega arith
 
--- the row of a number stands in a block
+-- each row is in a block
 
 pub before-first : (blocks : List Rows) → before blocks 0 ≡ 0
 before-first [] = refl
@@ -71,7 +71,7 @@ at-place (b ∷ bs) (suc k) row lt inside =
 pub row-in : (blocks : List Rows) (place block row : ℕ) → IsIn blocks place block row → get_or (rows_of blocks) place [] ≡ get_or (block_at blocks block).rows row []
 row-in blocks place block row is = ap (λ n. get_or (rows_of blocks) n []) (sym is.counted) ∙ at-place blocks block row is.block_is_there is.row_is_there
 
--- a run of rows of one block
+-- a run of rows within one block
 
 run-left : (xs ys : List (List ℕ)) (from len : ℕ) → from + len ≤ length xs → take len (drop from (xs ++ ys)) ≡ take len (drop from xs)
 run-left xs ys from len le =
@@ -100,7 +100,7 @@ copied blocks copies i b d lt same so_far =
     let next : i + 1 ≡ suc i = omega arith in
     rows-added copies b ∙ (λ j. so_far j ++ same j) ∙ sym (rows-added (take i blocks) (get_or blocks i d)) ∙ ap rows_of (sym (take-suc blocks i d lt)) ∙ ap (λ n. rows_of (take n blocks)) (sym next)
 
--- what holds of an arena when rows come into its last block
+-- what rows appended to the last block change in an arena
 pub arena-more : (blocks : List Rows) (count words slots k taken_words taken_slots : ℕ) (b : Rows) (more : List (List ℕ)) → IsArena blocks count words slots → k + 1 ≡ length blocks
     → b.rows ≡ (block_at blocks k).rows ++ more → length more ≡ taken_slots → taken_words ≤ words → taken_slots ≤ slots → b.room + taken_words ≡ (block_at blocks k).room → (block_at blocks k).slots ≤ b.slots + taken_slots
     → IsArena (set blocks k b) (count + taken_slots) (words - taken_words) (slots - taken_slots)

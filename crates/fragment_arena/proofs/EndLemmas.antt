@@ -1,4 +1,4 @@
--- Rows that are cut out of words by the places where they end.
+-- Rows, cut out of words at their ends.
 use Rattle.std.proofs.Common.{◌≡◌, ℕ, zero, suc, ◌+◌, ◌-◌, ◌<◌, ◌≤◌, List, [], ◌∷◌, ◌++◌, length, take, drop, get_or, set, map, refl, sym, ap, subst, ◌∙◌, arith, length-append, length-set, ◌^◌}
 use Rattle.std.proofs.Math.Seq.{take-length, take-append-le, drop-append-le, drop-append-add, take-take, drop-drop, drop-set-lt, get_or-drop}
 use Rattle.std.proofs.lemmas.List.{drop-take, length-drop, length-take, get_or_read_under, take_more_set, map_more}
@@ -9,7 +9,7 @@ pub cut-length : (ws : List ℕ) (from : ℕ) (ends : List ℕ) → length (cut_
 cut-length ws from [] = refl
 cut-length ws from (e ∷ es) = ap suc (cut-length ws e es)
 
--- where the row of a number begins
+-- where row i begins
 abbrev pub begin_of : ℕ → List ℕ → ℕ → ℕ
 begin_of from ends i = get_or (from ∷ ends) i 0
 
@@ -48,7 +48,7 @@ row-long ws from [] i a lt = absurd (omega (arith, lt))
 row-long ws from (e ∷ es) zero a lt = let long = one-long ws from e a.0 (end-low e es (length ws) a.1) in omega (arith, long, a.0)
 row-long ws from (e ∷ es) (suc i) a lt = row-long ws e es i a.1 (omega (arith, lt))
 
--- Words behind others
+-- Appending words
 
 shifted : (ws vs : List ℕ) (from : ℕ) (more : List ℕ) → cut_at (ws ++ vs) (length ws + from) (map (λ e. length ws + e) more) ≡ cut_at vs from more
 shifted ws vs from [] = refl
@@ -117,7 +117,7 @@ ends-run from ends len a b h low high =
     subst (AreEnds (begin_of from ends a) (take (b - a) (drop a ends))) (begin-drop from ends a (b - a) there ∙ ap (begin_of from ends) all)
     (ends-take (begin_of from ends a) (drop a ends) len (b - a) (ends-drop from ends len a h (omega (arith, low, high))) count)
 
--- the same rows, cut out of the part of the words in which they lie
+-- the same rows, cut out of the part of the words that they occupy
 based : (ws : List ℕ) (base from m : ℕ) (ends : List ℕ) → AreEnds (base + from) ends (base + m) → base + m ≤ length ws
     → cut_at ws (base + from) ends ≡ cut_at (take m (drop base ws)) from (map (λ e. e - base) ends)
 based ws base from m [] a le = refl
@@ -185,9 +185,9 @@ module _ (ws : List ℕ) (ends : List ℕ) (a b : ℕ) (h : AreEnds 0 ends (leng
       let start : first ≡ first + 0 = omega arith in
       cut-run ws 0 ends a b there ∙ ap (λ n. cut_at ws n part) start ∙ based ws first 0 count part part-from run-inside
 
--- A word is written over
+-- Overwriting a word
 
--- Rows as a block keeps them
+-- The rows of a block
 
 module _ (ws ends : List ℕ) (rows : List (List ℕ)) (is : cut_at ws 0 ends ≡ rows) (a : AreEnds 0 ends (length ws)) where
   pub count-is : length ends ≡ length rows
@@ -204,7 +204,7 @@ module _ (ws ends : List ℕ) (rows : List (List ℕ)) (is : cut_at ws 0 ends �
       let same = ap (λ rs. length (get_or rs i [])) is in
       omega (arith, long, same, begin-is i (omega (arith, lt)))
 
-  -- what stands at a place among the ends, whatever would stand for one that is not there
+  -- reading an end before row i gives where the row begins, whatever the default
   pub begin-read : (i n : ℕ) → ¬ (i ≡ 0) → i ≤ length rows → n ≡ get_or ends (i - 1) n → n ≡ words_in (take i rows)
   begin-read zero n some le read = absurd (some refl)
   begin-read (suc i) n some le read =
@@ -224,7 +224,7 @@ module _ (ws ends : List ℕ) (rows : List (List ℕ)) (is : cut_at ws 0 ends �
       let count : len ≡ get_or ends i 0 - begin_of 0 ends i = omega (arith, end-is i lt, place, long) in
       (λ k. take (count k) (drop (place k) ws)) ∙ sym (cut-read ws 0 ends i below) ∙ ap (λ rs. get_or rs i []) is
 
-  -- one row more
+  -- one more row
   pub placed-is : (row : List ℕ) (e : ℕ) → e ≡ length ws + length row → cut_at (ws ++ row) 0 (ends ++ e ∷ []) ≡ rows ++ row ∷ []
   placed-is row e at =
       let all : length row - 0 ≡ length row = omega arith in
@@ -238,7 +238,7 @@ module _ (ws ends : List ℕ) (rows : List (List ℕ)) (is : cut_at ws 0 ends �
       subst (AreEnds 0 (ends ++ e ∷ [])) all
       (subst (λ n. AreEnds 0 (ends ++ n ∷ []) (length ws + length row)) (sym at) (ends-appended 0 ends (length row ∷ []) (length ws) (length row) a (low, refl)))
 
--- Places that are moved one by one
+-- Ends moved one by one
 
 pub can-move-at : (first at : ℕ) (ends : List ℕ) (i d : ℕ) → CanMove first at ends → i < length ends → (first ≤ get_or ends i d) × (get_or ends i d - first + at < 2 ^ 32)
 can-move-at first at [] i d h lt = absurd (omega (arith, lt))
@@ -252,7 +252,7 @@ can-move first at from (e ∷ es) len a low high =
     let next : first ≤ e = omega (arith, low, a.0) in
     (next, omega (arith, top, high, next), can-move first at e es len a.1 next high)
 
--- up to a place they were moved, and from there on they are as they were
+-- the ends up to place i are moved, and the others are unchanged
 pub record AreMoved (first at : ℕ) (old new : List ℕ) (i : ℕ) : Type 0 where
   pub moved : take i new ≡ map (λ e. e - first + at) (take i old)
   pub rest : drop i new ≡ drop i old
@@ -273,7 +273,7 @@ moved-one first at old new i n d lt is h =
       long = length-set new i n ∙ h.long;
     }
 
--- A run of another block's rows is placed behind the rows of a block
+-- A run of another block's rows is appended to a block
 
 twice-moved : (n first : ℕ) (part : List ℕ) → map (λ e. n + e) (map (λ e. e - first) part) ≡ map (λ e. e - first + n) part
 twice-moved n first [] = refl

@@ -1,4 +1,4 @@
--- A run of rows of another arena, placed stretch by stretch.
+-- A run of another arena's rows, placed stretch by stretch.
 use Rattle.std.proofs.Common.{◌≡◌, ℕ, zero, suc, ◌+◌, ◌-◌, ◌<◌, ◌≤◌, List, [], ◌∷◌, ◌++◌, length, take, drop, sym, ap, ◌∙◌, arith, append_assoc}
 use Rattle.std.proofs.Math.Seq.{take-add, drop-nil}
 use Rattle.std.proofs.lemmas.List.{length-drop, length-take}
@@ -26,7 +26,7 @@ words-split rows from mid to low high = ap words_in (run-split rows from mid to 
 pub run-less : (rows : List (List ℕ)) (from mid to : ℕ) → from ≤ mid → mid ≤ to → words_in (run rows from mid) ≤ words_in (run rows from to)
 run-less rows from mid to low high = omega (arith, words-split rows from mid to low high)
 
--- rows were placed up to this place of a run, and words and slots for them were taken out of what is reserved
+-- the rows of a run before `place` are placed, and their words and rows are taken from the reserved capacity
 pub record IsPlaced (rows : List (List ℕ)) (from to place : ℕ) (old new : List (List ℕ)) (old_words new_words old_slots new_slots : ℕ) : Type 0 where
   pub placed : new ++ run rows place to ≡ old ++ run rows from to
   pub words : new_words + words_in (run rows from to) ≡ old_words + words_in (run rows place to)
@@ -44,7 +44,7 @@ many-placed rows from to place end old new next old_words new_words next_words o
       slots = omega (arith, slots, h.slots, low, lt);
     }
 
--- the words of the rows before a run and those of the run are those of the rows before its end
+-- the words before a run and the words of the run are the words before its end
 pub words-between : (rows : List (List ℕ)) (from to : ℕ) → from ≤ to → words_in (take from rows) + words_in (run rows from to) ≡ words_in (take to rows)
 words-between rows from to le =
     let start : from - 0 ≡ from = omega arith in

@@ -1,4 +1,4 @@
-// The arena: what it is seen as, and its calls.
+// The type `FragmentArena` and its methods.
 use crate::blocks;
 use crate::row::Row;
 use crate::row_block::RowBlock;
@@ -6,8 +6,8 @@ use std::alloc::{AllocError, Global};
 use std::fmt;
 use std::marker::Model;
 
-/// Rows of words, each at its place from 0, in blocks that never move while rows stand. A row lies whole in one block.
-/// Room for rows and words can be reserved, and rows placed in it take no memory.
+/// Rows of words. Rows are numbered from 0 and lie in blocks that never move while rows exist; each row lies in one block.
+/// Capacity for rows and words can be reserved; placing rows in it takes no memory.
 #[derive(Drop)]
 pub struct FragmentArena {
     alloc: Global,
@@ -36,7 +36,7 @@ impl FragmentArena {
     ghost use Rattle.std.specs.Prelude.{ℕ, max, length, get_or, IfOk, IfSome, OnOk, OnErr};
     ghost use Rattle.fragment_arena.specs.Arena.{arena, run, words_in};
 
-    /// No rows, and nothing reserved. Takes no memory.
+    /// An arena without rows and without reserved capacity. Takes no memory.
     pub fn new(alloc: Global) -> FragmentArena
         ensures { result ≡ arena [] 0 0 }
     {
@@ -49,8 +49,8 @@ impl FragmentArena {
         }
     }
 
-    /// Reserves room for at least so many words and so many rows. A refusal changes nothing; 2^32 words (32 GiB) and more are
-    /// refused like those for which there is no memory.
+    /// Reserves capacity for at least so many words and so many rows. A refusal changes nothing. 2^32 words (32 GiB) or more
+    /// are refused as if there were no memory for them.
     pub fn reserve(&mut self, words: usize, rows: usize) -> Result<(), AllocError>
         ensures reserved { OnOk result
             (self.new ≡ arena self.old.rows (max self.old.reserved_words words) (max self.old.reserved_rows rows)) }
@@ -64,8 +64,8 @@ impl FragmentArena {
         Ok(())
     }
 
-    /// One row more, at the end; gives its place, and leaves nothing reserved. A refusal changes nothing. A row of 2^32 words
-    /// (32 GiB) and more is refused like one for which there is no memory.
+    /// Appends a row and returns its place; no capacity stays reserved. A refusal changes nothing. A row of 2^32 words (32 GiB)
+    /// or more is refused as if there were no memory for it.
     pub fn place(&mut self, words: &[u64]) -> Result<Row, AllocError>
         ensures row { IfOk result (λ row. row ≡ length self.old.rows) }
         ensures placed { OnOk result (self.new ≡ arena (self.old.rows ++ words.now ∷ []) 0 0) }
@@ -77,21 +77,21 @@ impl FragmentArena {
         Ok(self.place_reserved(words))
     }
 
-    /// Whether a row of so many words finds room that was reserved.
+    /// Whether a row of so many words fits in the reserved capacity.
     pub fn has_reserved(&self, words: usize) -> bool
         ensures { result ≡ (nat_le words self.now.reserved_words && nat_lt 0 self.now.reserved_rows) }
     {
         words <= self.reserved_words && self.reserved_rows > 0
     }
 
-    /// Whether two rows, of a single word and of so many others, find room that was reserved.
+    /// Whether two rows, one of a single word and one of so many words, fit in the reserved capacity.
     pub fn has_reserved_pair(&self, words: usize) -> bool
         ensures { result ≡ (nat_lt words self.now.reserved_words && nat_lt 1 self.now.reserved_rows) }
     {
         words < self.reserved_words && self.reserved_rows > 1
     }
 
-    /// One row more, at the end, in room that was reserved; gives its place. Takes no memory.
+    /// Appends a row in reserved capacity and returns its place. Takes no memory.
     pub fn place_reserved(&mut self, words: &[u64]) -> Row
         requires words { length words.now ≤ self.old.reserved_words }
         requires row { 0 < self.old.reserved_rows }
@@ -109,8 +109,7 @@ impl FragmentArena {
         Row::at(place)
     }
 
-    /// Two rows more, at the end, in room that was reserved: one of a single word, and one of others; gives the place of the
-    /// second. Takes no memory.
+    /// Appends two rows in reserved capacity, the first of a single word, and returns the second one's place. Takes no memory.
     pub fn place_reserved_pair(&mut self, word: u64, words: &[u64]) -> Row
         requires words { length words.now + 1 ≤ self.old.reserved_words }
         requires slots { 2 ≤ self.old.reserved_rows }
@@ -123,7 +122,7 @@ impl FragmentArena {
         self.place_reserved(words)
     }
 
-    /// The rows of another arena from one place up to another, at the end, in room that was reserved. Takes no memory.
+    /// Appends the rows from `from` up to `to` of another arena, in reserved capacity. Takes no memory.
     pub fn place_run(&mut self, other: &FragmentArena, from: usize, to: usize)
         requires order { from ≤ to }
         requires there { to ≤ length other.now.rows }
@@ -139,7 +138,8 @@ impl FragmentArena {
         }
     }
 
-    // Those of them that lie side by side, from the first on, in one piece; gives the place behind the last of these.
+    // Appends the rows from `from` on, up to `to`, that lie in one block, with one copy. Returns the place after the last of
+    // them.
     fn place_stretch(&mut self, other: &FragmentArena, from: usize, to: usize) -> usize
         requires order { from < to }
         requires there { to ≤ length other.now.rows }
@@ -161,7 +161,7 @@ impl FragmentArena {
         from + (end - first)
     }
 
-    /// How many words the rows from one place up to another have together; none where that is no `usize`.
+    /// The number of words in the rows from `from` up to `to`; `None` if it exceeds `usize`.
     pub fn words_of_run(&self, from: usize, to: usize) -> Option<usize>
         requires order { from ≤ to }
         requires there { to ≤ length self.now.rows }
@@ -194,7 +194,7 @@ impl FragmentArena {
         self.count
     }
 
-    /// An arena with equal rows, and nothing reserved. Its only error is want of memory.
+    /// An arena with equal rows and without reserved capacity. Its only error is want of memory.
     pub fn try_clone(&self) -> Result<FragmentArena, AllocError>
         ensures { IfOk result (λ copy. copy ≡ arena self.now.rows 0 0) }
     {
@@ -208,8 +208,8 @@ impl FragmentArena {
         })
     }
 
-    /// How many blocks it has, and how many words the last one has with those that are not written yet. What its rows take
-    /// is no part of what it is seen as.
+    /// The number of blocks, and the capacity of the last one in words, written or not. Contracts don't see the memory that
+    /// rows take.
     pub fn memory(&self) -> (usize, usize) {
         match self.blocks.last() {
             Some(last) => (self.blocks.len(), last.capacity()),
@@ -217,11 +217,11 @@ impl FragmentArena {
         }
     }
 
-    /// Removes all rows; nothing is reserved then.
+    /// Removes all rows and reservations.
     pub fn clear(&mut self)
         ensures { self.new ≡ arena [] 0 0 }
     {
-        // (the largest block stays, for the rows to come)
+        // (the largest block stays for later rows)
         self.count = 0;
         blocks::clear(&mut self.blocks);
         self.reserved_words = 0;

@@ -1,8 +1,8 @@
-// Places at which rows end.
+// The places at which rows end.
 ghost use Rattle.std.specs.Prelude.{◌≡◌, ◌+◌, ◌-◌, ◌≤◌, ◌++◌, length, map, vec_len, vec_capacity};
 ghost use Rattle.fragment_arena.specs.Rows.{CanMove};
 
-// Moves each place as far behind `at` as it was behind `first`.
+// Moves each end by the distance from `first` to `at`.
 fn move_all(ends: &mut [u32], first: usize, at: usize)
     requires { CanMove first at ends.old }
     ensures { ends.new ≡ map (λ end. end - first + at) ends.old }
@@ -12,7 +12,7 @@ fn move_all(ends: &mut [u32], first: usize, at: usize)
     }
 }
 
-/// Adds places as far behind `at` as these are behind `first`.
+/// Appends the ends, each moved by the distance from `first` to `at`.
 pub(crate) fn push_moved(ends: &mut Vec<u32>, more: &[u32], first: usize, at: usize)
     requires slots { vec_len ends.old + length more.now ≤ vec_capacity ends.old }
     requires fits { CanMove first at more.now }

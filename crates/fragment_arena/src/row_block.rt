@@ -1,11 +1,11 @@
-// Rows side by side in one block.
+// Consecutive rows in one block.
 use crate::ends::push_moved;
 use crate::raw_words::RawWords;
 use std::alloc::{AllocError, Global};
 use std::marker::Model;
 
-/// Rows of words side by side in one block, and room for more behind them. Of each row it keeps where it ends, which is where
-/// the next one begins. The block never moves.
+/// Consecutive rows of words in one block, and capacity for more. It keeps the end of each row, where the next one begins. The
+/// block never moves.
 #[derive(Drop)]
 pub(crate) struct RowBlock {
     words: RawWords,
@@ -31,7 +31,7 @@ impl RowBlock {
     ghost use Rattle.std.specs.Prelude.{IfOk, OnOk, OnErr};
     ghost use Rattle.fragment_arena.specs.Arena.{run, words_in};
 
-    /// A block without rows, with room for so many words and so many rows. Its only error is want of memory.
+    /// A block without rows, with capacity for so many words and rows. Its only error is want of memory.
     pub(crate) fn make(alloc: Global, words: usize, rows: usize) -> Result<RowBlock, AllocError>
         ensures rows { IfOk result (λ b. b.rows ≡ []) }
         ensures room { IfOk result (λ b. b.room ≡ words) }
@@ -50,19 +50,19 @@ impl RowBlock {
         self.ends.len()
     }
 
-    /// For how many words more there is room.
+    /// The number of words that can still be written.
     pub(crate) fn room(&self) -> usize
         ensures { result ≡ self.now.room }
     {
         self.words.room()
     }
 
-    /// How many words it has, with those that are not written yet.
+    /// The number of words in the block, written or not.
     pub(crate) fn capacity(&self) -> usize {
         self.words.capacity()
     }
 
-    /// Sees to it that so many rows more find a place. A refusal changes nothing.
+    /// Ensures capacity for so many more rows. A refusal changes nothing.
     pub(crate) fn make_slots(&mut self, rows: usize) -> Result<(), AllocError>
         ensures rows { self.new.rows ≡ self.old.rows }
         ensures room { self.new.room ≡ self.old.room }
@@ -72,7 +72,7 @@ impl RowBlock {
         self.ends.reserve(rows)
     }
 
-    /// One row more, at the end. Takes no memory.
+    /// Appends a row. Takes no memory.
     pub(crate) fn place(&mut self, words: &[u64])
         requires room { length words.now ≤ self.old.room }
         requires slot { 0 < self.old.slots }
@@ -81,13 +81,13 @@ impl RowBlock {
         ensures slots { self.new.slots + 1 ≡ self.old.slots }
     {
         self.words.write(words);
-        // For its fact alone: the block has fewer than 2 ^ 32 words.
+        // `capacity` is called because its contract says that the block has fewer than 2 ^ 32 words, so `end` fits in a `u32`.
         let _capacity = self.words.capacity();
         let end = self.words.len();
         self.ends.push_reserved(end as u32);
     }
 
-    // Where a row begins, or where the last one ends: behind the words of those before it.
+    // Where a row begins, after the words of the rows before it; for the number of rows, where the last one ends.
     fn begin(&self, row: usize) -> usize
         requires { row ≤ length self.now.rows }
         ensures { result ≡ words_in (take row self.now.rows) }
@@ -98,7 +98,7 @@ impl RowBlock {
         self.ends[row - 1] as usize
     }
 
-    /// How many words the rows from one on up to another have together.
+    /// The number of words in the rows from `from` up to `to`.
     pub(crate) fn words_of_run(&self, from: usize, to: usize) -> usize
         requires order { from ≤ to }
         requires there { to ≤ length self.now.rows }
@@ -107,7 +107,7 @@ impl RowBlock {
         self.begin(to) - self.begin(from)
     }
 
-    /// The rows of another block from one on up to another, at the end, in one piece. Takes no memory.
+    /// Appends the rows from `from` up to `to` of another block, with one copy. Takes no memory.
     pub(crate) fn place_run(&mut self, other: &RowBlock, from: usize, to: usize)
         requires order { from ≤ to }
         requires there { to ≤ length other.now.rows }
@@ -121,7 +121,8 @@ impl RowBlock {
         let words = other.words_of_run(from, to);
         let at = self.words.len();
         self.words.write(other.words.slice(first, words));
-        // For its fact alone: the block has fewer than 2 ^ 32 words.
+        // `capacity` is called because its contract says that the block has fewer than 2 ^ 32 words, so the moved ends fit in a
+        // `u32`.
         let _capacity = self.words.capacity();
         push_moved(&mut self.ends, &other.ends[from..to], first, at);
     }
@@ -136,7 +137,7 @@ impl RowBlock {
         self.words.slice(from, end - from)
     }
 
-    /// A block with equal rows, and no room for words behind them. Its only error is want of memory.
+    /// A block with equal rows and no capacity for more words. Its only error is want of memory.
     pub(crate) fn copy(&self, alloc: Global) -> Result<RowBlock, AllocError>
         ensures { IfOk result (λ copy. copy.rows ≡ self.now.rows) }
     {
@@ -146,7 +147,7 @@ impl RowBlock {
         Ok(RowBlock { words, ends })
     }
 
-    /// Forgets its rows: all is room again.
+    /// Removes the rows, so that all is unwritten capacity.
     pub(crate) fn clear(&mut self)
         ensures { self.new.rows ≡ [] }
     {

@@ -15,7 +15,7 @@ some_is : (m n : ℕ) → Some m ≡ Some n → m ≡ n
 some_is m n e = cc
 
 module _ (script : Contents) where
-  -- the places of a schedule rise along a chain
+  -- places of a schedule rise along a chain
   climbs : (place : ℕ → ℕ) → IsSchedule script place → (m : ℕ) (rest : List ℕ) (n : ℕ) → IsChain script (m ∷ rest) → last_of (m ∷ rest) ≡ Some n → place m + length rest ≤ place n
   climbs place s m [] n c e = let same : place m ≡ place n = ap place (some_is m n e) in omega arith
   climbs place s m (k ∷ rest) n c e =
@@ -30,7 +30,7 @@ module _ (script : Contents) where
       go [] c e = omega arith
       go (m ∷ rest) c e = let up : place m + length rest ≤ place n = climbs place s m rest n c e in omega arith
 
-  -- a chain goes on with a related command
+  -- a chain extended by a related command is a chain
   goes_on : (chain : List ℕ) (l k : ℕ) → IsChain script chain → last_of chain ≡ Some l → l < k → AreRelated script l k → IsNumber script k → IsChain script (chain ++ k ∷ []) × (last_of (chain ++ k ∷ []) ≡ Some k)
   goes_on [] l k c e less r number = cc
   goes_on (x ∷ []) l k c e less r number =
@@ -58,7 +58,7 @@ module _ (script : Contents) where
       let is = new.long in
       omega arith
 
-  -- the places rise all along a chain
+  -- places rise all along a chain
   rising : (place : ℕ → ℕ) → IsSchedule script place → (m : ℕ) (rest : List ℕ) → IsChain script (m ∷ rest) → AllByRecursion (λ n. place m < place n) rest × HaveRisingPlaces place (m ∷ rest) × AllByRecursion (IsNumber script) (m ∷ rest)
   rising place s m [] c = (tt, (tt, tt), (c, tt))
   rising place s m (k ∷ rest) c =
@@ -70,7 +70,7 @@ module _ (script : Contents) where
       through : (a b c : ℕ) → a < b → b < c → a < c
       through a b c h k = omega arith
 
-  -- what the last commands on devices give is the batches
+  -- the batches computed from the last commands on devices are the batches as defined
 
   record HasChain (batch : ℕ → ℕ) (n : ℕ) : Type 0 where
     chain : List ℕ
@@ -106,7 +106,7 @@ module _ (script : Contents) where
         long = h.long;
       }
 
-  -- going back
+  -- going back along a chain
 
   module _ (batch : ℕ → ℕ) (after : ℕ → Option ℕ) (all : (k : ℕ) → IsNumber script k → IsAfter script batch k (after k)) where
     record IsLinkedChain (m : ℕ) (rest : List ℕ) (n : ℕ) : Type 0 where
@@ -146,7 +146,7 @@ batches_are_a_schedule script batch all = batches_rise script batch all
 pub batches_are_least : BatchesAreLeast
 batches_are_least script place n batch s b = let low = chain_low script place s n b.chain b.longest.to in let long = b.long in omega arith
 
--- b + 1 commands whose places rise
+-- b + 1 commands with rising places
 pub takes_places : (script : Contents) (place : ℕ → ℕ) (n batch : ℕ) → IsSchedule script place → IsBatch script n batch → TakesPlaces script place (batch + 1)
 takes_places script place n batch s b = go b.chain b.longest.to.is b.longest.to.ends b.long
   where

@@ -1,4 +1,4 @@
--- One number more in an order that is checked.
+-- Checking an order, one number at a time.
 use Rattle.std.proofs.Common.{◌≡◌, ℕ, zero, suc, ◌+◌, ◌<◌, ◌≤◌, true, false, List, [], ◌∷◌, ◌++◌, ◌⊎◌, inl, inr, length, get_or, set, take, drop, replicate, refl, sym, ap, ◌∙◌, subst, arith}
 use Rattle.std.specs.Prelude.{Option, Some, None, IfSome, slice_index}
 use Rattle.std.specs.List.{AllByRecursion}
@@ -17,7 +17,7 @@ use Rattle.photo_batcher.proofs.Befores.{works_cases, some_same}
 use Rattle.photo_batcher.proofs.Planned.{at_first, at_second, read_neither, length_with}
 use Rattle.photo_batcher.proofs.Turns.{self_counts, not_counts, all_by_times, by_all_times, times_one}
 
--- all numbers stand once in a list of as many of them
+-- a list of n numbers from 1 to n, none of them twice, has each of them once
 
 hits : ℕ → ℕ → ℕ
 hits zero x = 0
@@ -93,7 +93,7 @@ module _ (script : Contents) where
   keeps_join [] n h all = (tt, tt)
   keeps_join (m ∷ front) n h all = (all_append (λ j. AreRelated script m j → m < j) front (n ∷ []) h.0 (all.0, tt), keeps_join front n h.1 all.1)
 
-  -- a command is related to itself, so none stands twice in order
+  -- a command is related to itself, so a list in order has no duplicates
   once_at_most : (order : List ℕ) → AllByRecursion (IsNumber script) order → KeepsOrder script order → (k : ℕ) → times k order ≤ 1
   once_at_most [] numbers h k = let none : times k [] ≡ 0 = refl in omega arith
   once_at_most (m ∷ more) numbers h k = go (cases_eq m k) (once_at_most more numbers.1 h.1 k)
@@ -134,7 +134,7 @@ module _ (script : Contents) where
     some = λ device h above. let none : slice_index last device ≡ 0 = ap (λ l. slice_index l device) is ∙ get_or-replicate (length script.names) device 0 0 h in absurd (omega arith);
   }
 
-  -- the numbers on a device of the next one are below it
+  -- if the next number is above the last ones on its devices, all earlier numbers on these devices are below it
   below : (front last : List ℕ) (n first : ℕ) (second : Option ℕ) → IsCheckedTo script front last → ArePlaces script n first second → IsAbove last n first second → (k : ℕ) → 0 < times k front → AreRelated script k n → k < n
   below front last n first second old places above k some r =
       let u = used_by script n r.device r.second in
@@ -177,7 +177,7 @@ module _ (script : Contents) where
         some = λ device h. some device h;
       }
     where
-      -- the command works on a device, or the device's last one stays
+      -- the command works on the device, or the device's last command stays
       by_device : (device : ℕ) → (uses script n device ≡ true) ⊎ (uses script n device ≡ false)
       by_device device = cases_Bool (uses script n device)
 
@@ -234,7 +234,7 @@ module _ (script : Contents) where
             subst (λ (k : ℕ). (0 < times k (front ++ n ∷ [])) × (uses script k device ≡ true)) (sym stays) (omega arith, was.1)
       ]
 
-  -- a number that is not above the last ones on its devices stands out of order
+  -- a number that isn't above the last ones on its devices is out of order
   pub out_of_order : (front last rest : List ℕ) (n first : ℕ) (second : Option ℕ) → IsCheckedTo script front last → ArePlaces script n first second → (IsAbove last n first second → ⊥) → IsNumber script n → KeepsOrder script (front ++ n ∷ rest) → ⊥
   out_of_order front last rest n first second old places not_above number keeps = not_above (by second places.second_is places.second_in)
     where
@@ -252,7 +252,7 @@ module _ (script : Contents) where
       by None e within = on_first
       by (Some k) e within = (on_first, lower k within (used script n k places.command places.is (works_second places.command k (sym e))))
 
--- the list at a place, and after a write
+-- reading the list, and reading it after a write
 
 pub at_place : (order : List ℕ) (i : ℕ) → i < length order → order ≡ take i order ++ get_or order i 0 ∷ drop (i + 1) order
 at_place order i h = sym (take-append-drop i order) ∙ ap (λ (l : List ℕ). take i order ++ l) (drop_more order i 0 h)

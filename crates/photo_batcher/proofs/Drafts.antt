@@ -1,4 +1,4 @@
--- A plan as it is made, and the chain of a command.
+-- A plan in progress, and the chain of a command.
 use Rattle.std.proofs.Common.{◌≡◌, ℕ, zero, suc, ◌<◌, ◌≤◌, List, [], ◌∷◌, ◌++◌, length, map, set, reverse, refl, sym, ap, ◌∙◌, subst, arith}
 use Rattle.std.specs.Prelude.{Some, None, false, replicate, slice_index_or, ◌==◌}
 use Rattle.std.proofs.lemmas.List.{reverse-append, length-map}
@@ -16,7 +16,7 @@ module _ (script : Contents) where
   pub draft_none : (last : List ℕ) → last ≡ replicate (length script.names) 0 → IsDraft script 0 last [] [] []
   draft_none last is = record { planned_to = planned_none script last is; grouped = grouped_none (entry_of []); few = omega arith }
 
-  -- the earlier commands by their batches, in the longer list
+  -- the earlier commands stay grouped when the list of batches grows
   regrouped : (n x : ℕ) (last batches afters : List ℕ) (rows : List (List ℕ)) → IsDraft script n last batches afters rows → IsGroupedTo (entry_of (batches ++ x ∷ [])) n rows
   regrouped n x last batches afters rows d =
       let many = d.planned_to.many in
@@ -69,7 +69,7 @@ put_in_row row_of members batch n new d is h =
     let not : (batch == length (map row_of members)) ≡ false = ne_eqb batch (length (map row_of members)) (omega arith) in
     written row_of members batch n new d is h ∙ sym (cond-false _ _ _ not)
 
--- going back
+-- going back along a chain
 
 pub gone_more : (p : Planned) (number last before : ℕ) (chain : List ℕ) → IsGoneBack p number last chain → after_in p last ≡ Some before → 0 < before → before < last → IsGoneBack p number before (chain ++ before ∷ [])
 gone_more p number last before chain g is above less =

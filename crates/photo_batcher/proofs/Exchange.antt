@@ -1,4 +1,4 @@
--- Two commands that work on no common device may change places.
+-- Two commands that work on no common device commute.
 use Rattle.std.proofs.Common.{◌≡◌, ◌≢◌, ℕ, ◌-◌, ◌<◌, true, List, [], ◌∷◌, ◌++◌, get_or, set, refl, sym, ap, ◌∙◌, subst, subst₂, append_assoc, arith}
 use Rattle.std.specs.Prelude.{Option, Some, None, fold, IsPermutation}
 use Rattle.std.specs.Option.{option_map}
@@ -13,7 +13,7 @@ use Rattle.fleet_model.specs.Runs.{Effect, Fleet, effect, device_at, with_second
 use Rattle.photo_batcher.specs.Related.{is_device, works_on, uses, AreRelated}
 use Rattle.photo_batcher.specs.Orders.{AreSameRuns}
 
--- the command of a number, and none
+-- what a step does where the script has a command of that number, and where it has none
 
 pub stepped : (script : Contents) (fleet : Fleet) (n : ℕ) (c : Command) → command_of script n ≡ Some c → step script fleet n ≡ after_command fleet n c
 stepped script fleet n c here = rw here refl
@@ -24,7 +24,7 @@ not_stepped script fleet n past = rw past refl
 pub used : (script : Contents) (n device : ℕ) (c : Command) → command_of script n ≡ Some c → works_on c device ≡ true → uses script n device ≡ true
 used script n device c here h = rw here h
 
--- the devices of two commands are others
+-- the two commands have no device in common
 record IsApart (first : ℕ) (second : Option ℕ) (other : ℕ) (other_second : Option ℕ) : Type 0 where
   firsts : first ≢ other
   first_not : is_device other_second first ≡ true → ⊥
@@ -34,7 +34,7 @@ record IsApart (first : ℕ) (second : Option ℕ) (other : ℕ) (other_second :
 turned : (p : ℕ) (o : Option ℕ) (q : ℕ) (r : Option ℕ) → IsApart p o q r → IsApart q r p o
 turned p o q r a = record { firsts = λ e. a.firsts (sym e); first_not = a.other_not; other_not = a.first_not; seconds = λ k x y. a.seconds k y x }
 
--- a device that a command does not work on is as it was
+-- a device on which a command doesn't work is unchanged
 read_other : (p : ℕ) (o : Option ℕ) (x : ModelDevice) (y : Option ModelDevice) (ds : List ModelDevice) (k : ℕ) (d : ModelDevice) → k ≢ p → (is_device o k ≡ true → ⊥) → get_or (with_second o y (set ds p x)) k d ≡ get_or ds k d
 read_other p None x y ds k d a b = get_or-set_other ds p k x d a
 read_other p (Some s) x None ds k d a b = get_or-set_other ds p k x d a
@@ -52,7 +52,7 @@ with_over (Some s) (Some y) None z ds a = refl
 with_over (Some s) (Some y) (Some t) None ds a = refl
 with_over (Some s) (Some y) (Some t) (Some z) ds a = set_comm ds t s z y (λ e. a s (eq-eqb s s refl) (eq-eqb t s e))
 
--- what a command does to devices, and these devices after it
+-- the effect of a command, and the devices after it
 done_on : List ModelDevice → Command → Effect
 done_on ds c = effect c (device_at ds (devices_of c).0) (option_map (device_at ds) (devices_of c).1)
 
@@ -67,7 +67,7 @@ put_over p o x q r y ds a =
     ∙ ap (λ l. with_second r y.second (with_second o x.second l)) (set_comm ds q p y.first x.first (λ e. a.firsts (sym e)))
     ∙ ap (with_second r y.second) (sym (set_over q y.first o x.second (set ds p x.first) a.other_not))
 
--- the devices of a command are not touched by another that works on none of them
+-- a command that works on none of another's devices leaves them unchanged
 second_same : (r : Option ℕ) (p : ℕ) (o : Option ℕ) (x : Effect) (ds : List ModelDevice) → (is_device r p ≡ true → ⊥) → ((k : ℕ) → is_device o k ≡ true → is_device r k ≡ true → ⊥) → option_map (device_at (put p o x ds)) r ≡ option_map (device_at ds) r
 unfolding put
 second_same None p o x ds a b = refl
@@ -86,7 +86,7 @@ log_turned log xs ys =
     (subst (λ (l : List Entry). IsPermutation (log ++ (ys ++ xs)) l) (sym (append_assoc log xs ys))
     (IsPermutation-append_right log (ys ++ xs) (xs ++ ys) (IsPermutation-append_comm ys xs)))
 
--- the one command and then the other
+-- one command and then the other
 exchanged : (f : Fleet) (m n : ℕ) (c e : Command) → m - 1 ≢ n - 1 → IsApart (devices_of c).0 (devices_of c).1 (devices_of e).0 (devices_of e).1 → AreSameRuns (after_command (after_command f m c) n e) (after_command (after_command f n e) m c)
 unfolding done_on put
 exchanged f m n c e other a =
@@ -105,7 +105,7 @@ exchanged f m n c e other a =
           (subst (λ (z : Effect). IsPermutation ((f.log ++ y.entries) ++ x.entries) ((f.log ++ x.entries) ++ z.entries)) (sym later_e) (log_turned f.log x.entries y.entries));
     }
 
--- runs that are the same
+-- same runs
 
 pub same_itself : (f g : Fleet) → f ≡ g → AreSameRuns f g
 same_itself f g e = record { devices = ap (λ (x : Fleet). x.devices) e; reports = ap (λ (x : Fleet). x.reports) e; log = subst (λ (l : List Entry). IsPermutation l f.log) (ap (λ (x : Fleet). x.log) e) (IsPermutation-refl f.log) }
@@ -148,7 +148,7 @@ module _ (script : Contents) where
         seconds = λ k x y. no k (or_right _ _ x) (or_right _ _ y);
       }
 
-  -- two numbers whose commands are not related may change places
+  -- commands that aren't related commute
   pub exchange : (f : Fleet) (m n : ℕ) → 0 < m → 0 < n → m ≢ n → (AreRelated script m n → ⊥) → AreSameRuns (step script (step script f m) n) (step script (step script f n) m)
   exchange f m n some_m some_n other not = go (command_of script m) refl (command_of script n) refl
     where

@@ -1,4 +1,4 @@
--- The commands by their batches.
+-- Commands grouped by batch.
 use Rattle.std.proofs.Common.{◌≡◌, ◌≢◌, ℕ, zero, suc, ◌+◌, ◌<◌, ◌≤◌, Bool, true, false, cond, ◌==◌, List, [], ◌∷◌, ◌++◌, ◌⊎◌, inl, inr, length, get_or, set, filter, refl, sym, ap, ◌∙◌, subst, length-append, arith, get_or-set_other, get_or-set_same, length-set, ext_get_or}
 use Rattle.std.specs.Prelude.{Some}
 use Rattle.std.specs.List.{AllByRecursion}
@@ -88,7 +88,7 @@ grouped_more batch n m rows is g low = subst (λ (k : ℕ). IsGroupedTo batch k 
           ];
         }
 
--- the next batch is one that there is, or the first that there isn't
+-- the next command's batch exists already, or is the first that doesn't
 pub low_enough : (script : Contents) (batch : ℕ → ℕ) (n count : ℕ) (c : Command) (rows : List (List ℕ)) → IsGreedyTo script count batch → n < count → command_of script (suc n) ≡ Some c → IsGroupedTo batch n rows → batch (suc n) ≤ length rows
 low_enough script batch n count c rows greedy few here g = elim (cases_order 0 (batch (suc n))) [
   | inl none ↦ omega arith
@@ -102,7 +102,7 @@ low_enough script batch n count c rows greedy few here g = elim (cases_order 0 (
   | inr (inr below) ↦ absurd (omega arith)
 ]
 
--- all of them
+-- all commands
 
 row_of : (script : Contents) (batch : ℕ → ℕ) (count b i : ℕ) → i < count → get_or (batches_from script batch b count) i [] ≡ members_of script batch (b + i)
 row_of script batch zero b i h = absurd (omega arith)

@@ -1,4 +1,4 @@
--- A script has one plan, and a schedule takes as many places as it has batches.
+-- A script has one plan, and a schedule takes at least as many different places as the script has batches.
 use Rattle.std.proofs.Common.{◌≡◌, ◌≢◌, ℕ, zero, suc, ◌<◌, ◌≤◌, List, [], ◌⊎◌, inl, inr, length, refl, sym, ap, ◌∙◌, subst, add-one, arith}
 use Rattle.std.specs.Prelude.{Option, Some, None}
 use Rattle.std.proofs.lemmas.List.{ext_get_or}
@@ -10,7 +10,7 @@ use Rattle.photo_batcher.specs.Plans.{Planned, planned, entry_of, none_or, batch
 use Rattle.photo_batcher.specs.Laws.{PlansAreOne, NoScheduleHasFewer}
 use Rattle.photo_batcher.proofs.Chains.{batches_are_one, takes_places, followed_chains_are_longest}
 
--- a command goes after one
+-- a command goes after at most one other
 one_after : (script : Contents) (batch : ℕ → ℕ) (n : ℕ) (x y : Option ℕ) → IsAfter script batch n x → IsAfter script batch n y → x ≡ y
 one_after script batch n None None a b = refl
 one_after script batch n None (Some k) a b = let is = b.0.below in absurd (omega arith)
@@ -42,7 +42,7 @@ module _ (script : Contents) where
       number_of : (i : ℕ) → i < length script.commands → IsNumber script (suc i)
       number_of i h = (omega arith, omega arith)
 
-  -- a command of the first n that stands in a batch
+  -- one of the first n commands is in the batch
   record IsFound (batch : ℕ → ℕ) (b n : ℕ) : Type 0 where
     command : ℕ
     some : 0 < command

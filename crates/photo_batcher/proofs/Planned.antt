@@ -1,4 +1,4 @@
--- One command more in a plan.
+-- A plan with one more command.
 use Rattle.std.proofs.Common.{◌≡◌, ◌≢◌, ℕ, zero, suc, ◌+◌, ◌-◌, ◌<◌, ◌≤◌, max, true, false, cond, List, [], ◌∷◌, ◌++◌, length, get_or, set, inl, inr, refl, sym, ap, ◌∙◌, subst, length-append, length-set, get_or-set_other, get_or-set_same, arith}
 use Rattle.std.specs.Prelude.{Option, Some, None, IfSome, slice_index, slice_get, nat_lt, replicate}
 use Rattle.std.proofs.lemmas.List.{get_or_append_left, get_or_at, get_or-replicate, length-replicate}
@@ -17,7 +17,7 @@ use Rattle.photo_batcher.proofs.Grouped.{rows_are}
 use Rattle.fleet_model.specs.Limits.{max_commands}
 use Rattle.photo_batcher.proofs.Befores.{after_is, is_before, works_cases, some_same}
 
--- a longer list has the same for the numbers that there were
+-- a longer list agrees with the old one on the old numbers
 
 pub entry_more : (xs : List ℕ) (x k : ℕ) → k ≤ length xs → entry_of (xs ++ x ∷ []) k ≡ entry_of xs k
 entry_more xs x zero h = refl
@@ -49,7 +49,7 @@ module _ (script : Contents) (batches : List ℕ) (x : ℕ) (k : ℕ) (few : k �
       let two = free_more batches x (last_on script k s) (omega arith) in
       λ i. cond (nat_lt (two i) (one i)) (last_on script k p) (cond (nat_lt (one i) (two i)) (last_on script k s) (max (last_on script k p) (last_on script k s)))
 
--- the last commands after one more
+-- the last commands on devices after one more command
 
 last_here : (script : Contents) (n device : ℕ) → uses script (suc n) device ≡ true → last_on script (suc n) device ≡ suc n
 last_here script n device h = ap (λ b. cond b (suc n) (last_on script n device)) h
@@ -104,7 +104,7 @@ low_first : (batches : List ℕ) (n l : ℕ) (o : Option ℕ) → ((j : ℕ) →
 low_first batches n l None few h k = free_low batches n l few h
 low_first batches n l (Some j) few h k = let one = free_low batches n l few h in let two = free_low batches n j few k in omega arith
 
--- the places at which the code reads
+-- the places that the code reads
 second_read : (script : Contents) (n : ℕ) (last : List ℕ) (o : Option ℕ) → ((device : ℕ) → device < length script.names → slice_index last device ≡ last_on script n device) → IfSome o (λ k. k < length script.names) → read_second last o ≡ last_on_second script n o
 second_read script n last None lasts within = refl
 second_read script n last (Some k) lasts within = ap Some (lasts k within)
@@ -125,7 +125,7 @@ module _ (script : Contents) where
     before = λ k c h e. absurd (omega arith);
   }
 
-  -- one command more
+  -- one more command
   more : (n first : ℕ) (second : Option ℕ) (last batches afters : List ℕ) (x a : ℕ) → IsPlannedTo script n last batches afters → ArePlaces script (suc n) first second
       → x ≡ first_free (entry_of batches) (slice_index last first) (read_second last second)
       → a ≡ before_it (entry_of batches) (slice_index last first) (read_second last second)
@@ -208,7 +208,7 @@ module _ (script : Contents) where
           let before = p.before k t.command (omega arith) t.is in
           omega arith
 
--- what the code asks and has
+-- what the code's calls require and give
 
 pub low_last : (script : Contents) (n first : ℕ) (last batches afters : List ℕ) → IsPlannedTo script n last batches afters → first < length script.names → slice_index last first ≤ length batches
 low_last script n first last batches afters p h = let is = p.lasts first h in let low = last_below script n first in let many = p.many in omega arith

@@ -1,4 +1,4 @@
--- A lawful order is the order of the numbers, up to what runs give.
+-- A lawful order gives the same run as the order of the script.
 use Rattle.std.proofs.Common.{◌≡◌, ◌≢◌, ℕ, zero, suc, ◌+◌, ◌<◌, ◌≤◌, Bool, cond, List, [], ◌∷◌, ◌++◌, length, refl, sym, ap, ◌∙◌, subst, arith}
 use Rattle.std.specs.Prelude.{fold, Option}
 use Rattle.std.specs.List.{AllByRecursion}
@@ -16,7 +16,7 @@ use Rattle.photo_batcher.proofs.Counting.{split, none_is, all_map, all_both, tim
 use Rattle.photo_batcher.proofs.Exchange.{same_itself, same_through, same_step, same_fold, exchange}
 
 module _ (script : Contents) where
-  -- a number goes behind others to which it isn't related
+  -- a number can move behind numbers to which it isn't related
   moved_to_end : (f : Fleet) (n : ℕ) (after : List ℕ) → 0 < n → AllByRecursion (λ k. (0 < k) × (k ≢ n) × (AreRelated script n k → ⊥)) after → AreSameRuns (fold (step script) f (n ∷ after)) (fold (step script) f (after ++ n ∷ []))
   moved_to_end f n [] some free = same_itself _ _ refl
   moved_to_end f n (k ∷ after) some free =
@@ -40,7 +40,7 @@ module _ (script : Contents) where
     once : (k : ℕ) → 0 < k → k ≤ m → times k xs ≡ 1
     in_order : KeepsOrder script xs
 
-  -- the last number taken out of it
+  -- the order, with the last number taken out
   record IsLastOut (m : ℕ) (xs : List ℕ) : Type 0 where
     before : List ℕ
     after : List ℕ

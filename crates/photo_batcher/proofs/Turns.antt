@@ -1,4 +1,4 @@
--- The batches in turn, each in whatever order, are a lawful order.
+-- The batches in turn, each in any order, are a lawful order.
 use Rattle.std.proofs.Common.{◌≡◌, ◌≢◌, ℕ, zero, suc, ◌+◌, ◌<◌, ◌≤◌, Bool, true, false, cond, ◌==◌, List, [], ◌∷◌, ◌++◌, ◌⊎◌, inl, inr, length, filter, refl, sym, ap, ◌∙◌, subst, arith}
 use Rattle.std.specs.Prelude.{IsPermutation}
 use Rattle.std.specs.List.{AllByRecursion}
@@ -15,7 +15,7 @@ use Rattle.photo_batcher.specs.Plans.{batch_in}
 use Rattle.photo_batcher.proofs.Counting.{none_is, all_map, all_both, times_append, times_cons, counts}
 use Rattle.photo_batcher.proofs.Chains.{batches_rise}
 
--- what stands in a list, by how often it does
+-- members of a list, by how often they stand in it
 
 pub self_counts : (k : ℕ) → counts k k ≡ 1
 self_counts k = ap (λ (b : Bool). cond {A = ℕ} b 1 0) (eq-eqb k k refl)
@@ -77,7 +77,7 @@ all_numbers (suc n) = all_append (λ k. (0 < k) × (k ≤ suc n)) (numbers_to n)
     wider : (k : ℕ) → 0 < k → k ≤ n → (0 < k) × (k ≤ suc n)
     wider k a b = (a, omega arith)
 
--- how often a number stands among those that pass a test
+-- how often a number stands in a filtered list
 
 times_passed : (p : ℕ → Bool) (k : ℕ) (xs : List ℕ) → p k ≡ true → times k (filter p xs) ≡ times k xs
 times_passed p k [] h = refl
@@ -97,14 +97,14 @@ times_failed p k (x ∷ xs) h = go (p x) refl (cases_eq x k) (times_failed p k x
     go true e (inr ne) more = let c = times_cons k x (filter p xs) in let z = not_counts x k ne in omega arith
     go false e same more = more
 
--- batches do not fall along a list
+-- batches don't fall along a list
 
 NeverFalls : (ℕ → ℕ) → List ℕ → Type 0
 NeverFalls batch [] = Unit {0}
 NeverFalls batch (m ∷ more) = AllByRecursion (λ n. batch m ≤ batch n) more × NeverFalls batch more
 
 module _ (script : Contents) (batch : ℕ → ℕ) where
-  -- where each number stands once and batches do not fall, related commands stand in order
+  -- if no number stands twice and batches don't fall, related commands are in order
   keeps : IsSchedule script batch → (order : List ℕ) → ((k : ℕ) → times k order ≤ 1) → NeverFalls batch order → KeepsOrder script order
   unfolding NeverFalls
   keeps rises [] once never = tt
@@ -154,7 +154,7 @@ module _ (script : Contents) (batch : ℕ → ℕ) where
           (e, by_all_times (λ j. (0 < j) × (j ≤ length script.commands)) (numbers_to (length script.commands)) k (all_numbers (length script.commands)) (omega arith))
       go (inr ne) = let none = member_not b k ne in absurd (omega arith)
 
-  -- an order of so many batches, from a batch on
+  -- an order of `count` batches, from batch b on
   record IsTurned (b count : ℕ) (order : List ℕ) : Type 0 where
     within : (k : ℕ) → 0 < times k order → (b ≤ batch k) × (batch k < b + count) × IsNumber script k
     once : (k : ℕ) → IsNumber script k → b ≤ batch k → batch k < b + count → times k order ≡ 1

@@ -1,4 +1,4 @@
--- The worked examples: what computes does so by the definitions alone, and plans and lawful orders are got command by command.
+-- The worked examples: definitions are computed, and plans and lawful orders are built command by command.
 use Rattle.std.proofs.Common.{◌≡◌, ℕ, suc, ◌<◌, List, [], ◌∷◌, ◌++◌, length, set, refl, arith}
 use Rattle.std.specs.Prelude.{Option, Some, None, IfSome, slice_index, codes}
 use Rattle.std.specs.Str.{chars, is_utf8}
@@ -27,7 +27,7 @@ module _ (script : Contents) where
   places : (n : ℕ) (c : Command) → command_of script n ≡ Some c → (devices_of c).0 < length script.names → IfSome (devices_of c).1 (λ k. k < length script.names) → ArePlaces script n (devices_of c).0 (devices_of c).1
   places n c is first second = record { command = c; is = is; first_is = refl; second_is = refl; first_in = first; second_in = second }
 
-  -- a draft with one command more
+  -- a draft with one more command
   one_more : (n first : ℕ) (second : Option ℕ) (x a : ℕ) (last batches afters : List ℕ) (rows : List (List ℕ)) → IsDraft script n last batches afters rows → n < length script.commands → ArePlaces script (suc n) first second
       → x ≡ first_free (entry_of batches) (slice_index last first) (read_second last second)
       → a ≡ before_it (entry_of batches) (slice_index last first) (read_second last second)

@@ -1,4 +1,4 @@
--- Plans and orders, worked.
+-- Worked plans and orders.
 use Rattle.std.specs.Prelude.{◌≡◌, ℕ, pos, false, true, List, [], ◌∷◌, Ok, codes}
 use Rattle.photo_record.specs.declared.record.Record.{Record}
 use Rattle.photo_record.specs.declared.record.Record.TheVariants.{Picture}
@@ -20,7 +20,7 @@ use Rattle.photo_batcher.specs.Plans.{planned, Planned, batch_in, IsPlan}
 abbrev pub rated : ℕ → Record
 rated rating = Picture rating (pos 19_723) []
 
--- two devices make a picture each. Each is pulled by another, and then by a third
+-- two devices make a picture each; each is pulled by another device, and then by a third
 abbrev pub four_devices : Contents
 four_devices = contents (codes "a" ∷ codes "b" ∷ codes "c" ∷ codes "d" ∷ []) (All ∷ All ∷ All ∷ All ∷ [])
     (command.New 0 1 (rated 5) ∷ command.New 2 2 (rated 4) ∷ command.Pull 1 0 ∷ command.Pull 3 2 ∷ command.Pull 2 1
@@ -30,7 +30,8 @@ abbrev pub four_planned : Planned
 four_planned = planned (0 ∷ 0 ∷ 1 ∷ 1 ∷ 2 ∷ 2 ∷ 3 ∷ []) (0 ∷ 0 ∷ 1 ∷ 2 ∷ 4 ∷ 3 ∷ 6 ∷ [])
     ((1 ∷ 2 ∷ []) ∷ (3 ∷ 4 ∷ []) ∷ (5 ∷ 6 ∷ []) ∷ (7 ∷ []) ∷ [])
 
--- its plan. What the last command ends is a chain of four; for the fifth two commands tie, and the later one counts
+-- the script's plan: the last command ends a chain of four; the fifth command could go after two others, and goes after the
+-- later one
 pub record FourBatches : Type 0 where
   pub script : script_of (codes "device a all\ndevice b all\ndevice c all\ndevice d all\nnew a 1 5 2024-01-01 -\nnew c 2 4 2024-01-01 -\npull b a\npull d c\npull c b\nlist a\npull d a\n") ≡ Ok four_devices
   pub plan : IsPlan four_devices four_planned
@@ -48,13 +49,13 @@ second_entry = record { picture = 2; version = version (author 2) 1; history = �
 abbrev pub one_taken : ModelReport
 one_taken = Exactly (Pulled (record { taken = 1; handed = 0; notices = 0; dropped = 0; learned = true }))
 
--- the same reports in two orders
+-- the reports, which are the same in both orders
 abbrev pub four_reports : List ModelReport
 four_reports = Exactly (Made (version (author 0) 1) Store) ∷ Exactly (Made (version (author 2) 1) Store) ∷ one_taken ∷ one_taken ∷ one_taken
     ∷ Exactly (Listed 0 (first_entry ∷ []) []) ∷ one_taken ∷ []
 
--- an order of its commands that is lawful, and what its run gives; one that isn't, one that lacks a number and one with a
--- number too many
+-- a lawful order of the commands and what it gives; and orders that aren't lawful: one out of order, one without a number, and
+-- one with a number too many
 pub record FourInOrder : Type 0 where
   pub lawful : IsLawful four_devices (2 ∷ 1 ∷ 4 ∷ 3 ∷ 6 ∷ 5 ∷ 7 ∷ [])
   pub same_reports : reports_of (run_in_order four_devices (2 ∷ 1 ∷ 4 ∷ 3 ∷ 6 ∷ 5 ∷ 7 ∷ [])) ≡ four_reports
@@ -66,16 +67,16 @@ pub record FourInOrder : Type 0 where
   pub missing : IsLawful four_devices (1 ∷ 2 ∷ 3 ∷ 4 ∷ 5 ∷ 6 ∷ []) → ⊥
   pub twice : IsLawful four_devices (1 ∷ 1 ∷ 2 ∷ 3 ∷ 4 ∷ 5 ∷ 6 ∷ 7 ∷ []) → ⊥
 
--- one device asks for a version of another's, which it doesn't work on
+-- the first command names a version of device b, on which it doesn't work
 abbrev pub named : Contents
 named = contents (codes "a" ∷ codes "b" ∷ []) (All ∷ All ∷ []) (command.Knows 0 7 (version (author 1) 1) ∷ command.New 1 7 (rated 5) ∷ [])
 
--- a device that a version is named by is none that the command works on
+-- a command doesn't work on a device that only a version names
 pub record NamedInAVersion : Type 0 where
   pub plan : IsPlan named (planned (0 ∷ 0 ∷ []) (0 ∷ 0 ∷ []) ((1 ∷ 2 ∷ []) ∷ []))
   pub lawful : IsLawful named (2 ∷ 1 ∷ [])
 
--- no commands
+-- plans and orders without commands
 pub record NothingPlanned : Type 0 where
   pub empty : IsPlan (contents [] [] []) (planned [] [] [])
   pub silent : IsPlan (contents (codes "a" ∷ []) (All ∷ []) []) (planned [] [] [])

@@ -1,4 +1,4 @@
--- What holds of all lawful orders, of all batches and of all plans.
+-- Laws of lawful orders, batches and plans.
 use Rattle.std.specs.Prelude.{◌≡◌, ◌≢◌, ℕ, ◌<◌, ◌≤◌, List, length, Option}
 use Rattle.fleet_model.specs.Contents.{Contents}
 use Rattle.fleet_model.specs.Runs.{Fleet, run_in_order, run}
@@ -8,15 +8,15 @@ use Rattle.photo_batcher.specs.Orders.{IsLawful, AreSameRuns}
 use Rattle.photo_batcher.specs.Batches.{IsLongestChainTo, IsBatch, AreBatches, IsSchedule, IsAfter, IsFollowed, TakesPlaces, batches_from, InTurn}
 use Rattle.photo_batcher.specs.Plans.{Planned, IsPlan}
 
--- the commands in a lawful order do what they do in the order of their numbers
+-- a lawful order gives the same run as the order of the script
 abbrev pub LawfulOrdersAreTheRun : Type 0
 LawfulOrdersAreTheRun = (script : Contents) (order : List ℕ) → IsLawful script order → AreSameRuns (run_in_order script order) (run script)
 
--- runs that are the same have the same totals
+-- same runs have the same totals
 abbrev pub SameRunsHaveOneTotal : Type 0
 SameRunsHaveOneTotal = (script : Contents) (one other : Fleet) → AreSameRuns one other → totals_of script one ≡ totals_of script other
 
--- a command has one batch
+-- each command has at most one batch
 abbrev pub BatchesAreOne : Type 0
 BatchesAreOne = (script : Contents) (n one other : ℕ) → IsBatch script n one → IsBatch script n other → one ≡ other
 
@@ -37,13 +37,13 @@ abbrev pub BatchesInTurnAreLawful : Type 0
 BatchesInTurnAreLawful = (script : Contents) (batch : ℕ → ℕ) (count : ℕ) (order : List ℕ)
     → AreBatches script batch → ((n : ℕ) → IsNumber script n → batch n < count) → InTurn (batches_from script batch 0 count) order → IsLawful script order
 
--- going back from a command to what it goes after gives a longest chain
+-- going back from a command, each time to the one that it goes after, gives a longest chain
 abbrev pub FollowedChainsAreLongest : Type 0
 FollowedChainsAreLongest = (script : Contents) (batch : ℕ → ℕ) (after : ℕ → Option ℕ) (n : ℕ) (chain : List ℕ)
     → AreBatches script batch → ((k : ℕ) → IsNumber script k → IsAfter script batch k (after k)) → IsNumber script n → IsFollowed after n chain
     → IsLongestChainTo script n chain
 
--- a script has one plan
+-- a script has at most one plan
 abbrev pub PlansAreOne : Type 0
 PlansAreOne = (script : Contents) (one other : Planned) → IsPlan script one → IsPlan script other → one ≡ other
 

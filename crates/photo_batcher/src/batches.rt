@@ -1,4 +1,4 @@
-// Plans: batches, what each command goes after, chains.
+// Plans: batches, the command after which each command goes, and chains.
 ghost use Rattle.std.specs.Prelude.{◌≡◌, ◌<◌, ◌≤◌, ◌-◌, ◌++◌, ℕ, length, IfSome, IfOk, Some, slice_get, slice_index};
 ghost use Rattle.fleet_model.specs.Contents.{Contents};
 ghost use Rattle.fleet_model.specs.Limits.{max_commands};
@@ -8,16 +8,15 @@ ghost use Rattle.photo_batcher.specs.Plans.{entry_of, batch_in, after_in, IsShap
 use std::alloc::{AllocError, Global};
 use std::marker::Model;
 
-/// The batches of a script: commands of one batch work on no common device, and may run in any order once the batches
-/// before theirs have run.
+/// The batches of a script. Commands of one batch work on no common device; they may run in any order once the batches before
+/// theirs have run.
 ///
-/// Of each command it has the batch, which is one less than the length of the longest chain of related commands that
-/// ends with it, and the command that it goes after in such a chain. Two commands are related where they work on a
-/// common device.
+/// For each command the plan has its batch, which is one less than the length of the longest chain of related commands that
+/// ends with it, and the command just before it in such a chain. Two commands are related if they work on a common device.
 #[derive(Debug, Drop)]
 pub struct Plan {
     pub(crate) batches: Vec<u32>,
-    // What each command goes after, or 0.
+    // The command that each command goes after, or 0.
     pub(crate) afters: Vec<u32>,
     pub(crate) members: Vec<Vec<u32>>,
 }
@@ -37,7 +36,7 @@ impl Model for Plan {
 }
 
 impl Plan {
-    /// How many commands are planned, at most 100,000.
+    /// The number of commands, at most 100,000.
     pub fn commands(&self) -> u32
         ensures count { result ≡ length self.now.batches }
         ensures at_most { result ≤ max_commands }
@@ -45,7 +44,7 @@ impl Plan {
         self.batches.len() as u32
     }
 
-    /// How many batches there are.
+    /// The number of batches.
     pub fn batches(&self) -> u32
         ensures count { result ≡ length self.now.members }
         ensures at_most { result ≤ max_commands }
@@ -53,7 +52,7 @@ impl Plan {
         self.members.len() as u32
     }
 
-    /// The commands of a batch, from 0, in the order of their numbers.
+    /// The commands of a batch, in the order of their numbers; batches are counted from 0.
     pub fn members(&self, batch: u32) -> &[u32]
         requires { batch < length self.now.members }
         ensures { slice_get self.now.members batch ≡ Some result.now }
@@ -61,7 +60,7 @@ impl Plan {
         self.members[batch as usize].as_slice()
     }
 
-    /// The batch of a command, by its number from 1.
+    /// The batch of a command, which is given by its number from 1.
     pub fn batch_of(&self, number: u32) -> u32
         requires first { 0 < number }
         requires within { number ≤ length self.now.batches }
@@ -70,8 +69,8 @@ impl Plan {
         self.batches[number as usize - 1]
     }
 
-    /// The command that a command goes after: the greatest earlier one that is related to it and stands in the batch just
-    /// below. One of the first batch goes after none.
+    /// The command that a command goes after: the greatest earlier one that is related to it and is in the batch just below. A
+    /// command of batch 0 goes after none.
     pub fn after(&self, number: u32) -> Option<u32>
         requires first { 0 < number }
         requires within { number ≤ length self.now.batches }
@@ -85,10 +84,10 @@ impl Plan {
         }
     }
 
-    /// The commands from one of the first batch up to this one, each of which goes after the one before it (`after`).
+    /// The commands from one of batch 0 up to this one, each going after the one before it (`after`).
     ///
-    /// In a script whose plan this is they are a chain, and no longer chain ends with the command. Its only error is want
-    /// of memory.
+    /// In the script of this plan they are a chain, and no longer chain ends with this command. Its only error is want of
+    /// memory.
     pub fn chain_of(&self, alloc: Global, number: u32) -> Result<Vec<u32>, AllocError>
         requires first { 0 < number }
         requires within { number ≤ length self.now.batches }

@@ -1,27 +1,26 @@
-//! Laws of the definitions. Each function's contract is a law, and its body does nothing.
+//! Laws of the definitions. Each function's contract states a law; its body is empty.
 ghost use Rattle.photo_batcher.specs.Examples.{FourBatches, FourInOrder, NamedInAVersion, NothingPlanned};
 ghost use Rattle.photo_batcher.specs.Laws.{LawfulOrdersAreTheRun, SameRunsHaveOneTotal, BatchesAreOne};
 ghost use Rattle.photo_batcher.specs.Laws.{BatchesAreASchedule, BatchesAreLeast, BatchesAreApart};
 ghost use Rattle.photo_batcher.specs.Laws.{BatchesInTurnAreLawful, FollowedChainsAreLongest, PlansAreOne};
 ghost use Rattle.photo_batcher.specs.Laws.{NoScheduleHasFewer, PlansInTurnAreLawful};
 
-/// In a lawful order the commands give the devices and the reports that they give in the order of their numbers, and a log
-/// with the same entries.
+/// A lawful order gives the same devices and reports as the order of the script, and a log with the same entries.
 pub fn lawful_orders_are_the_run()
     ensures { LawfulOrdersAreTheRun }
 {}
 
-/// Runs that are the same have the same totals.
+/// Same runs have the same totals.
 pub fn same_runs_have_one_total()
     ensures { SameRunsHaveOneTotal }
 {}
 
-/// A command has one batch.
+/// Each command has at most one batch.
 pub fn batches_are_one()
     ensures { BatchesAreOne }
 {}
 
-/// The batches are a schedule: of two related commands the earlier one stands in the lower batch.
+/// The batches are a schedule: of two related commands, the earlier one is in the lower batch.
 pub fn batches_are_a_schedule()
     ensures { BatchesAreASchedule }
 {}
@@ -36,17 +35,17 @@ pub fn batches_are_apart()
     ensures { BatchesAreApart }
 {}
 
-/// The batches in turn, each in whatever order, are a lawful order.
+/// The batches in turn, each in any order, are a lawful order.
 pub fn batches_in_turn_are_lawful()
     ensures { BatchesInTurnAreLawful }
 {}
 
-/// Going back from a command to what it goes after gives a longest chain.
+/// Going back from a command, each time to the one that it goes after, gives a longest chain.
 pub fn followed_chains_are_longest()
     ensures { FollowedChainsAreLongest }
 {}
 
-/// A script has one plan.
+/// A script has at most one plan.
 pub fn plans_are_one()
     ensures { PlansAreOne }
 {}
@@ -56,13 +55,13 @@ pub fn no_schedule_has_fewer()
     ensures { NoScheduleHasFewer }
 {}
 
-/// The batches of a plan in turn, each in whatever order, are a lawful order.
+/// The batches of a plan in turn, each in any order, are a lawful order.
 pub fn plans_in_turn_are_lawful()
     ensures { PlansInTurnAreLawful }
 {}
 
-/// The definitions at some scripts: the plan of one with four devices, and its chains; orders of its commands, lawful and
-/// not, and what a run in another order gives; a device that only a version names; and scripts with no commands.
+/// Worked scripts: the plan of one with four devices and its chains; lawful and other orders of its commands, and what another
+/// order gives; a device that only a version names; and scripts without commands.
 pub fn examples()
     ensures four_batches { FourBatches }
     ensures four_in_order { FourInOrder }

@@ -1,5 +1,5 @@
-//! Which commands of a script may run side by side, and in which orders its commands may run. Its invariant: **a plan is the
-//! least one** (`IsPlan`).
+//! Which commands of a script may run side by side, and in which orders they may run. Invariant: **each command is in the least
+//! batch that any schedule allows, and a plan has the fewest batches** (`IsPlan`).
 #![tactic(auto)]
 
 mod batches;

@@ -7,8 +7,8 @@ use crate::places::{note, places_at};
 use script_reader::Script;
 use std::alloc::{AllocError, Global};
 
-/// Whether the commands of a script may run in that order: it has each of their numbers once and no other, and of two
-/// commands that work on a common device the earlier one first.
+/// Whether the order is lawful: it has each command's number once and no other, and of two commands that work on a common
+/// device the earlier one comes first. Its only error is want of memory.
 pub fn lawful(alloc: Global, script: &Script, order: &[u32]) -> Result<bool, AllocError>
     ensures { IfOk result (λ answer. (answer ≡ true) ↔ IsLawful script.now order.now) }
 {
@@ -29,7 +29,7 @@ pub fn lawful(alloc: Global, script: &Script, order: &[u32]) -> Result<bool, All
     Ok(true)
 }
 
-// Whether the command comes later than the last ones on its devices.
+// Whether the command's number is above the last ones on its devices.
 fn is_above(last: &[u32], number: u32, first: usize, second: Option<usize>) -> bool
     requires first { first < length last.now }
     requires second { IfSome second (λ k. k < length last.now) }

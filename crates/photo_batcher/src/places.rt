@@ -5,7 +5,7 @@ ghost use Rattle.photo_batcher.specs.Steps.{ArePlaces, read_second, with_place};
 
 use script_reader::{Command, Script, devices_of};
 
-/// The places of the devices that the command of a number works on.
+/// The places of the devices of a command, which is given by its number.
 pub(crate) fn places_at(script: &Script, number: u32) -> (usize, Option<usize>)
     requires first { 0 < number }
     requires within { number ≤ length script.now.commands }
@@ -14,7 +14,7 @@ pub(crate) fn places_at(script: &Script, number: u32) -> (usize, Option<usize>)
     places_of(script.command(number))
 }
 
-/// The places of the devices that a command works on, among a script's: `devices_of`, as indices.
+/// The places of a command's devices among the script's: `devices_of`, as indices.
 pub fn places_of(command: &Command) -> (usize, Option<usize>)
     ensures first { result.0 ≡ (devices_of command.now).0 }
     ensures second { result.1 ≡ (devices_of command.now).1 }
@@ -36,7 +36,7 @@ pub(crate) fn last_on(last: &[u32], second: Option<usize>) -> Option<u32>
     }
 }
 
-/// The command is the last one on its devices.
+/// Records the command as the last one on its devices.
 pub(crate) fn note(last: &mut [u32], number: u32, first: usize, second: Option<usize>)
     requires first { first < length last.old }
     requires second { IfSome second (λ k. k < length last.old) }

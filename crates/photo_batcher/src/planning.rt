@@ -1,4 +1,4 @@
-// Making a plan, command by command.
+// Planning, one command at a time.
 ghost use Rattle.std.specs.Prelude.{◌≡◌, ◌<◌, ◌≤◌, ◌-◌, ◌∷◌, [], ◌++◌, ℕ, map, length, IfSome, IfOk, OnOk, slice_index};
 ghost use Rattle.fleet_model.specs.Limits.{max_commands};
 ghost use Rattle.photo_batcher.specs.Greedy.{free_behind, first_free, before_it};
@@ -10,8 +10,8 @@ use crate::places::{last_on, note, places_at};
 use script_reader::Script;
 use std::alloc::{AllocError, Global};
 
-/// Plans a script, in one pass over its commands: each stands in the first batch that is free behind the last commands on its
-/// devices, whatever came before them.
+/// Plans a script in one pass: each command goes into the first batch after those of the last commands on its devices. Its only
+/// error is want of memory.
 pub fn plan(alloc: Global, script: &Script) -> Result<Plan, AllocError>
     ensures { IfOk result (IsPlan script.now) }
 {
@@ -37,7 +37,7 @@ pub fn plan(alloc: Global, script: &Script) -> Result<Plan, AllocError>
     })
 }
 
-// Plans one command more, and tells its batch.
+// Plans one more command and returns its batch.
 fn plan_next(
     script: &Script,
     number: u32,
@@ -60,7 +60,7 @@ fn plan_next(
     Ok(batch)
 }
 
-// Puts a command into its batch, which may be the next one.
+// Adds a command to its batch, which may be a new last one.
 fn add_member(
     alloc: Global,
     members: &mut Vec<Vec<u32>>,
@@ -80,7 +80,8 @@ fn add_member(
     Ok(())
 }
 
-// The first batch that is free behind the last commands on one device or two, and which of these a command in it goes after.
+// The first free batch after the last commands on one or two devices, and the command among them that a command in it goes
+// after.
 fn place_behind(batches: &[u32], last: u32, other: Option<u32>) -> (u32, u32)
     requires last { last ≤ length batches.now }
     requires other { IfSome other (λ n. n ≤ length batches.now) }
@@ -105,7 +106,7 @@ fn place_behind(batches: &[u32], last: u32, other: Option<u32>) -> (u32, u32)
     }
 }
 
-// The first batch that is free behind a command; 0 is none.
+// The first free batch after a command; 0 if there is no command.
 fn free_behind(batches: &[u32], last: u32) -> u32
     requires last { last ≤ length batches.now }
     requires few { length batches.now ≤ max_commands }

@@ -1,4 +1,4 @@
--- What a filter matches is matched by each that covers it.
+-- A filter matches whatever a filter that it covers matches.
 use Rattle.std.proofs.Common.{◌≡◌, refl, sym, ap, ◌∙◌, ℕ, ℤ, pos, Bool, true, not, ◌&&◌, ◌||◌, int_le, List, [], ◌∷◌, arith, inl, inr}
 use Rattle.std.specs.List.{list_any, list_all}
 use Rattle.std.proofs.Math.Bool.{or-true}
@@ -25,7 +25,7 @@ within_wider s t x wider inside =
     let p = and_parts (int_le t.first x) (int_le x t.last) inside in
     and_from _ _ (follows s.first t.first x ends.0 p.0) (follows x t.last s.last p.1 ends.1)
 
--- what is true of each word of a set is true of each that the set has
+-- what holds of each word of a set holds of words that the set has
 all_among : (p : List ℕ → Bool) (ws vs : List (List ℕ)) → list_all (has_word ws) vs ≡ true → list_all p ws ≡ true → list_all p vs ≡ true
 all_among p ws [] among all = refl
 all_among p ws (v ∷ vs) among all =

@@ -1,4 +1,4 @@
--- A picture fits one of the alternatives of a tree exactly where the tree matches it.
+-- A picture fits one of a tree's alternatives exactly if the tree matches it.
 use Rattle.std.proofs.Common.{◌≡◌, refl, sym, ap, ◌∙◌, ℕ, ℤ, pos, Bool, true, false, not, ◌&&◌, ◌||◌, int_le, ◌≤◌, List, [], ◌∷◌, map, arith, inl, inr}
 use Rattle.std.specs.List.{list_any, list_all}
 use Rattle.std.proofs.Math.Bool.{and-true, and-false, not-not, and-or_distrib_left, and-or_distrib_right}
@@ -40,7 +40,7 @@ not_empty s x h =
     let p = and_parts (int_le s.first x) (int_le x s.last) h in
     middle s.first x s.last p.0 p.1
 
--- what a picture fits is possible
+-- an alternative that a picture fits is possible
 possible_from_fits : (c : Content) (a : Alternative) → fits c a ≡ true → is_possible a ≡ true
 possible_from_fits c a h =
     let p = and_parts _ _ h in
@@ -70,7 +70,7 @@ any-pairs c (a ∷ xs) ys =
     list_any-append (fits c) (possible (map (both_of a) ys)) (pairs xs ys)
     ∙ rw (any-possible c (map (both_of a) ys), any-map_both_of c a ys, any-pairs c xs ys) (sym (and-or_distrib_right (fits c a) (list_any (fits c) xs) (list_any (fits c) ys)))
 
--- a record's rating and day are within the whole ranges
+-- a record's rating and day are in the whole ranges
 rating_from : (c : Content) → IsContent c → int_le (pos 0) (pos c.rating) ≡ true
 rating_from c is = grind (arith, ints)
 
@@ -97,7 +97,7 @@ negated_word : (b : Bool) → ((true && (true && not (b || false))) || false) �
 negated_word true = refl
 negated_word false = refl
 
--- one range, and nothing else
+-- alternatives that ask only for one range
 fits-with_ratings : (c : Content) (ss : List Span) → is_within all_days c.day ≡ true
     → list_any (fits c) (map with_ratings ss) ≡ list_any (λ s. is_within s (pos c.rating)) ss
 fits-with_ratings c [] h = refl
@@ -172,7 +172,7 @@ pub fits_where_matched : FitsWhereMatched
 fits_where_matched =
     (λ tree c is. fits-alternatives_of c is tree Plain, λ tree c is. fits-alternatives_of c is tree Negated)
 
--- the kept list of a tree answers for the tree
+-- the filter's list answers for its tree
 pub matched_by_list : (tree : Tree) (xs : List Alternative) (rating : ℕ) (day : ℤ) (words : List (List ℕ)) → xs ≡ alternatives_of tree Plain
     → rating ≤ max_rating → IsDay day → list_any (fits (content rating day words)) xs ≡ matches tree (Picture rating day words)
 matched_by_list tree xs rating day words e r d =

@@ -1,4 +1,4 @@
--- What is found of a text.
+-- The tree found for a text.
 use Rattle.std.proofs.Common.{◌≡◌, ℕ, Bool, true, false, cond, List, Some, None, refl, sym}
 use Rattle.std.proofs.lemmas.Bool.{cond-false}
 use Rattle.photo_filter_text.specs.Tree.{Tree}
@@ -30,7 +30,7 @@ pub found : IsFoundWhereFilter
 unfolding filter_of
 found = λ text tree. (found-is text tree (decided (tokens_of text)), is-found text tree (decided (tokens_of text)))
 
--- what is no filter is not found
+-- no tree is found for a text that isn't a filter
 pub not-found : (text : List ℕ) → ((tree : Tree) → IsFilterOf text tree → ⊥) → filter_of text ≡ None
 unfolding filter_of
 not-found text none = by (decided (tokens_of text))

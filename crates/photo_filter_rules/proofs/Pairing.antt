@@ -5,18 +5,18 @@ use Rattle.std.proofs.lemmas.List.{drop_all}
 use Rattle.std.proofs.lemmas.List.Elements.{filter-append}
 use Rattle.photo_filter_rules.specs.Alternatives.{Alternative, both_of, is_possible, possible, pairs, is_long}
 
--- the element at a place, and what stands behind it
+-- the element at a place, and the elements after it
 rest_at : (xs : List Alternative) (i : ℕ) (x : Alternative) → i < length xs → x ≡ get_or xs i x → drop i xs ≡ x ∷ drop (suc i) xs
 rest_at xs i x inside at = drop-cons xs i x inside ∙ ap (λ y. y ∷ drop (suc i) xs) (sym at)
 
--- a list is too long where a front of it is
+-- a list is too long if a first part of it is
 long_front : (front more whole : List Alternative) → whole ≡ front ++ more → is_long front ≡ true → is_long whole ≡ true
 long_front front more whole is long =
     let size : length whole ≡ length front + length more = ap length is ∙ length-append front more in
     let front_long = ltb-true _ _ long in
     lt-ltb _ _ (omega arith)
 
--- one alternative and all of a list
+-- one alternative paired with a list
 
 pair_split : (f : Alternative → Alternative) (before now others : List Alternative) (i : ℕ) (x : Alternative) → now ++ possible (map f (drop i others)) ≡ before → i < length others → x ≡ get_or others i x → before ≡ (now ++ possible (f x ∷ [])) ++ possible (map f (drop (suc i) others))
 pair_split f before now others i x is inside at =
@@ -37,7 +37,7 @@ pub pair_end : (f : Alternative → Alternative) (before now others : List Alter
 pair_end f before now others i is past =
     sym (append-nil now) ∙ sym (ap (λ l. now ++ possible (map f l)) (drop_all i others past)) ∙ is
 
--- all of one list and all of another
+-- one list paired with another
 
 row_split : (before now left right : List Alternative) (i : ℕ) (x : Alternative) → now ++ pairs (drop i left) right ≡ before → i < length left → x ≡ get_or left i x → before ≡ (now ++ possible (map (both_of x) right)) ++ pairs (drop (suc i) left) right
 row_split before now left right i x is inside at =

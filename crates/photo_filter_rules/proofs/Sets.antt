@@ -1,4 +1,4 @@
--- Sets of words as lists: a union, and words that stand in two sets.
+-- Sets of words as lists: their union and their common words.
 use Rattle.std.proofs.Common.{◌≡◌, refl, sym, ap, ◌∙◌, ℕ, Bool, true, false, not, ◌&&◌, ◌||◌, List, [], ◌∷◌, ◌++◌, inl, inr, ◌+◌, ◌<◌, length, take, get_or, append-nil, append_assoc}
 use Rattle.std.specs.List.{list_any, list_all, filter}
 use Rattle.std.specs.Cmp.Lexicographic.{same_text}
@@ -10,7 +10,7 @@ use Rattle.photo_record.specs.Word.{has_word}
 use Rattle.photo_filter_rules.specs.Alternatives.{both_sets}
 use Rattle.photo_filter_rules.proofs.Bools.{not-or}
 
--- what is true of each word of a set is true of a word that the set has
+-- what holds of each word of a set holds of a word that the set has
 pub has_word_all : (p : List ℕ → Bool) (ws : List (List ℕ)) (v : List ℕ) → list_all p ws ≡ true → has_word ws v ≡ true → p v ≡ true
 has_word_all p [] v h e = absurd (false≢true e)
 has_word_all p (w ∷ ws) v h e =
@@ -44,7 +44,7 @@ pub none-both_sets : (p : List ℕ → Bool) (ws vs : List (List ℕ)) → not (
 none-both_sets p ws vs =
     rw (not-list_any p (both_sets ws vs), not-list_any p ws, not-list_any p vs) (all-both_sets (λ w. not (p w)) ws vs)
 
--- where a test holds of each word of one set and of none of another, they have no word in common
+-- if a test holds of each word of one set and of none of another, they have no word in common
 pub no_common : (p : List ℕ → Bool) (ws fs : List (List ℕ)) → list_all p ws ≡ true → list_all (λ w. not (p w)) fs ≡ true → list_any (has_word fs) ws ≡ false
 no_common p [] fs h n = refl
 no_common p (w ∷ ws) fs h n =
@@ -54,7 +54,7 @@ no_common p (w ∷ ws) fs h n =
       | inr s ↦ rw s (no_common p ws fs hs.1 n)
     ]
 
--- a step over the second set of a union: a word that the first has, and one that it hasn't
+-- one step of a union over the second set: the first set has the word, or it doesn't
 pub union_skips : (ws us vs : List (List ℕ)) (i : ℕ) (v : List ℕ) → us ≡ ws ++ filter (λ w. not (has_word ws w)) (take i vs)
     → i < length vs → v ≡ get_or vs i v → has_word ws v ≡ true
     → us ≡ ws ++ filter (λ w. not (has_word ws w)) (take (i + 1) vs)

@@ -1,4 +1,4 @@
--- Ranges: what stands in two, and those that pass a test.
+-- Ranges: the numbers in two ranges, and those that pass a test.
 use Rattle.std.proofs.Common.{◌≡◌, sym, ◌∙◌, inl, inr, ℤ, pos, ◌+ℤ◌, ◌-ℤ◌, Bool, true, false, not, ◌&&◌, ◌||◌, int_le, arith}
 use Rattle.std.specs.Int.{int_max, int_min}
 use Rattle.std.specs.Ordering.{int_eq}
@@ -25,7 +25,7 @@ pub is_within-both_spans : (s t : Span) (x : ℤ) → is_within (both_spans s t)
 is_within-both_spans s t x =
     rw (int_max-le s.first t.first x, le-int_min s.last t.last x) (and_pairs (int_le s.first x) (int_le t.first x) (int_le x s.last) (int_le x t.last))
 
--- what a part of a tree comes to, where it stands plainly or under `not`
+-- a part's result in a polarity
 abbrev pub toward : Polarity → Bool → Bool
 toward Plain b = b
 toward Negated b = not b
@@ -74,7 +74,7 @@ unequal : (k x first last : ℤ) → int_le first x ≡ true → int_le x last �
     → ((int_le first x && int_le x (k -ℤ pos 1)) || ((int_le (k +ℤ pos 1) x && int_le x last) || false)) ≡ not (int_eq x k)
 unequal k x first last h g = rw (int_eq-is x k) (outside k x first last h g)
 
--- a number of the whole stands in one of the ranges exactly where it passes the test, or doesn't
+-- a number of the whole is in one of the ranges exactly if it passes the test, or under `not` if it doesn't
 pub any-spans_of : (whole : Span) (polarity : Polarity) (cmp : Cmp) (k x : ℤ) → int_le whole.first x ≡ true → int_le x whole.last ≡ true
     → list_any (λ s. is_within s x) (spans_of whole polarity cmp k) ≡ toward polarity (compares cmp k x)
 any-spans_of whole Plain AtLeast k x h g = at_least k x whole.first whole.last g

@@ -1,4 +1,4 @@
--- Texts of filters compute by the definitions alone.
+-- Worked texts of filters, by computation.
 use Rattle.std.specs.Prelude.{refl}
 use Rattle.std.specs.Str.{chars, is_utf8}
 use lib.Utf8.{encode}

@@ -1,4 +1,4 @@
--- The alternatives of a tree: a picture matches where it fits one of them.
+-- The alternatives of a tree: a picture matches the tree if it fits one of them.
 use Rattle.std.specs.Prelude.{ℕ, ℤ, Bool, not, ◌&&◌, ◌||◌, pos, ◌+ℤ◌, ◌-ℤ◌, int_le, nat_lt, List, [], ◌∷◌, ◌++◌, map, length}
 use Rattle.std.specs.Int.{int_max, int_min}
 use Rattle.std.specs.List.{list_any, list_all, filter, flat_map}
@@ -12,41 +12,41 @@ use Rattle.photo_filter_rules.specs.declared.polarity.Polarity.TheVariants.{Plai
 use Rattle.photo_filter_rules.specs.Limits.{all_ratings, all_days, max_alternatives}
 use Rattle.photo_filter_rules.specs.Matching.{Content}
 
--- the numbers from the first to the last, both counted in: none where the last is below the first
+-- the numbers from the first to the last, both included; none if the last is below the first
 abbrev pub span : ℤ → ℤ → Span
 span first last = record { first = first; last = last }
 
 abbrev pub is_within : Span → ℤ → Bool
 is_within s number = int_le s.first number && int_le number s.last
 
--- the numbers that stand in both
+-- the numbers in both ranges
 abbrev pub both_spans : Span → Span → Span
 both_spans s t = span (int_max s.first t.first) (int_min s.last t.last)
 
--- Sets of words stand as lists. The union has the words of the first, and then those of the second that are new.
+-- A set of words is a list. A union has the words of the first list, then the new words of the second.
 abbrev pub both_sets : List (List ℕ) → List (List ℕ) → List (List ℕ)
 both_sets ws vs = ws ++ filter (λ v. not (has_word ws v)) vs
 
--- a rating and a day within ranges, words that have to be there and words that must not
+-- an alternative: a range of ratings, a range of days, required words and forbidden words
 pub record Alternative : Type 0 where
   pub ratings : Span
   pub days : Span
   pub required : List (List ℕ)
   pub forbidden : List (List ℕ)
 
--- a picture fits an alternative
+-- the picture fits the alternative
 abbrev pub fits : Content → Alternative → Bool
 fits c a =
     (is_within a.ratings (pos c.rating) && is_within a.days c.day)
     && (list_all (has_word c.words) a.required && not (list_any (has_word c.words) a.forbidden))
 
--- no range is empty, and no word is both required and forbidden
+-- both ranges have numbers, and no word is both required and forbidden
 abbrev pub is_possible : Alternative → Bool
 is_possible a =
     (int_le a.ratings.first a.ratings.last && int_le a.days.first a.days.last)
     && not (list_any (has_word a.forbidden) a.required)
 
--- what the two ask together
+-- the alternative that asks for what both ask
 abbrev pub both_of : Alternative → Alternative → Alternative
 both_of a b = record {
   ratings = both_spans a.ratings b.ratings;
@@ -55,11 +55,11 @@ both_of a b = record {
   forbidden = both_sets a.forbidden b.forbidden;
 }
 
--- the rest are dropped
+-- the possible ones among the alternatives
 abbrev pub possible : List Alternative → List Alternative
 possible = filter is_possible
 
--- the alternative that asks nothing, and those that ask one thing
+-- the alternative that asks nothing, and those that ask a single thing
 abbrev pub anything : Alternative
 anything = record { ratings = all_ratings; days = all_days; required = []; forbidden = [] }
 
@@ -77,7 +77,7 @@ abbrev pub opposite : Polarity → Polarity
 opposite Plain = Negated
 opposite Negated = Plain
 
--- the ranges of the numbers, out of the whole, that pass a test or that don't
+-- the ranges, within the whole, of the numbers that pass the test, or under `not` of those that don't
 abbrev pub spans_of : Span → Polarity → Cmp → ℤ → List Span
 spans_of whole Plain AtLeast named = span named whole.last ∷ []
 spans_of whole Plain AtMost named = span whole.first named ∷ []
@@ -90,16 +90,16 @@ abbrev pub all_or_none : Polarity → List Alternative
 all_or_none Plain = anything ∷ []
 all_or_none Negated = []
 
--- all pairs of one from each list, those of the first outermost
+-- all possible pairs of an alternative from each list; the first list's order comes first
 abbrev pub pairs : List Alternative → List Alternative → List Alternative
 pairs xs ys = flat_map (λ a. possible (map (both_of a) ys)) xs
 
--- `or` has the two lists one after the other, and under `not` their pairs
+-- `or` appends the lists, and under `not` it pairs them
 abbrev pub either_list : Polarity → List Alternative → List Alternative → List Alternative
 either_list Plain xs ys = xs ++ ys
 either_list Negated xs ys = pairs xs ys
 
--- the alternatives of a tree, or of the tree under `not`
+-- the alternatives of a tree in a polarity: plain, or under `not`
 abbrev pub alternatives_of : Tree → Polarity → List Alternative
 alternatives_of All polarity = all_or_none polarity
 alternatives_of Nothing polarity = all_or_none (opposite polarity)
@@ -115,7 +115,7 @@ alternatives_of (Either left right) polarity =
 abbrev pub is_long : List Alternative → Bool
 is_long xs = nat_lt max_alternatives (length xs)
 
--- the list of the tree, or of a part of it in the polarity in which that stands, is too long
+-- the tree, or a part of it in its own polarity, has over 64 alternatives
 abbrev pub is_too_wide : Tree → Polarity → Bool
 is_too_wide All polarity = is_long (alternatives_of All polarity)
 is_too_wide Nothing polarity = is_long (alternatives_of Nothing polarity)

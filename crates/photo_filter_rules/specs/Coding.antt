@@ -1,5 +1,5 @@
--- No definition of the language, but the machinery of its proofs: a tree as a list of marks, each part before what it
--- is a part of, and back. By this a proof tells trees apart.
+-- Machinery of the proofs: a tree as a list of marks, each part before the tree that it belongs to, and back. With it a proof
+-- tells trees apart.
 use Rattle.std.specs.Prelude.{◌≡◌, ℕ, ℤ, pos, refl, List, [], ◌∷◌, ◌++◌, if◌then◌else◌, ◌==◌}
 use Rattle.std.specs.Coded.{Coded, code_by, coded×, coded_ℕ, coded_ℤ, coded_list}
 use Rattle.std.proofs.Common.{◌∙◌, ap, sym, append_assoc, append-nil}
@@ -7,7 +7,7 @@ use Rattle.photo_filter_text.specs.declared.tree.Cmp.{Cmp}
 use Rattle.photo_filter_text.specs.declared.tree.Cmp.TheVariants.{AtLeast, AtMost, Equal}
 use Rattle.photo_filter_text.specs.Tree.{Tree, All, Nothing, Rate, On, Keyword, Not, Both, Either}
 
--- the kind of a part, and the rating, the day or the word that it names
+-- a part's kind, and the rating, day or word that it names
 abbrev pub Mark : Type 0
 Mark = ℕ × (ℕ × (ℤ × List ℕ))
 
@@ -34,7 +34,7 @@ marks_of (Not part) = marks_of part ++ (bare 9 ∷ [])
 marks_of (Both left right) = marks_of left ++ (marks_of right ++ (bare 10 ∷ []))
 marks_of (Either left right) = marks_of left ++ (marks_of right ++ (bare 11 ∷ []))
 
--- the parts read so far, the last one first
+-- the trees decoded so far, the last one first
 abbrev pub with_not : List Tree → List Tree
 with_not [] = []
 with_not (part ∷ parts) = Not part ∷ parts

@@ -1,4 +1,4 @@
--- What some trees come to.
+-- The definitions, worked for some trees.
 use Rattle.std.specs.Prelude.{◌≡◌, ℕ, zero, suc, ◌+◌, true, false, List, [], ◌∷◌, ◌++◌, length, codes, pos, Some, None, is_some}
 use Rattle.photo_record.specs.Limits.{first_day}
 use Rattle.photo_record.specs.declared.record.Record.TheVariants.{Removed}
@@ -17,7 +17,7 @@ word = codes "x"
 abbrev pub other_word : List ℕ
 other_word = codes "y"
 
--- so many words and one more, joined by `or`
+-- the first word and so many more, joined by `or`
 abbrev pub one_of_words : ℕ → ℕ → Tree
 one_of_words first zero = Keyword (first ∷ [])
 one_of_words first (suc more) = Either (one_of_words first more) (Keyword ((first + suc more) ∷ []))
@@ -33,12 +33,12 @@ pub record TheLists : Type 0 where
   pub no_range : alternatives_of (Both (Rate AtLeast 4) (Rate AtMost 3)) Plain ≡ []
   pub one_rating : alternatives_of (Both (Rate AtLeast 3) (Rate AtMost 3)) Plain ≡ with_ratings (span (pos 3) (pos 3)) ∷ []
   pub asked_and_forbidden : alternatives_of (Both (Keyword word) (Not (Keyword word))) Plain ≡ []
-  -- nothing is merged
+  -- equal alternatives aren't merged
   pub twice : alternatives_of (Either (Keyword word) (Keyword word)) Plain ≡ with_keyword Plain word ∷ with_keyword Plain word ∷ []
-  -- the word stands once in the union
+  -- the union has the word once
   pub once : alternatives_of (Both (Keyword word) (Keyword word)) Plain ≡ with_keyword Plain word ∷ []
 
--- eight words by `or` and eight others; five and thirteen; these as a part of a tree whose own list is empty
+-- eight words joined by `or`, and eight others; five and thirteen; and these in a tree whose own list is empty
 pub record TheWidths : Type 0 where
   pub sixty_four : length (alternatives_of (Both (one_of_words 97 7) (one_of_words 105 7)) Plain) ≡ 64
   pub not_wide : is_too_wide (Both (one_of_words 97 7) (one_of_words 105 7)) Plain ≡ false
@@ -47,7 +47,7 @@ pub record TheWidths : Type 0 where
   pub wide_negated : is_too_wide (Not (Either (Not (one_of_words 97 4)) (Not (one_of_words 105 12)))) Plain ≡ true
   pub narrow_negated : is_too_wide (Not (Both (one_of_words 97 4) (one_of_words 105 12))) Plain ≡ false
 
--- a removed record is matched by nothing
+-- no tree matches a removed record
 pub record TheRemoved : Type 0 where
   pub by_all : matches All Removed ≡ false
   pub by_not_all : matches (Not All) Removed ≡ false
@@ -57,7 +57,7 @@ pub record TheRemoved : Type 0 where
 pub record TheCovers : Type 0 where
   pub narrower : covers (Rate AtLeast 3) (Both (Rate Equal 4) (Keyword word)) ≡ true
   pub by_all : covers All (Not (Keyword word)) ≡ true
-  -- a tree without alternatives is covered by all, and covers no other
+  -- a tree without alternatives is covered by every tree, and covers no other
   pub nothing : covers Nothing (Not (On AtLeast first_day)) ≡ true
   pub by_nothing : covers Nothing All ≡ false
   pub word_asked : covers (Keyword word) All ≡ false
@@ -70,14 +70,14 @@ pub record TheCovers : Type 0 where
   pub day_before : covers (On AtLeast (pos 10)) (On AtLeast (pos 9)) ≡ false
   pub day_after : covers (On AtMost (pos 20)) (On AtMost (pos 21)) ≡ false
   pub same_range : covers (Both (Rate AtLeast 3) (Rate AtMost 3)) (Rate Equal 3) ≡ true
-  -- each alternative of the second has its own, in another order
+  -- each alternative of the second has its own in the first, in another order
   pub each_its_own : covers (Either (Keyword word) (Rate AtLeast 4)) (Either (Rate Equal 5) (Both (Keyword word) (On AtMost (pos 0)))) ≡ true
   pub one_without : covers (Either (Keyword word) (Rate AtLeast 4)) (Either (Keyword word) (Rate AtLeast 3)) ≡ false
-  -- two alternatives that only together have what one of the second has
+  -- two alternatives of the first cover one of the second only together
   pub split : covers (Either (Rate Equal 3) (Rate AtLeast 4)) (Rate AtLeast 3) ≡ false
   pub split_matches : (c : Content) → matches_picture (Rate AtLeast 3) c ≡ true → matches_picture (Either (Rate Equal 3) (Rate AtLeast 4)) c ≡ true
 
--- texts that are filters, and texts that are none
+-- texts that are filters, and texts that aren't
 pub record TheFilters : Type 0 where
   pub brackets : filter_of (codes "not (rating = 0 or keyword x)") ≡ Some (Not (Either (Rate Equal 0) (Keyword word)))
   pub word : filter_of (codes "keyword and and all") ≡ Some (Both (Keyword (codes "and")) All)

@@ -1,4 +1,4 @@
--- Alternatives against matching, in both polarities, and what a filter that covers another matches.
+-- Laws: alternatives agree with matching, and covering implies selecting.
 use Rattle.std.specs.Prelude.{◌≡◌, true, not}
 use Rattle.std.specs.List.{list_any}
 use Rattle.photo_record.specs.declared.record.Record.{Record}
@@ -8,14 +8,14 @@ use Rattle.photo_filter_rules.specs.Matching.{Content, IsContent, IsInRange, mat
 use Rattle.photo_filter_rules.specs.Alternatives.{fits, alternatives_of}
 use Rattle.photo_filter_rules.specs.Covers.{covers}
 
--- a picture fits one of the alternatives of a tree exactly where the tree matches it,
--- and one of those that it has under `not` exactly where it doesn't
+-- a tree matches a picture exactly if the picture fits one of the tree's alternatives; it doesn't match exactly if the picture
+-- fits one of those under `not`
 abbrev pub FitsWhereMatched : Type 0
 FitsWhereMatched =
     ((tree : Tree) (c : Content) → IsContent c → list_any (fits c) (alternatives_of tree Plain) ≡ matches_picture tree c)
     × ((tree : Tree) (c : Content) → IsContent c → list_any (fits c) (alternatives_of tree Negated) ≡ not (matches_picture tree c))
 
--- what a filter matches is matched by each that covers it
+-- a filter selects every record, with rating and day in range, that a filter which it covers selects
 abbrev pub CoversSelects : Type 0
 CoversSelects =
     (f g : Tree) (r : Record) → IsInRange r → covers f g ≡ true → matches g r ≡ true → matches f r ≡ true

@@ -1,4 +1,4 @@
--- The whole ranges of ratings and days, and how long a list of alternatives may be.
+-- All ratings, all days, and the most alternatives of a filter.
 use Rattle.std.specs.Prelude.{ℕ, pos}
 use Rattle.photo_record.specs.Limits.{max_rating, first_day, last_day}
 use Rattle.photo_filter_rules.specs.declared.span.Span.{Span}
@@ -9,6 +9,6 @@ all_ratings = record { first = pos 0; last = pos max_rating }
 abbrev pub all_days : Span
 all_days = record { first = first_day; last = last_day }
 
--- the most alternatives of a filter, and of each part of one
+-- the most alternatives of a tree and of each of its parts
 abbrev pub max_alternatives : ℕ
 max_alternatives = 64

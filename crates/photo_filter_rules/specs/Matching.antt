@@ -9,7 +9,7 @@ use Rattle.photo_filter_text.specs.declared.tree.Cmp.{Cmp}
 use Rattle.photo_filter_text.specs.declared.tree.Cmp.TheVariants.{AtLeast, AtMost, Equal}
 use Rattle.photo_filter_text.specs.Tree.{Tree, All, Nothing, Rate, On, Keyword, Not, Both, Either}
 
--- what a picture's record says: a rating, a day number and a set of words
+-- the content of a picture's record: a rating, a day number and a set of words
 pub record Content : Type 0 where
   pub rating : ℕ
   pub day : ℤ
@@ -18,23 +18,23 @@ pub record Content : Type 0 where
 abbrev pub content : ℕ → ℤ → List (List ℕ) → Content
 content rating day words = record { rating = rating; day = day; words = words }
 
--- its rating and its day are ones that there are
+-- the rating and the day are in range
 pub record IsContent (c : Content) : Type 0 where
   pub rating : c.rating ≤ max_rating
   pub day : IsDay c.day
 
--- the same of a record, if it says any
+-- the record's rating and day are in range, if it has them
 abbrev pub IsInRange : Record → Type 0
 IsInRange (Picture rating day words) = IsContent (content rating day words)
 IsInRange Removed = Unit {0}
 
--- a number stands to the one that a test names as the test wants it
+-- the number compares with the test's as the test asks
 abbrev pub compares : Cmp → ℤ → ℤ → Bool
 compares AtLeast named number = int_le named number
 compares AtMost named number = int_le number named
 compares Equal named number = int_eq number named
 
--- a tree matches a picture
+-- the tree matches the picture
 abbrev pub matches_picture : Tree → Content → Bool
 matches_picture All c = true
 matches_picture Nothing c = false
@@ -45,7 +45,7 @@ matches_picture (Not part) c = not (matches_picture part c)
 matches_picture (Both left right) c = matches_picture left c && matches_picture right c
 matches_picture (Either left right) c = matches_picture left c || matches_picture right c
 
--- a tree matches a record: nothing matches one that was removed
+-- the tree matches the record; no tree matches a removal
 abbrev pub matches : Tree → Record → Bool
 matches tree (Picture rating day words) = matches_picture tree (content rating day words)
 matches tree Removed = false

@@ -12,7 +12,7 @@ use photo_record::{Word, Words};
 use std::alloc::{AllocError, Global};
 use std::marker::Model;
 
-/// Ranges of ratings and days, words that have to be there, and words that must not.
+/// One alternative: ranges of ratings and days, required words and forbidden words.
 #[derive(Debug, Drop)]
 pub struct Alternative {
     ratings: Span,
@@ -30,7 +30,7 @@ impl Model for Alternative {
 }
 
 impl Alternative {
-    /// The alternative that every picture fits.
+    /// The alternative that asks nothing, so every picture fits.
     pub fn anything(alloc: Global) -> Alternative
         ensures { result ≡ anything }
     {
@@ -42,7 +42,7 @@ impl Alternative {
         }
     }
 
-    /// The alternative that asks for a rating in the range.
+    /// The alternative that asks only for a rating in the range.
     pub fn with_ratings(alloc: Global, ratings: Span) -> Alternative
         ensures { result ≡ with_ratings ratings }
     {
@@ -52,7 +52,7 @@ impl Alternative {
         }
     }
 
-    /// The alternative that asks for a day in the range, by day numbers.
+    /// The alternative that asks only for a day in the range, by day number.
     pub fn with_days(alloc: Global, days: Span) -> Alternative
         ensures { result ≡ with_days days }
     {
@@ -62,7 +62,7 @@ impl Alternative {
         }
     }
 
-    /// The alternative that asks for the word, or that forbids it. Its only error is want of memory.
+    /// The alternative that only requires the word, or under `not` only forbids it. Its only error is want of memory.
     pub fn with_keyword(
         alloc: Global,
         polarity: Polarity,
@@ -78,7 +78,7 @@ impl Alternative {
         Ok(alternative)
     }
 
-    /// Whether a picture of that rating, day number and words fits. It takes no memory.
+    /// Whether a picture with that rating, day number and words fits. It takes no memory.
     pub fn fits(&self, rating: u8, day: i32, words: &Words) -> bool
         ensures { result ≡ fits (content rating day words.now) self.now }
     {
@@ -88,7 +88,7 @@ impl Alternative {
             && !words::has_any(words, &self.forbidden)
     }
 
-    /// Whether no range is empty, and no word is both required and forbidden. It takes no memory.
+    /// Whether both ranges have numbers and no word is both required and forbidden. It takes no memory.
     pub fn is_possible(&self) -> bool
         ensures { result ≡ is_possible self.now }
     {
@@ -97,7 +97,7 @@ impl Alternative {
             && !words::meets(&self.required, &self.forbidden)
     }
 
-    /// Whether this one asks nothing that the other doesn't ask. It takes no memory.
+    /// Whether this alternative asks nothing that the other doesn't ask. It takes no memory.
     pub fn asks_no_more(&self, other: &Alternative) -> bool
         ensures { result ≡ asks_no_more self.now other.now }
     {
@@ -107,7 +107,7 @@ impl Alternative {
             && words::contain_all(&other.forbidden, &self.forbidden)
     }
 
-    /// What the two ask together. Its only error is want of memory.
+    /// The alternative that asks for what both ask. Its only error is want of memory.
     pub fn meet(&self, other: &Alternative) -> Result<Alternative, AllocError>
         ensures { IfOk result (λ both. both ≡ both_of self.now other.now) }
     {

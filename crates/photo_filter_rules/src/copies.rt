@@ -1,10 +1,10 @@
-//! Copies of lists.
+//! Copying lists.
 ghost use Rattle.std.specs.Prelude.{◌≡◌, IfOk};
 
 use photo_record::Word;
 use std::alloc::AllocError;
 
-/// What is copied where there is memory for it.
+/// A value that can be copied, unless memory is refused.
 pub trait TryClone: Drop {
     /// An equal value. Its only error is want of memory.
     fn try_clone(&self) -> Result<Self, AllocError>
@@ -17,7 +17,7 @@ impl TryClone for Word {
     }
 }
 
-/// Equal values in the same order. Its only error is want of memory.
+/// A list of equal values in the same order. Its only error is want of memory.
 pub fn copied<T: TryClone>(items: &Vec<T>) -> Result<Vec<T>, AllocError>
     ensures { IfOk result (λ copy. copy.items ≡ items.now.items) }
 {

@@ -1,14 +1,14 @@
-//! Why no filter is built of a tree.
+//! Why a filter can't be built from a tree.
 ghost use Rattle.std.specs.Prelude.{◌≡◌};
 ghost use Rattle.photo_filter_rules.specs.declared.fault.BuildFault.TheVariants.{NoMemory};
 
 use std::alloc::{AllocError, AllocFailed};
 use thiserror::Error;
 
-/// Why no filter could be built of a tree.
+/// Why a filter can't be built from a tree.
 #[derive(Clone, Copy, Debug, PartialEq, Eq, Drop, Error)]
 pub enum BuildFault {
-    /// The list of the tree or of one of its parts would have over 64 alternatives.
+    /// The tree or one of its parts has over 64 alternatives.
     #[error("TooWide")]
     TooWide,
     /// Memory was refused.

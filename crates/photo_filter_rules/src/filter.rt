@@ -1,4 +1,4 @@
-//! The filter: its building, matching and covering.
+//! Filters: building, matching and covering.
 ghost use Rattle.std.specs.Prelude.{◌≡◌, ◌↔◌, length, IfOk, IfErr, OnOk, true, false};
 ghost use Rattle.photo_filter_text.specs.Tree.{tree_of};
 ghost use Rattle.photo_filter_rules.specs.declared.polarity.Polarity.TheVariants.{Plain};
@@ -15,7 +15,7 @@ use photo_record::Record;
 use std::alloc::{AllocError, Global};
 use std::marker::Model;
 
-/// A filter: a tree of tests, with its alternatives, of which there are at most 64. Contracts see the tree.
+/// A filter: a tree of tests and its alternatives, at most 64. Contracts see the tree.
 #[derive(Debug, Drop)]
 pub struct Filter {
     tree: FilterTree,
@@ -40,8 +40,8 @@ impl Model for Filter {
 }
 
 impl Filter {
-    /// The filter of a tree. `TooWide` where the list of the tree or of a part of it, in the polarity in which that
-    /// stands, has over 64 alternatives; `NoMemory` may come in place of either answer. An error has the tree with it.
+    /// Builds the filter of a tree. `TooWide` means that the tree or one of its parts, in its own polarity, has over 64
+    /// alternatives. `NoMemory` may come in place of either answer. An error gives the tree back.
     pub fn build(alloc: Global, tree: FilterTree) -> Result<Filter, (FilterTree, BuildFault)>
         ensures built { IfOk result (λ filter. filter ≡ tree_of tree) }
         ensures narrow { OnOk result (is_too_wide (tree_of tree) Plain ≡ false) }
@@ -54,7 +54,7 @@ impl Filter {
         }
     }
 
-    /// Whether the filter matches the record; none matches a removed one. It takes no memory.
+    /// Whether the filter matches the record; no filter matches a removal. It takes no memory.
     pub fn matches(&self, record: &Record) -> bool
         ensures { result ≡ matches self.now «record».now }
     {
@@ -66,14 +66,14 @@ impl Filter {
         }
     }
 
-    /// How many alternatives the filter has, 0 to 64. It takes no memory.
+    /// The number of alternatives, 0 to 64. It takes no memory.
     pub fn alternatives(&self) -> usize
         ensures { result ≡ length (alternatives_of self.now Plain) }
     {
         self.alternatives.len()
     }
 
-    /// The tree that the filter was built of.
+    /// The tree from which the filter was built.
     pub fn tree(&self) -> &FilterTree
         ensures { tree_of result.now ≡ self.now }
     {
@@ -91,8 +91,8 @@ impl Filter {
     }
 }
 
-/// Whether the first filter covers the second: each alternative of the second has one of the first that asks nothing
-/// more, so that the first matches whatever the second matches. It takes no memory.
+/// Whether the first filter covers the second: for each alternative of the second, the first has one that asks no more. Then
+/// the first matches whatever the second matches. It takes no memory.
 pub fn covers(first: &Filter, second: &Filter) -> bool
     ensures { result ≡ covers first.now second.now }
 {

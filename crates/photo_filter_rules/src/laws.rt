@@ -1,26 +1,26 @@
-//! Laws of alternatives and of matching. Each function's contract is a law, and its body does nothing.
+//! Laws of alternatives and matching. Each function's contract states a law; its body is empty.
 ghost use Rattle.photo_filter_rules.specs.Laws.{FitsWhereMatched, CoversSelects};
 ghost use Rattle.photo_filter_rules.specs.Examples.{TheLists, TheWidths, TheRemoved, TheCovers, TheFilters};
 ghost use Rattle.photo_filter_rules.specs.Filters.{IsFoundWhereFilter};
 
-/// A picture fits one of the alternatives of a tree exactly where the tree matches it, and one of those that the tree
-/// has under `not` exactly where it doesn't.
+/// A tree matches a picture exactly if the picture fits one of the tree's alternatives. It doesn't match exactly if the picture
+/// fits one of those under `not`.
 pub fn fits_where_matched()
     ensures { FitsWhereMatched }
 {}
 
-/// Whatever a filter matches, of the records whose rating and day are in range, is matched by each filter that covers it.
+/// A filter matches every record, with rating and day in range, that a filter which it covers matches.
 pub fn covers_selects()
     ensures { CoversSelects }
 {}
 
-/// The tree that is found of a text is the one that the grammar gives it, and one is found wherever the text is a filter
-/// within the limits that is not too wide.
+/// The tree found for a text is the one that the grammar gives. A tree is found for each text that is a filter within the
+/// limits and not too wide.
 pub fn found_where_filter()
     ensures { IsFoundWhereFilter }
 {}
 
-/// What some trees come to, that nothing matches a removed record, and which tree covers which.
+/// Worked trees: their alternatives, that no tree matches a removal, and which tree covers which.
 pub fn examples()
     ensures lists { TheLists }
     ensures widths { TheWidths }

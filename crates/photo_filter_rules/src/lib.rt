@@ -1,5 +1,5 @@
-//! Filters at work: which records a filter matches, and which filter covers which. Its invariant: **a filter's alternatives are
-//! its tree's**, of which no part is too wide; by them it matches and covers.
+//! Filters at work: which records a filter matches, and which filter covers which. Invariant: **a filter's alternatives are its
+//! tree's**, and no part of the tree is too wide. Matching and covering use the alternatives.
 #![tactic(auto)]
 
 mod alternative;

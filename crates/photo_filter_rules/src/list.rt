@@ -1,4 +1,4 @@
-//! The alternatives of a tree.
+//! Lists of alternatives.
 ghost use Rattle.std.specs.Prelude.{◌≡◌, ◌++◌, ◌<ℤ◌, ◌∷◌, [], pos, false, true, map, IfOk, IfErr, OnOk};
 ghost use Rattle.photo_filter_text.specs.Tree.{tree_of};
 ghost use Rattle.std.specs.List.{list_any, list_all};
@@ -21,8 +21,8 @@ use std::alloc::Global;
 /// The most alternatives that a tree, or a part of one, may have.
 pub const MAX_ALTERNATIVES: usize = 64;
 
-/// The alternatives of a tree that stands so. `TooWide` where the list of it or of one of its parts is too long;
-/// `NoMemory` may come in place of either.
+/// The alternatives of a tree in this polarity. `TooWide` means that the tree or one of its parts has over 64; `NoMemory` may
+/// come in place of either answer.
 pub fn alternatives_of(
     alloc: Global,
     tree: &FilterTree,
@@ -94,7 +94,7 @@ fn days_list(
     possible_of(alloc, Alternative::with_days(alloc, first), second)
 }
 
-// The possible ones of one alternative or two.
+// The possible ones among one or two alternatives.
 fn possible_of(
     alloc: Global,
     first: Alternative,
@@ -111,7 +111,7 @@ fn possible_of(
     Ok(list)
 }
 
-// Puts an alternative behind a list, if it is possible.
+// Appends an alternative if it is possible.
 fn add_possible(alternative: Alternative, list: &mut Vec<Alternative>) -> Result<(), BuildFault>
     ensures list { OnOk result (list.new.items ≡ list.old.items ++ possible (alternative ∷ [])) }
     ensures memory { IfErr result (λ fault. fault ≡ NoMemory) }
@@ -132,7 +132,7 @@ fn word_list(alloc: Global, polarity: Polarity, word: &Word) -> Result<Vec<Alter
     Ok(list)
 }
 
-// The first range of the numbers that pass, and the second where there are two.
+// The first range of numbers that pass the test, and the second if there are two.
 fn spans_of(whole: Span, polarity: Polarity, cmp: Cmp, named: i32) -> (Span, Option<Span>)
     requires above { i32.MIN <ℤ named }
     requires below { named <ℤ i32.MAX }
@@ -213,7 +213,7 @@ fn paired(
     Ok(list)
 }
 
-// Puts the possible ones among the pairs of one alternative with others behind a list of at most 64.
+// Appends the possible pairs of one alternative with the others, as long as the list has at most 64.
 fn pair_with(
     alternative: &Alternative,
     others: &[Alternative],
@@ -232,7 +232,7 @@ fn pair_with(
     Ok(())
 }
 
-// Puts an alternative behind a list of at most 64, if it is possible.
+// Appends an alternative, if it is possible, to a list that has at most 64 before and after.
 fn push_possible(alternative: Alternative, list: &mut Vec<Alternative>) -> Result<(), BuildFault>
     requires { is_long list.old.items ≡ false }
     ensures list { OnOk result (list.new.items ≡ list.old.items ++ possible (alternative ∷ [])) }
@@ -250,7 +250,7 @@ fn push_possible(alternative: Alternative, list: &mut Vec<Alternative>) -> Resul
     Ok(())
 }
 
-/// Whether a picture of that rating, day number and words fits one of the alternatives. It takes no memory.
+/// Whether a picture with that rating, day number and words fits one of the alternatives. It takes no memory.
 pub fn any_fits(list: &[Alternative], rating: u8, day: i32, words: &Words) -> bool
     ensures { result ≡ list_any (fits (content rating day words.now)) list.now }
 {
@@ -258,14 +258,14 @@ pub fn any_fits(list: &[Alternative], rating: u8, day: i32, words: &Words) -> bo
         .any(|alternative| alternative.fits(rating, day, words))
 }
 
-/// Whether some alternative of the list asks nothing that this one doesn't ask. It takes no memory.
+/// Whether some alternative of the list asks no more than this one. It takes no memory.
 pub fn has_room_for(list: &[Alternative], alternative: &Alternative) -> bool
     ensures { result ≡ has_room_for list.now alternative.now }
 {
     list.iter().any(|wider| wider.asks_no_more(alternative))
 }
 
-/// Whether the first list has room for each alternative of the second. It takes no memory.
+/// Whether the first list has, for each alternative of the second, one that asks no more. It takes no memory.
 pub fn has_room_for_all(list: &[Alternative], others: &[Alternative]) -> bool
     ensures { result ≡ list_all (has_room_for list.now) others.now }
 {

@@ -1,7 +1,7 @@
-//! Plainly or under `not`.
+//! Polarity: plain, or under `not`.
 ghost use Rattle.std.specs.Prelude.{◌≡◌};
 
-/// Whether a part of a tree stands plainly or under `not`.
+/// Whether a part of a tree stands plain or under `not`.
 #[derive(Clone, Copy, Debug, PartialEq, Eq)]
 pub enum Polarity {
     Plain,
@@ -11,7 +11,7 @@ pub enum Polarity {
 impl Polarity {
     ghost use Rattle.photo_filter_rules.specs.Alternatives.{opposite};
 
-    /// The other one.
+    /// The opposite polarity.
     pub fn opposite(self) -> Polarity
         ensures { result ≡ opposite self }
     {

@@ -1,4 +1,4 @@
--- The text of two trees in brackets.
+-- The text of two trees in a bracket.
 use Rattle.std.proofs.Common.{◌≡◌, ◌∙◌, sym, ap, subst, ℕ, List, ◌++◌, Result, Ok, Err, is_ok, if◌then◌else◌, OnOk, append_assoc}
 use Rattle.std.specs.Prelude.{codes}
 use Rattle.photo_filter_text.specs.Tree.{Tree, Both, Either}
@@ -8,7 +8,7 @@ regrouped : (old front a left b right c : List ℕ) → (((old ++ front) ++ (a +
 regrouped old front a left b right c = simp append_assoc
 
 module _ {A E : Type 0} where
-  -- the bracket that closes them is written where its push succeeds
+  -- if the push of the closing bracket succeeds, the text is complete
   pair_text : (r : Result A E) (old one two three new front left middle right : List ℕ) → one ≡ old ++ front → two ≡ one ++ (codes "( " ++ left) → three ≡ two ++ (middle ++ right) → new ≡ (if is_ok r then three ++ codes " )" else three) → OnOk r (new ≡ old ++ (front ++ (codes "( " ++ (left ++ (middle ++ (right ++ codes " )"))))))
   pair_text (Ok x) old one two three new front left middle right p q s is =
       is ∙ ap (λ l. l ++ codes " )") (s ∙ ap (λ l. l ++ (middle ++ right)) (q ∙ ap (λ l. l ++ (codes "( " ++ left)) p))

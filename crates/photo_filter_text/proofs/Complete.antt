@@ -1,4 +1,4 @@
--- What is in the grammar is read, and its tree is the one that is read.
+-- The reader reads every filter of the grammar, and gives its tree.
 use Rattle.std.proofs.Common.{◌≡◌, ℕ, suc, zero, ◌+◌, List, [], ◌∷◌, Option, Some, None, Result, Ok, Err, refl, sym, ap, ◌∙◌, cond, add-one}
 use Rattle.std.specs.Prelude.{codes}
 use Rattle.photo_record.specs.Reading.{word_of_text}
@@ -73,10 +73,10 @@ abbrev pub tree_read : Result State Refusal → Option Tree
 tree_read (Ok s) = finish s
 tree_read (Err e) = None
 
--- what the grammar gives is what is read
+-- the reader gives the tree that the grammar gives
 pub expr-read : {ts : List Token} {t : Tree} → IsExpr ts t → tree_read (run start ts) ≡ Some t
 expr-read e = let r = expr-run e [] in ap tree_read r.runs ∙ ap Some r.whole
 
--- there is at most one tree
+-- tokens have at most one tree
 pub one-tree : (ts : List Token) (a b : Tree) → IsExpr ts a → IsExpr ts b → a ≡ b
 one-tree ts a b x y = let p = expr-read x in let q = expr-read y in cc

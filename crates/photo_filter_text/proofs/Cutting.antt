@@ -1,4 +1,4 @@
--- The tokens of a text, by what stands at its front.
+-- The tokens of a text, by what is at its front.
 use Rattle.std.proofs.Common.{◌≡◌, ℕ, zero, suc, ◌+◌, ◌≤◌, ◌<◌, Bool, true, false, cond, not, ◌||◌, eqb, max, length, get_or, take, drop, List, [], ◌∷◌, ◌++◌, filter, refl, sym, ap, ◌∙◌, Option, Some, None, unwrap_or, ltb, arith, one-add}
 use Rattle.std.specs.List.{slice_split, onto_first, flat_map, position, position_or_len}
 use Rattle.std.specs.Str.{IsUtf8, IsCharBoundary}
@@ -13,11 +13,11 @@ use Rattle.std.proofs.lemmas.Bool.Decides.{Decides-eqb}
 use Rattle.photo_filter_text.specs.Tokens.{is_space, is_bracket_byte, with_room, is_filled, tokens_of}
 use Rattle.photo_filter_text.specs.Cuts.{ends_token, starts_token}
 
--- what stands between spaces, once brackets have room
+-- the pieces between spaces, once each bracket has spaces around it
 abbrev pub parts : List ℕ → List (List ℕ)
 parts bs = slice_split is_space (flat_map with_room bs)
 
--- the parts of a text that begins with a byte which ends a token
+-- the pieces of a text whose first byte ends a token
 parts-cut : (b : ℕ) (bs : List ℕ) → ends_token b ≡ true → (rest : List (List ℕ)) × (parts (b ∷ bs) ≡ [] ∷ rest)
 parts-cut b bs h = go (eqb b 32) (eqb b 40) (eqb b 41) refl refl refl
   where
@@ -27,7 +27,7 @@ parts-cut b bs h = go (eqb b 32) (eqb b 40) (eqb b 41) refl refl refl
     go false false true es eo ec = let e = (Decides-eqb b 41).0 ec in ((41 ∷ []) ∷ parts bs, rw e refl)
     go false false false es eo ec = absurd (false≢true (sym (ap (λ x. x || (eqb b 40 || eqb b 41)) es ∙ ap (λ x. x || eqb b 41) eo ∙ ec) ∙ h))
 
--- and with another byte
+-- the pieces of a text whose first byte doesn't end a token
 parts-more : (b : ℕ) (bs : List ℕ) → ends_token b ≡ false → parts (b ∷ bs) ≡ onto_first b (parts bs)
 parts-more b bs h = go (eqb b 32) (eqb b 40) (eqb b 41) refl refl refl
   where
@@ -66,14 +66,14 @@ tokens-bracket b bs h = go (eqb b 40) refl
     go true eo = rw ((Decides-eqb b 40).0 eo) refl
     go false eo = rw ((Decides-eqb b 41).0 (sym (ap (λ x. x || eqb b 41) eo) ∙ h)) refl
 
--- a token that is no bracket goes up to the first byte that ends it
+-- a token other than a bracket goes up to the first byte that ends it
 tokens-word : (b : ℕ) (bs : List ℕ) → ends_token b ≡ false → tokens_of (b ∷ bs) ≡ (b ∷ take (cut_at bs) bs) ∷ tokens_of (drop (cut_at bs) bs)
 tokens-word b bs h =
     let f = front bs in
     ap (filter is_filled) (parts-more b bs h ∙ ap (onto_first b) f.whole)
     ∙ ap (λ ts. (b ∷ take (cut_at bs) bs) ∷ ts) (sym (ap (filter is_filled) f.behind))
 
--- the token at the front of a text that begins with one
+-- the first token of a text that begins with one
 pub tokens-first : (b : ℕ) (bs : List ℕ) (n : ℕ) → is_space b ≡ false → n ≡ max 1 (position_or_len ends_token (b ∷ bs)) → tokens_of (b ∷ bs) ≡ take n (b ∷ bs) ∷ tokens_of (drop n (b ∷ bs))
 tokens-first b bs n s m = go (is_bracket_byte b) refl
   where
@@ -89,7 +89,7 @@ tokens-first b bs n s m = go (is_bracket_byte b) refl
         let l : n ≡ suc (cut_at bs) = omega arith in
         rw l (tokens-word b bs e)
 
--- the place of a cut, as the code finds it
+-- the place where the code cuts
 pub cut_len : (bs : List ℕ) (o : Option ℕ) → o ≡ position ends_token bs → max (unwrap_or o (length bs)) 1 ≡ max 1 (position_or_len ends_token bs)
 cut_len bs o e = go (ltb (position_or_len ends_token bs) (length bs)) refl
   where
@@ -118,7 +118,7 @@ ends_ascii b h = go (eqb b 32) (eqb b 40) (eqb b 41) refl refl refl
     go false false true es eo ec = let e = (Decides-eqb b 41).0 ec in omega arith
     go false false false es eo ec = absurd (false≢true (sym (ap (λ x. x || (eqb b 40 || eqb b 41)) es ∙ ap (λ x. x || eqb b 41) eo ∙ ec) ∙ h))
 
--- a text may be cut behind its first token
+-- the cut after the first token is at a character's boundary
 pub cut-boundary : (bs : List ℕ) (n : ℕ) → IsUtf8 bs → 0 < length bs → n ≡ max 1 (position_or_len ends_token bs) → IsCharBoundary bs n
 cut-boundary bs n u p e = go (ltb k (length bs)) refl
   where
@@ -151,7 +151,7 @@ cut-boundary bs n u p e = go (ltb k (length bs)) refl
         let f : n ≡ length bs = omega arith in
         rw f (IsCharBoundary-end bs)
 
--- no space stands at the front of what begins with none
+-- a text that doesn't begin with a space starts with a token
 pub starts-token : (bs : List ℕ) → ((rest : List ℕ) → bs ≡ 32 ∷ rest → ⊥) → starts_token bs ≡ true
 starts-token [] h = refl
 starts-token (b ∷ bs) h = go (eqb b 32) refl
@@ -160,7 +160,7 @@ starts-token (b ∷ bs) h = go (eqb b 32) refl
     go true e = absurd (h bs (ap (λ x. x ∷ bs) ((Decides-eqb b 32).0 e)))
     go false e = ap not e
 
--- the tokens by the first of them
+-- the tokens of a text, split into the first and the rest
 pub tokens-front : (bs : List ℕ) (n : ℕ) → starts_token bs ≡ true → 0 < length bs → n ≡ max 1 (position_or_len ends_token bs) → tokens_of bs ≡ take n bs ∷ tokens_of (drop n bs)
 tokens-front [] n s p e = absurd (omega arith)
 tokens-front (b ∷ bs) n s p e = tokens-first b bs n (not-true (is_space b) s) e
@@ -173,7 +173,7 @@ starts-plain (b ∷ bs) p h = go (is_space b) refl (h 0 (omega arith))
     go true e f = absurd (false≢true (sym f ∙ ap (λ x. x || is_bracket_byte b) e))
     go false e f = ap not e
 
--- a split has a first part
+-- a split has at least one piece
 split-first : (us : List ℕ) → (p : List ℕ) × (ps : List (List ℕ)) × (slice_split is_space us ≡ p ∷ ps)
 split-first [] = ([], [], refl)
 split-first (u ∷ us) = go (is_space u) refl (split-first us)
@@ -195,7 +195,7 @@ split-append (u ∷ us) vs = go (is_space u) refl (split-append us vs)
         ∙ ap (λ ps. onto_first u ps ++ slice_split is_space vs) (sym f.2)
         ∙ ap (λ ps. ps ++ slice_split is_space vs) (sym (slice_split-cons_no is_space u us e))
 
--- a text with nothing to cut is one token
+-- a text without spaces and brackets is one token
 pub tokens-one : (bs : List ℕ) → 0 < length bs → ((k : ℕ) → k < length bs → ends_token (get_or bs k 0) ≡ false) → tokens_of bs ≡ bs ∷ []
 tokens-one bs p h =
     let e : position_or_len ends_token bs ≡ length bs = prefix_len_is (λ b. not (ends_token b)) bs (length bs) 0 (omega arith) (λ k l. ap not (h k l)) (λ l. absurd (omega arith)) in
@@ -203,7 +203,7 @@ tokens-one bs p h =
     let f = tokens-front bs (length bs) s p (omega arith) in
     f ∙ (λ i. take_all (length bs) bs (omega arith) i ∷ tokens_of (drop_all (length bs) bs (omega arith) i))
 
--- a space stands between tokens
+-- a space separates tokens
 parts-append : (xs ys : List ℕ) → parts (xs ++ 32 ∷ ys) ≡ parts xs ++ parts ys
 parts-append xs ys = ap (slice_split is_space) (flat_map-append with_room xs (32 ∷ ys)) ∙ split-append (flat_map with_room xs) (flat_map with_room ys)
 

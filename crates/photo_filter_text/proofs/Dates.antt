@@ -1,4 +1,4 @@
--- The dates and ratings of printed filters are those that records show.
+-- Printed filters write dates and ratings as records show them.
 use Rattle.std.proofs.Common.{◌≡◌, ℕ, ◌/◌, ◌%◌, ◌<◌, ◌≤◌, ℤ, [], ◌∷◌, ◌++◌, ap, ◌∙◌, inl, inr, append_assoc, arith}
 use Rattle.std.specs.Fmt.{decimal}
 use Rattle.std.proofs.lemmas.Bool.{cases_lt}

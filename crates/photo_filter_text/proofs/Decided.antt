@@ -1,4 +1,4 @@
--- Tokens are a filter or they are none.
+-- Tokens are a filter or not, decidably.
 use Rattle.std.proofs.Common.{◌≡◌, ◌≤◌, ◌<◌, List, length, Bool, true, false, leb, Option, Some, None, Result, Ok, Err, refl, ap, arith}
 use Rattle.std.proofs.lemmas.Bool.{leb-true, leb-false}
 use Rattle.photo_filter_text.specs.declared.reader.Refusal.{Refusal}
@@ -11,12 +11,12 @@ use Rattle.photo_filter_text.specs.Steps.{State, start, run, finish}
 use Rattle.photo_filter_text.proofs.Complete.{expr-read, tree_read, one-tree}
 use Rattle.photo_filter_text.proofs.Sound.{read-expr}
 
--- the tokens are a filter of some tree, or of none
+-- the tokens are a filter of some tree, or of no tree
 pub data Decided (ts : List Token) : Type 0 where
   filter : (tree : Tree) → IsFilter ts tree → Decided ts
   no_filter : ((tree : Tree) → IsFilter ts tree → ⊥) → Decided ts
 
--- Why tokens are none: they are too many, the reader refuses one of them, it wants more, or the tree is too high
+-- Why tokens aren't a filter: too many, one refused, more wanted, or too high a tree
 
 pub too-many : (ts : List Token) → max_tokens < length ts → (tree : Tree) → IsFilter ts tree → ⊥
 too-many ts long tree f = let short = f.short in omega arith

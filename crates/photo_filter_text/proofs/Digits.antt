@@ -1,4 +1,4 @@
--- Digits, and the date that a text writes.
+-- Digits, and the date in a text.
 use Rattle.std.proofs.Common.{◌≡◌, ℕ, zero, suc, ◌+◌, ◌-◌, ◌/◌, ◌%◌, ◌<◌, ◌≤◌, true, false, ◌||◌, eqb, ℤ, Some, ◌++◌, length, get_or, refl, sym, ap, ◌∙◌, arith}
 use Rattle.std.specs.Char.{digit_value, is_ascii_digit}
 use Rattle.std.proofs.lemmas.Bool.{and_from, le-leb, lt-ltb, le-ltb, ne_eqb, cond-true, cond-false}
@@ -38,7 +38,7 @@ number-four n h =
     let ed = value_digit (n % 100 % 10) d in
     (and_from _ _ (is_digit (n / 100 / 10) a) (and_from _ _ (is_digit (n / 100 % 10) b) (and_from _ _ (is_digit (n % 100 / 10) c) (and_from _ _ (is_digit (n % 100 % 10) d) refl))), omega arith)
 
--- a printed date writes its year, month and day
+-- a printed date has the digits of its year, month and day
 civil-written : (c : Civil) → c.year ≤ 9999 → c.month < 100 → c.day < 100 → IsWritten (civil_text c) c.year c.month c.day
 civil-written c ly lm ld =
     let year = number-four c.year ly in
@@ -59,7 +59,7 @@ date-read n range =
     let parts = date_ranges (date_of n) (date_of-in n range).in_calendar in
     read_back (date_text n) n range (civil-written (date_of n) parts.year (omega (arith, parts.month)) (omega (arith, parts.day)))
 
--- the bytes of a date are digits and dashes
+-- digits and dashes, the bytes of a date, don't end a token
 pub plain-byte : (b : ℕ) → 45 ≤ b → ends_token b ≡ false
 plain-byte b h = ap (λ x. x || (eqb b 40 || eqb b 41)) (ne_eqb b 32 (omega arith)) ∙ ap (λ x. x || eqb b 41) (ne_eqb b 40 (omega arith)) ∙ ne_eqb b 41 (omega arith)
 

@@ -1,4 +1,4 @@
--- Where the tokens stop being the beginning of a filter.
+-- The first token at which no filter goes on.
 use Rattle.std.proofs.Common.{◌≡◌, ◌⊎◌, inl, inr, ℕ, suc, zero, ◌+◌, ◌<◌, ◌≤◌, Bool, true, false, List, [], ◌∷◌, ◌++◌, length, take, drop, get_or, Option, Some, None, Result, Ok, Err, refl, sym, ap, subst, ◌∙◌, cond, add-one, append_assoc, append-nil, length-append, arith}
 use Rattle.std.specs.Prelude.{codes}
 use Rattle.photo_record.specs.Reading.{rating_of_text, day_of_text, word_of_text}
@@ -26,7 +26,7 @@ no-date : day_of_text (codes "(") ≡ None
 unfolding day_of_text
 no-date = refl
 
--- a level with the beginning of a factor behind it
+-- the tokens of a level, followed by the beginning of a factor, begin a filter
 begins-with : (l : Level) (outer : List Level) (us ls ms more ts : List Token) (t : Tree) → OpenAt outer us → LevelAt l ls → IsFactor (ms ++ more) t → ts ≡ us ++ (ls ++ ms) → Begins ts
 begins-with l outer us ls ms more ts t o h f e =
     let b = close outer us (ls ++ (ms ++ more)) _ _ o (level-factor l ls (ms ++ more) t h f) in
@@ -42,11 +42,11 @@ place-begins (AtValue RatingField cmp) l outer ts h = begins-with l outer h.0 h.
 place-begins (AtValue DayField cmp) l outer ts h = begins-with l outer h.0 h.1 (codes "day" ∷ h.4 ∷ []) (codes "2024-01-01" ∷ []) ts (On cmp some-date.0) h.2 h.3 (test (day h.5 some-date.1)) h.6
 place-begins AtWord l outer ts h = begins-with l outer h.0 h.1 (codes "keyword" ∷ []) (codes "x" ∷ []) ts (Keyword some-word.0) h.2 h.3 (test (keyword refl some-word.1)) h.4
 
--- what has been read with no refusal begins a filter
+-- tokens that the reader takes begin a filter
 pub run-begins : (ts : List Token) (s : State) → run start ts ≡ Ok s → Begins ts
 run-begins ts s e = place-begins s.place s.level s.outer ts (state-at ts s e)
 
--- in the place of a word
+-- a word must come where the reader waits for one
 pub word-wanted : (ts : List Token) (s : State) → run start ts ≡ Ok s → s.place ≡ AtWord → WantsWord ts
 word-wanted ts s e w = go s.place s.level s.outer (state-at ts s e) w
   where
@@ -61,7 +61,7 @@ word-wanted ts s e w = go s.place s.level s.outer (state-at ts s e) w
     go (AtValue field cmp) l outer h q = cc
     go (After t) l outer h q = cc
 
--- a bracket is opened in the place of a factor alone
+-- a bracket opens only where a factor may begin
 bracket-place : (p : Place) (l : Level) (outer : List Level) (more : List Token) (tree : Tree) → tree_read (go_on (λ r. run r more) (step_at p l outer (codes "("))) ≡ Some tree → p ≡ AtFactor
 unfolding symbol_of after_term
 bracket-place AtFactor l outer more tree h = refl
@@ -72,7 +72,7 @@ bracket-place (AtValue DayField cmp) l outer more tree h =
 bracket-place AtWord l outer more tree h = cc
 bracket-place (After t) l outer more tree h = cc
 
--- where a `keyword` begins a test
+-- `keyword` is taken where a factor may begin
 keyword-taken : (p : Place) (l : Level) (outer : List Level) → p ≡ AtFactor → step_at p l outer (codes "keyword") ≡ Ok (state_with AtWord l outer)
 unfolding symbol_of at_factor
 keyword-taken AtFactor l outer h = refl
@@ -107,7 +107,7 @@ wants-word-place ts s e w = let r = word-run ts w in ap place_in (sym e ∙ r.2)
 pub word-begins : (ts : List Token) → WantsWord ts → Begins ts
 word-begins ts w = let r = word-run ts w in run-begins ts _ r.2
 
--- The tokens one by one
+-- The tokens, one at a time
 pub record NextIs (ts : List Token) (n : ℕ) (x : Token) (rest : List Token) : Type 0 where
   pub within : n < length ts
   pub front : take (n + 1) ts ≡ take n ts ++ x ∷ []
@@ -130,7 +130,7 @@ next-is (t ∷ ts) (suc n) x rest h =
       there = r.there;
     }
 
--- the state behind one token more
+-- the state after one more token
 pub run-next : (ts : List Token) (n : ℕ) (x : Token) (rest : List Token) (s : State) → run start (take n ts) ≡ Ok s → drop n ts ≡ x ∷ rest → run start (take (n + 1) ts) ≡ step s x
 run-next ts n x rest s e h =
     let r = next-is ts n x rest h in
@@ -151,7 +151,7 @@ stops-at ts n x rest s f e h r = record {
   stops = refused-begins (take (n + 1) ts) f (run-next ts n x rest s e h ∙ r);
 }
 
--- which refusal comes where
+-- which refusals a place can give
 factor-refuses : (l : Level) (outer : List Level) (s : Symbol) (f : Refusal) → at_factor l outer s ≡ Err f → f ≡ Unexpected
 unfolding at_factor
 factor-refuses l outer Open f h = cc
@@ -192,7 +192,7 @@ test-refuses : {A : Type 0} → (l : Level) (outer : List Level) (g : A → Tree
 test-refuses l outer g None f h = cc
 test-refuses l outer g (Some x) f h = cc
 
--- what is refused is unexpected, or a bad word in the place of one
+-- a refusal is `Unexpected`, or `BadWord` in the place of a word
 pub refused-as : (p : Place) (l : Level) (outer : List Level) (x : Token) (f : Refusal) → step_at p l outer x ≡ Err f → (f ≡ Unexpected) ⊎ ((f ≡ BadWord) × (p ≡ AtWord) × (is_bracket x ≡ false))
 refused-as AtFactor l outer x f e = inl (factor-refuses l outer (symbol_of x) f e)
 refused-as (AtOperator field) l outer x f e = inl (operator-refuses l outer field (cmp_of x) f e)
@@ -239,7 +239,7 @@ no-word-at ts n x rest s e h r w =
     let c : is_bracket x ≡ false = sym (ap is_bracket (next-is ts n x rest h).there) ∙ subst (λ (m : ℕ). is_bracket (get_or ts m []) ≡ false) q w.3 in
     false≢true (sym c ∙ b)
 
--- there are no more `not` than tokens
+-- there are at most as many `not` as tokens
 length-nots : (n : ℕ) → length (nots n) ≡ n
 length-nots zero = refl
 length-nots (suc n) = ap suc (length-nots n)

@@ -1,4 +1,4 @@
--- A verdict on tokens that computes, and that it is what the grammar says of them.
+-- A verdict on tokens that can be computed, and that agrees with the grammar.
 use Rattle.std.proofs.Common.{◌≡◌, ◌≢◌, ◌⊎◌, inl, inr, ℕ, ◌+◌, Bool, true, false, cond, leb, if◌then◌else◌, List, [], ◌∷◌, length, take, drop, Option, Some, None, Result, Ok, Err, refl, sym, ap, subst, ◌∙◌}
 use Rattle.std.proofs.lemmas.Bool.{leb-true, leb-false, false≢true}
 use Rattle.photo_filter_text.specs.declared.reader.Refusal.{Refusal}
@@ -17,7 +17,7 @@ use Rattle.photo_filter_text.proofs.Sound.{read-expr}
 use Rattle.photo_filter_text.proofs.Faults.{refused-as, run-begins, run-next, next-is, stops-at, no-word-at, bad-word-at}
 use Rattle.photo_filter_text.proofs.Verdict.{all-taken}
 
--- a tree or a fault; none where a step asks for memory, which none does
+-- a tree or a fault; `None` stands for want of memory, which no step here meets
 abbrev Answer : Type 0
 Answer = Option (Result Tree FilterFault)
 
@@ -31,7 +31,7 @@ after_step n more (Err refusal.Unexpected) = Some (Err (Unexpected (n + 1)))
 after_step n more (Err refusal.BadWord) = Some (Err BadWord)
 after_step n more (Err refusal.NoMemory) = None
 
--- the verdict on these tokens behind n others
+-- the verdict on these tokens after n others
 abbrev verdict_from : ℕ → State → List Token → Answer
 verdict_from n s [] = at_end (finish s)
 verdict_from n s (x ∷ rest) = after_step n (λ q. verdict_from (n + 1) q rest) (step s x)
@@ -84,7 +84,7 @@ no-memory-wanted s x h =
       | inr bad ↦ let e = bad.0 in cc
     ]
 
--- a tree, or a fault other than want of memory
+-- the answer is a tree, or a fault other than want of memory
 abbrev is_told : Answer → Bool
 is_told None = false
 is_told (Some (Ok tree)) = true
@@ -122,7 +122,7 @@ told (t ∷ ts) = by_length (leb (length (t ∷ ts)) max_tokens)
     by_length true = rest-told 0 start (t ∷ ts)
     by_length false = refl
 
--- tokens are a filter, or they have a fault
+-- tokens are a filter or have a fault
 pub filter-or-fault : (ts : List Token) → ((tree : Tree) × IsFilter ts tree) ⊎ ((fault : FilterFault) × (fault ≢ NoMemory) × IsFault ts fault)
 filter-or-fault ts = by_answer (verdict ts) (told ts) (judged ts)
   where

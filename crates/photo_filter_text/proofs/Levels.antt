@@ -1,4 +1,4 @@
--- Levels of brackets, the innermost first.
+-- The levels of open brackets, the innermost first.
 use Rattle.std.proofs.Common.{◌≡◌, List, [], ◌∷◌, ◌++◌, ap, map}
 use Rattle.std.proofs.lemmas.List.{reverse-append}
 use Rattle.photo_filter_text.specs.declared.reader.Level as code

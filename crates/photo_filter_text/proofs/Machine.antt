@@ -1,4 +1,4 @@
--- Runs of the reader's steps over lists of tokens.
+-- The reader's runs over lists of tokens.
 use Rattle.std.proofs.Common.{◌≡◌, List, [], ◌∷◌, ◌++◌, Result, Ok, Err, refl, ap, ◌∙◌}
 use Rattle.photo_filter_text.specs.declared.reader.Refusal.{Refusal}
 use Rattle.photo_filter_text.specs.Tokens.{Token}
@@ -12,7 +12,7 @@ run-append (x ∷ xs) ys s = by_step (step s x) (run-append xs ys)
     by_step (Ok q) more = more q
     by_step (Err e) more = refl
 
--- where the first tokens lead to a state, the others go on from it
+-- a run over two lists is a run over the second, from the state after the first
 pub run-over : (xs ys : List Token) (s r : State) → run s xs ≡ Ok r → run s (xs ++ ys) ≡ run r ys
 run-over xs ys s r h = run-append xs ys s ∙ ap (go_on (λ q. run q ys)) h
 

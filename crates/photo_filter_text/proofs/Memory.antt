@@ -1,4 +1,4 @@
--- Where reading may ask for memory.
+-- Where the reader may ask for memory.
 use Rattle.std.proofs.Common.{◌≡◌, ◌⊎◌, inl, inr, ℕ, suc, zero, ◌+◌, Bool, true, false, ◌||◌, ◌&&◌, nat_lt, is_some, List, [], ◌∷◌, ◌++◌, take, drop, Option, Some, None, Result, Ok, refl, sym, ap, subst, ◌∙◌, append_assoc, ℤ, arith}
 use Rattle.std.specs.Prelude.{codes}
 use Rattle.std.proofs.lemmas.Bool.{false≢true, not-true}
@@ -23,7 +23,7 @@ after-not us ors ands ns xs ls x e = rw e (simp append_assoc)
 after-and : (us ors ands front xs ls : List Token) (x : Token) → ls ≡ ors ++ (ands ++ []) → ands ≡ front ++ x ∷ [] → us ++ (ls ++ xs) ≡ (us ++ (ors ++ front)) ++ x ∷ xs
 after-and us ors ands front xs ls x e f = rw (e, f) (simp append_assoc)
 
--- a factor that is kept behind a level
+-- a factor that the level makes the reader keep
 factor-kept : (l : Level) (us ls xs : List Token) (t : Tree) → LevelAt l ls → IsFactor xs t → keeps_factor l ≡ true → IsKept (us ++ (ls ++ xs))
 factor-kept l us ls xs t h f k = by_count l.negations l.both k h.and_at h.whole
   where
@@ -34,7 +34,7 @@ factor-kept l us ls xs t h f k = by_count l.negations l.both k h.and_at h.whole
         subst IsKept (sym (after-and us h.ors h.ands a.0 xs ls (codes "and") e a.2)) (kept.conjunction _ f)
     by_count zero None k a e = absurd (false≢true k)
 
--- a token that is taken, and where something is kept
+-- the token is taken, and the reader allocates
 abbrev Takes : Result State Refusal → List Token → Type 0
 Takes r ts = ((s : State) × (r ≡ Ok s)) × IsKept ts
 
@@ -65,7 +65,7 @@ day-takes l outer us ls ts op x cmp h c e (Some n) p k =
 behind-or : (us ls ts ors last os : List Token) (w x : Token) → ts ≡ us ++ ls → ls ≡ ors ++ last → ors ≡ os ++ w ∷ [] → ts ++ x ∷ [] ≡ (us ++ os) ++ w ∷ (last ++ x ∷ [])
 behind-or us ls ts ors last os w x e f g = rw (e, f, g) (simp append_assoc)
 
--- a term that is kept behind an `or`
+-- a term that the reader keeps for an `or`
 term-kept : (e : Option Tree) (us ls ts : List Token) (t : Tree) (x : Token) → TermAt e t ls → ts ≡ us ++ ls → (x ≡ codes "or") ⊎ (x ≡ codes ")") → is_some e ≡ true → IsKept (ts ++ x ∷ [])
 term-kept None us ls ts t x h q w k = absurd (false≢true k)
 term-kept (Some a) us ls ts t x h q w k =
@@ -104,7 +104,7 @@ place-takes (AtValue DayField cmp) l outer ts x h k = inr (day-takes l outer h.0
 place-takes AtWord l outer ts x h k = inl (refl, not-true (is_bracket x) k)
 place-takes (After t) l outer ts x h k = inr (term-takes l outer h.0 h.1 ts t x h.2 h.3 h.4 (symbol_of x) (symbol_spelled x) k)
 
--- a token where memory may be asked for
+-- a token at which the reader may ask for memory
 pub wants-at : (ts : List Token) (n : ℕ) (x : Token) (rest : List Token) (s : State) → run start (take n ts) ≡ Ok s → drop n ts ≡ x ∷ rest → keeps s x ≡ true → MayWantMemory ts
 wants-at ts n x rest s e d k = go (place-takes s.place s.level s.outer (take n ts) x (state-at (take n ts) s e) k)
   where
@@ -118,7 +118,7 @@ wants-at ts n x rest s e d k = go (place-takes s.place s.level s.outer (take n t
 at-or : (us ls ts ors last os : List Token) (w : Token) → us ≡ [] → ts ≡ us ++ ls → ls ≡ ors ++ last → ors ≡ os ++ w ∷ [] → ts ≡ os ++ w ∷ last
 at-or us ls ts ors last os w d e f g = rw (e, d, f, g) (append_assoc os (w ∷ []) last)
 
--- and an end
+-- an end at which the reader may ask for memory
 pub wants-at_end : (ts : List Token) (s : State) → run start ts ≡ Ok s → keeps_at_end s ≡ true → MayWantMemory ts
 wants-at_end ts s e k = by_place s.place s.level s.outer (state-at ts s e) (λ t f. read-expr ts s t e f) k
   where

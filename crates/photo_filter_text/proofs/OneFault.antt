@@ -12,7 +12,7 @@ use Rattle.photo_filter_text.specs.Fronts.{IsWordAt, Begins, StopsAt}
 use Rattle.photo_filter_text.specs.Fault.{IsFault, IsRoomy}
 use Rattle.photo_filter_text.proofs.Sound.{begins-front}
 
--- a front of what begins a filter begins one
+-- if a filter begins with these tokens, one begins with any first part of them
 pub begins-take : (k n : ℕ) (ts : List Token) → k ≤ n → Begins (take n ts) → Begins (take k ts)
 begins-take k n ts h b =
     let e : take k (take n ts) ≡ take k ts = take-take k n ts h in

@@ -1,4 +1,4 @@
--- What is printed has the tree that was printed.
+-- A printed text has the tree that was printed.
 use Rattle.std.proofs.Common.{◌≡◌, ℕ, zero, suc, ◌<◌, ◌≤◌, Bool, true, false, ◌||◌, eqb, Some, List, [], ◌∷◌, ◌++◌, length, get_or, refl, sym, ap, subst, ◌∙◌, append_assoc, arith}
 use Rattle.std.specs.Prelude.{codes}
 use Rattle.std.specs.List.{list_any}
@@ -40,7 +40,7 @@ rating-read (suc (suc (suc (suc zero)))) h = (refl, refl)
 rating-read (suc (suc (suc (suc (suc zero))))) h = (refl, refl)
 rating-read (suc (suc (suc (suc (suc (suc n)))))) h = absurd (omega arith)
 
--- no character of a word is one that is told apart as bad
+-- a word doesn't have the bad character c
 none-bad : (c : ℕ) → is_bad_character c ≡ true → (cs : List ℕ) → list_any is_bad_character cs ≡ false → NonePass (λ d. eqb d c) cs
 none-bad c bad [] h = tt
 none-bad c bad (d ∷ ds) h = go (is_bad_character d) refl h (none-bad c bad ds)
@@ -81,7 +81,7 @@ no-bracket w h = go (bytes_eq w (codes "(")) (bytes_eq w (codes ")")) refl refl
     go false true e f = absurd (false≢true (sym (at 41 ((bytes_eq-Decides w (codes ")")).0 f))))
     go false false e f = ap (λ x. x || bytes_eq w (codes ")")) e ∙ f
 
--- two texts in brackets, and a word between them
+-- two bracketed texts with a token between them are a factor
 bracketed : (w : Token) → tokens_of w ≡ w ∷ [] → (x y : List ℕ) (t : Tree) → IsExpr (tokens_of x ++ w ∷ tokens_of y) t → IsFactor (tokens_of (codes "(" ++ 32 ∷ (x ++ 32 ∷ (w ++ 32 ∷ (y ++ 32 ∷ codes ")"))))) t
 bracketed w q x y t h =
     let e : tokens_of (codes "(" ++ 32 ∷ (x ++ 32 ∷ (w ++ 32 ∷ (y ++ 32 ∷ codes ")")))) ≡ codes "(" ∷ (tokens_of x ++ (w ∷ (tokens_of y ++ codes ")" ∷ []))) =

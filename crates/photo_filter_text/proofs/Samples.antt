@@ -1,4 +1,4 @@
--- A date and a word.
+-- A sample date and a sample word.
 use Rattle.std.specs.Prelude.{◌≡◌, ℕ, List, ℤ, Some, Ok, codes, refl}
 use Rattle.std.specs.Str.{chars}
 use Rattle.unicode_normalization.specs.Forms.{normalize, decomposed}

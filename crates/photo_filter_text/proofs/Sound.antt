@@ -1,4 +1,4 @@
--- What is read is in the grammar, and whatever has been read can be gone on with.
+-- What the reader reads is in the grammar, and some filter goes on from whatever it has read.
 use Rattle.std.proofs.Common.{◌≡◌, ℕ, suc, zero, ◌+◌, Bool, true, false, List, [], ◌∷◌, ◌++◌, Option, Some, None, Result, Ok, Err, refl, sym, ap, subst, ◌∙◌, cond, add-one, append_assoc, append-nil, ℤ}
 use Rattle.std.specs.Prelude.{codes}
 use Rattle.std.specs.Str.{bytes_eq}
@@ -16,7 +16,7 @@ use Rattle.photo_filter_text.specs.Grammar.{all, none, rating, day, keyword, IsF
 use Rattle.photo_filter_text.specs.Fronts.{Begins}
 use Rattle.photo_filter_text.specs.Steps.{Place, AtFactor, AtOperator, AtValue, AtWord, After, Level, State, level_with, fresh, start, joined, negated, after_factor, at_factor, after_term, closed, test_of, at_operator, at_word, step_at, step, finished, finish, symbol_of, go_on, run}
 
--- the token of a symbol
+-- the token that spells a symbol
 abbrev pub IsSpelled : Symbol → Token → Type 0
 IsSpelled Open t = t ≡ codes "("
 IsSpelled Close t = t ≡ codes ")"
@@ -45,12 +45,12 @@ symbol_spelled t =
     (pick t (codes "none") NoneWord _ (λ e. e) (pick t (codes "rating") RatingWord _ (λ e. e) (pick t (codes "day") DayWord _ (λ e. e)
     (pick t (codes "keyword") KeywordWord Other (λ e. e) tt)))))))))
 
--- what stands before an `or`
+-- the tokens before an `or`
 abbrev pub OrAt : Option Tree → List Token → Type 0
 OrAt None ts = ts ≡ []
 OrAt (Some a) ts = (xs : List Token) × IsExpr xs a × (ts ≡ xs ++ codes "or" ∷ [])
 
--- what stands before an `and`
+-- the tokens before an `and`
 abbrev pub AndAt : Option Tree → List Token → Type 0
 AndAt None ts = ts ≡ []
 AndAt (Some a) ts = (xs : List Token) × IsTerm xs a × (ts ≡ xs ++ codes "and" ∷ [])
@@ -73,7 +73,7 @@ pub record TermAt (e : Option Tree) (t : Tree) (ts : List Token) : Type 0 where
   pub is_term : IsTerm last t
   pub whole : ts ≡ ors ++ last
 
--- the levels that are open, each behind the ones around it
+-- the tokens of the open levels, from the outermost on
 abbrev pub OpenAt : List Level → List Token → Type 0
 OpenAt [] ts = ts ≡ []
 OpenAt (l ∷ outer) ts = (us : List Token) × (ls : List Token) × OpenAt outer us × LevelAt l ls × (ts ≡ us ++ (ls ++ codes "(" ∷ []))
@@ -96,7 +96,7 @@ and-factor (Some a) ands xs t h f =
     let e : ands ++ xs ≡ h.0 ++ codes "and" ∷ xs = ap (λ o. o ++ xs) h.2 ∙ append_assoc h.0 (codes "and" ∷ []) xs in
     subst P (sym e) (conjunction h.1 f)
 
--- a factor behind a level makes a term of it
+-- a level and a factor make a term
 pub level-factor : (l : Level) (ls xs : List Token) (t : Tree) → LevelAt l ls → IsFactor xs t → TermAt l.either (joined Both l.both (negated l.negations t)) (ls ++ xs)
 level-factor l ls xs t h f = record {
   ors = h.ors;
@@ -106,7 +106,7 @@ level-factor l ls xs t h f = record {
   whole = ap (λ ys. ys ++ xs) h.whole ∙ append_assoc h.ors (h.ands ++ nots l.negations) xs ∙ ap (λ ys. h.ors ++ ys) (append_assoc h.ands (nots l.negations) xs);
 }
 
--- what begins with more begins with less
+-- if a filter begins with these tokens, one begins with their front
 pub begins-front : (front more : List Token) → Begins (front ++ more) → Begins front
 begins-front front more b =
     let P : List Token → Type 0 = λ ys. IsExpr ys b.1 in (more ++ b.0, b.1, subst P (append_assoc front more b.0) b.2)
@@ -114,7 +114,7 @@ begins-front front more b =
 pub regroup : (us ys ks ls : List Token) (x y : Token) → us ≡ ys ++ (ks ++ x ∷ []) → ys ++ (ks ++ x ∷ (ls ++ y ∷ [])) ≡ (us ++ ls) ++ y ∷ []
 regroup us ys ks ls x y e = rw e (simp append_assoc)
 
--- a term behind open levels can be gone on with: each bracket can be closed
+-- a term in open brackets begins a filter: the brackets can be closed
 pub close : (outer : List Level) (us ls : List Token) (e : Option Tree) (t : Tree) → OpenAt outer us → TermAt e t ls → Begins (us ++ ls)
 close [] us ls e t o h =
     let P : List Token → Type 0 = λ ys. IsExpr ys (joined Either e t) in
@@ -126,7 +126,7 @@ close (l ∷ outer) us ls e t o h =
     let b = close outer o.0 _ _ _ o.2 whole in
     begins-front (us ++ ls) (codes ")" ∷ []) (subst Begins (regroup us o.0 o.1 ls (codes "(") (codes ")") o.4) b)
 
--- what a level has behind it, in the middle of a test
+-- the token of a field, with which its test begins
 abbrev pub field_token : Field → Token
 field_token RatingField = codes "rating"
 field_token DayField = codes "day"
@@ -145,12 +145,12 @@ StateAt s ts = PlaceAt s.place s.level s.outer ts
 start-at : StateAt start []
 start-at = ([], [], refl, record { ors = []; ands = []; or_at = refl; and_at = refl; whole = refl }, refl)
 
--- a factor behind open levels
+-- the state after a factor in open brackets
 factor-at : (l : Level) (outer : List Level) (us ls xs ts : List Token) (t : Tree) → OpenAt outer us → LevelAt l ls → IsFactor xs t → ts ≡ us ++ (ls ++ xs) → StateAt (after_factor l outer t) ts
 unfolding after_factor
 factor-at l outer us ls xs ts t o h f e = (us, ls ++ xs, o, level-factor l ls xs t h f, e, refl)
 
--- one more token behind two lists
+-- one more token after two lists
 pub push-two : (us ls ts : List Token) (x : Token) → ts ≡ us ++ ls → ts ++ x ∷ [] ≡ us ++ (ls ++ x ∷ [])
 push-two us ls ts x e = rw e (append_assoc us ls (x ∷ []))
 
@@ -254,7 +254,7 @@ place-step (AtValue DayField cmp) l outer ts x h = day-step l outer h.0 h.1 ts h
 place-step AtWord l outer ts x h = word-step l outer h.0 h.1 ts x h.2 h.3 h.4 (is_bracket x) refl (word_of_text x) refl
 place-step (After t) l outer ts x h = term-step l outer h.0 h.1 ts t x h.2 h.3 h.4 (symbol_of x) (symbol_spelled x)
 
--- a run leads from state to state
+-- a run leads from one state to the next
 run-leads : (s : State) (ts us : List Token) → StateAt s ts → LeadsTo (run s us) (ts ++ us)
 run-leads s ts [] h = subst (λ (ys : List Token). StateAt s ys) (sym (append-nil ts)) h
 run-leads s ts (x ∷ us) h = go (step s x) (place-step s.place s.level s.outer ts x h) (λ r. run-leads r (ts ++ x ∷ []) us)
@@ -266,11 +266,11 @@ run-leads s ts (x ∷ us) h = go (step s x) (place-step s.place s.level s.outer 
     go (Err e) k more = tt
     go (Ok r) k more = subst (λ (ys : List Token). LeadsTo (run r us) ys) q (more r k)
 
--- what the tokens of a run lead to
+-- the state after a run's tokens
 pub state-at : (ts : List Token) (s : State) → run start ts ≡ Ok s → StateAt s ts
 state-at ts s e = subst (λ (r : Result State Refusal). LeadsTo r ts) e (run-leads start [] ts start-at)
 
--- what is read is in the grammar
+-- what the reader reads is in the grammar
 pub read-expr : (ts : List Token) (s : State) (t : Tree) → run start ts ≡ Ok s → finish s ≡ Some t → IsExpr ts t
 read-expr ts s t e f = go s.place s.level s.outer (state-at ts s e) f
   where

@@ -1,4 +1,4 @@
--- The definitions at some texts, computed.
+-- The definitions at some texts, by computation.
 use Rattle.std.proofs.Common.{ℕ, List, ◌++◌, refl}
 use Rattle.std.specs.Prelude.{codes}
 use Rattle.photo_filter_text.specs.Tree.{Not, All}

@@ -1,4 +1,4 @@
--- The definitions at some texts.
+-- The definitions, worked for some texts.
 use Rattle.std.specs.Prelude.{◌≡◌, ℕ, zero, suc, List, [], ◌∷◌, ◌++◌, pos, codes}
 use Rattle.photo_filter_text.specs.declared.tree.Cmp.TheVariants.{AtLeast, AtMost, Equal}
 use Rattle.photo_filter_text.specs.declared.fault.FilterFault.{FilterFault}
@@ -9,7 +9,7 @@ use Rattle.photo_filter_text.specs.Grammar.{IsExpr}
 use Rattle.photo_filter_text.specs.Fault.{IsFilter, IsFault}
 use Rattle.photo_filter_text.specs.Printed.{text_of}
 
--- a text several times
+-- a text repeated several times
 abbrev pub repeated : ℕ → List ℕ → List ℕ
 repeated zero text = []
 repeated (suc more) text = text ++ repeated more text
@@ -21,7 +21,7 @@ pub record TheTokens : Type 0 where
   pub none : tokens_of (codes "  ") ≡ []
   pub operators : tokens_of (codes "rating >=4") ≡ codes "rating" ∷ codes ">=4" ∷ []
 
--- each of these texts is that tree
+-- the tree of each of these texts
 pub record TheTrees : Type 0 where
   pub and_first : IsExpr (tokens_of (codes "all or none and all")) (Either All (Both Nothing All))
   pub or_from_left : IsExpr (tokens_of (codes "all or none or all")) (Either (Either All Nothing) All)
@@ -37,7 +37,7 @@ pub record TheTexts : Type 0 where
   pub keyword : text_of (Keyword (codes "sun")) ≡ codes "keyword sun"
   pub low : height (Not (Both All (Not All))) ≡ 4
 
--- the text is refused with this fault
+-- the text has this fault
 pub record HasFault (text : List ℕ) (fault : FilterFault) : Type 0 where
   pub is : IsFault (tokens_of text) fault
 
@@ -57,12 +57,12 @@ pub record TheFaults : Type 0 where
   pub deep : HasFault (repeated 32 (codes "not ") ++ codes "all") faults.TooDeep
   pub long : HasFault (repeated 128 (codes "(") ++ (codes "all" ++ repeated 128 (codes ")"))) faults.TooManyTokens
 
--- a tree under so many `not`
+-- a tree under several `not`
 abbrev pub under_nots : ℕ → Tree → Tree
 under_nots zero tree = tree
 under_nots (suc more) tree = Not (under_nots more tree)
 
--- texts just within the limits: a tree of the height 32, and 256 tokens
+-- texts just within the limits: a tree of height 32, and 256 tokens
 pub record TheFilters : Type 0 where
   pub low : IsFilter (tokens_of (repeated 31 (codes "not ") ++ codes "all")) (under_nots 31 All)
   pub short : IsFilter (tokens_of (repeated 127 (codes "(") ++ (codes "not all" ++ repeated 127 (codes ")")))) (Not All)

@@ -1,4 +1,4 @@
--- Which tokens are a filter within the limits, and what is the first fault of all others.
+-- Which tokens are a filter within the limits, and the first fault of all other tokens.
 use Rattle.std.specs.Prelude.{◌≡◌, ◌≢◌, ℕ, ◌<◌, ◌≤◌, List, [], length}
 use Rattle.photo_filter_text.specs.Tree.{Tree, height}
 use Rattle.photo_filter_text.specs.Tokens.{Token}
@@ -9,17 +9,17 @@ use Rattle.photo_filter_text.specs.Limits.{max_tokens, max_height}
 use Rattle.photo_filter_text.specs.Fronts.{Begins, StopsAt, IsWordAt}
 use Rattle.photo_filter_text.specs.Memory.{MayWantMemory}
 
--- there are tokens, and no more than the limit
+-- there is a token, and there are at most 256
 abbrev pub IsRoomy : List Token → Type 0
 IsRoomy ts = (ts ≢ []) × (length ts ≤ max_tokens)
 
--- the tokens are the tree's, within both limits
+-- the tokens are a filter of this tree, within both limits
 pub record IsFilter (ts : List Token) (tree : Tree) : Type 0 where
   pub short : length ts ≤ max_tokens
   pub grammar : IsExpr ts tree
   pub low : height tree ≤ max_height
 
--- the first fault, and want of memory in place of what follows
+-- this is the tokens' first fault, or memory was refused before that fault was met
 abbrev pub IsFault : List Token → FilterFault → Type 0
 IsFault ts Empty = ts ≡ []
 IsFault ts TooManyTokens = max_tokens < length ts

@@ -1,4 +1,4 @@
--- The grammar of filters: which lists of tokens are which trees.
+-- The grammar of filters: which tokens make which tree.
 use Rattle.std.specs.Prelude.{◌≡◌, ℕ, Bool, ◌||◌, if◌then◌else◌, false, List, [], ◌∷◌, ◌++◌, ℤ, Option, Some, None, Ok, codes}
 use Rattle.std.specs.Str.{bytes_eq}
 use Rattle.photo_record.specs.Reading.{rating_of_text, day_of_text, word_of_text}
@@ -7,7 +7,7 @@ use Rattle.photo_filter_text.specs.declared.tree.Cmp.TheVariants.{AtLeast, AtMos
 use Rattle.photo_filter_text.specs.Tree.{Tree, All, Nothing, Rate, On, Keyword, Not, Both, Either}
 use Rattle.photo_filter_text.specs.Tokens.{Token}
 
--- the comparison that a token writes
+-- the comparison that a token denotes
 abbrev pub cmp_of : Token → Option Cmp
 cmp_of token =
     if bytes_eq token (codes ">=") then Some AtLeast
@@ -30,12 +30,12 @@ mutual
     brackets : {ts : List Token} {t : Tree} → IsExpr ts t → IsFactor (codes "(" ∷ (ts ++ codes ")" ∷ [])) t
     test : {ts : List Token} {t : Tree} → IsTest ts t → IsFactor ts t
 
-  -- factors joined by `and`, from the left
+  -- factors joined by `and`, grouped from the left
   pub data IsTerm : List Token → Tree → Type 0 where
     factor : {ts : List Token} {t : Tree} → IsFactor ts t → IsTerm ts t
     conjunction : {xs ys : List Token} {a b : Tree} → IsTerm xs a → IsFactor ys b → IsTerm (xs ++ codes "and" ∷ ys) (Both a b)
 
-  -- terms joined by `or`, from the left
+  -- terms joined by `or`, grouped from the left
   pub data IsExpr : List Token → Tree → Type 0 where
     term : {ts : List Token} {t : Tree} → IsTerm ts t → IsExpr ts t
     disjunction : {xs ys : List Token} {a b : Tree} → IsExpr xs a → IsTerm ys b → IsExpr (xs ++ codes "or" ∷ ys) (Either a b)

@@ -1,4 +1,4 @@
--- How trees are printed: fully bracketed, with one space between tokens.
+-- How trees are printed: with a bracket around each `and` and `or`, and one space between tokens.
 use Rattle.std.specs.Prelude.{ℕ, ◌+◌, ◌≤◌, ◌/◌, ◌%◌, List, [], ◌∷◌, ◌++◌, ℤ, codes}
 use Rattle.std.specs.Str.{IsUtf8}
 use Rattle.photo_record.specs.Limits.{max_rating, IsDay}
@@ -13,22 +13,22 @@ cmp_text AtLeast = codes ">="
 cmp_text AtMost = codes "<="
 cmp_text Equal = codes "="
 
--- a digit for a number below 10
+-- the digit of a number below 10
 abbrev pub digit : ℕ → ℕ
 digit n = 48 + n
 
--- two digits for a number below 100
+-- the two digits of a number below 100
 abbrev pub two_digits : ℕ → List ℕ
 two_digits n = digit (n / 10) ∷ digit (n % 10) ∷ []
 
--- YYYY-MM-DD
+-- the date as YYYY-MM-DD
 abbrev pub civil_text : Civil → List ℕ
 civil_text date = two_digits (date.year / 100) ++ (two_digits (date.year % 100) ++ 45 ∷ (two_digits date.month ++ 45 ∷ two_digits date.day))
 
 unfoldable pub date_text : ℤ → List ℕ
 date_text day = civil_text (date_of day)
 
--- one text and another, and a space between them
+-- two texts with a space between them
 infixr 20 ◌␣◌
 abbrev pub ◌␣◌ : List ℕ → List ℕ → List ℕ
 text ␣ more = text ++ 32 ∷ more
@@ -44,7 +44,7 @@ text_of (Not part) = codes "not" ␣ text_of part
 text_of (Both left right) = codes "(" ␣ text_of left ␣ codes "and" ␣ text_of right ␣ codes ")"
 text_of (Either left right) = codes "(" ␣ text_of left ␣ codes "or" ␣ text_of right ␣ codes ")"
 
--- ratings, days and words are such
+-- all ratings, days and words in the tree are valid
 abbrev pub IsSound : Tree → Type 0
 IsSound All = Unit {0}
 IsSound Nothing = Unit {0}

@@ -1,5 +1,5 @@
--- No definition of the language, but the machinery of its proofs: the reader's steps, a token at a time. Only private
--- contracts cite them, and `Grammar`, `Fronts` and `Fault` say what a filter is and what its fault is.
+-- Machinery of the proofs: the reader's steps, one token each. Private contracts alone cite them; `Grammar`, `Fronts` and
+-- `Fault` define filters and their faults.
 use Rattle.std.specs.Prelude.{ℕ, suc, zero, ◌+◌, Bool, true, false, not, ◌||◌, ◌&&◌, nat_lt, if◌then◌else◌, List, [], ◌∷◌, map, reverse, Option, Some, None, is_some, option_map, Result, Ok, Err, codes}
 use Rattle.std.specs.Str.{bytes_eq}
 use Rattle.photo_record.specs.Reading.{rating_of_text, day_of_text, word_of_text}
@@ -18,7 +18,7 @@ use Rattle.photo_filter_text.specs.Tree.{Tree, All, Nothing, Rate, On, Keyword, 
 use Rattle.photo_filter_text.specs.Tokens.{Token}
 use Rattle.photo_filter_text.specs.Grammar.{cmp_of, is_bracket}
 
--- which of the grammar's own tokens a token is
+-- which of the grammar's fixed tokens this token is
 unfoldable pub symbol_of : Token → Symbol
 symbol_of token =
     if bytes_eq token (codes "(") then Open
@@ -33,7 +33,7 @@ symbol_of token =
     else (if bytes_eq token (codes "keyword") then KeywordWord
     else Other)))))))))
 
--- what may come next; behind a term that term
+-- what may come next; after a term, that term too
 pub data Place : Type 0 where
   AtFactor : Place
   AtOperator : Field → Place
@@ -41,8 +41,8 @@ pub data Place : Type 0 where
   AtWord : Place
   After : Tree → Place
 
--- what stands before the next factor since a bracket was opened: terms before the last `or`, factors since then before
--- the last `and`, and as many times `not`
+-- what stands before the next factor in the innermost open bracket: the terms before its last `or`, the factors since then
+-- before the last `and`, and the number of `not` after these
 pub record Level : Type 0 where
   pub either : Option Tree
   pub both : Option Tree
@@ -73,7 +73,7 @@ abbrev pub negated : ℕ → Tree → Tree
 negated zero t = t
 negated (suc n) t = Not (negated n t)
 
--- a factor has been read
+-- the state after a complete factor
 unfoldable pub after_factor : Level → List Level → Tree → State
 after_factor l outer t = state_with (After (joined Both l.both (negated l.negations t))) (level_with l.either None 0) outer
 
@@ -90,7 +90,7 @@ at_factor l outer OrWord = Err Unexpected
 at_factor l outer AndWord = Err Unexpected
 at_factor l outer Other = Err Unexpected
 
--- a bracket is closed over a tree
+-- the state after a closing bracket; the tree is what the bracket holds
 abbrev pub closed : Tree → List Level → Result State Refusal
 closed t [] = Err Unexpected
 closed t (l ∷ outer) = Ok (after_factor l outer t)
@@ -108,7 +108,7 @@ after_term l outer t DayWord = Err Unexpected
 after_term l outer t KeywordWord = Err Unexpected
 after_term l outer t Other = Err Unexpected
 
--- the test that a value completes
+-- the state after a test's value, if the value is valid
 abbrev pub test_of : {A : Type 0} → Level → List Level → (A → Tree) → Option A → Result State Refusal
 test_of l outer f None = Err Unexpected
 test_of l outer f (Some x) = Ok (after_factor l outer (f x))
@@ -141,7 +141,7 @@ abbrev pub run : State → List Token → Result State Refusal
 run s [] = Ok s
 run s (t ∷ ts) = go_on (λ r. run r ts) (step s t)
 
--- the tree, where no bracket is open
+-- the whole tree, if a term ends here and no bracket is open
 abbrev pub finished : Place → Level → List Level → Option Tree
 finished (After t) l [] = Some (joined Either l.either t)
 finished (After t) l (m ∷ outer) = None
@@ -153,7 +153,7 @@ finished AtWord l outer = None
 abbrev pub finish : State → Option Tree
 finish s = finished s.place s.level s.outer
 
--- Where memory may be asked for: for a factor behind a `not` or an `and`
+-- Where the reader may ask for memory: for a factor after a `not` or an `and`
 abbrev pub keeps_factor : Level → Bool
 keeps_factor l = nat_lt 0 l.negations || is_some l.both
 
@@ -170,7 +170,7 @@ keeps_at_factor l OrWord = false
 keeps_at_factor l AndWord = false
 keeps_at_factor l Other = false
 
--- for what stands in a bracket that is closed, and for the bracket as a factor
+-- for the last term in a bracket that closes, and for the bracket as a factor
 abbrev pub keeps_closed : Option Tree → List Level → Bool
 keeps_closed either [] = false
 keeps_closed either (below ∷ outer) = is_some either || keeps_factor below
@@ -210,7 +210,7 @@ keeps_finished AtWord l outer = false
 abbrev pub keeps_at_end : State → Bool
 keeps_at_end s = keeps_finished s.place s.level s.outer
 
--- The values of the code as these
+-- The code's values as values of these definitions
 abbrev pub place_of : code.Place → Place
 place_of places.Factor = AtFactor
 place_of (places.Operator field) = AtOperator field

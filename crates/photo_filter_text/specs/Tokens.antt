@@ -1,8 +1,8 @@
--- The tokens of a text: cut at spaces, with each bracket a token of its own.
+-- The tokens of a text: it is cut at spaces, and each bracket is a token.
 use Rattle.std.specs.Prelude.{ℕ, Bool, true, false, ◌||◌, ◌==◌, if◌then◌else◌, List, [], ◌∷◌, filter}
 use Rattle.std.specs.List.{slice_split, flat_map}
 
--- the bytes of a token
+-- a token, as its bytes
 abbrev pub Token : Type 0
 Token = List ℕ
 
@@ -12,7 +12,7 @@ is_space b = b == 32
 abbrev pub is_bracket_byte : ℕ → Bool
 is_bracket_byte b = (b == 40) || (b == 41)
 
--- a bracket gets a space on either side
+-- a bracket with a space on either side; any other byte as it is
 abbrev pub with_room : ℕ → List ℕ
 with_room b = if is_bracket_byte b then 32 ∷ b ∷ 32 ∷ [] else b ∷ []
 
@@ -20,6 +20,6 @@ abbrev pub is_filled : Token → Bool
 is_filled [] = false
 is_filled (b ∷ bs) = true
 
--- what then stands between the spaces
+-- the tokens: the pieces between spaces that aren't empty
 abbrev pub tokens_of : List ℕ → List Token
 tokens_of text = filter is_filled (slice_split is_space (flat_map with_room text))

@@ -1,4 +1,4 @@
--- Filters as trees, apart from where their parts lie in memory.
+-- Filters as trees, without their places in memory.
 use Rattle.std.specs.Prelude.{ℕ, ◌+◌, max, ℤ, List}
 use Rattle.photo_filter_text.specs.declared.tree.Cmp.{Cmp}
 use Rattle.photo_filter_text.specs.declared.tree.FilterTree.{FilterTree}
@@ -14,7 +14,7 @@ pub data Tree : Type 0 where
   Both : (left right : Tree) → Tree
   Either : (left right : Tree) → Tree
 
--- the tree of a value
+-- the tree that a value of the code stands for
 abbrev pub tree_of : FilterTree → Tree
 tree_of variants.All = All
 tree_of variants.Nothing = Nothing
@@ -25,7 +25,7 @@ tree_of (variants.Not' p part) = Not (tree_of part)
 tree_of (variants.Both' p left q right) = Both (tree_of left) (tree_of right)
 tree_of (variants.Either' p left q right) = Either (tree_of left) (tree_of right)
 
--- a test has the height 1
+-- the height of a tree; a single test has height 1
 abbrev pub height : Tree → ℕ
 height (Not part) = height part + 1
 height (Both left right) = max (height left) (height right) + 1

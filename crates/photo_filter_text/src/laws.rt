@@ -1,4 +1,4 @@
-//! Laws of the filter language. Each function's contract is a law, and its body does nothing.
+//! Laws of the filter language. Each function's contract states a law; its body is empty.
 
 ghost use Rattle.std.specs.Prelude.{◌≡◌, ◌≢◌, ◌⊎◌, ℕ, ℤ, ◌+◌, ◌≤◌, true, List, length, take};
 ghost use Rattle.std.specs.List.{list_any};
@@ -21,7 +21,7 @@ pub fn one_tree()
     ensures { (tokens : List Token) (one other : Tree) → IsExpr tokens one → IsExpr tokens other → one ≡ other }
 {}
 
-/// Tokens that are a filter within the limits have no fault, and others have at most one, want of memory aside.
+/// A filter within the limits has no fault, and any other tokens have at most one fault. Want of memory doesn't count here.
 pub fn one_fault()
     ensures none { (tokens : List Token) (tree : Tree) (fault : FilterFault) → IsFilter tokens tree → IsFault tokens fault
         → fault ≡ NoMemory }
@@ -29,31 +29,31 @@ pub fn one_fault()
         → IsFault tokens fault → IsFault tokens other → fault ≡ other }
 {}
 
-/// Tokens are a filter within the limits, or they have a fault that is no want of memory.
+/// Any tokens are a filter within the limits or have a fault other than want of memory.
 pub fn filter_or_fault()
     ensures { (tokens : List Token)
         → ((tree : Tree) × IsFilter tokens tree) ⊎ ((fault : FilterFault) × (fault ≢ NoMemory) × IsFault tokens fault) }
 {}
 
-/// Want of memory stands in place of no earlier fault, and only where reading keeps something: a filter begins with the
-/// tokens before some place, and up to and with that place stands `(`, `not`, `and`, `or` or `keyword`.
+/// Reading wants memory only where it keeps something, and never in place of an earlier fault: some filter begins with the
+/// tokens before that place, and the tokens up to it include `(`, `not`, `and`, `or` or `keyword`.
 pub fn memory_wanted()
     ensures { (tokens : List Token) → MayWantMemory tokens
         → (before : ℕ) × Begins (take before tokens) × (list_any is_keeper (take (before + 1) tokens) ≡ true) }
 {}
 
-/// The text of a tree within both limits is a filter of that tree, so reading it gives the tree back.
+/// The printed text of a tree within both limits is a filter of that tree, so reading it gives the tree back.
 pub fn printed_again()
     ensures { (tree : Tree) → IsSound tree → length (tokens_of (text_of tree)) ≤ max_tokens → height tree ≤ max_height
         → IsFilter (tokens_of (text_of tree)) tree }
 {}
 
-/// Days are printed as records show them.
+/// Filters and records write days alike.
 pub fn days_are_shown()
     ensures { (day : ℤ) → IsDay day → date_text day ≡ day_text day }
 {}
 
-/// The definitions at some texts: their tokens, trees, printed forms and faults, and filters just within the limits.
+/// The definitions, worked for some texts: tokens, trees, printed forms, faults, and filters just within the limits.
 pub fn examples()
     ensures tokens { TheTokens }
     ensures trees { TheTrees }

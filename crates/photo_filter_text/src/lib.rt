@@ -1,5 +1,5 @@
-//! The filter language: the trees of filters, their reading from text and their printing. Its invariant: **a tree that is read
-//! is the grammar's**, of just these tokens, and what is printed has the tree that was printed.
+//! The filter language: the trees of filters, reading them from text, and printing them. Invariant: **a tree that is read is
+//! the one that the grammar gives its tokens**, and a printed text has the tree that was printed.
 #![tactic(auto)]
 
 mod fault;

@@ -1,4 +1,4 @@
-//! The text of a tree.
+//! Printing a tree.
 ghost use Rattle.std.specs.Prelude.{◌≡◌, ◌<◌, ◌≤◌, [], ◌∷◌, ◌++◌, string_bytes, IfOk, OnOk};
 ghost use Rattle.photo_record.specs.Limits.{max_rating, IsDay};
 ghost use Rattle.photo_filter_text.specs.Tree.{Tree, Rate, On, Keyword, tree_of};
@@ -10,12 +10,12 @@ use crate::{Cmp, FilterTree};
 use photo_record::{Day, Rating, Word};
 use std::alloc::{AllocError, Global};
 
-/// Prints a filter: `all`, `none`, `rating OP R`, `day OP DATE`, `keyword WORD`, `not X`, `( X and Y )` or `( X or Y )`,
-/// with one space between tokens. Its only error is want of memory.
+/// Prints a filter as `all`, `none`, `rating OP R`, `day OP DATE`, `keyword WORD`, `not X`, `( X and Y )` or `( X or Y )`, with
+/// one space between tokens. Its only error is want of memory.
 pub fn print(alloc: Global, tree: &FilterTree) -> Result<String, AllocError>
     ensures text { IfOk result (λ text. string_bytes text ≡ text_of (tree_of tree.now)) }
 
-    // It is read as that tree, and as no other, where its tokens and the tree's height are within the limits.
+    // The text has that tree in the grammar, and no other.
     ensures tree { IfOk result (λ text. IsExpr (tokens_of (string_bytes text)) (tree_of tree.now)) }
     ensures only { IfOk result (λ text. (other : Tree) → IsExpr (tokens_of (string_bytes text)) other → other ≡ tree_of tree.now) }
 {
@@ -24,7 +24,7 @@ pub fn print(alloc: Global, tree: &FilterTree) -> Result<String, AllocError>
     Ok(text)
 }
 
-// A text, and the tree behind it.
+// Appends `front` and the tree's text.
 fn push_tree(text: &mut String, front: &str, tree: &FilterTree) -> Result<(), AllocError>
     ensures text { OnOk result (string_bytes text.new ≡ string_bytes text.old ++ (front.now ++ text_of (tree_of tree.now))) }
     ensures sound { OnOk result (IsSound (tree_of tree.now)) }
@@ -87,7 +87,7 @@ pub(crate) fn cmp_text(cmp: Cmp) -> &'static str
     }
 }
 
-// A space, and the rating.
+// Appends a space and the rating.
 fn push_rating(text: &mut String, rating: Rating) -> Result<(), AllocError>
     ensures text { OnOk result (string_bytes text.new ≡ string_bytes text.old ++ 32 ∷ digit rating ∷ []) }
     ensures in_range { rating ≤ max_rating }
@@ -96,13 +96,13 @@ fn push_rating(text: &mut String, rating: Rating) -> Result<(), AllocError>
     push_digit(text, rating.value())
 }
 
-// The date, as `YYYY-MM-DD`.
+// Appends the date as `YYYY-MM-DD`.
 #[tactic(auto, unfolding(crate::specs::Printed::date_text))]
 fn push_date(text: &mut String, day: Day) -> Result<(), AllocError>
     ensures text { OnOk result (string_bytes text.new ≡ string_bytes text.old ++ date_text day) }
     ensures in_range { IsDay day }
 {
-    // For its fact alone: a day is in its range.
+    // `number` is called because its contract says that the day is in range.
     let _number = day.number();
     let year = day.year();
     push_two_digits(text, (year / 100) as u8)?;

@@ -1,4 +1,4 @@
-//! The reader's states, token by token.
+//! The reader's states and its steps from token to token.
 ghost use Rattle.std.specs.Prelude.{◌≡◌, ◌≢◌, ◌+◌, ◌<◌, ◌^◌, ◌||◌, ◌∷◌};
 ghost use Rattle.std.specs.Prelude.{nat_lt, true, false, is_some, IfOk, IfErr, IsErr, Some, None, Ok, Err, option_map};
 ghost use Rattle.photo_filter_text.specs.Grammar.{is_bracket};
@@ -17,7 +17,7 @@ use crate::{Cmp, FilterTree};
 use photo_record::{Day, Rating, Word, WordFault};
 use std::alloc::{AllocError, AllocFailed, Global};
 
-/// Why a token is not taken.
+/// Why the reader refuses a token.
 #[derive(Clone, Copy)]
 pub(crate) enum Refusal {
     Unexpected,
@@ -41,7 +41,7 @@ impl<T: Drop> From<AllocFailed<T>> for Refusal {
     }
 }
 
-/// What a comparison is about.
+/// What a test compares.
 #[derive(Clone, Copy)]
 pub(crate) enum Field {
     RatingField,
@@ -59,22 +59,22 @@ pub(crate) enum Place {
     Value(Field, Cmp),
     // A word.
     Word,
-    // `and`, `or`, a closing bracket or the end, behind this term.
+    // `and`, `or`, a closing bracket or the end; the term stands before it.
     After(FilterTree),
 }
 
-/// What stands before the next factor since a bracket was opened.
+/// What stands before the next factor in the innermost open bracket.
 #[derive(Drop)]
 pub(crate) struct Level {
     // The terms before the last `or`.
     either: Option<FilterTree>,
-    // The factors since then, before the last `and`.
+    // The factors after that, before the last `and`.
     both: Option<FilterTree>,
-    // How many times `not` stands since then.
+    // How many `not` stand after those.
     negations: usize,
 }
 
-/// What has been read of a filter.
+/// The state after the tokens read so far.
 #[derive(Drop)]
 pub(crate) struct Reader {
     alloc: Global,
@@ -95,7 +95,7 @@ impl Reader {
         }
     }
 
-    /// Takes the next token.
+    /// Reads the next token.
     pub(crate) fn take(self, token: &str) -> Result<Reader, Refusal>
         requires { self.level.negations < 2 ^ 32 }
         ensures taken { IfOk result (λ reader. step (state_of self) token.now ≡ Ok (state_of reader)) }
@@ -118,7 +118,7 @@ impl Reader {
         }
     }
 
-    /// The tree, where the tokens are a filter.
+    /// The whole tree if the tokens read are a filter, else `None`.
     pub(crate) fn finish(self) -> Result<Option<FilterTree>, AllocError>
         ensures tree { IfOk result (λ tree. option_map tree_of tree ≡ finish (state_of self)) }
         ensures memory { IsErr result → keeps_at_end (state_of self) ≡ true }
@@ -147,7 +147,7 @@ impl Level {
         }
     }
 
-    // The level with one `not` more.
+    // The level with one more `not`.
     fn with_negation(self) -> Level
         requires { self.negations < 2 ^ 32 }
         ensures { level_of result ≡ level_with (option_map tree_of self.either) (option_map tree_of self.both) (self.negations + 1) }
@@ -166,7 +166,7 @@ impl Level {
     }
 }
 
-// A token in the place of a word.
+// Reads a token where a word must come.
 fn read_word(alloc: Global, token: &str) -> Result<Word, Refusal>
     ensures read { IfOk result (λ word. (level : _) (outer : _)
         → step_at AtWord level outer token.now ≡ Ok (after_factor level outer (Keyword word))) }
@@ -224,7 +224,7 @@ fn placed(alloc: Global, place: Place, level: Level, outer: Vec<Level>) -> Reade
     }
 }
 
-// A bracket has been opened.
+// The reader after an opening bracket.
 #[tactic(auto, using(crate::proofs::Levels::levels_push))]
 fn opened(alloc: Global, level: Level, mut outer: Vec<Level>) -> Result<Reader, Refusal>
     ensures taken { IfOk result (λ reader. state_of reader ≡ state_with AtFactor fresh (level_of level ∷ levels_of outer.items)) }
@@ -234,7 +234,7 @@ fn opened(alloc: Global, level: Level, mut outer: Vec<Level>) -> Result<Reader, 
     Ok(placed(alloc, Place::Factor, Level::new(), outer))
 }
 
-// A comparison is read.
+// Reads a comparison.
 fn at_operator(
     alloc: Global,
     level: Level,
@@ -260,7 +260,7 @@ fn at_operator(
     }
 }
 
-// A rating is read.
+// Reads a rating.
 fn at_rating(
     alloc: Global,
     level: Level,
@@ -281,7 +281,7 @@ fn at_rating(
     }
 }
 
-// A date is read.
+// Reads a date.
 fn at_day(
     alloc: Global,
     level: Level,
@@ -302,7 +302,7 @@ fn at_day(
     }
 }
 
-// A word is read.
+// Reads a word.
 fn at_word(alloc: Global, level: Level, outer: Vec<Level>, token: &str) -> Result<Reader, Refusal>
     ensures taken { IfOk result (λ reader. step_at AtWord (level_of level) (levels_of outer.items) token.now ≡ Ok (state_of reader)) }
     ensures refused { IfErr result
@@ -316,7 +316,7 @@ fn at_word(alloc: Global, level: Level, outer: Vec<Level>, token: &str) -> Resul
     }
 }
 
-// A factor has been read.
+// The reader after a complete factor.
 #[tactic(auto, unfolding(crate::specs::Steps::after_factor))]
 fn after_factor(
     alloc: Global,
@@ -341,7 +341,7 @@ fn after_factor(
     Ok(placed(alloc, Place::After(term), level, outer))
 }
 
-// The term that a factor behind so many `not` makes of those before it.
+// The term after a factor: the factor under its `not`s, joined to the factors before it.
 fn term_of(
     alloc: Global,
     both: Option<FilterTree>,
@@ -379,7 +379,7 @@ fn after_term(
     }
 }
 
-// An `and` has been read behind a term.
+// The reader after an `and`, which follows a term.
 fn after_and(
     alloc: Global,
     either: Option<FilterTree>,
@@ -401,7 +401,7 @@ fn after_and(
     }
 }
 
-// An `or` has been read behind a term.
+// The reader after an `or`, which follows a term.
 fn after_or(
     alloc: Global,
     either: Option<FilterTree>,
@@ -425,7 +425,7 @@ fn after_or(
     })
 }
 
-// A bracket has been closed behind a term.
+// The reader after a closing bracket, which follows a term.
 #[tactic(auto, using(crate::proofs::Levels::levels_push))]
 fn after_close(
     alloc: Global,
@@ -447,7 +447,7 @@ fn after_close(
     after_factor(alloc, below, outer, tree)
 }
 
-// The tree behind the last term, where no bracket is open.
+// The whole tree after the last term, if no bracket is open.
 fn whole(
     alloc: Global,
     either: Option<FilterTree>,
@@ -478,7 +478,7 @@ fn negated(alloc: Global, times: usize, factor: FilterTree) -> Result<FilterTree
     Ok(tree)
 }
 
-// The right side, joined to what stands left of an `and`.
+// Joins the right side to the left side of an `and`, if there is one.
 fn conjunction(
     alloc: Global,
     left: Option<FilterTree>,
@@ -493,7 +493,7 @@ fn conjunction(
     }
 }
 
-// The right side, joined to what stands left of an `or`.
+// Joins the right side to the left side of an `or`, if there is one.
 fn disjunction(
     alloc: Global,
     left: Option<FilterTree>,

@@ -1,4 +1,4 @@
-//! The reading of a filter, with its faults in their order.
+//! Reading a filter, with its faults in order.
 ghost use Rattle.std.specs.Prelude.{◌≡◌, IfOk, IfErr, MatchResult, Ok};
 ghost use Rattle.photo_filter_text.specs.Tree.{Tree, tree_of};
 ghost use Rattle.photo_filter_text.specs.Tokens.{tokens_of};
@@ -17,17 +17,16 @@ const MAX_HEIGHT: u32 = 32;
 
 /// Reads a filter.
 ///
-/// The text is cut into tokens at its spaces, each bracket being a token of its own. `Ok` has the tree that the
-/// grammar gives the tokens. Otherwise the fault is the first that holds of them, in this order: `Empty`;
-/// `TooManyTokens`; `Unexpected` or `BadWord` at the first token up to which they begin no filter; `EndsEarly`;
-/// `TooDeep`. `NoMemory` comes only where the first two don't hold and reading asks for memory: at a token that opens a
-/// bracket, at one that ends the factor behind a `not` or an `and`, where the term behind an `or` ends, and in the place
-/// of a word; it stands in place of what follows, and of no fault before.
+/// Spaces separate the tokens, and each bracket is a token. `Ok` has the tree that the grammar gives the tokens. Otherwise the
+/// error is the first fault in this order: `Empty`; `TooManyTokens`; `Unexpected` or `BadWord`, at the first token up to which
+/// the tokens begin no filter; `EndsEarly`; `TooDeep`. `NoMemory` comes only where neither of the first two holds and the
+/// reader asks for memory: at an opening bracket, at the token that ends the factor of a `not` or an `and`, where the term of
+/// an `or` ends, and in the place of a word. It stands in place of later faults, never of an earlier one.
 pub fn read(alloc: Global, text: &str) -> Result<FilterTree, FilterFault>
     ensures filter { IfOk result (λ tree. IsFilter (tokens_of text.now) (tree_of tree)) }
     ensures fault { IfErr result (IsFault (tokens_of text.now)) }
 
-    // What is a filter within the limits is read, unless memory is refused.
+    // Every filter within the limits is read, unless memory is refused.
     ensures accepted { (tree : Tree) → IsFilter (tokens_of text.now) tree
         → MatchResult result (λ found. tree_of found ≡ tree) (λ fault. fault ≡ NoMemory) }
 {
@@ -45,7 +44,7 @@ pub fn read(alloc: Global, text: &str) -> Result<FilterTree, FilterFault>
     Ok(tree)
 }
 
-// The tree of the tokens, however high it is.
+// The tree of the tokens, of any height.
 fn read_tree(alloc: Global, text: &str) -> Result<FilterTree, FilterFault>
     requires { IsRoomy (tokens_of text.now) }
     ensures tree { IfOk result (λ tree. IsExpr (tokens_of text.now) (tree_of tree)) }
@@ -59,7 +58,7 @@ fn read_tree(alloc: Global, text: &str) -> Result<FilterTree, FilterFault>
     }
 }
 
-// The reader behind all tokens.
+// The reader after all tokens.
 fn take_all(alloc: Global, text: &str) -> Result<Reader, FilterFault>
     requires { IsRoomy (tokens_of text.now) }
     ensures taken { IfOk result (λ reader. run start (tokens_of text.now) ≡ Ok (state_of reader)) }

@@ -1,4 +1,4 @@
-//! How trees are shown: as they are printed.
+//! Showing trees: the text is the printed one.
 ghost use Rattle.std.specs.Prelude.{Some};
 ghost use Rattle.std.specs.Fmt.{DisplaysOnOk};
 ghost use Rattle.photo_filter_text.specs.Tree.{Rate, On, tree_of};
@@ -56,7 +56,7 @@ fn fmt_rating_test<W: fmt::Write>(
 ) -> fmt::Result
     ensures { DisplaysOnOk W.write_str_gives f.old result (Some (text_of (Rate cmp rating))) f.new }
 {
-    // For its fact alone: a rating is one digit.
+    // `value` is called because its contract says that the rating is at most 5, so it is one digit.
     let _value = rating.value();
     write!(f, "rating {cmp} {rating}")
 }
@@ -64,7 +64,7 @@ fn fmt_rating_test<W: fmt::Write>(
 fn fmt_day_test<W: fmt::Write>(cmp: Cmp, day: Day, f: &mut fmt::Formatter<W>) -> fmt::Result
     ensures { DisplaysOnOk W.write_str_gives f.old result (Some (text_of (On cmp day))) f.new }
 {
-    // For its fact alone: a day is in its range.
+    // `number` is called because its contract says that the day is in range.
     let _number = day.number();
     write!(f, "day {cmp} {day}")
 }

@@ -1,11 +1,11 @@
-//! The tokens that stand for themselves.
+//! The fixed tokens of the grammar.
 ghost use Rattle.std.specs.Prelude.{◌≡◌};
 ghost use Rattle.photo_filter_text.specs.Grammar.{cmp_of};
 ghost use Rattle.photo_filter_text.specs.Steps.{symbol_of};
 
 use crate::Cmp;
 
-/// The tokens of the grammar that stand for themselves.
+/// The fixed tokens of the grammar; any other token is `Other`.
 #[derive(Clone, Copy)]
 pub(crate) enum Symbol {
     Open,

@@ -1,4 +1,4 @@
-//! The tokens of a text.
+//! Cutting a text into tokens.
 ghost use Rattle.std.specs.Prelude.{◌≡◌, ◌+◌, ◌<◌, ◌≤◌, true, [], ◌∷◌, length, MatchOption, IfSome, min, max};
 ghost use Rattle.std.specs.List.{position_or_len, position};
 ghost use Rattle.photo_filter_text.specs.Tokens.{tokens_of};
@@ -8,7 +8,7 @@ ghost use Rattle.photo_filter_text.specs.Cuts.{ends_token, starts_token};
 /// The most tokens of a filter.
 pub(crate) const MAX_TOKENS: usize = 256;
 
-/// The first token of a text and the text behind it, `None` where there is no token.
+/// The first token of a text and the text after it; `None` if there is no token.
 pub(crate) fn next_token(text: &str) -> Option<(&str, &str)>
     ensures token { MatchOption result (tokens_of text.now ≡ []) (λ next. tokens_of text.now ≡ next.0.now ∷ tokens_of next.1.now) }
     ensures shorter { IfSome result (λ next. length next.1.now < length text.now) }
@@ -32,7 +32,7 @@ fn without_spaces(text: &str) -> &str
     rest
 }
 
-// How many bytes the token has that the text begins with: one bracket, or all up to a space or a bracket.
+// The length in bytes of the token at the text's front: one bracket, or all bytes before the next space or bracket.
 fn token_len(text: &str) -> usize
     ensures { result ≡ max 1 (position_or_len ends_token text.now) }
 {
@@ -51,7 +51,7 @@ fn ends_token(b: u8) -> bool
     matches!(b, b' ' | b'(' | b')')
 }
 
-/// How many tokens a text has, and one more than the limit where it has more.
+/// The number of a text's tokens; 257 if there are more than 256.
 pub(crate) fn count_tokens(text: &str) -> usize
     ensures { result ≡ min (length (tokens_of text.now)) (max_tokens + 1) }
 {

@@ -5,31 +5,31 @@ ghost use Rattle.photo_filter_text.specs.Tree.{tree_of, height, Not, Both, Eithe
 use photo_record::{Day, Rating, Word};
 use std::alloc::{AllocError, Global};
 
-/// How a test compares a picture's rating or day with its own.
+/// How a test compares a picture's rating or day with its own value.
 #[derive(Clone, Copy, Debug, PartialEq, Eq)]
 pub enum Cmp {
-    /// At least as great: `>=`.
+    /// At least the test's value: `>=`.
     AtLeast,
-    /// At most as great: `<=`.
+    /// At most the test's value: `<=`.
     AtMost,
-    /// Equal: `=`.
+    /// Equal to the test's value: `=`.
     Equal,
 }
 
-/// A filter as a tree of tests. Contracts see it as `tree_of` does, apart from where its parts lie in memory.
+/// A filter as a tree of tests. Contracts see it through `tree_of`, without the places of its parts in memory.
 #[derive(Debug, PartialEq, Eq, Drop)]
 pub enum FilterTree {
     /// Every picture.
     All,
     /// No picture.
     Nothing,
-    /// The pictures whose rating compares so with this one.
+    /// The pictures whose rating compares so with this rating.
     Rate(Cmp, Rating),
-    /// The pictures whose day compares so with this one.
+    /// The pictures whose day compares so with this day.
     On(Cmp, Day),
     /// The pictures that have the word.
     Keyword(Word),
-    /// The pictures that the part does not select.
+    /// The pictures that the part doesn't select.
     Not(Box<FilterTree>),
     /// The pictures that both parts select.
     Both(Box<FilterTree>, Box<FilterTree>),
@@ -63,14 +63,14 @@ impl FilterTree {
         }
     }
 
-    /// The pictures that the part does not select. Its only error is want of memory.
+    /// The filter for the pictures that the part doesn't select. Its only error is want of memory.
     pub(crate) fn negation(alloc: Global, part: FilterTree) -> Result<FilterTree, AllocError>
         ensures { IfOk result (λ tree. tree_of tree ≡ Not (tree_of part)) }
     {
         Ok(FilterTree::Not(Box::new(alloc, part)?))
     }
 
-    /// The pictures that both parts select. Its only error is want of memory.
+    /// The filter for the pictures that both parts select. Its only error is want of memory.
     pub(crate) fn conjunction(
         alloc: Global,
         left: FilterTree,
@@ -81,7 +81,7 @@ impl FilterTree {
         Ok(FilterTree::Both(Box::new(alloc, left)?, Box::new(alloc, right)?))
     }
 
-    /// The pictures that at least one of the parts selects. Its only error is want of memory.
+    /// The filter for the pictures that at least one part selects. Its only error is want of memory.
     pub(crate) fn disjunction(
         alloc: Global,
         left: FilterTree,
@@ -92,7 +92,7 @@ impl FilterTree {
         Ok(FilterTree::Either(Box::new(alloc, left)?, Box::new(alloc, right)?))
     }
 
-    /// Whether the height is at most the limit.
+    /// Whether the tree's height is at most the limit.
     pub(crate) fn height_is_at_most(&self, limit: u32) -> bool
         ensures { IsTrue result ↔ (height (tree_of self.now) ≤ limit) }
     {

@@ -1,4 +1,4 @@
--- What holds of all elements of a list. It is cited above this crate too.
+-- Facts about all elements of a list. Other crates' proofs cite them too.
 use Rattle.std.proofs.Common.{Bool, true, false, cond, List, [], ◌∷◌, ◌++◌}
 use Rattle.std.specs.Prelude.{filter}
 use Rattle.std.specs.List.{AllByRecursion}

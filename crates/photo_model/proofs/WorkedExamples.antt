@@ -1,4 +1,4 @@
--- The worked pulls: what is taken and told computes, and what holds of every picture and version is shown.
+-- Proofs of the worked pulls: what moves is computed; statements about every picture and version are proved.
 use Rattle.std.proofs.Common.{◌≡◌, true, false, refl, arith}
 use Rattle.std.proofs.lemmas.Bool.{false≢true}
 use Rattle.photo_model.specs.Pull.{IsTaughtNothing}

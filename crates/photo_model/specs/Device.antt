@@ -1,4 +1,4 @@
--- Devices as sets, and what making a version does to one.
+-- Devices as sets, and how commands change them.
 use Rattle.std.specs.Prelude.{ℕ, ◌+◌, Bool, false, not, ◌||◌, ◌==◌, if◌then◌else◌, List, [], ◌++◌, length, filter}
 use Rattle.std.specs.List.{list_any}
 use Rattle.photo_record.specs.declared.record.Record.{Record}
@@ -10,8 +10,8 @@ use Rattle.photo_model.specs.declared.place.Place.{Place}
 use Rattle.photo_model.specs.declared.place.Place.TheVariants.{Store, Out}
 use Rattle.photo_model.specs.Entry.{Entry, others, put_entry_if, put_entries, without}
 
--- a model device: who it is, the tree of its filter, how many versions it has made, what it holds, and what it knows:
--- some versions of every picture, and some of single pictures. What a run does keeps store and out in the order of their entries
+-- a device: its author, its filter's tree, how many versions it has made, what it holds, and which versions it knows, for every
+-- picture or for single ones. Every run keeps store and out in the order of entries
 pub record ModelDevice : Type 0 where
   pub author : Author
   pub tree : Tree
@@ -21,15 +21,15 @@ pub record ModelDevice : Type 0 where
   pub every : Versions
   pub of : ℕ → Versions
 
--- which versions are known of a picture
+-- the versions that the device knows for a picture
 abbrev pub known : ModelDevice → ℕ → Versions
 known m picture = λ v. m.every v || m.of picture v
 
--- all that it holds
+-- all entries that the device holds
 abbrev pub holds : ModelDevice → List Entry
 holds m = m.store ++ m.out
 
--- an entry's version is known of its picture
+-- the device knows the entry's version for the entry's picture
 abbrev pub knows_entry : ModelDevice → Entry → Bool
 knows_entry m e = known m e.picture e.version
 
@@ -37,7 +37,7 @@ knows_entry m e = known m e.picture e.version
 abbrev pub selects : ModelDevice → Entry → Bool
 selects m e = matches m.tree e.content
 
--- a device that has made, holds and knows nothing
+-- a device that has made nothing, holds nothing and knows nothing
 abbrev pub opening : Author → Tree → ModelDevice
 opening author tree = record {
   author = author;
@@ -49,7 +49,7 @@ opening author tree = record {
   of = λ picture v. false;
 }
 
--- Making a version of a picture: the device's next version
+-- Making a version of a picture: it is the device's next version.
 
 abbrev pub next_version : ModelDevice → Version
 next_version m = version m.author (m.counter + 1)
@@ -62,14 +62,14 @@ new_entry m picture content = record {
   content = content;
 }
 
--- where a record goes under a tree: into the store where the tree matches it, into the out otherwise
+-- where a tree puts a record: into the store if the tree matches it, else into the out
 abbrev pub place_for : Tree → Record → Place
 place_for tree content = if matches tree content then Store else Out
 
 abbrev pub new_place : ModelDevice → Record → Place
 new_place m content = place_for m.tree content
 
--- all that was held of the picture leaves, the new entry comes into its place, and its version is known of every picture
+-- the picture's entries leave, the new entry comes in, and the device knows the new version for every picture
 abbrev pub made : ModelDevice → ℕ → Record → ModelDevice
 made m picture content = record m {
   counter = m.counter + 1;
@@ -78,11 +78,11 @@ made m picture content = record m {
   every = λ v. m.every v || same_version (next_version m) v;
 }
 
--- a version of the picture is held, in the store or in the out. One that removes the picture counts
+-- the device holds a version of the picture, in its store or in its out; a removal counts
 abbrev pub is_held : ModelDevice → ℕ → Bool
 is_held m picture = list_any (λ e. e.picture == picture) (holds m)
 
--- Narrowing: what the new tree doesn't match goes to the out
+-- Narrowing: the entries that the new tree doesn't match move to the out.
 
 abbrev pub narrowed : Tree → ModelDevice → ModelDevice
 narrowed tree m = record m {
@@ -91,12 +91,12 @@ narrowed tree m = record m {
   out = put_entries (filter (λ e. not (matches tree e.content)) m.store) m.out;
 }
 
--- how many versions go
+-- the number of versions that narrowing moves to the out
 abbrev pub moved : Tree → ModelDevice → ℕ
 moved tree m = length (filter (λ e. not (matches tree e.content)) m.store)
 
--- Changing what is held and known: some versions are given up, some entries taken, each into its place, and some
--- versions of pictures learned
+-- Changing what is held and known: the device gives up some versions, puts entries into store or out, and learns versions of
+-- single pictures.
 
 abbrev pub changed : List Version → List Entry → (ℕ → Versions) → ModelDevice → ModelDevice
 changed drops takes gain m = record m {
@@ -105,6 +105,6 @@ changed drops takes gain m = record m {
   of = λ picture v. m.of picture v || gain picture v;
 }
 
--- some versions leave the out
+-- the out loses these versions
 abbrev pub without_waiting : List Version → ModelDevice → ModelDevice
 without_waiting drops m = record m { out = without drops m.out }

@@ -1,4 +1,4 @@
--- Any new filter: the device begins its next epoch as one that has made nothing, and knows what it holds and no more.
+-- Refiltering: the device takes any filter, begins its next epoch, and knows only what it holds.
 use Rattle.std.specs.Prelude.{false, not, [], filter}
 use Rattle.photo_filter_text.specs.Tree.{Tree}
 use Rattle.photo_filter_rules.specs.Matching.{matches}
@@ -7,8 +7,8 @@ use Rattle.photo_model.specs.Entry.{put_entries}
 use Rattle.photo_model.specs.Device.{ModelDevice, holds}
 use Rattle.photo_model.specs.Telling.{tell}
 
--- what the device holds is sorted anew into store and out; it has made nothing in its new epoch, knows nothing of every
--- picture, and of single pictures what it holds with all that this was made with
+-- the device sorts what it holds anew into store and out. Its counter is 0, it knows nothing for every picture, and for single
+-- pictures it knows the held versions with their histories
 abbrev pub refiltered : Tree → ModelDevice → ModelDevice
 refiltered tree m = record m {
   author = next_author m.author;

@@ -1,5 +1,5 @@
-//! What a device is and what is done to one: entries and which of them supersede which, model devices, making, narrowing,
-//! refiltering, conflicts and pulls. It holds definitions and laws, and knows no code that does any of it.
+//! Devices as definitions see them: entries, supersession, making, narrowing, refiltering, conflicts and pulls. The crate has
+//! definitions and laws only; it uses no code that carries them out.
 #![tactic(auto)]
 
 mod counts;

@@ -2,8 +2,8 @@
 /// Where a device holds a version.
 #[derive(Clone, Copy, Debug, PartialEq, Eq, Hash)]
 pub enum Place {
-    /// Among the versions that the device is to keep.
+    /// In the store: the versions that the device is to keep.
     Store,
-    /// Among those that it only keeps until another device takes them.
+    /// In the out: the versions that wait until another device takes them.
     Out,
 }

@@ -1,4 +1,4 @@
--- The date of a day number: counting the days off gives the date that they were counted to.
+-- The date of a day number: counting days off gives back the date from which they were counted.
 use Rattle.std.proofs.Common.{◌≡◌, ℕ, zero, suc, List, Some, ◌+◌, ◌-◌, ◌<◌, ◌≤◌, ℤ, pos, negsuc, ◌+ℤ◌, ◌≤ℤ◌, true, unsigned_abs, w16, w32, w64, to_z, of_z, inl, inr, refl, sym, ap, ◌∙◌, subst, arith}
 use Rattle.std.proofs.lemmas.Bool.{cond-true, cond-false, lt-ltb, le-ltb, cases_lt, and_from, le-leb}
 use Rattle.std.proofs.lemmas.Int.{ints, to_z-of_z, to_z_pos}
@@ -88,15 +88,15 @@ is_civil date day number counted same range = by date.year refl
         let before = day_count-lt_year (negsuc n) date.month date.day (pos 0) 1 1 is (omega arith) (omega (arith, signed_arith)) in
         absurd (omega (arith, signed_arith, days_from_civil-day_count (negsuc n) date.month date.day, day_count-zero, before, at, range.0))
 
--- a day's number as 64 bits
+-- a day's number survives widening to 64 bits
 pub widened : (wide number : ℤ) → IsDay number → wide ≡ to_z w32 (of_z w32 number) → to_z w64 (of_z w64 wide) ≡ number
 widened wide number range same =
     let is = same ∙ to_z-of_z w32 number (omega (arith, ints, range.0, range.1)) in
     ap (λ z. to_z w64 (of_z w64 z)) is ∙ to_z-of_z w64 number (omega (arith, ints, range.0, range.1))
 
--- ---- each day number has its date
+-- ---- each day number has a date
 
--- so many days after the first of a year lie in one of the years from it on
+-- so many days after the first of a year lie in that year or a later one
 record IsInYears (most year days : ℕ) (off : ℕ × ℕ) : Type 0 where
   from : year ≤ off.0
   to : off.0 ≤ year + most
@@ -132,7 +132,7 @@ years_off-in (suc most) year days below =
           })
     ]
 
--- and so many days after the first of a month in one of the months from it on
+-- so many days after the first of a month lie in that month or a later one
 record IsInMonths (most year month days : ℕ) (off : ℕ × ℕ) : Type 0 where
   from : month ≤ off.0
   to : off.0 ≤ month + most
@@ -193,7 +193,7 @@ date_of-in number range =
       counted = omega (arith, signed_arith, is, days_from_civil-day_count (pos y.0) m.0 (m.1 + 1), of_year, years.counted, months.counted, days_of_months-zero (pos y.0), day_count-zero);
     }
 
--- and no date but that one
+-- the date of a date's day number is that date
 pub date_of-number : (d : Civil) → is_date d ≡ true → date_of (day_number d) ≡ d
 date_of-number d is =
     let t = date_to d.year d.month d.day is in
@@ -208,7 +208,7 @@ day_number-in d is =
       omega (arith, signed_arith, days_from_civil-day_count (pos d.year) d.month d.day, day_count_bounds (pos d.year) d.month d.day valid),
     )
 
--- what the parts of a date are at most
+-- the greatest values of a date's parts
 pub record IsInRanges (d : Civil) : Type 0 where
   pub year : d.year ≤ 9999
   pub month : IsInRange 1 12 d.month
@@ -228,7 +228,7 @@ year_cast date d is high =
     subst (λ z. unsigned_abs (to_z w16 (of_z w16 z)) ≤ 9999) (sym is.year)
     (omega (arith, high, ap unsigned_abs (to_z_pos w16 d.year (omega arith))))
 
--- a text that writes a day's date is read as that day
+-- a text that writes the date of a day is read as that day
 pub read_back : (text : List ℕ) (day : ℤ) → IsDay day → IsWritten text (date_of day).year (date_of day).month (date_of day).day → day_of_text text ≡ Some day
 read_back text day range h =
     let date = date_of day in

@@ -1,4 +1,4 @@
--- What a text denotes as a day, step by step.
+-- Which day a text denotes, step by step.
 use Rattle.std.proofs.Common.{◌≡◌, ◌≢◌, ℕ, zero, suc, ◌+◌, ◌*◌, ◌-◌, ◌<◌, ◌≤◌, ◌^◌, Bool, true, false, ◌&&◌, if◌then◌else◌, ◌==◌, ◌⊎◌, inl, inr, List, [], ◌∷◌, ◌++◌, length, get_or, take, drop, Some, None, Result, Ok, Err, w8, w16, w32, to_z, of_z, ℤ, pos, neg_ℤ, ◌≤ℤ◌, refl, sym, ap, ◌∙◌, subst, arith}
 use Rattle.std.proofs.lemmas.Bool.{and_parts, and_from, and_left, and_right, le-ltb, eqb-true, eqb-false, cond-true, cond-false, leb-true, le-leb, lt-ltb, eq-eqb, ne_eqb, false_from_ne_true}
 use Rattle.std.proofs.lemmas.Int.{ints, to_z_pos, to_z-of_z}
@@ -64,7 +64,7 @@ a_number text some all =
     let digits = sym (all_digits_is text) ∙ all in
     (and_from _ _ (lt-ltb 0 (length text) (omega (arith, eqb-false (length text) 0 some))) digits, digits)
 
--- ---- a text with or without the form of a date
+-- ---- texts with and without the form of a date
 
 pub number_is : (text : List ℕ) (n : ℕ) → Some n ≡ (if is_number text then Some (number text) else None) → (is_number text ≡ true) × (n ≡ number text)
 number_is text n e = by (is_number text) e
@@ -90,7 +90,7 @@ other_form text other = no_day text (and_left _ _ other)
 pub other_length : (text : List ℕ) → length text ≢ 10 → None ≡ day_of_text text
 other_length text ne = other_form text (and_left _ _ (ne_eqb _ _ ne))
 
--- a text of another form at one of its places
+-- a text that breaks the form at one of its places
 abbrev after_year : List ℕ → Bool
 after_year text = is_number (month_digits text) && is_number (day_digits text)
 
@@ -163,7 +163,7 @@ date_to year month day h =
     let day_high = leb-true day (days_in_month (pos year) month) d.1 in
     ((omega (arith, ints), omega (arith, ints)), (omega (arith, ints), omega (arith, ints)), (omega (arith, ints), omega (arith, ints)))
 
--- ---- where the days begin
+-- ---- the first day
 
 pub day_count-zero : day_count (pos 0) 1 1 ≡ 3_652_425
 day_count-zero = day_count-early (pos 0) 9999 1 1 refl (omega arith) (omega arith) (omega arith)
@@ -177,7 +177,7 @@ pub days_from_zero : (year month day : ℕ) → 1 ≤ day → neg_ℤ (pos 719_5
 days_from_zero year month day first =
     omega (arith, signed_arith, days_from_civil-day_count (pos year) month day, day_count-from_zero year month day first)
 
--- ---- a date of the library
+-- ---- dates of the library
 
 pub month_short : (text : List ℕ) (month : ℕ) → Some month ≡ (if is_number (month_digits text) then Some (number (month_digits text)) else None) → month < 100
 month_short text month e =

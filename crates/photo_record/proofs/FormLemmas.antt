@@ -1,4 +1,4 @@
--- What a text denotes as a word, by its form C.
+-- Which word a text denotes, by its form C.
 use Rattle.std.proofs.Common.{◌≡◌, ◌≢◌, ℕ, ◌<◌, ◌≤◌, true, false, eqb, ◌==◌, List, [], ◌∷◌, length, chars, encode_utf8_all, IsUtf8, flat_map, Ok, Err, refl, sym, ap, ◌∙◌, subst, arith, length-append}
 use Rattle.std.proofs.lemmas.Bool.{lt-ltb, le-ltb, eq-eqb, ne_eqb, eqb-true, false≢true, cond-true, cond-false}
 use Rattle.std.proofs.lemmas.Str.{chars-nil, chars_from_encodes, encodes-chars}
@@ -25,7 +25,7 @@ length-nfd : (cs : List ℕ) → length cs ≤ length (nfd cs)
 unfolding decomposed
 length-nfd cs = omega (arith, no_shorter cs, ap length (normalize-Nfd cs), length-canonical_order (flat_map (decompose Nfd) cs))
 
--- form C of a text that isn't empty isn't empty
+-- if form C is empty, so is the text
 pub nfc_empty : (cs : List ℕ) → length (nfc cs) ≡ 0 → length cs ≡ 0
 nfc_empty cs none = omega (arith, length-nfd cs, ap length (sym (nfd-nfc cs) ∙ ap nfd (no_element (nfc cs) none) ∙ normalize-nil Nfd))
 

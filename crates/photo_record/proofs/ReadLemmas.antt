@@ -1,4 +1,4 @@
--- What is read is a word, or a set of words.
+-- Reading gives words and sets of words.
 use Rattle.std.proofs.Common.{◌≡◌, ◌≢◌, ℕ, ◌<◌, ◌≤◌, Bool, true, false, eqb, ltb, leb, cond, List, [], ◌∷◌, length, chars, encode_utf8_all, IsUtf8, Result, Ok, Err, refl, sym, ap, subst, ◌∙◌, arith}
 use Rattle.std.proofs.lemmas.Bool.{eqb-false, ltb-false, leb-false}
 use Rattle.std.proofs.lemmas.Str.{chars-nil, chars_from_encodes, encodes-chars}
@@ -12,12 +12,12 @@ use Rattle.photo_record.specs.declared.fault.WordFault.TheVariants.{Empty, BadCh
 use Rattle.photo_record.proofs.FormLemmas.{word_of_text-ok}
 use Rattle.photo_record.proofs.SetLemmas.{rising_put, length-put_word, words_of_text-dash, words_of_text-pieces}
 
--- a word is read as itself
+-- a word reads as itself
 pub word_itself : (w : List ℕ) → IsUtf8 w → IsWord w → word_of_text w ≡ Ok w
 word_itself w utf8 is =
     word_of_text-ok w w (record { text_utf8 = utf8; some = is.not_empty; utf8 = utf8; is = sym (ap encode_utf8_all is.in_form_c ∙ encodes-chars w utf8) }) is.no_bad_character is.short
 
--- ---- what is read is a word
+-- ---- reading a word gives a word
 
 record IsRead (form word w : List ℕ) : Type 0 where
   some : length form ≢ 0
@@ -46,7 +46,7 @@ word_is text w utf8 e =
       short = subst (λ b. length b ≤ 64) r.is r.short;
     }
 
--- ---- what is read is a set
+-- ---- reading a set gives a set
 
 ok_same : {x y : List (List ℕ)} → (let r : Result (List (List ℕ)) WordFault = Ok x in r) ≡ Ok y → x ≡ y
 ok_same e = cc

@@ -1,4 +1,4 @@
--- Sets of words as rising lists: a search, and one word more.
+-- Sets of words as rising lists: search and insertion.
 use Rattle.std.proofs.Common.{◌≡◌, ◌≢◌, ℕ, zero, suc, ◌+◌, ◌<◌, ◌≤◌, true, false, cond, ◌==◌, List, [], ◌∷◌, ◌++◌, length, get_or, slice_index_or, take, drop, Result, Ok, Err, refl, sym, ap, subst, ◌∙◌, add-one, arith, inl, inr}
 use Rattle.std.proofs.lemmas.Bool.{and_parts, and_from, or_parts, or_from, cases_Bool, cases_lt, lt-leb, cond-true, cond-false}
 use Rattle.std.proofs.lemmas.List.{get_or_read, take_more, at_drop_more, take-append-drop}
@@ -57,7 +57,7 @@ rising_tail v (w ∷ ws) h = (and_parts _ _ h).1
 rising_head : (v w : List ℕ) (ws : List (List ℕ)) → is_rising (v ∷ w ∷ ws) ≡ true → order v w ≡ Less
 rising_head v w ws h = less_from_before v w (and_parts _ _ h).0
 
--- what a binary search over the words asks
+-- what a binary search asks of the words' order
 next_after : (words : List (List ℕ)) → is_rising words ≡ true → (k : ℕ) (d : List ℕ) → suc k < length words → is_lt (order (get_or words (suc k) d) (get_or words k d)) ≡ false
 next_after [] h k d lt = absurd (omega arith)
 next_after (v ∷ []) h k d lt = absurd (omega arith)
@@ -75,7 +75,7 @@ has_word_none [] w h = refl
 has_word_none (v ∷ vs) w h =
     or_from _ _ (h zero v (omega arith)) (has_word_none vs w (λ k d lt. h (suc k) d (omega arith)))
 
--- a search that ended between two words: the word isn't there, and there it goes
+-- the search ended between two words: the word is absent and belongs there
 pub absent : (words : List (List ℕ)) (w : List ℕ) (i : ℕ) → IsPartitionPoint (λ y. order y w ≡ Less) (λ y. order y w ≡ Greater) words i → has_word words w ≡ false
 absent words w i p =
     has_word_none words w (λ k d lt. elim (cases_lt k i) [
@@ -94,7 +94,7 @@ placed (v ∷ vs) w (suc i) le p =
     let rest = placed vs w i (omega arith) (λ k d lo hi. p.0 (suc k) d (omega arith) (omega arith), λ k d lo hi. p.1 (suc k) d (omega arith) (omega arith)) in
     ap (λ ws. v ∷ ws) rest ∙ sym (ap (λ b. cond b (w ∷ v ∷ vs) (v ∷ put_word w vs)) after)
 
--- a search that found the word
+-- the search found the word
 pub present : (words : List (List ℕ)) (w : List ℕ) (i : ℕ) → i < length words → HoldsAt (λ y. order y w ≡ Equal) words i → has_word words w ≡ true
 present words w i lt h = list_any_at (λ v. bytes_eq v w) words i w lt (same-from_equal (get_or words i w) w (h w))
 
@@ -106,7 +106,7 @@ length-put_word w (v ∷ vs) =
       | inr after ↦ ap (λ b. length (cond b (w ∷ v ∷ vs) (v ∷ put_word w vs))) after ∙ omega (arith, length-put_word w vs)
     ]
 
--- of two words that differ one stands before the other
+-- of two different words one stands before the other
 other_before : (v w : List ℕ) → bytes_eq v w ≡ false → word_before w v ≡ false → word_before v w ≡ true
 other_before v w differ after = by (order v w) (order w v) (less_back v w) (let o : IsTotalOrder order = nat_list_cmp_total in o.antisymm v w) (sym (texts_ties v w) ∙ differ) after
   where
@@ -159,7 +159,7 @@ put_set words w set room none is = record {
   each = all_put w words set.each is;
 }
 
--- ---- one piece more
+-- ---- one more piece
 
 pub with_piece-present : (words : List (List ℕ)) (piece w : List ℕ) → length words < 16 → word_of_text piece ≡ Ok w → has_word words w ≡ true → with_piece words piece ≡ Err Repeated
 with_piece-present words piece w room is here =
@@ -171,12 +171,12 @@ with_piece-absent words piece w room is none =
     ap (λ t. cond t (Err TooMany) (word_of_text piece >>= with_new_word words)) (lt-leb 16 (length words) room)
     ∙ ap (λ r. r >>= with_new_word words) is ∙ ap (λ t. cond t (Err Repeated) (Ok (put_word w words))) none
 
--- a search of the set that found the piece's word
+-- the search found the piece's word in the set
 pub found : (self items : List (List ℕ)) (piece w : List ℕ) (i : ℕ) → items ≡ self → length items < 16 → word_of_text piece ≡ Ok w → i < length items → HoldsAt (λ y. order y w ≡ Equal) items i → with_piece self piece ≡ Err Repeated
 found self items piece w i same room is lt at =
     ap (λ ws. with_piece ws piece) (sym same) ∙ with_piece-present items piece w room is (present items w i lt at)
 
--- a search that found none, and the word put where it ended
+-- the search found no word, and the new one is inserted where it ended
 pub record IsInserted (self items new : List (List ℕ)) (w : List ℕ) (i : ℕ) : Type 0 where
   pub same : items ≡ self
   pub rising : is_rising items ≡ true
@@ -198,7 +198,7 @@ inserted_set self items new w i h set word =
     let e = h.is ∙ placed items w i h.within point in
     subst IsWordSet (sym e) (put_set items w set h.room (absent items w i point) word)
 
--- ---- one piece after another
+-- ---- all pieces in turn
 
 with_pieces-append : (words : List (List ℕ)) (xs ys : List (List ℕ)) → with_pieces words (xs ++ ys) ≡ (with_pieces words xs >>= λ more. with_pieces more ys)
 with_pieces-append words [] ys = refl
@@ -208,7 +208,7 @@ with_pieces-append words (x ∷ xs) ys = by (with_piece words x) (λ more. with_
     by (Ok more) step = step more
     by (Err e) step = refl
 
--- the set so far is that of the first pieces, and the next piece is met
+-- the set has the words of the first pieces, and the next piece is at hand
 pub record IsReadTo (pieces : List (List ℕ)) (k : ℕ) (words : List (List ℕ)) (piece : List ℕ) : Type 0 where
   pub before : with_pieces [] (take k pieces) ≡ Ok words
   pub within : k < length pieces
@@ -250,7 +250,7 @@ may_want text k words piece none h room some = record {
   piece = λ empty. some (get_or_read (pieces_of text) k piece h.within h.at [] ∙ empty);
 }
 
--- of a text that is read, the first piece is a word
+-- if a text is read as a set, its first piece is a word
 pub may_want-read : (text : List ℕ) (words : List (List ℕ)) → is_dash text ≡ false → words_of_text text ≡ Ok words → MayWantMemory text
 may_want-read text words none is = record {
   at = 0;

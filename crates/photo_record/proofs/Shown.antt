@@ -1,10 +1,10 @@
--- How values are shown: numbers with zeros in front, and words with commas between them.
+-- How values are shown: zero-padded numbers and words between commas.
 use Rattle.std.proofs.Common.{◌≡◌, ◌-◌, ◌^◌, ℕ, List, [], ◌∷◌, ◌++◌, length, replicate, codes, ap, ◌∙◌, append_assoc, append-nil, arith}
 use Rattle.std.specs.Fmt.{decimal, styled_decimal, format_spec, padded_integral, char_count}
 use Rattle.photo_record.specs.Calendar.{Civil}
 use Rattle.photo_record.specs.Showing.{padded_decimal}
 
--- `{:04}` and `{:02}`
+-- the formats `{:04}` and `{:02}`
 pub four_wide : (n : ℕ) → styled_decimal (format_spec 32 0 4 4 (2 ^ 64 - 1)) n ≡ padded_decimal 4 n
 unfolding padded_integral char_count
 four_wide n =
@@ -17,7 +17,7 @@ two_wide n =
     let zeros : 2 - length (decimal n) - 0 - 0 ≡ 2 - length (decimal n) = omega arith in
     ap (λ k. replicate k 48 ++ (decimal n ++ [])) zeros ∙ ap (λ t. replicate (2 - length (decimal n)) 48 ++ t) (append-nil (decimal n))
 
--- the texts of three numbers with zeros in front, and dashes between them
+-- three zero-padded numbers with dashes between them are the text of a date
 pub date_shown : (date : Civil) (first second third : List ℕ) (year month day : ℕ) → first ≡ styled_decimal (format_spec 32 0 4 4 (2 ^ 64 - 1)) year
     → second ≡ styled_decimal (format_spec 32 0 4 2 (2 ^ 64 - 1)) month → third ≡ styled_decimal (format_spec 32 0 4 2 (2 ^ 64 - 1)) day
     → year ≡ date.year → month ≡ date.month → day ≡ date.day

@@ -23,7 +23,7 @@ pub record TheDays : Type 0 where
   -- the last digit is U+0663
   pub other_digit : day_of_text (codes "2024-01-0" ++ 0xd9 ∷ 0xa3 ∷ []) ≡ None
 
--- é is the bytes c3 a9 in form C, and also 65 cc 81, where a mark follows a letter
+-- é is the bytes c3 a9 in form C; it can also be written 65 cc 81, a letter and a mark
 pub record TheWords : Type 0 where
   pub composed : word_of_text (0x65 ∷ 0xcc ∷ 0x81 ∷ []) ≡ Ok (0xc3 ∷ 0xa9 ∷ [])
   pub empty : word_of_text [] ≡ Err Empty
@@ -43,10 +43,10 @@ pub record TheSets : Type 0 where
   pub sixteen : words_of_text (codes "p,o,n,m,l,k,j,i,h,g,f,e,d,c,b,a")
       ≡ Ok (codes "a" ∷ codes "b" ∷ codes "c" ∷ codes "d" ∷ codes "e" ∷ codes "f" ∷ codes "g" ∷ codes "h"
       ∷ codes "i" ∷ codes "j" ∷ codes "k" ∷ codes "l" ∷ codes "m" ∷ codes "n" ∷ codes "o" ∷ codes "p" ∷ [])
-  -- the seventeenth piece is not read
+  -- the seventeenth piece isn't read
   pub seventeen : words_of_text (codes "a,b,c,d,e,f,g,h,i,j,k,l,m,n,o,p,(") ≡ Err TooMany
 
--- 2024-05-01 is the day 19844
+-- 2024-05-01 is day 19844
 pub record TheShown : Type 0 where
   pub picture : record_text (Picture 5 (pos 19_844) (codes "beach" ∷ codes "sun" ∷ [])) ≡ codes "rating 5 day 2024-05-01 words beach,sun"
   pub no_words : record_text (Picture 3 (pos 19_844) []) ≡ codes "rating 3 day 2024-05-01 words -"

@@ -10,21 +10,21 @@ use Rattle.photo_record.specs.Word.{is_bad_character, has_word, put_word}
 use Rattle.photo_record.specs.declared.fault.WordFault.{WordFault}
 use Rattle.photo_record.specs.declared.fault.WordFault.TheVariants.{Empty, BadCharacter, TooLong, TooMany, Repeated}
 
--- a rating is written as one digit
+-- the rating that a text writes: one digit, 0 to 5
 abbrev pub rating_of_text : List ℕ → Option ℕ
 rating_of_text [] = None
 rating_of_text (digit ∷ []) = if nat_le 48 digit && nat_le (digit - 48) max_rating then Some (digit - 48) else None
 rating_of_text (digit ∷ next ∷ more) = None
 
--- digits alone, and at least one
+-- the text is one or more ASCII digits
 abbrev pub is_number : List ℕ → Bool
 is_number text = nat_lt 0 (length text) && all_ascii_digits text
 
--- what digits stand for
+-- the value of a string of decimal digits
 abbrev pub number : List ℕ → ℕ
 number digits = digits_value 10 digits
 
--- a date is written YYYY-MM-DD
+-- The parts of a date that is written YYYY-MM-DD.
 abbrev pub year_digits : List ℕ → List ℕ
 year_digits text = take 4 text
 
@@ -42,12 +42,12 @@ has_date_form text =
 abbrev pub written_date : List ℕ → Civil
 written_date text = civil (number (year_digits text)) (number (month_digits text)) (number (day_digits text))
 
--- the day number of the date that a text writes, where it writes one
+-- the day number of the date that a text writes, if it writes one
 unfoldable pub day_of_text : List ℕ → Option ℤ
 day_of_text text =
     if has_date_form text && is_date (written_date text) then Some (day_number (written_date text)) else None
 
--- the word that a text denotes: its form C, or the first fault of that
+-- the word that a text denotes, its form C, or the first fault of that form
 unfoldable pub word_of_text : List ℕ → Result (List ℕ) WordFault
 word_of_text text =
     let form = nfc (chars text) in
@@ -62,21 +62,21 @@ abbrev pub ◌>>=◌ : {A B : Type 0} → Result A WordFault → (A → Result B
 (Ok x) >>= f = f x
 (Err e) >>= f = Err e
 
--- a set with one word more, which has to be new
+-- a set with one more word, which must be new
 abbrev pub with_new_word : List (List ℕ) → List ℕ → Result (List (List ℕ)) WordFault
 with_new_word words w = if has_word words w then Err Repeated else Ok (put_word w words)
 
--- a set with the word of one more piece: there may be sixteen words
+-- a set with the word of one more piece; a seventeenth piece is refused before it is read
 abbrev pub with_piece : List (List ℕ) → List ℕ → Result (List (List ℕ)) WordFault
 with_piece words piece =
     if nat_le max_words (length words) then Err TooMany else (word_of_text piece >>= with_new_word words)
 
--- a set with the words of all pieces, or the first fault that the pieces have from the left
+-- a set with the words of all pieces, or the first fault from the left
 abbrev pub with_pieces : List (List ℕ) → List (List ℕ) → Result (List (List ℕ)) WordFault
 with_pieces words [] = Ok words
 with_pieces words (piece ∷ pieces) = with_piece words piece >>= λ more. with_pieces more pieces
 
--- what stands between the commas
+-- the pieces between the commas
 abbrev pub pieces_of : List ℕ → List (List ℕ)
 pieces_of text = slice_split (λ b. b == 44) text
 
@@ -87,7 +87,7 @@ is_dash text = bytes_eq text (codes "-")
 unfoldable pub words_of_text : List ℕ → Result (List (List ℕ)) WordFault
 words_of_text text = if is_dash text then Ok [] else with_pieces [] (pieces_of text)
 
--- reading the text comes to a piece that isn't empty, with no fault before it: memory may be asked for there
+-- the reader reaches a piece that isn't empty, with no fault before it, so it may ask for memory
 pub record MayWantMemory (text : List ℕ) : Type 0 where
   pub at : ℕ
   pub words : List (List ℕ)

@@ -1,4 +1,4 @@
--- Machinery of the proofs: the words behind the shared pointer of `Words`. No pointer stands for no word.
+-- Machinery of the proofs: the words behind the shared pointer of `Words`; without a pointer there are none.
 use Rattle.std.specs.Prelude.{ℕ, List, [], Option, Some, None}
 use Rattle.std.specs.Arc.{arc_value}
 use Rattle.std.specs.declared.sync.Arc.{Arc}

@@ -1,4 +1,4 @@
-//! Going over the words of a set.
+//! Iteration over the words of a set.
 ghost use Rattle.std.specs.Prelude.{◌≡◌};
 ghost use Rattle.std.specs.Slice.Iter.{iter_rest};
 ghost use Rattle.std.specs.Iterator.Adapters.{IterYieldsInOrder};
@@ -7,7 +7,7 @@ use crate::{Word, Words};
 use std::slice;
 
 impl Words {
-    /// The words, in the order of bytes.
+    /// The words, in the order of their bytes.
     pub fn iter(&self) -> slice::Iter<'_, Word>
         ensures words { iter_rest result ≡ self.now }
         ensures in_order { IterYieldsInOrder Word }

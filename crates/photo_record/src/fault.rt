@@ -1,7 +1,7 @@
-//! Why a text is no word, or no set of words.
+//! Why a text isn't a word or a set of words.
 use thiserror::Error;
 
-/// Why a text is no word, or no set of words.
+/// Why a text isn't a word or a set of words.
 #[derive(Clone, Copy, Debug, PartialEq, Eq, Drop, Error)]
 pub enum WordFault {
     /// A word has no character.
@@ -19,7 +19,7 @@ pub enum WordFault {
     /// There are over 16 words.
     #[error("TooMany")]
     TooMany,
-    /// A word stands there twice.
+    /// A word stands in the set twice.
     #[error("Repeated")]
     Repeated,
 }

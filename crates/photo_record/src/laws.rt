@@ -1,4 +1,4 @@
-//! Laws of what texts denote. Each function's contract is a law, and its body does nothing.
+//! Laws of what texts denote. Each function's contract states a law; its body is empty.
 ghost use Rattle.std.specs.Prelude.{◌≡◌, ℕ, ◌≤◌, true, ℤ, List, length, Ok};
 ghost use Rattle.std.specs.Str.{IsUtf8};
 ghost use Rattle.std.specs.Cmp.Lexicographic.{slice_cmp};
@@ -11,26 +11,26 @@ ghost use Rattle.photo_record.specs.Examples.{TheRatings, TheDays, TheWords, The
 
 use crate::{Day, PicNo, Rating, Word};
 
-/// The days of the range and the dates of the years 0 to 9999 are the same, one to one.
+/// Day numbers in range and dates of the years 0 to 9999 correspond one to one.
 pub fn days_are_dates()
     ensures dates { (day : ℤ) → IsDay day → IsDateOf day (date_of day) }
     ensures days { (d : Civil) → is_date d ≡ true → IsDay (day_number d) }
     ensures one_to_one { (d : Civil) → is_date d ≡ true → date_of (day_number d) ≡ d }
 {}
 
-/// What is read as a word is a word, and a word is read as itself.
+/// Reading a word gives a word, and a word reads as itself.
 pub fn words_are_read(text: &str)
     ensures word { (w : List ℕ) → IsUtf8 w → word_of_text text.now ≡ Ok w → IsWord w }
     ensures itself { IsWord text.now → word_of_text text.now ≡ Ok text.now }
 {}
 
-/// A set that is read rises, so it has no word twice, and it has at most sixteen words.
+/// A set that is read is in rising order, so it has no word twice, and it has at most sixteen words.
 pub fn sets_are_read(text: &str)
     ensures rising { (words : List (List ℕ)) → words_of_text text.now ≡ Ok words → is_rising words ≡ true }
     ensures few { (words : List (List ℕ)) → words_of_text text.now ≡ Ok words → length words ≤ max_words }
 {}
 
-/// Ratings, picture numbers and days are ordered as the numbers that contracts see, and words by their bytes.
+/// Ratings, picture numbers and days are ordered by their numbers, and words by their bytes.
 pub fn orders()
     ensures ratings { (a b : ℕ) → ⟦<Rating as Ord>⟧.cmp a b ≡ nat_cmp a b }
     ensures pictures { (a b : ℕ) → ⟦<PicNo as Ord>⟧.cmp a b ≡ nat_cmp a b }
@@ -38,7 +38,7 @@ pub fn orders()
     ensures words { (v w : List ℕ) → ⟦<Word as Ord>⟧.cmp v w ≡ slice_cmp nat_cmp v w }
 {}
 
-/// The definitions at some texts and values.
+/// The definitions, worked for some texts and values.
 pub fn examples()
     ensures ratings { TheRatings }
     ensures days { TheDays }

@@ -1,5 +1,5 @@
-//! Ratings, days, picture numbers, words and records: the values that a photo collection is made of. Its invariant: **a value
-//! is one that a text can denote**, so numbers and days are in range, words in form C, and sets of words in order.
+//! Ratings, days, picture numbers, words and records: the values of a photo collection. Invariant: **each value is one that a
+//! text can denote**. Numbers and days are in range, words are in form C, and sets of words are in order.
 #![tactic(auto)]
 
 mod day;

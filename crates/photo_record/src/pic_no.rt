@@ -25,7 +25,7 @@ impl Model for PicNo {
 }
 
 impl PicNo {
-    /// The picture number of that value, `None` at 0 and above 999,999,999.
+    /// The picture number of that value; `None` for 0 and above 999,999,999.
     pub fn new(value: u32) -> Option<PicNo>
         ensures { SomeIff result (IsPicNo value) value }
     {

@@ -26,7 +26,7 @@ impl Model for Rating {
 }
 
 impl Rating {
-    /// The rating of that value, `None` above 5.
+    /// The rating of that value; `None` above 5.
     pub fn new(value: u8) -> Option<Rating>
         ensures { SomeIff result (value ≤ max_rating) value }
     {
@@ -36,7 +36,7 @@ impl Rating {
         Some(Rating { value })
     }
 
-    /// The rating that a text writes: one ASCII digit, 0 to 5.
+    /// The rating that a text writes, one ASCII digit from 0 to 5; `None` for any other text.
     pub fn read(text: &str) -> Option<Rating>
         ensures { result ≡ rating_of_text text.now }
     {

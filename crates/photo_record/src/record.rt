@@ -4,7 +4,7 @@ ghost use Rattle.std.specs.Prelude.{◌≡◌, IfOk};
 use crate::{Day, Rating, Words};
 use std::alloc::AllocError;
 
-/// What a version of a picture says: how the picture is rated, its day and its words, or that it was removed.
+/// What a version says of its picture: its rating, its day and its words, or that it was removed.
 #[derive(Debug, PartialEq, Eq, Drop)]
 pub enum Record {
     Picture {
@@ -16,8 +16,7 @@ pub enum Record {
 }
 
 impl Record {
-    /// An equal record, which shares its words with this one and takes no memory. Its only error is that of
-    /// [`Words::try_clone`].
+    /// An equal record that shares its words with this one and takes no memory. Its only error is that of [`Words::try_clone`].
     pub fn try_clone(&self) -> Result<Record, AllocError>
         ensures { IfOk result (λ copy. copy ≡ self.now) }
     {

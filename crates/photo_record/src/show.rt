@@ -1,4 +1,4 @@
-//! How values are shown: as reports show them.
+//! How values are shown in reports.
 ghost use Rattle.std.specs.Prelude.{◌∷◌, Some};
 ghost use Rattle.std.specs.Fmt.{DisplaysOnOk, decimal, styled_decimal, styled_text};
 ghost use Rattle.std.specs.List.{flat_map};
@@ -58,7 +58,7 @@ impl fmt::Display for Words {
     }
 }
 
-// Each word with a comma in front.
+// Writes each word behind a comma.
 fn fmt_behind_commas<W: fmt::Write>(words: &[Word], f: &mut fmt::Formatter<W>) -> fmt::Result
     ensures { DisplaysOnOk W.write_str_gives f.old result (Some (flat_map (λ word. 44 ∷ word) words.now)) f.new }
 {

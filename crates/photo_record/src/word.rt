@@ -16,7 +16,7 @@ use unicode_normalization::to_nfc;
 // The most bytes of a word in form C.
 const MAX_WORD_BYTES: usize = 64;
 
-/// A word, in Unicode's normalization form C. Contracts see its UTF-8 bytes, and words are ordered by these.
+/// A word in Unicode's normalization form C. Contracts see its UTF-8 bytes, and words are ordered by these bytes.
 #[derive(Debug, Drop)]
 pub struct Word {
     text: String,
@@ -36,8 +36,8 @@ impl Word {
 
     /// The word that a text denotes: its form C.
     ///
-    /// Refused with the first of `Empty`, `BadCharacter` and `TooLong` that holds of the form. `NoMemory` comes
-    /// only while the form is made, so not for an empty text.
+    /// The error is the first of `Empty`, `BadCharacter` and `TooLong` that holds of the form. `NoMemory` comes only while the
+    /// form is made, so never for an empty text.
     pub fn read(alloc: Global, text: &str) -> Result<Word, WordFault>
         ensures read { IfOk result (λ word. word_of_text text.now ≡ Ok word) }
         ensures refused { IfErr result (λ fault. fault ≢ NoMemory → word_of_text text.now ≡ Err fault) }
@@ -66,7 +66,7 @@ impl Word {
         &self.text
     }
 
-    /// An equal word. Its only error is want of memory.
+    /// An equal word. Its only error is `AllocError`, for want of memory.
     pub fn try_clone(&self) -> Result<Word, AllocError>
         ensures { IfOk result (λ copy. copy ≡ self.now) }
     {

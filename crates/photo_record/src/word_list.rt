@@ -1,4 +1,4 @@
-//! The pieces of a set of words, as they are read.
+//! The words of a set while it is read.
 ghost use Rattle.std.specs.Prelude.{◌≡◌, ℕ, false, ◌<◌, List, [], length, IfOk, IfErr, OnOk, Ok, Err, ◌≢◌};
 ghost use Rattle.photo_record.specs.Limits.{max_words};
 ghost use Rattle.photo_record.specs.Word.{IsWordSet};
@@ -10,7 +10,7 @@ use std::marker::Model;
 // The most words of one set.
 const MAX_WORDS: usize = 16;
 
-// The words of a set that is being read, in the order of bytes.
+// The words read so far, in the order of their bytes.
 #[derive(Debug, Drop)]
 pub(crate) struct WordList {
     items: Vec<Word>,
@@ -28,7 +28,7 @@ impl WordList {
     ghost use Rattle.photo_record.specs.Reading.{words_of_text, with_piece, is_dash, MayWantMemory};
     ghost use Rattle.photo_record.specs.declared.fault.WordFault.TheVariants.{NoMemory};
 
-    // The words that stand between the text's commas.
+    // Reads the words between the text's commas. The text isn't `-`, which denotes the empty set.
     pub(crate) fn read(alloc: Global, text: &str) -> Result<WordList, WordFault>
         requires { is_dash text.now ≡ false }
         ensures read { IfOk result (λ words. words_of_text text.now ≡ Ok words) }

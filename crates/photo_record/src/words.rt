@@ -11,9 +11,9 @@ use std::alloc::{AllocError, Global};
 use std::marker::Model;
 use std::sync::Arc;
 
-/// A set of at most 16 words. Contracts see the list of its words in the order of bytes.
+/// A set of at most 16 words. Contracts see its words as a list in the order of their bytes.
 ///
-/// A set never changes, so copies of it share its words. The empty set takes no memory.
+/// A set never changes, so its copies share its words. The empty set takes no memory.
 #[derive(Debug, Drop)]
 pub struct Words {
     shared: Option<Arc<WordList>>,
@@ -31,10 +31,10 @@ impl Words {
     ghost use Rattle.photo_record.specs.Reading.{words_of_text, MayWantMemory};
     ghost use Rattle.photo_record.specs.declared.fault.WordFault.TheVariants.{NoMemory};
 
-    /// The set that a text denotes: `-` alone is the empty set, and otherwise words stand between commas.
+    /// The set that a text denotes: `-` is the empty set, and in any other text commas separate the words.
     ///
-    /// Refused with the first fault that the pieces have, from the left: `TooMany` at the 17th, before it is
-    /// read, then the word's own, then `Repeated`. `NoMemory` comes in place of what would follow.
+    /// The error is the first fault from the left. At each piece `TooMany` comes first, at the 17th before it is read, then the
+    /// word's own fault, then `Repeated`. `NoMemory` comes in place of what would follow.
     pub fn read(alloc: Global, text: &str) -> Result<Words, WordFault>
         ensures read { IfOk result (λ words. words_of_text text.now ≡ Ok words) }
         ensures refused { IfErr result (λ fault. fault ≢ NoMemory → words_of_text text.now ≡ Err fault) }
@@ -62,7 +62,7 @@ impl Words {
         }
     }
 
-    /// How many words there are, at most 16.
+    /// The number of words, at most 16.
     pub fn len(&self) -> usize
         ensures value { result ≡ length self.now }
         ensures set { IsWordSet self.now }
@@ -70,14 +70,14 @@ impl Words {
         self.as_slice().len()
     }
 
-    /// Whether there is no word.
+    /// Whether the set has no words.
     pub fn is_empty(&self) -> bool
         ensures { IsTrue result ↔ (self.now ≡ []) }
     {
         self.as_slice().is_empty()
     }
 
-    /// The word at place `i`, from 0, in the order of bytes.
+    /// The word at index `i`, from 0, in the order of bytes.
     pub fn get(&self, i: usize) -> &Word
         requires { i < length self.now }
         ensures { slice_get self.now i ≡ Some result.now }
@@ -92,7 +92,7 @@ impl Words {
         self.as_slice().contains(word)
     }
 
-    /// An equal set, which shares its words with this one and takes no memory. Its only error is that over
+    /// An equal set that shares its words with this one and takes no memory. Its only error is that over
     /// 9,223,372,036,854,775,807 sets would share them.
     pub fn try_clone(&self) -> Result<Words, AllocError>
         ensures { IfOk result (λ copy. copy ≡ self.now) }

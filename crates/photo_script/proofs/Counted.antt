@@ -1,4 +1,4 @@
--- What reports say was moved.
+-- How many versions the reports count as moved.
 use Rattle.std.proofs.Common.{◌≡◌, ◌≤◌, ◌<◌, ◌+◌, ◌*◌, ◌∷◌, ℕ, suc, List, [], length, map, get_or, drop, drop-cons, refl, sym, ap, ◌∙◌, arith}
 use Rattle.std.specs.List.{AllByRecursion, AllZip, sum_by}
 use Rattle.std.proofs.lemmas.List.{length-map}
@@ -12,7 +12,7 @@ use Rattle.photo_script.specs.Tallies.{moved_by}
 use Rattle.photo_script.specs.declared.report.Report.{Report}
 use Rattle.photo_script.specs.declared.report.Report.TheVariants as report
 
--- the right answer says what the report of the model says
+-- the right answer counts what the model report counts
 moved_as_told : (a : Answer) (r : ModelReport) → Tells a r → moved_by a ≡ moved_by_report r
 moved_as_told a (Exactly right) told = ap moved_by told
 moved_as_told a (KnowledgeIs device known) told = ap moved_by told.given
@@ -24,7 +24,7 @@ moved_as_all_told (a ∷ more) [] told = absurd told
 moved_as_all_told (a ∷ more) (r ∷ rs) told =
     rw (sum_by-cons moved_by a more, sum_by-cons moved_by_report r rs, moved_as_told a r told.0, moved_as_all_told more rs told.1) refl
 
--- each moved few
+-- each report counts few versions, so all together count few
 moved_in_all : (answers : List Answer) → AllByRecursion (λ a. moved_by a ≤ max_moved) answers → sum_by moved_by answers ≤ max_moved * length answers
 moved_in_all [] each = omega arith
 moved_in_all (a ∷ more) each =
@@ -32,7 +32,7 @@ moved_in_all (a ∷ more) each =
     let rest : sum_by moved_by more ≤ max_moved * length more = moved_in_all more each.1 in
     rw (sum_by-cons moved_by a more) (omega arith)
 
--- so what they moved up to a pull, and the pull with them, is no more than all of them may move
+-- the versions moved up to and with one pull are at most what all reports can move
 pub moved_so_far : (reports : List Report) (i moved : ℕ) (x : Report) (counts : PullCounts)
     → i < length reports → length reports ≤ max_commands → AllByRecursion (λ a. moved_by a ≤ max_moved) (map answer_of reports)
     → x ≡ get_or reports i x → x ≡ report.Pulled counts

@@ -1,4 +1,4 @@
--- Words with commas between them, and items in the same way, one more at a time.
+-- Words and other items joined by a separator, one at a time.
 use Rattle.std.proofs.Common.{◌≡◌, ◌≢◌, ◌<◌, ◌≤◌, ◌+◌, ◌∷◌, ◌++◌, ℕ, List, [], length, take, map, get_or, slice_get, Some, refl, sym, ap, ◌∙◌, append_assoc, append-nil, arith}
 use Rattle.std.specs.List.{join_with_byte}
 use Rattle.std.proofs.lemmas.List.{length-map, take_more, length-take-le, take_all, map-append}
@@ -14,7 +14,7 @@ join-push c [] y some = absurd (omega arith)
 join-push c (x ∷ []) y some = refl
 join-push c (x ∷ z ∷ zs) y some = ap (λ t. x ++ (c ∷ t)) (join-push c (z ∷ zs) y (omega arith)) ∙ sym (append_assoc x (c ∷ join_with_byte c (z ∷ zs)) (c ∷ y))
 
--- one word more behind some
+-- one more word
 pub join-turn : (ws : List (List ℕ)) (i : ℕ) (w : List ℕ) → 1 ≤ i → slice_get ws i ≡ Some w → join_with_byte 44 (take (i + 1) ws) ≡ join_with_byte 44 (take i ws) ++ (44 ∷ w)
 join-turn ws i w some at =
     let within : i < length ws = slice_get_within ws i w at in
@@ -32,12 +32,12 @@ pub join-all : (ws : List (List ℕ)) (n : ℕ) → ws ≢ [] → length ws ≤ 
 join-all [] n some whole = absurd (some refl)
 join-all (w ∷ ws) n some whole = ap (join_with_byte 44) (take_all n (w ∷ ws) whole)
 
--- what is written of the first items
+-- the text of the first items
 abbrev pub joined_to : {X : Type 0} → ℕ → (X → List ℕ) → List X → ℕ → List ℕ
 joined_to c text xs i = join_with_byte c (map text (take i xs))
 
 module _ {X : Type 0} (c : ℕ) (text : X → List ℕ) (xs : List X) where
-  -- one item more behind some
+  -- one more item
   pub joined_to-more : (i : ℕ) (d : X) → 1 ≤ i → i < length xs → joined_to c text xs (i + 1) ≡ joined_to c text xs i ++ (c ∷ text (get_or xs i d))
   joined_to-more i d some within =
       let front : length (map text (take i xs)) ≡ i = length-map (take i xs) text ∙ length-take-le i xs (omega arith) in
@@ -59,7 +59,7 @@ pub pictures-all : (ps : List ℕ) (n : ℕ) → 0 < length ps → length ps ≤
 pictures-all [] n some whole = absurd (omega arith)
 pictures-all (p ∷ ps) n some whole = joined_to-all 44 decimal (p ∷ ps) n whole
 
--- what comes behind the first bound: each of the others behind a space
+-- the bounds after the first, each behind a space
 abbrev pub bounds_behind : Contents → List Entry → List ℕ
 bounds_behind script [] = []
 bounds_behind script (e ∷ es) = (32 ∷ bound_text script e) ++ bounds_behind script es

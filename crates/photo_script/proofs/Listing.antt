@@ -1,4 +1,4 @@
--- Lists through a map, and held versions as the entries of a list.
+-- Mapped lists, and held versions as the entries of a list.
 use Rattle.std.proofs.Common.{◌≡◌, ◌<◌, ◌∷◌, ◌++◌, ℕ, zero, suc, List, [], length, get_or, map, refl, ap, subst, sym, arith}
 use Rattle.std.specs.List.{flat_map, AllByRecursion}
 use Rattle.photo_model.specs.Entry.{Entry}
@@ -7,7 +7,7 @@ use Rattle.photo_device.specs.declared.held.Held.{Held}
 use Rattle.fleet_model.specs.Contents.{Contents}
 use Rattle.photo_script.specs.Reports.{AreOfScript, IsOfScript}
 
--- what holds of each image holds of that of the item at a place
+-- what holds of each image holds of the image of the element at a place
 pub all_map_at : {X Y : Type 0} (P : Y → Type 0) (f : X → Y) (xs : List X) (k : ℕ) (x : X) → AllByRecursion P (map f xs) → k < length xs → x ≡ get_or xs k x → P (f x)
 all_map_at {X} {Y} P f xs k x all h is = subst (λ (y : X). P (f y)) (sym is) (at xs k all h)
   where

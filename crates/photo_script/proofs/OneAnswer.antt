@@ -1,4 +1,4 @@
--- A knowledge has one normal form, and so one right answer.
+-- A knowledge has one normal form, so it has one right answer.
 use Rattle.std.proofs.Common.{sym, ap, ◌∙◌}
 use Rattle.item_knowledge.proofs.FragmentLemmas.{one_normal}
 use Rattle.photo_script.specs.Laws.{AnswersAreOne}

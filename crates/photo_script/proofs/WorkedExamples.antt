@@ -1,4 +1,4 @@
--- The worked examples compute by the definitions alone.
+-- The worked examples, by computation.
 use Rattle.std.specs.Prelude.{refl}
 use Rattle.std.specs.Str.{chars, is_utf8}
 use Rattle.std.specs.Fmt.{digits}

@@ -1,4 +1,4 @@
--- Reports, worked, and a script with its reports.
+-- Worked reports, and a script with its reports.
 use Rattle.std.specs.Prelude.{◌≡◌, ℕ, true, false, pos, List, [], ◌∷◌, Ok, codes}
 use Rattle.photo_record.specs.declared.record.Record.{Record}
 use Rattle.photo_record.specs.declared.record.Record.TheVariants as content
@@ -21,11 +21,11 @@ use Rattle.fleet_model.specs.Answers.{Made, NotHeld, NotNarrower, Narrowed, Refi
 use Rattle.photo_script.specs.Reports.{Plain, KnowledgeOf, text_of}
 use Rattle.fleet_model.specs.declared.command.Command.TheVariants as command
 
--- a picture of the beach
+-- the record of a picture of the beach
 abbrev pub beach : Record
 beach = content.Picture 5 (pos 19_844) (codes "beach" ∷ codes "sun" ∷ [])
 
--- a camera that makes it, and lists what it holds
+-- a camera makes the picture and lists what it holds
 abbrev pub camera : Contents
 camera = contents (codes "cam" ∷ []) (All ∷ []) (command.New 0 7 beach ∷ command.List 0 ∷ [])
 
@@ -40,11 +40,12 @@ pub record FirstRun : Type 0 where
 abbrev pub fragment : List ℕ → List knowledge.Entry → Fragment
 fragment pictures entries = record { pictures = pictures; entries = entries }
 
--- the last version that is known of a device in an epoch
+-- the bound of a device in an epoch: an author with its last known version
 abbrev pub bound : ℕ → ℕ → ℕ → knowledge.Entry
 bound device epoch number = (author_word (author_at device epoch), number)
 
--- what devices know, a line a fragment: nothing; four versions of every picture; more of two pictures and of a third
+-- the knowledge of devices, one line for each fragment: nothing; four versions for every picture; more for two pictures and for
+-- a third
 pub record KnownTexts : Type 0 where
   pub nothing : text_of (pair []) 1 (KnowledgeOf 0 (fragment [] [] ∷ [])) ≡ codes "1 knowledge a 1\n  * -\n"
   pub star : text_of (pair []) 7 (KnowledgeOf 0 (fragment [] (bound 0 0 4 ∷ []) ∷ [])) ≡ codes "7 knowledge a 1\n  * a:4\n"
@@ -60,8 +61,8 @@ pub record LaterEpochTexts : Type 0 where
 abbrev pub conflict : ℕ → List Version → Conflict
 conflict picture versions = record { picture = picture; versions = versions }
 
--- what a pull moved and one would, where versions are after another filter, how many a narrower one moved, a picture that
--- isn't held, a filter that isn't narrower, and conflicts
+-- reports on a pull, a preview, a refiltering, a narrowing, a picture that isn't held, a filter that isn't narrower, and
+-- conflicts
 pub record MovedTexts : Type 0 where
   pub pulled : text_of (pair []) 5 (Plain (Pulled (record { taken = 1; handed = 0; notices = 0; dropped = 0; learned = true })))
       ≡ codes "5 pulled taken 1 handed 0 notices 0 dropped 0 learned yes\n"
@@ -78,22 +79,22 @@ pub record MovedTexts : Type 0 where
       ≡ codes "9 conflicts b 2\n  7 a:2 b:1\n  12 a:1 a:3 b:5\n"
   pub none : text_of (pair []) 6 (Plain (Conflicts 0 [])) ≡ codes "6 conflicts a 0\n"
 
--- two devices, neither filter of which covers the other's, make versions of one picture and pull three times
+-- two devices, whose filters don't cover each other, make versions of one picture and pull three times
 abbrev pub two_versions : Contents
 two_versions = contents (codes "a" ∷ codes "b" ∷ []) (Rate AtLeast 1 ∷ Rate AtMost 4 ∷ [])
     (command.New 0 7 (content.Picture 3 (pos 19_723) []) ∷ command.Pull 1 0 ∷ command.Edit 0 7 (content.Picture 4 (pos 19_723) [])
     ∷ command.Edit 1 7 (content.Picture 2 (pos 19_723) []) ∷ command.Pull 0 1 ∷ command.Conflicts 0 ∷ command.Knowledge 0
     ∷ command.Edit 0 7 (content.Picture 3 (pos 19_723) []) ∷ command.Pull 1 0 ∷ [])
 
--- a version that its device doesn't keep is handed over by a pull, and one that it keeps is taken. An edit, a removal and
--- a filter are refused, and a version is asked for that is never made
+-- a pull is handed a version that the source doesn't keep, and takes one that it keeps; an edit, a removal and a filter are
+-- refused; and `knows` asks for a version that is never made
 abbrev pub each_refused : Contents
 each_refused = contents (codes "a" ∷ codes "b" ∷ []) (Rate AtLeast 4 ∷ All ∷ [])
     (command.New 0 1 (content.Picture 3 (pos 19_723) []) ∷ command.New 0 2 (content.Picture 5 (pos 19_723) []) ∷ command.Pull 1 0
     ∷ command.Edit 0 9 (content.Picture 5 (pos 19_723) []) ∷ command.Remove 1 9 ∷ command.Narrow 0 All ∷ command.List 0
     ∷ command.Knows 1 7 (version (author 0) 9) ∷ [])
 
--- a pull is told before and after it, and then its target gets a filter that isn't narrower, and takes once more
+-- a preview comes before and after a pull; then the target is refiltered and pulls again
 abbrev pub told_and_refiltered : Contents
 told_and_refiltered = contents (codes "a" ∷ codes "b" ∷ []) (All ∷ Rate AtLeast 4 ∷ [])
     (command.New 0 1 (content.Picture 5 (pos 19_723) []) ∷ command.New 0 2 (content.Picture 2 (pos 19_723) []) ∷ command.Preview 1 0
@@ -102,7 +103,7 @@ told_and_refiltered = contents (codes "a" ∷ codes "b" ∷ []) (All ∷ Rate At
 abbrev pub totals : ℕ → ℕ → ℕ → ℕ → Totals
 totals changes pulls reports moved = record { changes = changes; pulls = pulls; reports = reports; moved = moved }
 
--- the commands of runs by their kinds, and what their pulls moved
+-- the commands of runs by kind, and the versions that their pulls moved
 pub record Counts : Type 0 where
   pub empty : totals_of (contents [] [] []) (run (contents [] [] [])) ≡ totals 0 0 0 0
   pub silent : totals_of (pair []) (run (pair [])) ≡ totals 0 0 0 0

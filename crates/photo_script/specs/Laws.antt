@@ -1,8 +1,8 @@
--- What holds of all reports.
+-- Laws of reports.
 use Rattle.std.specs.Prelude.{◌≡◌}
 use Rattle.fleet_model.specs.Answers.{ModelReport}
 use Rattle.photo_script.specs.Reports.{Answer, Tells}
 
--- of a model report at most one answer is the right one
+-- each model report has at most one right answer
 abbrev pub AnswersAreOne : Type 0
 AnswersAreOne = (a b : Answer) (report : ModelReport) → Tells a report → Tells b report → a ≡ b

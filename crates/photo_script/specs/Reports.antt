@@ -19,12 +19,12 @@ use Rattle.fleet_model.specs.Answers.{RightAnswer, Made, NotHeld, NotNarrower, N
 use Rattle.photo_script.specs.declared.report.Report.{Report}
 use Rattle.photo_script.specs.declared.report.Report.TheVariants as report
 
--- the answer to a command. Knowledge is given by its fragments
+-- the answer to a command; a knowledge is given by its fragments
 pub data Answer : Type 0 where
   Plain : RightAnswer → Answer
   KnowledgeOf : ℕ → List Fragment → Answer
 
--- the answer that a report of the program gives
+-- the answer that a report stands for
 abbrev pub answer_of : Report → Answer
 answer_of (report.Made v p) = Plain (Made v p)
 answer_of report.NotHeld = Plain NotHeld
@@ -38,37 +38,37 @@ answer_of (report.Conflicts n pictures) = Plain (Conflicts n pictures)
 answer_of (report.KnowledgeOf n knowledge) = KnowledgeOf n knowledge.value.known
 answer_of (report.Knows known) = Plain (Knows known)
 
--- the answer gives the knowledge in normal form
+-- the answer gives the device's knowledge, in normal form
 pub record TellsKnowledge (answer : Answer) (device : ℕ) (known : ℕ → Versions) : Type 0 where
   pub fragments : List Fragment
   pub given : answer ≡ KnowledgeOf device fragments
   pub normal : is_normal fragments ≡ true
   pub denoted : (picture : ℕ) → 0 < picture → (v : Version) → knows fragments picture v ≡ known picture v
 
--- the answer is the right one. There is at most one right answer
+-- the answer is right for the model report; there is at most one such answer
 abbrev pub Tells : Answer → ModelReport → Type 0
 Tells answer (Exactly right) = answer ≡ Plain right
 Tells answer (KnowledgeIs device known) = TellsKnowledge answer device known
 
--- the version is of a device of the script
+-- the version's author is a device of the script
 abbrev pub IsOfScript : Contents → Version → Type 0
 IsOfScript script v = device_of_author v.author < length script.names
 
 abbrev pub AreOfScript : Contents → List Entry → Type 0
 AreOfScript script entries = AllByRecursion (λ e. IsOfScript script e.version) entries
 
--- the author of each bound is a device of the script
+-- the author of each bound in the fragment is a device of the script
 abbrev pub IsFragmentOfScript : Contents → Fragment → Type 0
 IsFragmentOfScript script f = AllByRecursion (λ e. device_of_author (author_of_word e.0) < length script.names) f.entries
 
--- so is the author of each version of a conflict
+-- the author of each version in the conflict is a device of the script
 abbrev pub IsConflictOfScript : Contents → Conflict → Type 0
 IsConflictOfScript script c = AllByRecursion (IsOfScript script) c.versions
 
 abbrev pub AreConflictsOfScript : Contents → List Conflict → Type 0
 AreConflictsOfScript script pictures = AllByRecursion (IsConflictOfScript script) pictures
 
--- each author and each device of the answer is a device of the script
+-- all authors and devices in the answer are devices of the script
 abbrev pub IsAbout : Contents → Answer → Type 0
 IsAbout script (Plain (Made v p)) = IsOfScript script v
 IsAbout script (Plain NotHeld) = Unit {0}
@@ -82,15 +82,15 @@ IsAbout script (Plain (Conflicts n pictures)) = (n < length script.names) × Are
 IsAbout script (KnowledgeOf n fragments) = (n < length script.names) × AllByRecursion (IsFragmentOfScript script) fragments
 IsAbout script (Plain (Knows known)) = Unit {0}
 
--- the name of a device, by its place among the names
+-- the name of a device, by its place in order of declaration
 abbrev pub name_of : Contents → ℕ → List ℕ
 name_of script device = slice_index_or script.names device []
 
--- the name of the device, and the epoch where it isn't the first
+-- the device's name, and its epoch unless that is 0
 abbrev pub author_text : Contents → Author → List ℕ
 author_text script a = name_of script (device_of_author a) ++ epoch_text (epoch_of_author a)
 
--- the author, a colon and the number
+-- the author, a colon and the version's number
 abbrev pub version_text : Contents → Version → List ℕ
 version_text script v = author_text script v.author ++ codes ":" ++ decimal v.number
 
@@ -98,7 +98,7 @@ abbrev pub place_text : Place → List ℕ
 place_text place.Store = codes "store"
 place_text place.Out = codes "out"
 
--- the line of a version that is held
+-- the line of a held version
 abbrev pub entry_text : Contents → Place → Entry → List ℕ
 entry_text script where_ e =
     codes "  " ++ place_text where_ ++ codes " " ++ decimal e.picture ++ codes " " ++ version_text script e.version
@@ -114,7 +114,7 @@ made_text script number v where_ =
 abbrev pub not_held_text : ℕ → List ℕ
 not_held_text number = decimal number ++ codes " refused C1 NotHeld\n"
 
--- the first line of a list: how many versions are stored, and how many wait for other devices
+-- the first line of a list, with the numbers of versions in the store and in the out
 abbrev pub heading_text : Contents → ℕ → ℕ → ℕ → ℕ → List ℕ
 heading_text script number device stored waiting =
     decimal number ++ codes " list " ++ name_of script device ++ codes " store " ++ decimal stored ++ codes " out " ++ decimal waiting ++ codes "\n"
@@ -124,16 +124,16 @@ listed_text script number device store out =
     heading_text script number device (length store) (length out)
     ++ entries_text script place.Store store ++ entries_text script place.Out out
 
--- the pictures of a fragment: those that it lists, with commas between them, or all
+-- the pictures of a fragment, separated by commas, or `*` for the star
 abbrev pub pictures_text : List ℕ → List ℕ
 pictures_text [] = codes "*"
 pictures_text (p ∷ ps) = join_with_byte 44 (map decimal (p ∷ ps))
 
--- the last version that is known of an author
+-- a bound: the author's last known version
 abbrev pub bound_text : Contents → knowledge.Entry → List ℕ
 bound_text script e = version_text script (version (author_of_word e.0) e.1)
 
--- the bounds with spaces between them
+-- the bounds separated by spaces, or `-` if there are none
 abbrev pub bounds_text : Contents → List knowledge.Entry → List ℕ
 bounds_text script [] = codes "-"
 bounds_text script (e ∷ es) = join_with_byte 32 (map (bound_text script) (e ∷ es))
@@ -142,12 +142,12 @@ bounds_text script (e ∷ es) = join_with_byte 32 (map (bound_text script) (e �
 abbrev pub fragment_text : Contents → Fragment → List ℕ
 fragment_text script f = codes "  " ++ pictures_text f.pictures ++ codes " " ++ bounds_text script f.entries ++ codes "\n"
 
--- the first line of an answer of a device: what is told of it, and how many lines follow
+-- the first line of a report on a device: its subject, and the number of lines that follow
 abbrev pub counted_heading_text : Contents → ℕ → List ℕ → ℕ → ℕ → List ℕ
 counted_heading_text script number what device count =
     decimal number ++ what ++ name_of script device ++ codes " " ++ decimal count ++ codes "\n"
 
--- a line for each fragment
+-- the report on a device's knowledge: a heading, and a line for each fragment
 abbrev pub knowledge_text : Contents → ℕ → ℕ → List Fragment → List ℕ
 knowledge_text script number device fragments =
     counted_heading_text script number (codes " knowledge ") device (length fragments) ++ flat_map (fragment_text script) fragments
@@ -161,39 +161,39 @@ knows_text number known = decimal number ++ codes " knows " ++ yes_or_no known +
 abbrev pub not_narrower_text : ℕ → List ℕ
 not_narrower_text number = decimal number ++ codes " refused C2 NotNarrower\n"
 
--- how many versions went to the out
+-- the report on a narrowing, with the number of versions moved to the out
 abbrev pub narrowed_text : ℕ → ℕ → List ℕ
 narrowed_text number count = decimal number ++ codes " narrowed " ++ decimal count ++ codes "\n"
 
--- how many versions are in the store and in the out then
+-- the report on a refiltering, with the numbers of versions in the store and in the out
 abbrev pub refiltered_text : ℕ → ℕ → ℕ → List ℕ
 refiltered_text number stored waiting =
     decimal number ++ codes " refiltered store " ++ decimal stored ++ codes " out " ++ decimal waiting ++ codes "\n"
 
--- what a pull moves and tells, after a word with a space on either side
+-- the counts of a pull after a word that has a space on either side
 abbrev pub counts_text : ℕ → List ℕ → PullCounts → List ℕ
 counts_text number word counts =
     decimal number ++ word ++ codes "taken " ++ decimal counts.taken ++ codes " handed " ++ decimal counts.handed
     ++ codes " notices " ++ decimal counts.notices ++ codes " dropped " ++ decimal counts.dropped
     ++ codes " learned " ++ yes_or_no counts.learned ++ codes "\n"
 
--- what a pull moved and told
+-- the report on a pull
 abbrev pub pulled_text : ℕ → PullCounts → List ℕ
 pulled_text number counts = counts_text number (codes " pulled ") counts
 
--- what a pull would move and tell
+-- the report on a preview
 abbrev pub preview_text : ℕ → PullCounts → List ℕ
 preview_text number counts = counts_text number (codes " preview ") counts
 
--- versions, each with a space in front
+-- the versions, each behind a space
 abbrev pub versions_text : Contents → List Version → List ℕ
 versions_text script versions = flat_map (λ v. codes " " ++ version_text script v) versions
 
--- the line of a picture of which two or more versions are held
+-- the line of a conflict
 abbrev pub conflict_text : Contents → Conflict → List ℕ
 conflict_text script c = codes "  " ++ decimal c.picture ++ versions_text script c.versions ++ codes "\n"
 
--- a line for each picture
+-- the report on conflicts: a heading, and a line for each picture
 abbrev pub conflicts_text : Contents → ℕ → ℕ → List Conflict → List ℕ
 conflicts_text script number device pictures =
     counted_heading_text script number (codes " conflicts ") device (length pictures) ++ flat_map (conflict_text script) pictures
@@ -212,7 +212,7 @@ text_of script number (Plain (Conflicts n pictures)) = conflicts_text script num
 text_of script number (KnowledgeOf n fragments) = knowledge_text script number n fragments
 text_of script number (Plain (Knows known)) = knows_text number known
 
--- the texts of answers, numbered from a number on
+-- the texts of the answers, numbered from n
 abbrev pub texts_from : Contents → ℕ → List Answer → List ℕ
 texts_from script n [] = []
 texts_from script n (a ∷ more) = text_of script n a ++ texts_from script (n + 1) more

@@ -1,4 +1,4 @@
-// The texts of reports on conflicts.
+// The texts of conflict reports.
 ghost use Rattle.std.specs.Prelude.{◌≡◌, ◌<◌, ◌++◌, length, string_bytes, OnOk};
 ghost use Rattle.std.specs.List.{AllByRecursion, flat_map};
 ghost use Rattle.photo_script.specs.Reports.{IsOfScript, AreConflictsOfScript, IsConflictOfScript};
@@ -10,7 +10,7 @@ use photo_device::{Conflict, ConflictList};
 use photo_version::Version;
 use std::alloc::AllocError;
 
-/// Puts the pictures of which a device holds two or more versions behind a text: a line, and a line more for each.
+/// Appends a report on a device's conflicts: a heading, and a line for each picture.
 pub fn push_conflicts(
     text: &mut String,
     script: &Script,
@@ -52,7 +52,7 @@ fn push_conflict(text: &mut String, script: &Script, conflict: &Conflict) -> Res
     Ok(())
 }
 
-// Versions, each with a space in front.
+// Appends the versions, each behind a space.
 fn push_versions(text: &mut String, script: &Script, versions: &[Version]) -> Result<(), AllocError>
     requires { AllByRecursion (IsOfScript script.now) versions.now }
     ensures { OnOk result (string_bytes text.new ≡ string_bytes text.old ++ versions_text script.now versions.now) }

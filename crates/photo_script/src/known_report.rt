@@ -1,4 +1,4 @@
-// The texts of reports on what devices know.
+// The texts of knowledge reports.
 ghost use Rattle.std.specs.Prelude.{◌≡◌, ◌<◌, ◌++◌, length, get_or, string_bytes, OnOk};
 ghost use Rattle.std.specs.List.{AllByRecursion, flat_map};
 ghost use Rattle.std.specs.Fmt.{decimal};
@@ -11,7 +11,7 @@ use item_knowledge::{Fragment, Knowledge};
 use itoa::Buffer;
 use std::alloc::AllocError;
 
-/// Puts what a device knows behind a text: a line, and a line more for each fragment.
+/// Appends a report on a device's knowledge: a heading, and a line for each fragment.
 pub fn push_knowledge(
     text: &mut String,
     script: &Script,

@@ -1,17 +1,17 @@
-//! Laws of the definitions. Each function's contract is a law, and its body does nothing.
+//! Laws of the definitions. Each function's contract states a law; its body is empty.
 ghost use Rattle.photo_script.specs.Laws.{AnswersAreOne};
 ghost use Rattle.photo_script.specs.Examples.{FirstRun, KnownTexts, LaterEpochTexts, MovedTexts, Counts};
 
 pub use script_reader::laws::accepted_are_scripts;
 
-/// Of each model report at most one answer is the right one, also where it gives a knowledge.
+/// Each model report has at most one right answer, also where it gives a knowledge.
 pub fn answers_are_one()
     ensures { AnswersAreOne }
 {}
 
-/// The definitions at some runs: a camera that makes a picture and lists it, from its script to the texts of its reports;
-/// the texts of what devices know, of versions of later epochs, of what pulls and filters move, and of conflicts; commands by
-/// their kinds, and what pulls move. How texts are read is worked in `script_reader::laws::examples`.
+/// Worked runs. A camera makes a picture and lists it, from its script to the texts of its reports. Other examples show reports
+/// on knowledge, versions of later epochs, pulls, filters and conflicts, and the totals of runs. How texts are read is worked
+/// in `script_reader::laws::examples`.
 pub fn examples()
     ensures first_run { FirstRun }
     ensures known_texts { KnownTexts }

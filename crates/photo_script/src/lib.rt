@@ -1,5 +1,5 @@
-//! Reports on the commands of a script, and their texts. Its invariant: **a report's text is the definition's, and at most one
-//! answer to a command is right** (`Tells`). Scripts and their reader are those of `script_reader`, which are passed on.
+//! Reports on the commands of a script, and their texts. Invariant: **a report's text is the definition's, and each command has
+//! at most one right answer** (`Tells`). Scripts and their reader are re-exported from `script_reader`.
 #![tactic(auto)]
 
 mod conflict_report;

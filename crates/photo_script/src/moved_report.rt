@@ -1,4 +1,4 @@
-// The texts of reports on pulls and previews, and on filters that devices get.
+// The texts of reports on pulls, previews and filter changes.
 ghost use Rattle.std.specs.Prelude.{◌≡◌, ◌++◌, string_bytes, OnOk};
 ghost use Rattle.std.specs.Fmt.{decimal};
 ghost use Rattle.photo_script.specs.Reports.{not_narrower_text, narrowed_text, refiltered_text, counts_text, pulled_text, preview_text};
@@ -8,7 +8,7 @@ use itoa::Buffer;
 use photo_pull::PullCounts;
 use std::alloc::AllocError;
 
-/// Puts the refusal of a filter that the device's own doesn't cover behind a text.
+/// Appends the refusal of a filter that the device's own doesn't cover.
 pub fn push_not_narrower(text: &mut String, number: u32) -> Result<(), AllocError>
     ensures { OnOk result (string_bytes text.new ≡ string_bytes text.old ++ not_narrower_text number) }
 {
@@ -16,7 +16,7 @@ pub fn push_not_narrower(text: &mut String, number: u32) -> Result<(), AllocErro
     Ok(())
 }
 
-/// Puts how many versions went to the out behind a text.
+/// Appends a report on a narrowing, with the number of versions moved to the out.
 pub fn push_narrowed(text: &mut String, number: u32, moved: u64) -> Result<(), AllocError>
     ensures { OnOk result (string_bytes text.new ≡ string_bytes text.old ++ narrowed_text number moved) }
 {
@@ -24,7 +24,7 @@ pub fn push_narrowed(text: &mut String, number: u32, moved: u64) -> Result<(), A
     Ok(())
 }
 
-/// Puts how many versions are in the store and in the out of a device that has got another filter behind a text.
+/// Appends a report on a refiltering, with the numbers of versions in the store and in the out.
 pub fn push_refiltered(
     text: &mut String,
     number: u32,
@@ -37,21 +37,21 @@ pub fn push_refiltered(
     Ok(())
 }
 
-/// Puts what a pull moved and told behind a text.
+/// Appends a report on a pull.
 pub fn push_pulled(text: &mut String, number: u32, counts: &PullCounts) -> Result<(), AllocError>
     ensures { OnOk result (string_bytes text.new ≡ string_bytes text.old ++ pulled_text number counts.now) }
 {
     push_counts(text, number, " pulled ", counts)
 }
 
-/// Puts what a pull would move and tell behind a text.
+/// Appends a report on a preview.
 pub fn push_preview(text: &mut String, number: u32, counts: &PullCounts) -> Result<(), AllocError>
     ensures { OnOk result (string_bytes text.new ≡ string_bytes text.old ++ preview_text number counts.now) }
 {
     push_counts(text, number, " preview ", counts)
 }
 
-// What a pull moves and tells, after a word that has a space on either side.
+// Appends the counts of a pull after `word`, which has a space on either side.
 fn push_counts(
     text: &mut String,
     number: u32,
@@ -72,7 +72,7 @@ fn push_counts(
     Ok(())
 }
 
-// A word and how many.
+// Appends a word and a count.
 fn push_count(text: &mut String, word: &str, count: u64) -> Result<(), AllocError>
     ensures { OnOk result (string_bytes text.new ≡ string_bytes text.old ++ word.now ++ decimal count) }
 {

@@ -18,25 +18,25 @@ use std::alloc::{AllocError, Global};
 /// The answer to a command.
 #[derive(Debug, Drop)]
 pub enum Report {
-    /// A version was made, and went there.
+    /// A version was made and went to this place.
     Made {
         version: Version,
         place: Place,
     },
-    /// The command was refused, since nothing of its picture is held.
+    /// The command was refused because the device holds no version of its picture.
     NotHeld,
-    /// The command was refused, since the device's filter doesn't cover the one that it was to get.
+    /// The command was refused because the device's filter doesn't cover the new one.
     NotNarrower,
-    /// A device got another filter, and so many versions went from its store to its out.
+    /// A device took a narrower filter, and so many versions moved from its store to its out.
     Narrowed(u64),
-    /// A device got any other filter and began its next epoch, and so many versions are in its store and in its out then.
+    /// A device took another filter and began its next epoch; its store and its out then have so many versions.
     Refiltered {
         store: u64,
         out: u64,
     },
-    /// A device took and learned from another.
+    /// A device pulled from another.
     Pulled(PullCounts),
-    /// What a pull of a device from another would move and tell.
+    /// What a pull of a device from another would count.
     Preview(PullCounts),
     /// What a device holds, in order. The device is given by its place in order of declaration, from 0.
     Listed {
@@ -50,8 +50,8 @@ pub enum Report {
         device: u16,
         pictures: ConflictList,
     },
-    /// What a device knows. The device is given by its place in order of declaration, from 0. A knowledge is large, and one
-    /// is told by few reports, so it lies beside the report.
+    /// What a device knows. The device is given by its place in order of declaration, from 0. A knowledge is large and few
+    /// reports have one, so it is boxed.
     KnowledgeOf {
         device: u16,
         knowledge: Box<Knowledge>,
@@ -71,9 +71,9 @@ ghost use Rattle.photo_script.specs.Reports.{made_text, not_held_text, heading_t
 ghost use Rattle.photo_script.specs.Reports.{author_text, version_text, place_text};
 ghost use Rattle.photo_script.specs.Reports.{entry_text, entries_text, yes_or_no, knows_text};
 
-/// The text of a report on the command of that number: a line, and for a list a line more for each held version, and
-/// for what a device knows one for each fragment, for conflicts one for each picture.
-/// Each line ends with LF. Its only error is want of memory.
+/// The text of a report on the command of that number. It has one line, and more lines for a list (one for each held version),
+/// a knowledge (one for each fragment) and conflicts (one for each picture). Each line ends with LF. Its only error is want of
+/// memory.
 pub fn report_text(
     alloc: Global,
     script: &Script,
@@ -88,8 +88,8 @@ pub fn report_text(
     Ok(text)
 }
 
-/// Puts the text of a report on the command of that number behind a text, so that one buffer serves for many reports.
-/// Its only error is want of memory, which leaves some of the report's first bytes behind the text.
+/// Appends the text of a report on the command of that number, so that one buffer serves many reports. Its only error is want
+/// of memory; then some of the report's first bytes are appended.
 #[tactic(auto, unfolding(crate::specs::Reports::text_of))]
 pub fn push_report(
     text: &mut String,
@@ -192,7 +192,7 @@ fn push_heading(
     Ok(())
 }
 
-// The first line of what is told of a device in lines, and how many follow; `what` has a space on either side.
+// Appends the first line of a report on a device, with the number of lines that follow; `what` has a space on either side.
 pub(crate) fn push_counted_heading(
     text: &mut String,
     script: &Script,
@@ -256,7 +256,7 @@ pub(crate) fn push_version(
     push_version_of(text, script, version.author(), version.n())
 }
 
-// The author's version of that number.
+// Appends the author's version of that number.
 pub(crate) fn push_version_of(
     text: &mut String,
     script: &Script,
@@ -280,7 +280,7 @@ fn push_author(text: &mut String, script: &Script, author: Author) -> Result<(),
     push_epoch(text, author.epoch())
 }
 
-// Nothing for the first epoch.
+// Appends the epoch behind a dot; nothing for epoch 0.
 fn push_epoch(text: &mut String, epoch: u32) -> Result<(), AllocError>
     ensures { OnOk result (string_bytes text.new ≡ string_bytes text.old ++ epoch_text epoch) }
 {
@@ -320,7 +320,7 @@ fn push_day(text: &mut String, day: Day) -> Result<(), AllocError>
     Ok(())
 }
 
-// Decimal, with zeros in front up to the width.
+// Appends the number in decimal, padded with zeros to the width.
 fn push_padded(text: &mut String, width: usize, number: u32) -> Result<(), AllocError>
     ensures { OnOk result (string_bytes text.new ≡ string_bytes text.old ++ padded_decimal width number) }
 {

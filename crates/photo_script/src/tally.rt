@@ -1,4 +1,4 @@
-// What a run did, by its reports.
+// The totals of a run, from its reports.
 ghost use Rattle.std.specs.Prelude.{◌≡◌, ◌≤◌, ◌*◌, length, map};
 ghost use Rattle.std.specs.List.{AllByRecursion, AllZip, sum_by};
 ghost use Rattle.fleet_model.specs.Limits.{max_commands};
@@ -9,9 +9,9 @@ ghost use Rattle.photo_script.specs.Tallies.{moved_by};
 
 use crate::{Report, Script, Totals};
 
-/// The totals of a script's run, by its reports.
+/// The totals of a script's run, from its reports.
 ///
-/// A report of a pull has to tell of no more versions than the run's commands can make and move.
+/// Each report on a pull must count at most 200,000 versions moved, the most that one pull can move.
 pub fn totals_of(script: &Script, reports: &[Report]) -> Totals
     requires few { length reports.now ≤ max_commands }
     requires each { AllByRecursion (λ a. moved_by a ≤ max_moved) (map answer_of reports.now) }
@@ -26,7 +26,7 @@ pub fn totals_of(script: &Script, reports: &[Report]) -> Totals
     }
 }
 
-// How many versions were moved, by the reports of the pulls among these.
+// The number of versions that the pulls among these reports moved.
 fn moved_by(reports: &[Report]) -> u64
     requires few { length reports.now ≤ max_commands }
     requires each { AllByRecursion (λ a. moved_by a ≤ max_moved) (map answer_of reports.now) }

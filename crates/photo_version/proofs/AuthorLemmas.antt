@@ -1,4 +1,4 @@
--- How authors stand to one another. What is proved of vectors looks into an author by these alone.
+-- The order of authors. Proofs about vectors use authors through these lemmas only.
 use Rattle.std.proofs.Common.{◌≡◌, ◌+◌, ◌*◌, ◌/◌, ◌%◌, ◌<◌, true, false, ltb, ◌&&◌, ◌||◌, refl, ap, sym, ◌∙◌, ◌⊎◌, inl, inr, arith}
 use Rattle.std.proofs.lemmas.Bool.{lt-ltb, le-ltb, ltb-true, eq-eqb, ne_eqb, eqb-true, cases_order, cases_lt, false≢true}
 use Rattle.photo_version.specs.Author.{Author, author_of_word, author_at, device_of_author, epoch_of_author, same_author, same_device, author_before, next_author}
@@ -45,7 +45,7 @@ not_before_same a b e =
     let same = ap (λ (x : Author). x.word) e in
     le-ltb a.word b.word (omega arith)
 
--- neither stands before the other
+-- two authors, neither of which stands before the other, are equal
 pub same_between : (a b : Author) → author_before a b ≡ false → author_before b a ≡ false → a ≡ b
 same_between a b h g = elim (cases_author a b) [
   | inl same ↦ same

@@ -1,4 +1,4 @@
--- Going along two vectors: what is done, and what is left.
+-- The merge of two vectors: what it has done, and what remains.
 use Rattle.std.proofs.Common.{◌≡◌, ℕ, zero, suc, ◌+◌, ◌<◌, ◌≤◌, Bool, true, false, leb, max, ◌&&◌, ◌||◌, List, [], ◌∷◌, ◌++◌, length, get_or, take, drop, ◌-◌, refl, sym, subst, ap, ◌∙◌, ◌⊎◌, inl, inr, arith, append_assoc}
 use Rattle.std.proofs.lemmas.Bool.{and_parts, and_from, and_right, lt-leb, le-leb, cases_lt}
 use Rattle.std.proofs.lemmas.List.{drop_more, take_all, drop_all, append-nil}
@@ -8,7 +8,7 @@ use Rattle.photo_version.specs.Vector.{Bound, denotes, is_vector, raised, joined
 use Rattle.photo_version.proofs.AuthorLemmas.{before_from, same_from, same_between}
 use Rattle.photo_version.proofs.VectorLemmas.{is_above, VectorParts, vector_parts, above_all, denotes-above, raised_same, raised_more, raised_first, joined_above}
 
--- The first of a union
+-- The first bound of a union
 
 joined_left : (x : Bound) (xs ys : List Bound) → is_above x.0 xs ≡ true → is_above x.0 ys ≡ true → joined (x ∷ xs) ys ≡ x ∷ joined xs ys
 joined_left x xs ys h g = raised_first x (joined xs ys) (joined_above x.0 xs ys h g)
@@ -29,7 +29,7 @@ joined_none (x ∷ xs) h =
     let p = vector_parts x xs h in
     ap (raised x) (joined_none xs p.rest) ∙ raised_first x xs p.above
 
--- What is left, at its first
+-- What remains, by its first bound
 
 pub drop_from : (xs : List Bound) (i : ℕ) (x : Bound) → i < length xs → get_or xs i x ≡ x → drop i xs ≡ x ∷ drop (i + 1) xs
 drop_from xs i x l e = drop_more xs i x l ∙ ap (λ z. z ∷ drop (i + 1) xs) e
@@ -37,7 +37,7 @@ drop_from xs i x l e = drop_more xs i x l ∙ ap (λ z. z ∷ drop (i + 1) xs) e
 left_parts : (xs : List Bound) (i : ℕ) (x : Bound) → i < length xs → get_or xs i x ≡ x → is_vector (drop i xs) ≡ true → VectorParts x (drop (i + 1) xs)
 left_parts xs i x l e h = vector_parts x (drop (i + 1) xs) (subst (λ zs. is_vector zs ≡ true) (drop_from xs i x l e) h)
 
--- an author before the first stands before all
+-- an author before the first bound's author stands before all of them
 before_left : (a : Author) (xs : List Bound) (i : ℕ) (x : Bound) → i < length xs → get_or xs i x ≡ x → is_vector (drop i xs) ≡ true → author_before a x.0 ≡ true → is_above a (drop i xs) ≡ true
 before_left a xs i x l e h p =
     let parts = left_parts xs i x l e h in
@@ -53,7 +53,7 @@ length_left (x ∷ xs) (suc i) = omega (arith, length_left xs i)
 pub all_left : (xs : List Bound) (i : ℕ) → take (length xs - i) (drop i xs) ≡ drop i xs
 all_left xs i = take_all (length xs - i) (drop i xs) (length_left xs i)
 
--- A union on the way
+-- A union in progress
 
 pub record IsJoining (xs ys done : List Bound) (i j : ℕ) : Type 0 where
   pub all : done ++ joined (drop i xs) (drop j ys) ≡ joined xs ys
@@ -106,7 +106,7 @@ take_both xs ys done new i j x y m l k ex ey p q is =
       right_within = omega arith;
     }
 
--- one of the two is at its end
+-- one of the two lists is at its end
 ends : (xs ys : List Bound) (i j : ℕ) → is_vector (drop i xs) ≡ true → (length xs ≤ i) ⊎ (length ys ≤ j) → joined (drop i xs) (drop j ys) ≡ drop i xs ++ drop j ys
 ends xs ys i j h (inl over) = ap (λ zs. joined zs (drop j ys)) (drop_all i xs over) ∙ sym (ap (λ zs. zs ++ drop j ys) (drop_all i xs over))
 ends xs ys i j h (inr over) =
@@ -123,7 +123,7 @@ all_joined xs ys done more new i j m over is new_is =
     ∙ (ap (λ zs. done ++ zs) (sym (ends xs ys i j m.left at))
     ∙ m.all)))
 
--- Inclusion on the way: that of what is left is that of all
+-- Inclusion in progress: it holds of the whole if it holds of what remains
 
 pub record IsComparing (xs ys : List Bound) (i j : ℕ) : Type 0 where
   pub all : is_within (drop i xs) (drop j ys) ≡ is_within xs ys
@@ -183,7 +183,7 @@ pass_both xs ys i j x y m l k ex ey p q u =
       right_within = omega arith;
     }
 
--- the first on the left is missing on the right
+-- the first bound on the left is missing on the right
 missing : (xs ys : List Bound) (i j : ℕ) (x : Bound) → IsComparing xs ys i j → i < length xs → get_or xs i x ≡ x → denotes (drop j ys) (version x.0 x.1) ≡ false → is_within xs ys ≡ false
 missing xs ys i j x m l ex h =
     sym m.all

@@ -1,4 +1,4 @@
--- What a vector denotes, read off at the place of an author.
+-- What a vector denotes, read at the place of an author.
 use Rattle.std.proofs.Common.{◌≡◌, ℕ, zero, suc, ◌+◌, ◌<◌, ◌≤◌, Bool, true, false, leb, ◌||◌, List, [], ◌∷◌, length, get_or, drop, refl, sym, subst, ap, ◌∙◌, inl, inr, arith}
 use Rattle.std.specs.List.Sorted.{IsPartitionedBy, IsPartitionPoint}
 use Rattle.std.proofs.lemmas.Bool.{and_parts, and_from, le-leb, false≢true}
@@ -12,7 +12,7 @@ use Rattle.photo_version.proofs.VectorLemmas.{is_above, vector_parts, denotes-ab
 abbrev pub stands_before : Author → Bound → Bool
 stands_before a b = author_before b.0 a
 
--- authors before another one come first
+-- the bounds of earlier authors come first
 
 above_at : (a : Author) (bs : List Bound) (k : ℕ) (d : Bound) → is_above a bs ≡ true → k < length bs → author_before a (get_or bs k d).0 ≡ true
 above_at a [] k d h l = absurd (omega arith)
@@ -34,7 +34,7 @@ in_order_at (b ∷ bs) j zero d e h less l = absurd (omega arith)
 in_order_at (b ∷ bs) zero (suc k) d e h less l = above_at b.0 bs k e (vector_parts b bs h).above (omega arith)
 in_order_at (b ∷ bs) (suc j) (suc k) d e h less l = in_order_at bs j k d e (vector_parts b bs h).rest (omega arith) (omega arith)
 
--- what stands before the place of the author is of no matter
+-- bounds before the author's place don't matter
 denotes-from : (bs : List Bound) (n : ℕ) (v : Version) → n ≤ length bs → ((k : ℕ) (d : Bound) → k < n → author_before (get_or bs k d).0 v.author ≡ true) → denotes bs v ≡ denotes (drop n bs) v
 denotes-from bs zero v l f = refl
 denotes-from [] (suc n) v l f = refl
@@ -46,7 +46,7 @@ vector_left bs zero h = h
 vector_left [] (suc n) h = refl
 vector_left (b ∷ bs) (suc n) h = vector_left bs n (vector_parts b bs h).rest
 
--- the place of an author: where the authors before it end
+-- the place of an author: the end of the bounds of earlier authors
 pub record IsPlace (a : Author) (bs : List Bound) (n : ℕ) : Type 0 where
   pub within : n ≤ length bs
   pub vector : is_vector bs ≡ true
@@ -74,7 +74,7 @@ or_none : (t : Bool) → (t || false) ≡ t
 or_none true = refl
 or_none false = refl
 
--- a bound of the author tells it
+-- at a bound of the author, its number decides
 pub number_here : (bs : List Bound) (n : ℕ) (d : Bound) (v : Version) → is_vector bs ≡ true → n < length bs → same_author (get_or bs n d).0 v.author ≡ true → 0 < v.number → denotes bs v ≡ leb v.number (get_or bs n d).1
 number_here bs n d v h l s positive =
     let b = get_or bs n d in

@@ -34,14 +34,14 @@ above_all a b (c ∷ cs) h g =
     let p = and_parts (author_before b c.0) (is_above b cs) g in
     and_from (author_before a c.0) (is_above a cs) (before_trans a b c.0 h p.0) (above_all a b cs h p.1)
 
--- of an author below all nothing is denoted
+-- an author before all bounds has no version in the set
 pub denotes-above : (bs : List Bound) (v : Version) → is_above v.author bs ≡ true → denotes bs v ≡ false
 denotes-above [] v h = refl
 denotes-above (b ∷ bs) v h =
     let p = and_parts (author_before v.author b.0) (is_above v.author bs) h in
     rw ((before_from v.author b.0 p.0).other_back) (denotes-above bs v p.1)
 
--- The number of an author's last version, 0 where it has none
+-- The number of an author's last version, 0 if it has none
 
 abbrev last : List Bound → Author → ℕ
 last [] a = 0
@@ -65,7 +65,7 @@ no_more n = grind (arith, nat_tests)
 up_to : (n m : ℕ) → ((leb 1 n && leb n m) || (leb 1 n && leb n 0)) ≡ (leb 1 n && leb n m)
 up_to n m = grind (arith, nat_tests)
 
--- a vector denotes, of each author, the versions up to its last
+-- a vector has, of each author, the versions up to its last
 denotes-last : (bs : List Bound) (v : Version) → is_vector bs ≡ true → denotes bs v ≡ (leb 1 v.number && leb v.number (last bs v.author))
 denotes-last [] v h = no_more v.number
 denotes-last (b ∷ bs) v h =
@@ -133,11 +133,11 @@ one_by_lasts (x ∷ xs) (y ∷ ys) hx hy h =
       ]
     ]
 
--- vectors that denote the same are one
+-- vectors that denote the same versions are equal
 pub one_vector : (xs ys : List Bound) → is_vector xs ≡ true → is_vector ys ≡ true → ((v : Version) → denotes xs v ≡ denotes ys v) → xs ≡ ys
 one_vector xs ys hx hy h = one_by_lasts xs ys hx hy (same_lasts xs ys hx hy h)
 
--- Where a bound comes to stand
+-- The place of a new bound
 
 pub raised_less : (b c : Bound) (cs : List Bound) → Before b.0 c.0 → raised b (c ∷ cs) ≡ b ∷ c ∷ cs
 raised_less b c cs p = rw p.before refl
@@ -247,7 +247,7 @@ joined_vector (b ∷ bs) cs h g =
 
 -- Inclusion
 
--- a version that is reached, by its parts
+-- the parts of the test that a bound reaches a version
 reached : (b : Bound) (v : Version) → reaches b v ≡ true → (b.0 ≡ v.author) × ((1 ≤ v.number) × (v.number ≤ b.1))
 reached b v h =
     let p = and_parts (same_author b.0 v.author) (leb 1 v.number && leb v.number b.1) h in
@@ -257,7 +257,7 @@ reached b v h =
 reaches_from : (b : Bound) (v : Version) → b.0 ≡ v.author → 1 ≤ v.number → v.number ≤ b.1 → reaches b v ≡ true
 reaches_from b v e l u = and_from (same_author b.0 v.author) (leb 1 v.number && leb v.number b.1) (same_from b.0 v.author e) (and_from (leb 1 v.number) (leb v.number b.1) (le-leb 1 v.number l) (le-leb v.number b.1 u))
 
--- with a version all earlier ones are denoted
+-- with a version a vector has all earlier ones of its author
 denotes-earlier : (cs : List Bound) (a : Author) (m n : ℕ) → 1 ≤ m → m ≤ n → denotes cs (version a n) ≡ true → denotes cs (version a m) ≡ true
 denotes-earlier [] a m n l u h = h
 denotes-earlier (c ∷ cs) a m n l u h = elim (or_cases (reaches c (version a n)) (denotes cs (version a n)) h) [
@@ -291,7 +291,7 @@ within_from (b ∷ bs) cs h f =
 pub within_inclusion : (bs cs : List Bound) → is_vector bs ≡ true → (is_within bs cs ≡ true) ↔ ((v : Version) → denotes bs v ≡ true → denotes cs v ≡ true)
 within_inclusion bs cs h = (within_denotes bs cs, within_from bs cs h)
 
--- the union with a set that is within
+-- the union with a set that is included already
 
 pub joined_within : (bs cs : List Bound) → is_vector bs ≡ true → is_vector cs ≡ true → is_within cs bs ≡ true → bs ≡ joined bs cs
 joined_within bs cs h g w = one_vector bs (joined bs cs) h (joined_vector bs cs h g) (λ v. sym (denotes-joined bs cs v ∙ or_same (denotes cs v) (denotes bs v) (within_denotes cs bs w v)))
@@ -314,7 +314,7 @@ denotes-positive (b ∷ bs) v h = elim (or_cases (reaches b v) (denotes bs v) h)
 pub one_bound : (b : Bound) → 0 < b.1 → is_vector (b ∷ []) ≡ true
 one_bound b p = vector_from b [] p refl refl
 
--- a version that is denoted already
+-- adding a version that is there already changes nothing
 pub raised_denoted : (v : Version) (bs : List Bound) → is_vector bs ≡ true → denotes bs v ≡ true → bs ≡ raised (v.author, v.number) bs
 raised_denoted v bs h d =
     within_joined ((v.author, v.number) ∷ []) bs (one_bound (v.author, v.number) (denotes-positive bs v d)) h (and_from (denotes bs v) true d refl)

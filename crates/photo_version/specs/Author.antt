@@ -1,15 +1,15 @@
--- Authors: who makes versions.
+-- Authors: devices in their epochs.
 use Rattle.std.specs.Prelude.{ℕ, ◌+◌, ◌*◌, ◌/◌, ◌%◌, Bool, ◌==◌, ◌&&◌, nat_lt}
 
--- a device in one of its epochs, as one number, so that each number is one author: device * 4294967296 + epoch
+-- an author: a device in one of its epochs, coded as device * 4294967296 + epoch, so that each number is one author
 pub record Author : Type 0 where
   pub word : ℕ
 
--- the device by its number in the order of declaration, from 0, and the epoch, from 0 to 4294967295
+-- the author of that device, numbered from 0 in order of declaration, and that epoch, from 0 to 4294967295
 abbrev pub author_at : ℕ → ℕ → Author
 author_at device epoch = record { word = device * 4294967296 + epoch }
 
--- the device in its first epoch
+-- the device in epoch 0
 abbrev pub author : ℕ → Author
 author device = author_at device 0
 
@@ -22,23 +22,23 @@ epoch_of_author a = a.word % 4294967296
 abbrev pub same_author : Author → Author → Bool
 same_author a b = a.word == b.word
 
--- the same device, perhaps in another epoch
+-- both are the same device, perhaps in different epochs
 abbrev pub same_device : Author → Author → Bool
 same_device a b = device_of_author a == device_of_author b
 
--- by device, then epoch
+-- authors are ordered by device, then by epoch
 abbrev pub author_before : Author → Author → Bool
 author_before a b = nat_lt a.word b.word
 
--- the same device in its next epoch, where the author's is not the last one
+-- the same device in its next epoch, if the author's isn't the last
 abbrev pub next_author : Author → Author
 next_author a = record { word = a.word + 1 }
 
--- the second is a later epoch of the first one's device
+-- the second author is a later epoch of the first one's device
 abbrev pub is_earlier_epoch : Author → Author → Bool
 is_earlier_epoch a b = same_device a b && author_before a b
 
--- an author as one word, by which rows of words compare authors
+-- the author's number; rows of words compare authors by it
 abbrev pub author_word : Author → ℕ
 author_word a = a.word
 

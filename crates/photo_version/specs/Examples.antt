@@ -1,19 +1,19 @@
--- The definitions at some vectors and texts.
+-- The definitions, worked for some vectors and texts.
 use Rattle.std.specs.Prelude.{◌≡◌, ℕ, true, false, List, [], ◌∷◌, codes}
 use Rattle.photo_version.specs.Author.{author, author_at, next_author, is_earlier_epoch}
 use Rattle.photo_version.specs.Version.{version}
 use Rattle.photo_version.specs.Showing.{author_text, version_text}
 use Rattle.photo_version.specs.Vector.{Bound, denotes, is_vector, raised, joined, is_within}
 
--- the bound n of the author of device a
+-- bound n of device a in epoch 0
 abbrev pub bound : ℕ → ℕ → Bound
 bound a n = (author a, n)
 
--- the bound n of the author of device a in epoch e
+-- bound n of device a in epoch e
 abbrev pub later_bound : ℕ → ℕ → ℕ → Bound
 later_bound a e n = (author_at a e, n)
 
--- a device's next epoch is another author, which stands behind its first one and before all later devices
+-- a device's next epoch is an author of its own, ordered after the first epoch and before all later devices
 pub record TheEpochs : Type 0 where
   pub with_its_next : raised (later_bound 0 1 1) (bound 0 2 ∷ []) ≡ bound 0 2 ∷ later_bound 0 1 1 ∷ []
   pub of_next : denotes (bound 0 2 ∷ later_bound 0 1 1 ∷ []) (version (author_at 0 1) 1) ≡ true
@@ -48,7 +48,7 @@ pub record TheVectors : Type 0 where
   pub twice : is_vector (bound 0 1 ∷ bound 0 2 ∷ []) ≡ false
   pub bound_zero : is_vector (bound 0 0 ∷ []) ≡ false
 
--- the first epoch isn't shown
+-- epoch 0 isn't shown
 pub record TheTexts : Type 0 where
   pub first_epoch : version_text (version (author 0) 3) ≡ codes "0:3"
   pub later_epoch : version_text (version (author_at 0 1) 3) ≡ codes "0.1:3"

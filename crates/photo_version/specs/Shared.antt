@@ -1,4 +1,4 @@
--- Machinery of the proofs: a list that several values share, or none.
+-- Machinery of the proofs: the list behind an optional shared pointer; without a pointer it is empty.
 use Rattle.std.specs.Prelude.{List, [], Option, None, Some}
 use Rattle.std.specs.Arc.{arc_value}
 use Rattle.std.specs.declared.sync.Arc.{Arc}

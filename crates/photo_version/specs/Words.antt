@@ -1,4 +1,4 @@
--- Machinery of the proofs: the device and the epoch of a word.
+-- Machinery of the proofs: the device and the epoch of an author's word.
 use Rattle.std.proofs.Common.{◌≡◌, ℕ, ◌+◌, ◌*◌, ◌/◌, ◌%◌, ◌<◌, arith}
 
 pub device_back : (device epoch : ℕ) → epoch < 4294967296 → (device * 4294967296 + epoch) / 4294967296 ≡ device

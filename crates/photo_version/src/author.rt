@@ -12,15 +12,15 @@ use std::cmp::Ordering;
 use std::hash::{Hash, Hasher};
 use std::marker::Model;
 
-// How many epochs a device has.
+// The number of epochs that a device has.
 const EPOCHS: u64 = 4_294_967_296;
 
-/// Who made a version: a device, by its number in the order of declaration, from 0, in one of its epochs, from 0. Authors
-/// are ordered by device, then epoch.
+/// Who made a version: a device in one of its epochs. Devices are numbered from 0 in order of declaration, epochs from 0.
+/// Authors are ordered by device, then by epoch.
 #[derive(Clone, Copy, Debug)]
 pub struct Author {
     epoch: u32,
-    // Below 65,536. It is as wide as the epoch, so that an author lies in memory as its word.
+    // Below 65,536. The field is as wide as the epoch, so that the author's bytes in memory are its word.
     device: u32,
 }
 
@@ -44,14 +44,14 @@ impl Author {
     ghost use Rattle.std.specs.Prelude.{◌≡◌, ◌<◌, true, SomeIff};
     ghost use Rattle.photo_version.specs.Author.{author, author_at, device_of_author, epoch_of_author, next_author, author_word, is_author_word, author_of_word};
 
-    /// The author that stands for the device of that number in its first epoch.
+    /// The device of that number in epoch 0.
     pub fn new(device: u16) -> Author
         ensures { result ≡ author device }
     {
         Author::at(device, 0)
     }
 
-    /// The author that stands for the device of that number in that epoch.
+    /// The device of that number in that epoch.
     pub fn at(device: u16, epoch: u32) -> Author
         ensures { result ≡ author_at device epoch }
     {
@@ -61,21 +61,21 @@ impl Author {
         }
     }
 
-    /// The number of the device.
+    /// The device's number.
     pub fn value(&self) -> u16
         ensures { result ≡ device_of_author self.now }
     {
         self.device as u16
     }
 
-    /// The epoch of the device, from 0.
+    /// The device's epoch, from 0.
     pub fn epoch(&self) -> u32
         ensures { result ≡ epoch_of_author self.now }
     {
         self.epoch
     }
 
-    /// The same device in its next epoch, `None` in its last one, 4,294,967,295.
+    /// The same device in its next epoch; `None` in the last epoch, 4,294,967,295.
     pub fn next(&self) -> Option<Author>
         ensures { SomeIff result (epoch_of_author self.now < 4294967295) (next_author self.now) }
     {
@@ -86,7 +86,7 @@ impl Author {
         })
     }
 
-    /// The author as one word: words are in the order of authors, and tell them apart.
+    /// The author as one number. Numbers are ordered as authors are, and differ where authors differ.
     pub fn word(&self) -> u64
         ensures value { result ≡ author_word self.now }
         ensures of_author { is_author_word result ≡ true }
@@ -94,7 +94,7 @@ impl Author {
         u64::from(self.device) * EPOCHS + u64::from(self.epoch)
     }
 
-    /// The author of that word.
+    /// The author whose `word` this is.
     pub fn of_word(word: u64) -> Author
         requires { is_author_word word ≡ true }
         ensures { result ≡ author_of_word word }

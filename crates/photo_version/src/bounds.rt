@@ -1,4 +1,4 @@
-// Vectors as slices of their bounds, in the order of their authors.
+// Vectors as slices of bounds, in the order of authors.
 ghost use Rattle.std.specs.Prelude.{◌≡◌, ◌++◌, true, ◌<◌, drop, IfOk, IfSome, OnOk};
 ghost use Rattle.photo_version.specs.Version.{Version};
 ghost use Rattle.photo_version.specs.Vector as spec;
@@ -6,10 +6,10 @@ ghost use Rattle.photo_version.specs.Vector as spec;
 use crate::{Author, Version};
 use std::alloc::{AllocError, Global};
 
-/// The last version of an author that is in a vector, by its number.
+/// An author with the number of its last version in a vector.
 pub type Bound = (Author, u32);
 
-// Whether the version is among those that the bounds denote, where the bound of its author stands at that place.
+// Whether the bounds have the version, if the bound of its author is at that index; else `None`.
 fn has_there(bounds: &[Bound], place: usize, version: Version) -> Option<bool>
     requires { spec.is_vector bounds.now ≡ true }
     ensures { IfSome result (λ is. is ≡ spec.denotes bounds.now version) }
@@ -24,13 +24,13 @@ fn has_there(bounds: &[Bound], place: usize, version: Version) -> Option<bool>
     Some(version.n() <= bound.1)
 }
 
-/// Whether the version is among those that the bounds denote.
+/// Whether the bounds have the version.
 pub fn has(bounds: &[Bound], version: Version) -> bool
     requires { spec.is_vector bounds.now ≡ true }
     ensures { result ≡ spec.denotes bounds.now version }
 {
     let author = version.author();
-    // Where each device before it has one bound, an author's stands at its device's number.
+    // The author's bound is at its device's number if each earlier device has just one bound.
     if let Some(is) = has_there(bounds, author.value() as usize, version) {
         return is;
     }
@@ -42,7 +42,7 @@ pub fn has(bounds: &[Bound], version: Version) -> bool
     bound.0 == author && version.n() <= bound.1
 }
 
-/// Whether what the bounds denote is denoted by the others.
+/// Whether each version of the bounds is among those of the others.
 pub fn is_within(bounds: &[Bound], others: &[Bound]) -> bool
     requires left { spec.is_vector bounds.now ≡ true }
     requires right { spec.is_vector others.now ≡ true }
@@ -72,7 +72,7 @@ pub fn is_within(bounds: &[Bound], others: &[Bound]) -> bool
     true
 }
 
-/// Of each author the greater bound.
+/// The union: for each author the greater bound. Its only error is want of memory.
 pub fn joined(alloc: Global, bounds: &[Bound], others: &[Bound]) -> Result<Vec<Bound>, AllocError>
     requires left { spec.is_vector bounds.now ≡ true }
     requires right { spec.is_vector others.now ≡ true }

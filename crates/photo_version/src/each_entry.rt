@@ -1,4 +1,4 @@
-// Going over the entries of a vector.
+// Iteration over the entries of a vector.
 ghost use Rattle.std.specs.Prelude.{◌≡◌, true};
 ghost use Rattle.std.specs.Slice.Iter.{iter_rest};
 ghost use Rattle.std.specs.Iterator.Adapters.{IterYieldsInOrder};
@@ -8,7 +8,7 @@ use crate::{Author, Vector};
 use std::slice;
 
 impl Vector {
-    /// The entries, in the order of authors: each author, and the number of its last version in the set.
+    /// The entries, in the order of authors: each author with the number of its last version in the set.
     pub fn iter(&self) -> slice::Iter<'_, (Author, u32)>
         ensures entries { iter_rest result ≡ self.now }
         ensures in_order { IterYieldsInOrder Bound }

@@ -1,5 +1,6 @@
-//! Versions of pictures, their authors, and sets of versions. Its invariant: **a vector is a set of versions**, of each author (a
-//! device in an epoch) all up to a bound: it has one entry for each, with a bound above 0, in the order of authors.
+//! Versions of pictures, their authors, and sets of versions. Invariant: **a vector is a set of versions** that has with each
+//! version all earlier ones of its author, a device in an epoch. It has one entry for each author, in order, with a bound above
+//! 0.
 #![tactic(auto)]
 
 mod author;

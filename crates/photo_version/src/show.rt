@@ -1,4 +1,4 @@
-// How authors and versions are shown, with the device's number in place of its name: `0:3`, and `0.1:3` in epoch 1.
+// How authors and versions are shown without device names: `0:3`, and `0.1:3` in epoch 1.
 ghost use Rattle.std.specs.Prelude.{Some};
 ghost use Rattle.photo_version.specs.Showing.{author_text, version_text};
 

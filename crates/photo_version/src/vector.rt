@@ -1,4 +1,4 @@
-// Vectors: what they are seen as, and their calls.
+// The type `Vector` and its methods.
 ghost use Rattle.std.specs.Cmp as laws;
 ghost use Rattle.std.specs.Cmp.Lexicographic.{lists_per, lists_equiv};
 ghost use Rattle.photo_version.specs.Author.{author_word};
@@ -10,8 +10,8 @@ use std::alloc::{AllocError, Global};
 use std::marker::Model;
 use std::sync::Arc;
 
-/// A set of versions that holds, with a version, all earlier ones of its author. It is seen as its entries: of each
-/// author the last version, in the order of authors. Copies share the entries.
+/// A set of versions that has with each version all earlier ones of its author. Contracts see its entries: each author with its
+/// last version, in the order of authors. Copies share the entries.
 #[derive(Debug, Drop)]
 pub struct Vector {
     entries: Option<Arc<Vec<Bound>>>,
@@ -35,7 +35,7 @@ impl Vector {
     ghost use Rattle.photo_version.specs.Version.{Version};
     ghost use Rattle.photo_version.specs.Vector.{denotes, is_vector, raised, joined, is_within};
 
-    /// The empty set. It takes no memory; `alloc` serves what is made of it.
+    /// The empty set. It takes no memory. `alloc` is used for the sets made from it.
     pub fn new(alloc: Global) -> Vector
         ensures { result ≡ [] }
     {
@@ -45,8 +45,7 @@ impl Vector {
         }
     }
 
-    /// The set with those entries, which stand in the order of their authors, each above 0. Its only error is want of
-    /// memory.
+    /// The set with those entries, which are in the order of authors and above 0. Its only error is want of memory.
     pub fn from_entries(alloc: Global, entries: Vec<(Author, u32)>) -> Result<Vector, AllocError>
         requires { is_vector entries.items ≡ true }
         ensures { IfOk result (λ r. r ≡ entries.items) }
@@ -75,7 +74,7 @@ impl Vector {
         bounds::is_within(self.entries(), other.entries())
     }
 
-    /// The number of entries, one for each author of whom a version is in the set.
+    /// The number of entries: one for each author that has a version in the set.
     pub fn len(&self) -> usize
         ensures value { result ≡ length self.now }
         ensures vector { is_vector self.now ≡ true }
@@ -83,14 +82,14 @@ impl Vector {
         self.entries().len()
     }
 
-    /// Whether the set has no version.
+    /// Whether the set is empty.
     pub fn is_empty(&self) -> bool
         ensures { result ≡ (length self.now == 0) }
     {
         self.entries().is_empty()
     }
 
-    /// The author at place `i`, from 0, in the order of authors, and the number of its last version in the set.
+    /// The entry at index `i`, from 0, in the order of authors: an author and the number of its last version in the set.
     pub fn entry(&self, i: usize) -> (Author, u32)
         requires { i < length self.now }
         ensures value { slice_get self.now i ≡ Some result }
@@ -116,7 +115,7 @@ impl Vector {
         Vector::from_entries(self.alloc, bounds::joined(self.alloc, entries, others)?)
     }
 
-    /// The set with the version and all earlier ones of its author. Its only error is want of memory.
+    /// The set with the version and all earlier ones of its author added. Its only error is want of memory.
     pub fn with(&self, version: Version) -> Result<Vector, AllocError>
         ensures value { IfOk result (λ r. r ≡ raised (version.author, version.number) self.now) }
         ensures union { IfOk result
@@ -131,7 +130,7 @@ impl Vector {
         Vector::from_entries(self.alloc, bounds::joined(self.alloc, &[bound], entries)?)
     }
 
-    /// An equal set, which shares the entries. It takes no memory, and fails only where they have too many owners to
+    /// An equal set that shares the entries and takes no memory. Its only error is that the entries have too many owners to
     /// count.
     pub fn try_clone(&self) -> Result<Vector, AllocError>
         ensures { IfOk result (λ copy. copy ≡ self.now) }

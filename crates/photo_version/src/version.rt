@@ -2,7 +2,7 @@
 use crate::Author;
 use std::marker::Model;
 
-/// A version: the one that its author made as its nth, from 1. Versions are ordered by author, then number.
+/// The nth version that its author made, from 1. Versions are ordered by author, then by number.
 #[derive(Clone, Copy, Debug, PartialEq, Eq, PartialOrd, Ord, Hash)]
 pub struct Version {
     author: Author,
@@ -26,7 +26,7 @@ impl Version {
     ghost use Rattle.std.specs.Prelude.{◌≡◌, ◌<◌, SomeIff};
     ghost use Rattle.photo_version.specs.Version as spec;
 
-    /// The version that the author made as its `n`th, `None` for 0.
+    /// The author's `n`th version; `None` for 0.
     pub fn new(author: Author, n: u32) -> Option<Version>
         ensures { SomeIff result (0 < n) (spec.version author n) }
     {
@@ -36,14 +36,14 @@ impl Version {
         Some(Version { author, number: n })
     }
 
-    /// Who made it.
+    /// The author that made the version.
     pub fn author(&self) -> Author
         ensures { result ≡ self.now.author }
     {
         self.author
     }
 
-    /// Its number among its author's versions, from 1.
+    /// The version's number among its author's versions, from 1.
     pub fn n(&self) -> u32
         ensures value { result ≡ self.now.number }
         ensures above_zero { 0 < result }

@@ -1,4 +1,4 @@
--- What is accepted declares names that differ, and makes each picture once.
+-- An accepted script declares different names, and makes each picture once.
 use Rattle.std.proofs.Common.{◌≡◌, ◌⊎◌, inl, inr, ℕ, ◌+◌, ◌≤◌, Bool, true, false, cond, not, ◌&&◌, ltb, leb, List, [], ◌∷◌, ◌++◌, length, Option, Some, None, Result, Ok, Err, codes, refl, sym, ap, subst, ◌∙◌, append_assoc, arith}
 use Rattle.std.specs.List.{AllByRecursion, list_any, position_or_len}
 use Rattle.std.specs.Option.{is_some, option_to_list}
@@ -23,7 +23,7 @@ use Rattle.script_text.specs.Printable.{AllDiffer}
 use Rattle.script_text.proofs.Adding.{names-more, pictures-more}
 use Rattle.script_text.proofs.Differing.{differ-more, each-other, each-picture}
 
--- what is said, step by step
+-- what lines say, step by step
 
 pub bound : {A B : Type 0} (r : Result A LineFault) (f : A → Result B LineFault) (b : B) → (r >>= f) ≡ Ok b → (a : A) × (r ≡ Ok a) × (f a ≡ Ok b)
 bound (Ok a) f b h = (a, refl, h)
@@ -45,11 +45,11 @@ none_if : {A : Type 0} (b : Bool) (x : A) → is_some (cond b (Some x) None) ≡
 none_if true x h = cc
 none_if false x h = refl
 
--- a name is declared that is one, and that isn't declared before
+-- the line declares no name, or a valid name that no earlier line declares
 abbrev pub Declares : Earlier → List (List ℕ) → Type 0
 Declares before fields = (declared_by fields ≡ []) ⊎ ((name : List ℕ) × (declared_by fields ≡ name ∷ []) × (is_name name ≡ true) × (list_any (bytes_eq name) before.names ≡ false))
 
--- a picture is made that isn't made before
+-- the line makes no picture, or a picture that no earlier line makes
 abbrev pub Makes : Earlier → List (List ℕ) → Type 0
 Makes before fields = (made_by fields ≡ []) ⊎ ((p : ℕ) × (made_by fields ≡ p ∷ []) × (before.makes p ≡ false))
 
@@ -117,14 +117,14 @@ makes before (word ∷ arguments) filter x h = by (is_word word (codes "new")) r
         subst (λ w. Makes before (w ∷ arguments)) (sym same) (makes-new before arguments filter x (ap (λ w. fields_said before (w ∷ arguments) filter) (sym same) ∙ h))
     by false e = inl (no-picture word arguments e)
 
--- a line that says something is short, and its fields say it
+-- a line that is read is short, and its fields state what it says
 pub line-parts : (before : Earlier) (line : List ℕ) (x : Option Command) → said before line ≡ Ok x → (length line ≤ max_line_bytes) × (fields_said before (fields_of line) (third_field_on line) ≡ Ok x)
 unfolding said
 line-parts before line x h =
     let short = passed (ltb max_line_bytes (length line)) fault.LineTooLong _ x h in
     (ltb-false max_line_bytes (length line) short.0, short.1)
 
--- Line after line
+-- One line after another
 
 pub record IsGood (lines : List (List ℕ)) : Type 0 where
   pub named : AllByRecursion (λ name. is_name name ≡ true) (names_of lines)
@@ -157,7 +157,7 @@ module _ (lines : List (List ℕ)) (line : List ℕ) (good : IsGood lines) where
       let names = names-good (declares (earlier lines) (fields_of line) (third_field_on line) x fields) in
       record { named = names.0; apart = names.1; made = pictures-good (makes (earlier lines) (fields_of line) (third_field_on line) x fields) }
 
--- what the first of some lines says, and the others
+-- what the first line says, and what the others say
 pub record FirstSaid (n : ℕ) (first : Result (Option Command) LineFault) (rest : List (Result (Option Command) LineFault)) (commands : List Command) : Type 0 where
   pub one : Option Command
   pub says : first ≡ Ok one
@@ -179,6 +179,6 @@ good-all n done (line ∷ more) commands good h =
     let f = first-said n (said (earlier done) line) (sayings (done ++ line ∷ []) more) commands h in
     subst IsGood (append_assoc done (line ∷ []) more) (good-all (n + 1) (done ++ line ∷ []) more f.others (good-more done line good f.one f.says) f.go_on)
 
--- the lines of what is accepted are good
+-- the lines of an accepted script are good
 pub accepted-good : (lines : List (List ℕ)) (commands : List Command) → commands_said 1 (sayings [] lines) ≡ Ok commands → IsGood lines
 accepted-good lines commands h = good-all 1 [] lines commands good-none h

@@ -1,4 +1,4 @@
--- What printed lines say one after another.
+-- What the printed lines of a script say, one after another.
 use Rattle.std.proofs.Common.{◌≡◌, ℕ, ◌+◌, ◌<◌, ◌≤◌, true, false, cond, eqb, List, [], ◌∷◌, ◌++◌, length, get_or, map, Option, Some, None, Result, Ok, Err, codes, refl, sym, ap, subst, ◌∙◌, append_assoc, length-append, zero-add, arith}
 use Rattle.std.specs.List.{AllByRecursion, list_any}
 use Rattle.std.specs.Option.{option_to_list}
@@ -32,7 +32,7 @@ use Rattle.script_text.proofs.NameBytes.{name-field, unplaced}
 use Rattle.script_text.proofs.SaidKinds.{device-line}
 use Rattle.script_text.proofs.CommandLines.{IsLineOf, fields-said, field-plain, word}
 
--- One line more
+-- One more line
 
 pub names-more : (lines : List (List ℕ)) (line : List ℕ) → names_of (lines ++ line ∷ []) ≡ names_of lines ++ declared_by (fields_of line)
 names-more lines line = flat_map-append (λ l. declared_by (fields_of l)) lines (line ∷ []) ∙ ap (λ n. names_of lines ++ n) (append-nil (declared_by (fields_of line)))
@@ -45,7 +45,7 @@ commands-more lines line = sum_by-append (λ l. cond (is_command (fields_of l)) 
 
 -- Lines of devices
 
--- what a line says that declares a name with its filter
+-- what a line that declares a name and its filter says
 pub record IsDeviceLine (name : List ℕ) (filter : Tree) (line : List ℕ) : Type 0 where
   pub plain : is_from 32 line ≡ true
   pub declares : declared_by (fields_of line) ≡ name ∷ []
@@ -74,7 +74,7 @@ device-said name filter good fits short =
           ∙ device-line before name b.first b.more (text_of filter) filter early room good fresh fits;
     }
 
--- each name and its filter have such a line
+-- each name has such a line with its filter
 abbrev pub AreDeviceLines : List (List ℕ) → List Tree → Type 0
 AreDeviceLines [] filters = Unit {0}
 AreDeviceLines (name ∷ names) [] = ⊥
@@ -90,7 +90,7 @@ step-none n first rest e = ap (λ f. commands_said n (f ∷ rest)) e ∙ silent 
 step-some : (n : ℕ) (first : Result (Option Command) LineFault) (rest : List (Result (Option Command) LineFault)) (x : Command) (xs : List Command) → first ≡ Ok (Some x) → commands_said (n + 1) rest ≡ Ok xs → commands_said n (first ∷ rest) ≡ Ok (x ∷ xs)
 step-some n first rest x xs e h = ap (λ f. commands_said n (f ∷ rest)) e ∙ ap (with_front (x ∷ [])) h
 
--- the lines of devices say nothing that runs
+-- the lines of devices give no commands
 pub devices-said : (n : ℕ) (done : List (List ℕ)) (names : List (List ℕ)) (filters : List Tree) (more : List (List ℕ)) → commands_of done ≡ 0 → length (names_of done) + length names ≤ max_devices → AllDiffer (names_of done ++ names) → AreDeviceLines names filters
     → (m : ℕ) × (commands_said n (sayings done (lines_of_devices names filters ++ more)) ≡ commands_said m (sayings (done ++ lines_of_devices names filters) more))
 devices-said n done [] filters more none room apart lines = (n, ap (λ d. commands_said n (sayings d more)) (sym (append-nil done)))
@@ -107,7 +107,7 @@ devices-said n done (name ∷ names) (filter ∷ filters) more none room apart l
     let after = devices-said (n + 1) (done ++ line ∷ []) names filters more commands' room' apart' lines.1 in
     (after.0, step-none n (said (earlier done) line) (sayings (done ++ line ∷ []) (rest ++ more)) says ∙ after.1 ∙ ap (λ d. commands_said after.0 (sayings d more)) (append_assoc done (line ∷ []) rest))
 
--- and what they tell later lines
+-- what the lines of devices tell later lines
 pub names-devices : (names : List (List ℕ)) (filters : List Tree) → AreDeviceLines names filters → names_of (lines_of_devices names filters) ≡ names
 names-devices [] filters lines = refl
 names-devices (name ∷ names) [] lines = absurd lines
@@ -145,7 +145,7 @@ pub filters-commands : (s : Contents) (commands : List Command) → AreCommandLi
 filters-commands s [] lines = refl
 filters-commands s (x ∷ xs) lines = ap (λ fs. fs ++ filters_of (map (line_of_command s) xs)) lines.0.no_filter ∙ filters-commands s xs lines.1
 
--- a picture isn't among those before it
+-- the picture isn't among those before it
 pub not-made : (front : List ℕ) (p : ℕ) (rest : List ℕ) → AllDiffer (front ++ p ∷ rest) → list_any (λ q. eqb q p) front ≡ false
 not-made front p rest apart =
     let all = front ++ p ∷ rest in
@@ -154,7 +154,7 @@ not-made front p rest apart =
     list_any_none (λ q. eqb q p) front (All-from_get_or (λ q. eqb q p ≡ false) front 0 (λ k lt.
     ne_eqb (get_or front k 0) p (λ e. apart k (length front) 0 lt within (get_or_append_left front (p ∷ rest) 0 k lt ∙ e ∙ sym here))))
 
--- the lines of commands say them
+-- the lines of commands say these commands
 pub commands-are-said : (s : Contents) (n : ℕ) (done : List (List ℕ)) (commands : List Command) → names_of done ≡ s.names → commands_of done + length commands ≤ max_commands → AllDiffer (pictures_of done ++ pictures_made commands) → AreCommandLines s commands
     → commands_said n (sayings done (map (line_of_command s) commands)) ≡ Ok commands
 commands-are-said s n done [] names room apart lines = refl

@@ -1,11 +1,11 @@
--- Texts of bytes from a bound on: without ends of lines, without spaces.
+-- Texts whose bytes aren't below a bound, so they have no LF or no space.
 use Rattle.std.proofs.Common.{◌≡◌, ℕ, suc, ◌<◌, ◌≤◌, Bool, true, false, eqb, leb, List, [], ◌∷◌, ◌++◌, length, get_or, refl, ◌∙◌, arith}
 use Rattle.std.specs.List.{All, list_all}
 use Rattle.std.proofs.lemmas.Bool.{and_parts, and_from, ne_eqb, leb-true, le-leb}
 use Rattle.std.proofs.lemmas.List.Elements.{All-cons, All-nil}
 use Rattle.std.proofs.lemmas.List.Folds.{list_all-append}
 
--- no byte is below the bound
+-- no byte of the text is below the bound
 abbrev pub is_from : ℕ → List ℕ → Bool
 is_from low bs = list_all (λ b. leb low b) bs
 
@@ -26,7 +26,7 @@ pub from-places : (low : ℕ) (bs : List ℕ) → ((k : ℕ) → k < length bs �
 from-places low [] h = refl
 from-places low (b ∷ bs) h = from-cons low b bs (h 0 (omega arith)) (from-places low bs (λ k lt. h (suc k) (omega arith)))
 
--- a byte below the bound is none of them
+-- a byte below the bound isn't in the text
 pub none-is : (c low : ℕ) (bs : List ℕ) → c < low → is_from low bs ≡ true → All (λ b. eqb b c ≡ false) bs
 none-is c low [] lt h = All-nil (λ b. eqb b c ≡ false)
 none-is c low (b ∷ bs) lt h =

@@ -33,7 +33,7 @@ use Rattle.script_text.proofs.NameBytes.{name-at, name-field}
 use Rattle.script_text.proofs.Saying.{are-spelt, record-said, picture-said, new_picture-said, device-said, version-said, version-field}
 use Rattle.script_text.proofs.Wording.{words-field}
 
--- what a line says, and what it tells about later ones
+-- what the command's line says, and what it tells later lines
 pub record IsLineOf (s : Contents) (x : Command) (line : List ℕ) : Type 0 where
   pub plain : is_from 32 line ≡ true
   pub no_name : declared_by (fields_of line) ≡ []
@@ -42,7 +42,7 @@ pub record IsLineOf (s : Contents) (x : Command) (line : List ℕ) : Type 0 wher
   pub counts : is_command (fields_of line) ≡ true
   pub says : (before : Earlier) → IsBefore s x before → said before line ≡ Ok (Some x)
 
--- the same of its fields
+-- the same for the line's fields
 record IsFieldsOf (s : Contents) (x : Command) (fields : List (List ℕ)) (filter : List ℕ) : Type 0 where
   no_name : declared_by fields ≡ []
   no_filter : filter_declared_by fields filter ≡ []
@@ -64,18 +64,18 @@ of-fields s x line fields plain short is h = record {
   says = λ before b. fields-said before line short ∙ ap (λ fs. fields_said before fs (third_field_on line)) is ∙ h.says before b;
 }
 
--- a line of fields alone
+-- a line that consists of fields only
 of-joined : (s : Contents) (x : Command) (fields : List (List ℕ)) → AllByRecursion IsField fields → length (join_with_byte 32 fields) ≤ max_line_bytes → ((filter : List ℕ) → IsFieldsOf s x fields filter) → IsLineOf s x (join_with_byte 32 fields)
 of-joined s x fields each short h = of-fields s x (join_with_byte 32 fields) fields (joined-from fields each) short (fields-joined fields each) (h (third_field_on (join_with_byte 32 fields)))
 
--- a field that is written out
+-- a fixed word is a field
 pub word : (w : List ℕ) → is_from 33 w ≡ true → is_not_empty w ≡ true → IsField w
 word w h g = record { plain = h; some = g }
 
 pub field-plain : (x : List ℕ) → IsField x → is_from 32 x ≡ true
 field-plain x f = from-weaker 32 33 x (omega arith) f.plain
 
--- the line of a filter
+-- a line with a filter
 filter-line : (s : Contents) (x : Command) (start name : List ℕ) (filter : Tree) → IsField start → IsField name → FitsFilter filter → length (start ␣ name ␣ text_of filter) ≤ max_line_bytes
     → ((first : List ℕ) (more : List (List ℕ)) → IsFieldsOf s x (start ∷ name ∷ first ∷ more) (text_of filter)) → IsLineOf s x (start ␣ name ␣ text_of filter)
 filter-line s x start name filter w n fits short h =
@@ -99,7 +99,7 @@ module _ (s : Contents) (named : AllByRecursion (λ name. is_name name ≡ true)
   picture-field : (n : ℕ) → IsPicNo n → IsField (decimal n)
   picture-field n h = let high : n ≤ 999_999_999 = h.1 in decimal-field n (omega arith)
 
-  -- Lines of fields alone
+  -- Lines that consist of fields only
 
   remove : (device picture : ℕ) → device < length s.names → IsPicNo picture → IsShort (line_of_command s (command.Remove device picture)) → IsLineOf s (command.Remove device picture) (line_of_command s (command.Remove device picture))
   unfolding line_of_command
@@ -229,7 +229,7 @@ module _ (s : Contents) (named : AllByRecursion (λ name. is_name name ≡ true)
         says = λ before b. refilter-line before b.room (text_of filter) (name_of s device) device (known _ before b device within) first more filter fits;
       })
 
-  -- of each kind
+  -- the line of each kind of command
   pub command-line : (x : Command) → IsWithin (length s.names) x → IfSome (record_of x) IsInRange → FitsCommand s x → HasValues x → IsShort (line_of_command s x) → IsLineOf s x (line_of_command s x)
   command-line (command.New device picture (content.Picture rating day words)) within range fits has short = new device picture rating day words within.0 has.0 range.rating range.day has.1 fits short
   command-line (command.New device picture content.Removed) within range fits has short = absurd fits

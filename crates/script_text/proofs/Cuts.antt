@@ -1,4 +1,4 @@
--- Lines and fields of what is joined: the lines of lines that end with LF, the fields of fields with spaces between them.
+-- Splitting what was joined: lines ended by LF, and fields separated by spaces.
 use Rattle.std.proofs.Common.{◌≡◌, ℕ, suc, ◌+◌, ◌-◌, Bool, true, false, not, eqb, List, [], ◌∷◌, ◌++◌, length, get_or, take, drop, map, Some, None, refl, sym, ap, ◌∙◌, append_assoc, arith}
 use Rattle.std.specs.List.{All, AllByRecursion, slice_split, onto_first, filter, flat_map, join_with_byte, list_any, before_first, after_first, position_or_len}
 use Rattle.std.specs.Str.Lines.{strip_carriage_return}
@@ -58,7 +58,7 @@ pub some-append : (xs ys : List ℕ) → is_not_empty xs ≡ true → is_not_emp
 some-append [] ys h = let bad : false ≡ true = h in cc
 some-append (b ∷ bs) ys h = some-cons b (bs ++ ys)
 
--- no byte of fields with spaces between them is an end of a line
+-- fields joined by spaces have no LF
 pub joined-from : (fields : List (List ℕ)) → AllByRecursion IsField fields → is_from 32 (join_with_byte 32 fields) ≡ true
 joined-from [] h = refl
 joined-from (x ∷ []) h = from-weaker 32 33 x (omega arith) h.0.plain
@@ -81,7 +81,7 @@ fields-joined [] h = refl
 fields-joined (x ∷ []) h = field-alone x h.0
 fields-joined (x ∷ y ∷ ys) h = field-first x (join_with_byte 32 (y ∷ ys)) h.0 ∙ ap (λ fs. x ∷ fs) (fields-joined (y ∷ ys) h.1)
 
--- a text that begins with no space has a field
+-- a text that doesn't begin with a space has a field
 pub fields-some : (b : ℕ) (bs : List ℕ) → eqb b 32 ≡ false → (first : List ℕ) × (more : List (List ℕ)) × (fields_of (b ∷ bs) ≡ first ∷ more)
 fields-some b bs h = by (slice_split (λ x. eqb x 32) bs) (ap (filter is_not_empty) (slice_split-cons_no (λ x. eqb x 32) b bs h))
   where
@@ -113,7 +113,7 @@ module _ (p : ℕ → Bool) (xs : List ℕ) (y : ℕ) (ys : List ℕ) (none : Al
       (list_any_at p (xs ++ y ∷ ys) (length xs) 0 (omega (arith, length-append xs (y ∷ ys))) (ap p (get_or_at xs y ys 0 (length xs) refl) ∙ at))
       ∙ ap (λ t. Some (t, after_first p (xs ++ y ∷ ys))) before-cut ∙ ap (λ t. Some (xs, t)) after-cut
 
--- The third field on
+-- The text from the third field on
 
 without-own : (x rest : List ℕ) → IsField x → without_spaces (x ++ 32 ∷ rest) ≡ x ++ 32 ∷ rest
 without-own [] rest f = let bad : false ≡ true = f.some in cc

@@ -1,4 +1,4 @@
--- Lists in which nothing stands twice, one element more at a time.
+-- Lists without duplicates, one element at a time.
 use Rattle.std.proofs.Common.{◌≡◌, ◌≢◌, inl, inr, ℕ, ◌+◌, ◌<◌, ◌≤◌, Bool, true, false, cond, ◌||◌, eqb, List, [], ◌∷◌, ◌++◌, length, take, drop, get_or, slice_get, Some, refl, sym, ap, subst, ◌∙◌, length-append, arith}
 use Rattle.std.proofs.lemmas.Bool.Decides.{nat_tests}
 use Rattle.std.specs.List.{All, AllByRecursion, list_any}
@@ -43,7 +43,7 @@ pub record NamesAre (names : List (List ℕ)) (i : ℕ) : Type 0 where
   pub named : All (λ name. is_name name ≡ true) (take i names)
   pub apart : AllDiffer (take i names)
 
--- a name is none of those before it
+-- a name differs from those before it
 none-before : (front : List (List ℕ)) (name : List ℕ) (rest : List (List ℕ)) → AllDiffer (front ++ name ∷ rest) → list_any (bytes_eq name) front ≡ false
 none-before front name rest apart =
     let all = front ++ name ∷ rest in
@@ -92,7 +92,7 @@ module _ (commands : List Command) (i : ℕ) (x : Command) (at : slice_get comma
   pictures-more : pictures_made (take (i + 1) commands) ≡ pictures_made (take i commands) ++ made_in x
   pictures-more = ap pictures_made (one-more commands i x at) ∙ flat_map-append made_in (take i commands) (x ∷ []) ∙ ap (λ ps. pictures_made (take i commands) ++ ps) (append-nil (made_in x))
 
-  -- a command that makes no picture
+  -- the command makes no picture
   pub made-same : (made : BTreeSet ℕ) → AreMadeOnce commands made i → made_in x ≡ [] → AreMadeOnce commands made (i + 1)
   made-same made h none =
       let same : pictures_made (take (i + 1) commands) ≡ pictures_made (take i commands) = pictures-more ∙ ap (λ ps. pictures_made (take i commands) ++ ps) none ∙ append-nil (pictures_made (take i commands)) in
@@ -101,7 +101,7 @@ module _ (commands : List Command) (i : ℕ) (x : Command) (at : slice_get comma
         apart = subst AllDiffer (sym same) h.apart;
       }
 
-  -- and one that makes another
+  -- the command makes a new picture
   pub made-more : (made more : BTreeSet ℕ) (p : ℕ) → AreMadeOnce commands made i → made_in x ≡ p ∷ [] → contains nat_cmp made p ≡ false → Updates nat_cmp made more p true → AreMadeOnce commands more (i + 1)
   made-more made more p h makes fresh updates =
       let front = pictures_made (take i commands) in
@@ -114,7 +114,7 @@ module _ (commands : List Command) (i : ℕ) (x : Command) (at : slice_get comma
         apart = subst AllDiffer (sym same) (differ-more front p h.apart (each-picture front p (sym (h.has p) ∙ fresh)));
       }
 
-  -- or one again
+  -- the command makes a picture that was made before
   pub made-again : (made : BTreeSet ℕ) (p : ℕ) → AreMadeOnce commands made i → made_in x ≡ p ∷ [] → contains nat_cmp made p ≡ true → AllDiffer (pictures_made commands) → ⊥
   made-again made p h makes again apart =
       let front = pictures_made (take i commands) in

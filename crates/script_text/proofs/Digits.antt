@@ -1,4 +1,4 @@
--- Numbers as they are written in digits, and read back.
+-- Numbers written in digits and read back.
 use Rattle.std.proofs.Common.{◌≡◌, ℕ, zero, suc, ◌+◌, ◌<◌, ◌≤◌, ◌^◌, Bool, true, false, cond, not, ◌&&◌, eqb, leb, List, [], ◌∷◌, length, get_or, Some, None, refl, ap, ◌∙◌, arith}
 use Rattle.std.specs.Char.{is_ascii_digit}
 use Rattle.std.specs.Fmt.{decimal}
@@ -27,7 +27,7 @@ digits-from (d ∷ ds) h =
     let range = and_parts (leb 48 d) (leb d 57) parts.0 in
     from-cons 48 d ds (leb-true 48 d range.0) (digits-from ds parts.1)
 
--- no digit is a greater byte
+-- digits have no byte above `9`
 digits-none : (c : ℕ) → 57 < c → (ds : List ℕ) → all_ascii_digits ds ≡ true → All (λ b. eqb b c ≡ false) ds
 digits-none c lt [] h = All-nil (λ b. eqb b c ≡ false)
 digits-none c lt (d ∷ ds) h =
@@ -55,7 +55,7 @@ decimal-form : (ds : List ℕ) → 48 < get_or ds 0 0 → all_ascii_digits ds �
 decimal-form [] low digits = absurd (omega arith)
 decimal-form (d ∷ ds) low digits = and_from (not (eqb d 48)) (all_ascii_digits (d ∷ ds)) (not_from_false (eqb d 48) (ne_eqb d 48 (λ e. absurd (omega arith)))) digits
 
--- a number in a range is read of its digits
+-- a number in range is read back from its digits
 read-back : (fits : ℕ → Bool) (n : ℕ) → 0 < n → n < 2 ^ 64 → fits n ≡ true
     → cond (is_decimal (decimal n) && fits (number_of (decimal n))) (Some (number_of (decimal n))) None ≡ Some n
 read-back fits n some small fit =

@@ -1,4 +1,4 @@
--- The bytes of a filter's text: none is an end of a line, and the first is no space.
+-- The bytes of a filter's text: it has no LF, and it doesn't begin with a space.
 use Rattle.std.proofs.Common.{◌≡◌, ℕ, ◌+◌, ◌/◌, ◌%◌, true, false, eqb, List, [], ◌∷◌, ◌++◌, ℤ, codes, refl, arith}
 use Rattle.std.proofs.lemmas.Bool.{cond-false}
 use Rattle.photo_record.specs.Calendar.{Civil, date_of}
@@ -35,11 +35,11 @@ cmp-plain AtLeast = refl
 cmp-plain AtMost = refl
 cmp-plain Equal = refl
 
--- a text, a space and another text
+-- two texts with a space between them
 spaced : (xs ys : List ℕ) → is_from 32 xs ≡ true → is_from 32 ys ≡ true → is_from 32 (xs ++ 32 ∷ ys) ≡ true
 spaced xs ys h g = from-append 32 xs (32 ∷ ys) h g
 
--- what follows `and` or `or` in brackets
+-- the part of a bracket after its first tree
 joint : (w x y : List ℕ) → is_from 32 w ≡ true → is_from 32 x ≡ true → is_from 32 y ≡ true → is_from 32 (x ++ 32 ∷ (w ++ 32 ∷ (y ++ 32 ∷ codes ")"))) ≡ true
 joint w x y p q r = spaced x (w ++ 32 ∷ (y ++ 32 ∷ codes ")")) q (spaced w (y ++ 32 ∷ codes ")") p (spaced y (codes ")") r refl))
 
@@ -60,12 +60,12 @@ mutual
   term-plain (factor f) = factor-plain f
   term-plain (conjunction {a = a} {b = b} e f) = joint (codes "and") (text_of a) (text_of b) refl (term-plain e) (factor-plain f)
 
-  -- of a filter that tokens are
+  -- the text of a filter's tree
   pub filter-plain : {ts : List Token} {t : Tree} → IsExpr ts t → is_from 32 (text_of t) ≡ true
   filter-plain (term t) = term-plain t
   filter-plain (disjunction {a = a} {b = b} e f) = joint (codes "or") (text_of a) (text_of b) refl (filter-plain e) (term-plain f)
 
--- it begins with no space
+-- the text begins with a field
 pub record BeginsField (text : List ℕ) : Type 0 where
   pub first : List ℕ
   pub more : List (List ℕ)

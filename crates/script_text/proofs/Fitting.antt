@@ -1,4 +1,4 @@
--- A script fits where its parts do.
+-- A script is printable exactly if its parts are.
 use Rattle.std.proofs.Common.{◌≡◌, ℕ, ◌≤◌, true, List, [], ◌∷◌, ◌++◌, length, map, Ok, IsUtf8, ap, subst, ◌∙◌, arith}
 use Rattle.std.specs.List.{AllByRecursion}
 use Rattle.photo_filter_text.specs.Tree.{Tree}
@@ -53,7 +53,7 @@ fit-devices s h = devices-from s.names s.filters h.filters (short-front (lines_o
 pub fit-commands : (s : Contents) → IsPrintable s → AllByRecursion (FitsLine s) s.commands
 fit-commands s h = commands-from s s.commands h.commands (short-rest (lines_of_devices s.names s.filters) (map (line_of_command s) s.commands) h.lines)
 
--- the parts that fit
+-- all parts are within the limits
 pub record PartsFit (s : Contents) : Type 0 where
   pub named : AllByRecursion (λ name. is_name name ≡ true) s.names
   pub apart : AllDiffer s.names

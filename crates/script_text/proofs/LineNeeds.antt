@@ -1,4 +1,4 @@
--- What a printed line needs to be read as its command.
+-- What must hold of a printed line that reads as its command.
 use Rattle.std.proofs.Common.{◌≡◌, ◌≢◌, inl, inr, ℕ, ℤ, ◌+◌, ◌*◌, ◌/◌, ◌%◌, ◌<◌, ◌≤◌, Bool, true, false, cond, not, ◌&&◌, eqb, ltb, leb, List, [], ◌∷◌, ◌++◌, length, Option, Some, None, Result, Ok, codes, refl, sym, ap, subst, ◌∙◌, arith}
 use Rattle.std.specs.Prelude.{IfSome}
 use Rattle.std.specs.Fmt.{decimal}
@@ -203,7 +203,7 @@ abbrev set-of : Record → List (List ℕ)
 set-of (content.Picture rating day words) = words
 set-of content.Removed = []
 
--- a record that a line says isn't the one word `-`
+-- a record that reads back from its line doesn't have `-` as its only word
 not-dash : (rating : ℕ) (day : ℤ) (words : List (List ℕ)) → rating ≤ max_rating → IsDay day → record_said (decimal rating) (date_text day) (words_text words) ≡ Ok (content.Picture rating day words) → words ≢ (codes "-" ∷ [])
 not-dash rating day words stars date h e =
     let none : AreWords [] = (record { rising = refl; few = omega arith; each = All-nil IsWord }, tt) in
@@ -221,7 +221,7 @@ removed-refused-edit : (before : Earlier) (name picture last filter : List ℕ) 
 unfolding fields_said command_line_said edit_line_said
 removed-refused-edit before name picture last filter x h = cc
 
--- a printed line has no end of a line in it; and what it has to be where it is read as its command
+-- a printed line has no LF, and a command that reads back from its line is one that a line can state
 pub record Needs (s : Contents) (x : Command) : Type 0 where
   pub plain : is_from 32 (line_of_command s x) ≡ true
   pub needs : (before : Earlier) → before.names ≡ s.names → said before (line_of_command s x) ≡ Ok (Some x) → FitsCommand s x

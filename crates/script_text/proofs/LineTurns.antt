@@ -1,4 +1,4 @@
--- The lines of a script, put behind a text one by one, and whether they fit.
+-- The lines of a script, appended one by one, and whether they fit.
 use Rattle.std.proofs.Common.{◌≡◌, ℕ, ◌+◌, List, ◌∷◌, ◌++◌, drop, map, slice_get, Some, sym, ap, subst, ◌∙◌, append_assoc}
 use Rattle.std.specs.List.{AllByRecursion}
 use Rattle.std.proofs.lemmas.List.{drop_more}
@@ -10,11 +10,11 @@ use Rattle.script_text.specs.Texts.{line_of_command, line_of_device, lines_of_de
 use Rattle.script_text.specs.Printable.{HasValues}
 use Rattle.script_text.specs.Parts.{FitsDevice, FitDevices, FitsLine}
 
--- what is left from a place
+-- the remaining elements, split at the first
 left : {X : Type 0} (xs : List X) (i : ℕ) (x : X) → slice_get xs i ≡ Some x → drop i xs ≡ x ∷ drop (i + 1) xs
 left xs i x at = drop_more xs i x (slice_get_within xs i x at) ∙ ap (λ y. y ∷ drop (i + 1) xs) (get_or_from_slice_get xs i x x at)
 
--- the lines of so many devices stand behind a text, and these fit
+-- the lines of the first i devices are appended, and they fit
 pub record DevicesArePut (names : List (List ℕ)) (filters : List Tree) (old now : List ℕ) (i : ℕ) : Type 0 where
   pub text : now ++ text_of_lines (lines_of_devices (drop i names) (drop i filters)) ≡ old ++ text_of_lines (lines_of_devices names filters)
   pub fit : FitDevices (drop i names) (drop i filters) → FitDevices names filters
@@ -31,7 +31,7 @@ module _ (names : List (List ℕ)) (filters : List Tree) (old now : List ℕ) (i
     fit-to : FitDevices (drop i names) (drop i filters) → FitDevices (name ∷ drop (i + 1) names) (filter ∷ drop (i + 1) filters)
     fit-to g = subst (FitDevices (name ∷ drop (i + 1) names)) (left filters i filter filtered) (subst (λ ns. FitDevices ns (drop i filters)) (left names i name named) g)
 
-    -- one device more
+    -- one more device
     pub device-put : (new : List ℕ) → FitsDevice name filter → new ≡ now ++ ended (line_of_device name filter) → DevicesArePut names filters old new (i + 1)
     device-put new fits is = record {
       text =
@@ -41,11 +41,11 @@ module _ (names : List (List ℕ)) (filters : List Tree) (old now : List ℕ) (i
       needs = λ g. (fit-to (h.needs g)).1;
     }
 
-    -- and one that doesn't fit
+    -- one more device, whose line doesn't fit
     pub device-refused : (FitsDevice name filter → ⊥) → FitDevices names filters → ⊥
     device-refused bad g = bad (fit-to (h.needs g)).0
 
--- the same of commands
+-- the same for commands
 pub record CommandsArePut (s : Contents) (commands : List Command) (old now : List ℕ) (i : ℕ) : Type 0 where
   pub text : now ++ text_of_lines (map (line_of_command s) (drop i commands)) ≡ old ++ text_of_lines (map (line_of_command s) commands)
   pub fit : AllByRecursion (FitsLine s) (drop i commands) → AllByRecursion (FitsLine s) commands

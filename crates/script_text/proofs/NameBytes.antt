@@ -1,4 +1,4 @@
--- The bytes of a name, and where it stands among others.
+-- The bytes of a name, and its place among names.
 use Rattle.std.proofs.Common.{◌≡◌, ◌≢◌, ℕ, ◌<◌, ◌≤◌, inl, inr, true, false, cond, ◌&&◌, eqb, leb, ltb, List, [], ◌∷◌, ◌++◌, length, get_or, Some, None, refl, sym, ap, ◌∙◌, arith}
 use Rattle.std.specs.Char.{is_ascii_lowercase, is_ascii_digit}
 use Rattle.std.specs.List.{All, AllByRecursion, list_all}
@@ -78,14 +78,14 @@ name-at names k named within = All-get_or (λ name. is_name name ≡ true) names
 pub differ : (a b : List ℕ) → (b ≡ a → ⊥) → bytes_eq a b ≡ false
 differ a b h = false_from_ne_true (bytes_eq a b) (λ t. h (sym ((bytes_eq-Decides a b).0 t)))
 
--- a name has its own place among names that differ
+-- each name stands at its own place among names that differ
 pub placed : (names : List (List ℕ)) → AllDiffer names → (k : ℕ) → k < length names → place_of names (get_or names k []) ≡ Some k
 placed names apart k within =
     let name = get_or names k [] in
     let at = position_or_len_is (bytes_eq name) names k [] (omega arith) (λ j lt. differ name (get_or names j []) (apart j k [] lt within)) (λ lt. (bytes_eq-Decides name name).1 refl) in
     ap (λ n. cond (ltb n (length names)) (Some n) None) at ∙ cond-true (ltb k (length names)) (Some k) None (lt-ltb k (length names) within)
 
--- and none among those before it
+-- a name has no place among those before it
 pub unplaced : (front : List (List ℕ)) (name : List ℕ) (rest : List (List ℕ)) → AllDiffer (front ++ name ∷ rest) → place_of front name ≡ None
 unplaced front name rest apart =
     let all = front ++ name ∷ rest in

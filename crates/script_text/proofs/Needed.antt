@@ -1,4 +1,4 @@
--- Only the text of a script within the limits is read as that script.
+-- Only a script within the limits is read back from its text.
 use Rattle.std.proofs.Common.{◌≡◌, ℕ, suc, ◌+◌, ◌≤◌, true, not, ltb, List, [], ◌∷◌, ◌++◌, length, map, Option, Some, None, Result, Ok, Err, refl, sym, ap, subst, ◌∙◌, append_assoc, length-append, arith}
 use Rattle.std.specs.Prelude.{IfSome}
 use Rattle.std.specs.List.{AllByRecursion}
@@ -112,7 +112,7 @@ pictures-commands : (s : Contents) (commands : List Command) → AreCommandLines
 pictures-commands s [] lines = refl
 pictures-commands s (x ∷ xs) lines = ap (λ ps. ps ++ pictures_of (map (line_of_command s) xs)) lines.0.makes ∙ ap (λ ps. made_in x ++ ps) (pictures-commands s xs lines.1)
 
--- The whole
+-- The whole text
 
 record IsAccepted (text : List ℕ) (s : Contents) : Type 0 where
   small : length text ≤ max_text_bytes

@@ -1,4 +1,4 @@
--- What the fields of each kind of line say, by what single fields say.
+-- What each kind of line says, by what its fields say.
 use Rattle.std.proofs.Common.{◌≡◌, ℕ, ◌<◌, ◌≤◌, true, false, eqb, List, [], ◌∷◌, length, Some, None, Ok, codes, ap}
 use Rattle.std.proofs.lemmas.Bool.{lt-leb, le-ltb}
 use Rattle.photo_record.specs.declared.record.Record.{Record}

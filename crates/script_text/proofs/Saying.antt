@@ -110,7 +110,7 @@ epoch-no_colon epoch few = by (eqb epoch 0) refl
 no-colon : (name : List ℕ) (epoch : ℕ) → is_name name ≡ true → epoch ≤ max_epoch → All (λ b. is_colon b ≡ false) (name ++ epoch_text epoch)
 no-colon name epoch good few = All-append (λ b. is_colon b ≡ false) name (epoch_text epoch) (name-no_colon name good) (epoch-no_colon epoch few)
 
--- author, colon and number
+-- a version's text is its author, a colon and its number
 cut-version : (s : Contents) (v : Version) → version_text s v ≡ author_text s v.author ++ 58 ∷ decimal v.number
 cut-version s v = append_assoc (author_text s v.author) (58 ∷ []) (decimal v.number)
 

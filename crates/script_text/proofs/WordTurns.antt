@@ -1,4 +1,4 @@
--- Words with commas between them, one more at a time.
+-- Words separated by commas, appended one at a time.
 use Rattle.std.proofs.Common.{◌≡◌, ◌<◌, ◌≤◌, ◌+◌, ◌∷◌, ◌++◌, ℕ, List, [], length, take, slice_get, Some, refl, sym, ap, subst, ◌∙◌, append_assoc, IsUtf8, codes, arith}
 use Rattle.std.specs.List.{All, join_with_byte}
 use Rattle.std.proofs.lemmas.List.{take_more, length-take-le, take_all}
@@ -12,7 +12,7 @@ join-push c [] y some = absurd (omega arith)
 join-push c (x ∷ []) y some = refl
 join-push c (x ∷ z ∷ zs) y some = ap (λ t. x ++ (c ∷ t)) (join-push c (z ∷ zs) y (omega arith)) ∙ sym (append_assoc x (c ∷ join_with_byte c (z ∷ zs)) (c ∷ y))
 
--- so many words are written behind a text
+-- the first i words are appended to the text
 pub record AreWritten (words : List (List ℕ)) (old now : List ℕ) (i : ℕ) : Type 0 where
   pub text : now ≡ old ++ join_with_byte 44 (take i words)
   pub utf8 : All IsUtf8 (take i words)

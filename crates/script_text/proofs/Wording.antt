@@ -1,4 +1,4 @@
--- Sets of words as they are written, and read back.
+-- Sets of words written and read back.
 use Rattle.std.proofs.Common.{◌≡◌, ◌≢◌, ℕ, suc, ◌+◌, ◌<◌, ◌≤◌, Bool, true, false, cond, not, eqb, leb, ltb, List, [], ◌∷◌, ◌++◌, length, get_or, chars, IsUtf8, encode_utf8_all, codes, Ok, Err, refl, sym, ap, ◌∙◌, append_assoc, arith, inl, inr}
 use Rattle.std.specs.Cmp.{IsTotalOrder}
 use Rattle.std.specs.Cmp.Lexicographic.{slice_cmp, texts_ties}
@@ -31,7 +31,7 @@ none-bad : (cs : List ℕ) → list_any is_bad_character cs ≡ false → NonePa
 none-bad [] h = tt
 none-bad (c ∷ cs) h = let parts = or_parts (is_bad_character c) (list_any is_bad_character cs) h in (parts.0, none-bad cs parts.1)
 
--- no byte is a bad character, where no character is
+-- if no character is bad, no byte is a bad character
 module _ (w : List ℕ) (good : NoCharPasses is_bad_character w) where
   good-byte : (k : ℕ) → k < length w → get_or w k 0 < 128 → is_bad_character (get_or w k 0) ≡ false
   good-byte k lt small = NoCharPasses-byte is_bad_character w k good lt small
@@ -48,7 +48,7 @@ module _ (w : List ℕ) (good : NoCharPasses is_bad_character w) where
   pub good-plain : is_from 33 w ≡ true
   good-plain = from-places 33 w high-byte
 
-  -- no comma
+  -- a comma is a bad character
   comma-byte : (b : ℕ) → is_bad_character b ≡ false → b ≡ 44 → ⊥
   comma-byte b h e = false≢true (sym h ∙ ap is_bad_character e)
 
@@ -67,7 +67,7 @@ word-plain w word utf8 = good-plain w (word-good w word utf8)
 word-no_comma : (w : List ℕ) → IsWord w → IsUtf8 w → All (λ b. eqb b 44 ≡ false) w
 word-no_comma w word utf8 = good-no_comma w (word-good w word utf8)
 
--- nor is one of a word that is read
+-- the bytes of a word that is read aren't bad characters
 
 read-parts : (form word w : List ℕ) → cond (eqb (length form) 0) (Err Empty) (cond (list_any is_bad_character form) (Err BadCharacter) (cond (ltb 64 (length word)) (Err TooLong) (Ok word))) ≡ Ok w → (list_any is_bad_character form ≡ false) × (word ≡ w)
 read-parts form word w = by _ _ _ refl
@@ -111,7 +111,7 @@ less-from v w h = by (order v w) h
     by Equal h = cc
     by Greater h = cc
 
--- each of some words stands before another
+-- each of these words stands before another word
 abbrev AreBefore : List (List ℕ) → List ℕ → Type 0
 AreBefore front w = AllByRecursion (λ v. order v w ≡ Less) front
 
@@ -134,7 +134,7 @@ before-more : (front : List (List ℕ)) (v w : List ℕ) → AreBefore front v �
 before-more [] v w h g = (g, tt)
 before-more (u ∷ us) v w h g = (total.trans u v w h.0 g, before-more us v w h.1 g)
 
--- Words that rise are read as they stand
+-- Words in rising order are read back as they are
 
 piece-read : (front : List (List ℕ)) (w : List ℕ) → IsSpelt w → AreBefore front w → length front < 16 → with_piece front w ≡ Ok (front ++ w ∷ [])
 piece-read front w spelt before room =

@@ -20,7 +20,7 @@ beach = content.Picture 5 (pos 19_844) (codes "beach" ∷ codes "sun" ∷ [])
 abbrev pub bare : Record
 bare = content.Picture 0 (pos 19_845) []
 
--- a line of each kind
+-- a script with a line of each kind
 abbrev pub each_kind : Contents
 each_kind = contents (codes "cam" ∷ codes "hall" ∷ []) (All ∷ Rate AtLeast 3 ∷ []) (
     command.New 0 7 beach ∷ command.Edit 0 7 bare ∷ command.Pull 1 0 ∷ command.Preview 1 0
@@ -39,11 +39,12 @@ pub record EachKind : Type 0 where
 abbrev pub camera : Command → Contents
 camera x = contents (codes "cam" ∷ []) (All ∷ []) (x ∷ [])
 
--- a picture of one word
+-- a command that makes a picture with one word
 abbrev pub worded : List ℕ → Command
 worded word = command.New 0 7 (content.Picture 5 (pos 19_844) (word ∷ []))
 
--- what is printed and not read again: the one word `-`, a great number, a picture that was removed
+-- the empty script has the empty text; and texts that aren't read as their scripts: with the word `-` alone, with a great
+-- version number or epoch, and with a removed picture
 pub record NotAgain : Type 0 where
   pub empty : text_of_script (contents [] [] []) ≡ []
   pub dash : script_of (text_of_script (camera (worded (codes "-")))) ≡ Ok (camera (command.New 0 7 (content.Picture 5 (pos 19_844) [])))

@@ -1,4 +1,4 @@
--- What is read of the text of a script.
+-- Laws of reading the texts of scripts.
 use Rattle.std.specs.Prelude.{◌≡◌, ℕ, true, false, ◌<◌, ◌≤◌, [], ◌∷◌, length, Some, IfSome, Ok}
 use Rattle.std.specs.List.{AllByRecursion}
 use Rattle.photo_filter_text.specs.Limits.{max_tokens, max_height}
@@ -19,11 +19,11 @@ use Rattle.fleet_model.specs.declared.command.Command.TheVariants as command
 use Rattle.script_text.specs.Texts.{line_of_command, text_of_script}
 use Rattle.script_text.specs.Printable.{FitsFilter, FitsCommand, IsShort, made_in, AllDiffer, HasValues, IsPrintable, IsOfValues}
 
--- the text of a script within the limits is read as that script
+-- the text of a script within the limits reads as that script
 abbrev pub PrintedIsRead : Type 0
 PrintedIsRead = (s : Contents) → IsScript s → IsOfValues s → IsPrintable s → script_of (text_of_script s) ≡ Ok s
 
--- a command that a line can say by the names of the script's devices
+-- a line can state the command, with the names of the script's devices
 pub record CanBeSaid (s : Contents) (x : Command) : Type 0 where
   pub named : AllByRecursion (λ name. is_name name ≡ true) s.names
   pub apart : AllDiffer s.names
@@ -33,21 +33,21 @@ pub record CanBeSaid (s : Contents) (x : Command) : Type 0 where
   pub values : HasValues x
   pub short : IsShort (line_of_command s x)
 
--- the earlier lines of a command: those of all devices, with room for it, and its picture isn't made
+-- the lines before the command's declare all devices, leave room for one more command, and don't make the picture that it makes
 pub record IsBefore (s : Contents) (x : Command) (before : Earlier) : Type 0 where
   pub names : before.names ≡ s.names
   pub room : before.commands < max_commands
   pub fresh : (p : ℕ) → made_in x ≡ p ∷ [] → before.makes p ≡ false
 
--- its line says that command
+-- behind such lines, the command's line reads as the command
 abbrev pub LineIsRead : Type 0
 LineIsRead = (s : Contents) (x : Command) (before : Earlier) → CanBeSaid s x → IsBefore s x before → said before (line_of_command s x) ≡ Ok (Some x)
 
--- the text of a filter is that filter, within its limits
+-- the text of a filter within its limits reads as that filter
 abbrev pub ShortFilterFits : Type 0
 ShortFilterFits = (tree : Tree) → IsSound tree → length (tokens_of (text_of tree)) ≤ max_tokens → height tree ≤ max_height → is_too_wide tree Plain ≡ false → FitsFilter tree
 
--- what the types of values say further: of filters, and of the numbers of versions
+-- what the types of values say further, of filters and of version numbers
 abbrev pub HasTyped : Command → Type 0
 HasTyped (command.New device picture record_) = Unit {0}
 HasTyped (command.Edit device picture record_) = Unit {0}
@@ -65,6 +65,6 @@ pub record IsTyped (s : Contents) : Type 0 where
   pub filters : AllByRecursion IsSound s.filters
   pub commands : AllByRecursion HasTyped s.commands
 
--- only the text of a script within the limits is read as that script
+-- only a script within the limits is read back from its text
 abbrev pub ReadIsPrintable : Type 0
 ReadIsPrintable = (s : Contents) → IsScript s → IsOfValues s → IsTyped s → script_of (text_of_script s) ≡ Ok s → IsPrintable s

@@ -1,4 +1,4 @@
--- Machinery of the proofs, which only contracts of private functions cite: what fits of the parts of a script's text.
+-- Machinery of the proofs: which parts of a script's text are within the limits. Only contracts of private functions cite this.
 use Rattle.std.specs.Prelude.{ℕ, List, [], ◌∷◌}
 use Rattle.photo_filter_text.specs.Tree.{Tree}
 use Rattle.photo_filter_rules.specs.Filters.{IsFilterOf}
@@ -11,7 +11,7 @@ use Rattle.script_text.specs.Printable.{FitsFilter, FitsCommand, IsShort}
 abbrev pub IsSomeFilter : List ℕ → Type 0
 IsSomeFilter text = (tree : Tree) × IsFilterOf text tree
 
--- a device's filter, and its line
+-- the device's filter and its line are within the limits
 abbrev pub FitsDevice : List ℕ → Tree → Type 0
 FitsDevice name filter = FitsFilter filter × IsShort (line_of_device name filter)
 
@@ -20,6 +20,6 @@ FitDevices [] filters = Unit {0}
 FitDevices (name ∷ names) [] = Unit {0}
 FitDevices (name ∷ names) (filter ∷ filters) = FitsDevice name filter × FitDevices names filters
 
--- a command, and its line
+-- the command and its line are within the limits
 abbrev pub FitsLine : Contents → Command → Type 0
 FitsLine s x = FitsCommand s x × IsShort (line_of_command s x)

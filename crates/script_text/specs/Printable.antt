@@ -1,4 +1,4 @@
--- Which scripts are read again from their texts.
+-- Which scripts are read back from their texts.
 use Rattle.std.specs.Prelude.{◌≡◌, ◌≢◌, ℕ, ◌<◌, ◌≤◌, true, List, [], ◌∷◌, length, slice_index_or, codes}
 use Rattle.std.specs.List.{AllByRecursion, flat_map}
 use Rattle.std.specs.Str.{IsUtf8}
@@ -19,23 +19,23 @@ use Rattle.fleet_model.specs.declared.command.Command.{Command}
 use Rattle.fleet_model.specs.declared.command.Command.TheVariants as command
 use Rattle.script_text.specs.Texts.{lines_of_script, text_of_script}
 
--- a version that a line can name: of a device of the script, and with no great number or epoch
+-- a line can name the version: its author is a device of the script, and its number and epoch aren't too great
 pub record FitsVersion (s : Contents) (v : Version) : Type 0 where
   pub maker : IsOfScript s v
   pub first : 0 < v.number
   pub few : v.number ≤ max_version
   pub early : epoch_of_author v.author ≤ max_epoch
 
--- a record that a line can say: not that a picture was removed, nor the one word `-`, which stands for no words
+-- a line can state the record: it isn't a removal, and its words aren't `-` alone, which denotes no words
 abbrev pub FitsRecord : Record → Type 0
 FitsRecord (content.Picture rating day words) = words ≢ codes "-" ∷ []
 FitsRecord content.Removed = ⊥
 
--- the text of a filter is that filter: its tokens, its height and its alternatives are within the limits
+-- the filter's text reads as the filter: tokens, height and alternatives are within the limits
 abbrev pub FitsFilter : Tree → Type 0
 FitsFilter filter = IsFilterOf (text_of filter) filter
 
--- a command that a line can say
+-- a line can state the command
 abbrev pub FitsCommand : Contents → Command → Type 0
 FitsCommand s (command.New device picture record_) = FitsRecord record_
 FitsCommand s (command.Edit device picture record_) = FitsRecord record_
@@ -49,7 +49,7 @@ FitsCommand s (command.Conflicts device) = Unit {0}
 FitsCommand s (command.Knowledge device) = Unit {0}
 FitsCommand s (command.Knows device picture v) = FitsVersion s v
 
--- the picture that a command makes
+-- the picture that a `new` command makes, as a list; empty for other commands
 abbrev pub made_in : Command → List ℕ
 made_in (command.New device picture record_) = picture ∷ []
 made_in (command.Edit device picture record_) = []
@@ -66,15 +66,15 @@ made_in (command.Knows device picture v) = []
 abbrev pub pictures_made : List Command → List ℕ
 pictures_made commands = flat_map made_in commands
 
--- none stands twice
+-- no element stands in the list twice
 abbrev pub AllDiffer : {X : Type 0} → List X → Type 0
 AllDiffer {X} xs = (i j : ℕ) (d : X) → i < j → j < length xs → slice_index_or xs i d ≢ slice_index_or xs j d
 
--- within the limits of a line
+-- the line isn't too long
 abbrev pub IsShort : List ℕ → Type 0
 IsShort line = length line ≤ max_line_bytes
 
--- what is within the limits of a script's text
+-- the script is within all limits of a script's text
 pub record IsPrintable (s : Contents) : Type 0 where
   pub named : AllByRecursion (λ name. is_name name ≡ true) s.names
   pub apart : AllDiffer s.names
@@ -84,7 +84,7 @@ pub record IsPrintable (s : Contents) : Type 0 where
   pub lines : AllByRecursion IsShort (lines_of_script s)
   pub small : length (text_of_script s) ≤ max_text_bytes
 
--- a set of words in UTF-8
+-- a set of words, each in UTF-8
 abbrev pub AreWords : List (List ℕ) → Type 0
 AreWords words = IsWordSet words × AllByRecursion IsUtf8 words
 
@@ -92,7 +92,7 @@ abbrev pub HasWords : Record → Type 0
 HasWords (content.Picture rating day words) = AreWords words
 HasWords content.Removed = Unit {0}
 
--- what the types of a command's values say of them
+-- what the types of a command's values guarantee
 abbrev pub HasValues : Command → Type 0
 HasValues (command.New device picture record_) = IsPicNo picture × HasWords record_
 HasValues (command.Edit device picture record_) = IsPicNo picture × HasWords record_
@@ -106,7 +106,7 @@ HasValues (command.Conflicts device) = Unit {0}
 HasValues (command.Knowledge device) = Unit {0}
 HasValues (command.Knows device picture v) = IsPicNo picture
 
--- what the types of a script's values say of it and of its text
+-- what the types of a script's values guarantee of the script and of its text
 pub record IsOfValues (s : Contents) : Type 0 where
   pub commands : AllByRecursion HasValues s.commands
   pub utf8 : IsUtf8 (text_of_script s)

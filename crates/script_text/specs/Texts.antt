@@ -1,4 +1,4 @@
--- The text of a script: a line for each device and then a line for each command, each with LF behind it.
+-- The text of a script: a line for each device, then a line for each command, each ended by LF.
 use Rattle.std.specs.Prelude.{ℕ, List, [], ◌∷◌, ◌++◌, map, codes}
 use Rattle.std.specs.Fmt.{decimal}
 use Rattle.std.specs.List.{flat_map}
@@ -12,12 +12,12 @@ use Rattle.photo_script.specs.Reports.{name_of, version_text}
 use Rattle.fleet_model.specs.declared.command.Command.{Command}
 use Rattle.fleet_model.specs.declared.command.Command.TheVariants as command
 
--- RATING DATE WORDS. No line of a script says that a picture was removed: that is not written so that it is read again
+-- RATING DATE WORDS; the text of a removal isn't read back, since no line of a script states one
 abbrev pub record_text : Record → List ℕ
 record_text (content.Picture rating day words) = decimal rating ␣ date_text day ␣ words_text words
 record_text content.Removed = codes "removed"
 
--- the line of a command, without its end
+-- the line of a command, without its LF
 unfoldable pub line_of_command : Contents → Command → List ℕ
 line_of_command s (command.New device picture record_) = codes "new" ␣ name_of s device ␣ decimal picture ␣ record_text record_
 line_of_command s (command.Edit device picture record_) = codes "edit" ␣ name_of s device ␣ decimal picture ␣ record_text record_
@@ -35,7 +35,7 @@ line_of_command s (command.Knows device picture v) = codes "knows" ␣ name_of s
 abbrev pub line_of_device : List ℕ → Tree → List ℕ
 line_of_device name filter = codes "device" ␣ name ␣ text_of filter
 
--- a line for each name with its filter
+-- one line for each name and its filter
 abbrev pub lines_of_devices : List (List ℕ) → List Tree → List (List ℕ)
 lines_of_devices [] filters = []
 lines_of_devices (name ∷ names) [] = []
@@ -44,7 +44,7 @@ lines_of_devices (name ∷ names) (filter ∷ filters) = line_of_device name fil
 abbrev pub lines_of_script : Contents → List (List ℕ)
 lines_of_script s = lines_of_devices s.names s.filters ++ map (line_of_command s) s.commands
 
--- a line with its end
+-- a line with its LF
 abbrev pub ended : List ℕ → List ℕ
 ended line = line ++ codes "\n"
 

@@ -14,7 +14,7 @@ use photo_script::Script;
 use photo_version::Version;
 use std::alloc::AllocError;
 
-/// The name of a device by its place, and no name for one that isn't there.
+/// The name of the device at that place; empty if there is no such device.
 pub fn name_of<'a>(script: &'a Script, device: u16) -> &'a str
     ensures { result.now ≡ name_of script.now device }
 {
@@ -25,7 +25,7 @@ pub fn name_of<'a>(script: &'a Script, device: u16) -> &'a str
     }
 }
 
-/// Puts a rating, a day and words behind a text.
+/// Appends a rating, a day and words.
 pub fn push_record(text: &mut String, record: &Record) -> Result<(), AllocError>
     ensures text { OnOk result (string_bytes text.new ≡ string_bytes text.old ++ record_text «record».now) }
     ensures words { OnOk result (HasWords «record».now) }
@@ -42,7 +42,7 @@ pub fn push_record(text: &mut String, record: &Record) -> Result<(), AllocError>
     }
 }
 
-// The date, as `YYYY-MM-DD`.
+// Appends the date as `YYYY-MM-DD`.
 #[tactic(auto, unfolding(photo_filter_text::specs::Printed::date_text))]
 fn push_date(text: &mut String, day: Day) -> Result<(), AllocError>
     ensures { OnOk result (string_bytes text.new ≡ string_bytes text.old ++ date_text day) }
@@ -70,7 +70,7 @@ fn push_digit(text: &mut String, n: u8) -> Result<(), AllocError>
     text.push(char::from(b'0' + n))
 }
 
-// The words with commas between them, or a dash where there are none.
+// Appends the words separated by commas, or a dash if there are none.
 fn push_words(text: &mut String, words: &Words) -> Result<(), AllocError>
     ensures text { OnOk result (string_bytes text.new ≡ string_bytes text.old ++ words_text words.now) }
     ensures words { OnOk result (AreWords words.now) }
@@ -87,7 +87,7 @@ fn push_words(text: &mut String, words: &Words) -> Result<(), AllocError>
     Ok(())
 }
 
-/// Puts a version behind a text: `NAME:n`, or `NAME.E:n` of a later epoch.
+/// Appends a version: `NAME:n`, or `NAME.E:n` for epoch E above 0.
 pub fn push_version(text: &mut String, script: &Script, version: Version) -> Result<(), AllocError>
     ensures { OnOk result (string_bytes text.new ≡ string_bytes text.old ++ version_text script.now version) }
 {
@@ -98,7 +98,7 @@ pub fn push_version(text: &mut String, script: &Script, version: Version) -> Res
     write!(text, ":{number}")
 }
 
-// Nothing for the first epoch.
+// Appends the epoch behind a dot; nothing for epoch 0.
 fn push_epoch(text: &mut String, epoch: u32) -> Result<(), AllocError>
     ensures { OnOk result (string_bytes text.new ≡ string_bytes text.old ++ epoch_text epoch) }
 {

@@ -1,4 +1,4 @@
-// Which commands a line can say.
+// Which commands a line can state.
 ghost use Rattle.std.specs.Prelude.{◌≡◌, ◌↔◌, [], ◌∷◌, codes, IsTrue, IfOk};
 ghost use Rattle.script_text.specs.Printable.{FitsVersion, FitsRecord, FitsFilter, FitsCommand};
 ghost use Rattle.script_text.specs.Parts.{IsSomeFilter};
@@ -11,7 +11,7 @@ use photo_script::{Command, Script};
 use photo_version::Version;
 use std::alloc::{AllocError, Global};
 
-/// Whether a line can say the command. Its only error is want of memory.
+/// Whether a line can state the command. Its only error is want of memory.
 pub fn fits_command(alloc: Global, script: &Script, command: &Command) -> Result<bool, AllocError>
     ensures { IfOk result (λ fits. IsTrue fits ↔ FitsCommand script.now command.now) }
 {
@@ -25,7 +25,7 @@ pub fn fits_command(alloc: Global, script: &Script, command: &Command) -> Result
     }
 }
 
-/// Whether the text of a filter is that filter. Its only error is want of memory.
+/// Whether the filter's text reads as the filter. Its only error is want of memory.
 pub fn fits_filter(alloc: Global, filter: &Filter) -> Result<bool, AllocError>
     ensures { IfOk result (λ fits. IsTrue fits ↔ FitsFilter filter.now) }
 {
@@ -58,7 +58,7 @@ fn fits_record(record: &Record) -> bool
     }
 }
 
-// Whether the one word is a dash, which stands for no words.
+// Whether the only word is a dash, which in a text denotes no words.
 fn is_dash_alone(words: &Words) -> bool
     ensures { IsTrue result ↔ (words.now ≡ codes "-" ∷ []) }
 {

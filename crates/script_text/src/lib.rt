@@ -1,5 +1,5 @@
-//! The text of a script, with the law that reading it gives that script again: so what was done by hand can be saved, and
-//! loaded by running it. A text that is given is read as the script that it is of.
+//! The text of a script, with the law that reading it gives the script back. So a program can save what a user did and load it
+//! by running the script. A text that is returned reads as its script.
 #![tactic(auto)]
 
 mod field;

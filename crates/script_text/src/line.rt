@@ -15,8 +15,8 @@ use photo_script::{Command, Script};
 use photo_version::Version;
 use std::alloc::{AllocError, Global};
 
-/// The line of a command, without its end, by the names of the script's devices; a device that isn't there has no name.
-/// The law `line_is_read` says when it is read as that command. Its only error is want of memory.
+/// The line of a command, without its LF, with the names of the script's devices; a device that isn't there has the empty name.
+/// The law `line_is_read` says when it reads as that command. Its only error is want of memory.
 pub fn command_text(alloc: Global, script: &Script, command: &Command) -> Result<String, AllocError>
     ensures text { IfOk result (λ text. string_bytes text ≡ line_of_command script.now command.now) }
     ensures values { IfOk result (λ text. HasValues command.now) }

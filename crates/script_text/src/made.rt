@@ -7,7 +7,7 @@ use photo_script::{Command, Script};
 use std::alloc::{AllocError, Global};
 use std::collections::BTreeSet;
 
-/// Whether no two commands make one picture. Its only error is want of memory.
+/// Whether no two commands make the same picture. Its only error is want of memory.
 pub fn makes_each_once(alloc: Global, script: &Script) -> Result<bool, AllocError>
     ensures { IfOk result (λ once. IsTrue once ↔ AllDiffer (pictures_made script.now.commands)) }
 {
@@ -23,7 +23,7 @@ pub fn makes_each_once(alloc: Global, script: &Script) -> Result<bool, AllocErro
     Ok(true)
 }
 
-// The picture that a command makes.
+// The picture that a `new` command makes; `None` for other commands.
 fn picture_made(command: &Command) -> Option<PicNo>
     ensures { option_to_list result ≡ made_in command.now }
 {

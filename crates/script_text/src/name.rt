@@ -8,7 +8,7 @@ ghost use Rattle.script_text.specs.Printable.{AllDiffer};
 use crate::limits::MAX_NAME_CHARACTERS;
 use photo_script::Script;
 
-/// Whether devices have names that a line can declare, and all different ones.
+/// Whether lines can declare the names of all devices, and all names differ.
 pub fn has_names(script: &Script) -> bool
     ensures named { IsTrue result → AllByRecursion (λ name. is_name name ≡ true) script.now.names }
     ensures apart { IsTrue result → AllDiffer script.now.names }
@@ -26,7 +26,7 @@ pub fn has_names(script: &Script) -> bool
     true
 }
 
-// Whether one of the first so many devices has that name.
+// Whether one of the first `count` devices has that name.
 fn is_among_first(script: &Script, count: u16, name: &str) -> bool
     requires { count ≤ length script.now.names }
     ensures { result ≡ list_any (bytes_eq name.now) (take count script.now.names) }

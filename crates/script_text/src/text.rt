@@ -17,18 +17,17 @@ use photo_filter_text::print;
 use photo_script::{Command, MAX_TEXT_BYTES, Script};
 use std::alloc::{AllocError, Global};
 
-/// The text of a script, which is read as that script: a line for each device and one for each command, with LF behind each.
-/// `None` where a limit of scripts keeps the text from being read so (`IsPrintable`): a name that no line declares; a line of
-/// over 1,024 bytes, and a text of over 8,388,608; a filter that is too long or too high with all its brackets; a picture
-/// that two commands make; the one word `-`; a version with a number or an epoch over 100,000. Its only error is want of
-/// memory.
+/// The text of a script, which reads as that script: a line for each device and one for each command, each ended by LF. `None`
+/// means that a limit of scripts keeps the text from being read so (`IsPrintable`): a name that no line can declare; a line of
+/// over 1,024 bytes; a text of over 8,388,608 bytes; a filter that is too long or too high with all its brackets; a picture
+/// that two commands make; the one word `-`; or a version number or epoch over 100,000. Its only error is want of memory.
 pub fn script_text(alloc: Global, script: &Script) -> Result<Option<String>, AllocError>
     ensures text { IfOk result (λ answer. IfSome answer (λ text. string_bytes text ≡ text_of_script script.now)) }
     ensures read { IfOk result (λ answer. IfSome answer (λ text. script_of (string_bytes text) ≡ Ok script.now)) }
     ensures within { IfOk result (λ answer. IfSome answer (λ text. IsPrintable script.now)) }
     ensures none { result ≡ Ok None → IsPrintable script.now → ⊥ }
 {
-    // For their facts alone: what is true of every script.
+    // Both calls are made because their contracts state what holds of every script (`IsScript`).
     let _devices = script.devices();
     let _commands = script.commands();
     if !has_names(script) {
@@ -50,7 +49,7 @@ pub fn script_text(alloc: Global, script: &Script) -> Result<Option<String>, All
     Ok(Some(text))
 }
 
-// Puts the lines of all devices behind a text, and tells whether they fit; else it puts some of them.
+// Appends the lines of all devices, and says whether they fit; if not, some of the lines may be appended.
 fn push_devices(alloc: Global, text: &mut String, script: &Script) -> Result<bool, AllocError>
     ensures text { IfOk result (λ fit. IsTrue fit → string_bytes text.new
         ≡ string_bytes text.old ++ text_of_lines (lines_of_devices script.now.names script.now.filters)) }
@@ -85,7 +84,7 @@ fn push_device(
     Ok(true)
 }
 
-// The same of all commands.
+// Appends the lines of all commands in the same way.
 fn push_commands(alloc: Global, text: &mut String, script: &Script) -> Result<bool, AllocError>
     ensures text { IfOk result (λ fit. IsTrue fit → string_bytes text.new
         ≡ string_bytes text.old ++ text_of_lines (map (line_of_command script.now) script.now.commands)) }

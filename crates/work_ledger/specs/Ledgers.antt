@@ -1,7 +1,7 @@
--- Which of the standard ledgers stand behind one ledger of work.
+-- The standard ledgers of which a work ledger is built.
 use Rattle.std.specs.Prelude.{ℕ}
 
--- the name of each: what is done and what is left of each kind of command, and what was moved
+-- the names of the standard ledgers: commands done and left of each kind, and versions moved
 pub record LedgerNames : Type 0 where
   pub changes_done : ℕ
   pub changes_left : ℕ
@@ -11,6 +11,6 @@ pub record LedgerNames : Type 0 where
   pub reports_left : ℕ
   pub moved : ℕ
 
--- the parts into which the shares of a ledger cut it
+-- the number of parts of a ledger, which its shares divide
 abbrev pub all_parts : ℕ
 all_parts = 1000

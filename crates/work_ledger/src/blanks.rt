@@ -1,4 +1,4 @@
-// The blanks of a ledger, and what it is opened with.
+// The blank ledgers from which a work ledger is opened.
 ghost use Rattle.std.specs.Prelude.{◌≡◌, ◌<◌};
 ghost use Rattle.work_ledger.specs.Ledgers.{LedgerNames, all_parts};
 ghost use Rattle.work_ledger.specs.Stakes.{IsCountable, nothing_done, stake};
@@ -11,10 +11,10 @@ use std::marker::Model;
 use std::sync::ledger;
 use std::sync::ledger::{Blank, Book};
 
-// The parts of a ledger.
+// The number of parts of a ledger.
 const PARTS: u64 = 1000;
 
-/// New standard ledgers, of which no ledger of work is opened yet. Contracts see their names.
+/// New standard ledgers for one work ledger that isn't opened yet. Contracts see their names.
 pub struct Blanks {
     changes_done: Blank,
     changes_left: Blank,
@@ -47,7 +47,7 @@ impl Model for Blanks {
 }
 
 impl Blanks {
-    /// Makes new ones.
+    /// Makes new blanks.
     pub fn new() -> Blanks {
         Blanks {
             changes_done: Blank::new(PARTS),
@@ -60,7 +60,7 @@ impl Blanks {
         }
     }
 
-    // A book that stands at nothing, and the share of all parts.
+    // Opens a book at zero, and the share that has all parts.
     pub(crate) fn open<B: Books>(self, tally: Tally) -> (Page<B>, Share<B>)
         requires names { self ≡ B.names }
         requires tally { tally ≡ B.tally }
@@ -110,7 +110,7 @@ impl Blanks {
     }
 }
 
-// A standard ledger's book at an amount, and the one share, which has it.
+// Opens a standard ledger at an amount, with one share that has all of it.
 fn opened_at<L: ledger::Ledger>(blank: Blank, amount: u64) -> (Book<L>, ledger::Share<L>)
     requires name { blank.name ≡ L.name }
     requires parts { (blank.parts ≡ L.parts) × (0 < L.parts) }

@@ -1,17 +1,17 @@
-// The kinds of commands, as a ledger counts them.
+// The kinds of commands that a ledger counts.
 
-/// What a command was that has been run, and what it moved.
+/// The kind of a command that has run, and what it moved.
 #[derive(Clone, Copy, Debug, PartialEq, Eq)]
 pub enum Kind {
-    /// It changed a device.
+    /// The command changed a device.
     Change,
-    /// It was a pull.
+    /// The command was a pull.
     Pull {
         /// How many versions the target took: at most 100,000.
         taken: u64,
         /// How many versions the source handed over: at most 100,000.
         handed: u64,
     },
-    /// It asked for a report.
+    /// The command asked for a report.
     Report,
 }

@@ -15,18 +15,18 @@ use std::sync::{Arc, Mutex, Wait};
 
 /// The book of all shares, behind a lock.
 ///
-/// Whenever the lock is free, the book is the sum of what all shares have done, and what all shares have left and done
-/// of each kind adds up to the tally that [`open`] was given. The lock is taken by [`count`](Ledger::count),
-/// [`glance`](Ledger::glance) and [`close`](Ledger::close) alone, and held by none of them when it returns.
+/// Whenever the lock is free, two sums hold: the book is the sum of what all shares have done, and for each kind, what all
+/// shares have left and done is the tally that [`open`] was given. Only [`count`](Ledger::count), [`glance`](Ledger::glance)
+/// and [`close`](Ledger::close) take the lock, and each releases it before it returns.
 #[derive(Drop)]
 pub struct Ledger<B: Books> {
     page: Mutex<Page<B>>,
 }
 
-/// Opens a ledger whose book stands at nothing, with one share that has all 1,000 parts and may count the whole tally.
+/// Opens a ledger with an empty book and one share, which has all 1,000 parts and may count the whole tally.
 ///
-/// Each number of the tally is at most 100,000. `B` names the ledgers of the blanks and the tally: the crate's own page
-/// tells how a caller picks it. Where memory is refused the blanks are gone, and nothing else has changed.
+/// Each number of the tally is at most 100,000. `B` names the ledgers of the blanks and the tally; the crate's own page says
+/// how a caller picks it. If memory is refused, the blanks are lost and nothing else has changed.
 pub fn open<B: Books>(
     alloc: Global,
     blanks: Blanks,
@@ -48,9 +48,10 @@ pub fn open<B: Books>(
 }
 
 impl<B: Books> Ledger<B> {
-    /// Counts a command, once: in the share and in the book.
+    /// Counts a command once, in the share and in the book.
     ///
-    /// The share has one of this kind left. A pull also adds what it moved, taken and handed over, each at most 100,000.
+    /// The share must have a command of this kind left. A pull also adds the versions that it took and was handed, each at most
+    /// 100,000.
     pub fn count(&self, rt: &impl Wait, share: &mut Share<B>, kind: Kind)
         requires { CanCount kind share.old.left }
         ensures { share.new ≡ counted kind share.old }
@@ -58,8 +59,8 @@ impl<B: Books> Ledger<B> {
         share.count(&mut *self.page.lock(rt), kind)
     }
 
-    /// What all shares had done at some moment of the call: at least what this share has done, and of each kind at most
-    /// the tally that the ledger was opened with. The share stays as it is.
+    /// The totals of all shares at some moment during the call: at least what this share has done, and of each kind at most the
+    /// tally that the ledger was opened with. The share doesn't change.
     pub fn glance(&self, rt: &impl Wait, share: &mut Share<B>) -> Totals
         ensures same { share.new ≡ share.old }
         ensures least { AtMost share.old.done result }
@@ -68,8 +69,8 @@ impl<B: Books> Ledger<B> {
         share.read(&mut *self.page.lock(rt))
     }
 
-    /// What was done by all. The share has all 1,000 parts, so what it has left and done of each kind is together the
-    /// tally that the ledger was opened with.
+    /// Closes the ledger and returns the totals of all shares. The share must have all 1,000 parts, so what it has left and
+    /// done of each kind is the tally that the ledger was opened with.
     pub fn close(&self, rt: &impl Wait, share: Share<B>) -> Totals
         requires { share.parts ≡ all_parts }
         ensures done { result ≡ share.done }

@@ -1,4 +1,4 @@
-// Which ledgers the tokens are of.
+// The names of ledgers.
 ghost use Rattle.fleet_model.specs.declared.tally.Tally.{Tally};
 ghost use Rattle.work_ledger.specs.Ledgers.{LedgerNames, all_parts};
 ghost use Rattle.work_ledger.specs.Stakes.{none_left};
@@ -6,7 +6,7 @@ ghost use Rattle.work_ledger.specs.Stakes.{none_left};
 use std::marker::{Brand, PhantomData};
 use std::sync::ledger::Ledger;
 
-/// Names the standard ledgers behind a ledger of work.
+/// Names the standard ledgers of which a work ledger is built.
 pub trait Names {
     ghost names: { LedgerNames };
 }
@@ -15,9 +15,9 @@ impl Names for Brand {
     ghost names = { record { changes_done = 0; changes_left = 0; pulls_done = 0; pulls_left = 0; reports_done = 0; reports_left = 0; moved = 0 } };
 }
 
-/// Names a ledger of work, and the tally that it was opened with.
+/// Names a work ledger and the tally with which it was opened.
 ///
-/// Shares of one type parameter are shares of one ledger.
+/// Shares with the same type parameter belong to the same ledger.
 pub trait Books: Names {
     ghost tally: { Tally };
 }

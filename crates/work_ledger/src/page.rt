@@ -1,4 +1,4 @@
-// What lies under the lock.
+// The data that the lock protects.
 ghost use Rattle.std.specs.Prelude.{◌≡◌, ◌+◌, ◌*◌, ◌<◌, ◌≤◌};
 ghost use Rattle.fleet_model.specs.Tallies.{max_moved};
 ghost use Rattle.work_ledger.specs.Ledgers.{all_parts};
@@ -10,7 +10,7 @@ use crate::names::{
 use fleet_model::Totals;
 use std::sync::ledger::{Book, Share};
 
-// The book, with the standard ledgers' books that say what it has to be.
+// The book, with the books of the standard ledgers, which fix its contents.
 #[derive(Drop)]
 pub struct Page<B: Books> {
     pub totals: Totals,
@@ -21,12 +21,12 @@ pub struct Page<B: Books> {
     pub reports_done: Book<ReportsDone<B>>,
     pub reports_left: Book<ReportsLeft<B>>,
     pub moved: Book<Moved<B>>,
-    // The book is the sum of what all shares have done,
+    // The book is the sum of what all shares have done.
     ghost changes_are: { totals.changes ≡ changes_done.total },
     ghost pulls_are: { totals.pulls ≡ pulls_done.total },
     ghost reports_are: { totals.reports ≡ reports_done.total },
     ghost moved_is: { totals.moved ≡ moved.total },
-    // and what all shares have left and done of each kind adds up to the tally.
+    // For each kind, what all shares have left and done is the tally.
     ghost changes_add_up: { changes_left.total + changes_done.total ≡ B.tally.changes },
     ghost pulls_add_up: { pulls_left.total + pulls_done.total ≡ B.tally.pulls },
     ghost reports_add_up: { reports_left.total + reports_done.total ≡ B.tally.reports },
@@ -101,7 +101,7 @@ impl<B: Books> Page<B> {
         totals.moved += count;
     }
 
-    // The book: no less than what these have done, and just that where they are all parts.
+    // Reads the book: at least what these shares have done, and exactly that if they have all parts.
     pub fn read(
         &mut self,
         changes: &mut Share<ChangesDone<B>>,
@@ -130,7 +130,7 @@ impl<B: Books> Page<B> {
         self.totals
     }
 
-    // What these have left is all that is left, where they are all parts.
+    // If these shares have all parts, they have all that is left.
     pub fn read_left(
         &mut self,
         changes: &mut Share<ChangesLeft<B>>,

@@ -16,8 +16,8 @@ use std::sync::ledger;
 
 /// Some of the 1,000 parts of a ledger.
 ///
-/// Contracts see three values: its parts, what it may still count, and what it has counted. It goes to a thread by
-/// value and comes back. A share that is let go takes its parts with it, and the ledger can't be closed any more.
+/// Contracts see its parts, the commands that it may still count, and what it has counted. It moves to a thread by value and
+/// comes back. A share that is dropped takes its parts with it, and then the ledger can't be closed.
 #[derive(Drop)]
 pub struct Share<B: Books> {
     pub(crate) parts: u64,
@@ -53,7 +53,7 @@ impl<B: Books> Model for Share<B> {
 }
 
 impl<B: Books> Share<B> {
-    /// What it may still count. With what it has counted that is at most 100,000 commands of each kind.
+    /// The commands that it may still count. With those counted they are at most 100,000 of each kind.
     pub fn left(&self) -> Tally
         ensures value { result ≡ self.now.left }
         ensures countable { IsCountable (given self.now.left self.now.done) }
@@ -61,7 +61,7 @@ impl<B: Books> Share<B> {
         self.left
     }
 
-    /// What it has counted. No pull of it moved more than 200,000 versions.
+    /// What it has counted. Each of its pulls moved at most 200,000 versions.
     pub fn done(&self) -> Totals
         ensures value { result ≡ self.now.done }
         ensures moved { result.moved ≤ result.pulls * max_moved }
@@ -69,7 +69,7 @@ impl<B: Books> Share<B> {
         self.done
     }
 
-    /// How many of the 1,000 parts it has: at least one.
+    /// Its number of parts, 1 to 1,000.
     pub fn parts(&self) -> u64
         ensures value { result ≡ self.now.parts }
         ensures range { (0 < result) × (result ≤ all_parts) }
@@ -77,7 +77,7 @@ impl<B: Books> Share<B> {
         self.parts
     }
 
-    /// Moves one part, and this much of what is left, to a new share that has counted nothing. At least one part stays.
+    /// Moves one part, and these commands of what is left, to a new share that has counted nothing. At least one part stays.
     pub fn split(&mut self, of: Tally) -> Share<B>
         requires parts { 2 ≤ self.old.parts }
         requires left { Within of self.old.left }
@@ -104,9 +104,9 @@ impl<B: Books> Share<B> {
         }
     }
 
-    /// Takes in another share: its parts, what it has left and what it has counted.
+    /// Takes in another share with its parts, the commands that it has left and what it has counted.
     ///
-    /// What both were given to count is at most 100,000 commands of each kind.
+    /// Both shares together were given at most 100,000 commands of each kind.
     pub fn join(&mut self, other: Share<B>)
         requires { IsCountable (plus (given self.old.left self.old.done) (given other.left other.done)) }
         ensures { self.new ≡ stake (self.old.parts + other.parts) (plus self.old.left other.left) (both self.old.done other.done) }
@@ -175,7 +175,7 @@ impl<B: Books> Share<B> {
         }
     }
 
-    // The book.
+    // Reads the book.
     pub(crate) fn read(&mut self, page: &mut Page<B>) -> Totals
         ensures book { (result ≡ page.old.totals) × (page.new.totals ≡ page.old.totals) }
         ensures same { self.new ≡ self.old }
@@ -191,7 +191,7 @@ impl<B: Books> Share<B> {
         )
     }
 
-    // The book, which has just what this share has done, since it has all parts.
+    // Reads the book, which has exactly what this share has done, since the share has all parts.
     pub(crate) fn close(mut self, page: &mut Page<B>) -> Totals
         requires { self.parts ≡ all_parts }
         ensures book { (result ≡ page.old.totals) × (page.new.totals ≡ page.old.totals) }
@@ -208,7 +208,7 @@ impl<B: Books> Share<B> {
     }
 }
 
-// What a new share has counted.
+// The totals of a new share.
 pub(crate) const NOTHING: Totals = Totals {
     changes: 0,
     pulls: 0,

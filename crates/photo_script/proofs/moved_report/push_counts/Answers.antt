@@ -3,7 +3,7 @@ use Rattle.std.specs.Fmt.{decimal}
 use Rattle.photo_script.specs.Reports.{yes_or_no}
 use Rattle.photo_script.proofs.moved_report.push_counts.Goals as goal
 
--- a text, and what is written behind it piece by piece
+-- the text after all pieces are appended in turn
 written : (old x0 x1 x2 x3 x4 x5 x6 x7 new number word a b c d e f g h i j k : List ℕ) → x0 ≡ old ++ number → x1 ≡ x0 ++ word → x2 ≡ x1 ++ a ++ b → x3 ≡ x2 ++ c ++ d → x4 ≡ x3 ++ e ++ f
     → x5 ≡ x4 ++ g ++ h → x6 ≡ x5 ++ i → x7 ≡ x6 ++ j → new ≡ x7 ++ k → new ≡ old ++ (number ++ word ++ a ++ b ++ c ++ d ++ e ++ f ++ g ++ h ++ i ++ j ++ k)
 written old x0 x1 x2 x3 x4 x5 x6 x7 new number word a b c d e f g h i j k e0 e1 e2 e3 e4 e5 e6 e7 e8 = rw (e8, e7, e6, e5, e4, e3, e2, e1, e0) (simp append_assoc)
