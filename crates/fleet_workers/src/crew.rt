@@ -79,7 +79,7 @@ pub(crate) fn run_crew<
         };
         return Ok(done);
     }
-    // For its fact alone: what the share may count can be counted.
+    // `left()` is called because its contract bounds what the share may count, which each worker's own share needs.
     let _left = share.left();
     let running = start(rt, alloc, shared, share, jobs)?;
     let others = run_crew(rt, alloc, shared, share, groups);

@@ -116,7 +116,7 @@ fn tally_of(script: &Script) -> Tally
     ensures tally { result ≡ tally_of script.now }
     ensures countable { IsCountable result }
 {
-    // For its fact alone: how many commands a script has at most.
+    // `commands()` is called because its contract bounds how many commands a script has, so a ledger can count them.
     let _commands = script.commands();
     script.tally()
 }
@@ -177,7 +177,7 @@ fn commands_of(script: &Script) -> usize
     ensures count { result ≡ length script.now.commands }
     ensures script { IsScript script.now }
 {
-    // For its fact alone: what is true of every script.
+    // `devices()` is called because its contract states the invariants of every script, which `script` promises.
     let _devices = script.devices();
     script.commands()
 }
