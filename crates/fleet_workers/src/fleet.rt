@@ -177,7 +177,7 @@ fn commands_of(script: &Script) -> usize
     ensures count { result ≡ length script.now.commands }
     ensures script { IsScript script.now }
 {
-    // `devices()` is called because its contract states the invariants of every script, which `script` promises.
+    // `devices()` is called because its contract bounds the devices and gives each a filter, which `script` promises as well.
     let _devices = script.devices();
     script.commands()
 }
