@@ -1,4 +1,4 @@
--- A tool of the proofs, not a definition: the tuple of a fleet's parts, by which a proof tells two fleets apart.
+-- No definition, but a tool of the proofs: the tuple of a fleet's parts, by which a proof tells two fleets apart.
 use Rattle.std.specs.Prelude.{ℕ, List, refl}
 use Rattle.std.specs.Coded.{Coded, code_by, coded×, coded_ℕ, coded_list}
 use Rattle.photo_device.specs.declared.held.Held.{Held}
