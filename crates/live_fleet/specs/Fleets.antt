@@ -16,7 +16,8 @@ use Rattle.fleet_model.specs.Steps.{effect_on}
 use Rattle.fleet_steps.specs.Between.{AreSettled}
 use Rattle.fleet_model.specs.Sound.{IsSoundAndKept}
 
--- what a fleet keeps: its devices in order of declaration, the log of versions, oldest first, and how many commands have run
+-- what a fleet keeps: its devices in order of declaration, its log of the versions that were made, oldest first, and how many
+-- commands have run
 pub record KeptFleet : Type 0 where
   pub devices : List Kept
   pub log : List Held
@@ -63,7 +64,7 @@ pub record HasSoundHistory (f : KeptFleet) : Type 0 where
   pub came : CameAbout f
   pub sound : IsSoundAndKept (after_commands came.filters came.commands)
 
--- The command has run: if the old fleet shows a model fleet, the new one shows the command's effect on it. The count of
+-- The command has run: for any model fleet that the old fleet shows, the new one shows the command's effect on it. The count of
 -- commands has grown by one.
 pub record HasRun (c : Command) (old new : KeptFleet) : Type 0 where
   pub shows : (m : ModelFleet) → ShowsFleet old m → ShowsFleet new (after_command m new.commands c)
@@ -81,8 +82,8 @@ SpeaksOf f answer = (script : Contents) → length f.devices ≤ length script.n
 abbrev pub with_device : Tree → ModelFleet → ModelFleet
 with_device filter m = record m { devices = m.devices ++ opening (author (length m.devices)) filter ∷ [] }
 
--- A device with that filter has joined at the end. If the old fleet shows a model fleet, the new one shows it with that device
--- added. No command has run.
+-- A device with that filter has joined at the end: for any model fleet that the old fleet shows, the new one shows it with that
+-- device added. No command has run.
 pub record HasJoined (filter : Tree) (old new : KeptFleet) : Type 0 where
   pub shows : (m : ModelFleet) → ShowsFleet old m → ShowsFleet new (with_device filter m)
   pub count : new.commands ≡ old.commands
