@@ -17,7 +17,7 @@ pub enum FleetFault {
     /// The script has no command of that number, or another number of devices than the fleet.
     #[error("NoCommand")]
     NoCommand,
-    /// The limit is reached: 4,294,967,295 commands have run, or there are 65,536 devices.
+    /// No room is left: 4,294,967,295 commands have run, or there would be more than 65,536 devices.
     #[error("Full")]
     Full,
 }
