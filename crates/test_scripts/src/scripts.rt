@@ -10,8 +10,8 @@ use photo_script::{Script, ScriptFault, Tally, read_script};
 use script_text::{command_text, script_text};
 use std::alloc::Global;
 
-// Each function here owns its value and takes no `rt`, and each table is a constant: this keeps the proofs short. A function's
-// proof grows with the square of the tables that it names, so each table has a test of its own.
+// Each function here owns its value and takes no `rt`, and each table is a constant: this keeps the proofs short. A proof grows
+// with the square of the tables that its function names, so each table has a test of its own.
 
 /// The expected result of reading a text.
 #[derive(Clone, Copy)]

@@ -321,7 +321,7 @@ fn words_as_they_were_given(rt: HostRuntime) {
     }
 }
 
-// The status of a request for help that writes to that writer, and the text on `err`.
+// The status of a request for help that writes to that writer, or `None` where the text on `err` isn't `error`.
 fn helped<W: Write, T: Threads + Wait + Copy + Send + 'static>(
     rt: T,
     alloc: Global,

@@ -10,7 +10,7 @@ use photo_record::PicNo;
 use photo_version::Version;
 use std::alloc::Global;
 
-/// Whether the device stages dropping its version of that number, if it holds it.
+/// Whether the device holds its version of that number and stages dropping it, with capacity for `room` more.
 pub fn stages(alloc: Global, device: &mut Device, n: u32, room: usize) -> bool {
     let Some(version) = Version::new(device.author(), n) else {
         return false;
@@ -43,7 +43,7 @@ fn pictures(alloc: Global, numbers: &[u32]) -> Option<Vec<PicNo>> {
     Some(pictures)
 }
 
-/// Whether the device stages dropping its versions 3, 2 and 5, if it holds them, with hints.
+/// Whether the device holds its versions 3, 2 and 5 and stages dropping them, with hints.
 pub fn stages_hinted(alloc: Global, device: &mut Device, hints: &[u32]) -> bool {
     let author = device.author();
     let (Some(one), Some(two), Some(three)) = (
@@ -87,7 +87,8 @@ pub fn commits(alloc: Global, device: &mut Device) -> bool {
     !device.staged()
 }
 
-/// Whether a copy of a device that has made five versions equals it, and makes a sixth version without changing it.
+/// Whether a copy of a device that has made five versions knows the same, has nothing staged, and makes a sixth version that
+/// the device doesn't know.
 pub fn copies(alloc: Global, device: &Device) -> bool {
     match device.try_clone() {
         Ok(mut copy) => goes_its_own_way(alloc, device, &mut copy),
