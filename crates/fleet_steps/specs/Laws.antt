@@ -19,8 +19,8 @@ use Rattle.fleet_model.specs.Sound.{IsSoundThroughout}
 abbrev pub AcceptedStaysSound : Type 0
 AcceptedStaysSound = (text : List ℕ) (script : Contents) → script_of text ≡ Ok script → IsSoundThroughout script
 
--- After any commands of a script, in any order, the right answer to one more reports no more versions taken and handed over,
--- added together, than commands have run before it.
+-- After at most 4,294,967,295 commands of a script, in any order, the right answer to one more reports no more versions taken
+-- and handed over, added together, than commands have run before it.
 abbrev pub PullsMoveWhatWasMade : Type 0
 PullsMoveWhatWasMade = (script : Contents) (numbers : List ℕ) (c : Command) (answer : Answer) → IsScript script → length numbers ≤ 4_294_967_295 → IsWithin (length script.names) c
     → Tells answer (effect_on (run_in_order script numbers).devices c).report → moved_by answer ≤ length numbers
