@@ -1,4 +1,4 @@
--- Tests over lists: a part and the rest, a filter, another order, and where a test turns.
+-- Tests over lists: of a part and the rest, of a filtered list, in another order, and at the index where a test turns.
 use Rattle.std.proofs.Common.{◌≡◌, ℕ, zero, suc, ◌<◌, Bool, true, false, cond, not, ◌==◌, ltb, max, ◌&&◌, ◌||◌, List, [], ◌∷◌, ◌++◌, Bor, length, get_or, take, drop, refl, sym, ap, ap₂, ◌∙◌, inl, inr, arith}
 use Rattle.std.specs.Prelude.{filter, is_some, Option, Some, None}
 use Rattle.std.specs.Option.{option_copied}
@@ -28,11 +28,11 @@ module _ {X : Type 0} where
     | false ↦ refl
   ]
 
-  -- in another order all pass alike
+  -- in another order, all items pass exactly where they did
   pub all_moved : (p : X → Bool) (xs ys : List X) → IsPermutation xs ys → list_all p ys ≡ list_all p xs
   all_moved p xs ys moved = all_or_some p ys ∙ ap not (sym (list_any-IsPermutation (λ x. not (p x)) xs ys moved)) ∙ sym (all_or_some p xs)
 
-  -- those that a filter leaves pass
+  -- the items that a filter leaves pass
   pub all_left : (out q : X → Bool) (xs : List X) → list_all q (filter (λ x. not (out x)) xs) ≡ list_all (λ x. out x || q x) xs
   all_left out q [] = refl
   all_left out q (x ∷ xs) = elim (out x) as (λ b. list_all q (cond (not b) (x ∷ filter (λ y. not (out y)) xs) (filter (λ y. not (out y)) xs)) ≡ ((b || q x) && list_all (λ y. out y || q y) xs)) [
@@ -40,12 +40,12 @@ module _ {X : Type 0} where
     | false ↦ ap (λ t. q x && t) (all_left out q xs)
   ]
 
-  -- the first n and the rest
+  -- the first n items and the rest
   pub all_parts : (p : X → Bool) (xs front back : List X) (n : ℕ) → front ≡ take n xs → back ≡ drop n xs → list_all p xs ≡ (list_all p front && list_all p back)
   all_parts p xs front back n f b =
       ap (list_all p) (sym (take-append-drop n xs)) ∙ list_all-append p (take n xs) (drop n xs) ∙ ap₂ (λ s t. list_all p s && list_all p t) (sym f) (sym b)
 
-  -- a test that holds of the first n alone
+  -- a test that holds for exactly the first n items
   pub turns_at : (p : X → Bool) (xs : List X) (n : ℕ) → IsPartitionPoint (λ y. p y ≡ true) (λ y. p y ≡ false) xs n → (k : ℕ) (d : X) → k < length xs → ltb k n ≡ p (get_or xs k d)
   turns_at p xs n point k d l = elim (cases_lt k n) [
     | inl less ↦ lt-ltb k n less ∙ sym (point.0 k d (omega arith) less)
@@ -63,7 +63,7 @@ module _ {X : Type 0} where
       let here : p x ≡ true = sym (turns 0 x (omega arith)) ∙ lt-ltb 0 (suc n) (omega arith) in
       rw here (rest_fails p xs n (λ k d l. sym (less_suc k n) ∙ turns (suc k) d (omega arith)))
 
--- a list gone along stretch by stretch: of each stretch those that are not left out have to pass
+-- a list is checked stretch by stretch: in each stretch the items that are not left out have to pass
 module _ {X : Type 0} (out q : X → Bool) (log index rest : List X) (moved : IsPermutation log index) (same : list_all (λ x. out x || q x) rest ≡ list_all (λ x. out x || q x) index) where
   module _ (stretch others current : List X) (n : ℕ) (r : Bool) (front : stretch ≡ take n rest) (back : others ≡ drop n rest) (left : current ≡ filter (λ x. not (out x)) stretch) (told : r ≡ list_all q current) where
     here : r ≡ list_all (λ x. out x || q x) stretch
@@ -99,7 +99,7 @@ less_max k m n = elim (cases_lt k m) [
   ]
 ]
 
--- what a search by picture finds is of that version, and so is what a look at all finds
+-- a search by picture finds the version only where a search through everything does
 pub has_by_picture : (picture : ℕ) (v : Version) (helds : List Held) → has_version_of picture v helds ≡ true → has helds v ≡ true
 has_by_picture picture v [] h = h
 has_by_picture picture v (x ∷ xs) h = elim (cases_Bool (same_version x.version v)) [
@@ -128,7 +128,7 @@ found_by_picture picture v (x ∷ xs) = elim (is_of x picture v) as (λ b. is_so
   | false ↦ found_by_picture picture v xs
 ]
 
--- what some device is found to have by picture, some device has
+-- if a search by picture finds the version on some device, some device has it
 pub found_has : (picture : ℕ) (v : Version) (devices : List Kept) → list_any (λ d. has_version_of picture v (d.store ++ d.out)) devices ≡ true → list_any (λ d. has (d.store ++ d.out) v) devices ≡ true
 found_has picture v [] h = h
 found_has picture v (d ∷ ds) h = elim (cases_Bool (has_version_of picture v (d.store ++ d.out))) [

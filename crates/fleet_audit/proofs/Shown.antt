@@ -1,4 +1,4 @@
--- The tests of an audit on what devices keep are the definitions' tests on the model devices that they show.
+-- An audit's tests on what devices keep are the definitions' tests on the model devices that they show.
 use Rattle.std.proofs.Common.{◌≡◌, ℕ, suc, ◌<◌, Bool, true, false, cond, not, ◌==◌, ◌&&◌, ◌||◌, List, [], ◌∷◌, ◌++◌, length, get_or, take, ◌+◌, ◌≤◌, refl, sym, subst, ap, ap₂, ◌∙◌, arith}
 use Rattle.std.specs.Prelude.{filter, Some, None}
 use Rattle.std.specs.List.{list_any, list_all, AllZip, AllByRecursion}
@@ -62,7 +62,7 @@ not_not : (b : Bool) → not (not b) ≡ b
 not_not true = refl
 not_not false = refl
 
--- its picture's number is above 0
+-- the picture's number is above 0
 abbrev pub IsAbove : Held → Type 0
 IsAbove h = 0 < h.picture
 
@@ -120,7 +120,7 @@ kept_alike log devices models all =
     same_all p q [] same = refl
     same_all p q (x ∷ xs) same = ap₂ (λ s t. s && t) (same x) (same_all p q xs same)
 
--- devices gone along
+-- the devices are checked one after another
 module _ (log : List Entry) (devices : List Kept) (models : List ModelDevice) (all : AllZip Shows devices models) where
   other : ModelDevice
   other = opening (author 0) All

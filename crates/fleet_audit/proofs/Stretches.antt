@@ -1,4 +1,4 @@
--- What a history has of an author's versions of a picture it has up to a place among them.
+-- A history has an author's versions of a picture up to some place in the stretch, and none behind it.
 use Rattle.std.proofs.Common.{◌≡◌, ℕ, zero, suc, ◌+◌, ◌<◌, ◌≤◌, Bool, true, false, ◌==◌, ltb, max, ◌&&◌, ◌||◌, List, [], ◌∷◌, length, get_or, take, drop, refl, sym, subst, ap, ◌∙◌, inl, inr, arith, add-one}
 use Rattle.std.proofs.Math.Bool.{or-false}
 use Rattle.std.specs.Prelude.{filter, not, Option}
@@ -56,7 +56,7 @@ module _ (helds : List Held) (stretch : IsStretch helds) where
         | inr less ↦ down i j d (omega arith) (omega arith) (denotes_earlier bounds _ _ (next_at j d l) e)
       ]
 
--- one more version of the log
+-- with one more version of the log
 module _ (viewer : Option Kept) (made stretch : List Held) (i count : ℕ) (w : Held) (l : i < length made) (is : get_or made i w ≡ w)
     (passed : (k : ℕ) (d : Held) → k < length stretch → ltb k count ≡ is_passed viewer (take i made) (get_or stretch k d).version) where
   more : (v : Version) → is_passed viewer (take (i + 1) made) v ≡ (is_passed viewer (take i made) v || (counts viewer w && denotes w.made_with v))
@@ -76,7 +76,7 @@ module _ (viewer : Option Kept) (made stretch : List Held) (i count : ℕ) (w : 
       ∙ (λ j. is_passed viewer (take i made) (get_or stretch k d).version || (sym c j && denotes w.made_with (get_or stretch k d).version))
       ∙ sym (more (get_or stretch k d).version)
 
--- those of a stretch that are not outdated are its last ones
+-- the versions of a stretch that are not superseded are its last ones
 pub last_current : (viewer : Option Kept) (log made stretch : List Held) (p count : ℕ) → IsStretch stretch → ((d : Held) → (get_or stretch 0 d).picture ≡ p)
     → ((test : Held → Bool) → list_any test made ≡ list_any (λ h. (h.picture == p) && test h) log)
     → ((k : ℕ) (d : Held) → k < length stretch → ltb k count ≡ is_passed viewer made (get_or stretch k d).version)

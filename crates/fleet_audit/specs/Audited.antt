@@ -1,4 +1,4 @@
--- Machinery of the proofs: the tests of an audit on what devices keep and a log has. What is sound and kept says `Sound`.
+-- Machinery of the proofs: the tests of an audit on what devices keep and what a log has. `Sound` defines soundness.
 use Rattle.std.specs.Prelude.{Bool, not, ◌&&◌, ◌||◌, List, ◌++◌, Some, None}
 use Rattle.std.specs.List.{list_any, list_all}
 use Rattle.photo_version.specs.Version.{Version, same_version}
@@ -11,11 +11,11 @@ use Rattle.fleet_audit.specs.Current.{is_outdated}
 abbrev pub has : List Held → Version → Bool
 has helds v = list_any (λ h. same_version h.version v) helds
 
--- the device doesn't know it, doesn't select it, or stores it
+-- the device doesn't know the version, doesn't select it, or stores it
 abbrev pub is_placed : Kept → Held → Bool
 is_placed d h = not (knows d.knowledge h.picture h.version && matches d.tree h.content) || has d.store h.version
 
--- the device knows it, selects it, and knows nothing of the log that supersedes it
+-- the device knows and selects the version, and knows none of the log that supersedes it
 abbrev pub is_wanted : List Held → Kept → Held → Bool
 is_wanted log d h = knows d.knowledge h.picture h.version && (matches d.tree h.content && not (is_outdated (Some d) log h))
 

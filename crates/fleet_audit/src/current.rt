@@ -1,4 +1,4 @@
-//! Which versions of a log are superseded, by all of the log or by what a device knows of it.
+//! Which versions of a log are superseded, by any of the log or by one that a device knows.
 ghost use Rattle.std.specs.Prelude.{◌≡◌, ℕ, ◌<◌, ◌≤◌, ◌==◌, ◌&&◌, Bool, not, nat_lt, length, filter, slice_index_or};
 ghost use Rattle.std.specs.List.{list_any};
 ghost use Rattle.std.specs.Option.{option_copied};
@@ -11,8 +11,8 @@ use fleet_steps::IssueLog;
 use photo_device::{Device, Held, SharedHeld};
 use photo_version::Vector;
 
-/// Whether a version of the log that counts supersedes that version. For a device those count that it knows, without one
-/// all of them.
+/// Whether some version of the log that counts supersedes this one. Given a device, those that it knows count; without one, all
+/// do.
 pub fn is_outdated(viewer: Option<&Device>, log: &IssueLog, held: &Held) -> bool
     ensures { result ≡ is_outdated (option_copied viewer.entry) log.now held.now }
 {
@@ -46,8 +46,8 @@ fn is_counted(viewer: Option<&Device>, held: &SharedHeld) -> bool
     }
 }
 
-/// Of an author's versions of a picture, in rising order, those that no version of the log that counts supersedes. What
-/// supersedes a version was made with the earlier ones as well, so they are the last ones.
+/// Of an author's versions of a picture, in rising order, those that no version of the log that counts supersedes. These are
+/// the last ones, since a version that supersedes one of them has the earlier ones in its history too.
 pub fn current_of<'a>(
     viewer: Option<&Device>,
     log: &IssueLog,
@@ -62,7 +62,7 @@ pub fn current_of<'a>(
     &stretch[count..]
 }
 
-// How many of them a version that counts was made with.
+// How many of the stretch's versions are in the history of a version that counts.
 fn outdated(viewer: Option<&Device>, made: &[SharedHeld], stretch: &[SharedHeld]) -> usize
     requires { IsStretch stretch.now }
     ensures within { result ≤ length stretch.now }
@@ -78,7 +78,7 @@ fn outdated(viewer: Option<&Device>, made: &[SharedHeld], stretch: &[SharedHeld]
     count
 }
 
-// How many of them are in a history.
+// How many of the stretch's versions are in a history.
 fn made_with(history: &Vector, stretch: &[SharedHeld]) -> usize
     requires { IsStretch stretch.now }
     ensures within { result ≤ length stretch.now }

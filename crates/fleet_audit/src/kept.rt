@@ -1,4 +1,4 @@
-//! Whether everything that is current is held by some device.
+//! Whether some device holds each current version.
 ghost use Rattle.std.specs.Prelude.{◌≡◌, ◌++◌};
 ghost use Rattle.std.specs.List.{list_any, list_all};
 ghost use Rattle.photo_device.specs.Held.{has_version_of};
@@ -9,7 +9,7 @@ use crate::stretch::stretch_len;
 use fleet_steps::IssueLog;
 use photo_device::{Device, Held, SharedHeld};
 
-/// Whether each version of a log that no version of it supersedes is held by some device.
+/// Whether some device holds each version of a log that no other version of it supersedes.
 pub fn is_kept(devices: &[Device], log: &IssueLog) -> bool
     ensures { result ≡ is_kept log.now devices.now }
 {
@@ -30,7 +30,7 @@ fn are_held(devices: &[Device], helds: &[SharedHeld]) -> bool
     helds.iter().all(|held| is_held(devices, held.as_held()))
 }
 
-// Whether some device holds the version: by searches for its picture first.
+// Whether some device holds the version. It searches by picture first.
 fn is_held(devices: &[Device], held: &Held) -> bool
     ensures { result ≡ is_held devices.now held.now }
 {
@@ -43,7 +43,7 @@ fn is_found(devices: &[Device], held: &Held) -> bool
     devices.iter().any(|device| finds(device, held))
 }
 
-// Whether a search finds it.
+// Whether a search by picture finds the version on the device.
 fn finds(device: &Device, held: &Held) -> bool
     ensures { result ≡ has_version_of held.now.picture held.now.version (device.now.store ++ device.now.out) }
 {
@@ -56,7 +56,7 @@ fn is_anywhere(devices: &[Device], held: &Held) -> bool
     devices.iter().any(|device| has(device, held))
 }
 
-// Whether it holds the version, of whatever picture.
+// Whether the device holds the version, under any picture.
 fn has(device: &Device, held: &Held) -> bool
     ensures { result ≡ has (device.now.store ++ device.now.out) held.now.version }
 {

@@ -1,5 +1,5 @@
-//! Whether devices and a log are as they ought to be: each device stores what it is to store, and nothing is lost. Its invariant:
-//! **yes exactly where all devices are sound and all that is current is kept**, whatever devices and log.
+//! Audits devices and a log: each device stores exactly what it should, and no current version is lost. Its invariant: **yes
+//! exactly where all devices are sound and all that is current is kept**, for any devices and any log.
 #![tactic(auto)]
 
 mod current;

@@ -1,4 +1,4 @@
-//! Whether a device stores just what its filter selects of the newest that it knows.
+//! Whether a device stores exactly what its filter selects of the newest versions that it knows.
 ghost use Rattle.std.specs.Prelude.{◌≡◌, ◌||◌, Some};
 ghost use Rattle.std.specs.List.{list_all};
 ghost use Rattle.fleet_audit.specs.Current.{is_outdated};
@@ -13,17 +13,18 @@ use crate::stretch::stretch_len;
 use fleet_steps::IssueLog;
 use photo_device::{Device, Held, HeldSet, SharedHeld};
 
-/// Whether a device stores just what it is to store of a log.
+/// Whether a device stores exactly what it should store of a log.
 pub fn is_sound(device: &Device, log: &IssueLog) -> bool
     ensures { (m : ModelDevice) → Shows device.now m → result ≡ sound.is_sound (entries_of log.now) m }
 {
-    // For their facts alone: the index has the versions of the log, and what is true of every device.
+    // `by_picture()` is called because its contract says that the index has the log's versions, and `store()` because its
+    // contract states the invariants of every device.
     let _versions = log.by_picture();
     let _store = device.store();
     stores_wanted(device, log) && stores_nothing_else(device, log)
 }
 
-// Whether it stores all that it knows and selects, and knows nothing newer of.
+// Whether the device stores every version that it knows and selects and of which it knows none newer.
 fn stores_wanted(device: &Device, log: &IssueLog) -> bool
     ensures { result ≡ list_all (λ h. is_outdated (Some device.now) log.now h || is_placed device.now h) log.now }
 {
@@ -44,7 +45,7 @@ fn are_placed(device: &Device, helds: &[SharedHeld]) -> bool
     helds.iter().all(|held| is_placed(device, held.as_held()))
 }
 
-// Whether it doesn't know the version, doesn't select it, or stores it.
+// Whether the device doesn't know the version, doesn't select it, or stores it.
 fn is_placed(device: &Device, held: &Held) -> bool
     ensures { result ≡ is_placed device.now held.now }
 {
@@ -54,14 +55,14 @@ fn is_placed(device: &Device, held: &Held) -> bool
     !device.filter().matches(&held.content) || has(device.store(), held)
 }
 
-// Whether a set has the version: by a search for its picture first.
+// Whether a set has the version. It searches by picture first.
 fn has(store: &HeldSet, held: &Held) -> bool
     ensures { result ≡ has store.now held.now.version }
 {
     store.has(held.picture, held.version) || store.find(held.version).is_some()
 }
 
-// Whether it stores only what it knows and selects, and knows nothing newer of.
+// Whether the device stores only versions that it knows and selects and of which it knows none newer.
 fn stores_nothing_else(device: &Device, log: &IssueLog) -> bool
     ensures { result ≡ list_all (is_wanted log.now device.now) device.now.store }
 {

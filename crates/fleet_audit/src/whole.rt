@@ -1,4 +1,4 @@
-//! The whole audit: all devices, and the log.
+//! Audits all devices and the log.
 ghost use Rattle.std.specs.Prelude.{◌≡◌, ◌&&◌, List};
 ghost use Rattle.std.specs.List.{AllZip, list_all};
 ghost use Rattle.photo_device.specs.Held.{entries_of};
@@ -11,8 +11,8 @@ use crate::sound::is_sound;
 use fleet_steps::IssueLog;
 use photo_device::Device;
 
-/// Whether each device stores just what its filter selects of the newest versions that it knows, and each version of the
-/// log that no other one supersedes is held by some device. It takes no memory and asks nothing of the devices.
+/// Whether each device stores exactly what its filter selects of the newest versions that it knows, and some device holds each
+/// version of the log that no other supersedes. It takes no memory and requires nothing of the devices.
 pub fn audit(devices: &[Device], log: &IssueLog) -> bool
     ensures { (models : List ModelDevice) → AllZip Shows devices.now models
         → result ≡ (list_all (is_sound (entries_of log.now)) models && is_kept (entries_of log.now) models) }

@@ -6,7 +6,7 @@ use Rattle.std.proofs.KnownBytes.{Appends-trans, Consumes-trans}
 use Rattle.std.proofs.lemmas.List.{take-append-drop, take_all, length-drop}
 use Rattle.fleet_runner.specs.Outputs.{TakesAtMost}
 
--- of the text a front has been written, and the rest is left
+-- a front of the text has been written, and `rest` is left
 pub record IsWrittenTo (before here : Option (List ℕ)) (rest text : List ℕ) : Type 0 where
   pub front : List ℕ
   pub whole : front ++ rest ≡ text
@@ -21,7 +21,7 @@ written_more before here after rest text n so_far more =
       written = Appends-trans before here after so_far.front (take n rest) so_far.written more;
     }
 
--- what was taken, and a piece more
+-- what was taken so far, and one more piece
 pub taken_more : (old here new : Option (List ℕ)) (bytes piece : List ℕ) (most : ℕ) → Consumes old here bytes → Consumes here new piece → length bytes + length piece ≤ most → TakesAtMost old new most
 taken_more old here new bytes piece most read more few = record {
   taken = bytes ++ piece;

@@ -1,4 +1,4 @@
--- The lines of a plan, as they are written.
+-- Writes the lines of a plan.
 use Rattle.std.proofs.Common.{◌≡◌, ℕ, suc, ◌+◌, ◌-◌, ◌<◌, List, [], ◌++◌, sym, ap, ◌∙◌, subst, append_assoc, arith}
 use Rattle.std.proofs.lemmas.List.{append-nil}
 use Rattle.std.specs.Prelude.{Option}
@@ -9,7 +9,7 @@ use Rattle.fleet_runner.specs.Outputs.{AppendsFront}
 use Rattle.fleet_runner.specs.PlanTexts.{command_line, count_line, lines_from}
 use Rattle.fleet_runner.proofs.Known.{IsWrittenTo}
 
--- a piece of what is left has been written
+-- one piece of the rest has been written
 piece_written : (before here after : Option (List ℕ)) (piece rest text : List ℕ) → IsWrittenTo before here (piece ++ rest) text → Appends here after piece → IsWrittenTo before after rest text
 piece_written before here after piece rest text so_far more = record {
   front = so_far.front ++ piece;
@@ -27,7 +27,7 @@ piece_cut before here after piece rest text so_far part = record {
   written = Appends-trans before here after so_far.front part.front so_far.written part.written;
 }
 
--- of so many commands the line of one is next
+-- the line of the next command
 next_line : (p : Planned) (place count : ℕ) → place < count → lines_from p (place + 1) (count - place) ≡ command_line p (place + 1) ++ lines_from p ((place + 1) + 1) (count - (place + 1))
 next_line p place count h = let left : count - place ≡ suc (count - (place + 1)) = omega arith in ap (lines_from p (place + 1)) left
 
@@ -43,7 +43,7 @@ line_cut before here after p place count line text h is so_far part =
     piece_cut before here after (command_line p (place + 1)) (lines_from p ((place + 1) + 1) (count - (place + 1))) text
     (subst (λ (l : List ℕ). IsWrittenTo before here l text) (next_line p place count h) so_far) (subst (AppendsFront here after) is part)
 
--- after the last command only the last line is left
+-- after the last command the last line is left
 last_line : (p : Planned) (place count : ℕ) → place ≡ count → lines_from p (place + 1) (count - place) ≡ count_line p
 last_line p place count all = let none : count - place ≡ 0 = omega arith in ap (lines_from p (place + 1)) none
 

@@ -1,4 +1,4 @@
--- What a run in an order has written where memory was refused.
+-- What a run in an order has written when memory is refused.
 use Rattle.std.proofs.Common.{◌≡◌, ℕ, List, take, Ok}
 use Rattle.std.specs.Prelude.{Option, Some, None, IfSome}
 use Rattle.fleet_model.specs.Contents.{Contents}
@@ -12,7 +12,7 @@ use Rattle.fleet_model.proofs.Zipped.{zip_take}
 use Rattle.fleet_runner.specs.Outputs.{AppendsFirst}
 use Rattle.fleet_runner.specs.OrderStreams.{WritesReplayFirst}
 
--- the script that was read has run in a lawful order, and gave these answers
+-- the script that was read has run in a lawful order and gave these answers
 pub record HasReplayed (input : Option (List ℕ)) (script : Contents) (order : List ℕ) (answers : List Answer) : Type 0 where
   pub read : IfSome input (λ bytes. script_of bytes ≡ Ok script)
   pub lawful : IsLawful script order

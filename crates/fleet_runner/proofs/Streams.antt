@@ -1,4 +1,4 @@
--- What a stream has written where memory was refused.
+-- What a stream has written when memory is refused.
 use Rattle.std.proofs.Common.{◌≡◌, inl, inr, ℕ, List, [], take, Ok}
 use Rattle.std.specs.Prelude.{Option, Some, None, IfSome}
 use Rattle.std.proofs.KnownBytes.{Appends-nil}
@@ -29,7 +29,7 @@ some_first law (Some bytes) old new script answers read right first = record {
   written = first.written;
 }
 
--- an error of writing is none of an order or of a worker
+-- an error of writing can come from a run without an order and without workers
 pub of_plain_run : (e : RunError) → IsOfWriting e → IsOfPlainRun e
 of_plain_run e (inl memory) = (λ order. cc, λ worker. cc)
 of_plain_run e (inr write) = (λ order. cc, λ worker. cc)

@@ -20,7 +20,7 @@ texts_from-append script n (x ∷ xs) ys =
 abbrev pub first_texts : Contents → ℕ → List Answer → List ℕ
 first_texts script i answers = texts_from script 1 (take i answers)
 
--- the text of one answer more
+-- the texts with one more answer
 texts_more : (script : Contents) (i : ℕ) (answers : List Answer) (a : Answer) → i < length answers → a ≡ get_or answers i a
     → first_texts script (i + 1) answers ≡ first_texts script i answers ++ text_of script (i + 1) a
 texts_more script i answers a h is =
@@ -30,13 +30,13 @@ texts_more script i answers a h is =
     ∙ texts_from-append script 1 front (a ∷ [])
     ∙ ap (λ t. texts_from script 1 front ++ t) (append-nil _ ∙ ap (λ n. text_of script n a) number)
 
--- the texts of the others behind them
+-- the first texts and the rest are all texts
 texts_whole : (script : Contents) (i : ℕ) (answers : List Answer)
     → first_texts script i answers ++ texts_from script (1 + length (take i answers)) (drop i answers) ≡ texts_from script 1 answers
 texts_whole script i answers =
     sym (texts_from-append script 1 (take i answers) (drop i answers)) ∙ ap (texts_from script 1) (take-append-drop i answers)
 
--- a front of one text behind the whole texts before it is a front of all
+-- the whole texts of the first answers and a front of the next one are a front of all texts
 front_of_all : (before here end : Option (List ℕ)) (script : Contents) (i : ℕ) (answers : List Answer) (a : Answer) → i < length answers → a ≡ get_or answers i a
     → Appends before here (first_texts script i answers) → AppendsFront here end (text_of script (i + 1) a) → AppendsFront before end (texts_from script 1 answers)
 front_of_all before here end script i answers a h is first part =
@@ -53,14 +53,14 @@ front_of_all before here end script i answers a h is first part =
       written = Appends-trans before here end texts part.front first part.written;
     }
 
--- the answer of the report at a place
+-- the answer of the report at an index
 answer_at : (reports : List Report) (i : ℕ) (r : Report) → i < length reports → r ≡ get_or reports i r → answer_of r ≡ get_or (map answer_of reports) i (answer_of r)
 answer_at reports i r h is = ap answer_of is ∙ sym (get_or-map answer_of reports i r (answer_of r) h)
 
 within : (reports : List Report) (i : ℕ) → i < length reports → i < length (map answer_of reports)
 within reports i h = rw (length-map reports answer_of) h
 
--- one report more has been written
+-- one more report has been written
 pub report_written : (before here after : Option (List ℕ)) (script : Contents) (n i : ℕ) (reports : List Report) (r : Report) (text : List ℕ) → i < length reports → r ≡ get_or reports i r
     → n ≡ i → text ≡ text_of script (n + 1) (answer_of r) → Appends before here (first_texts script i (map answer_of reports)) → Appends here after text
     → Appends before after (first_texts script (i + 1) (map answer_of reports))
@@ -71,7 +71,7 @@ report_written before here after script n i reports r text h is number text_is f
     (ap (λ t. texts ++ t) here_is ∙ sym (texts_more script i (map answer_of reports) (answer_of r) (within reports i h) (answer_at reports i r h is)))
     (Appends-trans before here after texts text first more)
 
--- a report's text was cut
+-- the text of a report was cut off
 pub report_cut : (before here after : Option (List ℕ)) (script : Contents) (n i : ℕ) (reports : List Report) (r : Report) (text : List ℕ) → i < length reports → r ≡ get_or reports i r
     → n ≡ i → text ≡ text_of script (n + 1) (answer_of r) → Appends before here (first_texts script i (map answer_of reports)) → AppendsFront here after text
     → AppendsFront before after (texts_from script 1 (map answer_of reports))

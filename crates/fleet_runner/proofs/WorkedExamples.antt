@@ -1,4 +1,4 @@
--- The worked examples are computed by the definitions alone.
+-- The definitions alone compute the worked examples.
 use Rattle.std.proofs.Common.{◌≡◌, ℕ, Bool, true, false, eqb, leb, ◌&&◌, ◌||◌, List, [], ◌∷◌, map, Ok, refl, sym, ap, ◌∙◌, subst}
 use Rattle.std.proofs.Math.Bool.{or-false}
 use Rattle.std.specs.Prelude.{Option}
@@ -21,7 +21,7 @@ use Rattle.fleet_runner.proofs.Outputs.{one_output}
 abbrev star : ℕ → List Fragment
 star n = record { pictures = []; entries = (0, n) ∷ [] } ∷ []
 
--- the right answers of a run, where each knowledge is of those fragments, or of the first device up to a number
+-- the right answers of a run, in which each knowledge is given by those fragments, or is the first device's up to a number
 abbrev answer_to : List Fragment → ModelReport → Answer
 answer_to fragments (Exactly a) = Plain a
 answer_to fragments (KnowledgeIs device known) = KnowledgeOf device fragments
@@ -59,8 +59,8 @@ changes_printed = record {
   texts = refl;
 }
 
--- what is known of a picture beside the versions of one device: here one version of a second device, of which the
--- history has the first version of the first one
+-- A picture's known versions beside those of one device: here one version of a second device, whose history has the first
+-- version of the first device.
 beside : (e a b x y : Bool)
     → (((a && (x || y)) || false) || (((e || false) && ((a && (x || y)) || ((b && x) || false))) || false))
     ≡ ((((a && x) || (a && y)) || false) || (((e && ((((a && x) || false) || false) || (b && x))) || false) || false))
@@ -82,7 +82,7 @@ two_beside_one e a b n =
     let two : (eqb 1 n || eqb 2 n) ≡ (leb 1 n && leb n 2) = ap (λ x. x || eqb 2 n) one ∙ one_more n 1 in
     sym (λ i. ((a && two i) || false) || (((e || false) && ((a && two i) || ((b && one i) || false))) || false)) ∙ beside e a b (eqb 1 n) (eqb 2 n)
 
--- two versions of the first device, and of a picture one of the second beside them
+-- two versions of the first device, and beside them one version of a picture by the second device
 abbrev of_two : List Fragment
 of_two = record { pictures = []; entries = (0, 2) ∷ [] } ∷ record { pictures = 7 ∷ []; entries = (0, 2) ∷ (4294967296, 1) ∷ [] } ∷ []
 

@@ -1,4 +1,4 @@
--- Runs, from the bytes of a script to the bytes of its reports.
+-- Worked examples of runs, from the bytes of a script to the bytes of its reports.
 use Rattle.std.specs.Prelude.{◌≡◌, ℕ, List, [], ◌∷◌, ◌++◌, pos, Option, Ok, codes}
 use Rattle.std.specs.Io.KnownBytes.{Appends}
 use Rattle.photo_record.specs.declared.record.Record.TheVariants.{Picture}
@@ -18,7 +18,7 @@ use Rattle.fleet_runner.specs.Outputs.{IsOutput, WritesOutput}
 abbrev pub stored_text : List ℕ
 stored_text = codes "device cam all\nnew cam 7 5 2024-05-01 sun,beach\nlist cam\n"
 
--- that script: a camera, its picture with two words, and a list
+-- the script of that text: a camera, its picture with two words, and a list
 abbrev pub stored_run : Contents
 stored_run = contents (codes "cam" ∷ []) (All ∷ [])
     (command.New 0 7 (Picture 5 (pos 19844) (codes "beach" ∷ codes "sun" ∷ [])) ∷ command.List 0 ∷ [])
@@ -27,7 +27,7 @@ abbrev pub printed : List ℕ
 printed = codes "1 made cam:1 store\n" ++ (codes "2 list cam store 1 out 0\n"
     ++ codes "  store 7 cam:1 rating 5 day 2024-05-01 words beach,sun\n")
 
--- a frame that is to keep what is rated 4 or more makes a picture that is rated 3, and knows its version
+-- A frame keeps pictures rated 4 or more. It makes one rated 3, and knows its version.
 abbrev pub below_the_filter : Contents
 below_the_filter = contents (codes "frame" ∷ []) (Rate AtLeast 4 ∷ [])
     (command.New 0 1 (Picture 3 (pos 19844) []) ∷ command.List 0 ∷ command.Knowledge 0 ∷ [])
@@ -36,8 +36,8 @@ abbrev pub printed_below : List ℕ
 printed_below = codes "1 made frame:1 out\n" ++ (codes "2 list frame store 0 out 1\n"
     ++ (codes "  out 1 frame:1 rating 3 day 2024-05-01 words -\n" ++ (codes "3 knowledge frame 1\n" ++ codes "  * frame:1\n")))
 
--- versions of one picture: rated up and down across the device's filter, removed and brought back; and the removal of a
--- picture of which nothing is held. All versions made are known of every picture, and no later one is
+-- One picture's versions are rated above and below the device's filter, removed and brought back. Another picture, of which the
+-- device holds nothing, is removed. The device knows all versions that it made, of every picture, and no later ones.
 abbrev pub changes : Contents
 changes = contents (codes "a" ∷ []) (Rate AtLeast 2 ∷ [])
     (command.New 0 7 (Picture 5 (pos 19723) []) ∷ command.Edit 0 7 (Picture 1 (pos 19723) []) ∷ command.Remove 0 7
@@ -50,8 +50,8 @@ printed_changes = codes "1 made a:1 store\n" ++ (codes "2 made a:2 out\n" ++ (co
     ++ (codes "  store 7 a:4 rating 4 day 2024-01-01 words -\n" ++ (codes "7 knowledge a 1\n" ++ (codes "  * a:4\n"
     ++ (codes "8 knows yes\n" ++ codes "9 knows no\n")))))))))
 
--- two devices, neither filter of which covers the other's. Each makes a version of a picture that the other doesn't
--- know, so both are held after a pull; a version that was made with both supersedes them
+-- Two devices whose filters don't cover each other. Each makes a version of a picture that the other doesn't know, so after a
+-- pull both versions are held. A version made with both supersedes them.
 abbrev pub two_versions : Contents
 two_versions = contents (codes "a" ∷ codes "b" ∷ []) (Rate AtLeast 1 ∷ Rate AtMost 4 ∷ [])
     (command.New 0 7 (Picture 3 (pos 19723) []) ∷ command.Pull 1 0 ∷ command.Edit 0 7 (Picture 4 (pos 19723) [])
@@ -64,7 +64,7 @@ printed_two_versions = codes "1 made a:1 store\n" ++ (codes "2 pulled taken 1 ha
     ++ (codes "6 conflicts a 1\n" ++ (codes "  7 a:2 b:1\n" ++ (codes "7 knowledge a 2\n" ++ (codes "  * a:2\n" ++ (codes "  7 a:2 b:1\n"
     ++ (codes "8 made a:3 store\n" ++ codes "9 pulled taken 1 handed 0 notices 0 dropped 1 learned no\n"))))))))))
 
--- a narrower filter: what it doesn't select waits in the out. A filter that isn't narrower is refused
+-- With a narrower filter, versions that it doesn't select go to the out. A filter that isn't narrower is refused.
 abbrev pub narrower : Contents
 narrower = contents (codes "a" ∷ []) (Rate AtLeast 2 ∷ [])
     (command.New 0 1 (Picture 2 (pos 19723) []) ∷ command.New 0 2 (Picture 3 (pos 19723) []) ∷ command.New 0 3 (Picture 5 (pos 19723) [])
@@ -77,7 +77,8 @@ printed_narrower = codes "1 made a:1 store\n" ++ (codes "2 made a:2 store\n" ++ 
     ++ (codes "  out 1 a:1 rating 2 day 2024-01-01 words -\n" ++ (codes "  out 2 a:2 rating 3 day 2024-01-01 words -\n"
     ++ (codes "6 refused C2 NotNarrower\n" ++ (codes "7 refused C1 NotHeld\n" ++ codes "8 made a:4 out\n")))))))))
 
--- a frame gets any filter, by a fresh author: what it forgot the next pull brings, and what it makes supersedes what it held
+-- A frame gets any filter and a fresh author. The next pull brings what it forgot, and its new version supersedes the one that
+-- it held.
 abbrev pub refilters : Contents
 refilters = contents (codes "s" ∷ codes "f" ∷ []) (All ∷ Rate AtLeast 4 ∷ [])
     (command.New 0 7 (Picture 2 (pos 19723) []) ∷ command.New 0 8 (Picture 5 (pos 19723) []) ∷ command.Pull 1 0
@@ -93,7 +94,7 @@ printed_refilters = codes "1 made s:1 store\n" ++ (codes "2 made s:2 store\n"
     ++ (codes "  store 7 f.1:1 rating 3 day 2024-01-01 words -\n" ++ (codes "  store 8 s:2 rating 5 day 2024-01-01 words -\n"
     ++ (codes "11 refiltered store 1 out 1\n" ++ codes "12 made f.2:1 store\n"))))))))))))
 
--- a preview tells what the pull after it counts, and moves nothing
+-- a preview reports what the next pull counts, and moves nothing
 abbrev pub previews : Contents
 previews = contents (codes "cam" ∷ codes "frame" ∷ []) (All ∷ Rate AtLeast 4 ∷ [])
     (command.New 0 1 (Picture 5 (pos 19723) []) ∷ command.New 0 2 (Picture 2 (pos 19723) []) ∷ command.Preview 1 0 ∷ command.Pull 1 0
@@ -105,7 +106,7 @@ printed_previews = codes "1 made cam:1 store\n" ++ (codes "2 made cam:2 store\n"
     ++ (codes "5 preview taken 0 handed 0 notices 0 dropped 0 learned yes\n" ++ (codes "6 list frame store 1 out 0\n"
     ++ codes "  store 1 cam:1 rating 5 day 2024-01-01 words -\n")))))
 
--- a version that is never made isn't known
+-- a version that is never made is never known
 abbrev pub never_made : Contents
 never_made = contents (codes "cam" ∷ codes "b" ∷ []) (All ∷ All ∷ []) (command.Knows 1 7 (version (author 0) 100000) ∷ [])
 
@@ -113,7 +114,7 @@ never_made = contents (codes "cam" ∷ codes "b" ∷ []) (All ∷ All ∷ []) (c
 abbrev pub accented : List ℕ
 accented = 0xc3 ∷ 0xa9 ∷ []
 
--- a device that is to keep what has the word
+-- a device that keeps pictures with the word
 abbrev pub with_the_word : Contents
 with_the_word = contents (codes "a" ∷ []) (Keyword accented ∷ [])
     (command.New 0 1 (Picture 0 (pos 19782) (accented ∷ [])) ∷ command.List 0 ∷ [])

@@ -1,4 +1,4 @@
--- What holds of all outputs.
+-- Laws of all outputs.
 use Rattle.std.specs.Prelude.{◌≡◌, ℕ, List}
 use Rattle.fleet_model.specs.Contents.{Contents}
 use Rattle.fleet_runner.specs.Outputs.{IsOutput}

@@ -1,4 +1,4 @@
--- What is told and written of a run in an order, and of a plan.
+-- What a run in an order, and a plan, write.
 use Rattle.std.specs.Prelude.{◌≡◌, ℕ, List, Option, Ok}
 use Rattle.std.specs.Io.KnownBytes.{Appends}
 use Rattle.fleet_model.specs.Contents.{Contents}
@@ -8,7 +8,7 @@ use Rattle.photo_batcher.specs.Plans.{Planned, IsPlan}
 use Rattle.fleet_runner.specs.Outputs.{AppendsFront, WritesOutput, WritesFirst, WritesFront}
 use Rattle.fleet_runner.specs.PlanTexts.{plan_text}
 
--- the input is the text of a script, and the order is a lawful one of its commands
+-- the input is the text of a script, and the order is a lawful order of its commands
 pub record IsLawfulFor (input order : List ℕ) : Type 0 where
   pub script : Contents
   pub read : script_of input ≡ Ok script
@@ -20,7 +20,7 @@ pub record IsUnlawfulFor (input order : List ℕ) : Type 0 where
   pub read : script_of input ≡ Ok script
   pub unlawful : IsLawful script order → ⊥
 
--- the input is the text of a script, and the text of its plan has been written behind what was there, and nothing else
+-- the input is the text of a script, and exactly the text of its plan was appended
 pub record WritesPlan (old new : Option (List ℕ)) (input : List ℕ) : Type 0 where
   pub script : Contents
   pub read : script_of input ≡ Ok script
@@ -28,7 +28,7 @@ pub record WritesPlan (old new : Option (List ℕ)) (input : List ℕ) : Type 0 
   pub is_plan : IsPlan script plan
   pub written : Appends old new (plan_text plan)
 
--- the same, of a front of that text
+-- the same, where a front of that text was appended
 pub record WritesPlanFront (old new : Option (List ℕ)) (input : List ℕ) : Type 0 where
   pub script : Contents
   pub read : script_of input ≡ Ok script
@@ -36,14 +36,14 @@ pub record WritesPlanFront (old new : Option (List ℕ)) (input : List ℕ) : Ty
   pub is_plan : IsPlan script plan
   pub written : AppendsFront old new (plan_text plan)
 
--- the order is lawful, and what the run command by command prints has been written behind what was there, and nothing else
+-- the order is lawful, and exactly what the run command by command prints was appended
 abbrev pub WritesReplay : List ℕ → Option (List ℕ) → Option (List ℕ) → List ℕ → Type 0
 WritesReplay order old new input = IsLawfulFor input order × WritesOutput old new input
 
--- the same, of the whole texts of some first reports alone, perhaps of none
+-- the same, where exactly the whole texts of some first reports were appended, perhaps of none
 abbrev pub WritesReplayFirst : List ℕ → Option (List ℕ) → Option (List ℕ) → List ℕ → Type 0
 WritesReplayFirst order old new input = IsLawfulFor input order × WritesFirst old new input
 
--- the same, of a front of what the run prints
+-- the same, where a front of what the run prints was appended
 abbrev pub WritesReplayFront : List ℕ → Option (List ℕ) → Option (List ℕ) → List ℕ → Type 0
 WritesReplayFront order old new input = IsLawfulFor input order × WritesFront old new input

@@ -1,4 +1,4 @@
--- What a stream takes from its source and writes.
+-- What a stream takes from its source and writes to its writer.
 use Rattle.std.specs.Prelude.{◌≡◌, ◌≢◌, ◌⊎◌, ℕ, ◌≤◌, List, ◌++◌, length, take, Option, Ok}
 use Rattle.std.specs.List.{AllZip}
 use Rattle.std.specs.Io.KnownBytes.{Appends, Consumes}
@@ -12,32 +12,32 @@ use Rattle.fleet_steps.specs.declared.fault.RunError.TheVariants.{NoMemory, NoWo
 use Rattle.fleet_steps.specs.Outcomes.{AreRight}
 use Rattle.fleet_model.specs.Sound.{IsSoundThroughout}
 
--- what a script's run prints: the texts of the right answers. There is at most one such output
+-- What a script's run prints: the texts of the right answers. There is at most one such output.
 pub record IsOutput (script : Contents) (output : List ℕ) : Type 0 where
   pub answers : List Answer
   pub right : AreRight script answers
   pub texts : output ≡ texts_from script 1 answers
 
--- of a reader's bytes so many at most have been taken, from their front
+-- at most that many bytes were taken, from the front of the reader's bytes
 pub record TakesAtMost (old new : Option (List ℕ)) (most : ℕ) : Type 0 where
   pub taken : List ℕ
   pub front : Consumes old new taken
   pub few : length taken ≤ most
 
--- the whole texts of some first answers, perhaps of none, have been written behind what was there, and nothing else
+-- exactly the whole texts of some first answers were appended, perhaps of none
 pub record AppendsFirst (old new : Option (List ℕ)) (script : Contents) (answers : List Answer) : Type 0 where
   pub count : ℕ
   pub written : Appends old new (texts_from script 1 (take count answers))
 
--- a front of the bytes has been written behind what was there, and nothing else
+-- exactly a front of the bytes was appended
 pub record AppendsFront (old new : Option (List ℕ)) (all : List ℕ) : Type 0 where
   pub front : List ℕ
   pub rest : List ℕ
   pub whole : front ++ rest ≡ all
   pub written : Appends old new front
 
--- the input is the text of a script, and what its run prints has been written behind what was there, and nothing else; and
--- after each command of that run each device is sound, and nothing that is current is lost
+-- The input is the text of a script, and exactly what its run prints was appended. After each command of that run each device
+-- is sound, and no current version is lost.
 pub record WritesOutput (old new : Option (List ℕ)) (input : List ℕ) : Type 0 where
   pub script : Contents
   pub read : script_of input ≡ Ok script
@@ -46,7 +46,7 @@ pub record WritesOutput (old new : Option (List ℕ)) (input : List ℕ) : Type 
   pub printed : IsOutput script output
   pub written : Appends old new output
 
--- the same, of the whole texts of some first reports alone, perhaps of none
+-- the same, where exactly the whole texts of some first reports were appended, perhaps of none
 pub record WritesFirst (old new : Option (List ℕ)) (input : List ℕ) : Type 0 where
   pub script : Contents
   pub read : script_of input ≡ Ok script
@@ -55,7 +55,7 @@ pub record WritesFirst (old new : Option (List ℕ)) (input : List ℕ) : Type 0
   pub right : AllZip Tells answers (take (length answers) (reports_of (run script)))
   pub written : Appends old new (texts_from script 1 answers)
 
--- the same, of a front of what the run prints
+-- the same, where a front of what the run prints was appended
 pub record WritesFront (old new : Option (List ℕ)) (input : List ℕ) : Type 0 where
   pub script : Contents
   pub read : script_of input ≡ Ok script
@@ -64,18 +64,18 @@ pub record WritesFront (old new : Option (List ℕ)) (input : List ℕ) : Type 0
   pub printed : IsOutput script output
   pub written : AppendsFront old new output
 
--- the error is one that a run command by command can have: no order was asked for, and no worker
+-- the error can come from a run command by command, which has neither an order nor workers
 abbrev pub IsOfPlainRun : RunError → Type 0
 IsOfPlainRun e = (e ≢ NotLawful) × (e ≢ NoWorker)
 
--- the error is one that a run by workers can have: no order was asked for
+-- the error can come from a run by workers, which has no order
 abbrev pub IsOfWorkersRun : RunError → Type 0
 IsOfWorkersRun e = e ≢ NotLawful
 
--- the error is the script's
+-- the error is a fault of the script
 abbrev pub IsOfReading : RunError → Type 0
 IsOfReading e = (fault : ScriptFault) × (e ≡ Script fault)
 
--- the error is one of writing: it is not the script's
+-- the error comes from writing: `NoMemory` or `Write`
 abbrev pub IsOfWriting : RunError → Type 0
 IsOfWriting e = (e ≡ NoMemory) ⊎ (e ≡ Write)

@@ -3,7 +3,7 @@ use Rattle.std.specs.Prelude.{ℕ, zero, suc, ◌+◌, List, ◌++◌, length, O
 use Rattle.std.specs.Fmt.{decimal}
 use Rattle.photo_batcher.specs.Plans.{Planned, batch_in, after_in}
 
--- the number of a command, or a dash
+-- the number of a command, or a dash where there is none
 abbrev pub after_text : Option ℕ → List ℕ
 after_text None = codes "-"
 after_text (Some number) = decimal number
@@ -16,11 +16,11 @@ command_line p number = decimal number ++ codes " batch " ++ decimal (batch_in p
 abbrev pub count_line : Planned → List ℕ
 count_line p = codes "batches " ++ decimal (length p.members) ++ codes "\n"
 
--- the lines of so many commands, from a number on, and the last line behind them
+-- the lines of that many commands, from a number on, and then the last line
 abbrev pub lines_from : Planned → ℕ → ℕ → List ℕ
 lines_from p number zero = count_line p
 lines_from p number (suc left) = command_line p number ++ lines_from p (number + 1) left
 
--- a line for each command of the plan, in the order of their numbers, and a last line
+-- a line for each command of the plan, in the order of their numbers, and then the last line
 abbrev pub plan_text : Planned → List ℕ
 plan_text p = lines_from p 1 (length p.batches)

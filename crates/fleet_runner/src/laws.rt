@@ -7,7 +7,7 @@ use crate::plain_stream;
 use fleet_steps::RunError;
 use std::alloc::Global;
 
-/// The worked examples are as they are told, by the definitions alone.
+/// The worked examples hold by the definitions alone.
 pub fn examples()
     ensures { AreAsTold }
 {
@@ -15,14 +15,14 @@ pub fn examples()
     photo_script::laws::answers_are_one();
 }
 
-/// A script's run has at most one output, whatever its reports of knowledge.
+/// A script's run has at most one output, whatever forms its reports of knowledge take.
 pub fn outputs_are_one()
     ensures { OutputsAreOne }
 {
     photo_script::laws::answers_are_one();
 }
 
-/// From the bytes of a script in memory to the bytes of its reports.
+/// A worked run, from the bytes of a script in memory to the bytes of its reports.
 pub fn first_picture(alloc: Global) -> Result<Vec<u8>, RunError>
     ensures { IfOk result (λ output. output.items ≡ printed) }
 {

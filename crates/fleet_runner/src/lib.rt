@@ -1,5 +1,5 @@
-//! Runs of scripts, on one thread or by several workers, from a reader's bytes to the bytes of the reports; and, for
-//! programs of one's own, the fleet that is driven by hand. Its invariant: **what is written is the texts of the right reports**.
+//! Runs scripts, on one thread or by several workers, from a reader's bytes to the bytes of the reports. For programs of one's
+//! own it also has the fleet that runs commands by hand. Its invariant: **what is written is the texts of the right reports**.
 #![tactic(auto)]
 
 pub mod laws;

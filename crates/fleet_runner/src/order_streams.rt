@@ -1,4 +1,4 @@
-//! From a reader's bytes to the reports of a run in an order, and to the text of a plan.
+//! Streams for a run in an order and for the text of a plan.
 ghost use Rattle.std.specs.Prelude.{◌≡◌, ◌≢◌, ◌⊎◌, OnOk, IfErr, IfSome, Err};
 ghost use Rattle.script_reader.specs.declared.fault.ScriptFault.{ScriptFault};
 ghost use Rattle.fleet_steps.specs.declared.fault.RunError.TheVariants.{NoMemory, NoWorker, NotLawful, Script, Write};
@@ -11,10 +11,10 @@ use photo_batcher::plan;
 use std::alloc::Global;
 use std::io::{Read, Write};
 
-/// Reads a script, runs its commands in the order of these numbers, if it is a lawful one, and then writes its reports.
+/// Reads a script, runs its commands in the order of these numbers, if that is lawful, and then writes its reports.
 ///
-/// After a `Script` fault and after `NotLawful` nothing is written. `NoMemory` leaves the whole texts of some first
-/// reports, perhaps of none, and `Write` a front of all texts.
+/// After a `Script` fault and after `NotLawful` nothing is written. After `NoMemory` the whole texts of some first reports are
+/// written, perhaps of none, and after `Write` a front of all texts.
 pub fn replay_stream<R: Read, W: Write>(
     alloc: Global,
     reader: &mut R,
@@ -44,7 +44,8 @@ pub fn replay_stream<R: Read, W: Write>(
 
 /// Reads a script and writes its plan.
 ///
-/// After a `Script` fault nothing is written. `NoMemory` and `Write` leave a front of the plan's text, perhaps nothing.
+/// After a `Script` fault nothing is written. After `NoMemory` and `Write` a front of the plan's text is written, perhaps
+/// nothing.
 pub fn plan_stream<R: Read, W: Write>(
     alloc: Global,
     reader: &mut R,

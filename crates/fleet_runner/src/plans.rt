@@ -1,4 +1,4 @@
-//! The text of a plan, and its writing.
+//! Writes the text of a plan.
 ghost use Rattle.std.specs.Prelude.{◌≡◌, ◌<◌, ◌≤◌, ◌++◌, length, string_bytes, codes, OnOk, OnErr, IfErr};
 ghost use Rattle.std.specs.Fmt.{decimal};
 ghost use Rattle.std.specs.Io.KnownBytes.{Appends};
@@ -12,10 +12,10 @@ use photo_batcher::Plan;
 use std::alloc::{AllocError, Global};
 use std::io::Write;
 
-/// Writes a plan, and flushes the writer: for each command, in the order of their numbers, a line with its batch and what it
-/// goes after, and at the end a line with the number of batches.
+/// Writes a plan, and flushes the writer. Each command, in the order of their numbers, has a line with its batch and the
+/// command that it goes after; the last line has the number of batches.
 ///
-/// Want of memory leaves the lines of some first commands written, perhaps of none. An error or a 0 of the writer is
+/// After want of memory the lines of some first commands are written, perhaps of none. An error or a 0 of the writer is
 /// `Write`. After either a front of the text is written.
 pub fn write_plan<W: Write>(alloc: Global, writer: &mut W, plan: &Plan) -> Result<(), RunError>
     ensures written { OnOk result (Appends (W.contents writer.old) (W.contents writer.new) (plan_text plan.now)) }

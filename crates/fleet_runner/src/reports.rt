@@ -1,4 +1,4 @@
-//! The writing of reports.
+//! Writes reports.
 ghost use Rattle.std.specs.Prelude.{◌≡◌, ◌≤◌, length, map, OnOk, OnErr, IfErr, Err};
 ghost use Rattle.std.specs.List.{AllByRecursion};
 ghost use Rattle.fleet_model.specs.Limits.{max_commands};
@@ -14,8 +14,8 @@ use std::io::Write;
 
 /// Writes the texts of the reports, numbered from 1, one after another, and flushes the writer.
 ///
-/// Want of memory leaves the whole texts of some first reports written, perhaps of none. An error or a 0 of the
-/// writer is `Write`, and leaves a front of all texts written.
+/// After want of memory the whole texts of some first reports are written, perhaps of none. An error or a 0 of the writer is
+/// `Write`; then a front of all texts is written.
 pub fn write_reports<W: Write>(
     alloc: Global,
     writer: &mut W,
@@ -68,7 +68,7 @@ fn write_texts<W: Write>(
     Ok(())
 }
 
-// Writes a text, in whatever pieces the writer takes.
+// Writes a text, whatever pieces the writer takes.
 pub(crate) fn write_text<W: Write>(writer: &mut W, text: &[u8]) -> Result<(), RunError>
     ensures written { OnOk result (Appends (W.contents writer.old) (W.contents writer.new) text.now) }
     ensures front { OnErr result (AppendsFront (W.contents writer.old) (W.contents writer.new) text.now) }

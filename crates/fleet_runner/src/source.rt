@@ -1,4 +1,4 @@
-//! The reading of a script from a source.
+//! Reads a script from a source.
 ghost use Rattle.std.specs.Prelude.{◌≡◌, ◌≢◌, ◌⊎◌, ◌+◌, ◌<◌, length, Ok, Err, IfOk, IfErr, IfSome};
 ghost use Rattle.script_reader.specs.Limits.{max_text_bytes};
 ghost use Rattle.script_reader.specs.Reading.{script_of};
@@ -11,8 +11,8 @@ use std::io::Read;
 
 /// Reads a script to the end of its source, whatever pieces the reader gives.
 ///
-/// At most 8,388,609 bytes are read, and a source of so many is `TooLarge`. Every error of the reader is `Read`. Each
-/// other fault but want of memory is that of the source's text.
+/// It reads at most 8,388,609 bytes; a source that has as many is `TooLarge`. Every error of the reader is `Read`. Any other
+/// fault except want of memory is that of the source's text.
 pub fn read_source<R: Read>(alloc: Global, reader: &mut R) -> Result<Script, ScriptFault>
     ensures read { IfOk result (λ script. IfSome (R.remaining reader.old) (λ input. script_of input ≡ Ok script)) }
     ensures refused { IfErr result

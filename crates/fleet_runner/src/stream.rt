@@ -1,4 +1,4 @@
-//! From a reader's bytes to the bytes of the reports, on one thread or by workers.
+//! Streams from a reader's bytes to the bytes of the reports, on one thread or by workers.
 ghost use Rattle.std.specs.Prelude.{◌≡◌, ◌≢◌, ◌+◌, OnOk, IfOk, IfErr, IfSome, Ok, Err};
 ghost use Rattle.script_reader.specs.Limits.{max_text_bytes};
 ghost use Rattle.script_reader.specs.Reading.{script_of};
@@ -18,10 +18,10 @@ use std::thread::Threads;
 
 /// Reads a script, runs it command by command, and then writes its reports.
 ///
-/// Nothing is written before the run has succeeded: a `Script` fault leaves the writer as it was. The fault is the
-/// first one of the bytes read, unless reading or memory failed. After `NoMemory` the whole texts of some first
-/// reports are written, perhaps of none, and after `Write` a front of all texts. At most 8,388,609 bytes are read. After
-/// each command of the script its devices are sound, and nothing that is current is lost.
+/// Nothing is written before the run has succeeded: a `Script` fault leaves the writer as it was. The fault is the first one of
+/// the bytes read, unless reading or memory failed. After `NoMemory` the whole texts of some first reports are written, perhaps
+/// of none, and after `Write` a front of all texts. At most 8,388,609 bytes are read. After each command of the script its
+/// devices are sound, and no current version is lost.
 pub fn plain_stream<R: Read, W: Write>(
     alloc: Global,
     reader: &mut R,
@@ -41,13 +41,13 @@ pub fn plain_stream<R: Read, W: Write>(
     write_reports(alloc, writer, &script, outcome.reports.as_slice())
 }
 
-/// Reads a script, runs it by several workers, each in a thread of its own, and then writes its reports. The bytes
-/// written are those of [`plain_stream`].
+/// Reads a script, runs it by several workers, each in a thread of its own, and then writes its reports. The bytes written are
+/// those of [`plain_stream`].
 ///
-/// Nothing is written before the run has succeeded: a `Script` fault leaves the writer as it was, and so does
-/// `NoWorker`, where a thread could not be started. The fault is the first one of the bytes read, unless reading or
-/// memory failed. After `NoMemory` the whole texts of some first reports are written, perhaps of none, and after
-/// `Write` a front of all texts. At most 8,388,609 bytes are read.
+/// Nothing is written before the run has succeeded: a `Script` fault leaves the writer as it was, and so does `NoWorker`, where
+/// a thread couldn't be started. The fault is the first one of the bytes read, unless reading or memory failed. After
+/// `NoMemory` the whole texts of some first reports are written, perhaps of none, and after `Write` a front of all texts. At
+/// most 8,388,609 bytes are read.
 pub fn run_stream<R: Read, W: Write, G: Gate + 'static, T: Threads + Wait + Copy + Send + 'static>(
     rt: T,
     alloc: Global,
@@ -74,7 +74,7 @@ pub fn run_stream<R: Read, W: Write, G: Gate + 'static, T: Threads + Wait + Copy
     write_reports(alloc, writer, &*script, outcome.reports.as_slice())
 }
 
-// Reads a script, and tells that every accepted script stays sound.
+// Reads a script, and states that every accepted script stays sound.
 fn script_read<R: Read>(alloc: Global, reader: &mut R) -> Result<photo_script::Script, RunError>
     ensures read { IfOk result (λ script. IfSome (R.remaining reader.old) (λ input. script_of input ≡ Ok script)) }
     ensures sound { AcceptedStaysSound }
@@ -83,7 +83,7 @@ fn script_read<R: Read>(alloc: Global, reader: &mut R) -> Result<photo_script::S
     ensures taken { TakesAtMost (R.remaining reader.old) (R.remaining reader.new) (max_text_bytes + 1) }
     ensures err { IfErr result IsOfReading }
 {
-    // The law that the contract's 'sound' rests on. It does nothing.
+    // The clause `sound` needs this law, which does nothing at run time.
     accepted_stays_sound();
     match read_source(alloc, reader) {
         Ok(script) => Ok(script),

@@ -1,4 +1,4 @@
--- The answers of a run speak of devices of its script.
+-- A run's answers name only devices of its script.
 use Rattle.std.proofs.Common.{◌≡◌, ◌⊎◌, ℕ, ◌+◌, ◌/◌, ◌<◌, ◌≤◌, Bool, true, false, not, ◌&&◌, ◌||◌, eqb, ltb, cond, List, [], ◌∷◌, ◌++◌, length, map, inl, inr, refl, sym, ◌∙◌, subst, arith}
 use Rattle.std.proofs.lemmas.Bool.{and_parts, or_cases, or_left, or_right, eqb-true}
 use Rattle.std.specs.Prelude.{filter, Option, Some, None, IfSome}
@@ -37,7 +37,7 @@ all_map : {X Y : Type 0} (P : X → Type 0) (Q : Y → Type 0) (f : X → Y) (xs
 all_map P Q f [] each all = tt
 all_map P Q f (x ∷ xs) each all = (each x all.0, all_map P Q f xs each all.1)
 
--- what follows of an item that passes a test
+-- what follows from an item that passes a test
 any_passes : {X : Type 0} (P : X → Type 0) (R : Type 0) (q : X → Bool) (xs : List X) → ((x : X) → P x → q x ≡ true → R) → AllByRecursion P xs → list_any q xs ≡ true → R
 any_passes P R q [] each all h = cc
 any_passes P R q (x ∷ xs) each all h = elim (or_cases (q x) (list_any q xs) h) [
@@ -45,7 +45,7 @@ any_passes P R q (x ∷ xs) each all h = elim (or_cases (q x) (list_any q xs) h)
   | inr later ↦ any_passes P R q xs each all.1 later
 ]
 
--- a new entry into either place, and nothing else of its picture
+-- a picture's new entry replaces the old ones in one place; other pictures' entries stay
 all_made : (P : Entry → Type 0) (b : Bool) (e : Entry) (picture : ℕ) (entries : List Entry) → P e → AllByRecursion P entries → AllByRecursion P (put_entry_if b e (others picture entries))
 all_made P true e picture entries p all = all_put P entry_before e _ p (all_filter P (is_of_other picture) entries all)
 all_made P false e picture entries p all = all_filter P (is_of_other picture) entries all
@@ -63,7 +63,7 @@ one_of_three true b c h = inl refl
 one_of_three false true c h = inr refl
 one_of_three false false c h = inl h
 
--- what is known after a version was made is that version, or was known before
+-- what a device knows after it made a version is that version, or was known before
 one_known : (script : Contents) (d : ModelDevice) (p : ℕ) (v : Version) → IsOfFleet script d → ((d.every v || same_version (next_version d) v) || d.of p v) ≡ true → IsOfScript script v
 one_known script d p v of here =
     elim (one_of_three (d.every v) (same_version (next_version d) v) (d.of p v) here) [
@@ -82,7 +82,7 @@ made_known script d picture content of =
       knows = λ p v here. one_known script d p v of here;
     }
 
--- and so does one that makes it only where it holds the picture
+-- so does a device that makes a version only where it holds the picture
 changing_known : (script : Contents) (d : ModelDevice) (other : Option ModelDevice) (picture : ℕ) (content : Record) → IsOfFleet script d → IsOfFleet script (changing d other picture content).first
 changing_known script d other picture content of =
     elim (is_held d picture) as (λ b. IsOfFleet script (cond b (making d other picture content) (telling d other (Exactly NotHeld))).first) [
@@ -90,7 +90,7 @@ changing_known script d other picture content of =
       | false ↦ of
     ]
 
--- what entries tell of
+-- which versions entries tell of
 told_known : (script : Contents) (es : List Entry) (p : ℕ) (v : Version) → AllByRecursion (IsOfRun script) es → tell es p v ≡ true → IsOfScript script v
 told_known script es p v all h = any_passes (IsOfRun script) (IsOfScript script v) (λ e. (eqb e.picture p) && (e.history v || same_version e.version v)) es
     (λ e of here. elim (or_cases (e.history v) (same_version e.version v) (and_parts (eqb e.picture p) (e.history v || same_version e.version v) here).1) [
@@ -114,7 +114,7 @@ module _ (script : Contents) (t s : ModelDevice) (of_t : IsOfFleet script t) (of
   all_told : AllByRecursion (IsOfRun script) (told t s)
   all_told = all_append (IsOfRun script) (taken t s ++ handed t s) (noticed t s) coming_known noticed_known
 
-  -- what the target knows after a pull it knew before it, or was told of, or the source knew
+  -- what the target knows after a pull it knew before, was told, or the source knew
   learned_known : (p : ℕ) (v : Version) → known (pulled t s) p v ≡ true → IsOfScript script v
   learned_known p v h = elim (or_cases (t.every v || (learns_all t s && s.every v)) (t.of p v || (tell (told t s) p v || (learns_all t s && s.of p v))) h) [
     | inl every ↦ elim (or_cases (t.every v) (learns_all t s && s.every v) every) [
@@ -141,7 +141,7 @@ module _ (script : Contents) (t s : ModelDevice) (of_t : IsOfFleet script t) (of
     knows = learned_known;
   }
 
-  -- and so does the other
+  -- the source stays of the script too
   pub handed_over_known : IsOfFleet script (handed_over t s)
   handed_over_known = record { author = of_s.author; store = of_s.store; out = all_filter (IsOfRun script) (knows_entry t) s.out of_s.out; knows = of_s.knows }
 
@@ -172,7 +172,7 @@ narrowing_known script d other tree of =
       | false ↦ of
     ]
 
--- what is told of a device
+-- the entries of a device name versions of the script
 
 entries_about : (script : Contents) (es : List Entry) → AllByRecursion (IsOfRun script) es → AreOfScript script es
 entries_about script es all = all_are (IsOfRun script) (λ e. IsOfScript script e.version) es (λ e of. of.itself) all
@@ -185,7 +185,7 @@ changing_about script d other picture content of answer tells =
       | false ↦ λ is. subst (IsAbout script) (sym is) tt
     ] tells
 
--- what is told of all that a device knows
+-- the knowledge of a device names versions of the script
 knowledge_about : (script : Contents) (d : ModelDevice) (n : ℕ) → n < length script.names → IsOfFleet script d → (answer : Answer) → TellsKnowledge answer n (known d) → IsAbout script answer
 knowledge_about script d n h of answer tells =
     let each = λ (p : ℕ) (v : Version) (above : 0 < p) (here : knows tells.fragments p v ≡ true). of.knows p v (sym (tells.denoted p above v) ∙ here) in
@@ -206,7 +206,7 @@ previewing_about : (script : Contents) (d : ModelDevice) (other : Option ModelDe
 previewing_about script d None answer tells = subst (IsAbout script) (sym tells) tt
 previewing_about script d (Some s) answer tells = subst (IsAbout script) (sym tells) tt
 
--- the versions of a picture
+-- the versions of a picture are of the script
 conflict_about : (script : Contents) (es : List Entry) (p : ℕ) → AllByRecursion (IsOfRun script) es → IsConflictOfScript script (versions_of es p)
 conflict_about script es p all = all_map (IsOfRun script) (IsOfScript script) (λ e. e.version) (filter (λ e. eqb e.picture p) es) (λ e of. of.itself) (all_filter (IsOfRun script) (λ e. eqb e.picture p) es all)
 
@@ -219,7 +219,7 @@ conflicts_about script d of =
     let es = put_entries d.store d.out in
     all_filter (IsConflictOfScript script) (λ c. ltb 1 (length c.versions)) (map (versions_of es) (pictures_of es)) (each_about script es (pictures_of es) (all_puts (IsOfRun script) d.store d.out of.store of.out))
 
--- a command keeps this of its devices, and the right answer is about the script
+-- a command's devices stay of the script, and its right answer names devices of the script
 
 pub effect_known : (script : Contents) (c : Command) (d : ModelDevice) (other : Option ModelDevice) → epoch_of_author d.author < 4294967295 → IsOfFleet script d → IfSome other (IsOfFleet script) → IsOfFleet script (effect c d other).first
 effect_known script (command.New n picture content) d other few of more = made_known script d picture content of

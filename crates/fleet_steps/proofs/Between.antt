@@ -1,4 +1,4 @@
--- Commands on one and on two of the devices of a run.
+-- Commands on one device and on two devices of a run.
 use Rattle.std.proofs.Common.{◌≡◌, ◌≢◌, ℕ, ◌+◌, ◌-◌, ◌<◌, ◌≤◌, Bool, true, false, cond, eqb, inl, inr, subst₂, List, [], ◌∷◌, ◌++◌, length, get_or, set, take, drop, refl, sym, ap, ◌∙◌, subst, arith}
 use Rattle.std.specs.Prelude.{Option, Some, None, Result, Ok, Err, OnOk, OnErr, IfOk, IfSome}
 use Rattle.std.specs.Option.{option_map}
@@ -27,7 +27,7 @@ use Rattle.fleet_steps.specs.Between.{MayPull, AreReady, HaveRun}
 use Rattle.fleet_steps.specs.Wanting.{MayWantMemory}
 use Rattle.fleet_model.proofs.Zipped.{zip_at, zip_set, zip_long}
 
--- what was found
+-- the version that was found among those held
 record IsFound (v : Version) (helds : List Held) (h : Held) : Type 0 where
   held : In (entry_of h) (entries_of helds)
   is : h.version ≡ v
@@ -42,11 +42,11 @@ found v (x ∷ xs) h e = by_test (same_version x.version v) (same_version_is x.v
         record { held = here (ap entry_of (sym same)); is = ap (λ (y : Held). y.version) (sym same) ∙ here_is refl }
     by_test false here_is more e = let later = more e in record { held = there later.held; is = later.is }
 
--- what a device holds, by what it shows
+-- the entries that a device holds are those of the model device that it shows
 held_by : (d : Kept) (m : ModelDevice) → Shows d m → entries_of (d.store ++ d.out) ≡ holds m
 held_by d m shows = map-append entry_of d.store d.out ∙ (λ i. shows.store i ++ shows.out i)
 
--- of devices that are ready, each may pull from each other
+-- each of the ready devices may pull from each other
 pub may_pull : (devices : List Kept) (t s : ℕ) (d e : Kept) → AreReady devices → t < length devices → s < length devices → s ≢ t → MayPull (get_or devices t d) (get_or devices s e)
 may_pull devices t s d e are ht hs other =
     let models = are.models in
@@ -79,7 +79,7 @@ may_pull devices t s d e are ht hs other =
       };
     }
 
--- a list that is cut in two: an item of the front, and the first one of the back
+-- a list that is split in two: an item of the front, and the first item of the back
 
 pub front_at : {A : Type 0} (xs front back : List A) (i : ℕ) (d : A) → xs ≡ front ++ back → i < length front → get_or front i d ≡ get_or xs i d
 front_at xs front back i d cut h = sym (ap (λ l. get_or l i d) cut ∙ get_or_append_left front back d i h)
@@ -95,18 +95,18 @@ both_set xs front back i k a b cut long h =
     let same : length (set front i a) ≡ k = omega (arith, long, length-set front i a) in
     sym (ap (λ l. set (set l i a) k b) cut ∙ ap (λ l. set l k b) (set-append_left front back i a (omega arith)) ∙ set-append_right (set front i a) back k k b same (omega arith) ∙ ap (λ n. set front i a ++ set back n b) none)
 
--- the items of a list that is as long as what it is written over
+-- the items of a list that overwrites one of the same length
 pub written_back : {A : Type 0} (new items : List A) (n : ℕ) → length new ≡ length items → n ≡ length items → take n (new ++ drop (length new) items) ≡ new
 written_back new items n same long =
     ap (λ l. take n (new ++ l)) (drop_all (length new) items (omega arith)) ∙ ap (take n) (append-nil new) ∙ take_all n new (omega arith)
 
--- so the target may pull from the source, where it stands in front of it
+-- the target may pull from the source, where the target is at a lower place
 pub may_pull_behind : (devices front back : List Kept) (t s : ℕ) (d e : Kept) → AreReady devices → devices ≡ front ++ back → length front ≡ s → t < s → s < length devices → MayPull (get_or front t d) (get_or back 0 e)
 may_pull_behind devices front back t s d e are cut long h hs =
     subst (λ (x : Kept). MayPull x (get_or back 0 e)) (sym (front_at devices front back t d cut (omega arith)))
     (subst (MayPull (get_or devices t d)) (sym (back_at devices front back s e cut long)) (may_pull devices t s d e are (omega arith) hs (omega arith)))
 
--- and where it stands behind it
+-- the target may pull from the source, where the target is at a higher place
 pub may_pull_ahead : (devices front back : List Kept) (t s : ℕ) (d e : Kept) → AreReady devices → devices ≡ front ++ back → length front ≡ t → s < t → t < length devices → MayPull (get_or back 0 d) (get_or front s e)
 may_pull_ahead devices front back t s d e are cut long h ht =
     subst (λ (x : Kept). MayPull x (get_or front s e)) (sym (back_at devices front back t d cut long))
@@ -114,7 +114,7 @@ may_pull_ahead devices front back t s d e are cut long h ht =
 
 -- a command on two devices
 
--- its devices, by their places
+-- two different places of devices
 pub record AreTwo (devices : List Kept) (t s : ℕ) : Type 0 where
   pub target : t < length devices
   pub source : s < length devices
@@ -132,7 +132,7 @@ two_within c devices t s first second within =
       ahead = λ least. elim (cases_eq s t) [ inl same ↦ absurd (other.1 same) | inr apart ↦ omega (arith, least, apart) ];
     }
 
--- it leaves a second one
+-- the command gives back a second device where it got one
 second_stays : (c : Command) (s : ℕ) (m other : ModelDevice) → (devices_of c).1 ≡ Some s → (x : ModelDevice) × ((effect c m (Some other)).second ≡ Some x)
 second_stays (command.New k p r) s m other two = cc
 second_stays (command.Edit k p r) s m other two = cc
@@ -146,7 +146,7 @@ second_stays (command.Conflicts k) s m other two = cc
 second_stays (command.Knowledge k) s m other two = cc
 second_stays (command.Knows k p v) s m other two = cc
 
--- what it has done, by the places of its devices
+-- its effect, by the places of its devices
 two_after : (c : Command) (models : List ModelDevice) (t s : ℕ) (x : ModelDevice) → (devices_of c).0 ≡ t → (devices_of c).1 ≡ Some s → (effect c (device_at models t) (Some (device_at models s))).second ≡ Some x
     → devices_after models c ≡ set (set models t (effect c (device_at models t) (Some (device_at models s))).first) s x
 two_after c models t s x first second is = (λ i.
@@ -154,7 +154,7 @@ two_after c models t s x first second is = (λ i.
     with_second (second i) done.second (set models (first i) done.first))
     ∙ ap (λ (o : Option ModelDevice). with_second (Some s) o (set models t (effect c (device_at models t) (Some (device_at models s))).first)) is
 
--- the devices after it
+-- the devices after the command
 pub two_show : {E : Type 0} (r : Result Report E) (devices new : List Kept) (c : Command) (t s : ℕ) (d e target source a b : Kept) → target ≡ get_or devices t d → source ≡ get_or devices s e → t < length devices → s < length devices → new ≡ set (set devices t a) s b
     → (devices_of c).0 ≡ t → (devices_of c).1 ≡ Some s
     → OnOk r ((tm sm : ModelDevice) → Shows target tm → Shows source sm → Shows a (effect c tm (Some sm)).first)
@@ -173,7 +173,7 @@ two_show (Ok report) devices new c t s d e target source a b is_t is_s ht hs is_
     (subst (AllZip Shows (set (set devices t a) s b)) (sym (two_after c models t s x.0 first second x.1))
     (zip_set Shows (set devices t a) (set models t done.first) s b x.0 (zip_set Shows devices models t a done.first shown (shows_first tm sm t_shows s_shows)) b_shows))
 
--- and the report
+-- the report on the command
 pub two_tell : {E : Type 0} (r : Result Report E) (devices : List Kept) (c : Command) (t s : ℕ) (d e target source : Kept) → target ≡ get_or devices t d → source ≡ get_or devices s e → t < length devices → s < length devices
     → (devices_of c).0 ≡ t → (devices_of c).1 ≡ Some s
     → IfOk r (λ report. (tm sm : ModelDevice) → Shows target tm → Shows source sm → Tells (answer_of report) (effect c tm (Some sm)).report)
@@ -215,7 +215,7 @@ one_tells (Ok report) devices c k d old alone place is h tells = λ models shown
     let same : (effect c m None).report ≡ (effect_on models c).report = ap (λ j. (effect c (device_at models j) None).report) place ∙ (λ i. (effect c (device_at models (devices_of c).0) (option_map (device_at models) (sym alone i))).report) in
     subst (Tells (answer_of report)) same (tells m before)
 
--- where a command on one device wants memory, and where one on two may
+-- when a command on one device may want memory, and when one on two devices may
 pub one_wants : {E : Type 0} (r : Result Report E) (devices : List Kept) (c : Command) (k : ℕ) (d old : Kept) → k ≡ (devices_of c).0 → old ≡ get_or devices k d → k < length devices
     → OnErr r ((m : ModelDevice) → Shows old m → MayWantMemory c m)
     → OnErr r ((models : List ModelDevice) → AllZip Shows devices models → MayWantMemory c (device_at models (devices_of c).0))

@@ -1,4 +1,4 @@
--- What comes of a change of a picture.
+-- The effect of a change of a picture.
 use Rattle.std.proofs.Common.{◌≡◌, ℕ, true, false, refl, ◌∙◌, subst}
 use Rattle.std.specs.Prelude.{Some, None, Result, Ok, Err, IfOk, OnOk, OnErr}
 use Rattle.photo_record.specs.declared.record.Record.{Record}
@@ -15,7 +15,7 @@ use Rattle.photo_script.specs.Reports.{Plain, Answer, Tells, answer_of}
 use Rattle.fleet_model.specs.Runs.{changing}
 use Rattle.fleet_steps.specs.Changes.{told_of}
 
--- what a device promises of a change
+-- a device's promise about a change
 pub record IsChanged (done : Result (Version × Place) ChangeFault) (old new : Kept) (p : ℕ) (content : Record) : Type 0 where
   pub shows : IfOk done (λ answer. (m : ModelDevice) → Shows old m → Shows new (made m p content))
   pub version : IfOk done (λ answer. (m : ModelDevice) → Shows old m → answer.0 ≡ next_version m)
@@ -40,7 +40,7 @@ tells_change (Err change.NotHeld) old new p content is a told m s =
     rw (is.not_held refl m s) same
 tells_change (Err change.NoMemory) old new p content is a told m s = cc
 
--- and what the report on it says of that
+-- the report on a change says what the device did
 
 pub change_device : {E : Type 0} (r : Result Report E) (done : Result (Version × Place) ChangeFault) (old new : Kept) (p : ℕ) (content : Record)
     → IfOk done (λ answer. (m : ModelDevice) → Shows old m → Shows new (made m p content))
@@ -74,7 +74,7 @@ change_err (Err e) done old new err none = subst (λ (x : Result (Version × Pla
 not_both : {A : Type 0} (r : Result A ChangeFault) → r ≡ Err change.NoMemory → r ≡ Err change.NotHeld → ⊥
 not_both r wanting refused = cc
 
--- a change that is refused wants no memory
+-- a refused change doesn't want memory
 pub change_wants : {E : Type 0} (r : Result Report E) (done : Result (Version × Place) ChangeFault) (old : Kept) (p : ℕ)
     → ((done ≡ Err change.NotHeld → ⊥) → (m : ModelDevice) → Shows old m → is_held m p ≡ true)
     → OnErr r (done ≡ Err change.NoMemory) → OnErr r ((m : ModelDevice) → Shows old m → is_held m p ≡ true)

@@ -1,4 +1,4 @@
--- No pull moves more versions than were made before it, so what reports say was moved is small.
+-- No pull moves more versions than were made before it, so reports give small counts.
 use Rattle.std.proofs.Common.{◌≡◌, ℕ, zero, suc, ◌+◌, ◌-◌, ◌<◌, ◌≤◌, Bool, true, false, if◌then◌else◌, not, ◌&&◌, List, [], ◌∷◌, ◌++◌, inl, inr, length, filter, replicate, set, refl, sym, ap, ◌∙◌, subst, arith, length-append}
 use Rattle.std.specs.Prelude.{Option, Some, None, IfSome, fold}
 use Rattle.std.specs.List.{AllByRecursion, AllZip, flat_map}
@@ -34,7 +34,7 @@ use Rattle.fleet_model.proofs.TracedFleets.{bounded}
 use Rattle.fleet_model.proofs.Times.{AreOnce}
 use Rattle.fleet_model.proofs.Once.{made_once, narrowed_once, refiltered_once, pulled_once, handed_once, no_more}
 
--- sound, and no device holds a version twice
+-- the fleet is sound, and no device holds a version twice
 record IsOnceFleet (log : List Entry) (devices : List ModelDevice) : Type 0 where
   pub sound : IsSoundFleet log devices
   pub once : (k : ℕ) → k < length devices → AreOnce (holds (device_at devices k))
@@ -71,7 +71,7 @@ once_kept = record {
   };
 }
 
--- a command makes one version at most
+-- a command makes at most one version
 
 few_of : (b : Bool) (x y : Effect) → length x.entries ≤ 1 → length y.entries ≤ 1 → length (if b then x else y).entries ≤ 1
 few_of true x y a b = a
@@ -93,7 +93,7 @@ few_entries (command.Conflicts k) d other = omega arith
 few_entries (command.Knowledge k) d other = omega arith
 few_entries (command.Knows k p v) d other = omega arith
 
--- a log of a few commands more
+-- the log grows by at most one entry per command
 log_grows : (script : Contents) (numbers : List ℕ) (fleet : Fleet) → length (fold (step script) fleet numbers).log ≤ length fleet.log + length numbers
 log_grows script [] fleet = omega arith
 log_grows script (zero ∷ more) fleet = let rest : length (fold (step script) fleet more).log ≤ length fleet.log + length more = log_grows script more fleet in omega arith
@@ -111,7 +111,7 @@ log_grows script (suc n ∷ more) fleet =
           omega (arith, rest, same)
     ]
 
--- what a report says was moved
+-- how many versions a report says were moved
 
 small_of : (most : ℕ) (b : Bool) (x y : Effect) → moved_by_report x.report ≤ most → moved_by_report y.report ≤ most → moved_by_report (if b then x else y).report ≤ most
 small_of most true x y a b = a
@@ -120,7 +120,7 @@ small_of most false x y a b = b
 shorter : (p : Entry → Bool) (xs : List Entry) → length (filter p xs) ≤ length xs
 shorter p xs = let both : length (filter p xs) + length (filter (λ x. not (p x)) xs) ≡ length xs = length-filter_both p (λ x. not (p x)) (λ _. refl) xs in omega arith
 
--- taken are some of what the source stores, and handed over some of what waits with it
+-- the versions taken are some of the source's store, and those handed over are some of its out
 pull_is_small : (most : ℕ) (t s : ModelDevice) → length (holds s) ≤ most → length (taken t s) + length (handed t s) ≤ most
 pull_is_small most t s few =
     let store : length (taken t s) ≤ length s.store = shorter (λ (e : Entry). not (knows_entry t e) && selects t e) s.store in
@@ -158,7 +158,7 @@ module _ (script : Contents) (is : IsScript script) where
       let log : length fleet.log ≤ 0 + length numbers = log_grows script numbers (opening_fleet script) in
       omega (arith, made, log)
 
-  -- a command after others
+  -- a command that runs after others
   next_moves_few : (numbers : List ℕ) (c : Command) → length numbers ≤ 4_294_967_295 → IsWithin (length script.names) c → moved_by_report (effect_on (run_in_order script numbers).devices c).report ≤ length numbers
   next_moves_few numbers c below within =
       let fleet = run_in_order script numbers in
@@ -220,7 +220,7 @@ all_told_small (a ∷ more) (r ∷ rs) told small = (told_small max_commands a r
 pub pulls_move_few : PullsMoveFew
 pulls_move_few script answers is right = all_told_small answers (reports_of (run script)) right (all_small (run script).reports (reports_small script is (length script.commands)))
 
--- as the totals ask for it
+-- as the totals require it
 pub small_enough : (answers : List Answer) → AllByRecursion (λ a. moved_by a ≤ max_commands) answers → AllByRecursion (λ a. moved_by a ≤ max_moved) answers
 small_enough [] all = tt
 small_enough (a ∷ more) all = let few : moved_by a ≤ max_commands = all.0 in (omega arith, small_enough more all.1)

@@ -1,4 +1,4 @@
--- A pull that follows commands in any order moves no more versions than there can be commands.
+-- A pull after commands in any order moves no more versions than there can be commands.
 use Rattle.std.proofs.Common.{◌≡◌, ℕ, ◌≤◌, List, length, refl, sym, subst, arith}
 use Rattle.fleet_model.specs.Limits.{max_commands}
 use Rattle.fleet_model.specs.declared.command.Command.{Command}

@@ -1,4 +1,4 @@
--- A run in some order of the commands, one after another.
+-- A run of commands one after another, in some order.
 use Rattle.std.proofs.Common.{◌≡◌, ℕ, zero, suc, ◌+◌, ◌-◌, ◌<◌, ◌≤◌, true, false, List, [], ◌∷◌, ◌++◌, ◌⊎◌, inl, inr, length, get_or, set, replicate, map, refl, sym, ap, ◌∙◌, subst, length-append, length-set, length-take-le, take, le_refl, arith}
 use Rattle.std.specs.Prelude.{Option, Some, None, is_some, IfSome, slice_get, fold, IsPermutation}
 use Rattle.std.specs.List.{AllZip, AllByRecursion, flat_map}
@@ -103,7 +103,7 @@ none_about : (script : Contents) (n : ℕ) (report : Report) → IsAbout script 
 none_about script zero report is = tt
 none_about script (suc n) report is = (is, none_about script n report is)
 
--- no command
+-- before any command
 pub runs_none : (script : Contents) (devices : List Kept) (slots : List Report) (log : List Held) → AllZip Shows devices (opening_from 0 script.filters) → length devices ≡ length script.names → slots ≡ replicate (length script.commands) NotHeld → log ≡ [] → RunsTo script [] devices slots log
 runs_none script devices slots log all long none none_logged = record {
   long = long;
@@ -115,7 +115,7 @@ runs_none script devices slots log all long none none_logged = record {
   logged = ap entries_of none_logged;
 }
 
--- what the next command asks of the devices
+-- the devices satisfy what the next command requires
 pub runs_ready : (script : Contents) (front : List ℕ) (devices : List Kept) (slots : List Report) (log : List Held) → IsScript script → length front < 4_294_967_295 → RunsTo script front devices slots log → AreReady devices
 runs_ready script front devices slots log is few to = record { models = (run_in_order script front).devices; shown = to.shown; ready = ready_in_order script front is (omega (arith, few)) }
 
@@ -135,7 +135,7 @@ about_reports : (script : Contents) (reports : List Report) → AllByRecursion (
 about_reports script [] all = tt
 about_reports script (r ∷ rs) all = (all.0, about_reports script rs all.1)
 
--- each command that stands in an order has its report
+-- each command of an order has its report
 
 all_points : (xs : List (Option ModelReport)) → ((k : ℕ) → k < length xs → is_some (get_or xs k None) ≡ true) → AllByRecursion (λ r. is_some r ≡ true) xs
 all_points [] each = tt
@@ -189,7 +189,7 @@ filled script order lawful =
     let long : length (run_in_order script order).reports ≡ length (opening_fleet script).reports = long_reports script order (opening_fleet script) in
     all_points (run_in_order script order).reports (λ k h. filled_from script order (opening_fleet script) k opened (omega arith) (inl (let one = lawful.once (suc k) (omega arith, omega arith) in omega arith)))
 
--- a lawful order has given what the run gives
+-- a run in a lawful order has given what the run gives
 pub runs_all : (script : Contents) (order : List ℕ) (devices : List Kept) (reports : List Report) (log : List Held) → length script.commands ≤ max_commands → RunsTo script order devices reports log → IsLawful script order → AreSameRuns (run_in_order script order) (run script) → HasRun script devices reports log
 runs_all script order devices reports log small to lawful same =
     let long = lawful_long script order lawful in
@@ -200,7 +200,7 @@ runs_all script order devices reports log small to lawful same =
       logged = subst (IsPermutation (run script).log) (sym to.logged) same.log;
     }
 
--- the number at a place of a lawful order
+-- the number at an index of a lawful order
 pub order_number : (script : Contents) (order : List ℕ) (i : ℕ) → IsLawful script order → i < length order → IsNumber script (get_or order i 0)
 order_number script order i lawful h = all_at (IsNumber script) order i 0 lawful.numbers h
 

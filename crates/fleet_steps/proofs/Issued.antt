@@ -1,4 +1,4 @@
--- What a device holds of a version that it has just made, and which command has made one.
+-- The version that a command has just made, as a device holds it, and which commands make one.
 use Rattle.std.proofs.Common.{◌≡◌, ℕ, ◌<◌, Bool, true, false, cond, ◌==◌, List, [], ◌∷◌, ◌++◌, length, get_or, set, inl, inr, refl, sym, ap, ap₂, ◌∙◌, subst, length-set, arith}
 use Rattle.std.specs.Prelude.{Option, Some, None}
 use Rattle.std.specs.List.{AllZip}
@@ -40,7 +40,7 @@ later_one p v e h hs picture version is (here same) =
     let other : same_version h.version v ≡ true = is_same_version _ _ (sym (ap (λ (x : Entry). x.version) same) ∙ version) in
     clash _ (and_from _ _ one other) is
 
--- the first that is of the version shows the only entry that can be it
+-- the first version found shows the only entry of that picture and version
 found_only : (p : ℕ) (v : Version) (e : Entry) (helds : List Held) → In e (entries_of helds) → e.picture ≡ p → e.version ≡ v
     → ((g : Entry) → In g (entries_of helds) → (g.picture == p) ≡ true → g ≡ e) → entries_of (option_to_list (find_version_of p v helds)) ≡ e ∷ []
 found_only p v e [] i picture version only = in_nothing i
@@ -60,7 +60,7 @@ new_held m p r = by_test (matches m.tree r) refl
 only_new : (m : ModelDevice) (p : ℕ) (r : Record) (g : Entry) → In g (holds (made m p r)) → (g.picture == p) ≡ true → g ≡ new_entry m p r
 only_new m p r g i same = elim (in_holds_made m p r i) [ inl e ↦ e | inr other ↦ clash _ same other.1 ]
 
--- of the version that it made last a device holds the new entry
+-- a device holds the new entry of the version that it made last
 pub made_found : (d : Kept) (m : ModelDevice) (p : ℕ) (r : Record) → Shows d (made m p r)
     → entries_of (option_to_list (find_version_of p (next_version m) (d.store ++ d.out))) ≡ new_entry m p r ∷ []
 made_found d m p r shows =
@@ -77,7 +77,7 @@ making_issued d m other p r a v told is shows =
     let v_is : v ≡ next_version m = cc in
     subst (λ w. entries_of (option_to_list (find_version_of p w (d.store ++ d.out))) ≡ new_entry m p r ∷ []) (sym v_is) (made_found d m p r shows)
 
--- the device that a command has changed, in its place
+-- the device that a command changed, at its place
 placed : (devices : List Kept) (models : List ModelDevice) (k : ℕ) (x : ModelDevice) (d0 : Kept) → k < length devices → AllZip Shows devices (set models k x) → Shows (get_or devices k d0) x
 placed devices models k x d0 h shown =
     let long = zip_long Shows devices (set models k x) shown ∙ length-set models k x in
@@ -105,7 +105,7 @@ change_issued : (devices : List Kept) (models : List ModelDevice) (d0 : Kept) (k
     → IsIssued devices d0 k p v (changing (device_at models k) None q r).entries
 change_issued devices models d0 k p q r a v h same shown told is = either_issued devices models d0 k p q r a v (is_held (device_at models k) q) h same shown told is
 
--- what the device holds of the version that a command is told to have made is what the log gains
+-- the log gains what the device holds of the version that the command reports as made
 pub issued_is : (devices : List Kept) (models : List ModelDevice) (d0 : Kept) (c : Command) (a : Answer) (p : ℕ) (v : Version) → (devices_of c).0 < length devices → picture_of c ≡ Some p → version_told a ≡ Some v
     → AllZip Shows devices (devices_after models c) → Tells a (effect_on models c).report → IsIssued devices d0 (devices_of c).0 p v (effect_on models c).entries
 issued_is devices models d0 (command.New k q r) a p v h of is shown told = let same : q ≡ p = cc in new_issued devices models d0 k p q r a v h same shown told is

@@ -1,4 +1,4 @@
--- What the bounds of a normal form say of the versions that are known.
+-- What the bounds of a normal form say about the versions that are known.
 use Rattle.std.proofs.Common.{◌≡◌, ℕ, ◌<◌, true, false, eqb, ltb, ◌&&◌, List, [], ◌∷◌, refl, arith}
 use Rattle.std.specs.List.{AllByRecursion, list_all}
 use Rattle.std.proofs.lemmas.Bool.{le-leb, eq-eqb, ltb-true, and_parts, or_left, or_right}
@@ -18,7 +18,7 @@ last e = version (author_of_word e.0) e.1
 denotes_last : (e : Entry) → 0 < e.1 → denotes_one e (last e) ≡ true
 denotes_last e above = rw (eq-eqb e.0 e.0 refl, le-leb 1 e.1 (omega arith), le-leb e.1 e.1 (omega arith)) refl
 
--- the last versions of all entries have what each denoted version has
+-- if a property holds of each version that a vector denotes, it holds of the last version of each entry
 each_last : (es : List Entry) (P : Version → Type 0) → is_vector es ≡ true → ((v : Version) → denotes es v ≡ true → P v) → AllByRecursion (λ e. P (last e)) es
 each_last [] P vector each = tt
 each_last (e ∷ es) P vector each =
@@ -47,7 +47,7 @@ each_group star (g ∷ gs) P groups each =
       each_group star gs P parts.rest (λ q v above h. each q v above (or_right (reaches g q && denotes g.entries v) (knows gs q v) h)),
     )
 
--- the last version of each bound has what each known version has
+-- if a property holds of each known version, it holds of the last version of each bound
 pub each_known : (fs : List Fragment) (P : Version → Type 0) → is_normal fs ≡ true → ((p : ℕ) (v : Version) → 0 < p → knows fs p v ≡ true → P v) → EachLast P fs
 each_known [] P normal each = cc
 each_known (s ∷ gs) P normal each =

@@ -1,4 +1,4 @@
--- A log in the order of pictures: the part of one picture, and that a sort makes it.
+-- The log's index by picture: the part of one picture, and the sort that makes the index.
 use Rattle.std.proofs.Common.{◌≡◌, ℕ, ◌+◌, ◌-◌, ◌<◌, ◌≤◌, Bool, true, false, cond, ◌==◌, ◌&&◌, ◌||◌, List, length, take, drop, get_or, refl, sym, ap, ◌∙◌, inl, inr, arith, length-drop, length-take-le}
 use Rattle.std.specs.Prelude.{filter, nat_lt}
 use Rattle.std.specs.List.{list_any}
@@ -14,7 +14,7 @@ use Rattle.photo_device.specs.declared.held.Held.{Held}
 use Rattle.photo_device.specs.Held.{held_before}
 use Rattle.photo_pull.proofs.Members.{any_filter}
 
--- of a picture, the part of the index has what the log has
+-- the index's part of a picture passes the same tests as the log's versions of it
 pub of_index : (p : ℕ) (log index part : List Held) → IsPermutation log index → part ≡ filter (λ h. h.picture == p) index
     → (test : Held → Bool) → list_any test part ≡ list_any (λ h. (h.picture == p) && test h) log
 of_index p log index part moved is test =
@@ -22,7 +22,7 @@ of_index p log index part moved is test =
     ∙ any_filter test (λ h. h.picture == p) index
     ∙ sym (list_any-IsPermutation (λ h. (h.picture == p) && test h) log index moved)
 
--- the order that a sort by picture and version makes is that of held versions
+-- a sort by picture and version makes the order of held versions
 
 then_less : (less same : Bool) (rest : Ordering) → is_lt (ordering_then (cond less Less (cond same Equal Greater)) rest) ≡ (less || (same && is_lt rest))
 then_less true same rest = refl
@@ -49,7 +49,7 @@ less_is_before x y =
 pub sorted_in_order : (xs : List Held) → IsSortedByKey (λ h. (h.picture, h.version)) key_cmp xs → IsSortedBy held_before xs
 sorted_in_order xs sorted k d l h = sym (less_is_before (get_or xs (k + 1) d) (get_or xs k d)) ∙ sorted k d l h
 
--- in that order the pictures don't fall
+-- in that order the pictures don't decrease
 pub rising : (xs : List Held) → IsSortedBy held_before xs → IsNonDecreasingBy (λ h. h.picture) xs
 rising xs sorted = IsNonDecreasingBy-from_all_adjacent (λ h. h.picture) xs (λ k d l.
     elim (cases_lt (get_or xs (k + 1) d).picture (get_or xs k d).picture) [
@@ -57,7 +57,7 @@ rising xs sorted = IsNonDecreasingBy-from_all_adjacent (λ h. h.picture) xs (λ 
       | inr rises ↦ rises
     ])
 
--- so does a part of it
+-- a part of a sorted list is sorted
 pub part_in_order : (xs : List Held) (from count : ℕ) → from + count ≤ length xs → IsSortedBy held_before xs → IsSortedBy held_before (take count (drop from xs))
 part_in_order xs from count within sorted k d l h =
     let rest : length (drop from xs) ≡ length xs - from = length-drop from xs in

@@ -1,4 +1,4 @@
--- What a device holds of the version that a command on it alone has just made.
+-- The version that a command on one device has just made, as the device holds it.
 use Rattle.std.proofs.Common.{◌≡◌, ℕ, Bool, true, false, cond, ◌++◌, ap, subst}
 use Rattle.std.specs.Prelude.{Some, None}
 use Rattle.std.specs.Option.{option_to_list}
@@ -25,7 +25,7 @@ either_made : (d : Kept) (m : ModelDevice) (q : ℕ) (r : Record) (a : Answer) (
 either_made d m q r a v true shown told is = making_issued d m None q r a v told is shown
 either_made d m q r a v false shown told is = let not_made = ap version_told told in cc
 
--- what the device holds of the version that a command is told to have made is what the log gains
+-- the log gains what the device holds of the version that the command reports as made
 pub made_is : (d : Kept) (m : ModelDevice) (c : Command) (a : Answer) (p : ℕ) (v : Version) → picture_of c ≡ Some p → version_told a ≡ Some v → Shows d (effect c m None).first → Tells a (effect c m None).report → IsFound d p v c m
 made_is d m (command.New k q r) a p v of is shown told = let same : q ≡ p = cc in subst (λ x. entries_of (option_to_list (find_version_of x v (d.store ++ d.out))) ≡ (making m None q r).entries) same (making_issued d m None q r a v told is shown)
 made_is d m (command.Edit k q r) a p v of is shown told = let same : q ≡ p = cc in subst (λ x. entries_of (option_to_list (find_version_of x v (d.store ++ d.out))) ≡ (changing m None q r).entries) same (either_made d m q r a v (is_held m q) shown told is)

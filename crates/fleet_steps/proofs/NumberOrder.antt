@@ -1,4 +1,4 @@
--- The order of the numbers is a lawful one.
+-- The order of the numbers is lawful.
 use Rattle.std.proofs.Common.{◌≡◌, ℕ, zero, suc, ◌+◌, ◌<◌, ◌≤◌, List, [], ◌∷◌, ◌++◌, length, ap, add-one, arith}
 use Rattle.std.specs.List.{AllByRecursion}
 use Rattle.fleet_model.specs.Contents.{Contents}

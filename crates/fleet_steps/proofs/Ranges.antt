@@ -1,4 +1,4 @@
--- The versions of a picture in a list in order.
+-- The versions of a picture in a sorted list.
 use Rattle.std.proofs.Common.{◌≡◌, ℕ, zero, suc, ◌+◌, ◌-◌, ◌≤◌, Bool, true, false, eqb, ltb, leb, List, [], ◌∷◌, length, take, drop, refl, ap, ◌∙◌, inl, inr, arith}
 use Rattle.std.specs.Prelude.{filter}
 use Rattle.std.specs.List.Sorted.{IsPartitionPoint}
@@ -9,7 +9,7 @@ use Rattle.photo_device.proofs.Order.{Parts}
 abbrev pub is_of : ℕ → Held → Bool
 is_of p h = eqb h.picture p
 
--- the parts of what follows the first
+-- the parts of the list behind its first item
 tail : (p : ℕ) (x : Held) (xs : List Held) (from to f t : ℕ) → f ≡ from - 1 → t ≡ to - 1 → Parts p (x ∷ xs) from to → Parts p xs f t
 tail p x xs from to f t from_is to_is parts = record {
   below = λ k d h. parts.below (suc k) d (omega arith);

@@ -1,4 +1,4 @@
--- Devices that open are ready for a pull, and after a command they are so again.
+-- Devices that a script opens with are ready for a pull, and stay ready after each command.
 use Rattle.std.proofs.Common.{ℕ, ◌+◌, [], length, subst}
 use Rattle.std.specs.List.{AllZip}
 use Rattle.photo_device.specs.Device.{Shows}

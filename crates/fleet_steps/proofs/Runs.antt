@@ -1,4 +1,4 @@
--- How many versions devices have made that show model devices, and that they have room for one more.
+-- Devices have made as many versions as the model devices that they show, and have room for one more.
 use Rattle.std.proofs.Common.{ℕ, ◌<◌, ◌≤◌, List, [], ◌∷◌, sym, subst, arith}
 use Rattle.std.specs.List.{AllZip, AllByRecursion}
 use Rattle.photo_version.specs.Author.{Author, epoch_of_author}
@@ -8,7 +8,7 @@ use Rattle.fleet_model.specs.Steps.{HasMadeAtMost}
 use Rattle.fleet_steps.specs.Between.{HaveRoom, HaveMadeAtMost}
 use Rattle.fleet_steps.specs.Laws.{LeavesRoom}
 
--- devices of the program that show them
+-- the devices that show the model devices
 pub shown_at_most : (devices : List Kept) (models : List ModelDevice) (n : ℕ) → AllZip Shows devices models → AllByRecursion (HasMadeAtMost n) models → HaveMadeAtMost n devices
 shown_at_most [] models n all most = tt
 shown_at_most (d ∷ ds) [] n all most = absurd all

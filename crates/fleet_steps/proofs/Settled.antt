@@ -1,4 +1,4 @@
--- Devices of which a command changed one or two: what is staged on them, and how they are but for that.
+-- One or two devices changed by a command: what is staged on them, and whether they are otherwise as they were.
 use Rattle.std.proofs.Common.{◌≡◌, ◌≢◌, ℕ, ◌<◌, List, [], ◌∷◌, length, get_or, set, map, refl, sym, ap, ◌∙◌}
 use Rattle.std.specs.Prelude.{None, Result, Ok, Err, OnErr}
 use Rattle.std.proofs.Math.Seq.{map-set_same}
@@ -28,7 +28,7 @@ two_as_they_were (Err refused) devices new t s d e target source a b is_t is_s o
     ∙ map-set_same unstaged (set devices t a) s b e (second ∙ ap unstaged (is_s ∙ sym (get_or-set_other devices t s a e other)))
     ∙ map-set_same unstaged devices t a d (first ∙ ap unstaged is_t)
 
--- where nothing is staged, devices that are as they were are the same
+-- where nothing is staged, devices that are as they were are equal
 
 settled_is : (d : Kept) → d.staged ≡ None → d ≡ unstaged d
 settled_is d none = λ i. record d { staged = none i }

@@ -1,4 +1,4 @@
--- Devices of the program and the model devices that they show.
+-- Devices, and the model devices that they show.
 use Rattle.std.proofs.Common.{◌≡◌, ℕ, ◌+◌, ◌≤◌, List, [], ◌∷◌, ◌++◌, length, take, refl, sym, ap, ◌∙◌, subst, arith, zero-add, add-zero}
 use Rattle.std.specs.Prelude.{Some, slice_get}
 use Rattle.std.specs.List.{AllZip}
@@ -16,7 +16,7 @@ opening_from-push n [] filter = ap (λ (k : ℕ). opening (author k) filter ∷ 
 opening_from-push n (x ∷ xs) filter =
     ap (λ l. opening (author n) x ∷ l) (opening_from-push (n + 1) xs filter ∙ ap (λ k. opening_from (n + 1) xs ++ opening (author k) filter ∷ []) (omega arith))
 
--- one device more
+-- one more device
 pub opening_more : (filters : List Tree) (n : ℕ) (devices : List Kept) (d : Kept) (filter : Tree) → slice_get filters n ≡ Some filter → AllZip Shows devices (opening_from 0 (take n filters)) → Shows d (opening (author n) filter) → AllZip Shows (devices ++ d ∷ []) (opening_from 0 (take (n + 1) filters))
 opening_more filters n devices d filter is all here =
     let within = slice_get_within filters n filter is in

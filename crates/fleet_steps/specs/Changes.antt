@@ -7,7 +7,7 @@ use Rattle.photo_device.specs.declared.fault.ChangeFault.TheVariants as change
 use Rattle.fleet_model.specs.Answers.{Made, NotHeld}
 use Rattle.photo_script.specs.Reports.{Plain, Answer}
 
--- a change is told where memory was not refused
+-- the answer to a change, unless memory was refused
 abbrev pub told_of : Result (Version × Place) ChangeFault → Option Answer
 told_of (Ok made) = Some (Plain (Made made.0 made.1))
 told_of (Err change.NotHeld) = Some (Plain NotHeld)

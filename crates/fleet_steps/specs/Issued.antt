@@ -1,4 +1,4 @@
--- Machinery of the proofs: which command makes a version, and which report tells of one.
+-- Machinery of the proofs: which commands make a version, and which reports name one.
 use Rattle.std.specs.Prelude.{ℕ, Option, Some, None}
 use Rattle.photo_version.specs.Version.{Version}
 use Rattle.fleet_model.specs.declared.command.Command.{Command}
@@ -6,7 +6,7 @@ use Rattle.fleet_model.specs.declared.command.Command.TheVariants as command
 use Rattle.fleet_model.specs.Answers.{Made, NotHeld, NotNarrower, Narrowed, Refiltered, Pulled, Preview, Listed, Conflicts, Knows}
 use Rattle.photo_script.specs.Reports.{Plain, Answer, KnowledgeOf}
 
--- the picture of which a command makes a version
+-- the picture of the version that a command makes
 abbrev pub picture_of : Command → Option ℕ
 picture_of (command.New device picture content) = Some picture
 picture_of (command.Edit device picture content) = Some picture
@@ -20,7 +20,7 @@ picture_of (command.Conflicts device) = None
 picture_of (command.Knowledge device) = None
 picture_of (command.Knows device picture v) = None
 
--- the version that an answer tells to have been made
+-- the version that an answer reports as made
 abbrev pub version_told : Answer → Option Version
 version_told (Plain (Made v place)) = Some v
 version_told (Plain NotHeld) = None

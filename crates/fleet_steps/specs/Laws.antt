@@ -1,4 +1,4 @@
--- What holds of all runs.
+-- Laws of all runs.
 use Rattle.std.specs.Prelude.{◌≡◌, ◌+◌, ◌<◌, ◌≤◌, ℕ, List, length, Ok}
 use Rattle.std.specs.List.{AllZip, AllByRecursion}
 use Rattle.photo_filter_text.specs.Tree.{Tree}
@@ -15,29 +15,29 @@ use Rattle.fleet_steps.specs.Between.{AreReady, HaveMadeAtMost, HaveRoom, HaveRu
 use Rattle.fleet_steps.specs.Outcomes.{AreRight}
 use Rattle.fleet_model.specs.Sound.{IsSoundThroughout}
 
--- so it is from the bytes on: of whatever is accepted as the text of a script
+-- every text that is accepted as a script gives a script whose runs are sound throughout
 abbrev pub AcceptedStaysSound : Type 0
 AcceptedStaysSound = (text : List ℕ) (script : Contents) → script_of text ≡ Ok script → IsSoundThroughout script
 
--- after so many commands of a script in any order, the right answer to one more tells of no more versions taken and handed
--- over, counted together, than commands have run before it
+-- After at most 4,294,967,295 commands of a script, in any order, the right answer to one more reports no more versions taken
+-- and handed over, added together, than commands have run before it.
 abbrev pub PullsMoveWhatWasMade : Type 0
 PullsMoveWhatWasMade = (script : Contents) (numbers : List ℕ) (c : Command) (answer : Answer) → IsScript script → length numbers ≤ 4_294_967_295 → IsWithin (length script.names) c
     → Tells answer (effect_on (run_in_order script numbers).devices c).report → moved_by answer ≤ length numbers
 
--- so no pull of a run moves more versions than a script can have commands
+-- no pull of a run moves more versions than a script can have commands
 abbrev pub PullsMoveFew : Type 0
 PullsMoveFew = (script : Contents) (answers : List Answer) → IsScript script → AreRight script answers → AllByRecursion (λ a. moved_by a ≤ max_commands) answers
 
--- devices that open are ready for a command, and have made nothing
+-- the devices that a script opens with are ready for a command and have made nothing
 abbrev pub OpensReady : Type 0
 OpensReady = (devices : List Kept) (filters : List Tree) → AllZip Shows devices (opening_from 0 filters) → AreReady devices × HaveMadeAtMost 0 devices
 
--- after a command on devices that were ready they are ready for one more, and none has made or begun but one version or epoch
--- more. So whoever runs commands one after another has what the next one asks
+-- After a command, ready devices are ready for one more, and each has made at most one more version or begun at most one more
+-- epoch. So whoever runs commands one after another has what the next command requires.
 abbrev pub StaysReady : Type 0
 StaysReady = (old new : List Kept) (c : Command) (n : ℕ) → AreReady old → HaveMadeAtMost n old → n < 4_294_967_295 → IsWithin (length old) c → HaveRun c old new → AreReady new × HaveMadeAtMost (n + 1) new
 
--- devices that have made so few versions may make one more, and begin one epoch more
+-- devices that have made so few versions may make one more, and begin one more epoch
 abbrev pub LeavesRoom : Type 0
 LeavesRoom = (devices : List Kept) (n : ℕ) → n < 4_294_967_295 → HaveMadeAtMost n devices → HaveRoom devices

@@ -1,15 +1,15 @@
--- Machinery of the proofs: a log in the order of pictures, beside the log itself.
+-- Machinery of the proofs: an index of the log, sorted by picture.
 use Rattle.std.specs.Prelude.{◌<◌, List}
 use Rattle.std.specs.List.{All}
 use Rattle.std.specs.List.Sorted.{IsPermutation, IsSortedBy, IsNonDecreasingBy}
 use Rattle.photo_device.specs.declared.held.Held.{Held}
 use Rattle.photo_device.specs.Held.{held_before}
 
--- the numbers of the pictures are above 0
+-- all picture numbers are above 0
 abbrev pub AreAbove : List Held → Type 0
 AreAbove helds = All (λ h. 0 < h.picture) helds
 
--- the same versions, in the order of pictures, and those of a picture in the order of versions
+-- the index has the versions of the log, sorted by picture and then version
 pub record IsIndex (issued index : List Held) : Type 0 where
   pub same : IsPermutation issued index
   pub ordered : IsSortedBy held_before index

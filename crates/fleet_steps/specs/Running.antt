@@ -1,4 +1,4 @@
--- Machinery of the proofs: how far a run of some commands of a script has come, and what it has given in the end.
+-- Machinery of the proofs: how far a run of a script has come, and what it gives in the end.
 use Rattle.std.specs.Prelude.{◌≡◌, ℕ, ◌<◌, ◌≤◌, true, List, length, map, Option, Some, None, IsPermutation}
 use Rattle.std.specs.List.{AllZip, AllByRecursion}
 use Rattle.photo_version.specs.Author.{device_of_author}
@@ -15,25 +15,25 @@ use Rattle.photo_script.specs.Reports.{Tells, answer_of, IsOfScript, IsAbout}
 use Rattle.fleet_model.specs.Steps.{HasMadeAtMost}
 use Rattle.fleet_model.specs.Runs.{run_in_order, run, reports_of}
 
--- the entry's version is of a device of the script, and so is each version that it was made with
+-- the entry's version was made by a device of the script, and so was each version in its history
 pub record IsOfRun (script : Contents) (e : Entry) : Type 0 where
   pub itself : IsOfScript script e.version
   pub history : (v : Version) → e.history v ≡ true → IsOfScript script v
 
--- the device is of the script, and so is all that it holds, and each version that it knows
+-- the device is one of the script's; all that it holds and each version that it knows was made by devices of the script
 pub record IsOfFleet (script : Contents) (d : ModelDevice) : Type 0 where
   pub author : device_of_author d.author < length script.names
   pub store : AllByRecursion (IsOfRun script) d.store
   pub out : AllByRecursion (IsOfRun script) d.out
   pub knows : (picture : ℕ) (v : Version) → known d picture v ≡ true → IsOfScript script v
 
--- the report is the right one, where the command has run
+-- if the command has run, the report is the right one
 abbrev pub IsTold : Report → Option ModelReport → Type 0
 IsTold report None = Unit {0}
 IsTold report (Some right) = Tells (answer_of report) right
 
--- the devices, the reports by their numbers and the log after the commands of those numbers, in that order. That they speak of
--- devices of the script is so as long as there are epochs to begin
+-- The commands of those numbers have run in that order and led to the devices, the reports by number and the log. While there
+-- are epochs to begin, all of them name devices of the script alone.
 pub record RunsTo (script : Contents) (front : List ℕ) (devices : List Kept) (slots : List Report) (log : List Held) : Type 0 where
   pub long : length devices ≡ length script.names
   pub shown : AllZip Shows devices (run_in_order script front).devices
@@ -43,7 +43,7 @@ pub record RunsTo (script : Contents) (front : List ℕ) (devices : List Kept) (
   pub counted : AllByRecursion (HasMadeAtMost (length front)) (run_in_order script front).devices
   pub logged : entries_of log ≡ (run_in_order script front).log
 
--- a lawful order has given what the run gives
+-- a run in a lawful order has given what the run gives
 pub record HasRun (script : Contents) (devices : List Kept) (reports : List Report) (log : List Held) : Type 0 where
   pub devices_are : AllZip Shows devices (run script).devices
   pub right : AllZip Tells (map answer_of reports) (reports_of (run script))

@@ -1,4 +1,4 @@
--- Where a command may want memory: no command that is refused does, and no question whose answer is a yes or a no.
+-- Which commands may want memory. A refused command never does, and neither does a question with a yes or no answer.
 use Rattle.std.specs.Prelude.{◌≡◌, true}
 use Rattle.photo_filter_rules.specs.Covers.{covers}
 use Rattle.photo_model.specs.Device.{ModelDevice, is_held}

@@ -1,4 +1,4 @@
-// What one command does to the one or two devices that it works on, and the report on it.
+// Runs one command on its one or two devices, and gives the report.
 ghost use Rattle.std.specs.Prelude.{◌≡◌, true, ◌<◌, Some, None, Err, IsSome, IfOk, IfSome, OnOk, OnErr};
 ghost use Rattle.photo_filter_rules.specs.Covers.{covers};
 ghost use Rattle.photo_version.specs.Author.{epoch_of_author};
@@ -24,8 +24,8 @@ use photo_script::{Command, Report};
 use photo_version::Version;
 use std::alloc::{AllocError, Global};
 
-/// Runs a command that works on one device, and gives the report. After want of memory the device is as it was; a change
-/// that is refused wants none, nor does the question whether a version is known.
+/// Runs a command that works on one device, and gives the report. After want of memory the device is as it was. A change that
+/// is refused never wants memory, nor does the question whether a version is known.
 pub fn run_command(
     alloc: Global,
     command: &Command,
@@ -133,7 +133,7 @@ pub fn run_pull(
     Ok(Report::Pulled(counts))
 }
 
-// The report on what a pull of one device from another would move and tell.
+// The report on a preview: what a pull by the target from the source would move and tell.
 fn run_preview(alloc: Global, target: &Device, source: &Device) -> Result<Report, AllocError>
     requires { MayPull target.now source.now }
     ensures { IfOk result (λ report. (t s : ModelDevice) → Shows target.now t → Shows source.now s
@@ -151,12 +151,12 @@ fn knows_of(knowledge: &Knowledge, picture: PicNo, version: Version) -> Report
     Report::Knows(knowledge.knows(picture, version))
 }
 
-// The report on a knowledge, which is in normal form. Its only error is want of memory.
+// The report on a device's knowledge, in normal form. Its only error is want of memory.
 fn knowledge_of(alloc: Global, device: u16, knowledge: &Knowledge) -> Result<Report, AllocError>
     ensures given { IfOk result (λ report. answer_of report ≡ KnowledgeOf device knowledge.now.known) }
     ensures normal { is_normal knowledge.now.known ≡ true }
 {
-    // For its fact alone: a knowledge is in normal form.
+    // `fragments()` is called because its contract says that a knowledge is in normal form, which `normal` promises.
     let _count = knowledge.fragments();
     Ok(Report::KnowledgeOf {
         device,
@@ -190,7 +190,7 @@ fn run_remove(device: &mut Device, picture: PicNo) -> Result<Report, AllocError>
     report_on(device.remove(picture))
 }
 
-// The filter stays the script's, so the device gets a copy, made once it is known to be narrower.
+// The script keeps the filter, so the device gets a copy, made only once the filter is known to be narrower.
 fn run_narrow(device: &mut Device, filter: &Filter) -> Result<Report, AllocError>
     ensures device { OnOk result ((m : ModelDevice) → Shows device.old m → Shows device.new (narrowing m None filter.now).first) }
     ensures report { IfOk result
@@ -209,7 +209,7 @@ fn run_narrow(device: &mut Device, filter: &Filter) -> Result<Report, AllocError
     }
 }
 
-// The filter stays the script's, so the device gets a copy. Its only error is want of memory.
+// The script keeps the filter, so the device gets a copy. Its only error is want of memory.
 fn run_refilter(device: &mut Device, filter: &Filter) -> Result<Report, AllocError>
     requires { epoch_of_author device.old.author < 4_294_967_295 }
     ensures device { OnOk result ((m : ModelDevice) → Shows device.old m → Shows device.new (refiltering m None filter.now).first) }

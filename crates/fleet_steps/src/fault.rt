@@ -2,19 +2,19 @@
 use photo_script::ScriptFault;
 use thiserror::Error;
 
-/// Why a run gave no outcome, or its reports were not all written.
+/// Why a run gave no outcome, or failed to write all its reports.
 #[derive(Clone, Copy, Debug, PartialEq, Eq, Drop, Error)]
 pub enum RunError {
     /// Memory was refused.
     #[error("E1 NoMemory")]
     NoMemory,
-    /// A thread could not be started for a worker.
+    /// No thread could be started for a worker.
     #[error("E2 NoWorker")]
     NoWorker,
-    /// The commands may not run in the order that was asked for.
+    /// The order that was asked for isn't lawful.
     #[error("E3 NotLawful")]
     NotLawful,
-    /// The source is no script, or could not be read.
+    /// The source isn't a script, or couldn't be read.
     #[error("{0}")]
     Script(ScriptFault),
     /// The writer failed.

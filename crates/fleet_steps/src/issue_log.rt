@@ -1,4 +1,4 @@
-// The versions that a run made, and which of them are of a picture.
+// The versions that a run made, with an index by picture.
 ghost use Rattle.std.specs.Prelude.{◌≡◌, ◌<◌, IfOk, OnOk};
 ghost use Rattle.std.specs.Slice.Iter.{iter_rest};
 ghost use Rattle.fleet_steps.specs.Logged.{AreAbove, IsIndex};
@@ -9,13 +9,12 @@ use std::alloc::{AllocError, Global};
 use std::marker::Model;
 use std::slice;
 
-/// The versions that a run made, oldest first, each as the device held it that made it, which it shares. Contracts see it as
-/// their list.
+/// The versions that a run made, oldest first. The log shares each with the device that made it. Contracts see the list.
 ///
-/// It has them in the order of pictures as well, so that all of one picture are found by a search.
+/// It also keeps them sorted by picture, so that a search finds all versions of a picture.
 #[derive(Debug, Drop)]
 pub struct IssueLog {
-    // Dropped before those below, so that versions are freed in the order in which they were made.
+    // This field is dropped first, so that `issued` frees the versions in the order in which they were made.
     by_picture: Vec<SharedHeld>,
     issued: Vec<SharedHeld>,
 }
@@ -42,7 +41,7 @@ impl IssueLog {
     ghost use Rattle.photo_device.specs.declared.held.Held as spec;
     ghost use Rattle.fleet_steps.specs.Logged.{IsIndex};
 
-    /// The log of those versions. Its only error is want of memory.
+    /// Makes the log of those versions. Its only error is want of memory.
     pub fn new(alloc: Global, issued: Vec<SharedHeld>) -> Result<IssueLog, AllocError>
         ensures { IfOk result (λ log. log ≡ issued.items) }
     {
@@ -57,14 +56,14 @@ impl IssueLog {
         self.issued.len()
     }
 
-    /// Whether none was made.
+    /// Whether no version was made.
     pub fn is_empty(&self) -> bool
         ensures { result ≡ (length self.now == 0) }
     {
         self.issued.is_empty()
     }
 
-    /// The version that was made at place `i`, from 0.
+    /// The version at index `i`, from 0, in the order in which they were made.
     pub fn get(&self, i: usize) -> &Held
         requires { i < length self.now }
         ensures { slice_get self.now i ≡ Some result.now }
@@ -80,14 +79,14 @@ impl IssueLog {
         self.issued.iter()
     }
 
-    /// The versions in the order of pictures, and those of a picture in the order of versions.
+    /// The versions sorted by picture and then version.
     pub fn by_picture(&self) -> &[SharedHeld]
         ensures { IsIndex self.now result.now }
     {
         self.by_picture.as_slice()
     }
 
-    /// The versions of a picture, in their order. They are found by a search, which takes no memory.
+    /// The versions of a picture, in order. A search finds them and takes no memory.
     pub fn of_picture(&self, picture: PicNo) -> &[SharedHeld]
         ensures ordered { IsSortedBy held_before result.now }
         ensures any { (test : spec.Held → Bool) → list_any test result.now ≡ list_any (λ h. (h.picture == picture) && test h) self.now }
@@ -111,8 +110,7 @@ impl<'a> IntoIterator for &'a IssueLog {
     }
 }
 
-// The versions in the order of pictures, and those of a picture in the order of versions. Its only error is want of
-// memory.
+// The versions sorted by picture and then version. Its only error is want of memory.
 fn by_picture(alloc: Global, issued: &[SharedHeld]) -> Result<Vec<SharedHeld>, AllocError>
     ensures { IfOk result (λ index. IsIndex issued.now index.items) }
 {
@@ -121,7 +119,7 @@ fn by_picture(alloc: Global, issued: &[SharedHeld]) -> Result<Vec<SharedHeld>, A
     Ok(index)
 }
 
-// The same versions, which are shared. Its only error is want of memory.
+// Copies the list; the copy shares the versions. Its only error is want of memory.
 fn copies(alloc: Global, issued: &[SharedHeld]) -> Result<Vec<SharedHeld>, AllocError>
     ensures list { IfOk result (λ list. list.items ≡ issued.now) }
     ensures above { OnOk result (AreAbove issued.now) }
@@ -137,7 +135,7 @@ fn copy_of(held: &SharedHeld) -> Result<SharedHeld, AllocError>
     ensures copy { IfOk result (λ copy. copy ≡ held.now) }
     ensures above { 0 < held.now.picture }
 {
-    // For its fact alone: a picture's number is above 0.
+    // `value()` is called because its contract says that a picture's number is above 0, which `above` promises.
     let _number = held.picture().value();
     held.try_clone()
 }

@@ -1,5 +1,5 @@
-//! What one command does to the devices, and runs of scripts on one thread. Its invariant: **every run is sound and keeps what is
-//! current**. One call runs one command for all ways to run.
+//! Runs one command on devices, and whole scripts on one thread. Its invariant: **every run is sound and keeps what is
+//! current**. All ways to run use the one call that runs a command.
 #![tactic(auto)]
 
 mod command;

@@ -1,4 +1,4 @@
-// The log that a run keeps: of each command the version that it makes.
+// The log of a run: the version that each command makes.
 ghost use Rattle.std.specs.Prelude.{◌≡◌, ◌++◌, List, length, None, OnOk, IfOk};
 ghost use Rattle.std.specs.List.{AllZip};
 ghost use Rattle.std.specs.Option.{option_copied, option_to_list};
@@ -19,8 +19,8 @@ use photo_script::{Command, Report, devices_of};
 use photo_version::Version;
 use std::alloc::{AllocError, Global};
 
-/// Runs one command on the one or two of the devices that it works on, puts the version that it makes behind the log, and
-/// gives the report. After want of memory the command may have run: there is no outcome then.
+/// Runs one command on the one or two devices that it names, appends the version that it makes to the log, and gives the
+/// report. After want of memory the command may have run; then there is no outcome.
 pub fn run_and_log(
     alloc: Global,
     command: &Command,
@@ -41,8 +41,8 @@ pub fn run_and_log(
     Ok(report)
 }
 
-// Puts the version that a command has made, if it has made one, behind the log, as its device holds it. The report is the
-// one on the command, and the devices are those after it.
+// Appends the version that a command has made, if any, to the log, as its device holds it. The report and the devices are those
+// after the command.
 fn log_issued(
     log: &mut Vec<SharedHeld>,
     command: &Command,
@@ -63,7 +63,7 @@ fn log_issued(
     }
 }
 
-// What a device holds of the version that a command has just made on it.
+// The version that a command has just made, as its device holds it.
 fn issued<'a>(command: &Command, report: &Report, devices: &'a [Device]) -> Option<&'a SharedHeld>
     requires { IsWithin (length devices.now) command.now }
     ensures { (models : List ModelDevice) → AllZip Shows devices.now (devices_after models command.now)
@@ -76,7 +76,7 @@ fn issued<'a>(command: &Command, report: &Report, devices: &'a [Device]) -> Opti
     devices[usize::from(device)].held_of(picture, version)
 }
 
-/// What a device holds of the version that a command on it alone has just made, if the command has made one. The report is
+/// The version that a command on this device alone has just made, as the device holds it; `None` if it made none. The report is
 /// the one on the command.
 pub fn made_on<'a>(command: &Command, report: &Report, device: &'a Device) -> Option<&'a SharedHeld>
     ensures { (m : ModelDevice) → Shows device.now (effect command.now m None).first
@@ -88,7 +88,7 @@ pub fn made_on<'a>(command: &Command, report: &Report, device: &'a Device) -> Op
     device.held_of(picture, version)
 }
 
-// The picture of which a command makes a version.
+// The picture of the version that a command makes.
 fn picture_of(command: &Command) -> Option<PicNo>
     ensures { result ≡ picture_of command.now }
 {
@@ -100,7 +100,7 @@ fn picture_of(command: &Command) -> Option<PicNo>
     }
 }
 
-// The version that a report tells to have been made.
+// The version that a report says was made.
 fn version_told(report: &Report) -> Option<Version>
     ensures { result ≡ version_told (answer_of report.now) }
 {

@@ -1,4 +1,4 @@
-// Runs of the commands of a script in a lawful order.
+// Runs a script's commands in a lawful order.
 ghost use Rattle.std.specs.Prelude.{◌≡◌, ◌≤◌, length, replicate, None, IfOk};
 ghost use Rattle.std.specs.List.{AllZip};
 ghost use Rattle.photo_device.specs.Held.{entries_of};
@@ -20,8 +20,8 @@ use photo_script::{Report, Script, totals_of};
 use photo_version::Author;
 use std::alloc::{AllocError, Global};
 
-/// Runs the commands of a script in a lawful order, one after another. The reports stand by the commands' numbers, and the
-/// log is in the order in which the versions were made.
+/// Runs a script's commands one after another in a lawful order. The reports are in the order of the commands' numbers, the log
+/// in the order in which the versions were made.
 pub(crate) fn run_ordered(
     alloc: Global,
     script: &Script,
@@ -50,7 +50,7 @@ pub(crate) fn run_ordered(
     })
 }
 
-/// A place for each report, all of which are written before a run ends. Its only error is want of memory.
+/// A list of `count` reports, which the run overwrites. Its only error is want of memory.
 pub fn no_reports(alloc: Global, count: usize) -> Result<Vec<Report>, AllocError>
     ensures { IfOk result (λ reports. reports.items ≡ replicate count NotHeld) }
 {
@@ -61,7 +61,7 @@ pub fn no_reports(alloc: Global, count: usize) -> Result<Vec<Report>, AllocError
     Ok(reports)
 }
 
-/// The devices of a script in order of declaration, none of which has made or holds anything.
+/// The devices of a script in order of declaration; none has made or holds anything.
 pub fn opening_devices(alloc: Global, script: &Script) -> Result<Vec<Device>, AllocError>
     ensures shown { IfOk result (λ devices. AllZip Shows devices.items (opening_from 0 script.now.filters)) }
     ensures long { IfOk result (λ devices. length devices.items ≡ length script.now.names) }
@@ -76,8 +76,7 @@ pub fn opening_devices(alloc: Global, script: &Script) -> Result<Vec<Device>, Al
     Ok(devices)
 }
 
-/// The device at a place of a fleet, with that filter, which has made nothing and holds nothing. Its only error is want of
-/// memory.
+/// The device at that place with that filter; it has made and holds nothing. Its only error is want of memory.
 pub fn opening_device(alloc: Global, place: u16, filter: &Filter) -> Result<Device, AllocError>
     ensures shown { IfOk result (λ device. Shows device (opening (author place) filter.now)) }
     ensures settled { IfOk result (λ device. device.staged ≡ None) }

@@ -1,4 +1,4 @@
-// Runs in the order of the numbers.
+// Runs a script in the order of its commands' numbers.
 ghost use Rattle.std.specs.Prelude.{◌≡◌, ◌≤◌, IfOk, IfErr};
 ghost use Rattle.photo_device.specs.Held.{entries_of};
 ghost use Rattle.fleet_model.specs.Limits.{max_commands};
@@ -11,8 +11,8 @@ use crate::{Outcome, RunError};
 use photo_script::Script;
 use std::alloc::{AllocError, Global};
 
-/// Runs a script, command by command in the order of their numbers, so the log is in the order in which the versions were
-/// made. Its only error is want of memory.
+/// Runs a script's commands in the order of their numbers; the log has the versions in the order in which they were made. Its
+/// only error is want of memory.
 pub fn run_plain(alloc: Global, script: &Script) -> Result<Outcome, RunError>
     ensures ok { IfOk result (IsOutcome script.now) }
     ensures log { IfOk result (λ outcome. entries_of outcome.log ≡ (run script.now).log) }
@@ -27,7 +27,7 @@ pub fn run_plain(alloc: Global, script: &Script) -> Result<Outcome, RunError>
     }
 }
 
-// The numbers from 1 to that one.
+// The numbers from 1 to `last`.
 fn numbers_to(alloc: Global, last: usize) -> Result<Vec<u32>, AllocError>
     requires { last ≤ max_commands }
     ensures { IfOk result (λ numbers. numbers.items ≡ numbers_to last) }

@@ -1,4 +1,4 @@
-// Runs in an order that is asked for.
+// Runs a script in an order that the caller chooses.
 ghost use Rattle.std.specs.Prelude.{◌≡◌, ◌⊎◌, OnOk, IfOk, IfErr};
 ghost use Rattle.photo_device.specs.Held.{entries_of};
 ghost use Rattle.fleet_model.specs.Runs.{run_in_order};
@@ -12,11 +12,11 @@ use photo_batcher::lawful;
 use photo_script::Script;
 use std::alloc::Global;
 
-/// Runs the commands of a script in the order of these numbers, if it is a lawful one, and gives what running them in the
-/// order of their numbers gives: the devices, the report under each number and the totals. Only the log is in the order in
-/// which the versions were made.
+/// Runs a script's commands in the order of these numbers, if it is lawful. The devices, the report under each number and the
+/// totals are those of a run in the order of the numbers. Only the log differs: it has the versions in the order in which they
+/// were made.
 ///
-/// `NotLawful` comes only where the order isn't lawful; nothing has run then. The other error is want of memory.
+/// `NotLawful` comes only where the order isn't lawful; then nothing has run. The other error is want of memory.
 pub fn replay(alloc: Global, script: &Script, order: &[u32]) -> Result<Outcome, RunError>
     ensures ok { IfOk result (IsOutcome script.now) }
     ensures log { IfOk result (λ outcome. entries_of outcome.log ≡ (run_in_order script.now order.now).log) }

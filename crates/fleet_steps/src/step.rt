@@ -1,4 +1,4 @@
-// One command on those of all devices that it works on.
+// Runs one command on the devices that it names, out of all devices.
 ghost use Rattle.std.specs.Prelude.{◌≡◌, Some, List, length, OnOk, OnErr, IfOk};
 ghost use Rattle.std.specs.List.{AllZip};
 ghost use Rattle.photo_model.specs.Device.{ModelDevice};
@@ -15,8 +15,8 @@ use photo_device::Device;
 use photo_script::{Command, Report, devices_of};
 use std::alloc::{AllocError, Global};
 
-/// Runs one command on the one or two of the devices that it works on, and gives the report. After want of memory all
-/// devices are as they were; a change that is refused wants none.
+/// Runs one command on the one or two devices that it names, and gives the report. After want of memory all devices are as they
+/// were. A change that is refused never wants memory.
 pub fn run_on(
     alloc: Global,
     command: &Command,
@@ -47,7 +47,7 @@ pub fn run_on(
     }
 }
 
-// Runs a command that works on the devices at two places, of which each may pull from the other.
+// Runs a command on the devices at two places. Each may pull from the other.
 fn run_on_two(
     alloc: Global,
     command: &Command,

@@ -1,4 +1,4 @@
--- A batch, put back one result after another.
+-- Puts a batch's results back, one after another.
 use Rattle.std.proofs.Common.{◌≡◌, ◌≢◌, ℕ, zero, suc, ◌+◌, ◌-◌, ◌<◌, ◌≤◌, ◌==◌, ◌⊎◌, inl, inr, cond, Bool, true, false, List, [], ◌∷◌, ◌++◌, length, get_or, set, map, refl, sym, ap, ◌∙◌, subst, append_assoc, append-nil, length-set, arith}
 use Rattle.std.specs.Prelude.{Option, Some, None, IfSome, is_some, slice_get, Result, Ok, Err, OnOk, IsPermutation}
 use Rattle.std.specs.List.{AllZip, AllByRecursion}
@@ -60,7 +60,7 @@ pairwise script (x ∷ xs) apart = (
   }),
 )
 
--- in whatever order
+-- commands that are apart stay so in any order
 pub apart_permuted : (script : Contents) (xs ys : List ℕ) → IsPermutation xs ys → AreApart script xs → AreApart script ys
 apart_permuted script xs ys perm apart =
     let same : (n : ℕ) → times n ys ≡ times n xs = λ n. sum_by-IsPermutation (λ k. cond (k == n) 1 0) xs ys perm in record {
@@ -68,7 +68,7 @@ apart_permuted script xs ys perm apart =
       apart = λ m n a b. let one = same m in let two = same n in apart.apart m n (omega (arith, one, a)) (omega (arith, two, b));
     }
 
--- the devices show those that the command makes of the model devices
+-- the devices show what the command makes of the model devices
 with_shown : (place : Option ℕ) (d : Option Kept) (m : Option ModelDevice) (devices : List Kept) (models : List ModelDevice) → AllZip Shows devices models → ShowsSecond d m → AllZip Shows (with_other place d devices) (with_second place m models)
 with_shown None d m devices models all here = all
 with_shown (Some k) None None devices models all here = all
@@ -90,7 +90,7 @@ first_shown script devices models job at all =
 pub done_is : (script : Contents) (job : Job) (c : Command) (done : Done) → command_of script job.number ≡ Some c → IsDoneJob script job done → IsDone c job done
 done_is script job c done is h = subst (λ o. IfSome o (λ x. IsDone x job done)) is h
 
--- whatever models the devices showed, the result shows the effect on those
+-- if the devices showed some model devices, the result shows the effect on those
 shows_effect : (script : Contents) (devices : List Kept) (models : List ModelDevice) (job : Job) (done : Done) (at : IsJobAt script devices job) → IsDoneJob script job done → AllZip Shows devices models → ShowsEffect done (effect_on models at.command)
 shows_effect script devices models job done at h all =
     let c = at.command in
@@ -108,7 +108,7 @@ at_place script (suc n) c is = let place : suc n - 1 ≡ n = omega arith in ap (
 put_is : (script : Contents) (done : Done) (n : ℕ) (c : Command) (devices : List Kept) → done.number ≡ n → command_of script n ≡ Some c → put_devices script done devices ≡ in_places c done.first done.second devices
 put_is script done n c devices same is = let here : command_of script done.number ≡ Some c = ap (command_of script) same ∙ is in rw here refl
 
--- one result is put back: one step of the run
+-- putting one result back is one step of the run
 pub put_one : (script : Contents) (front : List ℕ) (devices : List Kept) (reports : List Report) (log more : List Held) (job : Job) (done : Done) → RunsTo script front devices reports log → IsJobAt script devices job → IsDoneJob script job done
     → more ≡ log ++ option_to_list done.entry → RunsTo script (front ++ job.number ∷ []) (put_devices script done devices) (set reports (done.number - 1) done.report) more
 put_one script front devices reports log more job done to at h logged =
@@ -128,7 +128,7 @@ put_one script front devices reports log more job done to at h logged =
     let e = shows_effect script devices models job done at h all in
     ap entries_of logged ∙ map-append entry_of log (option_to_list done.entry) ∙ ap (λ l. entries_of log ++ l) e.entries)))
 
--- a job that is not related is as it was
+-- putting a result back keeps the list's length, and an unrelated job as it was
 
 with_long : {X : Type 0} (place : Option ℕ) (second : Option X) (xs : List X) → length (with_other place second xs) ≡ length xs
 with_long None second xs = refl
@@ -168,7 +168,7 @@ all_still : (script : Contents) (devices : List Kept) (n : ℕ) (c : Command) (f
 all_still script devices n c first second [] is apart at = tt
 all_still script devices n c first second (j ∷ js) is apart at = (still_at script devices n c first second j is apart.0 at.0, all_still script devices n c first second js is apart.1 at.1)
 
--- all results are put back: the run of the jobs' commands, in the order in which they are put back
+-- putting all results back is a run of the jobs' commands, in the order in which they are put back
 pub put_all : (script : Contents) (front : List ℕ) (devices : List Kept) (reports : List Report) (log : List Held) (jobs : List Job) (done : List Done) → RunsTo script front devices reports log → AllByRecursion (IsJobAt script devices) jobs → ArePairwise script (map (λ j. j.number) jobs) → AreDoneJobs script jobs done
     → RunsTo script (front ++ map (λ j. j.number) jobs) (all_devices script done devices) (all_reports done reports) (all_logged done log)
 put_all script front devices reports log [] [] to at apart h = subst (λ (l : List ℕ). RunsTo script l devices reports log) (sym (append-nil front)) to
@@ -184,7 +184,7 @@ put_all script front devices reports log (j ∷ js) (d ∷ ds) to at apart h =
     subst (λ (l : List ℕ). RunsTo script l (all_devices script ds (put_devices script d devices)) (all_reports ds (set reports (d.number - 1) d.report)) (all_logged ds (log ++ option_to_list d.entry))) (append_assoc front (j.number ∷ []) (map (λ j. j.number) js))
     (put_all script (front ++ j.number ∷ []) (put_devices script d devices) (set reports (d.number - 1) d.report) (log ++ option_to_list d.entry) js ds next rest apart.1 h.1)
 
--- what a job asks of its devices, they give: of devices that are ready and have room
+-- devices that are ready and have room give a job what it needs
 
 may_work : (place : Option ℕ) (k : ℕ) (devices : List Kept) (first : Kept) (second : Option Kept) → AreReady devices → k < length devices → ((x : Kept) → get_or devices k x ≡ first) → IfSome place (λ s. (s < length devices) × (s ≢ k)) → IsSecondAt place devices second → MayWork place first second
 may_work None k devices first second ready below is within there = subst (MayWork None first) (sym there) tt
@@ -217,7 +217,7 @@ pub ready_jobs : (script : Contents) (front : List ℕ) (devices : List Kept) (r
 ready_jobs script front devices reports log [] is to few at = tt
 ready_jobs script front devices reports log (j ∷ js) is to few at = (ready_job script front devices reports log j is to few at.0, ready_jobs script front devices reports log js is to few at.1)
 
--- what the code writes is what is put back
+-- the code writes the results that the definitions put back
 
 pub always : {A E : Type 0} (r : Result A E) (P : Type 0) → P → OnOk r P
 always (Ok a) P p = p
@@ -242,9 +242,9 @@ of_commands script (j ∷ js) (d ∷ ds) ready h =
     let within = slice_get_within script.commands (j.number - 1) c (at_place script j.number c is) in
     ((omega (arith, same), omega (arith, same, within)), of_commands script js ds ready.1 h.1)
 
--- all devices are back
+-- all devices are back in their slots
 
--- a job has its command, and a second device just where the command has one
+-- the job has its command, and a second device exactly where the command has one
 abbrev HasBoth : Contents → Job → Type 0
 HasBoth script job = (c : Command) × (command_of script job.number ≡ Some c) × IsWithin (length script.names) c × (is_some job.second ≡ is_some (devices_of c).1)
 
@@ -328,7 +328,7 @@ all_in script (j ∷ js) (d ∷ ds) devices slots long both h out =
 pub all_back_in : (script : Contents) (jobs : List Job) (done : List Done) (devices : List Kept) (slots : List (Option Kept)) → length devices ≡ length script.names → AllByRecursion (IsJobAt script devices) jobs → AreDoneJobs script jobs done → AreOut script (map (λ j. j.number) jobs) devices slots → all_slots script done slots ≡ map Some (all_devices script done devices)
 all_back_in script jobs done devices slots long at h out = all_in script jobs done devices slots long (have_both script devices jobs long at) h out
 
--- who works on a device is not asked in order
+-- in any order of the commands, the same devices are out
 pub out_permuted : (script : Contents) (xs ys : List ℕ) (devices : List Kept) (slots : List (Option Kept)) → IsPermutation xs ys → AreOut script xs devices slots → AreOut script ys devices slots
 out_permuted script xs ys devices slots perm out = record {
   long = out.long;

@@ -1,4 +1,4 @@
--- A command counts once.
+-- Each command counts once.
 use Rattle.std.proofs.Common.{◌≡◌, ℕ, ◌+◌, ◌-◌, Bool, true, false, cond, List, [], ◌∷◌, ◌++◌, refl, sym, ap, ◌∙◌, subst, arith}
 use Rattle.std.specs.Prelude.{Option, Some, None, IsPermutation}
 use Rattle.std.proofs.lemmas.List.Sums.{sum_by-append, sum_by-cons}
@@ -50,7 +50,7 @@ moved-one d = let h = sum_by-cons (λ (x : Done). moved_by (answer_of x.report))
 pub one_is : (script : Contents) (n : ℕ) (c : Command) → command_of script n ≡ Some c → one_at script n ≡ one_of (kind_of c)
 one_is script n c is = rw is refl
 
--- the answer counts as the command's kind: what it moved it tells, and few
+-- the answer counts as the command's kind and reports few versions moved
 pub record CountsAs (k : kind.Kind) (a : Answer) : Type 0 where
   pub can : (left : Tally) → CanCount (kind_told a) (plus (one_of k) left)
   pub by : (parts : ℕ) (left : Tally) (done : Totals) → counted (kind_told a) (stake parts (plus (one_of k) left) done) ≡ stake parts left (both done (worked (one_of k) (moved_by a)))
@@ -105,7 +105,7 @@ counts_as (command.Conflicts k) d other a few told = asks_as a _ refl refl told
 counts_as (command.Knowledge k) d other a few told = as_question a (ap kind_told told.given) (ap moved_by told.given)
 counts_as (command.Knows k p v) d other a few told = asks_as a _ refl refl told
 
--- a command of its own
+-- the tally of a single command
 one_command : (script : Contents) (n : ℕ) (c : Command) → command_of script n ≡ Some c → tally_at script (n ∷ []) ≡ one_of (kind_of c)
 one_command script n c is = tally-cons script n [] ∙ ap (λ (t : Tally). plus t none_left) (one_is script n c is) ∙ tally_same _ _ _ _ _ _ (omega arith) (omega arith) (omega arith)
 

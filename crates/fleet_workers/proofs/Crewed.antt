@@ -1,4 +1,4 @@
--- The jobs of one worker, and those of the others.
+-- Splits the jobs into those of the last worker and those of the others.
 use Rattle.std.proofs.Common.{◌≡◌, ℕ, zero, suc, length, get_or, take, ◌+◌, ◌-◌, ◌<◌, List, [], ◌∷◌, ◌++◌, sym, ap, ◌∙◌, subst, arith}
 use Rattle.std.proofs.lemmas.List.{map-append, take_more}
 use Rattle.std.specs.Prelude.{Some, Vec, Result, Ok, Err, IfOk}
@@ -30,29 +30,29 @@ within_less all others last left is within =
     let b = ap (λ (t : Tally). t.pulls) is in
     let c = ap (λ (t : Tally). t.reports) is in (omega (arith, a, within.0), omega (arith, b, within.1), omega (arith, c, within.2))
 
--- the last worker may start,
+-- the last worker may start
 pub may_last : (script : Contents) (all others last : List Job) (s : Stake) → all ≡ others ++ last → MayStart script all s → MayStart script last s
 may_last script all others last s is start =
     (ready_right script others last (subst (AreReadyJobs script) is start.0), within_last _ _ _ s.left (tally_jobs script all others last is) start.1)
 
--- what a share is when that of the last worker is split off
+-- the share that is left when the last worker's share is split off
 abbrev pub share_beside : Contents → List Job → Stake → Stake
 share_beside script last s = stake (s.parts - 1) (less s.left (tally_at script (numbers_of last))) s.done
 
--- and then the others
+-- the other workers may start
 pub may_others : (script : Contents) (all others last : List Job) (s rest : Stake) → all ≡ others ++ last → MayStart script all s → rest ≡ share_beside script last s → MayStart script others rest
 may_others script all others last s rest is start split = (
   ready_left script others last (subst (AreReadyJobs script) is start.0),
   subst (λ (x : Stake). Within (tally_at script (numbers_of others)) x.left) (sym split) (within_less _ _ _ s.left (tally_jobs script all others last is) start.1),
 )
 
--- what a worker promised is of the script and the jobs that it was started with
+-- a worker's promise holds for the script and the jobs that it was started with
 pub promised : {Z : Type 0} (script its : Contents) (jobs those : Vec Job Z) (es : List Done) (theirs : Stake) → its ≡ script → those ≡ jobs → HasWorked its those.items es (share_for its those.items) theirs → HasWorked script jobs.items es (share_for script jobs.items) theirs
 promised {Z} script its jobs those es theirs e f by =
     subst (λ (v : Vec Job Z). HasWorked script v.items es (share_for script v.items) theirs) f
     (subst (λ (s : Contents). HasWorked s those.items es (share_for s those.items) theirs) e by)
 
--- all have run: the others, and the last worker
+-- all jobs have run: the others', and the last worker's
 pub record HaveRun (script : Contents) (all others last : List Job) (ds es : List Done) (s rest now theirs : Stake) : Type 0 where
   pub is : all ≡ others ++ last
   pub start : MayStart script all s
@@ -93,7 +93,7 @@ countable_joined script all others last ds es s rest now theirs r k =
 stake_is : (p p' : ℕ) (t t' : Tally) (d d' : Totals) → p ≡ p' → t ≡ t' → d ≡ d' → stake p t d ≡ stake p' t' d'
 stake_is p p' t t' d d' e f g = λ i. stake (e i) (f i) (g i)
 
--- the share is as if one worker had run all
+-- the share is as if one worker had run all jobs
 joined : (script : Contents) (all others last : List Job) (ds es whole : List Done) (s rest now theirs after : Stake) → HaveRun script all others last ds es s rest now theirs → 0 < s.parts → whole ≡ ds ++ es → after ≡ stake (now.parts + theirs.parts) (plus now.left theirs.left) (both now.done theirs.done)
     → HasWorked script all whole s after
 joined script all others last ds es whole s rest now theirs after r some put is =
@@ -119,7 +119,7 @@ ready_at script [] i job ready below is = absurd (omega arith)
 ready_at script (j ∷ js) zero job ready below is = subst (IsReadyJob script) (sym is) ready.0
 ready_at script (j ∷ js) (suc i) job ready below is = ready_at script js i job ready.1 (omega (arith, below)) is
 
--- one job more
+-- the tally with one more job
 pub tally_next : (script : Contents) (jobs : List Job) (i : ℕ) (job : Job) (c : Command) (sum one new : Tally) → i < length jobs → job ≡ get_or jobs i job → command_of script job.number ≡ Some c → one ≡ one_of (kind_of c) → sum ≡ tally_at script (numbers_of (take i jobs)) → new ≡ plus sum one
     → new ≡ tally_at script (numbers_of (take (i + 1) jobs))
 tally_next script jobs i job c sum one new below is command one_here old now =

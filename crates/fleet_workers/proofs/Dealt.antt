@@ -1,4 +1,4 @@
--- A batch dealt to workers, command by command.
+-- Deals a batch to workers, command by command.
 use Rattle.std.proofs.Common.{◌≡◌, ◌≢◌, ℕ, zero, suc, ◌+◌, ◌<◌, ◌%◌, Bool, true, false, ◌==◌, cond, List, [], ◌∷◌, ◌++◌, ◌⊎◌, inl, inr, length, get_or, set, map, take, drop, replicate, refl, sym, ap, ◌∙◌, subst, arith, append_assoc, append-nil, length-set}
 use Rattle.std.specs.Prelude.{Option, Some, None, IfSome, IsSome, IsPermutation, Vec}
 use Rattle.std.specs.List.{AllByRecursion, flat_map}
@@ -22,7 +22,7 @@ use Rattle.fleet_workers.specs.Batch.{IsJobAt, IsSecondAt, IsTaken, AreApart, Ar
 use Rattle.fleet_workers.specs.Dealing.{at_places, part_of, with_job, IsDealt}
 use Rattle.fleet_workers.proofs.Batched.{in_places_long, in_places_others}
 
--- no command of the batch that is dealt already works on a device of the next
+-- no command that has been dealt works on a device of the next one
 pub not_yet_used : (script : Contents) (members : List ℕ) (i k : ℕ) → AreApart script members → i < length members → uses script (get_or members i 0) k ≡ true → AllByRecursion (λ m. uses script m k ≡ false) (take i members)
 not_yet_used script members i k apart below used = all_by_times (λ m. uses script m k ≡ false) (take i members) (λ m stands. by_case m (uses script m k) refl stands)
   where
@@ -63,7 +63,7 @@ out_none script devices = record {
     at (e ∷ es) zero below x d = refl
     at (e ∷ es) (suc k) below x d = at es k (omega arith) x d
 
--- rows of jobs
+-- the jobs of all rows
 
 rows_jobs : {Z : Type 0} (groups : List (Vec Job Z)) → jobs_of groups ≡ flat_map (λ (r : List Job). r) (map (λ v. v.items) groups)
 rows_jobs [] = refl
@@ -72,7 +72,7 @@ rows_jobs (g ∷ gs) = ap (λ (l : List Job). g.items ++ l) (rows_jobs gs)
 abbrev in_rows : List (List Job) → List Job
 in_rows rows = flat_map (λ (r : List Job). r) rows
 
--- a job more in one of the rows
+-- one more job in one of the rows
 grouped : (rows : List (List Job)) (place : ℕ) (job : Job) → place < length rows → IsPermutation (in_rows rows ++ job ∷ []) (in_rows (with_job place job rows))
 grouped [] place job below = absurd (omega arith)
 grouped (g ∷ gs) zero job below =
@@ -90,7 +90,7 @@ each_more P [] place job below all new = absurd (omega arith)
 each_more P (g ∷ gs) zero job below all new = all_append P (g ++ job ∷ []) (in_rows gs) (all_append P g (job ∷ []) (all_front P g (in_rows gs) all) (new, tt)) (all_back P g (in_rows gs) all)
 each_more P (g ∷ gs) (suc place) job below all new = all_append P g (in_rows (with_job place job gs)) (all_front P g (in_rows gs) all) (each_more P gs place job (omega arith) (all_back P g (in_rows gs) all) new)
 
--- the places of one element more
+-- the elements at tested places, with one more element
 places_more : (test : ℕ → Bool) (i n : ℕ) (xs : List ℕ) → at_places test i (xs ++ n ∷ []) ≡ at_places test i xs ++ cond (test (i + length xs)) (n ∷ []) []
 places_more test i n [] = let zero_more : i + 0 ≡ i = omega arith in ap (λ (j : ℕ). cond (test j) (n ∷ []) []) (sym zero_more)
 places_more test i n (x ∷ xs) =
@@ -126,7 +126,7 @@ row_none zero k = refl
 row_none (suc n) zero = refl
 row_none (suc n) (suc k) = row_none n k
 
--- nothing is dealt yet
+-- before the first command is dealt
 pub dealt_none : {Z : Type 0} (script : Contents) (devices : List Kept) (count : ℕ) (groups : List (Vec Job Z)) (slots : List (Option Kept)) → map (λ v. v.items) groups ≡ replicate count [] → slots ≡ map Some devices → IsDealt script [] devices count groups slots
 dealt_none script devices count groups slots none is =
     let jobs : jobs_of groups ≡ [] = rows_jobs groups ∙ ap in_rows none ∙ none_in count in
@@ -138,7 +138,7 @@ dealt_none script devices count groups slots none is =
       out = subst (AreOut script [] devices) (sym is) (out_none script devices);
     }
 
--- one command more
+-- after one more command is dealt
 pub dealt_more : {Z : Type 0} (script : Contents) (members : List ℕ) (n i : ℕ) (c : Command) (devices : List Kept) (count : ℕ) (groups new : List (Vec Job Z)) (slots now : List (Option Kept)) (job : Job)
     → IsDealt script members devices count groups slots → length members ≡ i → 0 < count → command_of script n ≡ Some c → job.number ≡ n → IsJobAt script devices job → (i % count) < count
     → map (λ v. v.items) new ≡ with_job (i % count) job (map (λ v. v.items) groups) → now ≡ taken_slots script n slots → IsDealt script (members ++ n ∷ []) devices count new now
@@ -160,7 +160,7 @@ dealt_more script members n i c devices count groups new slots now job dealt lon
       out = subst (AreOut script (members ++ n ∷ []) devices) (sym taken) (out_more script members n c devices slots is dealt.out);
     }
 
--- the devices of the next command are here
+-- the next command's devices are in their slots
 
 element : {X : Type 0} (xs : List X) (k : ℕ) → k < length xs → X
 element [] k below = absurd (omega arith)
@@ -176,12 +176,12 @@ slot_here script members i k devices slots apart below out low used x =
     let low' : k < length devices = omega (arith, low, out.long) in
     subst IsSome (sym (slot_is script members i k devices slots apart below out low' used x (element devices k low'))) refl
 
--- what is taken out of the slots is a job
+-- what is taken out of the slots makes a job
 
 same_some : {X : Type 0} (x y : X) → Some x ≡ Some y → x ≡ y
 same_some x y e = cc
 
--- the devices that a command works on are in their slots
+-- the devices on which a command works are in their slots
 abbrev pub AreHere : Contents → ℕ → List (Option Kept) → Type 0
 AreHere script n slots = (k : ℕ) → k < length slots → uses script n k ≡ true → (x : Option Kept) → IsSome (get_or slots k x)
 
@@ -222,7 +222,7 @@ pub slots_taken : (script : Contents) (n : ℕ) (c : Command) (place : ℕ) (oth
 slots_taken script n c place other slots one two is at second first then =
     then ∙ (λ i. with_other (second i) (Some None) (first i)) ∙ ap (λ (k : ℕ). with_other (devices_of c).1 (Some None) (set slots k None)) at ∙ sym (taken_is script n c slots is)
 
--- the number at a place of the batch
+-- the number at an index of the batch
 pub numbered_at : (script : Contents) (members : List ℕ) (i : ℕ) → AllByRecursion (IsNumber script) members → i < length members → IsNumber script (get_or members i 0)
 numbered_at script [] i all below = absurd (omega arith)
 numbered_at script (n ∷ ns) zero all below = all.0

@@ -1,4 +1,4 @@
--- What is added up over the numbers of a lawful order.
+-- Sums over the numbers of a lawful order.
 use Rattle.std.proofs.Common.{◌≡◌, ℕ, zero, suc, ◌+◌, ◌-◌, ◌<◌, ◌≤◌, Bool, cond, ◌==◌, List, [], ◌∷◌, ◌++◌, ◌⊎◌, inl, inr, length, get_or, set, map, take, replicate, refl, sym, ap, ◌∙◌, subst, arith, length-set}
 use Rattle.std.specs.Prelude.{Some, slice_get}
 use Rattle.std.specs.List.{AllByRecursion, AllZip, sum_by, count_by}
@@ -39,7 +39,7 @@ below_or zero n h = inl (omega arith)
 below_or (suc k) zero h = inr (omega (arith, h))
 below_or (suc k) (suc n) h = elim (below_or k n (omega (arith, h))) [ inl a ↦ inl (omega (arith, a)) | inr b ↦ inr (omega (arith, b)) ]
 
--- a number that stands beside the last one is not the last one
+-- a number that occurs beside the last one is smaller than it
 not_last : (n k x y : ℕ) → k ≤ suc n → 0 < x → y ≡ x + cond (suc n == k) 1 0 → y ≡ 1 → k ≤ n
 not_last n k x y below stands all one = elim (below_or k n below) [
   | inl low ↦ low
@@ -103,7 +103,7 @@ commands_sum f g script is (suc n) few =
     take_next (x ∷ xs) zero c here = let same : x ≡ c = cc in ap (λ y. y ∷ []) same
     take_next (x ∷ xs) (suc n) c here = ap (λ l. x ∷ l) (take_next xs n c here)
 
--- a lawful order has just the script's commands
+-- a lawful order has the script's tally
 pub lawful_tally : (script : Contents) (order : List ℕ) → IsLawful script order → tally_at script order ≡ tally_of script
 lawful_tally script order lawful =
     let each = lawful_each script order lawful in
@@ -138,7 +138,7 @@ lawful_tally script order lawful =
     questions : (c : Command) → (one_of (kind_of c)).reports ≡ cond (is_question (kind_of c)) 1 0
     questions c = questions_in (kind_of c)
 
--- the results of different commands stand in different places
+-- the results of different commands go to different places
 
 abbrev moved_by_all : List Report → ℕ
 moved_by_all reports = sum_by (λ r. moved_by (answer_of r)) reports
@@ -146,7 +146,7 @@ moved_by_all reports = sum_by (λ r. moved_by (answer_of r)) reports
 abbrev moved_at : List Report → ℕ → ℕ
 moved_at reports n = moved_by (answer_of (get_or reports (n - 1) NotHeld))
 
--- the numbers are different ones, of places in the list at which nothing was moved
+-- the numbers differ, and each is that of a report in the list that moved nothing
 record AreFree (reports : List Report) (numbers : List ℕ) : Type 0 where
   pub once : (k : ℕ) → times k numbers ≤ 1
   pub within : AllByRecursion (λ n. (0 < n) × (n ≤ length reports)) numbers
@@ -214,7 +214,7 @@ sum_by_map (r ∷ rs) =
     let tail = sum_by_map rs in
     omega (arith, x, y, tail)
 
--- what the commands of a lawful order moved, one by one, is what the right reports say
+-- the commands of a lawful order moved as many versions as the right reports say
 pub lawful_moved : (script : Contents) (order : List ℕ) (done : List Done) (reports : List Report) (right : List ModelReport) → IsLawful script order → map (λ d. d.number) done ≡ order → reports ≡ all_reports done (replicate (length script.commands) NotHeld) → AllZip Tells (map answer_of reports) right
     → moved_in done ≡ sum_by moved_by_report right
 lawful_moved script order done reports right lawful numbers is told =

@@ -1,4 +1,4 @@
--- Before the first batch, and after the last.
+-- Before the first batch and after the last.
 use Rattle.std.proofs.Common.{◌≡◌, ◌∙◌, ◌≤◌, List, [], ◌∷◌, ◌++◌, length, map, replicate, refl, sym, ap, subst, arith, append_assoc, append-nil}
 use Rattle.std.specs.Prelude.{Option, Some, None, IsPermutation}
 use Rattle.std.specs.List.{AllZip, AllByRecursion}
@@ -42,7 +42,7 @@ opened script devices slots is shown long here none none_logged = record {
     same : tally_of script ≡ less (tally_of script) (tally_at script [])
     same = tally_same _ _ _ _ _ _ (omega arith) (omega arith) (omega arith)
 
--- slots that are still to be emptied: none of them is empty
+-- slots that are still to be emptied; each has a device
 abbrev pub IsLeft : List (Option Kept) → List Kept → List (Option Kept) → Type 0
 IsLeft all done rest = (left : List Kept) × (rest ≡ map Some left) × (all ≡ map Some (done ++ left))
 

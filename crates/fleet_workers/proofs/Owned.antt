@@ -1,4 +1,4 @@
--- Jobs one after another.
+-- The jobs of all groups, in order.
 use Rattle.std.proofs.Common.{◌≡◌, ℕ, zero, suc, ◌<◌, ◌≤◌, ◌-◌, length, List, [], ◌∷◌, ◌++◌, sym, ap, ◌∙◌, subst, arith, append-nil}
 use Rattle.std.specs.Prelude.{Some, IfSome, slice_get, Vec}
 use Rattle.std.proofs.lemmas.Option.{slice_get_within}
@@ -38,7 +38,7 @@ done_both script [] ys (d ∷ ds) es a b = absurd a
 done_both script (x ∷ xs) ys [] es a b = absurd a
 done_both script (x ∷ xs) ys (d ∷ ds) es a b = (a.0, done_both script xs ys ds es a.1 b)
 
--- the last group's jobs stand at the end
+-- the last group's jobs are at the end
 pub jobs_of-last : {Z : Type 0} (groups : List (Vec Job Z)) (last : Vec Job Z) → jobs_of (groups ++ last ∷ []) ≡ jobs_of groups ++ last.items
 jobs_of-last groups last =
     flat_map-append (λ v. v.items) groups (last ∷ []) ∙ ap (λ xs. jobs_of groups ++ xs) (append-nil last.items)

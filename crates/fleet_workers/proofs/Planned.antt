@@ -40,7 +40,7 @@ in_turn_all zero lists front t = subst (λ (l : List ℕ). InTurn lists (l ++ al
 in_turn_all (suc i) [] front t = append-nil front ∙ t
 in_turn_all (suc i) (l ∷ ls) front t = (t.0, t.1 ++ all_of (drop i ls), ap (λ (x : List ℕ). x ++ all_of (drop i ls)) t.2 ∙ append_assoc t.0 t.1 (all_of (drop i ls)), t.3, in_turn_all i ls t.1 t.4)
 
--- one batch more
+-- with one more batch
 in_turn_next : (i : ℕ) (lists : List (List ℕ)) (front members order : List ℕ) → InTurn (take i lists) front → slice_get lists i ≡ Some members → IsPermutation members order → InTurn (take (suc i) lists) (front ++ order)
 in_turn_next i [] front members order t is perm = cc
 in_turn_next zero (l ∷ ls) front members order t is perm =
@@ -52,7 +52,7 @@ in_turn_next (suc i) (l ∷ ls) front members order t is perm =
 pub in_turn_more : (i : ℕ) (lists : List (List ℕ)) (front members order : List ℕ) → InTurn (take i lists) front → slice_get lists i ≡ Some members → IsPermutation members order → InTurn (take (i + 1) lists) (front ++ order)
 in_turn_more i lists front members order t is perm = let next : i + 1 ≡ suc i = omega arith in subst (λ (j : ℕ). InTurn (take j lists) (front ++ order)) (sym next) (in_turn_next i lists front members order t is perm)
 
--- the front of a plan, the next batch and the rest: a lawful order
+-- the batches that have run, the next one and the rest make up a lawful order
 abbrev whole : ℕ → List (List ℕ) → List ℕ → List ℕ → List ℕ
 whole i lists front members = (front ++ members) ++ all_of (drop (i + 1) lists)
 
@@ -87,7 +87,7 @@ all_pass test (x ∷ xs) = by_case (test x) refl (all_pass test xs)
     by_case true is rest = (is, rest)
     by_case false is rest = rest
 
--- the commands of a batch stand there once, and are not related
+-- the commands of a batch occur once each and aren't related
 pub batch_apart : (script : Contents) (p : Planned) (i : ℕ) (front members : List ℕ) → IsPlan script p → InTurn (take i p.members) front → slice_get p.members i ≡ Some members → AreApart script members
 batch_apart script p i front members plan t is =
     let lawful = lawful_whole script p i front members plan t is in
@@ -110,7 +110,7 @@ batch_apart script p i front members plan t is =
         let one = lawful.once n (by_all_times (IsNumber script) (whole i p.members front members) n lawful.numbers (omega (arith, a, b, e))) in
         omega (arith, a, b, one)
 
--- the batch is within what is left to count
+-- the share may still count the batch
 pub batch_left : (script : Contents) (p : Planned) (i : ℕ) (front members : List ℕ) (slots : Slots) (share : Stake) → IsPlan script p → InTurn (take i p.members) front → slice_get p.members i ≡ Some members → HasRun script front slots share → Within (tally_at script members) share.left
 batch_left script p i front members slots share plan t is r =
     let lawful = lawful_whole script p i front members plan t is in

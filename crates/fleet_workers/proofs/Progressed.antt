@@ -1,4 +1,4 @@
--- One batch more has run.
+-- After one more batch has run.
 use Rattle.std.proofs.Common.{◌≡◌, ℕ, ◌+◌, ◌-◌, ◌≤◌, List, [], ◌∷◌, ◌++◌, length, map, replicate, refl, sym, ap, ◌∙◌, subst, arith}
 use Rattle.std.specs.Prelude.{Option, Some, IsPermutation, Vec}
 use Rattle.std.proofs.lemmas.List.{map-append, length-map}

@@ -1,4 +1,4 @@
--- What goes to a worker's thread and comes back may do so.
+-- What goes to a worker's thread, and what comes back, may be sent between threads.
 use denote.Param.Send.{IsSend, IsSync, sendable}
 use Rattle.std.proofs.Crossing.{crosses}
 use Rattle.std.proofs.alloc.Global.TheSendSync as global

@@ -1,4 +1,4 @@
--- What a worker has run and counted, before its first job, after each and after all.
+-- What a worker has run and counted: before its first job, after each, and after all.
 use Rattle.std.proofs.Common.{◌≡◌, ℕ, ◌+◌, ◌-◌, List, [], ◌∷◌, ◌++◌, refl, sym, ap, ◌∙◌, subst, arith}
 use Rattle.std.specs.Prelude.{Some, slice_get}
 use Rattle.fleet_model.specs.declared.tally.Tally.{Tally}
@@ -17,7 +17,7 @@ use Rattle.fleet_workers.proofs.Owned.{ready_right, number_of, numbered, done_jo
 use Rattle.fleet_workers.proofs.Counting.{CountsAs, counts_as, may_count, has_counted, moved-append, tally_same, totals_same}
 use Rattle.fleet_workers.proofs.Crewed.{tally_jobs}
 
--- what a job gave counts as its command
+-- a job's result counts as its command's kind
 job_counts : (c : Command) (job : Job) (d : Done) → IsFor c job → IsDone c job d → CountsAs (kind_of c) (answer_of d.report)
 job_counts c job d is done = counts_as c is.model is.other (answer_of d.report) is.few (done.shows is.model is.other is.shown is.other_shown).report
 
@@ -38,7 +38,7 @@ stake_is p t t' d d' e f = λ i. stake p (e i) (f i)
 pub worked_none : (script : Contents) (s : Stake) → HasWorked script [] [] s s
 worked_none script s = (tt, stake_is s.parts _ _ _ _ (tally_same _ _ _ _ _ _ (omega arith) (omega arith) (omega arith)) (totals_same _ _ _ _ _ _ _ _ (omega arith) (omega arith) (omega arith) (omega arith)))
 
--- some jobs, and then others
+-- after some jobs and then others
 pub worked_both : (script : Contents) (xs ys : List Job) (ds es : List Done) (s now new : Stake) → HasWorked script xs ds s now → HasWorked script ys es now new → HasWorked script (xs ++ ys) (ds ++ es) s new
 worked_both script xs ys ds es s now new a b =
     let first = tally_at script (numbers_of xs) in

@@ -15,13 +15,13 @@ use Rattle.work_ledger.specs.declared.kind.Kind.TheVariants.{Change, Pull, Repor
 use Rattle.work_ledger.specs.Stakes.{tally, totals, none_left}
 use Rattle.fleet_workers.specs.declared.work.Done.{Done}
 
--- one command of a kind
+-- the tally of one command of that kind
 abbrev pub one_of : kind.Kind → Tally
 one_of kind.Change = tally 1 0 0
 one_of kind.Pull = tally 0 1 0
 one_of kind.Question = tally 0 0 1
 
--- the command of that number, if there is one
+-- the tally of the command of that number, if there is one
 abbrev pub one_at : Contents → ℕ → Tally
 one_at script n = by_cases (command_of script n)
   where
@@ -29,11 +29,11 @@ one_at script n = by_cases (command_of script n)
     by_cases None = none_left
     by_cases (Some c) = one_of (kind_of c)
 
--- how many commands of each kind have these numbers
+-- the tally of the commands of those numbers
 abbrev pub tally_at : Contents → List ℕ → Tally
 tally_at script ns = tally (sum_by (λ n. (one_at script n).changes) ns) (sum_by (λ n. (one_at script n).pulls) ns) (sum_by (λ n. (one_at script n).reports) ns)
 
--- how a command counts, by the report on it
+-- the kind of a command, by the report on it
 abbrev pub kind_told : Answer → Kind
 kind_told (Plain (Made v place)) = Change
 kind_told (Plain NotHeld) = Change
@@ -47,10 +47,10 @@ kind_told (Plain (Conflicts n pictures)) = Report
 kind_told (KnowledgeOf n fragments) = Report
 kind_told (Plain (Knows known)) = Report
 
--- how many versions were moved, by all reports
+-- how many versions all reports together say were moved
 abbrev pub moved_in : List Done → ℕ
 moved_in done = sum_by (λ d. moved_by (answer_of d.report)) done
 
--- commands that were run, and what they moved
+-- the totals of those commands and of what they moved
 abbrev pub worked : Tally → ℕ → Totals
 worked t moved = totals t.changes t.pulls t.reports moved

@@ -1,4 +1,4 @@
--- What a worker's jobs have to be, and what it gives back.
+-- What a worker's jobs need, and what a worker gives back.
 use Rattle.std.specs.Prelude.{◌≡◌, ℕ, ◌<◌, List, Option, Some, None, IfSome, is_some, map, Vec}
 use Rattle.std.specs.List.{AllZip, AllByRecursion, flat_map}
 use Rattle.std.specs.Option.{option_to_list}
@@ -17,21 +17,21 @@ use Rattle.fleet_workers.specs.declared.work.Job.{Job}
 use Rattle.fleet_workers.specs.declared.work.Done.{Done}
 use Rattle.fleet_workers.specs.Counting.{tally_at, worked, moved_in}
 
--- a second device shows a second model device, where there is one
+-- if there is a second model device, the second device shows it; otherwise there is none
 abbrev pub ShowsSecond : Option Kept → Option ModelDevice → Type 0
 ShowsSecond None None = Unit {0}
 ShowsSecond None (Some m) = ⊥
 ShowsSecond (Some d) None = ⊥
 ShowsSecond (Some d) (Some m) = Shows d m
 
--- the command has a second device where the job has one, and may pull from it
+-- the job has a second device exactly where the command has one, and the first may pull from it
 abbrev pub MayWork : Option ℕ → Kept → Option Kept → Type 0
 MayWork None first None = Unit {0}
 MayWork None first (Some second) = ⊥
 MayWork (Some place) first None = ⊥
 MayWork (Some place) first (Some second) = MayPull first second
 
--- the job has what the command needs, and a pull moves no more than the ledger counts
+-- the job has what the command needs, and a pull moves no more versions than the ledger can count
 pub record IsFor (c : Command) (job : Job) : Type 0 where
   pub room : job.first.counter < 4_294_967_295
   pub epoch : epoch_of_author job.first.author < 4_294_967_295
@@ -42,20 +42,20 @@ pub record IsFor (c : Command) (job : Job) : Type 0 where
   pub other_shown : ShowsSecond job.second other
   pub few : MovesFew (effect c model other).report
 
--- what was given back shows an effect
+-- the result shows the effect
 pub record ShowsEffect (done : Done) (e : Effect) : Type 0 where
   pub first : Shows done.first e.first
   pub second : ShowsSecond done.second e.second
   pub report : Tells (answer_of done.report) e.report
   pub entries : entries_of (option_to_list done.entry) ≡ e.entries
 
--- the job is done: whatever model devices its devices showed, what was given back shows the command's effect on those
+-- The job is done: if its devices showed some model devices, the result shows the command's effect on those.
 pub record IsDone (c : Command) (job : Job) (done : Done) : Type 0 where
   pub number : done.number ≡ job.number
   pub both : is_some done.second ≡ is_some job.second
   pub shows : (m : ModelDevice) (other : Option ModelDevice) → Shows job.first m → ShowsSecond job.second other → ShowsEffect done (effect c m other)
 
--- the same of a job of a script, by its number
+-- the same for a job of a script, by its command's number
 abbrev pub IsReadyJob : Contents → Job → Type 0
 IsReadyJob script job = (c : Command) × (command_of script job.number ≡ Some c) × IsFor c job
 
@@ -75,13 +75,13 @@ numbers_of jobs = map (λ j. j.number) jobs
 abbrev pub MayStart : Contents → List Job → Stake → Type 0
 MayStart script jobs share = AreReadyJobs script jobs × Within (tally_at script (numbers_of jobs)) share.left
 
--- a worker has run its jobs, in order, and its share has counted each once
+-- a worker has run its jobs in order, and its share has counted each once
 abbrev pub HasWorked : Contents → List Job → List Done → Stake → Stake → Type 0
 HasWorked script jobs done old new =
     let all = tally_at script (numbers_of jobs) in
     AreDoneJobs script jobs done × (new ≡ stake old.parts (less old.left all) (both old.done (worked all (moved_in done))))
 
--- the share of a worker that is to count just these jobs
+-- a worker's share that may count exactly these jobs
 abbrev pub share_for : Contents → List Job → Stake
 share_for script jobs = stake 1 (tally_at script (numbers_of jobs)) nothing_done
 

@@ -13,8 +13,8 @@ use Rattle.fleet_workers.specs.Counting.{tally_at, worked, moved_in}
 use Rattle.fleet_workers.specs.declared.slots.Slots.{Slots}
 use Rattle.fleet_workers.specs.declared.work.Done.{Done}
 
--- the commands of these numbers have run in this order: all devices are in their slots, and the share has counted each
--- command once
+-- The commands of these numbers have run in this order. All devices are in their slots, and the share has counted each command
+-- once.
 pub record HasRun (script : Contents) (front : List ℕ) (slots : Slots) (share : Stake) : Type 0 where
   pub devices : List Kept
   pub here : slots.devices.items ≡ map Some devices

@@ -1,4 +1,4 @@
-// One batch: it is dealt to workers, and what they gave back is put in its places.
+// Runs one batch: deals it to workers, and puts their results back.
 ghost use Rattle.std.specs.Prelude.{◌≡◌, ◌⊎◌, ◌-◌, ◌<◌, ◌≤◌, ◌++◌, ℕ, List, Some, length, map, slice_set};
 ghost use Rattle.std.specs.Prelude.{IsPermutation, IfSome, IfOk, IfErr, OnOk, ◌∷◌, []};
 ghost use Rattle.std.specs.Arc.{arc_value};
@@ -29,8 +29,8 @@ use std::sync::Wait;
 use std::thread::Threads;
 use work_ledger::{Books, Share};
 
-// Runs one batch, whose commands work on no common device, by as many workers as there are or as it has commands: the slots
-// are as after the run of its commands in some order, and the share has counted them.
+// Runs one batch, whose commands share no device, by as many workers as there are, or as it has commands if these are fewer.
+// The slots are then as after a run of its commands in some order, and the share has counted them.
 pub(crate) fn run_batch<
     B: Books + Send + Sync + 'static,
     G: Gate + 'static,
@@ -65,7 +65,7 @@ pub(crate) fn run_batch<
     Ok(slots)
 }
 
-// Puts all back, one after another.
+// Puts all results back, one after another.
 fn take_back(script: &Script, slots: &mut Slots, done: Vec<Done>) -> Result<(), AllocError>
     requires numbers { AllByRecursion (IsOfCommand script.now) done.items }
     requires devices { length slots.old.devices.items ≡ length script.now.names }
@@ -80,7 +80,7 @@ fn take_back(script: &Script, slots: &mut Slots, done: Vec<Done>) -> Result<(), 
     Ok(())
 }
 
-// Puts what one command gave back in its places.
+// Puts one command's results back at their places.
 fn put_back(script: &Script, slots: &mut Slots, done: Done) -> Result<(), AllocError>
     requires number { IsOfCommand script.now done }
     requires devices { length slots.old.devices.items ≡ length script.now.names }
@@ -108,7 +108,7 @@ fn put_back(script: &Script, slots: &mut Slots, done: Done) -> Result<(), AllocE
     }
 }
 
-// Puts a version behind the log.
+// Appends a version to the log.
 fn log_entry(log: &mut Vec<SharedHeld>, held: SharedHeld) -> Result<(), AllocError>
     ensures { OnOk result (log.new.items ≡ log.old.items ++ held ∷ []) }
 {
@@ -116,7 +116,7 @@ fn log_entry(log: &mut Vec<SharedHeld>, held: SharedHeld) -> Result<(), AllocErr
     Ok(())
 }
 
-// What stood in a place before is dropped here, so that its cases are no cases of the callers.
+// Drops the old value of the slot here, so that callers don't split into its cases.
 fn set_device(devices: &mut Vec<Option<Parcel>>, place: usize, device: Parcel)
     requires { place < length devices.old.items }
     ensures { devices.new.items ≡ slice_set devices.old.items place (Some device) }

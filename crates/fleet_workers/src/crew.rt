@@ -1,4 +1,4 @@
-// Workers in threads.
+// Runs workers in threads.
 ghost use Rattle.std.specs.Prelude.{◌≡◌, ◌⊎◌, ◌+◌, ◌-◌, ◌++◌, ◌≤◌, IfOk, IfErr, OnOk, vec_len};
 ghost use Rattle.std.specs.Arc.{arc_value};
 ghost use Rattle.work_ledger.specs.Stakes.{stake, less, both, plus, given, IsCountable};
@@ -20,7 +20,7 @@ use std::thread;
 use std::thread::{Promise, PromisedHandle, Threads};
 use work_ledger::{Books, Share};
 
-// The promise of a worker: each of its jobs comes back with the effect of its command, and its share has counted them.
+// A worker's promise: each of its jobs comes back with its command's effect, and its share has counted them all.
 #[derive(Drop)]
 struct Worked {
     script: Snapshot<Script>,
@@ -32,7 +32,7 @@ impl<B: Books> Promise<Result<Finished<B>, AllocError>> for Worked {
         (λ f. HasWorked p.script.value p.jobs.value.items f.done.items (share_for p.script.value p.jobs.value.items) f.share) };
 }
 
-// A worker that is still to be joined. It is not `Drop`, so each one is joined on every path.
+// A worker that has to be joined. It isn't `Drop`, so every path joins it.
 struct Running<B: Books> {
     handle: PromisedHandle<Result<Finished<B>, AllocError>, Worked>,
 }
@@ -51,8 +51,8 @@ impl<B: Books> Running<B> {
     }
 }
 
-// Runs the first group's jobs on the thread that it is on, and each other group's on a thread of its own, the last group's
-// started first; and joins all that were started.
+// Runs the first group's jobs on the calling thread and each other group's on a thread of its own. It starts the last group's
+// thread first, and joins all threads that it started.
 pub(crate) fn run_crew<
     B: Books + Send + Sync + 'static,
     G: Gate + 'static,
@@ -79,7 +79,7 @@ pub(crate) fn run_crew<
         };
         return Ok(done);
     }
-    // For its fact alone: what the share may count can be counted.
+    // `left()` is called because its contract bounds what the share may count, which each worker's own share needs.
     let _left = share.left();
     let running = start(rt, alloc, shared, share, jobs)?;
     let others = run_crew(rt, alloc, shared, share, groups);
@@ -89,7 +89,7 @@ pub(crate) fn run_crew<
     gather(share, done, finished)
 }
 
-// Starts a worker, and splits its share off.
+// Splits a share off for a worker, and starts the worker.
 fn start<
     B: Books + Send + Sync + 'static,
     G: Gate + 'static,
@@ -116,7 +116,7 @@ fn start<
     spawn(rt, alloc, shared, share, jobs)
 }
 
-// Starts a worker that has a share of its own.
+// Starts a worker that owns its share.
 fn spawn<
     B: Books + Send + Sync + 'static,
     G: Gate + 'static,
@@ -170,7 +170,7 @@ fn spawn<
     }
 }
 
-// Runs the jobs of a worker that has a share of its own.
+// Runs the jobs of a worker that owns its share.
 fn run_alone<B: Books, G: Gate, R: Wait>(
     rt: &R,
     alloc: Global,
@@ -188,7 +188,7 @@ fn run_alone<B: Books, G: Gate, R: Wait>(
     Ok(Finished { share, done })
 }
 
-// Takes a worker's share back, and puts its results behind those of the others.
+// Takes a worker's share back, and appends its results to those of the others.
 fn gather<B: Books>(
     share: &mut Share<B>,
     done: Vec<Done>,

@@ -1,4 +1,4 @@
-// A batch is dealt to workers: each command with the devices that it works on.
+// Deals a batch to workers: each job has a command's number and the devices on which the command works.
 ghost use Rattle.std.specs.Prelude.{◌≡◌, ◌≢◌, ◌<◌, ◌∷◌, ◌++◌, []};
 ghost use Rattle.std.specs.Prelude.{ℕ, List, Option, Some, None, true, length, map, replicate, IsSome, IfSome, IfOk};
 ghost use Rattle.std.specs.Prelude.{OnOk, slice_index_or, slice_set};
@@ -15,8 +15,8 @@ use photo_script::Script;
 use std::alloc::{AllocError, Global};
 use std::mem;
 
-// Deals the commands of a batch to that many workers in turn: worker `k` gets those at the places `i` with `i mod count = k`.
-// Their devices are taken out of the slots.
+// Deals the commands of a batch to `count` workers in turn: worker `k` gets those at each index `i` with `i mod count = k`. It
+// takes their devices out of the slots.
 pub(crate) fn deal(
     alloc: Global,
     script: &Script,
@@ -40,7 +40,7 @@ pub(crate) fn deal(
     Ok(groups)
 }
 
-// So many groups, which have no jobs.
+// `count` groups without jobs.
 fn no_groups(alloc: Global, count: usize) -> Result<Vec<Vec<Job>>, AllocError>
     ensures { IfOk result (λ groups. map (λ v. v.items) groups.items ≡ replicate count []) }
 {
@@ -51,7 +51,7 @@ fn no_groups(alloc: Global, count: usize) -> Result<Vec<Vec<Job>>, AllocError>
     Ok(groups)
 }
 
-// Puts a job behind the others of a group.
+// Appends a job to a group.
 fn add_job(groups: &mut Vec<Vec<Job>>, place: usize, job: Job) -> Result<(), AllocError>
     requires { place < length groups.old.items }
     ensures len { length groups.new.items ≡ length groups.old.items }
@@ -61,7 +61,7 @@ fn add_job(groups: &mut Vec<Vec<Job>>, place: usize, job: Job) -> Result<(), All
     Ok(())
 }
 
-// Takes the devices of a command out of their slots.
+// Takes a command's devices out of their slots.
 fn take_job(script: &Script, slots: &mut Vec<Option<Parcel>>, number: u32) -> Job
     requires number { IsNumber script.now number }
     requires long { length slots.old.items ≡ length script.now.names }

@@ -1,4 +1,4 @@
-// All batches, one after another.
+// Runs all batches, one after another.
 ghost use Rattle.std.specs.Prelude.{◌≡◌, ◌⊎◌, [], List, length, map, Some, IfOk, IfErr};
 ghost use Rattle.std.specs.Arc.{arc_value};
 ghost use Rattle.photo_device.specs.Device.{Kept};
@@ -27,15 +27,17 @@ use std::sync::{Arc, Wait};
 use std::thread::Threads;
 use work_ledger::{Blanks, Books, Share, open};
 
-/// Runs a script by several workers, each in a thread of its own, batch by batch: the first worker's thread is the one that
-/// calls, and the others' are started. The commands of a batch work on no common device. Of a batch of `m` commands the one
-/// at place `i`, from 0, goes to worker `i mod min(workers, m)`, which takes its commands in the order of their numbers; for
-/// each it calls the gate, runs the command, counts it in a ledger, and calls the gate with what all workers together had
-/// then counted. No lock is held meanwhile. All workers of a batch are joined before the next one begins.
+/// Runs a script by several workers, batch by batch. The first worker runs on the calling thread; each other one gets a thread
+/// of its own. The commands of a batch share no device.
 ///
-/// The outcome is that of the run command by command, but for the order of the log. Its totals are what the ledger counted.
-/// Where memory was refused (E1) or a thread could not be started (E2), all workers that were started have been joined, and
-/// there is no outcome.
+/// Of a batch of `m` commands the one at index `i`, from 0, goes to worker `i mod min(workers, m)`. A worker takes its commands
+/// in the order of their numbers. For each it calls the gate, runs the command, counts it in a ledger, and calls the gate with
+/// what all workers together have counted by then. It holds no lock meanwhile. All workers of a batch are joined before the
+/// next batch begins.
+///
+/// The outcome is that of the run command by command, except for the order of the log. Its totals are those that the ledger
+/// counted. Where memory was refused (E1) or a thread couldn't be started (E2), all workers that were started have been joined,
+/// and there is no outcome.
 pub fn run_fleet<G: Gate + 'static, R: Threads + Wait + Copy + Send + 'static>(
     rt: R,
     alloc: Global,
@@ -74,7 +76,7 @@ pub fn run_fleet<G: Gate + 'static, R: Threads + Wait + Copy + Send + 'static>(
     })
 }
 
-// Runs a script, and counts in the ledger of the blanks.
+// Runs a script, and counts its commands in the ledger made from the blanks.
 fn run_counted<
     B: Books + Send + Sync + 'static,
     G: Gate + 'static,
@@ -109,12 +111,12 @@ fn run_counted<
     Ok((slots, totals))
 }
 
-// How many commands of each kind a script has: a ledger can count them.
+// A script's tally: how many commands of each kind it has. A ledger can count them.
 fn tally_of(script: &Script) -> Tally
     ensures tally { result ≡ tally_of script.now }
     ensures countable { IsCountable result }
 {
-    // For its fact alone: how many commands a script has at most.
+    // `commands()` is called because its contract bounds how many commands a script has, so a ledger can count them.
     let _commands = script.commands();
     script.tally()
 }
@@ -170,12 +172,12 @@ fn run_batches<
     Ok(slots)
 }
 
-// How many commands a script has. What is true of every script is true of it.
+// How many commands a script has, and the invariants of every script.
 fn commands_of(script: &Script) -> usize
     ensures count { result ≡ length script.now.commands }
     ensures script { IsScript script.now }
 {
-    // For its fact alone: what is true of every script.
+    // `devices()` is called because its contract bounds the devices and gives each a filter, which `script` promises as well.
     let _devices = script.devices();
     script.commands()
 }
@@ -197,7 +199,7 @@ fn opening_slots(alloc: Global, script: &Script, workers: Workers) -> Result<Slo
     })
 }
 
-// A slot for each device.
+// A slot with each device.
 fn slots_of(alloc: Global, devices: Vec<Device>) -> Result<Vec<Option<Parcel>>, AllocError>
     ensures { IfOk result (λ slots. slots.items ≡ map Some devices.items) }
 {
@@ -208,7 +210,7 @@ fn slots_of(alloc: Global, devices: Vec<Device>) -> Result<Vec<Option<Parcel>>, 
     Ok(slots)
 }
 
-// The devices of slots none of which is empty.
+// The devices out of slots, none of which is empty.
 fn devices_out_of(alloc: Global, slots: Vec<Option<Parcel>>) -> Result<Vec<Device>, AllocError>
     requires { (devices : List Kept) × (slots.items ≡ map Some devices) }
     ensures { IfOk result (λ all. slots.items ≡ map Some all.items) }

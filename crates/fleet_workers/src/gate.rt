@@ -1,13 +1,13 @@
-// What workers call before and after each command.
+// The gate that workers call before and after each command.
 use photo_script::Totals;
 
-/// What a worker calls before and after each of its commands, in its own thread.
+/// A worker calls the gate before and after each of its commands, on its own thread.
 pub trait Gate: Send + Sync + Drop {
     /// The command of that number is about to run.
     fn before(&self, number: u32);
 
-    /// The command of that number has run and was counted. `seen` is what all workers together had counted at some moment
-    /// since: this command at least, and what the worker had counted before it.
+    /// The command of that number has run and has been counted. `seen` is what all workers together had counted at some moment
+    /// since: at least this command and those that the worker counted before it.
     fn after(&self, number: u32, seen: Totals);
 }
 

@@ -1,4 +1,4 @@
-//! Runs of scripts by several workers, each in a thread of its own. Its invariant: **no two workers have one device** at a time.
+//! Runs scripts by several workers, each in a thread of its own. Its invariant: **no two workers have one device** at a time.
 #![tactic(auto)]
 
 mod batch;

@@ -28,7 +28,7 @@ impl Model for Workers {
 }
 
 impl Workers {
-    /// That many workers, `None` where it isn't a number from 1 to 256.
+    /// That many workers, or `None` where the number isn't from 1 to 256.
     pub fn new(count: u16) -> Option<Workers>
         ensures { SomeIff result ((0 < count) × (count ≤ max_workers)) count }
     {
@@ -38,7 +38,7 @@ impl Workers {
         Some(Workers { count })
     }
 
-    // How many there are.
+    // The number of workers.
     pub(crate) fn count(self) -> usize
         ensures value { result ≡ self }
         ensures range { (0 < result) × (result ≤ max_workers) }

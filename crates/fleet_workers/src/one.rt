@@ -1,4 +1,4 @@
-// One command on devices that are its own.
+// Runs one command on devices that its job owns.
 ghost use Rattle.std.specs.Prelude.{◌≡◌, ◌<◌, None, IfOk, OnOk};
 ghost use Rattle.std.specs.Option.{option_to_list};
 ghost use Rattle.photo_version.specs.Author.{epoch_of_author};
@@ -53,7 +53,7 @@ pub(crate) fn run_one(alloc: Global, command: &Command, job: Job) -> Result<Done
     }
 }
 
-// Runs a command that works on one device. Beside the report it gives what the log gains.
+// Runs a command that works on one device. Gives the report and the log's new entry, if any.
 fn run_single(
     alloc: Global,
     command: &Command,
@@ -73,7 +73,7 @@ fn run_single(
     Ok((report, entry))
 }
 
-// What the device holds of the version that the command has just made on it, if it has made one.
+// The version that the command has just made on the device, as the device holds it; `None` if it made none.
 fn entry_made(
     command: &Command,
     report: &Report,

@@ -3,7 +3,7 @@ use photo_device::Device;
 use std::alloc::{AllocError, Global};
 use std::marker::Model;
 
-// A device that stays where it is in memory, whoever has it. It is seen as the device.
+// A device in a box, so that moving it between owners doesn't move it in memory. Contracts see the device.
 #[derive(Debug, Drop)]
 pub(crate) struct Parcel {
     pub(crate) device: Box<Device>,
@@ -23,7 +23,7 @@ impl Model for Parcel {
 impl Parcel {
     ghost use Rattle.std.specs.Prelude.{◌≡◌, IfOk};
 
-    // Packs a device.
+    // Puts a device into a box.
     pub(crate) fn new(alloc: Global, device: Device) -> Result<Parcel, AllocError>
         ensures { IfOk result (λ parcel. parcel ≡ device) }
     {
@@ -32,7 +32,7 @@ impl Parcel {
         })
     }
 
-    // Unpacks the device.
+    // Takes the device out of the box.
     pub(crate) fn open(self) -> Device
         ensures { result ≡ self }
     {

@@ -1,4 +1,4 @@
-// What all workers of a run have in common.
+// What all workers of a run share.
 ghost use Rattle.std.specs.Prelude.{◌≡◌, IfOk};
 ghost use Rattle.std.specs.Arc.{arc_value};
 
@@ -8,7 +8,7 @@ use std::alloc::AllocError;
 use std::sync::Arc;
 use work_ledger::{Books, Ledger};
 
-// The script that they run, the ledger that they count in and the gate that they call.
+// The script that the workers run, the ledger in which they count and the gate that they call.
 #[derive(Drop)]
 pub(crate) struct Shared<B: Books, G: Gate> {
     pub script: Arc<Script>,
@@ -17,7 +17,7 @@ pub(crate) struct Shared<B: Books, G: Gate> {
 }
 
 impl<B: Books, G: Gate> Shared<B, G> {
-    // One more owner of each. Its only error is want of memory.
+    // Makes one more owner of each. Its only error is want of memory.
     pub(crate) fn try_clone(&self) -> Result<Shared<B, G>, AllocError>
         ensures { IfOk result (λ copy. arc_value copy.script ≡ arc_value self.now.script) }
     {

@@ -1,4 +1,4 @@
-// How many commands of each kind jobs have.
+// The tally of jobs.
 ghost use Rattle.std.specs.Prelude.{◌≡◌, ◌≤◌};
 ghost use Rattle.fleet_model.specs.Tallies.{kind_of};
 ghost use Rattle.fleet_workers.specs.Counting.{one_of, tally_at};

@@ -4,7 +4,7 @@ use photo_device::SharedHeld;
 use photo_script::Report;
 use work_ledger::{Books, Share};
 
-// A command's number with the one or two devices that it works on.
+// A command's number and the one or two devices on which it works.
 #[derive(Debug, Drop)]
 pub(crate) struct Job {
     pub number: u32,
@@ -12,7 +12,7 @@ pub(crate) struct Job {
     pub second: Option<Parcel>,
 }
 
-// What a command gave: its devices after it, its report, and what the log gains.
+// A command's results: its devices after it, its report, and the log's new entry, if any.
 #[derive(Debug, Drop)]
 pub(crate) struct Done {
     pub number: u32,
@@ -22,7 +22,7 @@ pub(crate) struct Done {
     pub entry: Option<SharedHeld>,
 }
 
-// What a worker gives back: its share of the ledger, and what its commands gave, in order.
+// A worker's results: its share of the ledger, and its commands' results in order.
 #[derive(Drop)]
 pub(crate) struct Finished<B: Books> {
     pub share: Share<B>,

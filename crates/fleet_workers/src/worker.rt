@@ -1,4 +1,4 @@
-// What one worker does.
+// One worker's loop.
 ghost use Rattle.std.specs.Prelude.{◌≡◌, [], ◌∷◌, IfOk};
 ghost use Rattle.std.specs.Arc.{arc_value};
 ghost use Rattle.photo_script.specs.Reports.{answer_of};
@@ -33,7 +33,7 @@ pub(crate) fn run_jobs<B: Books, G: Gate, R: Wait>(
     Ok(done)
 }
 
-// Calls the gate, runs the job, counts it, and calls the gate with what a glance at the ledger then gives.
+// Calls the gate, runs the job, counts it, and calls the gate with the totals that a glance at the ledger gives.
 fn run_job<B: Books, G: Gate, R: Wait>(
     rt: &R,
     alloc: Global,
@@ -52,7 +52,7 @@ fn run_job<B: Books, G: Gate, R: Wait>(
     Ok(done)
 }
 
-// How a command counts, by the report on it.
+// The kind of a command, by the report on it.
 fn kind_of(report: &Report) -> Kind
     ensures { result ≡ kind_told (answer_of report.now) }
 {

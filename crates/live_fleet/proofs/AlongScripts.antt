@@ -1,4 +1,4 @@
--- A fleet to which the commands of a script are given by their numbers.
+-- A fleet that runs the commands of a script by their numbers.
 use Rattle.std.proofs.Common.{◌≡◌, ℕ, suc, ◌+◌, [], ◌∷◌, sym, ap, ◌∙◌, subst, add-one}
 use Rattle.std.specs.Prelude.{Some, slice_get}
 use Rattle.std.proofs.lemmas.List.Sums.{fold-append}
@@ -11,7 +11,7 @@ use Rattle.live_fleet.specs.Fleets.{KeptFleet, ShowsFleet, RunsAlongScripts}
 after_next : (script : Contents) (n : ℕ) (c : Command) → slice_get script.commands n ≡ Some c → run_in_order script (numbers_to (suc n)) ≡ after_command (run_in_order script (numbers_to n)) (suc n) c
 after_next script n c here = fold-append (step script) (opening_fleet script) (numbers_to n) (suc n ∷ []) ∙ stepped script (run_in_order script (numbers_to n)) n c here
 
--- the number of a command plays a part in the reports alone
+-- a command's number affects only the reports
 shown_again : (f : KeptFleet) (m : Fleet) (j k : ℕ) (c : Command) → ShowsFleet f (after_command m j c) → ShowsFleet f (after_command m k c)
 shown_again f m j k c shown = record { devices = shown.devices; log = shown.log }
 

@@ -1,4 +1,4 @@
--- What is due to a call stays due where its refusal is passed on.
+-- A fault that is due to a call stays due where its refusal is passed on.
 use Rattle.std.proofs.Common.{◌≡◌, sym, ap, ◌∙◌}
 use Rattle.std.specs.Prelude.{Result, Ok, Err}
 use Rattle.live_fleet.specs.declared.fault.FleetFault.{FleetFault}

@@ -1,4 +1,4 @@
--- What a command puts into the log.
+-- What a command adds to the log.
 use Rattle.std.proofs.Common.{◌≡◌, ℕ, Bool, true, false, cond, List, [], ◌∷◌, ◌++◌, ap, refl, sym, ◌∙◌}
 use Rattle.std.specs.Prelude.{Option, None, is_some}
 use Rattle.std.specs.Option.{option_to_list}
@@ -20,7 +20,7 @@ use Rattle.fleet_steps.specs.Issued.{version_told}
 use Rattle.fleet_steps.proofs.Issued.{none_named}
 use Rattle.live_fleet.specs.Entries.{entry_if_made, if_told}
 
--- what is logged of a change: the new entry, where a version is told
+-- a change logs its new entry where the answer reports a version
 change_logs : (d : ModelDevice) (other : Option ModelDevice) (p : ℕ) (r : Record) (a : Answer) → Tells a (changing d other p r).report → if_told a (new_entry d p r ∷ []) ≡ (changing d other p r).entries
 change_logs d other p r a told = by_test (is_held d p) told
   where
@@ -31,7 +31,7 @@ change_logs d other p r a told = by_test (is_held d p) told
 nothing_told : (a : Answer) (none : List Entry) → none ≡ [] → if_told a [] ≡ none
 nothing_told a none is = elim (is_some (version_told a)) as (λ b. cond b [] [] ≡ none) [ true ↦ sym is | false ↦ sym is ]
 
--- what is logged of a command
+-- what a command logs
 pub command_logs : (models : List ModelDevice) (c : Command) (a : Answer) → Tells a (effect_on models c).report
     → if_told a (option_to_list (entry_if_made c (device_at models (devices_of c).0))) ≡ (effect_on models c).entries
 command_logs models (command.New k p r) a told = rw told refl
@@ -49,7 +49,7 @@ command_logs models (command.Knows k p v) a told = nothing_told a _ refl
 told_of_entries : (a : Answer) (helds : List Held) → entries_of (if_told a helds) ≡ if_told a (entries_of helds)
 told_of_entries a helds = elim (is_some (version_told a)) as (λ b. entries_of (cond b helds []) ≡ cond b (entries_of helds) []) [ true ↦ refl | false ↦ refl ]
 
--- a log with what is kept of a command
+-- the log with a command's entry behind it
 pub logged_more : (log new : List Held) (a : Answer) (held : Option Held) (entry : Option Entry) (entries : List Entry) → new ≡ log ++ if_told a (option_to_list held)
     → entries_of (option_to_list held) ≡ option_to_list entry → if_told a (option_to_list entry) ≡ entries → entries_of new ≡ entries_of log ++ entries
 logged_more log new a held entry entries is shown logs =

@@ -1,4 +1,4 @@
--- What commands lead to, command by command.
+-- What a sequence of commands leads to, by induction.
 use Rattle.std.proofs.Common.{◌≡◌, ℕ, zero, suc, ◌+◌, ◌<◌, ◌≤◌, List, [], ◌∷◌, ◌++◌, inl, inr, length, take, refl, sym, ap, ◌∙◌, subst, subst₂, add-one, le_refl, length-append, arith}
 use Rattle.std.specs.Prelude.{fold}
 use Rattle.std.specs.List.{AllZip, AllByRecursion}
@@ -29,21 +29,21 @@ use Rattle.fleet_model.proofs.SoundFacts.{IsSoundFleet}
 use Rattle.fleet_model.proofs.SoundRuns.{opening_sound, sound_kept, sound_and_kept}
 use Rattle.live_fleet.specs.Fleets.{KeptFleet, ShowsFleet, AreAlike, RunsGrowByCommands, after_commands, CameAbout, HasSoundHistory}
 
--- two that are alike are so after one command more, whatever number it has
+-- fleets that are alike stay alike after one more command, whatever its number
 pub alike_after : (f g : Fleet) (j k : ℕ) (c : Command) → AreAlike f g → AreAlike (after_command f j c) (after_command g k c)
 alike_after f g j k c same = record {
   devices = ap (λ ds. devices_after ds c) same.devices;
   log = λ i. same.log i ++ (effect_on (same.devices i) c).entries;
 }
 
--- commands one after another, none of which has a report
+-- the step of a run whose commands all have number 0, so their reports don't matter
 abbrev pub ran : Fleet → Command → Fleet
 ran fleet c = after_command fleet 0 c
 
 abbrev pub opened : List Tree → Fleet
 opened filters = opening_fleet (contents [] filters [])
 
--- the first commands of a run
+-- the run of the first n commands
 begins : (filters : List Tree) (commands : List Command) (n : ℕ) → n ≤ length commands → AreAlike (run_in_order (contents [] filters commands) (numbers_to n)) (fold ran (opened filters) (take n commands))
 begins filters commands zero few = record { devices = refl; log = refl }
 begins filters commands (suc n) few = elim (slice_get_cases commands n).1 [
@@ -67,7 +67,7 @@ pub is_folded : (filters : List Tree) (commands : List Command) → AreAlike (af
 is_folded filters commands =
     subst (λ (cs : List Command). AreAlike (after_commands filters commands) (fold ran (opened filters) cs)) (take_all (length commands) commands (le_refl _)) (begins filters commands (length commands) (le_refl _))
 
--- one command more
+-- the run with one more command
 pub one_later : RunsGrowByCommands
 one_later filters commands k c =
     let all = is_folded filters (commands ++ c ∷ []) in
@@ -78,7 +78,7 @@ one_later filters commands k c =
       log = all.log ∙ ap (λ (f : Fleet). f.log) last ∙ sym same.log;
     }
 
--- what each step keeps, while there are epochs to begin
+-- what each step keeps while there are epochs to begin
 module _ (Fits : Record → Type 0) (P : List Entry → List ModelDevice → Type 0) (K : IsKept Fits P) where
   kept_along : (fleet : Fleet) (n : ℕ) (commands : List Command) → P fleet.log fleet.devices → n + length commands ≤ 4_294_967_295 → AllByRecursion (HasMadeAtMost n) fleet.devices
       → AllByRecursion (IsWithin (length fleet.devices)) commands → AllByRecursion (FitsAll Fits) commands
@@ -100,7 +100,7 @@ module _ (Fits : Record → Type 0) (P : List Entry → List ModelDevice → Typ
 pub within_opened : (filters : List Tree) (commands : List Command) → AllByRecursion (IsWithin (length filters)) commands → AllByRecursion (IsWithin (length (opening_from 0 filters))) commands
 within_opened filters commands within = subst (λ (n : ℕ). AllByRecursion (IsWithin n) commands) (sym (length_opening 0 filters)) within
 
--- after commands every device is sound, and none has made more versions or begun more epochs than commands have run
+-- after any commands every device is sound, and none has made more versions or begun more epochs than commands have run
 pub sound_after : (filters : List Tree) (commands : List Command) → length commands ≤ 4_294_967_295 → AllByRecursion (IsWithin (length filters)) commands → AllByRecursion (FitsAll IsInRange) commands
     → IsAfter IsSoundFleet (length filters) (length commands) (after_commands filters commands).log (after_commands filters commands).devices
 sound_after filters commands few within fits =
@@ -112,20 +112,20 @@ sound_after filters commands few within fits =
       few = subst (AllByRecursion (HasMadeAtMost (length commands))) (sym same.devices) (subst (λ (j : ℕ). AllByRecursion (HasMadeAtMost j) (fold ran (opened filters) commands).devices) (omega arith) all.few);
     }
 
--- so they are ready for one command more
+-- so the devices are ready for one more command
 pub ready_after : (filters : List Tree) (commands : List Command) → length commands ≤ 4_294_967_295 → AllByRecursion (IsWithin (length filters)) commands → IsReady (after_commands filters commands).devices
 ready_after filters commands few within =
     let all = kept_along (λ r. Unit {0}) (λ log ds. IsReady ds) ready_kept (opened filters) 0 commands (opening_ready filters) (omega arith) (opening_at_most filters 0) (within_opened filters commands within) (all_fit commands) in
     subst IsReady (sym (is_folded filters commands).devices) all.fact
 
--- the same of the commands by which a fleet came about
+-- the same for the commands by which a fleet came about
 pub came_after : (f : KeptFleet) (came : CameAbout f) → IsAfter IsSoundFleet (length came.filters) (length came.commands) (after_commands came.filters came.commands).log (after_commands came.filters came.commands).devices
 came_after f came =
     let count = came.count in
     let few = came.few in
     sound_after came.filters came.commands (omega arith) came.within came.in_range
 
--- what the next command asks of the devices
+-- the devices satisfy what the next command requires
 
 pub came_ready : (f : KeptFleet) → CameAbout f → AreReady f.devices
 came_ready f came =
@@ -143,11 +143,11 @@ came_room f came few =
     let count = came.count in
     have_room f.devices (after_commands came.filters came.commands).devices (length came.commands) (omega arith) came.shown.devices (came_after f came).few
 
--- each fleet is sound
+-- every fleet is sound
 pub came_sound : (f : KeptFleet) → CameAbout f → HasSoundHistory f
 came_sound f came = record { came = came; sound = sound_and_kept (after_commands came.filters came.commands) (came_after f came).fact }
 
--- before the first command
+-- a fleet before its first command
 pub came_first : (f : KeptFleet) (filters : List Tree) → AllZip Shows f.devices (opening_from 0 filters) → AreSettled f.devices → f.log ≡ [] → f.commands ≡ 0 → CameAbout f
 came_first f filters shown settled logged none = record {
   filters = filters;
@@ -160,7 +160,7 @@ came_first f filters shown settled logged none = record {
   settled = settled;
 }
 
--- after one command more
+-- a fleet after one more command
 pub came_more : (f new : KeptFleet) (k : ℕ) (c : Command) → CameAbout f → IsWithin (length f.devices) c → FitsAll IsInRange c → f.commands < 4_294_967_295
     → ((m : Fleet) → ShowsFleet f m → ShowsFleet new (after_command m k c)) → new.commands ≡ f.commands + 1 → AreSettled new.devices → CameAbout new
 came_more f new k c came within fits room shows count settled =
@@ -183,7 +183,7 @@ came_more f new k c came within fits room shows count settled =
       settled = settled;
     }
 
--- what a command has made of the devices and of the log
+-- what a command makes of the devices and the log
 pub run_shows : (f : KeptFleet) (given new written : List Kept) (log : List Held) (count k : ℕ) (c : Command) → given ≡ f.devices → written ≡ new
     → ((models : List ModelDevice) → AllZip Shows given models → AllZip Shows new (devices_after models c))
     → ((models : List ModelDevice) → AllZip Shows given models → entries_of log ≡ entries_of f.log ++ (effect_on models c).entries)

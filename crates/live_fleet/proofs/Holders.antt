@@ -1,4 +1,4 @@
--- The devices of a fleet, by their numbers, and that who holds a picture knows of it.
+-- The devices of a fleet have their places as numbers, and a device that holds a picture knows of it.
 use Rattle.std.proofs.Common.{◌≡◌, ℕ, zero, suc, ◌<◌, Bool, true, ◌&&◌, ◌||◌, eqb, List, [], ◌∷◌, length, get_or, inl, inr, refl, sym, ap, ◌∙◌, subst, arith}
 use Rattle.std.specs.Prelude.{Some, slice_get}
 use Rattle.std.specs.List.{AllZip, list_any}
@@ -23,12 +23,12 @@ use Rattle.live_fleet.proofs.Histories.{came_sound, ready_after}
 use Rattle.live_fleet.specs.Standing as asked
 use Rattle.live_fleet.specs.Laws.{HasNumbers, HoldersKnow}
 
--- what is in a list is in a list of what a function makes of it
+-- the entry of a held version is among the entries of the list
 in_mapped : (h : Held) (hs : List Held) → In h hs → In (entry_of h) (entries_of hs)
 in_mapped h hs (here e) = here (ap entry_of e)
 in_mapped h hs (there i) = there (in_mapped h _ i)
 
--- what stands at a place is in the list
+-- the item at an index is in the list
 in_at : {X : Type 0} (xs : List X) (k : ℕ) (d : X) → k < length xs → In (get_or xs k d) xs
 in_at [] k d h = absurd (omega arith)
 in_at (x ∷ xs) zero d h = here refl
@@ -58,7 +58,7 @@ has_numbers f came k d is =
     let shows = shown_at f.devices models k d came.shown.devices is in
     ap device_of_author shows.author ∙ (came_ready_for f came).author k (place_within f.devices models k d came.shown.devices is)
 
--- a held version of the picture
+-- a version of the picture that the device holds
 held_one : (picture : ℕ) (d : Kept) (m : ModelDevice) → Shows d m → asked.holds picture d ≡ true → (h : Held) × In (entry_of h) (holds m) × (h.picture ≡ picture)
 held_one picture d m shows is = elim (or_cases (asked.has picture d.store) (asked.has picture d.out) is) [
   | inl stored ↦
@@ -69,7 +69,7 @@ held_one picture d m shows is = elim (or_cases (asked.has picture d.store) (aske
       (found.0, in_right m.store (subst (In (entry_of found.0)) shows.out (in_mapped found.0 d.out found.1)), eqb-true found.0.picture picture (and_parts _ _ found.2).0)
 ]
 
--- of a log's entries a device knows one of the picture
+-- the device knows one of the log's entries of the picture
 knows_one : (picture : ℕ) (d : Kept) (m : ModelDevice) (log : List Held) (h : Held) → 0 < picture → Shows d m → In (entry_of h) (entries_of log) → h.picture ≡ picture → known m h.picture h.version ≡ true → asked.knows_of log picture d ≡ true
 knows_one picture d m log h above shows i same knows_it =
     any_same (λ g. (eqb g.picture picture) && knows d.knowledge picture g.version) (λ g. (eqb g.picture picture) && known m picture g.version) log

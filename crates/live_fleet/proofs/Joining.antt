@@ -1,4 +1,4 @@
--- A device that comes later: the fleet is as if it had been there from the beginning, since nobody has named it.
+-- A device that joins later: the fleet is as if it had been there from the beginning, since no command has named it.
 use Rattle.std.proofs.Common.{◌≡◌, ◌≢◌, ℕ, ◌+◌, ◌<◌, List, [], ◌∷◌, ◌++◌, length, set, refl, sym, ap, ◌∙◌, subst, arith, length-append}
 use Rattle.std.specs.Prelude.{Option, Some, None, IfSome, fold}
 use Rattle.std.specs.List.{AllZip, AllByRecursion}
@@ -18,7 +18,7 @@ use Rattle.fleet_steps.proofs.Shown.{opening_from-push}
 use Rattle.live_fleet.specs.Fleets.{KeptFleet, AreAlike, HasJoined, CameAbout, after_commands}
 use Rattle.live_fleet.proofs.Histories.{alike_after, ran, opened, is_folded, within_opened, came_after}
 
--- one device more behind those of a model fleet
+-- the model fleet with one more device at its end
 abbrev with_last : ModelDevice → Fleet → Fleet
 with_last x fleet = record fleet { devices = fleet.devices ++ x ∷ [] }
 
@@ -28,7 +28,7 @@ alike_trans f g h one two = record { devices = one.devices ∙ two.devices; log 
 last_alike : (x : ModelDevice) (f g : Fleet) → AreAlike f g → AreAlike (with_last x f) (with_last x g)
 last_alike x f g same = record { devices = ap (λ ds. ds ++ x ∷ []) same.devices; log = same.log }
 
--- a command that doesn't name it finds the devices that it names, and leaves it
+-- a command that doesn't name the new device finds its own devices and leaves the new one unchanged
 
 found : (ds : List ModelDevice) (x : ModelDevice) (k : ℕ) → k < length ds → device_at (ds ++ x ∷ []) k ≡ device_at ds k
 found ds x k h = get_or_append_left ds (x ∷ []) (opening (author k) All) k h
@@ -73,7 +73,7 @@ more_along x fleet (c ∷ commands) within =
     (alike_along (ran (with_last x fleet) c) (with_last x next) commands (more_after x fleet 0 c within.0))
     (more_along x next commands rest)
 
--- the same commands from one filter more give one device more
+-- the same commands from one more filter give one more device
 later : (filters : List Tree) (filter : Tree) (commands : List Command) → AllByRecursion (IsWithin (length filters)) commands
     → AreAlike (after_commands (filters ++ filter ∷ []) commands) (with_last (opening (author (length filters)) filter) (after_commands filters commands))
 later filters filter commands within =
@@ -96,7 +96,7 @@ one_wider n c within = (omega (arith, within.0), wider (devices_of c).1 within.1
     wider None h = tt
     wider (Some k) h = (omega (arith, h.0), h.1)
 
--- commands have led to the fleet with it
+-- the fleet with the new device came about by commands
 pub came_joined : (f : KeptFleet) (d : Kept) (filter : Tree) → CameAbout f → Shows d (opening (author (length f.devices)) filter) → d.staged ≡ None → CameAbout (record f { devices = f.devices ++ d ∷ [] })
 came_joined f d filter came shows settled =
     let fleet = after_commands came.filters came.commands in
@@ -119,7 +119,7 @@ came_joined f d filter came shows settled =
       settled = all_push (λ (e : Kept). e.staged ≡ None) f.devices d came.settled settled;
     }
 
--- and it shows what the fleet without it shows, with one device more
+-- it shows the old model fleet with one more device
 pub joined : (f : KeptFleet) (d : Kept) (filter : Tree) → Shows d (opening (author (length f.devices)) filter) → HasJoined filter f (record f { devices = f.devices ++ d ∷ [] })
 joined f d filter shows = record {
   shows = λ m shown. record {

@@ -1,4 +1,4 @@
--- What a fleet answers speaks of its own devices alone.
+-- A fleet's answers name only its own devices.
 use Rattle.std.proofs.Common.{◌≡◌, ℕ, ◌+◌, ◌<◌, ◌≤◌, List, [], ◌∷◌, length, sym, subst, le_refl, arith}
 use Rattle.std.specs.Prelude.{IfSome, fold}
 use Rattle.std.specs.List.{AllByRecursion}

@@ -1,4 +1,4 @@
--- What a pull would move, on the model devices that two devices show.
+-- What a pull would move, on the model devices that the two devices show.
 use Rattle.std.proofs.Common.{◌≡◌, Bool, true, false, cond, not, ◌&&◌, List, [], ◌∷◌, refl, ap, ap₂, ◌∙◌}
 use Rattle.std.specs.Prelude.{filter}
 use Rattle.std.specs.List.{AllByRecursion}
@@ -20,7 +20,7 @@ twice_filtered p q (x ∷ xs) = elim (p x) as (λ b. filter q (cond b (x ∷ fil
   | false ↦ twice_filtered p q xs
 ]
 
--- a test of held versions keeps those whose entries a test of entries keeps
+-- a test of held versions keeps the same entries as the matching test of entries
 entries_kept : (P : Held → Type 0) (p : Held → Bool) (q : Entry → Bool) (hs : List Held) → AllByRecursion P hs → ((h : Held) → P h → p h ≡ q (entry_of h)) → entries_of (filter p hs) ≡ filter q (entries_of hs)
 entries_kept P p q [] all same = refl
 entries_kept P p q (h ∷ hs) all same =

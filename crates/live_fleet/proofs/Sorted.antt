@@ -1,4 +1,4 @@
--- That a sort by picture and version gives the order of held versions.
+-- A sort by picture and version gives the order of held versions.
 use Rattle.std.proofs.Common.{◌≡◌, ℕ, ◌+◌, Bool, true, false, cond, ◌==◌, ◌&&◌, ◌||◌, List, get_or, refl, sym, ap, ◌∙◌}
 use Rattle.std.specs.Prelude.{nat_lt}
 use Rattle.std.specs.List.Sorted.{IsSortedBy, IsSortedByKey}

@@ -1,4 +1,4 @@
--- A copy of devices on which nothing is staged is those devices.
+-- If no device has anything staged, the copies equal the devices.
 use Rattle.std.proofs.Common.{◌≡◌, List, [], ◌∷◌, map, refl, sym}
 use Rattle.photo_device.specs.Device.{Kept, unstaged}
 use Rattle.fleet_steps.specs.Between.{AreSettled}

@@ -1,4 +1,4 @@
--- The worked fleets: what computes does so by the definitions alone.
+-- The worked fleets; the definitions alone compute what can be computed.
 use Rattle.std.proofs.Common.{◌≡◌, ◌<◌, ◌≤◌, lit<, eqb, List, [], ◌∷◌, refl, sym, subst, arith}
 use Rattle.std.specs.List.{AllZip}
 use Rattle.photo_filter_text.specs.Tree.{All}
@@ -68,7 +68,7 @@ came = record {
   settled = (refl, (refl, tt));
 }
 
--- what the first device of a fleet holds stands in the log
+-- each version that the first device of a fleet holds is in the log
 first_logged : (d : Kept) (ds : List Kept) (ms : List ModelDevice) (log : List Entry) (e : Entry) → In e (entries_of d.store) → AllZip Shows (d ∷ ds) ms
     → ((m : ModelDevice) (e : Entry) → In m ms → In e (holds m) → In e log) → In e log
 first_logged d ds [] log e i shown logged = absurd shown

@@ -1,4 +1,4 @@
--- The worked questions: what computes does so by the definitions alone.
+-- The worked questions; the definitions alone compute what can be computed.
 use Rattle.std.proofs.Common.{◌≡◌, zero, suc, true, false, eqb, [], ◌∷◌, refl, sym, arith}
 use Rattle.std.proofs.lemmas.Bool.{false≢true}
 use Rattle.std.specs.List.Sorted.{IsSortedBy}

@@ -1,4 +1,4 @@
--- Answers as the values that a fleet's methods give.
+-- Converts answers into the values that a fleet's methods give.
 use Rattle.std.specs.Prelude.{ℕ, Option, Some, None}
 use Rattle.photo_version.specs.Version.{Version}
 use Rattle.photo_model.specs.declared.place.Place.{Place}
@@ -6,7 +6,7 @@ use Rattle.photo_model.specs.declared.counts.PullCounts.{PullCounts}
 use Rattle.fleet_model.specs.Answers.{RightAnswer, Made, NotHeld, NotNarrower, Narrowed, Refiltered, Pulled, Preview, Listed, Conflicts, Knows}
 use Rattle.photo_script.specs.Reports.{Plain, Answer, KnowledgeOf}
 
--- the version that an answer tells to have been made, and where it went
+-- the version that an answer reports as made, and its place
 abbrev pub made_in : Answer → Option (Version × Place)
 made_in (Plain (Made v place)) = Some (v, place)
 made_in (Plain NotHeld) = None
@@ -20,7 +20,7 @@ made_in (Plain (Conflicts n pictures)) = None
 made_in (KnowledgeOf n fragments) = None
 made_in (Plain (Knows known)) = None
 
--- how many versions left the store by a narrowing
+-- how many versions a narrowing moved out of the store
 abbrev pub narrowed_in : Answer → Option ℕ
 narrowed_in (Plain (Made v place)) = None
 narrowed_in (Plain NotHeld) = None
@@ -34,7 +34,7 @@ narrowed_in (Plain (Conflicts n pictures)) = None
 narrowed_in (KnowledgeOf n fragments) = None
 narrowed_in (Plain (Knows known)) = None
 
--- how many versions are in the store and in the out after a refiltering
+-- how many versions the store and the out have after a refiltering
 abbrev pub refiltered_in : Answer → Option (ℕ × ℕ)
 refiltered_in (Plain (Made v place)) = None
 refiltered_in (Plain NotHeld) = None
@@ -62,12 +62,12 @@ pulled_in (Plain (Conflicts n pictures)) = None
 pulled_in (KnowledgeOf n fragments) = None
 pulled_in (Plain (Knows known)) = None
 
--- the answer to a change, by the version that it made, if any
+-- the answer to a change: the version that was made, or `NotHeld`
 abbrev pub change_answer : Option (Version × Place) → RightAnswer
 change_answer (Some made) = Made made.0 made.1
 change_answer None = NotHeld
 
--- the answer to a narrowing, by how many versions left the store, if it was done
+-- the answer to a narrowing: how many versions left the store, or `NotNarrower`
 abbrev pub narrow_answer : Option ℕ → RightAnswer
 narrow_answer (Some count) = Narrowed count
 narrow_answer None = NotNarrower

@@ -1,5 +1,4 @@
--- No definition, but a tool of the proofs: what a fleet keeps, as the tuple of its parts, by which a proof tells two of
--- them apart.
+-- No definition, but a tool of the proofs: the tuple of a fleet's parts, by which a proof tells two fleets apart.
 use Rattle.std.specs.Prelude.{ℕ, List, refl}
 use Rattle.std.specs.Coded.{Coded, code_by, coded×, coded_ℕ, coded_list}
 use Rattle.photo_device.specs.declared.held.Held.{Held}

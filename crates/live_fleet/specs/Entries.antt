@@ -1,4 +1,4 @@
--- Machinery of the proofs: what a command puts into the log, if it makes a version.
+-- Machinery of the proofs: the entry that a command adds to the log.
 use Rattle.std.specs.Prelude.{Option, Some, None, is_some, List, [], if◌then◌else◌}
 use Rattle.photo_record.specs.declared.record.Record.TheVariants.{Removed}
 use Rattle.photo_model.specs.Entry.{Entry}
@@ -8,7 +8,7 @@ use Rattle.fleet_model.specs.declared.command.Command.TheVariants as command
 use Rattle.photo_script.specs.Reports.{Answer}
 use Rattle.fleet_steps.specs.Issued.{version_told}
 
--- the entry of the version that the command makes on the device, unless it is refused
+-- the entry of the version that the command makes on the device, provided that it isn't refused
 abbrev pub entry_if_made : Command → ModelDevice → Option Entry
 entry_if_made (command.New k picture content) d = Some (new_entry d picture content)
 entry_if_made (command.Edit k picture content) d = Some (new_entry d picture content)
@@ -22,6 +22,6 @@ entry_if_made (command.Conflicts k) d = None
 entry_if_made (command.Knowledge k) d = None
 entry_if_made (command.Knows k picture v) d = None
 
--- those of a list, where the answer tells of a version
+-- the list where the answer reports a version, and the empty list where it doesn't
 abbrev pub if_told : {X : Type 0} → Answer → List X → List X
 if_told answer xs = if is_some (version_told answer) then xs else []

@@ -1,4 +1,4 @@
--- Fleets that are driven by hand, worked.
+-- Worked examples of fleets that are given commands by hand.
 use Rattle.std.specs.Prelude.{◌≡◌, ℕ, true, false, pos, List, [], ◌∷◌, map, Some, None}
 use Rattle.std.specs.List.{list_all}
 use Rattle.photo_record.specs.declared.record.Record.{Record}
@@ -27,22 +27,23 @@ use Rattle.live_fleet.specs.declared.fault.FleetFault.TheVariants.{NoDevice, NoC
 abbrev pub rated : ℕ → Record
 rated rating = Picture rating (pos 19_844) []
 
--- a version of the device at a place
+-- the version with that number of the device at that place
 abbrev pub nth : ℕ → ℕ → Version
 nth place number = version (author place) number
 
--- a pull that takes one version, from a device that keeps all
+-- the counts of a pull that takes one version from a device that keeps everything
 abbrev pub one_taken : PullCounts
 one_taken = record { taken = 1; handed = 0; notices = 0; dropped = 0; learned = true }
 
--- two devices that keep all: the first makes a picture, the second pulls it, both edit it, and the first pulls again
+-- two devices keep everything: the first makes a picture, the second pulls it, both edit it, and the first pulls again
 abbrev pub both_edit : List Command
 both_edit = command.New 0 7 (rated 3) ∷ command.Pull 1 0 ∷ command.Edit 0 7 (rated 4) ∷ command.Edit 1 7 (rated 4) ∷ command.Pull 0 1 ∷ []
 
 abbrev pub edited : ModelFleet
 edited = after_commands (All ∷ All ∷ []) both_edit
 
--- the first device then holds both versions, each made with the first one and without the other; each stands in the log
+-- In the end the first device holds both edits. Each was made with the first version and without the other edit, and each is in
+-- the log.
 pub record EditedOnBoth : Type 0 where
   pub reports : reports_of edited
       ≡ Exactly (Made (nth 0 1) Store) ∷ Exactly (Pulled one_taken) ∷ Exactly (change_answer (Some (nth 0 2, Store)))
@@ -55,8 +56,8 @@ pub record EditedOnBoth : Type 0 where
   pub sound : list_all (is_sound edited.log) edited.devices ≡ true
   pub kept : is_kept edited.log edited.devices ≡ true
 
--- one device removes what it doesn't hold, makes a picture, gets a narrower filter and then one that isn't, makes the
--- picture anew, and removes it
+-- One device removes a picture that it doesn't hold, makes it, gets a narrower filter, and then one that isn't narrower. It
+-- makes the picture again and removes it.
 abbrev pub changes : List Command
 changes =
     command.Remove 0 7 ∷ command.New 0 7 (rated 3) ∷ command.Narrow 0 (Rate AtLeast 4) ∷ command.Narrow 0 (Rate AtLeast 3)
@@ -76,7 +77,8 @@ pub record ChangedByHand : Type 0 where
   pub sound : list_all (is_sound changed.log) changed.devices ≡ true
   pub kept : is_kept changed.log changed.devices ≡ true
 
--- a second device comes after the first one has made a picture, and pulls it: as if it had been there from the beginning
+-- A second device joins after the first one has made a picture, and pulls it. The result is as if it had been there from the
+-- beginning.
 abbrev pub joined_later : ModelFleet
 joined_later = after_command (with_device All (after_commands (All ∷ []) (command.New 0 7 (rated 3) ∷ []))) 2 (command.Pull 1 0)
 
@@ -90,7 +92,7 @@ pub record JoinsLater : Type 0 where
   pub log : map (λ e. e.version) joined_later.log ≡ nth 0 1 ∷ []
   pub sound : list_all (is_sound joined_later.log) joined_later.devices ≡ true
 
--- what a program keeps after one device made a picture, and another did nothing
+-- what a device holds after it made one picture, while another device did nothing
 
 abbrev pub first_held : Held
 first_held = record { picture = 7; version = nth 0 1; made_with = []; content = rated 3 }
@@ -120,7 +122,7 @@ second_device = record {
 abbrev pub with_log : List Held → KeptFleet
 with_log log = record { devices = first_device ∷ second_device ∷ []; log = log; commands = 1 }
 
--- such a fleet comes about, and none whose log lacks what a device holds, or has it twice
+-- A fleet with that log came about by commands. None came about whose log lacks a version that a device holds, or has it twice.
 pub record ComesAboutAsTold : Type 0 where
   pub logged : CameAbout (with_log (first_held ∷ []))
   pub unlogged : CameAbout (with_log []) → ⊥
@@ -129,7 +131,7 @@ pub record ComesAboutAsTold : Type 0 where
 abbrev pub full : KeptFleet
 full = record (with_log []) { commands = 4_294_967_295 }
 
--- which faults are due to commands of a fleet of two devices
+-- the faults that are due to commands of a fleet of two devices
 pub record FaultsAreDueAsTold : Type 0 where
   pub taken : (fault : FleetFault) → IsDueTo (command.Pull 1 0) (with_log []) fault → ⊥
   pub absent : IsDueTo (command.List 2) (with_log []) NoDevice

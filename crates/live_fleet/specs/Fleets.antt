@@ -1,4 +1,4 @@
--- Fleets that commands are given to, one after another.
+-- Fleets that run one command after another.
 use Rattle.std.specs.Prelude.{◌≡◌, ℕ, ◌+◌, ◌≤◌, List, [], ◌∷◌, ◌++◌, length, Some, IfSome}
 use Rattle.std.specs.List.{AllZip, AllByRecursion}
 use Rattle.photo_filter_text.specs.Tree.{Tree}
@@ -16,24 +16,24 @@ use Rattle.fleet_model.specs.Steps.{effect_on}
 use Rattle.fleet_steps.specs.Between.{AreSettled}
 use Rattle.fleet_model.specs.Sound.{IsSoundAndKept}
 
--- what a fleet of the program keeps: its devices in order of declaration, the versions that were made, oldest first, and
--- how many commands have run
+-- what a fleet keeps: its devices in order of declaration, its log of the versions that were made, oldest first, and how many
+-- commands have run
 pub record KeptFleet : Type 0 where
   pub devices : List Kept
   pub log : List Held
   pub commands : ℕ
 
--- a model fleet, as runs of scripts have it
+-- the model fleet of a script's run
 abbrev pub ModelFleet : Type 0
 ModelFleet = Fleet
 
--- the fleet shows the model fleet, but for the reports, which it doesn't keep
+-- the fleet shows the model fleet, except for its reports, which a fleet doesn't keep
 pub record ShowsFleet (f : KeptFleet) (m : ModelFleet) : Type 0 where
   pub devices : AllZip Shows f.devices m.devices
   pub log : entries_of f.log ≡ m.log
 
--- the model fleet after commands in their order, from devices with those filters that have made nothing: what a run of a
--- script gives. The devices' names play no part in it
+-- The model fleet after those commands, from empty devices with those filters. A run of a script gives the same, since names of
+-- devices play no part in it.
 abbrev pub after_commands : List Tree → List Command → ModelFleet
 after_commands filters commands = run (contents [] filters commands)
 
@@ -42,12 +42,12 @@ pub record AreAlike (f g : ModelFleet) : Type 0 where
   pub devices : f.devices ≡ g.devices
   pub log : f.log ≡ g.log
 
--- a run of one command more, whatever number that has, gives what the command makes of the run before it
+-- if a run gets one more command, whatever its number, the new run is that command's effect on the old one
 abbrev pub RunsGrowByCommands : Type 0
 RunsGrowByCommands = (filters : List Tree) (commands : List Command) (number : ℕ) (c : Command) → AreAlike (after_commands filters (commands ++ c ∷ [])) (after_command (after_commands filters commands) number c)
 
--- a fleet to which commands have led, one after another: each works on devices that there are, and says a rating and a day
--- that there are if it says any, and there are no more of them than a device has further epochs. Nothing is staged on any device
+-- Some commands led to this fleet. Each works on devices of the fleet; any rating and day that it gives is in range. At most
+-- 4,294,967,295 commands have run, as many as a device has further epochs, and no device has anything staged.
 pub record CameAbout (f : KeptFleet) : Type 0 where
   pub filters : List Tree
   pub commands : List Command
@@ -58,36 +58,36 @@ pub record CameAbout (f : KeptFleet) : Type 0 where
   pub few : f.commands ≤ 4_294_967_295
   pub settled : AreSettled f.devices
 
--- such a fleet, in which each device is sound, nothing that is current is lost, what is held is logged, and nothing is
--- logged twice
+-- The fleet came about by commands. Each device is sound, no current version is lost, every version held is in the log, and
+-- none is logged twice.
 pub record HasSoundHistory (f : KeptFleet) : Type 0 where
   pub came : CameAbout f
   pub sound : IsSoundAndKept (after_commands came.filters came.commands)
 
--- the command has run: whatever model fleet the old fleet shows, the new one shows what the command makes of that, and one
--- command more has run
+-- The command has run: for any model fleet that the old fleet shows, the new one shows the command's effect on it. The count of
+-- commands has grown by one.
 pub record HasRun (c : Command) (old new : KeptFleet) : Type 0 where
   pub shows : (m : ModelFleet) → ShowsFleet old m → ShowsFleet new (after_command m new.commands c)
   pub count : new.commands ≡ old.commands + 1
 
--- the answer is the right one to the command, where it is given to that fleet
+-- the answer is right for that command on that fleet
 abbrev pub IsAnswerTo : Command → KeptFleet → Answer → Type 0
 IsAnswerTo c old answer = (m : ModelFleet) → ShowsFleet old m → Tells answer (effect_on m.devices c).report
 
--- the answer speaks of none but the fleet's devices, so whatever script names as many has a name for each
+-- the answer names only devices of the fleet, so a script with as many devices has a name for each
 abbrev pub SpeaksOf : KeptFleet → Answer → Type 0
 SpeaksOf f answer = (script : Contents) → length f.devices ≤ length script.names → IsAbout script answer
 
--- the model fleet with one device more behind the others, which has that filter, and has made and holds nothing
+-- the model fleet with one more device at its end, which has that filter and has made and holds nothing
 abbrev pub with_device : Tree → ModelFleet → ModelFleet
 with_device filter m = record m { devices = m.devices ++ opening (author (length m.devices)) filter ∷ [] }
 
--- a device with that filter has come behind the others: whatever model fleet the old fleet shows, the new one shows that
--- with one device more. No command has run
+-- A device with that filter has joined at the end: for any model fleet that the old fleet shows, the new one shows it with that
+-- device added. No command has run.
 pub record HasJoined (filter : Tree) (old new : KeptFleet) : Type 0 where
   pub shows : (m : ModelFleet) → ShowsFleet old m → ShowsFleet new (with_device filter m)
   pub count : new.commands ≡ old.commands
 
--- where a fleet shows the run of the first commands of a script, it shows that of one more after the next one has run
+-- if a fleet shows the run of a script's first n commands and command n + 1 runs on it, it shows the run of the first n + 1
 abbrev pub RunsAlongScripts : Type 0
 RunsAlongScripts = (script : Contents) (n : ℕ) (c : Command) (old new : KeptFleet) → command_of script (n + 1) ≡ Some c → ShowsFleet old (run_in_order script (numbers_to n)) → HasRun c old new → ShowsFleet new (run_in_order script (numbers_to (n + 1)))

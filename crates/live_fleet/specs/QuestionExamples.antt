@@ -1,4 +1,4 @@
--- Devices that are asked, worked.
+-- Worked examples of questions to devices.
 use Rattle.std.specs.Prelude.{◌≡◌, ℕ, not, List, [], ◌∷◌, filter, None}
 use Rattle.photo_record.specs.declared.record.Record.{Record}
 use Rattle.photo_record.specs.declared.record.Record.TheVariants.{Removed}
@@ -13,7 +13,7 @@ use Rattle.live_fleet.specs.Selected.{AreSelected}
 use Rattle.live_fleet.specs.Standing.{holds, knows_of, numbers_of}
 use Rattle.live_fleet.specs.Moving.{are_taken, are_handed}
 
--- a first version of a picture, of the device at a place
+-- the first version of a picture, made by the device at that place
 abbrev pub version_of : ℕ → ℕ → Record → Held
 version_of picture place content = record { picture = picture; version = nth place 1; made_with = []; content = content }
 
@@ -23,7 +23,7 @@ seven = version_of 7 0 (rated 5)
 abbrev pub nine : Held
 nine = version_of 9 1 (rated 2)
 
--- a device that has made so many versions, and knows no others
+-- a device with those parts, on which nothing is staged
 abbrev pub device : ℕ → Tree → ℕ → List Held → List Held → List Fragment → Kept
 device place tree counter store out knowledge = record {
   author = author place;
@@ -35,7 +35,8 @@ device place tree counter store out knowledge = record {
   staged = None;
 }
 
--- one has made picture 7 and keeps it; one has made picture 9, which it isn't to keep; one has made and heard nothing
+-- One device made picture 7 and keeps it. One made picture 9, which its filter doesn't match. One made nothing and knows
+-- nothing.
 
 abbrev pub keeper : Kept
 keeper = device 0 All 1 (seven ∷ []) [] (record { pictures = []; entries = (0, 1) ∷ [] } ∷ [])
@@ -49,15 +50,15 @@ fresh = device 2 All 0 [] [] (record { pictures = []; entries = [] } ∷ [])
 abbrev pub three : List Kept
 three = keeper ∷ picky ∷ fresh ∷ []
 
--- of what stands in a store and in an out a filter selects from both, in order; and nothing that removes a picture
+-- A filter selects from both the store and the out, in order. It never selects a version that removes a picture.
 pub record SelectsOfBoth : Type 0 where
   pub both : AreSelected All (device 0 All 0 (nine ∷ []) (seven ∷ []) []) (seven ∷ nine ∷ [])
   pub higher : AreSelected (Rate AtLeast 4) (device 0 All 0 (nine ∷ []) (seven ∷ []) []) (seven ∷ [])
   pub store_alone : AreSelected All (device 0 All 0 (nine ∷ []) (seven ∷ []) []) (nine ∷ []) → ⊥
   pub removed : AreSelected All (device 0 All 0 (nine ∷ []) (version_of 7 0 Removed ∷ []) []) (nine ∷ [])
 
--- which devices hold a picture, lack it and know of it. The second knows its own first version of every picture, and
--- nothing of picture 7. The third would take picture 7 from the first, and be handed picture 9 by the second
+-- Which devices hold a picture, lack it and know of it. The second knows its own first version of every picture, but nothing of
+-- picture 7. The third would take picture 7 from the first, and the second would hand over picture 9 to it.
 pub record AsksAsTold : Type 0 where
   pub hold_7 : numbers_of (filter (holds 7) three) ≡ 0 ∷ []
   pub hold_9 : numbers_of (filter (holds 9) three) ≡ 1 ∷ []

@@ -8,12 +8,12 @@ use Rattle.item_knowledge.specs.Fragments.{knows}
 use Rattle.photo_device.specs.declared.held.Held.{Held}
 use Rattle.photo_device.specs.Device.{Kept}
 
--- the record says what a picture is, and doesn't remove it
+-- the record describes a picture and doesn't remove it
 abbrev pub is_picture : Record → Bool
 is_picture (Picture rating day words) = true
 is_picture Removed = false
 
--- one of the held versions is of the picture, and doesn't remove it
+-- one of the held versions is a version of the picture and doesn't remove it
 abbrev pub has : ℕ → List Held → Bool
 has picture helds = list_any (λ h. (h.picture == picture) && is_picture h.content) helds
 
@@ -21,8 +21,8 @@ has picture helds = list_any (λ h. (h.picture == picture) && is_picture h.conte
 abbrev pub holds : ℕ → Kept → Bool
 holds picture d = has picture d.store || has picture d.out
 
--- of the versions that were made of the picture, those that remove it among them, the device knows one. That it knows its own
--- versions of every picture says nothing of a picture of which none was made
+-- The device knows one of the versions that were made of the picture; versions that remove it count. Knowing its own versions
+-- of every picture isn't enough: one of this picture must have been made.
 abbrev pub knows_of : List Held → ℕ → Kept → Bool
 knows_of log picture d = list_any (λ h. (h.picture == picture) && knows d.knowledge picture h.version) log
 

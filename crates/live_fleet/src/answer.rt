@@ -1,4 +1,4 @@
-// Reports as the values that a fleet's methods give.
+// Converts reports into the values that a fleet's methods give.
 ghost use Rattle.std.specs.Prelude.{◌≡◌};
 ghost use Rattle.photo_script.specs.Reports.{answer_of};
 ghost use Rattle.live_fleet.specs.Answers.{made_in, narrowed_in, pulled_in, refiltered_in};
@@ -8,7 +8,7 @@ use photo_pull::PullCounts;
 use photo_script::Report;
 use photo_version::Version;
 
-/// The version that a report tells to have been made, and where it went.
+/// The version that a report says was made, and its place.
 pub(crate) fn made_in(report: Report) -> Option<(Version, Place)>
     ensures { result ≡ made_in (answer_of report) }
 {
@@ -18,7 +18,7 @@ pub(crate) fn made_in(report: Report) -> Option<(Version, Place)>
     }
 }
 
-/// How many versions left the store by a narrowing that a report tells of.
+/// How many versions left the store, by the report on a narrowing.
 pub(crate) fn narrowed_in(report: Report) -> Option<u64>
     ensures { result ≡ narrowed_in (answer_of report) }
 {
@@ -28,7 +28,7 @@ pub(crate) fn narrowed_in(report: Report) -> Option<u64>
     }
 }
 
-/// How many versions are in the store and in the out after a refiltering that a report tells of.
+/// How many versions the store and the out have, by the report on a refiltering.
 pub(crate) fn refiltered_in(report: Report) -> Option<(u64, u64)>
     ensures { result ≡ refiltered_in (answer_of report) }
 {
@@ -38,7 +38,7 @@ pub(crate) fn refiltered_in(report: Report) -> Option<(u64, u64)>
     }
 }
 
-/// What the pull moved that a report tells of.
+/// What a pull moved, by its report.
 pub(crate) fn pulled_in(report: Report) -> Option<PullCounts>
     ensures { result ≡ pulled_in (answer_of report) }
 {

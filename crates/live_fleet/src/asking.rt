@@ -1,4 +1,4 @@
-// What a fleet is asked between two of its devices.
+// Questions to a fleet about two of its devices.
 ghost use Rattle.std.specs.Prelude.{◌≡◌, ◌≢◌, ◌<◌, List, length, IfOk};
 ghost use Rattle.std.specs.List.{AllZip};
 ghost use Rattle.photo_model.specs.Device.{ModelDevice};
@@ -11,7 +11,7 @@ use photo_device::Device;
 use photo_pull::{PullCounts, preview};
 use std::alloc::{AllocError, Global};
 
-/// What a pull of the device at one place from the one at another would move. Its only error is want of memory.
+/// Counts what a pull by the target from the source would move. Its only error is want of memory.
 pub(crate) fn preview_between(
     alloc: Global,
     devices: &[Device],

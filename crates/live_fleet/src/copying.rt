@@ -1,11 +1,11 @@
-// Copies of what a fleet keeps.
+// Copies of a fleet's devices and log.
 ghost use Rattle.std.specs.Prelude.{◌≡◌, map, IfOk};
 ghost use Rattle.photo_device.specs.Device.{unstaged};
 
 use photo_device::{Device, Held};
 use std::alloc::{AllocError, Global};
 
-/// The same devices, on none of which anything is staged. Its only error is want of memory.
+/// Copies the devices, without what is staged on them. Its only error is want of memory.
 pub(crate) fn devices_copied(alloc: Global, devices: &[Device]) -> Result<Vec<Device>, AllocError>
     ensures { IfOk result (λ copies. copies.items ≡ map unstaged devices.now) }
 {
@@ -16,7 +16,7 @@ pub(crate) fn devices_copied(alloc: Global, devices: &[Device]) -> Result<Vec<De
     Ok(copies)
 }
 
-/// The same versions. Its only error is want of memory.
+/// Copies the log, with the same versions. Its only error is want of memory.
 pub(crate) fn log_copied(alloc: Global, log: &[Held]) -> Result<Vec<Held>, AllocError>
     ensures { IfOk result (λ copies. copies.items ≡ log.now) }
 {

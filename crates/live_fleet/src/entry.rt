@@ -1,4 +1,4 @@
-// The version that a command is to make.
+// The version that a command would make.
 ghost use Rattle.std.specs.Prelude.{◌≡◌, ◌<◌, ◌∷◌, [], List, length, IfOk};
 ghost use Rattle.std.specs.List.{AllZip};
 ghost use Rattle.std.specs.Option.{option_to_list};
@@ -16,7 +16,7 @@ use photo_script::Command;
 use photo_version::Version;
 use std::alloc::AllocError;
 
-/// The version that a command makes if it is not refused, as the log is to have it. Its only error is want of memory.
+/// The version that a command makes if it isn't refused, as the log records it. Its only error is want of memory.
 pub(crate) fn held_if_made(
     command: &Command,
     devices: &[Device],
@@ -45,7 +45,7 @@ pub(crate) fn held_if_made(
     }
 }
 
-// The next version of one of the devices.
+// The next version of the device at a place.
 fn next_on(
     devices: &[Device],
     place: u16,

@@ -11,13 +11,13 @@ pub enum FleetFault {
     /// Memory was refused.
     #[error("NoMemory")]
     NoMemory,
-    /// A device of the call isn't there, or its two devices are one.
+    /// The call names a device that isn't there, or the same device twice.
     #[error("NoDevice")]
     NoDevice,
-    /// The script has no command of that number, or not as many devices as the fleet.
+    /// The script has no command of that number, or another number of devices than the fleet.
     #[error("NoCommand")]
     NoCommand,
-    /// There is no room for one command more after 4,294,967,295, or for one device more beside 65,536.
+    /// No room is left: 4,294,967,295 commands have run, or there would be more than 65,536 devices.
     #[error("Full")]
     Full,
 }

@@ -1,4 +1,4 @@
-// The fleet: what it is seen as, and its calls.
+// The fleet: how contracts see it, and its calls.
 use crate::answer::{made_in, narrowed_in, pulled_in, refiltered_in};
 use crate::asking::preview_between;
 use crate::copying::{devices_copied, log_copied};
@@ -15,10 +15,10 @@ use photo_version::Version;
 use std::alloc::{AllocError, Global};
 use std::marker::Model;
 
-/// Devices to which commands are given one after another, with the log of the versions that they have made.
+/// Devices that run one command after another, with the log of the versions that they made.
 ///
-/// Contracts see what it keeps, and by [`ShowsFleet`] the model fleet of a run of those commands. Whatever commands were
-/// given, each device is sound and nothing that is current is lost: [`crate::laws::each_fleet_is_sound`].
+/// Contracts see its parts, and by [`ShowsFleet`] the model fleet of a run of those commands. Whatever the commands were, each
+/// device is sound and no current version is lost: [`crate::laws::each_fleet_is_sound`].
 #[derive(Debug, Drop)]
 pub struct Fleet {
     devices: Vec<Device>,
@@ -50,8 +50,8 @@ impl Fleet {
     ghost use Rattle.live_fleet.specs.Answers.{change_answer, narrow_answer};
     ghost use Rattle.live_fleet.specs.Fleets.{CameAbout, HasJoined, HasRun, IsAnswerTo, ShowsFleet, SpeaksOf, after_commands};
 
-    /// A device for each filter, in their order, none of which has made or holds anything. There may be 65,536 of them.
-    /// Its only error is want of memory.
+    /// Makes a device for each filter, in their order; none has made or holds anything. There may be 65,536. Its only error is
+    /// want of memory.
     pub fn new(alloc: Global, filters: &[Filter]) -> Result<Fleet, AllocError>
         requires few { length filters.now ≤ 65_536 }
         ensures fleet { IfOk result (λ fleet. ShowsFleet fleet (after_commands filters.now [])) }
@@ -67,8 +67,8 @@ impl Fleet {
         })
     }
 
-    /// The devices of a script, none of which has made or holds anything. Its commands run by [`Fleet::run_number`]. Its only
-    /// error is want of memory.
+    /// Makes the devices of a script; none has made or holds anything. [`Fleet::run_number`] runs the script's commands. Its
+    /// only error is want of memory.
     pub fn of_script(alloc: Global, script: &Script) -> Result<Fleet, AllocError>
         ensures fleet { IfOk result (λ fleet. ShowsFleet fleet (after_commands script.now.filters [])) }
         ensures long { IfOk result (λ fleet. length fleet.devices ≡ length script.now.names) }
@@ -83,8 +83,8 @@ impl Fleet {
         })
     }
 
-    /// The same fleet, which goes its own way from then on: whatever is tried on it, this one stays as it is. Versions that are
-    /// held are shared, so it takes room for the lists and for what is known. Its only error is want of memory.
+    /// Copies the fleet; what happens to the copy leaves this one unchanged. The copy shares the held versions and needs memory
+    /// for its lists and its knowledge. Its only error is want of memory.
     pub fn try_clone(&self) -> Result<Fleet, AllocError>
         ensures { IfOk result (λ copy. copy ≡ self.now) }
     {
@@ -98,9 +98,9 @@ impl Fleet {
         })
     }
 
-    /// Puts a device with that filter behind the others, which has made and holds nothing. Gives its number, which is how
-    /// many devices there were; there may be 65,536. It isn't counted as a command. Its only error is want of memory, after
-    /// which the fleet is as it was.
+    /// Adds a device with that filter at the end; it has made and holds nothing. Gives its number, which is how many devices
+    /// there were before. There may be 65,536. This doesn't count as a command. Its only error is want of memory, after which
+    /// the fleet is as it was.
     pub fn add(&mut self, filter: &Filter) -> Result<u16, AllocError>
         requires few { length self.old.devices < 65_536 }
         ensures joined { OnOk result (HasJoined filter.now self.old self.new) }
@@ -116,12 +116,12 @@ impl Fleet {
         Ok(number)
     }
 
-    /// Runs one command on the one or two of the devices that it works on, puts the version that it makes behind the log,
-    /// and gives the report. Its only error is want of memory, after which the fleet is as it was.
+    /// Runs one command on the one or two devices that it names, appends the version that it makes to the log, and gives the
+    /// report. Its only error is want of memory, after which the fleet is as it was.
     ///
-    /// [`Fleet::takes`] tells whether the command's devices are there, and [`Fleet::is_full`] whether there is room for
-    /// one command more. `new` may name a picture that has been made: it makes a further version of it. The report speaks of
-    /// the fleet's devices alone, so it has a text for each script that names as many (`photo_script::report_text`).
+    /// [`Fleet::takes`] tells whether the command's devices are there, and [`Fleet::is_full`] whether one more command may run.
+    /// `new` may name a picture that has been made: it makes a further version of it. The report names devices of the fleet
+    /// alone, so each script with as many devices has a text for it (`photo_script::report_text`).
     pub fn run(&mut self, command: &Command) -> Result<Report, AllocError>
         requires within { IsWithin (length self.old.devices) command.now }
         requires room { self.old.commands < 4_294_967_295 }
@@ -140,7 +140,7 @@ impl Fleet {
         Ok(report)
     }
 
-    // Runs one command, and gives it up.
+    // Runs one command that it owns, and frees it.
     fn give(&mut self, command: Command) -> Result<Report, AllocError>
         requires within { IsWithin (length self.old.devices) command }
         requires room { self.old.commands < 4_294_967_295 }
@@ -154,8 +154,8 @@ impl Fleet {
         self.run(&command)
     }
 
-    /// Runs the command of that number, from 1, of a script that has as many devices, as [`Fleet::run`] does. The script has a
-    /// text for the report. Its only error is want of memory, after which the fleet is as it was.
+    /// Runs the command of that number of a script, from 1, as [`Fleet::run`] does. The script has as many devices as the
+    /// fleet, so it has a text for the report. Its only error is want of memory, after which the fleet is as it was.
     pub fn run_number(&mut self, script: &Script, number: u32) -> Result<Report, AllocError>
         requires first { 0 < number }
         requires last { number ≤ length script.now.commands }
@@ -171,8 +171,8 @@ impl Fleet {
         self.run(script.command(number))
     }
 
-    /// A device makes a version of a picture, whether or not there was one, as by `new`. Gives the version and where it
-    /// went. Its only error is want of memory, after which the fleet is as it was.
+    /// Makes a version of a picture on a device, whether or not the picture is new, as `new` does. Gives the version and its
+    /// place. Its only error is want of memory, after which the fleet is as it was.
     pub fn make(
         &mut self,
         device: u16,
@@ -196,8 +196,8 @@ impl Fleet {
         Ok(made_in(report).unwrap())
     }
 
-    /// A device makes a version of a picture of which it holds one. Gives the version and where it went, and `None` where
-    /// it holds none. Its only error is want of memory, after which the fleet is as it was.
+    /// Makes a version of a picture on a device that holds one. Gives the version and its place, or `None` where the device
+    /// holds none. Its only error is want of memory, after which the fleet is as it was.
     pub fn edit(
         &mut self,
         device: u16,
@@ -221,8 +221,8 @@ impl Fleet {
         Ok(made_in(report))
     }
 
-    /// A device makes a version that removes a picture of which it holds one. Gives the version and where it went, and
-    /// `None` where it holds none. Its only error is want of memory, after which the fleet is as it was.
+    /// Makes a version that removes a picture, on a device that holds one. Gives the version and its place, or `None` where the
+    /// device holds none. Its only error is want of memory, after which the fleet is as it was.
     pub fn remove(
         &mut self,
         device: u16,
@@ -240,8 +240,8 @@ impl Fleet {
         Ok(made_in(report))
     }
 
-    /// The target takes and learns from the source, which is another device. Gives what was moved. Its only error is want
-    /// of memory, after which the fleet is as it was.
+    /// The target pulls from the source, which is another device. Gives what the pull moved. Its only error is want of memory,
+    /// after which the fleet is as it was.
     pub fn pull(&mut self, target: u16, source: u16) -> Result<PullCounts, AllocError>
         requires target { target < length self.old.devices }
         requires source { source < length self.old.devices }
@@ -257,9 +257,9 @@ impl Fleet {
         Ok(pulled_in(report).unwrap())
     }
 
-    /// A device gets a filter that its own covers, and what that doesn't match goes from its store to its out. Gives how
-    /// many versions went, and `None` where its own doesn't cover it. Its only error is want of memory, after which the
-    /// fleet is as it was.
+    /// Gives a device a filter that its present one covers; versions that the new one doesn't match go from the store to the
+    /// out. Gives how many went, or `None` where the present filter doesn't cover the new one. Its only error is want of
+    /// memory, after which the fleet is as it was.
     pub fn narrow(&mut self, device: u16, filter: &Filter) -> Result<Option<u64>, AllocError>
         requires within { device < length self.old.devices }
         requires room { self.old.commands < 4_294_967_295 }
@@ -274,8 +274,8 @@ impl Fleet {
         Ok(narrowed_in(report))
     }
 
-    /// A device gets any other filter and begins its next epoch: what it holds is sorted anew into its store and its out, and
-    /// of what it knew it keeps what it holds with its histories. Gives how many versions are in the store and in the out then.
+    /// Gives a device any other filter and begins its next epoch. The device sorts what it holds anew into store and out; of
+    /// what it knew it keeps the versions held and their histories. Gives how many versions the store and the out have then.
     /// Its only error is want of memory, after which the fleet is as it was.
     pub fn refilter(&mut self, device: u16, filter: &Filter) -> Result<(u64, u64), AllocError>
         requires within { device < length self.old.devices }
@@ -291,8 +291,8 @@ impl Fleet {
         Ok(refiltered_in(report).unwrap())
     }
 
-    /// What a pull of the target from the source, which is another device, would move. Nothing changes, and it doesn't count
-    /// as a command that has run. Its only error is want of memory.
+    /// Counts what a pull by the target from the source, which is another device, would move. Nothing changes, and this doesn't
+    /// count as a command. Its only error is want of memory.
     pub fn preview(&self, target: u16, source: u16) -> Result<PullCounts, AllocError>
         requires target { target < length self.now.devices }
         requires source { source < length self.now.devices }
@@ -309,7 +309,7 @@ impl Fleet {
         Ok(counts)
     }
 
-    /// Whether the devices of a command are there, two different ones if it has two.
+    /// Whether the devices of a command are there, and differ if it has two.
     pub fn takes(&self, command: &Command) -> bool
         ensures { IsTrue result ↔ IsWithin (length self.now.devices) command.now }
     {
@@ -322,14 +322,14 @@ impl Fleet {
         }
     }
 
-    /// Whether so many commands have run that there is no room for one more: 4,294,967,295.
+    /// Whether 4,294,967,295 commands have run, after which none may run.
     pub fn is_full(&self) -> bool
         ensures { IsTrue result ↔ (self.now.commands ≡ 4_294_967_295) }
     {
         self.commands == u32::MAX
     }
 
-    /// The devices, in order of declaration. What they hold and know is asked of them.
+    /// The devices, in order of declaration.
     pub fn devices(&self) -> &[Device]
         ensures value { result.now ≡ self.now.devices }
         ensures came { CameAbout self.now }
@@ -337,14 +337,14 @@ impl Fleet {
         self.devices.as_slice()
     }
 
-    /// The versions that were made, oldest first, each as the device held it that made it.
+    /// The versions that were made, oldest first, each as its maker held it.
     pub fn log(&self) -> &[Held]
         ensures { result.now ≡ self.now.log }
     {
         self.log.as_slice()
     }
 
-    /// How many commands have run. Questions count.
+    /// How many commands have run, among them those that ask a question.
     pub fn commands(&self) -> u32
         ensures { result ≡ self.now.commands }
     {

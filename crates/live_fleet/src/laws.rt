@@ -1,4 +1,4 @@
-//! What holds of every fleet, of what one asks of it, and of runs that grow by commands.
+//! Laws of every fleet, of the questions to it, and of runs that grow by commands.
 ghost use Rattle.live_fleet.specs.Examples.{EditedOnBoth, ChangedByHand, JoinsLater, ComesAboutAsTold, FaultsAreDueAsTold};
 ghost use Rattle.live_fleet.specs.Fleets.{HasSoundHistory, RunsAlongScripts, RunsGrowByCommands};
 ghost use Rattle.live_fleet.specs.Laws.{HasNumbers, HoldersKnow};
@@ -6,48 +6,48 @@ ghost use Rattle.live_fleet.specs.QuestionExamples.{SelectsOfBoth, AsksAsTold};
 
 use crate::Fleet;
 
-/// Every fleet shows what a run of some commands gives, each of which works on devices that there are. So each device
-/// stores just what its filter selects of the newest versions that it knows, no version that is current is lost, what a
-/// device holds was made, and no version was made twice.
+/// Every fleet shows the run of some commands, each on devices of the fleet. So each device stores exactly what its filter
+/// selects of the newest versions that it knows. No current version is lost, every version held was made, and none was made
+/// twice.
 pub fn each_fleet_is_sound(fleet: &Fleet)
     ensures { HasSoundHistory fleet.now }
 {
-    // For its fact alone: every fleet came about by commands.
+    // `devices()` is called because its contract says that the fleet came about by commands.
     let _devices = fleet.devices();
 }
 
-/// A run of a script with one command more gives the devices and the log that the command makes of the run before it. So
-/// whoever knows the filters of a fleet and the commands that it was given knows that it shows the run of that script.
+/// A run with one more command gives the devices and the log that this command makes of the run before it. So whoever knows a
+/// fleet's filters and commands knows that the fleet shows the run of that script.
 pub fn runs_grow_by_commands()
     ensures { RunsGrowByCommands }
 {}
 
-/// A fleet of a script to which the script's commands are given by [`Fleet::run_number`], from 1 on, shows after each what a run
-/// of the script shows after it, and so in the end the run.
+/// If a fleet of a script runs the script's commands in order by [`Fleet::run_number`], it shows the script's run so far after
+/// each of them, and the whole run after the last.
 pub fn runs_along_scripts()
     ensures { RunsAlongScripts }
 {}
 
-/// The device at a place of a fleet has the number of that place, whatever epoch it is in: what [`crate::holding`] gives are
-/// places of [`Fleet::devices`].
+/// The device at each place has that place as its number, in every epoch. So what [`crate::holding`] gives are places in
+/// [`Fleet::devices`].
 pub fn each_device_has_its_number(fleet: &Fleet)
     ensures { HasNumbers fleet.now }
 {
-    // For its fact alone: every fleet came about by commands.
+    // `devices()` is called because its contract says that the fleet came about by commands.
     let _devices = fleet.devices();
 }
 
-/// Each device of a fleet that holds a picture knows of it: what [`crate::holding`] gives is among what [`crate::knowing`] gives.
+/// Each device that holds a picture knows of it. So [`crate::knowing`] gives every device that [`crate::holding`] gives.
 pub fn holders_know(fleet: &Fleet)
     ensures { HoldersKnow fleet.now }
 {
-    // For its fact alone: every fleet came about by commands.
+    // `devices()` is called because its contract says that the fleet came about by commands.
     let _devices = fleet.devices();
 }
 
-/// The definitions at some fleets: two devices that edit one picture, a device that is given narrower filters, one that
-/// comes later, which fleets come about, and which faults are due to a command; and at some devices: what a filter selects of
-/// a store and an out, which devices hold a picture and which know of it, and what a pull would move.
+/// Worked examples of the definitions. Fleets: two devices edit one picture, a device gets narrower filters, a device joins
+/// later, which fleets come about, and which faults are due. Devices: what a filter selects from store and out, which devices
+/// hold a picture or know of it, and what a pull would move.
 pub fn examples()
     ensures edited { EditedOnBoth }
     ensures changed { ChangedByHand }

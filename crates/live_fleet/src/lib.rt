@@ -1,7 +1,7 @@
-//! A fleet of devices that one drives and asks: commands are given to it one after another, by hand or from a script. Its
-//! invariant: **every fleet came about by commands** (`CameAbout`), so its devices are sound and nothing that is current is
-//! lost. No question changes anything. A [`Session`] is a fleet whose calls have no condition: **whatever is refused, the
-//! fleet is as it was**, and the answer says why.
+//! A fleet of devices that runs commands one after another, by hand or from a script, and answers questions. Its invariant:
+//! **every fleet came about by commands** (`CameAbout`), so its devices are sound and no current version is lost. No question
+//! changes anything. A [`Session`] is a fleet whose calls have no precondition: **after a refusal the fleet is as it was**, and
+//! the answer says why.
 #![tactic(auto)]
 
 mod answer;

@@ -11,7 +11,7 @@ use photo_filter_rules::Filter;
 use photo_script::Script;
 use std::alloc::{AllocError, Global};
 
-/// A device for each filter, in their order, none of which has made or holds anything. Its only error is want of memory.
+/// Makes a device for each filter, in their order; none has made or holds anything. Its only error is want of memory.
 pub(crate) fn opening_devices(alloc: Global, filters: &[Filter]) -> Result<Vec<Device>, AllocError>
     requires { length filters.now ≤ 65_536 }
     ensures shown { IfOk result (λ devices. AllZip Shows devices.items (opening_from 0 filters.now)) }
@@ -24,8 +24,7 @@ pub(crate) fn opening_devices(alloc: Global, filters: &[Filter]) -> Result<Vec<D
     Ok(devices)
 }
 
-/// The devices of a script in order of declaration, none of which has made or holds anything. Its only error is want of
-/// memory.
+/// Makes the devices of a script in order of declaration; none has made or holds anything. Its only error is want of memory.
 pub(crate) fn devices_of_script(alloc: Global, script: &Script) -> Result<Vec<Device>, AllocError>
     ensures shown { IfOk result (λ devices. AllZip Shows devices.items (opening_from 0 script.now.filters)) }
     ensures settled { IfOk result (λ devices. AreSettled devices.items) }

@@ -1,6 +1,6 @@
-//! What one asks of a fleet: which pictures a device holds that a filter selects, which devices hold a picture or know of it,
-//! which versions a pull would move, and whether all is as it ought to be. No question changes anything, and none has a
-//! condition.
+//! Questions to a fleet: which of a device's pictures a filter selects, which devices hold a picture or know of it, which
+//! versions a pull would move, and whether an audit finds the fleet sound. No question changes anything, and none has a
+//! precondition.
 
 mod auditing;
 mod moving;

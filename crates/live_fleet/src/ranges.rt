@@ -1,4 +1,4 @@
-// That the ratings and days of records are ones that there are, by their types.
+// The types of records bound their ratings and days.
 ghost use Rattle.std.specs.Prelude.{◌≤◌, IfSome};
 ghost use Rattle.photo_record.specs.Limits.{max_rating, IsDay};
 ghost use Rattle.photo_filter_rules.specs.Matching.{IsInRange};
@@ -7,7 +7,7 @@ ghost use Rattle.fleet_model.specs.Contents.{record_of};
 use photo_record::{Day, Rating, Record};
 use photo_script::Command;
 
-/// The record of a command, if it has one, says a rating and a day that there are, if it says any.
+/// If the command has a record, its rating and its day are in range.
 pub(crate) fn command_in_range(command: &Command)
     ensures { IfSome (record_of command.now) IsInRange }
 {
@@ -30,7 +30,7 @@ fn parts_in_range(rating: Rating, day: Day)
     ensures rating { rating ≤ max_rating }
     ensures day { IsDay day }
 {
-    // For their facts alone: a rating and a day are in range.
+    // `value()` and `number()` are called because their contracts bound the rating and the day.
     let _rating = rating.value();
     let _day = day.number();
 }

@@ -1,4 +1,4 @@
-//! A session: what it is seen as, and its calls.
+//! The session: how contracts see it, and its calls.
 ghost use Rattle.std.specs.Prelude.{◌≡◌};
 
 use crate::{Fleet, FleetFault};
@@ -11,9 +11,10 @@ use photo_version::Version;
 use std::alloc::{AllocError, Global};
 use std::marker::Model;
 
-/// A fleet whose calls have no condition. Contracts see the fleet, and say of each call what the fleet's own call says.
+/// A fleet whose calls have no precondition. Contracts see the fleet, and each call promises what the fleet's own call
+/// promises.
 ///
-/// Whatever was refused, the fleet is as it was. `NoDevice`, `NoCommand` and `Full` come exactly where they are due; the only other
+/// After a refusal the fleet is as it was. `NoDevice`, `NoCommand` and `Full` come exactly where they are due; the only other
 /// error is want of memory.
 #[derive(Debug, Drop)]
 pub struct Session {
@@ -43,7 +44,7 @@ impl Session {
     ghost use Rattle.live_fleet.specs.Fleets.{HasJoined, HasRun, IsAnswerTo, ShowsFleet, SpeaksOf, after_commands};
     ghost use Rattle.live_fleet.specs.Faults.{RefusesAsDue, IsDueTo, IsDueToDevices, IsDueToNumber, IsDueToQuestion};
 
-    /// A device for each filter, as [`Fleet::new`] makes them. `Full` comes exactly where there are more than 65,536.
+    /// Makes a device for each filter, as [`Fleet::new`] does. `Full` comes exactly above 65,536 filters.
     pub fn new(alloc: Global, filters: &[Filter]) -> Result<Session, FleetFault>
         ensures fleet { IfOk result (λ session. ShowsFleet session (after_commands filters.now [])) }
         ensures long { IfOk result (λ session. length session.devices ≡ length filters.now) }
@@ -59,7 +60,7 @@ impl Session {
         Ok(Session { fleet })
     }
 
-    /// The devices of a script, as [`Fleet::of_script`] makes them. Its only error is want of memory.
+    /// Makes the devices of a script, as [`Fleet::of_script`] does. Its only error is want of memory.
     pub fn of_script(alloc: Global, script: &Script) -> Result<Session, AllocError>
         ensures fleet { IfOk result (λ session. ShowsFleet session (after_commands script.now.filters [])) }
         ensures long { IfOk result (λ session. length session.devices ≡ length script.now.names) }
@@ -69,7 +70,7 @@ impl Session {
         Ok(Session { fleet })
     }
 
-    /// A session of a fleet, however far that has come.
+    /// A session that continues with a fleet.
     pub fn of_fleet(fleet: Fleet) -> Session
         ensures { result ≡ fleet }
     {
@@ -84,29 +85,29 @@ impl Session {
         Ok(Session { fleet })
     }
 
-    /// The fleet, of which all that is asked without a condition can be asked.
+    /// The fleet, for the questions that have no precondition.
     pub fn fleet(&self) -> &Fleet
         ensures { result.now ≡ self.now }
     {
         &self.fleet
     }
 
-    /// The device of that number, if it is there.
+    /// The device of that number, if there is one.
     pub fn device(&self, number: u16) -> Option<&Device>
         ensures { option_copied result ≡ slice_get self.now.devices number }
     {
         self.fleet.devices().get(usize::from(number))
     }
 
-    /// The fleet alone.
+    /// Gives the fleet and ends the session.
     pub fn into_fleet(self) -> Fleet
         ensures { result ≡ self }
     {
         self.fleet
     }
 
-    /// As [`Fleet::run`]. `NoDevice` comes exactly where [`Fleet::takes`] says no, and `Full` where it says yes and the fleet
-    /// [is full](Fleet::is_full).
+    /// As [`Fleet::run`]. `NoDevice` comes exactly where [`Fleet::takes`] says no. `Full` comes exactly where it says yes and
+    /// the fleet [is full](Fleet::is_full).
     pub fn run(&mut self, command: &Command) -> Result<Report, FleetFault>
         ensures ran { OnOk result (HasRun command.now self.old self.new) }
         ensures report { IfOk result (λ report. IsAnswerTo command.now self.old (answer_of report)) }
@@ -236,7 +237,7 @@ impl Session {
         Ok(sizes)
     }
 
-    /// As [`Fleet::preview`]. It isn't counted, so `Full` doesn't come.
+    /// As [`Fleet::preview`]. A preview isn't counted, so `Full` never comes.
     pub fn preview(&self, target: u16, source: u16) -> Result<PullCounts, FleetFault>
         ensures answer { IfOk result (λ counts. IsAnswerTo (asked.Preview target source) self.now (Plain (Preview counts))) }
         ensures refused { RefusesAsDue (IsDueToQuestion (asked.Preview target source) self.now) result }
@@ -250,7 +251,7 @@ impl Session {
         Ok(counts)
     }
 
-    /// As [`Fleet::add`]. `Full` comes exactly beside 65,536 devices.
+    /// As [`Fleet::add`]. `Full` comes exactly where there are 65,536 devices.
     pub fn add(&mut self, filter: &Filter) -> Result<u16, FleetFault>
         ensures joined { OnOk result (HasJoined filter.now self.old self.new) }
         ensures number { IfOk result (λ number. number ≡ length self.old.devices) }
@@ -268,8 +269,8 @@ impl Session {
         Ok(number)
     }
 
-    /// As [`Fleet::run_number`]. `NoCommand` comes exactly where the script has no command of that number, or not as many devices,
-    /// and `Full` where neither is so and there is no room for one command more.
+    /// As [`Fleet::run_number`]. `NoCommand` comes exactly where the script has no command of that number, or another number of
+    /// devices. `Full` comes exactly where neither holds and no more commands may run.
     pub fn run_number(&mut self, script: &Script, number: u32) -> Result<Report, FleetFault>
         ensures ran { OnOk result (IfSome (command_of script.now number) (λ c. HasRun c self.old self.new)) }
         ensures report { IfOk result (λ report. IfSome (command_of script.now number) (λ c. IsAnswerTo c self.old (answer_of report))) }
@@ -293,7 +294,7 @@ impl Session {
         Ok(report)
     }
 
-    // Whether two devices are there, and differ.
+    // Whether two devices are there and differ.
     fn has_both(&self, target: u16, source: u16) -> bool
         ensures { IsTrue result ↔ IsWithin (length self.now.devices) (Pull target source) }
     {
@@ -301,7 +302,7 @@ impl Session {
         usize::from(target) < count && usize::from(source) < count && source != target
     }
 
-    // Whether a device is there, and there is room for one command more.
+    // Checks that a device is there and that one more command may run.
     fn check(&self, device: u16) -> Result<(), FleetFault>
         ensures there { OnOk result (device < length self.now.devices) }
         ensures room { OnOk result (self.now.commands < 4_294_967_295) }

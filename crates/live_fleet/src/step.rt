@@ -1,4 +1,4 @@
-// One command on the devices of a fleet, with the log.
+// Runs one command on a fleet's devices and its log.
 ghost use Rattle.std.specs.Prelude.{◌≡◌, ◌++◌, ◌<◌, List, length, vec_len, vec_capacity, OnOk, OnErr, IfOk};
 ghost use Rattle.std.specs.List.{AllZip};
 ghost use Rattle.std.specs.Option.{option_to_list};
@@ -17,9 +17,9 @@ use photo_device::{Device, Held};
 use photo_script::{Command, Report};
 use std::alloc::{AllocError, Global};
 
-/// Runs one command on the one or two of the devices that it works on, puts the version that it makes behind the log, and
-/// gives the report. After want of memory the devices and the log are as they were: what the log is to have is made
-/// before the command runs.
+/// Runs one command on the one or two devices that it names, appends the version that it makes to the log, and gives the
+/// report. After want of memory the devices and the log are as they were: the log's entry and its memory are prepared before
+/// the command runs.
 pub(crate) fn run_and_keep(
     alloc: Global,
     command: &Command,
@@ -46,7 +46,7 @@ pub(crate) fn run_and_keep(
     Ok(report)
 }
 
-// Puts a version behind the log where the report tells of one.
+// Appends the version to the log where the report says that one was made.
 fn keep(log: &mut Vec<Held>, report: &Report, held: Option<Held>)
     requires { vec_len log.old < vec_capacity log.old }
     ensures { log.new.items ≡ log.old.items ++ if_told (answer_of report.now) (option_to_list held) }

@@ -1,25 +1,25 @@
-//! The words that the program was called with.
+//! The words with which the program was called.
 ghost use Rattle.std.specs.Prelude.{◌≤◌, length, IfOk, IfSome};
 
 use std::alloc::{AllocError, Global};
 use std::env::{Env, FillError};
 use std::io;
 
-// So many bytes have room at first.
+// The initial capacity of the text, in bytes.
 const ROOM: usize = 256;
 
-/// The words that the program was called with, its name first. An order may have 100,000, and `std::env::args` gives each
-/// a string with room for 256 bytes; so they stand in one text.
+/// The words with which the program was called, its name first. An order may have 100,000 words, and `std::env::args` gives
+/// each a string with a capacity of 256 bytes, so all words share one text.
 #[derive(Drop)]
 pub struct Arguments {
-    // The words, with nothing between them.
+    // The words, without anything between them.
     text: String,
-    // Where each ends.
+    // The index in `text` at which each word ends.
     ends: Vec<usize>,
 }
 
 impl Arguments {
-    /// Reads the words. An error is `OutOfMemory`, or `InvalidData` where together they are not UTF-8.
+    /// Reads the words. The error is `OutOfMemory`, or `InvalidData` where all words together aren't UTF-8.
     pub fn read<E: Env>(env: &E, alloc: Global) -> io::Result<Arguments> {
         let mut bytes = vec![in alloc; 0; ROOM]?;
         let mut ends = Vec::new(alloc);
@@ -38,7 +38,7 @@ impl Arguments {
         }
     }
 
-    /// The words. An error is `OutOfMemory`, or `InvalidData` where one is not UTF-8.
+    /// The words. The error is `OutOfMemory`, or `InvalidData` where a word isn't UTF-8.
     pub fn words(&self, alloc: Global) -> io::Result<Vec<&str>> {
         let mut words = Vec::new(alloc);
         let mut start = 0;
@@ -53,8 +53,8 @@ impl Arguments {
     }
 }
 
-// The bytes of a word come behind the first `start` of `bytes`, which grow until they have room there. Gives where the
-// word ends, or none where there are fewer words.
+// Puts the bytes of word `i` behind the first `start` of `bytes`, which grow until the word fits. Gives where the word ends, or
+// `None` where there are fewer words.
 fn filled<E: Env>(
     env: &E,
     i: usize,

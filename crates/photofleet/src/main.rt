@@ -1,5 +1,5 @@
-//! Runs scripts of a photo collection and prints the reports, or tells which of their commands can run at once. **Its words, files
-//! and outputs are the system's**; what is done with them `photofleet_cli` says.
+//! Runs scripts of a photo collection and prints the reports, or says which commands can run at once. **Its words, files and
+//! outputs are the system's**; `photofleet_cli` does the rest.
 #![tactic(auto)]
 
 mod arguments;
@@ -17,8 +17,7 @@ fn main(rt: HostRuntime) -> ExitCode {
     ExitCode::from(status(&rt, rt))
 }
 
-// The exit status of the program on the words of its command line. Output is gathered before it is written, and workers
-// run in `threads`.
+// The exit status of the program for its command line. Output is buffered, and workers run in `threads`.
 fn status<T: Threads + Wait + Copy + Send + 'static>(rt: &HostRuntime, threads: T) -> u8 {
     let mut err = rt.stderr();
     let given = match Arguments::read(rt, rt.alloc()) {

@@ -1,11 +1,11 @@
-//! The files of the system, and standard input, which is named `-`.
+//! The system's files, and standard input, which is named `-`.
 use photo_script::ScriptFault;
 use photofleet_cli::Opener;
 use std::io::Read;
 use std::rt::{Files, Stdin};
 use std::{fs, io};
 
-/// Opens the files of the system, and standard input, which is named `-`.
+/// Opens the system's files, and standard input, which is named `-`.
 #[derive(Drop)]
 pub struct FileOpener<'a, R: Files> {
     rt: &'a R,
@@ -13,7 +13,7 @@ pub struct FileOpener<'a, R: Files> {
 }
 
 impl<'a, R: Files> FileOpener<'a, R> {
-    /// An opener that asks that runtime for files.
+    /// An opener that takes files from that runtime.
     pub fn new(rt: &'a R, input: Stdin) -> FileOpener<'a, R> {
         FileOpener { rt, input }
     }
@@ -33,7 +33,7 @@ impl<R: Files> Opener for FileOpener<'_, R> {
     }
 }
 
-/// Reads a file of the system, or standard input.
+/// Reads one of the system's files, or standard input.
 #[derive(Drop)]
 pub enum FileSource<F> {
     Opened(F),

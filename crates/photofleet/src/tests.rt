@@ -1,3 +1,3 @@
-//! The program over files and writers in memory.
+//! Tests of the program over files and writers in memory.
 mod memory;
 mod program;

@@ -18,13 +18,13 @@ program_is_free : is_simple_and_free program ≡ true
 unfolding clap_on_literals
 program_is_free = refl
 
--- they refuse them
+-- `clap` refuses the words
 pub refused : (a : App) (words : List Text) (e : Error) → a ≡ program → (is_simple_and_free a ≡ true → HasKind (fault_of a words) e) → kind_of e ≢ OutOfMemory → IsRefusal words (kind_of e)
 refused a words e is fails other =
     let kinds = subst (λ (b : App). HasKind (fault_of b words) e) is (fails (ap is_simple_and_free is ∙ program_is_free)) in
     elim kinds [ inl memory ↦ absurd (other memory) | inr among ↦ inl among ]
 
--- the subcommand that was met, by its name and its rows
+-- the subcommand that `clap` found, by its name and its rows
 pub command_met : {Z : Type 0} (sub : Option (Box SubCommand Z)) (name : Text) (rows : List Row) → Some name ≡ option_map (λ b. (out-SubCommand (box_value b)).name.now) sub
     → Some rows ≡ option_map (λ p. p.1) (subcommand_rows sub) → subcommand_rows sub ≡ Some (name, rows)
 command_met None name rows named given = cc
@@ -33,7 +33,7 @@ command_met (Some b) name rows named given =
     let rows_is : rows_of (found_of (out-SubCommand (box_value b)).matches) ≡ rows = sym (ap (λ (o : Option (List Row)). unwrap_or o rows) given) in
     ap₂ (λ (n : Text) (rs : List Row). Some (n, rs)) name_is rows_is
 
--- a command with a file asks for what it does with it
+-- a command with a file asks for its work on that file
 pub asked_some : (name : Text) (rows : List Row) (file : Text) (work : Option Work) → Some file ≡ first_of (codes "FILE") rows → work ≡ work_in name rows
     → option_map (λ w. (file, w)) work ≡ asked_in (name, rows)
 asked_some name rows file work given is =

@@ -31,7 +31,7 @@ no_number_read word other =
     other (number.0, omega (arith, number.3))) in
     cond-false _ _ _ fails
 
--- what `parse` made of the word
+-- the number that `parse` read from the word
 pub number_parsed : {E : Type 0} (word : Text) (r : Result ℕ E) (n : ℕ) → ParsesUnsigned 32 10 word r → r ≡ Ok n → number_in word ≡ Some n
 number_parsed word (Ok m) n parsed is =
     let same : m ≡ n = ap (λ (r : Result ℕ _). result_unwrap_or r n) is in
@@ -42,15 +42,15 @@ pub no_number_parsed : {E : Type 0} (word : Text) (r : Result ℕ E) (e : E) →
 no_number_parsed word (Ok m) e parsed is = cc
 no_number_parsed word (Err x) e parsed is = no_number_read word parsed
 
--- what stands for a word where there is none
+-- a stand-in where there is no word
 abbrev pub no_word : Bor Text
 no_word = record { ref_ptr = (0, 0); now = [] }
 
--- the numbers so far, and those of the words from place i on, are those of all words
+-- the numbers so far, followed by those of the words from index i on, are the numbers of all words
 abbrev pub AreReadTo : List (Bor Text) → ℕ → List ℕ → Type 0
 AreReadTo words i done = option_map (λ ns. done ++ ns) (numbers_in (texts (drop i words))) ≡ numbers_in (texts words)
 
--- the numbers of the words from place i on
+-- the numbers of the words from index i on
 numbers_left : (words : List (Bor Text)) (i : ℕ) → i < length words
     → numbers_in (texts (drop i words)) ≡ option_and_then (λ m. option_map (λ ns. m ∷ ns) (numbers_in (texts (drop (suc i) words)))) (number_in (get_or words i no_word).now)
 numbers_left words i lt = ap (λ (ws : List (Bor Text)). numbers_in (texts ws)) (drop-cons words i no_word lt)

@@ -1,4 +1,4 @@
--- The worked command lines are computed by `clap`'s definitions.
+-- `clap`'s definitions compute the worked command lines.
 use Rattle.std.proofs.Common.{refl}
 use Rattle.clap.proofs.OnLiterals.{clap_on_literals}
 use Rattle.photofleet_cli.specs.Examples.{WordsAreAsTold, WorkersAreAsked, BatchesAreAsked, OrdersAreAsked}

@@ -28,7 +28,7 @@ no_workers_read word other =
     other ((number.0, omega (arith, number.3)), omega (arith, number.2), number.3)) in
     cond-false _ _ _ fails
 
--- what `get_one` of a number of 16 bits makes of the word that was given, or of none
+-- what `get_one` with a 16-bit number reads from the word that was given, or from none
 module _ {E : Type 0} (Gives : Text → Result ℕ E → Type 0) (parses : (word : Text) (r : Result ℕ E) → Gives word r → ParsesUnsigned 16 10 word r) where
   pub nothing_given : (given : Option Text) → ((word : Text) → given ≡ Some word → ReadsOne Gives word None) → None ≡ option_and_then workers_of given
   nothing_given None reads = refl

@@ -13,35 +13,35 @@ use Rattle.photofleet_cli.specs.declared.words.Job.{Job}
 use Rattle.photofleet_cli.specs.declared.words.Job.TheVariants as job
 use Rattle.photofleet_cli.specs.declared.words.Request.{Request}
 
--- what is done with a script: its run command by command, its run by so many workers, its run in an order, or its plan
+-- what is done with a script: run it command by command, run it by that many workers, run it in an order, or plan it
 pub data Work : Type 0 where
   plain : Work
   run : ℕ → Work
   replay : List ℕ → Work
   batches : Work
 
--- the number that a word writes, where it has at most 32 bits
+-- the number that a word writes, if it fits in 32 bits
 abbrev pub number_in : Text → Option ℕ
 number_in word = if is_unsigned_in 0 4294967295 word then Some (digits_value 10 (without_leading_plus word)) else None
 
--- the numbers that the words write, where each writes one
+-- the numbers that the words write, if each writes one
 abbrev pub numbers_in : List Text → Option (List ℕ)
 numbers_in [] = Some []
 numbers_in (word ∷ more) = option_and_then (λ n. option_map (λ ns. n ∷ ns) (numbers_in more)) (number_in word)
 
--- the order that `replay` was given
+-- the order that `replay` got
 abbrev pub order_in : List Row → Option (List ℕ)
 order_in rows = numbers_in (unwrap_or (all_of (codes "ORDER") rows) [])
 
--- the number of workers that a word writes, where there may be so many
+-- the number of workers that a word writes, if there may be as many
 abbrev pub workers_of : Text → Option ℕ
 workers_of word = if is_unsigned_in 1 max_workers word then Some (digits_value 10 (without_leading_plus word)) else None
 
--- the number of workers that `run` was given
+-- the number of workers that `run` got
 abbrev pub workers_in : List Row → Option ℕ
 workers_in rows = option_and_then workers_of (one_of (codes "workers") rows)
 
--- what the command of that name does, with its arguments
+-- what the command of that name does with a script, with its arguments
 abbrev pub work_in : Text → List Row → Option Work
 work_in name rows =
     if bytes_eq name (codes "plain") then Some plain
@@ -49,7 +49,7 @@ work_in name rows =
     else (if bytes_eq name (codes "replay") then option_map replay (order_in rows)
     else (if bytes_eq name (codes "batches") then Some batches else None)))
 
--- the file that it was given, and what it does with the script
+-- the file that the command got, and what it does with the script
 abbrev pub asked_in : Text × List Row → Option (Text × Work)
 asked_in (name, rows) = option_and_then (λ file. option_map (λ work. (file, work)) (work_in name rows)) (first_of (codes "FILE") rows)
 
@@ -62,7 +62,7 @@ pub record Asks (words : List Text) (file : Text) (work : Work) : Type 0 where
   pub accepted : errors_of words ≡ []
   pub named : asked_of words ≡ Some (file, work)
 
--- the kinds of error by which `clap` says that the words ask for help or for the version
+-- `clap` has these kinds of error for a request for help or for the version
 abbrev pub IsWish : ErrorKind → Type 0
 IsWish k = (k ≡ DisplayHelp) ⊎ (k ≡ DisplayVersion)
 
@@ -70,22 +70,22 @@ IsWish k = (k ≡ DisplayHelp) ⊎ (k ≡ DisplayVersion)
 abbrev pub AsksForHelp : List Text → Type 0
 AsksForHelp words = (k : ErrorKind) × IsWish k × IsAmong k (errors_of words)
 
--- the words may be answered by an error of that kind
+-- `clap` may refuse the words with an error of that kind
 abbrev pub IsRefusal : List Text → ErrorKind → Type 0
 IsRefusal words k = IsAmong k (errors_of words) ⊎ ((k ≡ MissingSubcommand) × ((errors_of words ≡ []) × (asked_of words ≡ None)))
 
--- the words have an error, and it is no wish for help or for the version
+-- the words have an error that isn't a request for help or for the version
 abbrev pub AreRefused : List Text → Type 0
 AreRefused words = (k : ErrorKind) × (IsWish k → ⊥) × IsRefusal words k
 
--- the words ask for some work on a file, and the file's bytes, where they are known, are such for that work
+-- the words ask for some work on a file, and the file's bytes, if they are known, satisfy `IsSuch` for that work
 pub record OfFile (content : List ℕ → Option (List ℕ)) (words : List Text) (IsSuch : Work → List ℕ → Type 0) : Type 0 where
   pub file : Text
   pub work : Work
   pub asked : Asks words file work
   pub bytes : IfSome (content file) (IsSuch work)
 
--- the code's values as the definitions see them
+-- the code's value as a value of the definitions
 abbrev pub work_of : Job → Work
 work_of job.Plain = plain
 work_of (job.Run workers) = run workers

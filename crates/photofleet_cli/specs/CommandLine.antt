@@ -1,4 +1,4 @@
--- The command line of the program, as `clap` sees it, and what `clap` says of words.
+-- The program's command line as `clap` sees it, and the errors that `clap` finds in words.
 use Rattle.std.specs.Prelude.{List, Some, true, pos, codes}
 use Rattle.clap.specs.Words.{App, Rule, Text, Kinds, new_app, new_rule, with_rule, with_subcommand, fault_of}
 use Rattle.clap.specs.Lexer.{usize_max}
@@ -10,7 +10,7 @@ use Rattle.fleet_workers.specs.Limits.{max_workers}
 abbrev pub file_argument : Rule
 file_argument = record (new_rule (codes "FILE")) { required = true; action = Some Set }
 
--- `--workers N`, which is to be there, N being the number of workers
+-- `--workers N`: required, and N is the number of workers
 abbrev pub workers_argument : Rule
 workers_argument = record (new_rule (codes "workers")) {
   long = Some (codes "workers");
@@ -20,7 +20,7 @@ workers_argument = record (new_rule (codes "workers")) {
   parser = Some (Signed (pos 1) (pos max_workers));
 }
 
--- numbers from 1 to 100,000, perhaps none
+-- numbers from 1 to 100,000; there may be none
 abbrev pub order_argument : Rule
 order_argument = record (new_rule (codes "ORDER")) {
   range = Some (record { start_inclusive = 0; end_inclusive = usize_max });
@@ -44,7 +44,7 @@ batches_command = with_rule (new_app (codes "batches")) file_argument
 abbrev pub replay_command : App
 replay_command = with_rule (with_rule (new_app (codes "replay")) file_argument) order_argument
 
--- `photofleet`, of which one command is to be named, and which has a version
+-- `photofleet`, which requires one command and has a version
 abbrev pub bare_program : App
 bare_program =
     let bare = new_app (codes "photofleet") in
@@ -56,6 +56,6 @@ program =
     with_subcommand (with_subcommand (with_subcommand (with_subcommand bare_program plain_command.top) run_command.top)
     batches_command.top) replay_command.top
 
--- the kinds of error that the words may have; none where they are accepted
+-- the kinds of error that the words may have; none where the words are accepted
 abbrev pub errors_of : List Text → Kinds
 errors_of words = fault_of program words

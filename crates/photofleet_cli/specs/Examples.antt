@@ -1,4 +1,4 @@
--- Command lines, worked.
+-- Worked examples of command lines.
 use Rattle.std.specs.Prelude.{◌≡◌, ℕ, List, [], ◌∷◌, codes}
 use Rattle.clap.specs.declared.error.kind.ErrorKind.TheVariants.{DisplayHelp, DisplayVersion, MissingSubcommand, UnknownArgument, InvalidSubcommand, MissingRequiredArgument, ArgumentConflict, ValueValidation}
 use Rattle.photofleet_cli.specs.CommandLine.{errors_of}
@@ -7,7 +7,7 @@ use Rattle.photofleet_cli.specs.Asked.{Asks, plain, run, replay, batches}
 abbrev pub words_of : List (List ℕ) → List (List ℕ)
 words_of more = codes "photofleet" ∷ more
 
--- command lines that ask for a run, for help, and for nothing that the program does
+-- command lines that ask for a run, for help, or for nothing that the program does
 pub record WordsAreAsTold : Type 0 where
   pub run : Asks (words_of (codes "plain" ∷ codes "script" ∷ [])) (codes "script") plain
   pub dashed : Asks (words_of (codes "plain" ∷ codes "--" ∷ codes "--help" ∷ [])) (codes "--help") plain
@@ -22,11 +22,11 @@ pub record WordsAreAsTold : Type 0 where
   pub two_files : errors_of (words_of (codes "plain" ∷ codes "script" ∷ codes "more" ∷ [])) ≡ UnknownArgument ∷ []
   pub flag : errors_of (words_of (codes "plain" ∷ codes "--frob" ∷ codes "script" ∷ [])) ≡ UnknownArgument ∷ []
 
--- the words of a run by workers, whose number is said by that word
+-- the words of a run by workers; the given word says their number
 abbrev pub run_words : List ℕ → List (List ℕ)
 run_words number = words_of (codes "run" ∷ codes "--workers" ∷ number ∷ codes "script" ∷ [])
 
--- command lines that ask for a run by workers: their number is to be said, and is one from 1 to 256
+-- command lines that ask for a run by workers: the number is required and is from 1 to 256
 pub record WorkersAreAsked : Type 0 where
   pub asked : Asks (run_words (codes "4")) (codes "script") (run 4)
   pub least : Asks (run_words (codes "1")) (codes "script") (run 1)
@@ -56,8 +56,8 @@ pub record BatchesAreAsked : Type 0 where
 abbrev pub replay_words : List (List ℕ) → List (List ℕ)
 replay_words order = words_of (codes "replay" ∷ codes "script" ∷ order)
 
--- command lines that ask for a run in an order: its numbers are from 1 to 100,000, in whatever order and as often as it
--- says, perhaps none
+-- command lines that ask for a run in an order: its numbers are from 1 to 100,000, in any order and with repetitions; there may
+-- be none
 pub record OrdersAreAsked : Type 0 where
   pub asked : Asks (replay_words (codes "2" ∷ codes "1" ∷ codes "2" ∷ [])) (codes "script") (replay (2 ∷ 1 ∷ 2 ∷ []))
   pub none : Asks (replay_words []) (codes "script") (replay [])

@@ -1,9 +1,9 @@
-//! What the helps end with, and the version.
+//! The last parts of the help texts, and the version.
 
-/// The version of the program: of its words, its formats and its texts.
+/// The version of the program: of its command line, its formats and its texts.
 pub const VERSION: &str = "1.0.0";
 
-/// The end of the program's help.
+/// The last part of the program's help.
 pub const OVERVIEW: &str =
     "A script declares the devices of a household, each with what it is to keep, and then
 says what happens. Two lines of one:
@@ -26,7 +26,7 @@ Which of its commands can run at once is told by
 and 'photofleet replay FILE ORDER...' runs them in another order, to the same reports. The FILE '-'
 is standard input.";
 
-/// The end of the help of `plain`.
+/// The last part of the help of `plain`.
 pub const PLAIN: &str = "Lines of a script, those of devices first:
   device NAME FILTER              a device, and what it is to keep
   new DEV PIC RATING DATE WORDS   the first version of a picture, made on a device
@@ -64,7 +64,7 @@ Example: a phone's picture comes to a frame that shows good ones.
 
 Written to the file my.script, it is run by 'photofleet plain my.script'.";
 
-/// The end of the help of `run`.
+/// The last part of the help of `run`.
 pub const RUN: &str =
     "Each worker is a thread of its own. The batches, which 'photofleet batches FILE' tells, run one
 after another, and of each batch the commands are dealt to the workers in turn.
@@ -88,7 +88,7 @@ Example: two devices take pictures at once, and then a server collects them.
 
 Written to the file my.script, it is run by 'photofleet run --workers 2 my.script'.";
 
-/// The end of the help of `batches`.
+/// The last part of the help of `batches`.
 pub const BATCHES: &str =
     "A command works on the devices that it names, but for the one in a VERSION. Commands of one
 batch work on no common device, so they can run at once. The batches run one after another.
@@ -119,7 +119,7 @@ Written to the file my.script, it is planned by 'photofleet batches my.script':
       5 batch 2 after 3
       batches 3";
 
-/// The end of the help of `replay`.
+/// The last part of the help of `replay`.
 pub const REPLAY: &str =
     "Commands are numbered from 1, without the device lines. An order is lawful where it has the number
 of each command of the script once, and no other number, and where of two commands that work on a

@@ -1,7 +1,7 @@
 //! Laws of the definitions.
 ghost use Rattle.photofleet_cli.specs.Examples.{BatchesAreAsked, OrdersAreAsked, WordsAreAsTold, WorkersAreAsked};
 
-/// What command lines ask for is as it is told, by `clap`'s definitions alone.
+/// The worked command lines ask for what the examples say, by `clap`'s definitions alone.
 pub fn words()
     ensures run { WordsAreAsTold }
     ensures workers { WorkersAreAsked }

@@ -1,5 +1,5 @@
-//! What the program does, from the words of its command line to its exit status, over any files and writers. Its
-//! invariant: **a status says what was written**, for every opener and writer that tell their bytes.
+//! The program, from the words of its command line to its exit status, over any files and writers. Its invariant: **a status
+//! says what was written**, for every opener and writer that state their bytes.
 #![tactic(auto)]
 
 mod helps;

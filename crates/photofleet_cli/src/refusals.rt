@@ -1,4 +1,4 @@
-//! Answers to command lines that ask for no work: help, the version, and why words are refused.
+//! Answers command lines that ask for no work: with help, the version, or the reason for a refusal.
 ghost use Rattle.std.specs.Prelude.{◌≡◌, ◌≢◌, ◌⊎◌, true};
 ghost use Rattle.std.specs.declared.io.ErrorKind.TheVariants.{OutOfMemory};
 ghost use Rattle.clap.specs.Words.{kind_of};
@@ -14,7 +14,7 @@ use fleet_runner::RunError;
 use std::alloc::{AllocError, Global};
 use std::io::{self, Write};
 
-/// Help or the version is asked for, or the words are refused.
+/// Answers a request for help or for the version, or refuses the words.
 pub fn refused<W: Write, E: Write>(
     alloc: Global,
     refusal: &clap::Error,
@@ -43,7 +43,7 @@ fn shown<W: Write, E: Write>(alloc: Global, wish: &clap::Error, out: &mut W, err
     let Ok(text) = wish.to_string(alloc) else {
         return without_memory(err);
     };
-    // No contract of `clap` says that its help or its version is not empty.
+    // No contract of `clap` says that its help and its version aren't empty.
     let shown = if text.is_empty() {
         OVERVIEW
     } else {
@@ -55,7 +55,7 @@ fn shown<W: Write, E: Write>(alloc: Global, wish: &clap::Error, out: &mut W, err
     DONE
 }
 
-// Tells why the words are refused.
+// Says on `err` why the words are refused.
 fn bad_words<E: Write>(alloc: Global, refusal: &clap::Error, err: &mut E) -> u8
     ensures { (result ≡ 2) ⊎ (result ≡ 4) }
 {
@@ -66,7 +66,7 @@ fn bad_words<E: Write>(alloc: Global, refusal: &clap::Error, err: &mut E) -> u8
     BAD_WORDS
 }
 
-/// Tells why the command line gave no words, and gives the status: a word that is not UTF-8 is refused.
+/// Says on `err` why the command line couldn't be read, and gives the status: a word that isn't UTF-8 is refused.
 pub fn without_words<E: Write>(alloc: Global, why: io::ErrorKind, err: &mut E) -> u8
     ensures status { (result ≡ 2) ⊎ (result ≡ 4) }
     ensures memory { why ≡ OutOfMemory → result ≡ 4 }

@@ -1,4 +1,4 @@
-//! What the program does, from the words to the exit status.
+//! The whole program, from the words to the exit status.
 ghost use Rattle.std.specs.Prelude.{◌≡◌, ◌⊎◌, ℕ, List, true, map, Err, OnOk, IfSome};
 ghost use Rattle.script_reader.specs.declared.fault.ScriptFault as script;
 ghost use Rattle.fleet_steps.specs.declared.fault.RunError.TheVariants.{Script, Write};
@@ -21,18 +21,18 @@ use std::thread::Threads;
 
 /// Does what a command line asks for, and gives the exit status. `words` begins with the program's name.
 ///
-/// - 0: the words asked for help or for the version, and some of it was written to `out`, at least a byte; or they named a
-///   file whose bytes are a script, and all that was asked for was written, and nothing else: what its run prints, also
-///   where it ran by several workers, or in an order that was named, which is then lawful; or its plan.
-/// - 2: the words were refused. Nothing was written to `out`.
-/// - 3: the words named a file that can't be opened or read, or that has no script, or memory was refused while its script
-///   was read. Nothing was written to `out`.
-/// - 4: memory was refused elsewhere, or a worker's thread could not be started, or the order isn't lawful. Nothing was
+/// - 0: The words asked for help or for the version, and at least one byte of it was written to `out`. Or they named a file
+///   whose bytes are a script, and exactly what they asked for was written: what its run prints, also for a run by several
+///   workers or in a given order, which is then lawful; or its plan.
+/// - 2: The words were refused. Nothing was written to `out`.
+/// - 3: The words named a file that can't be opened or read, or whose bytes are no script, or memory was refused while its
+///   script was read. Nothing was written to `out`.
+/// - 4: Memory was refused elsewhere, or a worker's thread couldn't be started, or the order isn't lawful. Nothing was
 ///   written to `out`, or the whole texts of some first reports, or a front of the plan's text.
-/// - 5: a write failed. A front of what was asked for was written, or of help or the version.
+/// - 5: A write failed. A front of what was asked for was written, or of help or the version.
 ///
-/// What went wrong is told to `err`; a failed write to `err` changes no status. Which words ask for help, are refused
-/// or name a file is as `clap` says of the program's command line.
+/// `err` gets the reason of a failure; a failed write to `err` changes no status. `clap`'s contracts for the program's command
+/// line say which words ask for help, are refused or name a file.
 pub fn serve<S: AsStr, O: Opener, W: Write, E: Write, T: Threads + Wait + Copy + Send + 'static>(
     rt: T,
     alloc: Global,
@@ -62,7 +62,7 @@ pub fn serve<S: AsStr, O: Opener, W: Write, E: Write, T: Threads + Wait + Copy +
     }
 }
 
-// Does what was asked for, and writes what comes of it. An order is taken out of the request.
+// Does what the command line asks for, and writes the result. It takes an order out of the request.
 fn perform<O: Opener, W: Write, T: Threads + Wait + Copy + Send + 'static>(
     rt: T,
     alloc: Global,

@@ -9,14 +9,14 @@ use std::io::Write;
 pub const DONE: u8 = 0;
 /// The words of the command line were refused.
 pub const BAD_WORDS: u8 = 2;
-// The file can't be read, or has no script.
+// The file can't be read, or its bytes are no script.
 const BAD_SCRIPT: u8 = 3;
 // There was no run: memory or a thread was refused, or the order isn't lawful.
 const NO_RUN: u8 = 4;
-// The output could not be written.
+// The output couldn't be written.
 const BAD_OUTPUT: u8 = 5;
 
-/// The status of a run, whose error is told.
+/// The exit status of a run; an error is reported on `err`.
 pub fn status_of<E: Write>(done: Result<(), RunError>, err: &mut E) -> u8
     ensures { result ≡ status_of done }
 {
@@ -37,7 +37,7 @@ pub fn status_of<E: Write>(done: Result<(), RunError>, err: &mut E) -> u8
     }
 }
 
-/// Tells that memory was refused before anything was done, and gives the status.
+/// Reports that memory was refused before anything was done, and gives the status.
 pub fn without_memory<E: Write>(err: &mut E) -> u8
     ensures { result ≡ 4 }
 {

@@ -1,4 +1,4 @@
-//! A run by workers, from a reader's bytes to what is printed.
+//! Streams a run by workers, from a reader's bytes to what it prints.
 ghost use Rattle.std.specs.Prelude.{◌≡◌, ◌⊎◌, OnOk, IfErr, IfSome, Err};
 ghost use Rattle.script_reader.specs.declared.fault.ScriptFault.{ScriptFault};
 ghost use Rattle.fleet_steps.specs.declared.fault.RunError.TheVariants.{NoMemory, NoWorker, Script, Write};
@@ -14,8 +14,8 @@ use std::thread::Threads;
 
 /// Reads a script, runs it by several workers, each in a thread of its own, and then writes its reports.
 ///
-/// After a `Script` fault and after `NoWorker` nothing is written. `NoMemory` leaves the whole texts of some first reports,
-/// perhaps of none, and `Write` a front of all texts.
+/// After a `Script` fault and after `NoWorker` nothing is written. After `NoMemory` the whole texts of some first reports are
+/// written, perhaps of none, and after `Write` a front of all texts.
 pub fn workers_stream<R: Read, W: Write, T: Threads + Wait + Copy + Send + 'static>(
     rt: T,
     alloc: Global,

@@ -23,17 +23,17 @@ pub struct Request<'a> {
 /// What is done with a script.
 #[derive(Drop)]
 pub enum Job {
-    /// Its run command by command.
+    /// Runs it command by command.
     Plain,
-    /// Its run by so many workers.
+    /// Runs it by that many workers.
     Run(Workers),
-    /// Its run in that order.
+    /// Runs it in that order.
     Replay(Vec<u32>),
-    /// Its plan.
+    /// Plans it.
     Batches,
 }
 
-/// What the words ask for, which begin with the program's name, or why they are refused.
+/// What the words, which begin with the program's name, ask for, or why they are refused.
 pub fn request_of<'a, S: AsStr>(alloc: Global, words: &'a [S]) -> Result<Request<'a>, clap::Error>
     ensures asked { IfOk result (AsksRequest (map S.text words.now)) }
     ensures refusal { IfErr result (λ e. kind_of e ≢ ErrorKind.OutOfMemory → IsRefusal (map S.text words.now) (kind_of e)) }
@@ -42,7 +42,7 @@ pub fn request_of<'a, S: AsStr>(alloc: Global, words: &'a [S]) -> Result<Request
     asked(alloc, &mut command, words)
 }
 
-// What the words ask of the program's command line.
+// What the words ask for, by the program's command line.
 fn asked<'a, S: AsStr>(
     alloc: Global,
     command: &mut Command<'a>,
@@ -59,7 +59,7 @@ fn asked<'a, S: AsStr>(
     }
 }
 
-// What was found on the command line.
+// What the matches of the command line ask for.
 fn request_in<'a>(
     alloc: Global,
     matches: &ArgMatches<'a>,
@@ -94,14 +94,14 @@ fn job_in(alloc: Global, name: &str, given: &ArgMatches<'_>) -> Result<Option<Jo
     }
 }
 
-// How many workers are to run.
+// The number of workers that `run` got.
 fn workers_in(given: &ArgMatches<'_>) -> Option<Workers>
     ensures { result ≡ workers_in (rows_of (found_of given.now)) }
 {
     Workers::new(given.get_one::<u16>("workers")?)
 }
 
-// The numbers of an order, perhaps none.
+// The numbers of the order that `replay` got; there may be none.
 fn order_in(alloc: Global, given: &ArgMatches<'_>) -> Result<Option<Vec<u32>>, AllocError>
     ensures { IfOk result (λ order. option_map (λ numbers. numbers.items) order ≡ order_in (rows_of (found_of given.now))) }
 {
@@ -111,7 +111,7 @@ fn order_in(alloc: Global, given: &ArgMatches<'_>) -> Result<Option<Vec<u32>>, A
     }
 }
 
-// The numbers that words write, where each writes one.
+// The numbers that the words write, if each writes one.
 fn numbers_in(alloc: Global, words: &[&str]) -> Result<Option<Vec<u32>>, AllocError>
     ensures { IfOk result (λ order. option_map (λ numbers. numbers.items) order ≡ numbers_in (texts words.now)) }
 {
@@ -206,7 +206,7 @@ fn file_argument<'a>(alloc: Global) -> Arg<'a>
         .action(ArgAction::Set)
 }
 
-// Its numbers are read as the values of one use: a use for each would cost more.
+// The order is one argument with many values, since an occurrence for each number would cost more.
 fn order_argument<'a>(alloc: Global) -> Arg<'a>
     ensures rule { rule_of result ≡ order_argument }
     ensures own { result.global ≡ false }

@@ -1,28 +1,28 @@
-//! What is told of a line's fault beside its name: where it is, what may stand there, what is known of it, and a mend.
+//! What is reported of a line's fault beside its name: where it is, what may stand there, its cause, and a mend.
 use crate::lines::{Line, Span};
 use crate::odd::odd_in;
 use std::alloc::AllocError;
 
-/// What is told of a line's fault.
+/// The report on a line's fault.
 #[derive(Clone, Copy)]
 pub struct Cause<'a> {
-    /// The part of the line that the fault is at.
+    /// The part of the line that has the fault.
     pub span: Span,
     /// What may stand there.
     pub expected: &'static str,
-    /// What is known of the cause.
+    /// What is known about the cause.
     pub known: Known<'a>,
-    /// How the line is mended.
+    /// How to mend the line.
     pub mend: &'static str,
 }
 
 impl<'a> Cause<'a> {
-    /// The same; but where its part of the line has a character that is easily overlooked, that is the cause.
+    /// This cause; but if its part of the line has a character that is easily overlooked, that character is the cause.
     pub fn unless_odd(self, line: Line<'a>) -> Cause<'a> {
         self.unless_odd_in(line, self.span)
     }
 
-    /// The same of another part of the line.
+    /// The same for another part of the line.
     pub fn unless_odd_in(self, line: Line<'a>, part: Span) -> Cause<'a> {
         match odd_in(line, part) {
             Some((span, odd)) => Cause {
@@ -36,28 +36,28 @@ impl<'a> Cause<'a> {
     }
 }
 
-/// The mend of a remark that stands behind something else.
+/// The mend for a remark behind something else.
 pub const REMARK: &str = "put the remark on a line of its own, which begins with #";
 
-/// What is known of a fault's cause.
+/// What is known about a fault's cause.
 #[derive(Clone, Copy)]
 pub enum Known<'a> {
     /// Nothing more.
     Nothing,
-    /// What this text says.
+    /// This text.
     Said(&'static str),
     /// A number between two texts.
     Counted(&'static str, usize, &'static str),
-    /// The line has so many fields, and its form another number.
+    /// The line has the first number of fields, and its form has the second.
     Fields(usize, usize),
-    /// This name is near to what stands there.
+    /// A name that is close to the text.
     Near(&'a str),
-    /// The filter's token of that number can't stand there.
+    /// The filter's token of that number, from 1, can't stand there.
     Token(usize, &'a str),
 }
 
 impl Known<'_> {
-    /// Puts a line with what is known behind a text; none where nothing is.
+    /// Appends a line that says what is known; appends nothing where nothing is known.
     pub fn push_to(&self, text: &mut String) -> Result<(), AllocError> {
         match *self {
             Known::Nothing => Ok(()),
@@ -83,7 +83,7 @@ impl Known<'_> {
     }
 }
 
-/// The words that a line may begin with, each with its fields.
+/// The words with which a line may begin, each with the form of its line.
 pub const LINES: &[(&str, &str)] = &[
     ("device", "device NAME FILTER"),
     ("new", "new DEV PIC RATING DATE WORDS"),
@@ -99,7 +99,7 @@ pub const LINES: &[(&str, &str)] = &[
     ("knows", "knows DEV PIC VERSION"),
 ];
 
-/// The fields of a line that begins with a word.
+/// The form of a line that begins with that word.
 pub fn form_of(word: &str) -> &'static str {
     for (name, form) in LINES {
         if *name == word {

@@ -1,4 +1,4 @@
-//! The causes of the faults of a line's fields, but for numbers, words and filters.
+//! The causes of faults in a line's fields, except for numbers, words and filters.
 use crate::cause::{Cause, Known, LINES, REMARK, form_of};
 use crate::lines::{Line, Span, count_fields, earlier, first_command};
 use crate::nearest::Nearest;
@@ -20,7 +20,7 @@ pub fn too_long<'a>(line: Line<'a>) -> Cause<'a> {
     }
 }
 
-/// F5: no line begins with such a word.
+/// F5: no line begins with that word.
 pub fn unknown_command<'a>(alloc: Global, line: Line<'a>) -> Result<Cause<'a>, AllocError> {
     let known = nearest_word(alloc, line.field(0))?;
     let cause = Cause {
@@ -32,7 +32,7 @@ pub fn unknown_command<'a>(alloc: Global, line: Line<'a>) -> Result<Cause<'a>, A
     Ok(cause.unless_odd(line))
 }
 
-// Which word that a line may begin with is near to another.
+// The nearest word with which a line may begin.
 fn nearest_word<'a>(alloc: Global, word: &str) -> Result<Known<'a>, AllocError> {
     let mut nearest = Nearest::new();
     for (name, _) in LINES {
@@ -65,7 +65,7 @@ pub fn wrong_fields<'a>(text: &str, line: Line<'a>) -> Cause<'a> {
     cause.unless_odd_in(line, whole)
 }
 
-// What is too much is one field, or else all that stands behind the last one.
+// If one field is too much, that field is marked, otherwise everything behind the last field of the form.
 fn too_many_fields<'a>(
     text: &str,
     line: Line<'a>,
@@ -91,7 +91,7 @@ fn too_many_fields<'a>(
     }
 }
 
-// The first field that isn't what stands there in the line's form, where the next one is that.
+// The first field that doesn't fit its name in the line's form, provided that the next field fits that name.
 fn stray_field(text: &str, line: Line<'_>, form: &str) -> Option<Span> {
     for (i, name) in form.split(' ').enumerate().skip(1) {
         if !fits(text, line, i, name) {
@@ -106,7 +106,7 @@ fn stray_field(text: &str, line: Line<'_>, form: &str) -> Option<Span> {
     None
 }
 
-// Whether a field of the line is one that has such a name in its form.
+// Whether a field of the line fits that name of a form.
 fn fits(text: &str, line: Line<'_>, i: usize, name: &str) -> bool {
     let field = line.field(i);
     match name {
@@ -119,7 +119,7 @@ fn fits(text: &str, line: Line<'_>, i: usize, name: &str) -> bool {
     }
 }
 
-/// F7: a declared name is none.
+/// F7: a declared name isn't a name.
 pub fn bad_name<'a>(line: Line<'a>) -> Cause<'a> {
     let (known, mend) = name_fault(line.field(1));
     let cause = Cause {
@@ -131,7 +131,7 @@ pub fn bad_name<'a>(line: Line<'a>) -> Cause<'a> {
     cause.unless_odd(line)
 }
 
-// Why a text is no name, and how it is mended.
+// Why a text isn't a name, and how to mend it.
 fn name_fault<'a>(name: &str) -> (Known<'a>, &'static str) {
     let small = "write the name small and without other signs, as attic for Attic";
     let count = name.chars().count();
@@ -168,7 +168,7 @@ pub fn unknown_device<'a>(
     Ok(cause.unless_odd(line))
 }
 
-// Which name that one of the first so many lines declares is near to another.
+// The nearest name that one of the first `lines` lines declares.
 fn nearest_device<'a>(
     alloc: Global,
     text: &'a str,
@@ -185,7 +185,7 @@ fn nearest_device<'a>(
     Ok(nearest.known(name))
 }
 
-// Which name of the line is declared by none above.
+// The name in the line that no earlier line declares.
 fn unknown_span(text: &str, line: Line<'_>) -> Span {
     if earlier(text, line.number, "device", 1, line.field(1)).is_none() {
         return line.span(1);
@@ -196,7 +196,7 @@ fn unknown_span(text: &str, line: Line<'_>) -> Span {
     }
 }
 
-/// F9: the name is declared again.
+/// F9: an earlier line declares the name.
 pub fn repeated_device<'a>(text: &str, line: Line<'a>) -> Cause<'a> {
     let first = earlier(text, line.number, "device", 1, line.field(1));
     Cause {
@@ -207,7 +207,7 @@ pub fn repeated_device<'a>(text: &str, line: Line<'a>) -> Cause<'a> {
     }
 }
 
-/// F10: a device is declared behind a command.
+/// F10: a device is declared after a command.
 pub fn late_device<'a>(text: &str, line: Line<'a>) -> Cause<'a> {
     let first = first_command(text, line.number);
     Cause {
@@ -222,7 +222,7 @@ pub fn late_device<'a>(text: &str, line: Line<'a>) -> Cause<'a> {
     }
 }
 
-/// F12: a rating is none.
+/// F12: a rating isn't one.
 pub fn bad_rating<'a>(line: Line<'a>) -> Cause<'a> {
     let cause = Cause {
         span: line.span(3),
@@ -233,7 +233,7 @@ pub fn bad_rating<'a>(line: Line<'a>) -> Cause<'a> {
     cause.unless_odd(line)
 }
 
-/// Why a text is no rating.
+/// Why a text isn't a rating.
 pub fn rating_fault(text: &str) -> &'static str {
     let mut characters = text.chars();
     match (characters.next(), characters.next()) {
@@ -243,7 +243,7 @@ pub fn rating_fault(text: &str) -> &'static str {
     }
 }
 
-/// F13: a date is none.
+/// F13: a date isn't one.
 pub fn bad_date<'a>(line: Line<'a>) -> Cause<'a> {
     let (known, mend) = date_fault(line.field(4));
     let cause = Cause {
@@ -255,7 +255,7 @@ pub fn bad_date<'a>(line: Line<'a>) -> Cause<'a> {
     cause.unless_odd(line)
 }
 
-/// Why a text is no date, and how it is mended.
+/// Why a text isn't a date, and how to mend it.
 pub fn date_fault(text: &str) -> (&'static str, &'static str) {
     if has_form_of_date(text) {
         (
@@ -270,7 +270,7 @@ pub fn date_fault(text: &str) -> (&'static str, &'static str) {
     }
 }
 
-// Whether a text is four digits, two and two, with - between them.
+// Whether a text is four digits, two and two, with `-` between them.
 fn has_form_of_date(text: &str) -> bool {
     let mut places = 0usize;
     for c in text.chars() {
@@ -310,7 +310,7 @@ pub fn too_many<'a>(line: Line<'a>) -> Cause<'a> {
     }
 }
 
-/// F19: both devices are one.
+/// F19: both devices are the same.
 pub fn same_device<'a>(line: Line<'a>) -> Cause<'a> {
     Cause {
         span: line.span(2),

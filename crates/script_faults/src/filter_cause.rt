@@ -10,7 +10,7 @@ use std::alloc::{AllocError, Global};
 const EXPECTED: &str =
     "a filter: tests joined by and, or and not, with brackets; a test is all, none, rating OP 4, day OP 2026-12-31 or keyword WORD";
 
-/// F15: the text from the third field on is no filter, or one that is too wide.
+/// F15: the text from the third field on isn't a filter, or is a filter that is too wide.
 pub fn bad_filter<'a>(alloc: Global, line: Line<'a>) -> Result<Cause<'a>, AllocError> {
     let whole = line.rest(2);
     let fault = filter_fault(alloc, line.at(whole));
@@ -24,7 +24,7 @@ pub fn bad_filter<'a>(alloc: Global, line: Line<'a>) -> Result<Cause<'a>, AllocE
     Ok(told(span, fault))
 }
 
-// What is told of the filter at a part of its line; where it has no fault it is too wide.
+// The report on the filter in a part of its line; a filter without a fault of its text is too wide.
 fn told(span: Span, fault: Option<FilterFault>) -> Cause<'static> {
     let (known, mend) = match fault {
         Some(FilterFault::EndsEarly) => (
@@ -50,7 +50,7 @@ fn told(span: Span, fault: Option<FilterFault>) -> Cause<'static> {
     }
 }
 
-// Why a text is no filter.
+// Why a text isn't a filter.
 fn filter_fault(alloc: Global, text: &str) -> Option<FilterFault> {
     match read(alloc, text) {
         Ok(_) => None,
@@ -58,7 +58,7 @@ fn filter_fault(alloc: Global, text: &str) -> Option<FilterFault> {
     }
 }
 
-// The filter, which is a part of a line, goes wrong at its token k, counted from 1.
+// The filter, which is a part of a line, has its fault at token k, counted from 1.
 fn unexpected<'a>(
     alloc: Global,
     line: Line<'a>,
@@ -85,7 +85,7 @@ fn unexpected<'a>(
     Ok(cause.unless_odd(line))
 }
 
-// The filter's token k, and what may stand in its place, where what may stand there stands before it.
+// Token k of the filter, and what may stand in its place.
 fn token_at(line: Line<'_>, whole: Span, k: usize) -> (Span, Place) {
     let mut behind = whole;
     let (mut span, mut place) = (line.end(), Place::Test);
@@ -99,7 +99,7 @@ fn token_at(line: Line<'_>, whole: Span, k: usize) -> (Span, Place) {
     (span, place)
 }
 
-// What is told of a token before a text that is a filter by itself.
+// The report on a token in front of a text that is a filter by itself.
 fn before_filter<'a>(word: &str) -> Hint<'a> {
     Hint {
         known: Some(Known::Said("what stands behind it is a filter")),
@@ -111,7 +111,7 @@ fn before_filter<'a>(word: &str) -> Hint<'a> {
     }
 }
 
-// The first token in a part of a line: a bracket, or what stands before the next bracket or space.
+// The first token in a part of a line: a bracket, or the text up to the next bracket or space.
 fn first_token(line: Line<'_>, part: Span) -> Option<Span> {
     let mut open = None;
     for (i, byte) in line.text.bytes().enumerate().take(part.to).skip(part.from) {
@@ -134,7 +134,7 @@ fn first_token(line: Line<'_>, part: Span) -> Option<Span> {
     }
 }
 
-// The first token in the place of a keyword's word that is none.
+// The first token in the place of a keyword's word that isn't a word.
 fn bad_word<'a>(alloc: Global, line: Line<'a>, whole: Span) -> Result<Cause<'a>, AllocError> {
     let mut behind = whole;
     let mut is_word = false;
@@ -174,7 +174,7 @@ fn told_of_word<'a>(span: Span, fault: WordFault) -> Cause<'a> {
     }
 }
 
-// Why a text is no word.
+// Why a text isn't a word.
 fn word_fault(alloc: Global, text: &str) -> Result<Option<WordFault>, AllocError> {
     match Word::read(alloc, text) {
         Ok(_) => Ok(None),

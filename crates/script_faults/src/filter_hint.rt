@@ -1,10 +1,10 @@
-//! How a filter is mended at a token that can't stand there, by what may stand in its place.
+//! How to mend a filter at a token that can't stand there, by what may stand in its place.
 use crate::cause::{Known, REMARK};
 use crate::field_cause::{date_fault, rating_fault};
 use crate::nearest::Nearest;
 use std::alloc::{AllocError, Global};
 
-/// What may stand in a place of a filter.
+/// What may stand at a place in a filter.
 #[derive(Clone, Copy)]
 pub enum Place {
     /// A test, or `not` or a bracket before one.
@@ -20,7 +20,7 @@ pub enum Place {
 }
 
 impl Place {
-    /// The place behind a token that may stand in this one.
+    /// The place after this one, behind a token that may stand here.
     pub fn behind(self, token: &str) -> Place {
         match (self, token) {
             (Place::Test, "rating") => Place::Operator { of_day: false },
@@ -33,7 +33,7 @@ impl Place {
     }
 }
 
-/// What is told of a token: what is known of it, beside that it can't stand there, and how the filter is mended.
+/// The report on a token that can't stand there: what else is known of it, and how to mend the filter.
 #[derive(Clone, Copy)]
 pub struct Hint<'a> {
     pub known: Option<Known<'a>>,
@@ -61,7 +61,7 @@ const WORDS: &[&str] = &[
     "all", "none", "rating", "day", "keyword", "not", "and", "or",
 ];
 
-// What people write for some of them.
+// What people write in place of some of these words.
 const OTHERS: &[(&str, &[&str])] = &[
     (
         "say all in its place",
@@ -82,7 +82,7 @@ const OTHERS: &[(&str, &[&str])] = &[
     ),
 ];
 
-/// What is told of a token that can't stand in such a place.
+/// The report on a token that can't stand at that place.
 pub fn hint_at<'a>(alloc: Global, place: Place, token: &'a str) -> Result<Hint<'a>, AllocError> {
     if token.starts_with('#') {
         return Ok(Hint::mend(REMARK));
@@ -107,7 +107,7 @@ pub fn hint_at<'a>(alloc: Global, place: Place, token: &'a str) -> Result<Hint<'
     }
 }
 
-// A test has to stand there.
+// The hint for a place where a test has to stand.
 fn test_hint<'a>(alloc: Global, token: &'a str) -> Result<Hint<'a>, AllocError> {
     if let Some(mend) = mend_of_test(token) {
         return Ok(Hint::mend(mend));
@@ -147,7 +147,7 @@ fn mend_of_test(token: &str) -> Option<&'static str> {
     mend_of_name(token)
 }
 
-// A word stands there that is none of a filter's.
+// The mend for a word that isn't one of a filter's.
 fn mend_of_name(token: &str) -> Option<&'static str> {
     for (mend, others) in OTHERS {
         if others.contains(&token) {
@@ -166,7 +166,7 @@ fn mend_of_name(token: &str) -> Option<&'static str> {
     None
 }
 
-// Behind a whole test something else stands than `and`, `or` or a bracket that closes what was opened.
+// The mend where something other than `and`, `or` or a closing bracket follows a whole test.
 fn joint_mend(token: &str) -> &'static str {
     match token {
         ")" => "leave this bracket out, or write ( where its part begins",

@@ -1,5 +1,5 @@
-//! What is wrong with a script, told to people: the line, what is wrong in it, what may stand there, and how it is mended. What is
-//! told is found again from the script's text and the fault that its reader gave, by public calls alone.
+//! Explains to people what is wrong with a script: the line, what is wrong in it, what may stand there, and how to mend it. It
+//! finds all this again from the script's text and the fault that the reader gave, by public calls alone.
 #![tactic(auto)]
 
 mod cause;

@@ -1,6 +1,6 @@
-//! A script's text by lines and fields, as the reader of scripts cuts it.
+//! A script's text in lines and fields, as the script reader splits it.
 
-/// A part of a line: from a byte on up to another.
+/// A part of a line: the bytes from `from` up to `to`.
 #[derive(Clone, Copy)]
 pub struct Span {
     pub from: usize,
@@ -15,7 +15,7 @@ pub struct Line<'a> {
 }
 
 impl<'a> Line<'a> {
-    /// What stands between two line feeds, without the one CR that belongs to its end.
+    /// A line from the text between two line feeds, without the one CR that belongs to its end.
     pub fn of(row: &'a str, number: u32) -> Line<'a> {
         Line {
             text: row.strip_suffix('\r').unwrap_or(row),
@@ -28,7 +28,7 @@ impl<'a> Line<'a> {
         self.text.get(span.from..span.to).unwrap_or("")
     }
 
-    /// The place of a field, counted from 0; behind the line's end where there are fewer.
+    /// The part of a field, counted from 0; behind the line's end where there are fewer fields.
     pub fn span(&self, i: usize) -> Span {
         let mut left = i;
         let mut from = 0usize;
@@ -45,7 +45,7 @@ impl<'a> Line<'a> {
         self.end()
     }
 
-    /// A field, counted from 0; empty where there are fewer.
+    /// The text of a field, counted from 0; empty where there are fewer fields.
     pub fn field(&self, i: usize) -> &'a str {
         self.at(self.span(i))
     }
@@ -61,7 +61,7 @@ impl<'a> Line<'a> {
         to
     }
 
-    /// The place behind the last field.
+    /// The part behind the last field.
     pub fn end(&self) -> Span {
         let from = match self.last() {
             0 => 0,
@@ -70,7 +70,7 @@ impl<'a> Line<'a> {
         Span { from, to: from }
     }
 
-    /// From a field on to the end of the last one.
+    /// The part from a field to the end of the last one.
     pub fn rest(&self, i: usize) -> Span {
         let to = self.last();
         Span {
@@ -80,7 +80,7 @@ impl<'a> Line<'a> {
     }
 }
 
-/// How many fields a text has: what stands between spaces.
+/// How many fields a text has; spaces separate them.
 pub fn count_fields(text: &str) -> usize {
     let mut count = 0usize;
     for piece in text.split(' ') {
@@ -91,7 +91,7 @@ pub fn count_fields(text: &str) -> usize {
     count
 }
 
-/// The number of the first line before a line whose first field is a word and another field is a text.
+/// The number of the first line before line `before` whose first field is `word` and whose field `i` is `field`.
 pub fn earlier(text: &str, before: u32, word: &str, i: usize, field: &str) -> Option<u32> {
     let mut number = 0u32;
     for row in text.split('\n') {
@@ -107,7 +107,7 @@ pub fn earlier(text: &str, before: u32, word: &str, i: usize, field: &str) -> Op
     None
 }
 
-/// The number of the first line before a line that has a command.
+/// The number of the first command line before line `before`.
 pub fn first_command(text: &str, before: u32) -> Option<u32> {
     let mut number = 0u32;
     for row in text.split('\n') {

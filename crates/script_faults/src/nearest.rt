@@ -1,9 +1,9 @@
-//! Which of some names is nearest to a word.
+//! The name nearest to a word, out of several names.
 use crate::cause::Known;
 use std::alloc::{AllocError, Global};
 use strsim::levenshtein;
 
-/// The name that is nearest to a word.
+/// The name nearest to a word so far.
 #[derive(Clone, Copy)]
 pub struct Nearest<'a> {
     name: Option<&'a str>,
@@ -11,7 +11,7 @@ pub struct Nearest<'a> {
 }
 
 impl<'a> Nearest<'a> {
-    /// No name was looked at.
+    /// Before any name was tried.
     pub fn new() -> Nearest<'a> {
         Nearest {
             name: None,
@@ -19,7 +19,7 @@ impl<'a> Nearest<'a> {
         }
     }
 
-    /// Looks at one name more.
+    /// Tries one more name.
     pub fn try_name(&mut self, alloc: Global, word: &str, name: &'a str) -> Result<(), AllocError> {
         let distance = levenshtein(alloc, word, name)?;
         if distance < self.distance && distance < word.chars().count() {
@@ -29,7 +29,7 @@ impl<'a> Nearest<'a> {
         Ok(())
     }
 
-    /// What is said of a word that none of the names is.
+    /// What is known of a word that isn't any of the names.
     pub fn known(&self, word: &str) -> Known<'a> {
         match self.name {
             Some(name) if name != word => Known::Near(name),

@@ -1,13 +1,13 @@
-//! The causes of the faults of numbers: of pictures, of versions and of epochs.
+//! The causes of faults in numbers: of pictures, versions and epochs.
 use crate::cause::{Cause, Known};
 use crate::lines::{Line, Span};
 
-// The greatest number of a picture, and that of a version or an epoch.
+// The greatest number of a picture, and the greatest number of a version or an epoch.
 const MOST_PICTURES: u32 = 999_999_999;
 
 const MOST_VERSIONS: u32 = 100_000;
 
-/// F11: a picture's number is none, or a version.
+/// F11: a picture's number isn't one, or a version isn't one.
 pub fn bad_number<'a>(line: Line<'a>) -> Cause<'a> {
     number_cause(line).unless_odd(line)
 }
@@ -24,7 +24,7 @@ fn number_cause<'a>(line: Line<'a>) -> Cause<'a> {
     }
 }
 
-// The fault is in a version: it has no colon, or what is its epoch or its number is none.
+// The fault is in a version: it has no colon, or its epoch or its number isn't one.
 fn version_cause<'a>(line: Line<'a>) -> Cause<'a> {
     let (author, epoch) = author_in(line);
     let whole = line.span(3);
@@ -65,7 +65,7 @@ fn epoch_cause<'a>(span: Span, fault: NumberFault) -> Cause<'a> {
     }
 }
 
-/// In the fourth field, the name of a version's device and what stands between that and the colon.
+/// The device's name in the version of the fourth field, and the text between that name and the colon.
 pub fn author_in(line: Line<'_>) -> (Span, Option<Span>) {
     let Span { from, to } = line.span(3);
     let text = line.at(Span { from, to });
@@ -90,7 +90,7 @@ pub fn is_picture(text: &str) -> bool {
     NumberFault::of(text, MOST_PICTURES).is_none()
 }
 
-// Why a text is no number from 1 to a greatest one.
+// Why a text isn't a number from 1 to a greatest one.
 #[derive(Clone, Copy)]
 enum NumberFault {
     Empty,
@@ -101,7 +101,7 @@ enum NumberFault {
 }
 
 impl NumberFault {
-    // The first of the causes that a text has.
+    // The text's first fault.
     fn of(text: &str, greatest: u32) -> Option<NumberFault> {
         if text.is_empty() {
             return Some(NumberFault::Empty);

@@ -1,12 +1,12 @@
-//! Characters that are easily overlooked: they aren't seen, or are taken for the space that separates fields.
+//! Characters that are easily overlooked: they are invisible, or look like the space that separates fields.
 use crate::lines::{Line, Span};
 
-/// What is told of such a character.
+/// The report on such a character.
 #[derive(Clone, Copy)]
 pub struct Odd {
     /// What it is.
     pub known: &'static str,
-    /// How the line is mended.
+    /// How to mend the line.
     pub mend: &'static str,
 }
 
@@ -14,7 +14,7 @@ const SPACE: &str = "write a space (U+0020) in its place";
 
 const LEAVE_OUT: &str = "leave it out";
 
-/// What is told of a character; nothing of one that is seen as what it is.
+/// The report on a character, or `None` where people see it as it is.
 pub fn odd_of(c: char) -> Option<Odd> {
     let (known, mend) = match c {
         '\t' => ("it is a tab, which is no space", SPACE),

@@ -1,4 +1,4 @@
-//! The text that tells a fault: what is wrong with a script, where, and how it is mended.
+//! The text that explains a fault: what is wrong with a script, where, and how to mend it.
 use crate::cause::Cause;
 use crate::field_cause as causes;
 use crate::filter_cause::bad_filter;
@@ -11,10 +11,10 @@ use std::alloc::{AllocError, Global};
 use std::str::from_utf8;
 use unicode_width::UnicodeWidthStr;
 
-// The most bytes that are shown of a line.
+// At most that many bytes of a line are shown.
 const SHOWN: usize = 1024;
 
-/// The text that tells the fault of a script's bytes, which were read as far as they could be.
+/// The text that explains the fault of a script's bytes, as far as they could be read.
 pub fn fault_view(alloc: Global, bytes: &[u8], fault: ScriptFault) -> Result<String, AllocError> {
     let mut text = String::new(alloc);
     push_fault(alloc, &mut text, bytes, fault)?;
@@ -43,7 +43,7 @@ fn push_fault(
     }
 }
 
-// Where the bytes cease to be UTF-8.
+// Says where the bytes stop being UTF-8.
 fn push_not_utf8(text: &mut String, bytes: &[u8]) -> Result<(), AllocError> {
     let good = match from_utf8(bytes) {
         Ok(_) => bytes.len(),
@@ -103,7 +103,7 @@ fn cause_of<'a>(
     }
 }
 
-// The line, and below it carets under a part.
+// Appends the line, and below it carets under a part of it.
 fn push_marked(
     alloc: Global,
     text: &mut String,
@@ -136,7 +136,7 @@ fn push_carets(
     text.push_str("\n")
 }
 
-// Puts a text behind another as it is shown: characters that are easily overlooked have a mark in their place.
+// Appends a text as it is shown: a mark replaces each character that is easily overlooked.
 fn push_shown(text: &mut String, part: &str) -> Result<(), AllocError> {
     let start = text.len();
     for c in part.chars() {
@@ -148,14 +148,14 @@ fn push_shown(text: &mut String, part: &str) -> Result<(), AllocError> {
     Ok(())
 }
 
-// How many columns a text takes as it is shown.
+// How many columns a text takes when it is shown.
 fn shown_width(alloc: Global, part: &str) -> Result<usize, AllocError> {
     let mut shown = String::new(alloc);
     push_shown(&mut shown, part)?;
     Ok(shown.as_str().width())
 }
 
-// Puts a character behind a text so often.
+// Appends a character `count` times.
 fn push_repeated(text: &mut String, c: char, count: usize) -> Result<(), AllocError> {
     for _ in 0..count {
         text.push(c)?;

@@ -1,4 +1,4 @@
-//! The cause of a fault of a picture's words.
+//! The cause of a fault in a picture's words.
 use crate::cause::{Cause, Known};
 use crate::lines::{Line, Span};
 use photo_record::{Word, WordFault};
@@ -6,13 +6,13 @@ use std::alloc::{AllocError, Global};
 
 const EXPECTED: &str = "- for no words, or at most 16 different words with commas between them";
 
-// The mend of words where no single one is known to be wrong.
+// The mend for words where no single one is known to be wrong.
 const COMMAS: &str = "write the words with commas between them";
 
 // The most words of a picture.
 const MOST_WORDS: usize = 16;
 
-/// F14: the first of the pieces between commas that is no word, or too many, or there before.
+/// F14: the first piece between commas that isn't a word, is one too many, or repeats an earlier one.
 pub fn bad_words<'a>(alloc: Global, line: Line<'a>) -> Result<Cause<'a>, AllocError> {
     let whole = line.span(5);
     let words = line.at(whole);
@@ -49,7 +49,7 @@ fn told<'a>(span: Span, known: &'static str, mend: &'static str) -> Cause<'a> {
     }
 }
 
-// What is wrong with the piece at a place, and how it is mended; nothing where none before it is the same word.
+// What is wrong with the piece at a place, and how to mend it; `None` where it is a word that no earlier piece repeats.
 fn piece_fault(
     alloc: Global,
     words: &str,
@@ -66,7 +66,7 @@ fn piece_fault(
     }
 }
 
-// What is wrong with the word at a place if one of the pieces before it reads as the same word.
+// The fault of the piece at a place if an earlier piece reads as the same word.
 fn repetition(
     alloc: Global,
     words: &str,
@@ -89,7 +89,7 @@ fn reads_as(alloc: Global, piece: &str, word: &Word) -> Result<bool, AllocError>
     }
 }
 
-/// What is known of a word that is none, and how it is mended.
+/// What is known of a text that isn't a word, and how to mend it.
 pub fn of_word(fault: WordFault) -> (&'static str, &'static str) {
     match fault {
         WordFault::Empty => (

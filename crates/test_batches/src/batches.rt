@@ -1,22 +1,22 @@
-//! Plans and orders of small scripts.
+//! Tests of plans and orders of small scripts.
 use photo_batcher::{Plan, lawful, plan};
 use photo_script::{Script, read_script};
 use std::alloc::Global;
 
-// Two devices make a picture each. Each is pulled by another, and then by a third.
+// Two devices make a picture each. A second device pulls each picture, and then a third.
 const FOUR_DEVICES: &str =
     "device a all\ndevice b all\ndevice c all\ndevice d all\nnew a 1 5 2024-01-01 -\nnew c 2 4 2024-01-01 -\npull b a\npull d c\npull c b\nlist a\npull d a\n";
 
-// A device that a version is named by is none of its command's.
+// The device in a version's name isn't one of the command's devices.
 const NAMED: &str = "device a all\ndevice b all\nknows a 7 b:1\nnew b 7 5 2024-01-01 -\n";
 
-// What is asked of a plan, with the right answer.
+// A question about a plan, with the right answer.
 enum Asked {
-    // The batch of each command, and what it goes after or 0.
+    // The batch of each command, and the command that it goes after, or 0.
     Places(&'static [(u32, u32)]),
     // The commands of each batch.
     Members(&'static [&'static [u32]]),
-    // The longest chain that a command ends.
+    // The longest chain that ends with a command.
     Chain(u32, &'static [u32]),
 }
 
@@ -29,7 +29,7 @@ const PLANS: &[(&str, Asked)] = &[
         FOUR_DEVICES,
         Asked::Members(&[&[1, 2], &[3, 4], &[5, 6], &[7]]),
     ),
-    // chains go back to the later of two
+    // a chain goes back to the later of two commands
     (FOUR_DEVICES, Asked::Chain(7, &[1, 3, 6, 7])),
     (FOUR_DEVICES, Asked::Chain(5, &[2, 4, 5])),
     (FOUR_DEVICES, Asked::Chain(2, &[2])),

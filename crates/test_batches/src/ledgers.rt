@@ -1,4 +1,4 @@
-// Two shares that count, on one thread and on two.
+// Tests of two shares that count, on one thread and on two.
 ghost use Rattle.std.specs.Prelude.{◌≡◌, ◌<◌};
 ghost use Rattle.work_ledger.specs.Stakes.{none_left, stake, tally, totals};
 
@@ -47,7 +47,8 @@ const ALL: Totals = Totals {
     moved: 5,
 };
 
-// Each share has what it was given. The first one counts a change, which the second is shown; the second counts a pull; the first takes it in and closes.
+// Each share has what it was given. The first counts a change, which the second sees; the second counts a pull; the first takes
+// the second in and closes.
 fn is_counted<B: Books, R: Wait>(rt: &R, alloc: Global, blanks: Blanks) -> bool
     requires names { blanks ≡ B.names }
     requires tally { B.tally ≡ tally 1 1 0 }
@@ -73,10 +74,10 @@ fn two_shares(rt: HostRuntime) {
     assert!(rt; is_counted::<Brand, HostRuntime>(&rt, rt.alloc(), Blanks::new()));
 }
 
-// The most glances until a change shows in the book.
+// At most that many glances are made until a change is in the book.
 const MOST_GLANCES: u32 = 1_000_000;
 
-// Looks at the book until a change shows, and then counts a pull.
+// Glances at the book until a change is there, and then counts a pull.
 fn pull<B: Books, R: Wait>(rt: &R, ledger: &Ledger<B>, share: Share<B>) -> (Totals, Share<B>)
     requires { share ≡ stake 1 (tally 0 1 0) (totals 0 0 0 0) }
     ensures { result.1 ≡ stake 1 none_left (totals 0 1 0 5) }
@@ -122,7 +123,7 @@ fn start<B: Books + Send + Sync + 'static, R: Threads + Wait + Copy + Send + 'st
     }
 }
 
-// The same, with the second share on a thread of its own, while the first counts.
+// The same, where the second share is on a thread of its own while the first counts.
 fn is_counted_on_two_threads<
     B: Books + Send + Sync + 'static,
     R: Threads + Wait + Copy + Send + 'static,

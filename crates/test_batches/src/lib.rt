@@ -1,5 +1,5 @@
-//! The tests of what stands on devices and scripts, over the public calls of the crates that have it: the batches of a
-//! script, the ledger in which workers count, and a session, by which a fleet is worked by hand and asked.
+//! The tests of what is built on devices and scripts, over the crates' public calls: the batches of a script, the ledger in
+//! which workers count, and the session, which runs a fleet by hand and answers questions.
 #![tactic(auto)]
 
 #[cfg(test)]

@@ -1,4 +1,5 @@
-//! Sessions, which give each of their calls to a fleet, what a fleet is asked, and the commands of a script by number.
+//! Tests of sessions, which pass each of their calls to a fleet; of questions to a fleet; and of running a script's commands by
+//! number.
 mod asking;
 mod numbers;
 mod working;
@@ -12,17 +13,18 @@ use photo_version::Author;
 use std::alloc::Global;
 use working::{Counts, Made, adds, changes, makes, narrows, pulls, refilters};
 
-// What is done by a session and asked of it, with what comes of it. Devices, pictures and ratings are given by their numbers.
+// What a session does or is asked, with the result. Numbers give devices, pictures and ratings.
 enum Step {
-    // A device makes a version of a picture with a rating.
+    // A device makes a version of a picture with a rating: the result.
     Make(u16, u32, u8, Result<Made, FleetFault>),
-    // It edits a picture to a rating, or removes it where there is none; nothing is made of what isn't held.
+    // A device edits a picture to a rating, or removes it where no rating is given: the version made, or `None` where the
+    // device doesn't hold the picture.
     Change(u16, u32, Option<u8>, Option<Made>),
-    // It narrows to a filter: how many versions go to its out, or that it is refused.
+    // A device narrows to a filter: how many versions go to its out, or `None` where it refuses.
     Narrow(u16, &'static str, Option<u64>),
-    // It gets another filter: how many versions its store and its out have then.
+    // A device gets another filter: how many versions its store and its out then have.
     Refilter(u16, &'static str, (u64, u64)),
-    // A device pulls from another, as a preview has told.
+    // A device pulls from another: the result, which a preview gives before.
     Pull(u16, u16, Result<Counts, FleetFault>),
     // A device joins: its number.
     Add(&'static str, u16),
@@ -36,11 +38,11 @@ enum Step {
     Move(u16, u16, &'static [u32], &'static [u32]),
     // A device has a conflict between the first versions of the first two devices, and no other.
     Conflict(u16),
-    // A copy goes its own way.
+    // A copy changes without changing the session.
     Copy,
     // The epoch of a device.
     Epoch(u16, u32),
-    // How many devices there are, how many commands ran, and how many versions were made.
+    // How many devices there are, how many commands have run, and how many versions were made.
     Has(u16, u32, usize),
 }
 
@@ -134,7 +136,7 @@ fn filter_of(alloc: Global, text: &str) -> Option<Filter> {
     Filter::build(alloc, tree).ok()
 }
 
-// A session of two devices: one that keeps all, and one that keeps ratings of 4 and more.
+// A session of two devices: one keeps everything, one keeps ratings of 4 and more.
 fn two_devices(alloc: Global) -> Option<Session> {
     let filters = [filter_of(alloc, "all")?, filter_of(alloc, "rating >= 4")?];
     Session::new(alloc, &filters).ok()
@@ -147,7 +149,7 @@ fn is_run(alloc: Global, steps: &[Step]) -> bool {
     }
 }
 
-// Whether a session takes those steps one after another, and is audited well after each.
+// Whether a session passes the steps one after another, and an audit after each says yes.
 fn does(alloc: Global, session: &mut Session, steps: &[Step]) -> bool {
     for step in steps {
         if !does_one(alloc, session, step) || audited(alloc, session.fleet()) != Ok(true) {

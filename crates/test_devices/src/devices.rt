@@ -1,4 +1,4 @@
-// Tests of a device: the steps that devices take, and tables of such steps.
+// Tests of a device: tables of steps, and the steps that devices take.
 mod asking;
 mod changing;
 mod filtering;
@@ -10,12 +10,12 @@ mod steps;
 use std::alloc::Global;
 use steps::{Step, does, opened};
 
-// The proof of a function grows with the square of the tables that it names, so each table has a test of its own.
+// Each table has a test of its own, since a function's proof grows with the square of the tables that it names.
 
-/// A name, a new device by its number and its filter's text, and what it does and has.
+/// A name, a new device by its number and its filter's text, and its steps.
 pub type Run = (&'static str, u16, &'static str, &'static [Step]);
 
-/// Whether a new device takes all of those steps.
+/// Whether a new device passes all of the steps.
 pub fn is_run(alloc: Global, (_, author, text, steps): &Run) -> bool {
     match opened(alloc, *author, text) {
         Some(mut device) => does(alloc, &mut device, steps),

@@ -1,4 +1,4 @@
--- What the calls of a device make of the model device that it shows.
+-- What a device's calls make of the model device that it shows.
 use Rattle.std.proofs.Common.{◌≡◌, ℕ, zero, suc, ◌+◌, ◌-◌, ◌≤◌, Bool, true, false, not, cond, eqb, ◌&&◌, ◌||◌, List, [], ◌∷◌, ◌++◌, length, take, refl, sym, ap, ◌∙◌, length-append, arith}
 use Rattle.std.specs.Prelude.{filter, map}
 use Rattle.std.proofs.Math.Seq.{take-append_seam}
@@ -21,17 +21,17 @@ use Rattle.test_list_device.specs.Entries.{entry_of, entries_of}
 use Rattle.test_list_device.proofs.Mapped.{map-filter}
 use Rattle.test_list_device.proofs.Sets.{listed-append, listed_of-append, listed-picked}
 
--- those of a list that pass a test of entries
+-- the elements of a list that pass a test of entries
 pub kept_by : (q : Entry → Bool) (list kept : List ListEntry) (entries : List Entry) → kept ≡ filter (λ e. q (entry_of e)) list → entries_of list ≡ entries → entries_of kept ≡ filter q entries
 kept_by q list kept entries kept_is list_is = ap entries_of kept_is ∙ map-filter entry_of q list ∙ ap (filter q) list_is
 
--- what is known of a picture, in one list
+-- what is known of a picture, in a single list
 pub known_in : (every versions all : List Version) (pairs : List Known) (picture : ℕ) → versions ≡ map (λ k. k.version) (filter (λ k. eqb k.picture picture) pairs) → all ≡ every ++ versions
     → listed all ≡ (λ v. listed every v || listed_of pairs picture v)
 known_in every versions all pairs picture picked all_is =
     ap listed all_is ∙ (λ i v. (listed-append every versions v ∙ ap (λ b. listed every v || b) (ap (λ l. listed l v) picked ∙ listed-picked picture pairs v)) i)
 
--- one version more
+-- the set with one more version
 pub listed_one_more : (every all : List Version) (w : Version) → all ≡ every ++ w ∷ [] → listed all ≡ (λ v. listed every v || same_version w v)
 listed_one_more every all w all_is = ap listed all_is ∙ (λ i v. (listed-append every (w ∷ []) v ∙ one v) i)
   where
@@ -74,21 +74,21 @@ pulls t s tree new store out every of tree_is new_is stored waiting learned lear
   of = learned_of i;
 }
 
--- one list behind another
+-- one list appended to another
 pub two_held : (a b ab : List ListEntry) (xs ys : List Entry) → entries_of a ≡ xs → entries_of b ≡ ys → ab ≡ a ++ b → entries_of ab ≡ xs ++ ys
 two_held a b ab xs ys a_is b_is ab_is = ap entries_of ab_is ∙ map-append entry_of a b ∙ (λ i. a_is i ++ b_is i)
 
 pub counted : (list : List ListEntry) (entries : List Entry) (n : ℕ) → n ≡ length list → entries_of list ≡ entries → n ≡ length entries
 counted list entries n n_is is = n_is ∙ sym (length-map list entry_of) ∙ ap length is
 
--- two of three lists are no more than all
+-- two of three lists are at most as long as all three
 pub in_all : (xs ys zs : List Entry) (all : List ListEntry) (m n : ℕ) → entries_of all ≡ xs ++ ys ++ zs → m ≡ length xs → n ≡ length ys → m + n ≤ length all
 in_all xs ys zs all m n all_is m_is n_is =
     let whole : length all ≡ length (xs ++ ys) + length zs = sym (length-map all entry_of) ∙ ap length all_is ∙ length-append (xs ++ ys) zs in
     let front = length-append xs ys in
     omega arith
 
--- what a target knows after a pull of single pictures
+-- what a target knows of single pictures after a pull
 pub of_then : (b : Bool) (more old heard all : List Known) (news : List Entry) → ((p : ℕ) (v : Version) → listed_of heard p v ≡ (listed_of old p v || tell news p v)) → all ≡ cond b (heard ++ more) heard
     → listed_of all ≡ (λ p v. listed_of old p v || (tell news p v || (b && listed_of more p v)))
 of_then true more old heard all news tells all_is = ap listed_of all_is ∙ (λ i p v. (listed_of-append heard more p v ∙ ap (λ b. b || listed_of more p v) (tells p v) ∙ joined (listed_of old p v) (tell news p v) (listed_of more p v)) i)
@@ -100,7 +100,7 @@ of_then false more old heard all news tells all_is = ap listed_of all_is ∙ (λ
     alone : (a b c : Bool) → (a || b) ≡ (a || (b || (false && c)))
     alone a b c = grind arith
 
--- how many entries were given up
+-- how many entries were dropped
 
 pub record AreGivenUp (q : Entry → Bool) (list kept : List ListEntry) : Type 0 where
   pub fewer : length kept ≤ length list
@@ -113,7 +113,7 @@ given_up q list kept kept_is =
     let rest = sym (length-map kept entry_of) ∙ ap length kept_is in
     record { fewer = omega arith; count = omega arith }
 
--- those in front, without what is only noticed
+-- the entries in front of those that are only noticed
 pub in_front : (told : List ListEntry) (new noticed : List Entry) (n : ℕ) → entries_of told ≡ new ++ noticed → n ≡ length new → entries_of (take n told) ≡ new
 in_front told new noticed n told_is n_is =
     map-take entry_of n told ∙ (λ i. take (n_is i) (told_is i)) ∙ take-append_seam new noticed

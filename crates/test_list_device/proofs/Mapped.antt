@@ -1,4 +1,4 @@
--- Lists that are seen as lists of what their elements stand for.
+-- Lists mapped to what their elements stand for.
 use Rattle.std.proofs.Common.{◌≡◌, ℕ, suc, ◌+◌, ◌≤◌, Bool, true, false, not, cond, ltb, ◌||◌, List, [], ◌∷◌, ◌++◌, length, refl, ap, ◌∙◌, arith}
 use Rattle.std.specs.Prelude.{map, filter, unwrap_or, Some, None}
 use Rattle.std.specs.List.{list_any, prefix_len, position, position_or_len, insert}
@@ -11,7 +11,7 @@ module _ {A B : Type 0} (f : A → B) where
   map-filter q [] = refl
   map-filter q (x ∷ xs) = let rest = map-filter q xs in grind (arith, nat_tests)
 
-  -- what comes behind all that stand before it is at its place
+  -- an element behind all elements that sort before it is at its place
   pub map-insert : (before : B → B → Bool) (x : A) (xs : List A) → map f (insert xs (prefix_len (λ y. before (f y) (f x)) xs) x) ≡ put before (f x) (map f xs)
   map-insert before x [] = refl
   map-insert before x (y ∷ ys) =
@@ -20,7 +20,7 @@ module _ {A B : Type 0} (f : A → B) where
         | false ↦ refl
       ]
 
-  -- the same, at a place that is said to be so far behind
+  -- the same, at an index given by an equation
   pub put_at : (before : B → B → Bool) (x : A) (xs ys : List A) (place : ℕ) → place ≡ prefix_len (λ y. before (f y) (f x)) xs → ys ≡ insert xs place x → map f ys ≡ put before (f x) (map f xs)
   put_at before x xs ys place is ys_is = ap (map f) (ys_is ∙ ap (λ n. insert xs n x) is) ∙ map-insert before x xs
 
@@ -28,7 +28,7 @@ module _ {A B : Type 0} (f : A → B) where
   list_any-map q [] = refl
   list_any-map q (x ∷ xs) = ap (λ b. q (f x) || b) (list_any-map q xs)
 
--- a test of two lists, one behind the other
+-- a test of two lists, one appended to the other
 pub any_of_both : {A : Type 0} (q : A → Bool) (xs ys : List A) → list_any q (xs ++ ys) ≡ (list_any q xs || list_any q ys)
 any_of_both q xs ys = list_any-append q xs ys
 
@@ -36,7 +36,7 @@ prefix-within : {A : Type 0} (p : A → Bool) (xs : List A) → prefix_len p xs 
 prefix-within p [] = omega arith
 prefix-within p (x ∷ xs) = let rest = prefix-within p xs in grind (arith, nat_tests)
 
--- the place that a search gives, or the end
+-- the index that a search gives, or the end
 pub placed : {A : Type 0} (p : A → Bool) (xs : List A) (n : ℕ) → n ≡ unwrap_or (position (λ x. not (p x)) xs) (length xs) → n ≡ prefix_len p xs
 placed p xs n n_is =
     let same : position_or_len (λ x. not (p x)) xs ≡ prefix_len p xs = λ i. prefix_len (λ x. twice (p x) i) xs in

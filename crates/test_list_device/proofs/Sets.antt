@@ -1,4 +1,4 @@
--- Lists of versions, and of versions of pictures, as sets.
+-- Lists of versions, and of pictures' versions, as sets.
 use Rattle.std.proofs.Common.{◌≡◌, ℕ, eqb, ◌&&◌, ◌||◌, List, [], ◌∷◌, ◌++◌, refl, arith}
 use Rattle.std.specs.Prelude.{map, filter}
 use Rattle.std.proofs.lemmas.Bool.Decides.{nat_tests}

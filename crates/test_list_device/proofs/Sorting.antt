@@ -1,4 +1,4 @@
--- Entries that come one after another to their places, the last of a list first.
+-- Puts entries at their places one after another, the last of a list first.
 use Rattle.std.proofs.Common.{◌≡◌, Bool, true, false, cond, List, [], ◌∷◌, ◌++◌, refl, sym, ap, ◌∙◌}
 use Rattle.std.specs.Prelude.{filter}
 use Rattle.std.proofs.lemmas.List.Elements.{filter-append}
@@ -15,7 +15,7 @@ append_none : (es : List Entry) → es ++ [] ≡ es
 append_none [] = refl
 append_none (x ∷ es) = ap (λ l. x ∷ l) (append_none es)
 
--- the last one comes to its place where it passes the test, and then those before it
+-- the last entry goes to its place if it passes the test, and then the entries before it do
 pub sorted_last : (q : Entry → Bool) (xs : List Entry) (e : Entry) (list : List Entry) → put_entries (filter q (xs ++ e ∷ [])) list ≡ put_entries (filter q xs) (put_entry_if (q e) e list)
 sorted_last q xs e list = ap (λ es. put_entries es list) (filter-append q xs (e ∷ [])) ∙ by (q e)
   where
@@ -23,7 +23,7 @@ sorted_last q xs e list = ap (λ es. put_entries es list) (filter-append q xs (e
     by true = put_entries-last (filter q xs) e list
     by false = ap (λ es. put_entries es list) (append_none (filter q xs))
 
--- a loop that takes the last one has come one further
+-- one step of a loop that takes the last entry
 pub sorted_step : (q : Entry → Bool) (coming rest : List ListEntry) (e : ListEntry) (before after : List Entry) → coming ≡ rest ++ e ∷ [] → after ≡ put_entry_if (q (entry_of e)) (entry_of e) before
     → put_entries (filter q (entries_of rest)) after ≡ put_entries (filter q (entries_of coming)) before
 sorted_step q coming rest e before after coming_is after_is =

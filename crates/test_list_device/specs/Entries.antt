@@ -1,4 +1,4 @@
--- The entries of the model that lists of entries stand for.
+-- The model's entries that list entries stand for.
 use Rattle.std.specs.Prelude.{List, map}
 use Rattle.photo_model.specs.Entry.{Entry}
 use Rattle.test_list_device.specs.declared.list_entry.ListEntry.{ListEntry}

@@ -1,4 +1,4 @@
--- What a source tells a target of, in the three ways of the model, and how much in each.
+-- What a source tells a target, in the model's three ways, and how much in each.
 use Rattle.std.specs.Prelude.{◌≡◌, length}
 use Rattle.photo_model.specs.Device.{ModelDevice}
 use Rattle.photo_model.specs.Pull.{told, taken, handed, noticed}

@@ -1,4 +1,4 @@
--- The model device that a device of lists shows.
+-- The model device that a list device shows.
 use Rattle.photo_model.specs.Device.{ModelDevice}
 use Rattle.test_list_device.specs.declared.list_device.ListDevice.{ListDevice}
 use Rattle.test_list_device.specs.Sets.{listed, listed_of}

@@ -1,4 +1,4 @@
-// Lists of versions, and of versions of pictures, as sets.
+// Lists of versions, and of pictures' versions, as sets.
 ghost use Rattle.std.specs.Prelude.{◌≡◌, ℕ, ◌||◌, ◌==◌, [], ◌∷◌, map, filter, OnOk, IfOk};
 ghost use Rattle.photo_version.specs.Version as spec;
 ghost use Rattle.photo_model.specs.Telling.{tell};
@@ -10,7 +10,7 @@ use photo_record::PicNo;
 use photo_version::Version;
 use std::alloc::{AllocError, Global};
 
-/// A version that is known of a picture.
+/// A version that a device knows of a picture.
 #[derive(Clone, Copy, Debug)]
 pub struct Known {
     pub picture: PicNo,
@@ -48,7 +48,7 @@ pub(crate) fn versions_of(
         .collect(alloc)
 }
 
-/// A list comes to have what an entry tells of its picture: what it was made with, and itself.
+/// Adds to a list what an entry tells of its picture: the entry's history and its version.
 fn tell_one(pairs: &mut Vec<Known>, entry: &ListEntry) -> Result<(), AllocError>
     ensures { OnOk result ((picture : ℕ) (v : spec.Version) → listed_of pairs.new.items picture v
         ≡ (listed_of pairs.old.items picture v || tell (entry_of entry.now ∷ []) picture v)) }
@@ -67,7 +67,7 @@ fn tell_one(pairs: &mut Vec<Known>, entry: &ListEntry) -> Result<(), AllocError>
     Ok(())
 }
 
-/// A list comes to have all that entries tell.
+/// Adds to a list everything that entries tell.
 pub(crate) fn tell_all(pairs: &mut Vec<Known>, entries: &[ListEntry]) -> Result<(), AllocError>
     ensures { OnOk result ((picture : ℕ) (v : spec.Version) → listed_of pairs.new.items picture v
         ≡ (listed_of pairs.old.items picture v || tell (entries_of entries.now) picture v)) }

@@ -1,6 +1,6 @@
-//! A device of plain lists, which shares nothing and is no product: it shows that the model of a device stands on its own, since
-//! a second implementation, with no code of the first below it, is proved against it. Its invariant: **a device of lists shows a
-//! model device, and each call does to what is shown what the model says**.
+//! A device made of plain lists, which share nothing; it isn't part of the product. It is a second implementation that is
+//! proved against the model without any code of the first one below it, so the model of a device stands on its own. Its
+//! invariant: **a list device shows a model device, and each call does to the model device what the model says**.
 #![tactic(auto)]
 
 mod known;

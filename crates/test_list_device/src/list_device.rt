@@ -1,4 +1,4 @@
-// A device of lists: what it has, and its calls.
+// The list device and its calls.
 ghost use Rattle.std.specs.Prelude.{◌≡◌, ◌<◌, IfOk, OnOk, OnErr};
 ghost use Rattle.std.specs.List.{list_any};
 ghost use Rattle.photo_version.specs.Author.{epoch_of_author};
@@ -18,8 +18,8 @@ use photo_record::{PicNo, Record};
 use photo_version::{Author, Version};
 use std::alloc::{AllocError, Global};
 
-/// A device: who it is, which versions it is to keep, how many it has made, those that it keeps and those that wait for
-/// another device, and which versions it knows: of every picture, and of single ones.
+/// A device: its author, its filter, how many versions it has made, its store, its out, and the versions that it knows of every
+/// picture and of single ones.
 #[derive(Debug, Drop)]
 pub struct ListDevice {
     pub author: Author,
@@ -47,28 +47,28 @@ impl ListDevice {
         }
     }
 
-    /// Whether it knows a version of a picture.
+    /// Whether the device knows a version of a picture.
     pub fn knows(&self, picture: PicNo, version: Version) -> bool
         ensures { result ≡ known (shown self.now) picture version }
     {
         has(&self.every, version) || has_of(&self.of, picture, version)
     }
 
-    /// Whether it knows an entry's version of its picture.
+    /// Whether the device knows an entry's version of its picture.
     pub(crate) fn knows_entry(&self, entry: &ListEntry) -> bool
         ensures { result ≡ knows_entry (shown self.now) (entry_of entry.now) }
     {
         self.knows(entry.picture, entry.version)
     }
 
-    /// Whether its filter selects an entry.
+    /// Whether the device's filter selects an entry.
     pub(crate) fn selects(&self, entry: &ListEntry) -> bool
         ensures { result ≡ selects (shown self.now) (entry_of entry.now) }
     {
         self.filter.matches(&entry.content)
     }
 
-    /// Whether it holds something that an entry supersedes.
+    /// Whether the device holds an entry that this one supersedes.
     #[tactic(auto, using(crate::proofs::Mapped::any_of_both))]
     pub(crate) fn holds_older(&self, entry: &ListEntry) -> bool
         ensures { result ≡ list_any (model.supersedes (entry_of entry.now)) (holds (shown self.now)) }
@@ -76,7 +76,7 @@ impl ListDevice {
         supersedes_any(entry, &self.store) || supersedes_any(entry, &self.out)
     }
 
-    // The versions that it knows of a picture. The only error is want of memory.
+    // The versions that the device knows of a picture. Its only error is want of memory.
     fn known_of(&self, alloc: Global, picture: PicNo) -> Result<Vec<Version>, AllocError>
         ensures { IfOk result (λ versions. listed versions.items ≡ known (shown self.now) picture) }
     {
@@ -86,8 +86,8 @@ impl ListDevice {
         Ok(all)
     }
 
-    /// Makes its next version of a picture, in the place of all that it held of the picture: the version, and where it went.
-    /// After want of memory, its only error, it is as it was.
+    /// Makes the next version of a picture, which replaces all that the device held of the picture. Gives the version and its
+    /// place. Its only error is want of memory, after which the device is as it was.
     pub fn make(
         &mut self,
         alloc: Global,
@@ -120,8 +120,8 @@ impl ListDevice {
         Ok((version, place))
     }
 
-    /// Begins its next epoch with another filter: it sorts anew what it holds, and knows what this tells. After want of
-    /// memory, its only error, it is as it was.
+    /// Gives the device another filter and begins its next epoch. The device sorts what it holds anew, and then knows only what
+    /// this tells. Its only error is want of memory, after which the device is as it was.
     pub fn refilter(&mut self, alloc: Global, wanted: Filter) -> Result<(), AllocError>
         requires { epoch_of_author self.old.author < 4_294_967_295 }
         ensures shows { OnOk result (shown self.new ≡ refiltered wanted (shown self.old)) }

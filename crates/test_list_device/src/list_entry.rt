@@ -1,4 +1,4 @@
-// An entry that shares nothing.
+// An entry of a list device, which shares nothing.
 ghost use Rattle.std.specs.Prelude.{◌≡◌, IfOk};
 ghost use Rattle.photo_model.specs.Entry.{entry_before, supersedes};
 ghost use Rattle.test_list_device.specs.Entries.{entry_of};
@@ -8,8 +8,8 @@ use photo_record::{PicNo, Record};
 use photo_version::Version;
 use std::alloc::{AllocError, Global};
 
-/// A version of a picture, all versions that were known of the picture when it was made, and the record that it gives the
-/// picture.
+/// A version of a picture, with its history of the picture and its record. The history has all versions of the picture that its
+/// maker knew.
 #[derive(Debug, Drop)]
 pub struct ListEntry {
     pub picture: PicNo,
@@ -19,7 +19,7 @@ pub struct ListEntry {
 }
 
 impl ListEntry {
-    /// A copy, with a history of its own. Its only error is want of memory.
+    /// A copy, with its own copy of the history. Its only error is want of memory.
     pub(crate) fn try_clone(&self, alloc: Global) -> Result<ListEntry, AllocError>
         ensures { IfOk result (λ copy. entry_of copy ≡ entry_of self.now) }
     {
@@ -31,7 +31,7 @@ impl ListEntry {
         })
     }
 
-    /// Whether it stands before another, by picture, then version.
+    /// Whether the entry sorts before another, by picture and then version.
     pub(crate) fn is_before(&self, other: &ListEntry) -> bool
         ensures { result ≡ entry_before (entry_of self.now) (entry_of other.now) }
     {
@@ -39,7 +39,7 @@ impl ListEntry {
             || (self.picture == other.picture && self.version < other.version)
     }
 
-    /// Whether it supersedes another.
+    /// Whether the entry supersedes another.
     pub(crate) fn supersedes(&self, other: &ListEntry) -> bool
         ensures { result ≡ supersedes (entry_of self.now) (entry_of other.now) }
     {

@@ -1,4 +1,4 @@
-// Lists of entries: their copies, and how entries come into them.
+// Lists of entries: copies and insertions.
 ghost use Rattle.std.specs.Prelude.{◌≡◌, ◌≤◌, not, filter, length, IfOk, OnOk};
 ghost use Rattle.std.specs.List.{prefix_len, list_any};
 ghost use Rattle.photo_filter_rules.specs.Matching.{matches};
@@ -13,7 +13,7 @@ use photo_record::PicNo;
 use photo_version::Version;
 use std::alloc::{AllocError, Global};
 
-/// Copies of the entries of a list. The only error is want of memory.
+/// Copies the entries of a list. Its only error is want of memory.
 pub(crate) fn copied(alloc: Global, list: &[ListEntry]) -> Result<Vec<ListEntry>, AllocError>
     ensures { IfOk result (λ copy. entries_of copy.items ≡ entries_of list.now) }
 {
@@ -24,7 +24,7 @@ pub(crate) fn copied(alloc: Global, list: &[ListEntry]) -> Result<Vec<ListEntry>
     Ok(copy)
 }
 
-/// Copies of the entries of all other pictures. The only error is want of memory.
+/// Copies the entries of all other pictures. Its only error is want of memory.
 pub(crate) fn others(
     alloc: Global,
     list: &[ListEntry],
@@ -58,7 +58,7 @@ pub(crate) fn is_stored(list: &[ListEntry], version: Version) -> bool
     list.iter().any(|e| e.version == version)
 }
 
-// How many entries at the front of a list stand before this one.
+// How many entries at the front of a list sort before this one.
 fn place_of(list: &[ListEntry], entry: &ListEntry) -> usize
     ensures place { result ≡ prefix_len (λ other. entry_before (entry_of other) (entry_of entry.now)) list.now }
     ensures within { result ≤ length list.now }
@@ -68,7 +68,7 @@ fn place_of(list: &[ListEntry], entry: &ListEntry) -> usize
         .unwrap_or(list.len())
 }
 
-/// An entry comes to its place in a list. The only error is want of memory.
+/// Puts an entry at its place in a sorted list. Its only error is want of memory.
 #[tactic(auto, using(crate::proofs::Mapped::put_at))]
 pub(crate) fn put(list: &mut Vec<ListEntry>, entry: ListEntry) -> Result<(), AllocError>
     ensures { OnOk result (entries_of list.new.items ≡ put_entry (entry_of entry) (entries_of list.old.items)) }
@@ -78,7 +78,7 @@ pub(crate) fn put(list: &mut Vec<ListEntry>, entry: ListEntry) -> Result<(), All
     Ok(())
 }
 
-/// An entry comes into the store where the filter matches it, and into the out otherwise. The only error is want of memory.
+/// Puts an entry into the store if the filter matches it, and otherwise into the out. Its only error is want of memory.
 pub(crate) fn put_in(
     wanted: &Filter,
     entry: ListEntry,
@@ -100,7 +100,7 @@ pub(crate) fn put_in(
     }
 }
 
-/// Entries come into the store where the filter matches them, and into the out otherwise. The only error is want of memory.
+/// Puts each entry into the store if the filter matches it, and otherwise into the out. Its only error is want of memory.
 pub(crate) fn sort_in(
     wanted: &Filter,
     mut coming: Vec<ListEntry>,

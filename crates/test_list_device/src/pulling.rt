@@ -1,4 +1,4 @@
-// A pull between two devices of lists.
+// A pull between two list devices.
 ghost use Rattle.std.specs.Prelude.{◌≡◌, not, filter, IfOk, OnOk, OnErr};
 ghost use Rattle.photo_model.specs.Pull as model;
 ghost use Rattle.photo_model.specs.Pull.{pulled, handed_over, counts_of, leaves_store, leaves_out};
@@ -15,7 +15,8 @@ use photo_model::PullCounts;
 use photo_version::Version;
 use std::alloc::{AllocError, Global};
 
-// What a source tells a target of: what this takes, what is handed over to it, and what it only notices, one after another.
+// What a source tells a target: the entries that the target takes, those handed over to it and those of which it gets notices,
+// in that order.
 #[derive(Debug, Drop)]
 struct News {
     entries: Vec<ListEntry>,
@@ -24,7 +25,7 @@ struct News {
     notices: usize,
 }
 
-// Copies of what a target takes. The only error is want of memory.
+// Copies the entries that a target takes. Its only error is want of memory.
 fn taken(
     alloc: Global,
     target: &ListDevice,
@@ -37,7 +38,7 @@ fn taken(
     Ok(list)
 }
 
-// Copies of what is handed over to a target. The only error is want of memory.
+// Copies the entries that are handed over to a target. Its only error is want of memory.
 fn handed(
     alloc: Global,
     target: &ListDevice,
@@ -50,7 +51,7 @@ fn handed(
     Ok(list)
 }
 
-// Copies of what a target only notices. The only error is want of memory.
+// Copies the entries of which a target gets notices. Its only error is want of memory.
 fn noticed(
     alloc: Global,
     target: &ListDevice,
@@ -63,7 +64,7 @@ fn noticed(
     Ok(list)
 }
 
-// All that a source tells a target of. The only error is want of memory.
+// All that a source tells a target. Its only error is want of memory.
 fn told(alloc: Global, target: &ListDevice, source: &ListDevice) -> Result<News, AllocError>
     ensures { IfOk result (IsTold (shown target.now) (shown source.now)) }
 {
@@ -81,7 +82,7 @@ fn told(alloc: Global, target: &ListDevice, source: &ListDevice) -> Result<News,
     })
 }
 
-// Whether a target gives up an entry, since the source knows it and doesn't keep it.
+// Whether a target drops an entry because the source knows it and doesn't store it.
 fn is_stale(target: &ListDevice, source: &ListDevice, entry: &ListEntry) -> bool
     ensures { result ≡ model.is_stale (shown target.now) (shown source.now) (entry_of entry.now) }
 {
@@ -89,7 +90,7 @@ fn is_stale(target: &ListDevice, source: &ListDevice, entry: &ListEntry) -> bool
         && (source.knows_entry(entry) && !is_stored(&source.store, entry.version))
 }
 
-// Copies of what a target keeps of its store. The only error is want of memory.
+// Copies the entries of its store that a target keeps. Its only error is want of memory.
 fn kept_stored(
     alloc: Global,
     target: &ListDevice,
@@ -105,7 +106,7 @@ fn kept_stored(
     Ok(list)
 }
 
-// Copies of what a target keeps of its out. The only error is want of memory.
+// Copies the entries of its out that a target keeps. Its only error is want of memory.
 fn kept_waiting(
     alloc: Global,
     target: &ListDevice,
@@ -121,7 +122,7 @@ fn kept_waiting(
     Ok(list)
 }
 
-// What a target knows then of every picture, and of single ones. The only error is want of memory.
+// What a target knows after the pull, of every picture and of single ones. Its only error is want of memory.
 fn known_then(
     alloc: Global,
     target: &ListDevice,
@@ -142,7 +143,7 @@ fn known_then(
     Ok((every, of))
 }
 
-// The target as it is then, and what was moved and told. The only error is want of memory.
+// The target after the pull, and the counts of what was moved and told. Its only error is want of memory.
 fn target_then(
     alloc: Global,
     target: &ListDevice,
@@ -179,8 +180,8 @@ fn target_then(
     Ok((next, counts))
 }
 
-/// A target takes from a source what it is to keep, what the source hands over, and what the source knows: what was moved and
-/// told. After want of memory, its only error, both are as they were.
+/// The target takes from the source what its filter selects, gets what the source hands over, and learns what the source knows.
+/// Gives the counts of what was moved and told. Its only error is want of memory, after which both devices are as they were.
 pub fn pull(
     alloc: Global,
     target: &mut ListDevice,

@@ -1,4 +1,4 @@
-// Worked examples: what devices make and what pulls move, tell and teach.
+// Worked examples: what devices make, and what pulls move and tell and what devices learn by them.
 use crate::{ListDevice, ListEntry, pull};
 use photo_filter_rules::Filter;
 use photo_model::{Place, PullCounts};
@@ -6,15 +6,15 @@ use photo_record::{Day, PicNo, Rating, Record, Words};
 use photo_version::{Author, Version};
 use std::alloc::Global;
 
-// What the first or the second of two devices does or has. Devices, pictures, ratings and versions are given by numbers.
+// What the first or the second of two devices does or has. Numbers give devices, pictures, ratings and versions.
 enum Step {
-    // It makes a version of a picture with a rating: the version's number and place.
+    // The device makes a version of a picture with a rating: the version's number and place.
     Make(u16, u32, u8, (u32, Place)),
-    // It pulls from the other: what is taken, handed over, noticed and dropped, and whether it learns all.
+    // The device pulls from the other: the counts taken, handed over, noticed and dropped, and whether it learns all.
     Pull(u16, [u64; 4], bool),
-    // What its store has, each by its picture and its version.
+    // What the device's store has, each version by its picture and its number.
     Stores(u16, &'static [(u32, (u16, u32))]),
-    // Whether it knows, of a picture, a version.
+    // Whether the device knows a version of a picture.
     Knows(u16, u32, (u16, u32), bool),
 }
 
@@ -129,7 +129,7 @@ fn does(alloc: Global, first: &mut ListDevice, second: &mut ListDevice, step: &S
     }
 }
 
-// Whether two new devices with those filters take all of the steps.
+// Whether two new devices with those filters pass all steps.
 fn is_run(alloc: Global, filters: [&str; 2], steps: &[Step]) -> bool {
     let (Some(mut first), Some(mut second)) = (
         opened(alloc, 0, filters[0]),

@@ -1,4 +1,4 @@
-//! Audits: of drawn scripts after each command, of the examples, and of devices that are not as they ought to be.
+//! Tests of audits: of drawn scripts after each command, of the examples, and of unsound devices.
 ghost use Rattle.std.specs.Prelude.{◌≡◌, ℕ, ◌<◌, IfSome, if◌then◌else◌};
 ghost use Rattle.photo_version.specs.Author as authors;
 ghost use Rattle.photo_version.specs.Version as versions;
@@ -16,7 +16,7 @@ use photo_script::{Script, read_script};
 use photo_version::{Author, Version};
 use std::alloc::Global;
 
-/// Whether what a script's run gives passes a test.
+/// Whether the outcome of a script's run passes a test.
 pub fn on_run<F: FnOnce(Global, &mut Outcome) -> bool>(alloc: Global, text: &str, test: F) -> bool
     requires { F.IsAlwaysCallable test }
 {
@@ -39,7 +39,7 @@ fn on_outcome<F: FnOnce(Global, &mut Outcome) -> bool>(
     }
 }
 
-// What has to hold of each run.
+// The test for each run: an audit says yes.
 fn is_right(_alloc: Global, outcome: &mut Outcome) -> bool {
     audit(outcome.devices.as_slice(), &outcome.log)
 }
@@ -53,7 +53,7 @@ fn drawn_is_right(alloc: Global, seed: u16, kinds: u32, commands: u32) -> bool
     }
 }
 
-// Whether all is right before the first command of a seed's script, and after each.
+// Whether an audit says yes before the first command of a seed's script, and after each command.
 fn stays_right(alloc: Global, seed: u16, kinds: u32) -> bool
     requires { 0 < kinds }
 {
@@ -96,7 +96,7 @@ fn examples_end_right(rt: HostRuntime) {
 const REMOVAL: &str =
     "device cam all\ndevice srv all\ndevice tab all\ndevice frame rating >= 4\nnew cam 7 5 2024-01-01 -\npull srv cam\npull tab cam\npull frame srv\nremove cam 7\npull srv cam\npull frame srv\npull tab cam\nlist frame\nlist tab\n";
 
-// The knowledge of a camera that stopped after its first version.
+// A knowledge of the camera's first version of every picture, and of nothing else.
 fn first_known(alloc: Global) -> Option<Knowledge>
     ensures star { IfSome result
         (λ k. (a : authors.Author) → star_bound k.known a ≡ (if authors.same_author (authors.author 0) a then 1 else 0)) }
@@ -115,7 +115,7 @@ fn first_known(alloc: Global) -> Option<Knowledge>
     }
 }
 
-// A device that made and holds nothing, with that knowledge.
+// A device that has made and holds nothing, with that knowledge.
 fn knowing(device: Device, knowledge: Knowledge) -> Option<Device>
     requires star { (a : authors.Author) → star_bound knowledge.known a ≡ (if authors.same_author (authors.author 0) a then 1 else 0) }
     requires known { (p : ℕ) (v : versions.Version) → 0 < p
@@ -130,7 +130,7 @@ fn knowing(device: Device, knowledge: Knowledge) -> Option<Device>
     Some(with_knowledge(device, knowledge))
 }
 
-// The third of four devices forgets all but the camera's first version. It is the last one then.
+// Makes the third of four devices forget everything but the camera's first version, and moves it to the end.
 fn forgets(alloc: Global, devices: &mut Vec<Device>) -> bool {
     if devices.len() != 4 {
         return false;
@@ -144,7 +144,7 @@ fn forgets(alloc: Global, devices: &mut Vec<Device>) -> bool {
     }
 }
 
-// The tablet knows the picture, knows nothing of its removal, and doesn't store it.
+// Whether an audit sees that the tablet forgot the removal: it knows the picture, but doesn't store it.
 fn forgetting_is_seen(alloc: Global, outcome: &mut Outcome) -> bool {
     forgets(alloc, &mut outcome.devices) && !audit(outcome.devices.as_slice(), &outcome.log)
 }
@@ -161,7 +161,8 @@ fn remove_first(devices: &mut [Device]) -> bool {
     devices[0].remove(picture).is_ok()
 }
 
-// A device makes a version that the log hasn't: it knows the logged one, and nothing of the log that supersedes it.
+// Whether an audit sees a removal that isn't in the log: the device knows the logged version and nothing of the log that
+// supersedes it, but no longer stores it.
 fn removal_is_seen(_alloc: Global, outcome: &mut Outcome) -> bool {
     audit(outcome.devices.as_slice(), &outcome.log)
         && remove_first(outcome.devices.as_mut_slice())

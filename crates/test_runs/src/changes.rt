@@ -1,4 +1,4 @@
-//! Scripts that make, edit and remove versions.
+//! Tests of scripts that make, edit and remove versions.
 use super::memory::runs;
 
 pub const VERSIONS: &[(&str, &str)] = &[
@@ -6,7 +6,7 @@ pub const VERSIONS: &[(&str, &str)] = &[
         "device a rating >= 2\nnew a 7 5 2024-01-01 -\nedit a 7 1 2024-01-01 -\nremove a 7\nedit a 7 4 2024-01-01 -\nremove a 9\nlist a\n",
         "1 made a:1 store\n2 made a:2 out\n3 made a:3 out\n4 made a:4 store\n5 refused C1 NotHeld\n6 list a store 1 out 0\n  store 7 a:4 rating 4 day 2024-01-01 words -\n",
     ),
-    // what one device holds is not held by another, and a refused command makes no version
+    // devices don't hold each other's versions, and a refused command makes no version
     (
         "device a all\ndevice b all\nnew a 7 5 2024-01-01 -\nedit b 7 5 2024-01-01 -\nremove b 7\nnew b 8 5 2024-01-01 -\nedit b 8 3 2024-01-01 x\nlist b\n",
         "1 made a:1 store\n2 refused C1 NotHeld\n3 refused C1 NotHeld\n4 made b:1 store\n5 made b:2 store\n6 list b store 1 out 0\n  store 8 b:2 rating 3 day 2024-01-01 words x\n",

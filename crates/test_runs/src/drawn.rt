@@ -1,16 +1,16 @@
-//! Scripts drawn by chance from a seed: five devices, and as many commands as are asked for. Equal ones on every machine. Among
-//! their pulls are some of each kind, which a test counts.
+//! Scripts drawn by chance from a seed, with five devices and any number of commands. They are equal on every machine. A test
+//! counts that each kind of pull occurs among them.
 ghost use Rattle.std.specs.Prelude.{◌<◌};
 
 use fleet_runner::run_plain;
 use photo_script::{Report, Script, read_script};
 use std::alloc::{AllocError, Global};
 
-/// How many commands a drawn script has at most.
+/// A drawn script has at most that many commands.
 pub const COMMANDS: u32 = 60;
 
-/// The kinds of draws by whose number scripts are drawn: the first eight make, remove and pull, and with all ten scripts refilter
-/// and preview besides.
+/// The numbers of kinds of draws. With the first eight, scripts make, remove and pull; with all ten they also refilter and
+/// preview.
 pub const SOME_KINDS: u32 = 8;
 
 pub const ALL_KINDS: u32 = 10;
@@ -32,7 +32,7 @@ impl Chance {
         }
     }
 
-    // A number from 0 to before `end`.
+    // A number from 0 up to before `end`.
     fn draw(&mut self, end: u32) -> u32
         requires { 0 < end }
         ensures { result < end }
@@ -42,7 +42,7 @@ impl Chance {
     }
 }
 
-/// The script of a seed with so many kinds of draws, up to that many of its commands.
+/// The script of a seed with the first `kinds` kinds of draws, up to its first `commands` commands.
 pub fn drawn(alloc: Global, seed: u16, kinds: u32, commands: u32) -> Result<String, AllocError>
     requires { 0 < kinds }
 {
@@ -55,7 +55,7 @@ pub fn drawn(alloc: Global, seed: u16, kinds: u32, commands: u32) -> Result<Stri
     front(alloc, lines.as_str(), count)
 }
 
-// The devices, and so many of the lines behind them.
+// The devices' lines and the first `count` lines behind them.
 fn front(alloc: Global, lines: &str, count: u32) -> Result<String, AllocError> {
     let mut text = String::new(alloc);
     text.push_str(DEVICES)?;
@@ -70,7 +70,7 @@ fn front(alloc: Global, lines: &str, count: u32) -> Result<String, AllocError> {
     Ok(text)
 }
 
-// The commands of the draw of that number, from 1: one, or the four of a turn.
+// The commands of the draw of that number, from 1: one command, or the four of a turn.
 fn push_draw(
     text: &mut String,
     chance: &mut Chance,
@@ -104,7 +104,7 @@ fn push_draw(
     }
 }
 
-// A command between the device and another one.
+// A command between a device and another one.
 fn push_pair(
     text: &mut String,
     chance: &mut Chance,
@@ -116,7 +116,8 @@ fn push_pair(
     Ok(())
 }
 
-// What another device took from `a` is edited into what that one isn't to keep, so that its next pull notices it.
+// Another device takes a picture from `a`, which then edits it so that the other's filter no longer matches; the other's next
+// pull notices this.
 fn push_turn(text: &mut String, chance: &mut Chance, picture: u32) -> Result<(), AllocError> {
     let other = 1 + chance.draw(4);
     let (kept, left) = if other == 4 { ("-", "x") } else { ("x", "-") };
@@ -166,7 +167,7 @@ fn filter(number: u32) -> &'static str {
     }
 }
 
-// The first commands of seed 1, worked by hand.
+// The first commands of seed 1, worked out by hand.
 const FIRST: &str =
     "device a all\ndevice b rating >= 3\ndevice c rating >= 4\ndevice d keyword x\ndevice e not keyword x\npull d a\nremove b 2\nedit e 1 0 2024-01-01 x\npull e a\nnew d 5 3 2024-01-01 x\nnew b 6 2 2024-01-01 -\npull b a\npull b d\nedit b 6 5 2024-01-01 -\npull b a\nedit d 6 0 2024-01-01 -\nnew a 12 5 2024-01-01 -\npull e a\nedit a 12 1 2024-01-01 x\npull e a\n";
 
@@ -182,7 +183,7 @@ fn first_commands_of_a_seed(rt: HostRuntime) {
     assert!(rt; draws(rt.alloc(), 1, 15, FIRST));
 }
 
-// Adds a pull: there is one more, and one more of which each count is above 0, or of which all was learned.
+// Counts a pull: in total, for each of its four counts that is above 0, and if the target learned everything.
 fn add(sums: &mut [u32; 6], report: &Report) {
     if let Report::Pulled(counts) = report {
         let is_above = [
@@ -201,7 +202,7 @@ fn add(sums: &mut [u32; 6], report: &Report) {
     }
 }
 
-// Adds the pulls of the run of a script.
+// Counts the pulls of a script's run.
 fn add_all(alloc: Global, script: &Script, sums: &mut [u32; 6]) -> bool {
     match run_plain(alloc, script) {
         Ok(outcome) => {
@@ -226,7 +227,7 @@ fn add_drawn(alloc: Global, seed: u16, kinds: u32, sums: &mut [u32; 6]) -> bool
     }
 }
 
-// A tenth of the pulls each take, are handed, notice, drop and learn something.
+// At least a tenth of the pulls take something, a tenth are handed something, and likewise for notices, drops and learning.
 #[test]
 fn pulls_of_each_kind(rt: HostRuntime) {
     let mut sums = [0u32; 6];

@@ -1,4 +1,4 @@
-//! Scripts whose devices have filters: where versions go, which filters are refused, and the limits of filters.
+//! Tests of scripts whose devices have filters: where versions go, which filters are refused, and filters' limits.
 use super::memory::runs;
 
 const PLACES: &[(&str, &str)] = &[
@@ -6,7 +6,7 @@ const PLACES: &[(&str, &str)] = &[
         "device frame rating >= 4\nnew frame 1 3 2024-05-01 -\nlist frame\n",
         "1 made frame:1 out\n2 list frame store 0 out 1\n  out 1 frame:1 rating 3 day 2024-05-01 words -\n",
     ),
-    // the letter é in one form for the filter, and in the other for the picture
+    // the letter é in one form in the filter and in the other in the picture
     (
         "device a keyword \u{e9}\nnew a 1 0 2024-02-29 e\u{301}\nlist a\n",
         "1 made a:1 store\n2 list a store 1 out 0\n  store 1 a:1 rating 0 day 2024-02-29 words \u{e9}\n",
@@ -32,10 +32,10 @@ fn places_of_new_versions(rt: HostRuntime) {
 const REFUSED_FILTERS: &[(&str, &str)] = &[
     ("device a rating >= 6\n", "line 1: F15 BadFilter"),
     ("device a all\ndevice b all all\n", "line 2: F15 BadFilter"),
-    // before a fault of a later line
+    // the filter's fault comes before that of a later line
     ("device a ( all\nfrob\n", "line 1: F15 BadFilter"),
     ("device a rating >=4\nlist b\n", "line 1: F15 BadFilter"),
-    // behind a fault of an earlier field or line
+    // the fault of an earlier field or line comes before the filter's
     ("device A rating >= 6\n", "line 1: F7 BadName"),
     ("frob\ndevice a rating >= 6\n", "line 1: F5 UnknownCommand"),
 ];
@@ -47,14 +47,14 @@ fn filters_that_are_refused(rt: HostRuntime) {
     }
 }
 
-// With `not` 31 times, and 32 times.
+// A filter with 31 times `not`, and one with 32.
 const HIGHEST: &str =
     "device a not not not not not not not not not not not not not not not not not not not not not not not not not not not not not not not all\n";
 
 const HIGHER: &str =
     "device a not not not not not not not not not not not not not not not not not not not not not not not not not not not not not not not not all\n";
 
-// Eight words by eight, and five by thirteen.
+// A filter of eight words by eight, and one of five by thirteen.
 const WIDEST: &str =
     "device a (keyword x0 or keyword x1 or keyword x2 or keyword x3 or keyword x4 or keyword x5 or keyword x6 or keyword x7) and (keyword y0 or keyword y1 or keyword y2 or keyword y3 or keyword y4 or keyword y5 or keyword y6 or keyword y7)\nnew a 1 0 2024-05-01 x7,y0\nnew a 2 0 2024-05-01 x1,x2\n";
 

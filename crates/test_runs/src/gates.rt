@@ -1,5 +1,5 @@
-//! Runs by workers in threads, under a gate that waits for another command and one that watches. A gate that waits gives up
-//! after so many turns, so that its test fails in place of hanging.
+//! Tests of runs by workers, under a gate that waits for another command and one that only watches. A gate that waits gives up
+//! after a number of turns, so its test fails rather than hangs.
 ghost use Rattle.std.specs.Prelude.{◌<◌};
 
 use super::memory::{OUTPUT, SCRIPT, Sink, Source};
@@ -15,17 +15,17 @@ use std::sync::{Arc, Mutex, Wait};
 use std::thread;
 use std::thread::Threads;
 
-// After how many turns a gate that waits gives up.
+// A gate that waits gives up after that many turns.
 const MOST_TURNS: u32 = 10_000_000;
 
-// What all four devices' commands count.
+// The totals of all four devices' commands.
 const ALL: [u64; 4] = [2, 4, 1, 4];
 
 fn is_shown(shown: Option<Totals>, wanted: [u64; 4]) -> bool {
     shown == Some(totals(wanted))
 }
 
-// What was shown after some commands, and whether the first one waited until the second had been shown something.
+// What the gate saw after some commands, and whether the first command waited until the gate had seen the second.
 #[derive(Clone, Copy)]
 struct Shown {
     first: Option<Totals>,
@@ -69,7 +69,7 @@ impl<R: Wait + Copy> FirstLast<R> {
         false
     }
 
-    // Whether the first command waited well, and each was shown what all workers together had counted.
+    // Whether the first command waited, and the gate saw what all workers together had counted after each command.
     fn is_right(&self) -> bool {
         let shown = *self.shown.lock(&self.rt);
         shown.in_turn
@@ -114,7 +114,7 @@ fn a_command_that_waits_for_a_later_one(rt: HostRuntime) {
     }
 }
 
-// Counts the calls of a gate, the writes of a writer, and the calls that came after a write.
+// Counts a gate's calls, a writer's writes, and the calls that came after a write.
 #[derive(Drop)]
 struct Watch {
     calls: AtomicU64,
@@ -138,7 +138,7 @@ impl Watch {
         }
     }
 
-    // Whether so many calls came, all of them before the first write.
+    // Whether that many calls came, all before the first write.
     fn is_right(&self, calls: u64) -> bool {
         self.calls.load(Ordering::SeqCst) == calls
             && self.writes.load(Ordering::SeqCst) > 0
@@ -156,7 +156,7 @@ impl Gate for Watch {
     }
 }
 
-// A writer that is watched.
+// A writer whose writes are counted.
 #[derive(Drop)]
 struct Watched {
     sink: Sink,
@@ -174,7 +174,7 @@ impl Write for Watched {
     }
 }
 
-// Whether a run by so many workers writes that output, and only after all calls of its gate.
+// Whether a run by that many workers writes that output, and only after all calls of its gate.
 fn writes_last<R: Threads + Wait + Copy + Send + 'static>(
     rt: R,
     alloc: Global,

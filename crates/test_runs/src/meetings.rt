@@ -1,5 +1,5 @@
-//! Runs by workers that all stand in the gate at once: each command waits there until as many have come as there are workers.
-//! It gives up after a while, so that its test fails in place of hanging.
+//! Tests of runs by workers that are all in the gate at once: each command waits there until as many have come as there are
+//! workers. The gate gives up after a while, so its test fails rather than hangs.
 ghost use Rattle.std.specs.Prelude.{◌<◌};
 
 use super::workers::prints_by;
@@ -14,7 +14,7 @@ use std::time::{Clock, Duration};
 // The most workers that there may be.
 const MOST_WORKERS: u16 = 256;
 
-// Lets none of the first commands run before so many have come, nor any of the next ones before so many more have, and so on.
+// Lets commands run in groups as large as the number of workers: none of a group runs before all of it have come.
 #[derive(Drop)]
 struct Meeting<R: Wait + Clock + Copy> {
     rt: R,
@@ -38,7 +38,7 @@ impl<R: Wait + Clock + Copy> Meeting<R> {
         }
     }
 
-    // One more has come. Whether so many come before long.
+    // Counts one more command that has come. Whether `wanted` commands come before the gate gives up.
     fn meets(&self, wanted: u32) -> bool {
         let mut come = self.come.lock(&self.rt);
         *come = come.saturating_add(1);
@@ -52,7 +52,7 @@ impl<R: Wait + Clock + Copy> Meeting<R> {
         *come >= wanted
     }
 
-    // Whether so many commands have met the others.
+    // Whether that many commands have met the others of their group.
     fn have_met(&self, commands: u64) -> bool {
         self.met.load(Ordering::SeqCst) == commands
     }
@@ -69,7 +69,7 @@ impl<R: Wait + Clock + Copy + Send + Sync> Gate for Meeting<R> {
     fn after(&self, _number: u32, _seen: Totals) {}
 }
 
-// So many devices make a picture each, in a first batch, and edit it, in a second one.
+// Each of that many devices makes a picture, in a first batch, and edits it, in a second one.
 fn script_of(alloc: Global, devices: u16) -> Result<String, AllocError> {
     let mut text = String::new(alloc);
     for i in 0..devices {
@@ -84,7 +84,7 @@ fn script_of(alloc: Global, devices: u16) -> Result<String, AllocError> {
     Ok(text)
 }
 
-// What that prints.
+// The output of that script.
 fn output_of(alloc: Global, devices: u16) -> Result<String, AllocError> {
     let mut text = String::new(alloc);
     for i in 0..devices {
@@ -97,8 +97,8 @@ fn output_of(alloc: Global, devices: u16) -> Result<String, AllocError> {
     Ok(text)
 }
 
-// Whether so many workers, each of which has as many commands of a batch as the others, all stand in the gate at once: at
-// the first commands of the batch, at the next ones, and in the second batch as well.
+// Whether all workers, each with as many commands of a batch as the others, are in the gate at once: for the batch's first
+// commands, for its next ones, and in the second batch too.
 fn meet<R: Threads + Wait + Clock + Copy + Send + Sync + 'static>(
     rt: R,
     alloc: Global,

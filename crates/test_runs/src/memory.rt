@@ -8,11 +8,11 @@ use std::thread::Threads;
 /// The stored run's script.
 pub const SCRIPT: &str = "device cam all\nnew cam 7 5 2024-05-01 sun,beach\nlist cam\n";
 
-/// What it prints.
+/// The output of the stored run.
 pub const OUTPUT: &str =
     "1 made cam:1 store\n2 list cam store 1 out 0\n  store 7 cam:1 rating 5 day 2024-05-01 words beach,sun\n";
 
-/// Gives its bytes in pieces of at most `step`, and then an error in place of the end where it has one.
+/// Gives its bytes in pieces of at most `step`, and then its error, if it has one, in place of the end.
 #[derive(Drop)]
 pub struct Source<'a> {
     pub left: &'a [u8],
@@ -21,7 +21,7 @@ pub struct Source<'a> {
 }
 
 impl<'a> Source<'a> {
-    /// Gives all, in pieces as large as the caller takes them.
+    /// A reader that gives its bytes in pieces as large as the caller takes.
     pub fn new(left: &'a [u8]) -> Source<'a> {
         Source {
             left,
@@ -68,7 +68,7 @@ pub enum Full {
     Zero,
 }
 
-/// Takes at most `step` bytes a write and `room` in all, and keeps them.
+/// Takes at most `step` bytes in one write and `room` in total, and keeps them.
 #[derive(Drop)]
 pub struct Sink {
     pub taken: Vec<u8>,
@@ -79,12 +79,12 @@ pub struct Sink {
 }
 
 impl Sink {
-    /// A writer that takes all.
+    /// A writer that takes all bytes.
     pub fn new(alloc: Global) -> Sink {
         Sink::of_room(alloc, usize::MAX, Full::Error)
     }
 
-    /// A writer that takes so many bytes in all.
+    /// A writer that takes at most `room` bytes in total.
     pub fn of_room(alloc: Global, room: usize, full: Full) -> Sink {
         Sink {
             taken: Vec::new(alloc),
@@ -115,16 +115,16 @@ impl Write for Sink {
     }
 }
 
-/// Who runs the commands of a script.
+/// How a script's commands are run.
 #[derive(Clone, Copy)]
 pub enum Way {
-    /// Nobody else, one after another.
+    /// One after another, without workers.
     Plain,
-    /// So many workers.
+    /// By that many workers.
     By(u16),
 }
 
-/// The ways that have to give the same.
+/// The ways that have to give the same output.
 pub const WAYS: &[Way] = &[Way::Plain, Way::By(1), Way::By(2), Way::By(7), Way::By(256)];
 
 /// The stream of that way.
@@ -157,8 +157,8 @@ fn stream_by<R: Read, W: Write, T: Threads + Wait + Copy + Send + 'static>(
     run_stream(rt, alloc, reader, writer, workers, gate)
 }
 
-/// Whether each way's run of the script writes that output, and ends with an error of that text, or with none where it is
-/// empty.
+/// Whether each way's run of the script writes that output, and ends with an error of that text, or without an error where the
+/// text is empty.
 pub fn runs<T: Threads + Wait + Copy + Send + 'static>(
     rt: T,
     alloc: Global,
@@ -169,7 +169,7 @@ pub fn runs<T: Threads + Wait + Copy + Send + 'static>(
     runs_bytes(rt, alloc, script.as_bytes(), output, error)
 }
 
-/// The same of a script's bytes.
+/// The same for a script's bytes.
 pub fn runs_bytes<T: Threads + Wait + Copy + Send + 'static>(
     rt: T,
     alloc: Global,
@@ -199,7 +199,7 @@ fn runs_so<T: Threads + Wait + Copy + Send + 'static>(
     sink.taken.as_slice() == output.as_bytes() && is_told(alloc, answer, error)
 }
 
-// Whether an answer is an error of that text, or none where the text is empty.
+// Whether an answer is an error of that text, or no error where the text is empty.
 fn is_told(alloc: Global, answer: Result<(), RunError>, error: &str) -> bool {
     match answer {
         Ok(()) => error.is_empty(),
@@ -214,7 +214,7 @@ fn is_written(alloc: Global, told: RunError, error: &str) -> bool {
     }
 }
 
-/// Whether a run from that reader to that writer gives an answer and leaves those bytes written.
+/// Whether a run from that reader to that writer gives that answer and leaves those bytes written.
 pub fn streams<R: Read + Drop, T: Threads + Wait + Copy + Send + 'static>(
     rt: T,
     alloc: Global,

@@ -1,4 +1,4 @@
-//! Replays in orders that are lawful and in others, and the texts of plans.
+//! Tests of replays, in lawful orders and in others, and of the texts of plans.
 use super::memory::{Full, Sink};
 use super::totals::is_outcome;
 use fleet_runner::{RunError, replay, write_plan, write_reports};
@@ -6,18 +6,18 @@ use photo_batcher::plan;
 use photo_script::{Script, read_script};
 use std::alloc::Global;
 
-/// Two devices make a picture each. Each is pulled by another, and then by a third.
+/// Two devices make a picture each. A second device pulls each picture, and then a third.
 pub const FOUR_DEVICES: &str =
     "device a all\ndevice b all\ndevice c all\ndevice d all\nnew a 1 5 2024-01-01 -\nnew c 2 4 2024-01-01 -\npull b a\npull d c\npull c b\nlist a\npull d a\n";
 
-/// What it prints.
+/// The output of that script.
 pub const REPORTS: &str =
     "1 made a:1 store\n2 made c:1 store\n3 pulled taken 1 handed 0 notices 0 dropped 0 learned yes\n4 pulled taken 1 handed 0 notices 0 dropped 0 learned yes\n5 pulled taken 1 handed 0 notices 0 dropped 0 learned yes\n6 list a store 1 out 0\n  store 1 a:1 rating 5 day 2024-01-01 words -\n7 pulled taken 1 handed 0 notices 0 dropped 0 learned yes\n";
 
 const PLAN: &str =
     "1 batch 0 after -\n2 batch 0 after -\n3 batch 1 after 1\n4 batch 1 after 2\n5 batch 2 after 4\n6 batch 2 after 3\n7 batch 3 after 6\nbatches 4\n";
 
-// Whether a replay of the script in that order prints that, and ends with those totals and that log.
+// Whether a replay of the script in that order prints that output, and ends with those totals and that log.
 fn replays(
     alloc: Global,
     script: &Script,
@@ -117,7 +117,7 @@ fn orders_that_are_not_lawful(rt: HostRuntime) {
     );
 }
 
-// The answer to writing the plan of a script to that writer.
+// The result of writing a script's plan to that writer.
 fn planned(alloc: Global, text: &str, sink: &mut Sink) -> Result<(), RunError> {
     match read_script(alloc, text.as_bytes()) {
         Ok(script) => written(alloc, &script, sink),

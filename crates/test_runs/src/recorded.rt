@@ -1,5 +1,5 @@
-//! Runs by one worker under a gate that records. All of its calls are determined: of which command each is, and what is seen
-//! after the command.
+//! Tests of runs by one worker under a gate that records. All of its calls are determined: each call's command, and what the
+//! gate sees after it.
 use super::totals::totals;
 use super::workers::prints_by;
 use fleet_runner::Gate;
@@ -15,7 +15,7 @@ const SCRIPT: &str =
 const OUTPUT: &str =
     "1 made a:1 store\n2 made a:2 store\n3 made b:1 out\n4 made b:2 out\n5 refused C1 NotHeld\n6 list a store 1 out 0\n  store 1 a:2 rating 4 day 2024-01-01 words -\n7 pulled taken 0 handed 1 notices 0 dropped 0 learned no\n8 narrowed 0\n9 refused C2 NotNarrower\n10 conflicts c 0\n11 pulled taken 1 handed 0 notices 0 dropped 0 learned yes\n12 knowledge a 1\n  * a:2\n13 knows yes\n14 preview taken 0 handed 0 notices 0 dropped 0 learned yes\n15 refiltered store 1 out 0\n";
 
-// A command's number, and where it is the call after the command what is to be seen: changes, pulls, reports, moved.
+// A command's number, and for the call after the command what the gate has to see: changes, pulls, reports, moved.
 type Call = (u32, Option<[u64; 4]>);
 
 // The calls in their order, batch by batch.
@@ -52,10 +52,10 @@ const CALLS: &[Call] = &[
     (15, Some([8, 2, 5, 2])),
 ];
 
-// What all commands count.
+// The totals of all commands.
 const ALL: [u64; 4] = [8, 2, 5, 2];
 
-// The calls that are still to come, and whether each that came was the next one.
+// The calls that are still expected, and whether each call so far was the expected one.
 #[derive(Clone, Copy)]
 struct Calls {
     left: &'static [Call],
@@ -81,7 +81,7 @@ fn is_call((wanted, counts): Call, number: u32, seen: Option<Totals>) -> bool {
     }
 }
 
-// Compares its calls with the table, one after another.
+// Compares the calls that it gets with the table, one after another.
 #[derive(Drop)]
 struct Record<R: Wait + Copy> {
     rt: R,
@@ -99,7 +99,7 @@ impl<R: Wait + Copy> Record<R> {
         }
     }
 
-    // Whether just the calls of the table came.
+    // Whether exactly the calls of the table came.
     fn is_right(&self) -> bool {
         let calls = *self.calls.lock(&self.rt);
         calls.right && calls.left.is_empty()

@@ -1,4 +1,4 @@
-//! Whether devices are the same.
+//! Compares devices.
 use photo_device::{Device, HeldSet};
 use photo_filter_rules::Filter;
 
@@ -27,7 +27,7 @@ fn same(one: &Device, other: &Device) -> bool {
         && one.knowledge().same(other.knowledge())
 }
 
-/// Whether two lists of devices are the same, as far as public readers tell.
+/// Whether two lists of devices are the same, as far as the public readers show.
 pub fn all_same(devices: &[Device], others: &[Device]) -> bool {
     if devices.len() != others.len() {
         return false;

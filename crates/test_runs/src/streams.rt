@@ -1,4 +1,4 @@
-//! Readers that give single bytes, fail or never end, and writers that take single bytes, fill up or fail.
+//! Tests with readers that give single bytes, fail or never end, and writers that take single bytes, fill up or fail.
 use super::memory::{
     Endless, Full, OUTPUT, SCRIPT, Sink, Source, WAYS, Way, runs_bytes, stream, streams,
 };
@@ -9,8 +9,8 @@ use std::io::ErrorKind;
 use std::sync::Wait;
 use std::thread::Threads;
 
-// Whether each way's run from a reader of pieces of so many bytes, or of those before its error, to a writer of pieces of so
-// many gives an answer and leaves those bytes written.
+// Whether each way's run gives that answer and leaves those bytes written. Its reader gives the bytes, and then its error, in
+// pieces of a given size; its writer takes pieces of a given size.
 fn is_right<T: Threads + Wait + Copy + Send + 'static>(
     rt: T,
     alloc: Global,
@@ -41,7 +41,7 @@ fn pieces_of_one_byte(rt: HostRuntime) {
     assert!(rt; is_right(rt, rt.alloc(), bytes, 1, None, Ok(()), output));
 }
 
-// What is left unsaid of a front of the script is the answer of the fronts before.
+// The first length of a front of the script, and the answer to it and to the longer fronts up to the next row's.
 const FRONTS: &[(usize, &str, &str)] = &[
     (0, "", ""),
     (1, "", "line 1: F5 UnknownCommand"),
@@ -59,7 +59,7 @@ const FRONTS: &[(usize, &str, &str)] = &[
     (56, OUTPUT, ""),
 ];
 
-// The answer to the front of so many bytes.
+// The answer to the front of `count` bytes.
 fn answer_to(count: usize) -> (&'static str, &'static str) {
     let mut answer = ("", "");
     for (first, output, error) in FRONTS {
@@ -98,7 +98,7 @@ fn a_reader_that_fails_after_each_count_of_bytes(rt: HostRuntime) {
     }
 }
 
-// Whether each way's run to a writer that has room for that front of its output fails and leaves it written.
+// Whether each way's run fails and leaves that front of its output written, where the writer has capacity for no more.
 fn fills<T: Threads + Wait + Copy + Send + 'static>(
     rt: T,
     alloc: Global,
@@ -126,7 +126,7 @@ fn a_writer_that_fills_after_each_count_of_bytes(rt: HostRuntime) {
     }
 }
 
-// Whether each way's run fails at the flush, behind the whole output.
+// Whether each way's run fails at the flush, after the whole output.
 fn flushes<T: Threads + Wait + Copy + Send + 'static>(rt: T, alloc: Global) -> bool {
     for way in WAYS {
         let mut sink = Sink::new(alloc);
@@ -160,7 +160,7 @@ fn a_reader_without_end(rt: HostRuntime) {
     assert!(rt; stops(rt, rt.alloc(), Way::By(2)));
 }
 
-// Puts 8,192 comments of 1,024 bytes.
+// Appends 8,192 comments of 1,024 bytes.
 fn push_comments(text: &mut Vec<u8>) -> Result<(), AllocError> {
     let mut line = [b'#'; 1024];
     line[1023] = b'\n';

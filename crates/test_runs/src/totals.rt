@@ -1,9 +1,9 @@
-//! Totals and logs of runs.
+//! Tests of the totals and logs of runs.
 use fleet_runner::{IssueLog, Outcome, run_plain};
 use photo_script::{Script, Totals, read_script};
 use std::alloc::Global;
 
-// Whether a log has just those versions: of that picture, by the device at that place in that epoch, with that number.
+// Whether a log has exactly those versions: each of that picture, by that device in that epoch, with that number.
 fn logs(log: &IssueLog, wanted: &[(u32, u16, u32, u32)]) -> bool {
     if log.len() != wanted.len() || log.is_empty() != wanted.is_empty() {
         return false;
@@ -22,7 +22,7 @@ fn logs(log: &IssueLog, wanted: &[(u32, u16, u32, u32)]) -> bool {
     true
 }
 
-/// Totals as changes, pulls, reports and moved versions.
+/// The totals of changes, pulls, reports and moved versions.
 pub fn totals([changes, pulls, reports, moved]: [u64; 4]) -> Totals {
     Totals {
         changes,
@@ -44,7 +44,7 @@ fn ends_in(alloc: Global, script: &Script, totals: [u64; 4], log: &[(u32, u16, u
     }
 }
 
-// Whether the run of a script ends with those totals (changes, pulls, reports, moved) and that log.
+// Whether a script's run ends with those totals (changes, pulls, reports, moved) and that log.
 fn runs_to(alloc: Global, text: &str, totals: [u64; 4], log: &[(u32, u16, u32, u32)]) -> bool {
     match read_script(alloc, text.as_bytes()) {
         Ok(script) => ends_in(alloc, &script, totals, log),
@@ -55,7 +55,7 @@ fn runs_to(alloc: Global, text: &str, totals: [u64; 4], log: &[(u32, u16, u32, u
 const OUTCOMES: &[(&str, [u64; 4], &[(u32, u16, u32, u32)])] = &[
     ("", [0, 0, 0, 0], &[]),
     ("device a all", [0, 0, 0, 0], &[]),
-    // a removal reaches the devices that hold the picture, by the server and without it
+    // a removal reaches the devices that hold the picture, through the server and without it
     (
         "device cam all\ndevice srv all\ndevice tab all\ndevice frame rating >= 4\nnew cam 7 5 2024-01-01 -\npull srv cam\npull tab cam\npull frame srv\nremove cam 7\npull srv cam\npull frame srv\npull tab cam\nlist frame\nlist tab\n",
         [2, 6, 2, 5],

@@ -1,5 +1,5 @@
-//! Runs by workers against the run command by command: the same reports, totals and devices, and the same log but for its
-//! order.
+//! Tests that compare runs by workers with the run command by command: reports, totals and devices are the same, and so is the
+//! log except for its order.
 ghost use Rattle.std.specs.Prelude.{◌≡◌, ◌<◌, IfOk, IfSome};
 ghost use Rattle.std.specs.Arc.{arc_value};
 ghost use Rattle.fleet_steps.specs.Outcomes.{IsOutcome};
@@ -29,7 +29,7 @@ fn shared(alloc: Global, text: &str) -> Option<Arc<Script>> {
     }
 }
 
-// The outcome of a run by so many workers.
+// The outcome of a run by that many workers.
 fn run_by<G: Gate + 'static, R: Threads + Wait + Copy + Send + 'static>(
     rt: R,
     alloc: Global,
@@ -51,7 +51,7 @@ fn run_by<G: Gate + 'static, R: Threads + Wait + Copy + Send + 'static>(
     }
 }
 
-// Whether an outcome's reports print that, behind what a writer has.
+// Whether an outcome's reports are printed as that, behind what the writer has.
 fn print(alloc: Global, script: &Script, outcome: &Outcome, sink: &mut Sink) -> bool
     requires { IsOutcome script.now outcome.now }
 {
@@ -65,7 +65,7 @@ fn is_printed(alloc: Global, script: &Script, outcome: &Outcome, output: &str) -
     print(alloc, script, outcome, &mut sink) && sink.taken.as_slice() == output.as_bytes()
 }
 
-/// Whether a run of the script by so many workers under a gate prints that, with those totals (changes, pulls, reports,
+/// Whether a run of the script by that many workers under a gate prints that, with those totals (changes, pulls, reports,
 /// moved).
 pub fn prints_by<G: Gate + 'static, R: Threads + Wait + Copy + Send + 'static>(
     rt: R,
@@ -96,7 +96,7 @@ fn has(log: &IssueLog, held: &Held) -> bool {
     false
 }
 
-// Whether each version is in both logs. Within a log no two are equal.
+// Whether each version is in both logs. No two versions within a log are equal.
 fn same_logs(log: &IssueLog, other: &IssueLog) -> bool {
     if log.len() != other.len() {
         return false;
@@ -166,7 +166,7 @@ fn is_same_by_any<R: Threads + Wait + Copy + Send + 'static>(
     true
 }
 
-// The commands batch by batch, those of a batch in falling order.
+// The commands batch by batch, in each batch in falling order.
 fn falling(alloc: Global, plan: &Plan) -> Result<Vec<u32>, AllocError> {
     let mut order = Vec::new(alloc);
     for batch in 0..plan.batches() {
@@ -198,7 +198,7 @@ fn is_same_in_order(alloc: Global, script: &Script, plain: &Outcome, order: &[u3
     }
 }
 
-// Whether the falling order of each batch gives that outcome.
+// Whether a run with each batch in falling order gives that outcome.
 fn is_same_falling(alloc: Global, script: &Script, plain: &Outcome) -> bool
     requires { IsOutcome script.now plain.now }
 {
@@ -221,7 +221,7 @@ fn shared_is_right<R: Threads + Wait + Copy + Send + 'static>(
     }
 }
 
-// Whether all runs of a script give what the one command by command gives.
+// Whether all runs of a script give what the run command by command gives.
 fn is_right<R: Threads + Wait + Copy + Send + 'static>(rt: R, alloc: Global, text: &str) -> bool {
     match shared(alloc, text) {
         Some(script) => shared_is_right(rt, alloc, &script),

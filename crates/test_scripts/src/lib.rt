@@ -1,4 +1,4 @@
-//! The tests of scripts, of the texts of their reports and of their own texts, over the public calls.
+//! The tests of scripts, of their reports' texts and of their own texts, over the public calls.
 #![tactic(auto)]
 
 #[cfg(test)]

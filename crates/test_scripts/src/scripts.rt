@@ -1,4 +1,4 @@
-// What comes of texts: scripts, with their own texts and tallies, or faults.
+// Tests of texts: each is a script, with its own text and tally, or has a fault.
 mod built;
 mod known;
 mod listed;
@@ -10,25 +10,25 @@ use photo_script::{Script, ScriptFault, Tally, read_script};
 use script_text::{command_text, script_text};
 use std::alloc::Global;
 
-// A value that is owned has its own function here, with no `rt` beside it, and a table is a constant: so the proofs are short. They grow
-// with the square of the tables that a function names, so each table has a test of its own.
+// Each function here owns its value and takes no `rt`, and each table is a constant: this keeps the proofs short. A proof grows
+// with the square of the tables that its function names, so each table has a test of its own.
 
-/// What has to come of a text.
+/// The expected result of reading a text.
 #[derive(Clone, Copy)]
 pub enum Wanted<'a> {
-    /// It is a script, by `read`, or has a fault of this text.
+    /// A script, where the text is `read`, or a fault with this text.
     Is(&'a str),
-    /// It is a script that is printed so.
+    /// A script that is printed as this text.
     Printed(&'a str),
-    /// It is a script, and whether that has a text.
+    /// A script, and whether it has a text.
     HasText(bool),
-    /// It is a script whose command of that number has this line.
+    /// A script whose command of that number has this line.
     Line(u32, &'a str),
-    /// It is a script with so many changes, pulls and reports.
+    /// A script with that many changes, pulls and reports.
     Tally(u64, u64, u64),
 }
 
-/// Whether that comes of a text's bytes.
+/// Whether reading a text's bytes gives the expected result.
 pub fn is_so(alloc: Global, bytes: &[u8], wanted: &Wanted<'_>) -> bool {
     match (read_script(alloc, bytes), wanted) {
         (Ok(script), wanted) => is_script(alloc, &script, wanted),
@@ -79,7 +79,7 @@ fn has_line(alloc: Global, script: &Script, number: u32, wanted: &str) -> bool {
     }
 }
 
-/// Whether a text behind another one is a script or has a fault.
+/// Whether the two texts, one behind the other, are a script, or have that fault.
 pub fn is_answered(alloc: Global, front: &str, text: &str, wanted: &str) -> bool {
     match format!(in alloc; "{front}{text}") {
         Ok(whole) => is_so(alloc, whole.as_bytes(), &Wanted::Is(wanted)),

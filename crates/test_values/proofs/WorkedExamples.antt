@@ -1,4 +1,4 @@
--- The worked examples: each place that an element or a group may stand at is looked at.
+-- The worked examples, by cases over each place that an element or a group can have.
 use Rattle.std.proofs.Common.{◌≡◌, ℕ, zero, suc, ◌+◌, ◌<◌, false, List, [], ◌∷◌, ◌++◌, length, get_or, take, drop, refl, ap, ◌∙◌, arith}
 use Rattle.std.proofs.lemmas.Bool.{false≢true}
 use Rattle.std.proofs.lemmas.Bool.Decides.{nat_tests}
@@ -7,7 +7,7 @@ use Rattle.item_knowledge.specs.Fragments.{is_empty, first, entries_at}
 use Rattle.item_knowledge.specs.Gathering.{pictures_at, pictures_of}
 use Rattle.test_values.specs.Examples.{TakenOutAsTold, GatheredAsTold, all_groups, all_numbers}
 
--- of two, one stays
+-- of two elements one stays
 one_stays : (x y k : ℕ) → k < 2 → length (take k (x ∷ y ∷ []) ++ drop (k + 1) (x ∷ y ∷ [])) ≡ 1
 one_stays x y zero below = refl
 one_stays x y (suc zero) below = refl

@@ -1,4 +1,4 @@
--- Relations of the crates below, at some values: what they say, and, before a ⊥, what they don't.
+-- Worked examples of relations of the crates below: values for which they hold and, before a ⊥, values for which they don't.
 use Rattle.std.specs.Prelude.{ℕ, Bool, nat_lt, List, [], ◌∷◌}
 use Rattle.block_list.specs.Taken.{IsTakenOut}
 use Rattle.item_knowledge.specs.Entries.{Entry}
@@ -8,16 +8,16 @@ use Rattle.item_knowledge.specs.Gathering.{IsGathered}
 abbrev pub above_seven : ℕ → Bool
 above_seven n = nat_lt 7 n
 
--- what is left of a list where an element above 7 is taken out
+-- an element above 7 is taken out of a list
 pub record TakenOutAsTold : Type 0 where
-  -- any that passes may be the one, and not the first alone
+  -- any element that passes may be taken, not only the first
   pub last : IsTakenOut above_seven (7 ∷ 8 ∷ 9 ∷ []) 9 (7 ∷ 8 ∷ [])
-  -- of two that are equal, one stays
+  -- of two equal elements one stays
   pub equal : IsTakenOut above_seven (8 ∷ 8 ∷ []) 8 (8 ∷ [])
   pub both : IsTakenOut above_seven (8 ∷ 8 ∷ []) 8 [] → ⊥
-  -- it doesn't pass
+  -- the element doesn't pass
   pub fails : IsTakenOut above_seven (7 ∷ 8 ∷ []) 7 (8 ∷ []) → ⊥
-  -- it is taken, and stays
+  -- an element that is taken doesn't stay
   pub stays : IsTakenOut above_seven (7 ∷ 8 ∷ []) 8 (7 ∷ 8 ∷ []) → ⊥
 
 abbrev one : List Entry
@@ -29,7 +29,7 @@ other = (1, 1) ∷ []
 abbrev of : List ℕ → List Entry → Fragment
 of ps es = record { pictures = ps; entries = es }
 
--- three pictures with what is known of them, of two of them the same
+-- three pictures with what is known of each; for two of them it is the same
 abbrev pub three : List (ℕ × List Entry)
 three = (7, one) ∷ (8, other) ∷ (9, one) ∷ []
 
@@ -39,10 +39,10 @@ all_groups = of (7 ∷ 9 ∷ []) one ∷ of (8 ∷ []) other ∷ []
 abbrev pub all_numbers : List (ℕ × ℕ)
 all_numbers = (7, 1) ∷ (8, 2) ∷ (9, 1) ∷ []
 
--- pictures in the groups of their vectors, with the numbers of these
+-- pictures in the groups of their vectors, with the numbers of the groups
 pub record GatheredAsTold : Type 0 where
   pub all : IsGathered three [] all_groups all_numbers
-  -- a picture stands in the group of another vector
+  -- a picture is in the group of another vector
   pub mixed : IsGathered three [] (of (7 ∷ 8 ∷ 9 ∷ []) one ∷ []) ((7, 1) ∷ (8, 1) ∷ (9, 1) ∷ []) → ⊥
-  -- groups stand in the order of their first pictures
+  -- groups aren't in the order of their first pictures
   pub turned : IsGathered three [] (of (8 ∷ []) other ∷ of (7 ∷ 9 ∷ []) one ∷ []) ((7, 2) ∷ (8, 1) ∷ (9, 2) ∷ []) → ⊥

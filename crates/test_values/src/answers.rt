@@ -1,8 +1,8 @@
-//! What answers are shown as, and texts of repeated pieces.
+//! The texts that answers are shown as, and texts of repeated pieces.
 use std::alloc::{AllocError, Global};
 use std::fmt::Display;
 
-/// Whether a value is shown so.
+/// Whether a value's text is `text`.
 pub fn is_shown<D: Display>(alloc: Global, value: &D, text: &str) -> bool {
     match value.to_string(alloc) {
         Ok(shown) => shown.as_str() == text,
@@ -10,7 +10,7 @@ pub fn is_shown<D: Display>(alloc: Global, value: &D, text: &str) -> bool {
     }
 }
 
-/// Whether the value that was read, or the fault, is shown so.
+/// Whether the text of the value that was read, or of the fault, is `text`.
 pub fn is_answer<T: Display, E: Display>(alloc: Global, answer: &Result<T, E>, text: &str) -> bool {
     match answer {
         Ok(value) => is_shown(alloc, value, text),
@@ -18,7 +18,7 @@ pub fn is_answer<T: Display, E: Display>(alloc: Global, answer: &Result<T, E>, t
     }
 }
 
-/// The pieces of a text, each with how often it stands there.
+/// The pieces of a text, each with how often it is repeated.
 pub type Pieces = &'static [(&'static str, usize)];
 
 fn push_times(text: &mut String, piece: &str, times: usize) -> Result<(), AllocError> {
@@ -28,7 +28,7 @@ fn push_times(text: &mut String, piece: &str, times: usize) -> Result<(), AllocE
     Ok(())
 }
 
-/// Puts the pieces one after another.
+/// Appends the pieces one after another.
 pub fn push_pieces(text: &mut String, pieces: Pieces) -> Result<(), AllocError> {
     for (piece, times) in pieces {
         push_times(text, piece, *times)?;

@@ -1,4 +1,4 @@
-//! Rows that are placed, reserved, copied and cleared.
+//! Tests of arenas: rows that are placed, reserved, copied and cleared.
 ghost use Rattle.std.specs.Prelude.{◌≡◌, IfOk};
 
 use fragment_arena::{FragmentArena, RawWords, Row};
@@ -12,7 +12,7 @@ fn has_row(arena: &FragmentArena, place: usize, words: &[u64]) -> bool {
     place < arena.rows() && arena.row(Row::at(place)) == words
 }
 
-// Whether two rows stand at their places, and one that is placed once they are gone.
+// Whether two rows are at their places, and whether a row that is placed after clearing is.
 fn places_rows(arena: &mut FragmentArena) -> bool {
     if arena.place(&[3, 5]).is_err() || arena.place(&[]).is_err() {
         return false;
@@ -29,7 +29,7 @@ fn places_rows(arena: &mut FragmentArena) -> bool {
     read && row.place() == 0 && has_row(arena, 0, &[9, 9]) && !arena.has_reserved(0)
 }
 
-// Whether two pairs of rows stand where they were placed, up to the very last of what was reserved.
+// Whether two pairs of rows are where they were placed, up to the last reserved one.
 fn places_pairs(arena: &mut FragmentArena) -> bool {
     arena.clear();
     if arena.place(&[4]).is_err() || arena.reserve(5, 4).is_err() {
@@ -54,7 +54,7 @@ fn rows_stand_at_their_places(rt: HostRuntime) {
     assert!(rt; rows_are_placed(rt.alloc()));
 }
 
-// Whether a block without rows gives way to a larger one, and one with rows stays beside one that is four times as large.
+// Whether a larger block replaces a block without rows, and whether a block with rows stays beside one four times as large.
 fn gives_way(arena: &mut FragmentArena) -> bool {
     if arena.reserve(40, 1).is_err() || arena.reserve(1000, 1).is_err() {
         return false;
@@ -76,7 +76,7 @@ fn a_block_without_rows_gives_way(rt: HostRuntime) {
     assert!(rt; a_block_gives_way(rt.alloc()));
 }
 
-// Whether 10,000 rounds of one size take no more memory than the first of them.
+// Whether 10,000 rounds of one size take no more memory than the first.
 fn rounds_take_no_more(alloc: Global) -> bool {
     let mut arena = FragmentArena::new(alloc);
     let mut first = (0, 0);
@@ -97,7 +97,7 @@ fn memory_does_not_grow(rt: HostRuntime) {
     assert!(rt; rounds_take_no_more(rt.alloc()));
 }
 
-// Places rows of 0 to 299 words, each of its own number.
+// Places rows of 0 to 299 words; each word is the row's number.
 fn place_stairs(alloc: Global, arena: &mut FragmentArena) -> Result<(), AllocError> {
     for i in 0..300 {
         let row = vec![in alloc; i as u64; i]?;
@@ -128,7 +128,7 @@ fn are_stairs(arena: &FragmentArena) -> bool {
     true
 }
 
-// Whether rows in several blocks are read back, round after round, and rounds of one size take no more memory.
+// Whether rows in several blocks are read back in each round, and whether rounds of one size take no more memory.
 fn climbs(alloc: Global, arena: &mut FragmentArena) -> bool {
     let mut memory = arena.memory();
     for round in 0..5 {
@@ -151,7 +151,7 @@ impl Promise<FragmentArena> for Same {
     ghost kept_by = { λ p r. r ≡ p.0.value };
 }
 
-// An arena goes to another thread, and comes back.
+// Sends an arena to another thread and back.
 fn there_and_back<R: Threads>(rt: &R, arena: FragmentArena) -> Result<FragmentArena, AllocError>
     ensures { IfOk result (λ a. a ≡ arena) }
 {
@@ -160,7 +160,7 @@ fn there_and_back<R: Threads>(rt: &R, arena: FragmentArena) -> Result<FragmentAr
     Ok(child.join(rt))
 }
 
-// Whether stairs are climbed again once they were in another thread.
+// Whether stairs can be climbed again after they were in another thread.
 fn stand_after_a_thread<R: Threads>(rt: &R, alloc: Global) -> bool {
     let Ok(arena) = stairs(alloc) else {
         return false;
@@ -176,8 +176,8 @@ fn rows_lie_in_many_blocks_and_cross_threads(rt: HostRuntime) {
     assert!(rt; stand_after_a_thread(&rt, rt.alloc()));
 }
 
-// Runs of the stairs, each with its first row, the row behind its last one, and its words. The first blocks have 32, 128,
-// 512 and 2,048 words, so that they begin with the rows 0, 8, 18 and 36.
+// Runs of the stairs, each with its first row, the row behind its last one, and its number of words. The first blocks have 32,
+// 128, 512 and 2,048 words, so they begin with rows 0, 8, 18 and 36.
 const RUNS: &[(usize, usize, usize)] = &[
     (0, 0, 0),
     (9, 9, 0),
@@ -193,7 +193,7 @@ const RUNS: &[(usize, usize, usize)] = &[
     (0, 300, 44_850),
 ];
 
-// Whether the rows from a place on are those of another arena from a row up to another, and the last.
+// Whether the rows from an index on are those of another arena's run, and are the last.
 fn have_run(
     arena: &FragmentArena,
     first: usize,
@@ -210,7 +210,7 @@ fn have_run(
     place == arena.rows()
 }
 
-// Whether a run has so many words, and comes to another arena behind its rows.
+// Whether a run has that many words, and is appended to another arena's rows.
 fn takes_run(
     other: &mut FragmentArena,
     arena: &FragmentArena,

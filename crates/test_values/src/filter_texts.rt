@@ -1,11 +1,11 @@
-//! Texts of filters: what is read and printed of them, and their faults.
+//! Tests of filters' texts: how they are read and printed, and their faults.
 use crate::answers::{Pieces, is_answer, is_shown, push_pieces};
 use photo_filter_text::{FilterTree, print, read};
 use std::alloc::Global;
 
-// A value that is owned has its own function here, with no `rt` beside it, and a table is a constant: so the proofs are short.
+// Each function here owns its value and takes no `rt`, and each table is a constant: this keeps the proofs short.
 
-// Whether a tree is printed as it is shown, and has an equal copy.
+// Whether a tree's printed text is its shown text, and its copy equals it.
 fn is_printed(alloc: Global, tree: &FilterTree) -> bool {
     match print(alloc, tree) {
         Ok(text) => is_shown(alloc, tree, &text) && is_copied(tree),
@@ -20,7 +20,7 @@ fn is_copied(tree: &FilterTree) -> bool {
     }
 }
 
-// Whether a text is read and shown so, or refused with that fault.
+// Whether a text is read and shown as `want`, or refused with that fault.
 fn is_read(alloc: Global, text: &str, want: &str) -> bool {
     let answer = read(alloc, text);
     let printed = match &answer {
@@ -96,7 +96,7 @@ fn texts_are_read_and_printed_or_refused(rt: HostRuntime) {
     }
 }
 
-// Whether the text of the pieces is refused with that fault, or with none shown as it was read.
+// Whether the text of the pieces is refused with that fault, or is shown as it was read where no fault is given.
 fn is_within_limits(alloc: Global, pieces: Pieces, want: Option<&str>) -> bool {
     let mut text = String::new(alloc);
     push_pieces(&mut text, pieces).is_ok() && is_read(alloc, &text, want.unwrap_or(&text))

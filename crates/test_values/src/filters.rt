@@ -1,18 +1,18 @@
-//! Filters: their alternatives, what they match, and what they cover.
+//! Tests of filters: their alternatives, what they match, and what they cover.
 use crate::answers::{Pieces, is_answer, push_pieces};
 use photo_filter_rules::{BuildFault, Filter, covers};
 use photo_filter_text::{FilterTree, read};
 use photo_record::{Day, Rating, Record, Words};
 use std::alloc::Global;
 
-// A value that is owned has its own function here, with no `rt` beside it, and a table is a constant: so the proofs are short.
+// Each function here owns its value and takes no `rt`, and each table is a constant: this keeps the proofs short.
 
 fn built(alloc: Global, text: &str) -> Option<Filter> {
     let tree = read(alloc, text).ok()?;
     Filter::build(alloc, tree).ok()
 }
 
-// How many alternatives the filter has, or why it is not built.
+// How many alternatives the filter has, or why it isn't built.
 fn width_of(alloc: Global, tree: FilterTree) -> Result<usize, BuildFault> {
     match Filter::build(alloc, tree) {
         Ok(filter) => Ok(filter.alternatives()),
@@ -27,7 +27,7 @@ fn is_so_wide(alloc: Global, text: &str, want: &str) -> bool {
     }
 }
 
-// Whether the filter of the pieces has so many alternatives, or is refused with that fault.
+// Whether the filter of the pieces has that many alternatives, or is refused with that fault.
 fn are_so_wide(alloc: Global, pieces: Pieces, want: &str) -> bool {
     let mut text = String::new(alloc);
     push_pieces(&mut text, pieces).is_ok() && is_so_wide(alloc, &text, want)
@@ -43,7 +43,7 @@ const AND_EIGHT: (&str, usize) = (
     8,
 );
 
-// Tests for one of some words.
+// Tests for one of several words.
 const OF_EIGHT: &str =
     "(keyword a or keyword b or keyword c or keyword d or keyword e or keyword f or keyword g or keyword h)";
 
@@ -106,7 +106,7 @@ const PICTURES: &[(u8, &str, &str)] = &[
     (5, "0000-01-01", "x,\u{e9}"),
 ];
 
-// Whether the filter matches a picture just where it is wanted.
+// Whether the filter matches a picture exactly where it should.
 fn matches_as(
     alloc: Global,
     filter: &Filter,
@@ -119,7 +119,7 @@ fn matches_as(
     }
 }
 
-// Whether the filter matches just the pictures whose letter is `y`, and has so many alternatives.
+// Whether the filter matches exactly the pictures whose letter is `y`, and has `count` alternatives.
 fn is_filter(alloc: Global, filter: &Filter, count: usize, letters: &[u8]) -> bool {
     if letters.len() != PICTURES.len() {
         return false;
@@ -149,7 +149,7 @@ fn is_built(alloc: Global, text: &str, count: usize, letters: &[u8]) -> bool {
     }
 }
 
-// Filters, each with the number of its alternatives, and which pictures it matches.
+// Filters, each with the number of its alternatives and the pictures that it matches.
 const FILTERS: &[(&str, usize, &[u8])] = &[
     ("all", 1, b"yyyy"),
     ("none", 0, b"nnnn"),
@@ -179,7 +179,7 @@ fn filters_match(rt: HostRuntime) {
     }
 }
 
-// Whether the filter covers that of a text just where it is wanted.
+// Whether the filter covers that of a text exactly where it should.
 fn covers_text(alloc: Global, filter: &Filter, text: &str, want: bool) -> bool {
     match built(alloc, text) {
         Some(other) => covers(filter, &other) == want,

@@ -1,4 +1,4 @@
-//! Learning, asking, comparing and staging knowledges of a few pictures, and of more than a handful.
+//! Tests of knowledges of a few pictures and of many: they learn, are asked, are compared and stage.
 ghost use Rattle.std.specs.Prelude.{◌≡◌, ◌<◌, true, IfSome};
 ghost use Rattle.photo_record.specs.Limits.{IsPicNo};
 ghost use Rattle.photo_version.specs.Author.{author};
@@ -12,9 +12,9 @@ use std::alloc::{AllocError, Global};
 
 mod own;
 
-// A knowledge that is owned has its own function here, with no `?` beside it and no `rt`: so the proofs are short.
+// Each function here owns its knowledge, has no `?` beside it and takes no `rt`: this keeps the proofs short.
 
-// The `n`th version of a device.
+// A device's version number `n`.
 fn version(device: u16, n: u32) -> Version
     requires { 0 < n }
     ensures { result ≡ versions.version (author device) n }
@@ -29,7 +29,7 @@ fn picture(number: u32) -> PicNo
     PicNo::new(number).unwrap()
 }
 
-// Whether of a picture the versions of a device up to the `n`th are learned.
+// Whether the knowledge learns a device's versions up to number `n` of a picture.
 fn learns(alloc: Global, knowledge: &mut Knowledge, number: u32, device: u16, n: u32) -> bool
     requires picture { IsPicNo number }
     requires some { 0 < n }
@@ -40,7 +40,7 @@ fn learns(alloc: Global, knowledge: &mut Knowledge, number: u32, device: u16, n:
     }
 }
 
-// Whether of a picture just the first `n` versions of device 0 are known.
+// Whether the knowledge knows exactly the first `n` versions of device 0 of a picture.
 fn has(knowledge: &Knowledge, number: u32, n: u32) -> bool
     requires picture { IsPicNo number }
     requires some { 0 < n }
@@ -51,7 +51,7 @@ fn has(knowledge: &Knowledge, number: u32, n: u32) -> bool
     }
 }
 
-// Whether the fragments are the star, which is empty, and one of the pictures 7 and 9, of which a version is known.
+// Whether the knowledge has two fragments: an empty star, and one of pictures 7 and 9 that has a version.
 fn has_both_fragments(knowledge: &Knowledge) -> bool {
     if knowledge.fragments() != 2 {
         return false;
@@ -65,7 +65,7 @@ fn has_both_fragments(knowledge: &Knowledge) -> bool {
         && both.entry(0) == (Author::new(0), 1)
 }
 
-// Whether two pictures of which the same version is learned are one fragment.
+// Whether two pictures of which the knowledge learned the same version share a fragment.
 fn learns_two(alloc: Global, knowledge: &mut Knowledge) -> bool {
     learns(alloc, knowledge, 7, 0, 1)
         && learns(alloc, knowledge, 9, 0, 1)
@@ -79,7 +79,7 @@ fn learns_two(alloc: Global, knowledge: &mut Knowledge) -> bool {
             .0
 }
 
-// Whether such a knowledge is just the star once that is learned, and stays so.
+// Whether the knowledge equals the star once it has learned it, and stays so.
 fn becomes_the_star(knowledge: &mut Knowledge, star: &Knowledge) -> bool {
     !knowledge.same(star)
         && !knowledge.has_all(star)
@@ -91,7 +91,7 @@ fn becomes_the_star(knowledge: &mut Knowledge, star: &Knowledge) -> bool {
         && knowledge.same(star)
 }
 
-// Of every picture the first version of device 0 is known.
+// A knowledge of the first version of device 0, of every picture.
 fn star(alloc: Global) -> Result<Knowledge, AllocError> {
     match Knowledge::new(alloc) {
         Ok(mut knowledge) => match knowledge.learn_own(version(0, 1)) {
@@ -123,7 +123,7 @@ fn pictures_known_alike_are_one_fragment(rt: HostRuntime) {
     assert!(rt; two_become_the_star(rt.alloc()));
 }
 
-// Learns of each of the pictures 1 to 20 as many versions of a device as its number.
+// Learns as many versions of a device as its number of each of the pictures 1 to 20.
 fn learns_twenty(alloc: Global, knowledge: &mut Knowledge, device: u16) -> bool {
     for n in 1..21u32 {
         if !learns(alloc, knowledge, n, device, n) {
@@ -133,7 +133,7 @@ fn learns_twenty(alloc: Global, knowledge: &mut Knowledge, device: u16) -> bool 
     knows_twenty(knowledge, device)
 }
 
-// Whether it is known of each of the pictures 1 to 20 just as many versions of a device as its number.
+// Whether exactly as many versions of a device as its number are known of each of the pictures 1 to 20.
 fn knows_twenty(knowledge: &Knowledge, device: u16) -> bool {
     for n in 1..21u32 {
         let next = version(device, n + 1);
@@ -144,7 +144,8 @@ fn knows_twenty(knowledge: &Knowledge, device: u16) -> bool {
     knowledge.fragments() == 21
 }
 
-// Whether what another knows may be staged and left, is left where something is learned, and is known once it is committed.
+// Whether the knowledge can stage what another knows and drop it again, drops it when it learns something, and knows it after a
+// commit.
 fn stages(alloc: Global, knowledge: &mut Knowledge, other: &Knowledge) -> bool {
     if knowledge.stage(other).is_err() || !knowledge.staged() {
         return false;
@@ -166,7 +167,8 @@ fn commits(knowledge: &mut Knowledge, other: &Knowledge) -> bool {
     !knowledge.staged() && knowledge.has_all(other) && !knowledge.same(other)
 }
 
-// Whether a copy, which learns at once what the knowledge stages and commits, is the same then, and has what it is to stage.
+// Whether a copy that learns at once what the knowledge stages and commits equals it afterwards, and can stage what it has
+// already.
 fn commits_beside_its_copy(alloc: Global, knowledge: &mut Knowledge, other: &Knowledge) -> bool {
     match knowledge.try_clone() {
         Ok(mut copy) => {
@@ -204,7 +206,7 @@ fn many_fragments_are_copied_staged_and_joined(rt: HostRuntime) {
     assert!(rt; twenty_are_copied_and_joined(rt.alloc()));
 }
 
-// Two pictures, of each of which the vector is told.
+// A table of two pictures, each with the vector.
 fn table(alloc: Global, vector: &Vector) -> Option<Vec<(PicNo, Vector)>>
     ensures { IfSome result (λ table. in_order table.items ≡ true) }
 {
@@ -214,7 +216,7 @@ fn table(alloc: Global, vector: &Vector) -> Option<Vec<(PicNo, Vector)>>
     Some(table)
 }
 
-// Whether what a table tells is known once it was learned.
+// Whether a knowledge knows what a table tells once it has learned it.
 fn learns_table(alloc: Global, table: &[(PicNo, Vector)]) -> bool
     requires { in_order table.now ≡ true }
 {
@@ -226,7 +228,7 @@ fn learns_table(alloc: Global, table: &[(PicNo, Vector)]) -> bool
     }
 }
 
-// Whether what is told is known once it is committed, and not before.
+// Whether the knowledge knows what it was told after the commit, and not before.
 fn commits_told(knowledge: &mut Knowledge, told: &Told) -> bool {
     if knowledge.stage_told(told).is_err() || !knowledge.staged() || knowledge.fragments() != 1 {
         return false;

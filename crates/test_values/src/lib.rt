@@ -1,7 +1,7 @@
-//! The tests of a photo collection's values, over the public calls of the crates that have them: records, filters, versions,
-//! what is known of them, and the lists and arenas in which they stand.
+//! The tests of a photo collection's values, over their crates' public calls: records, filters, versions, knowledges, and the
+//! lists and arenas that store them.
 //!
-//! Its laws compute relations that the contracts of those crates cite, at some values.
+//! Its laws work out examples of relations that those crates' contracts cite.
 #![tactic(auto)]
 
 #[cfg(test)]

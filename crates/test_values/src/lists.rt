@@ -1,13 +1,13 @@
-//! Lists that grow, shrink and are searched: what they are then, and in which blocks.
+//! Tests of lists that grow, shrink and are searched: their elements and their blocks.
 use block_list::{BlockList, Spot};
 use std::alloc::{AllocError, Global};
 
 mod rooms;
 mod taken;
 
-// A list that is owned has its own function here, with no `rt` beside it, and a table is a constant: so the proofs are short.
+// Each function here owns its list and takes no `rt`, and each table is a constant: this keeps the proofs short.
 
-// 0, 1, 2 .. n - 1, each put before the others or behind them.
+// The numbers 0 to n - 1, each inserted at the front or at the end.
 fn counted(alloc: Global, n: u32, falls: bool) -> Result<BlockList<u32>, AllocError> {
     let mut list = BlockList::new(alloc);
     for i in 0..n {
@@ -21,7 +21,7 @@ fn counted(alloc: Global, n: u32, falls: bool) -> Result<BlockList<u32>, AllocEr
     Ok(list)
 }
 
-// How many blocks there are, and how long the first is.
+// How many blocks there are, and how many elements the first has.
 type Shape = (usize, usize);
 
 fn shape(list: &BlockList<u32>) -> Shape {
@@ -32,7 +32,7 @@ fn shape(list: &BlockList<u32>) -> Shape {
     }
 }
 
-// Whether the list is 0, 1, 2 .. n - 1, in blocks of that shape.
+// Whether the list is 0 to n - 1, in blocks of that shape.
 fn counts_to(list: &BlockList<u32>, n: u32, wanted: Shape) -> bool {
     let mut next = 0;
     for item in list {
@@ -51,7 +51,7 @@ fn grows(alloc: Global, n: u32, falls: bool, wanted: Shape) -> bool {
     }
 }
 
-// How long a list is, whether it grows at its front, and in which blocks it is.
+// How long a list is, whether it grew at its front, and the shape of its blocks.
 const GROWN: &[(u32, bool, Shape)] = &[
     (0, true, (0, 0)),
     (127, true, (1, 127)),
@@ -73,15 +73,15 @@ fn a_list_grows_in_blocks(rt: HostRuntime) {
     }
 }
 
-// What is done to the numbers from one up to before another.
+// An edit of the numbers from one up to before another.
 enum Edit {
     Remove(u32, u32),
     Retain(u32, u32),
-    // The number 1,000 takes their place.
+    // Replaces the numbers by 1,000.
     Replace(u32, u32),
 }
 
-// Whether an edit of a list of 275 numbers could be made.
+// Whether a list of 275 numbers could be edited.
 fn edits(list: &mut BlockList<u32>, edit: &Edit) -> bool {
     match edit {
         Edit::Remove(from, to) if *from <= *to && *to as usize <= list.len() => {
@@ -102,7 +102,7 @@ fn edits(list: &mut BlockList<u32>, edit: &Edit) -> bool {
     }
 }
 
-// Whether a list of 275 numbers, once it was edited, has that length and that shape, and at a place that number.
+// Whether a list of 275 numbers has, after an edit, that length and shape, and that number at an index.
 fn is_edited(
     list: &mut BlockList<u32>,
     edit: &Edit,
@@ -157,7 +157,7 @@ fn a_list_is_edited_over_blocks(rt: HostRuntime) {
     }
 }
 
-// Whether a number of a list of 275 is found, or none beyond the last.
+// Whether a search in a list of 275 finds a number, or none beyond the last.
 fn finds(list: &BlockList<u32>, wanted: u32) -> bool {
     let below = |item: &u32| *item < wanted;
     let (found, _) = list.find_failing_at(&below);
@@ -178,12 +178,12 @@ fn finds_each(list: &BlockList<u32>) -> bool {
     true
 }
 
-// Where the first number stands that isn't below the wanted one, as a hint.
+// A hint to the first number that isn't below the wanted one.
 fn spot_of(list: &BlockList<u32>, wanted: u32) -> Spot {
     list.find_failing_at(|item| *item < wanted).1
 }
 
-// Whether a list of 2,000 numbers, of which the first 275 stay, is searched right.
+// Whether searches are right in a list of 2,000 numbers of which only the first 275 stay.
 fn is_searched(list: &mut BlockList<u32>) -> bool {
     if list.len() != 2_000 {
         return false;

@@ -1,4 +1,4 @@
-//! Ratings, picture numbers, days, words and records: how they are read, and what they are shown as.
+//! Tests of ratings, picture numbers, days, words and records: how they are read and shown.
 use crate::answers::{is_answer, is_shown};
 use photo_record::{Day, PicNo, Rating, Record, Word, WordFault, Words};
 use std::alloc::Global;
@@ -42,12 +42,12 @@ fn date_of(text: &str) -> Option<(i32, u16, u8, u8)> {
     Some((day.number(), day.year(), day.month(), day.day()))
 }
 
-// Of 64 bytes, and of 65.
+// A word of 64 bytes, and one of 65.
 const LONGEST: &str = "aaaaaaaaaaaaaaaaaaaaaaaaaaaaaaaaaaaaaaaaaaaaaaaaaaaaaaaaaaaaaaaa";
 
 const LONGER: &str = "aaaaaaaaaaaaaaaaaaaaaaaaaaaaaaaaaaaaaaaaaaaaaaaaaaaaaaaaaaaaaaaaa";
 
-// What is read as a word, and how that is shown, or its fault.
+// Texts, and what is shown of the word read from each, or the fault.
 const WORDS: &[(&str, &str)] = &[
     ("x", "x"),
     ("-", "-"),
@@ -94,13 +94,13 @@ fn is_word(alloc: Global, text: &str, want: &str) -> bool {
     is_answer(alloc, &Word::read(alloc, text), want)
 }
 
-// What is read as a set, and how that is shown, or its fault.
+// Texts, and what is shown of the set read from each, or the fault.
 const SETS: &[(&str, &str)] = &[
     ("-", "-"),
     ("-,x", "-,x"),
     ("b,a,B", "B,a,b"),
     ("z,e\u{301},ab,a", "a,ab,z,é"),
-    // U+1F600 stands after U+FF5E by bytes, and before it by units of 16 bits.
+    // U+1F600 sorts behind U+FF5E by bytes, and before it by 16-bit units.
     ("\u{1f600},\u{ff5e}", "\u{ff5e},\u{1f600}"),
     (
         "p,o,n,m,l,k,j,i,h,g,f,e,d,c,b,a",
@@ -146,7 +146,7 @@ fn is_copied_set(words: &Words) -> bool {
     }
 }
 
-// Whether the words are three, of which `a` is the second, each is copied, and all are.
+// Whether there are three words, `a` is the second, and copies of each and of all equal them.
 fn are_three(words: &Words) -> bool {
     if words.len() != 3 || words.is_empty() || words.get(1).text() != "a" {
         return false;
@@ -171,7 +171,7 @@ fn a_set_has_its_words(rt: HostRuntime) {
     assert!(rt; three_are_read(rt.alloc()));
 }
 
-// What a record is read from, and how it is shown.
+// The texts from which a record is read, and its shown text.
 type Shown = (&'static str, &'static str, &'static str, &'static str);
 
 const SHOWN: &[Shown] = &[
@@ -220,7 +220,7 @@ fn records_are_shown(rt: HostRuntime) {
     }
 }
 
-// Numbers at their limits and beyond.
+// Whether numbers at their limits are accepted, and numbers beyond refused.
 fn are_limits_kept() -> bool {
     let new = Rating::new(5).is_some() && Rating::new(6).is_none();
     let read = Rating::read("5") == Rating::new(5) && Rating::read("6").is_none();
@@ -230,7 +230,7 @@ fn are_limits_kept() -> bool {
     new && read && other && first && last
 }
 
-// How parts of a record are shown, also in a column of eight, and what has no part.
+// Whether a record's parts are shown rightly, also in a column of eight, and how a removal and a fault are shown.
 fn are_parts_shown(alloc: Global) -> Option<bool> {
     let (rating, picture) = (Rating::new(4)?, PicNo::new(1_200)?);
     let numbers = is_shown(alloc, &rating, "4") && is_shown(alloc, &picture, "1200");

@@ -1,11 +1,11 @@
-//! Authors, versions and vectors.
+//! Tests of authors, versions and vectors.
 use crate::answers::is_shown;
 use photo_version::{Author, Vector, Version};
 use std::alloc::Global;
 
-// A vector that is owned has its own function here, with no `?` behind it and no `rt` beside it: so the proofs are short.
+// Each function here owns its vector, has no `?` behind it and takes no `rt`: this keeps the proofs short.
 
-// Authors as they are compared, numbered and read.
+// Whether authors are compared, numbered and read rightly.
 fn are_authors_right() -> bool {
     let (first, next, frame) = (Author::new(0), Author::at(0, 1), Author::new(63));
     let numbers = frame.value() == 63 && next.value() == 0 && next.epoch() == 1;
@@ -16,7 +16,7 @@ fn are_authors_right() -> bool {
     numbers && epochs && order && words && back
 }
 
-// Versions as they are compared and read.
+// Whether versions are compared and read rightly.
 fn are_versions_right() -> Option<bool> {
     let (first, later) = (version(0, 0, 1)?, version(0, 0, 10)?);
     let (next, other) = (version(0, 1, 1)?, version(63, 0, 2)?);
@@ -31,15 +31,15 @@ fn authors_and_versions(rt: HostRuntime) {
     assert!(rt; are_versions_right() == Some(true));
 }
 
-// The nth version of a device in an epoch.
+// Version `n` of a device in an epoch.
 fn version(device: u16, epoch: u32, n: u32) -> Option<Version> {
     Version::new(Author::at(device, epoch), n)
 }
 
-// A vector's entries, each as a device, its epoch and its last version there.
+// A vector's entries, each as a device, its epoch and its last version in it.
 type Bounds = &'static [(u16, u32, u32)];
 
-// The vector of the bounds.
+// The vector with those bounds.
 fn vector(alloc: Global, bounds: Bounds) -> Option<Vector> {
     let mut vector = Vector::new(alloc);
     for (device, epoch, n) in bounds {
@@ -48,7 +48,7 @@ fn vector(alloc: Global, bounds: Bounds) -> Option<Vector> {
     Some(vector)
 }
 
-// Whether the entries of the vector are the bounds, also where they are gone over.
+// Whether the vector's entries are the bounds, by index and by iteration.
 fn has_entries(vector: &Vector, bounds: Bounds) -> bool {
     let mut place = 0;
     for entry in vector {
@@ -98,13 +98,13 @@ const UNIONS: &[(Bounds, Bounds, Bounds)] = &[
         &[(2, 0, 7), (3, 0, 5), (4, 0, 1)],
     ),
     (&[(0, 0, 2)], &[], &[(0, 0, 2)]),
-    // epochs stand apart
+    // different epochs have different entries
     (
         &[(0, 0, 2)],
         &[(1, 0, 1), (0, 1, 1)],
         &[(0, 0, 2), (0, 1, 1), (1, 0, 1)],
     ),
-    // more entries than a list has room for at first
+    // more entries than a list's first capacity
     (
         &[
             (0, 0, 1),
@@ -150,7 +150,7 @@ fn a_union_has_the_greater_bounds(rt: HostRuntime) {
     }
 }
 
-// Whether a vector has two versions of device 0, and nothing else, and is above nothing.
+// Whether a vector has exactly two versions of device 0, and is above the empty vector.
 fn has_just_two(alloc: Global, two: &Vector) -> Option<bool> {
     let (first, second, third) = (version(0, 0, 1)?, version(0, 0, 2)?, version(0, 0, 3)?);
     let other = version(1, 0, 1)?;
@@ -178,7 +178,7 @@ fn a_vector_has_versions_up_to_its_bounds(rt: HostRuntime) {
     assert!(rt; has_up_to_two(rt.alloc()));
 }
 
-// Whether a version is there, and is shown so.
+// Whether there is such a version, and its text is `text`.
 fn is_shown_as(alloc: Global, device: u16, epoch: u32, n: u32, text: &str) -> bool {
     match version(device, epoch, n) {
         Some(version) => is_shown(alloc, &version, text),

@@ -1,4 +1,4 @@
--- What the run of a script leaves ready for one more command.
+-- After the run of a script the devices are ready for one more command.
 use Rattle.std.proofs.Common.{◌≡◌, ◌≤◌, true, not, ◌&&◌, List, [], ◌∷◌, length, refl}
 use Rattle.std.specs.Prelude.{Option, Some, None, is_some, nat_lt}
 use Rattle.std.specs.List.{AllZip, list_all}

@@ -5,7 +5,7 @@ use std::sync::Wait;
 use std::thread::Threads;
 use tool_value_refusals::{Verdict, verdict_on};
 
-/// What came of the call that a line names. None where it names none, or where the values for it can't be made.
+/// The verdict on the call that a line names. `None` where it names none, or where the values for the call can't be made.
 pub fn of_line<R: Threads + Wait + Copy + Send + 'static>(
     rt: R,
     alloc: Global,

@@ -1,4 +1,4 @@
-//! The calls of `photo_device`, and `fleet_steps::run_command`.
+//! Calls of `photo_device`, and `fleet_steps::run_command`.
 ghost use Rattle.std.specs.Prelude.{◌≡◌, ◌<◌, ◌==◌, ◌&&◌, ℕ, [], ◌∷◌, IfSome};
 ghost use Rattle.photo_version.specs.Author.{author, device_of_author};
 ghost use Rattle.photo_version.specs.Version as versions;
@@ -18,7 +18,7 @@ use photo_version::{Author, Version};
 use std::alloc::{AllocError, Global};
 use tool_value_refusals::{Verdict, filter_of, judged, mark, rated, same_filter, told};
 
-/// What came of a call of `photo_device`.
+/// The verdict on a call of `photo_device`.
 pub fn verdict(alloc: Global, call: &str) -> Option<Verdict> {
     match call {
         "Device::new" => new(alloc),
@@ -71,12 +71,12 @@ enum Call {
     Command,
 }
 
-/// What came of `fleet_steps::run_command`.
+/// The verdict on `fleet_steps::run_command`.
 pub fn verdict_on_command(alloc: Global) -> Option<Verdict> {
     on_device(alloc, 2, Call::Command)
 }
 
-// What came of a call on a device that has made so many versions.
+// The verdict on a call on a device that has made `count` versions.
 fn on_device(alloc: Global, count: u8, call: Call) -> Option<Verdict> {
     let mut made = device(alloc, count);
     let verdict = match &mut made {
@@ -161,7 +161,7 @@ fn same_held(one: &HeldSet, other: &HeldSet) -> bool {
     true
 }
 
-/// Whether two devices are the same, as far as public readers tell.
+/// Whether two devices are the same, as far as the public readers show.
 pub fn same_device(one: &Device, other: &Device) -> bool {
     one.author() == other.author()
         && one.counter() == other.counter()
@@ -171,7 +171,7 @@ pub fn same_device(one: &Device, other: &Device) -> bool {
         && one.knowledge().same(other.knowledge())
 }
 
-/// Whether two lists of devices are the same, as far as public readers tell.
+/// Whether two lists of devices are the same, as far as the public readers show.
 pub fn same_devices(devices: &[Device], others: &[Device]) -> bool {
     if devices.len() != others.len() {
         return false;
@@ -184,7 +184,7 @@ pub fn same_devices(devices: &[Device], others: &[Device]) -> bool {
     true
 }
 
-// Whether a version of each of the first so many pictures was made, of falling rating.
+// Whether a version of each of the first `count` pictures was made, with falling ratings.
 fn has_made_all(alloc: Global, device: &mut Device, count: u8) -> bool {
     for n in 0..count {
         if !has_made_one(alloc, device, n) {
@@ -213,7 +213,7 @@ fn opened(alloc: Global, author: u16, text: &str) -> Option<Device> {
     }
 }
 
-// A device that keeps what a filter matches, and made so many versions, of the pictures 1 and more.
+// A device with that filter that has made `count` versions, of pictures 1, 2 and so on.
 fn device_of(alloc: Global, author: u16, text: &str, count: u8) -> Option<Device> {
     match opened(alloc, author, text) {
         Some(mut device) => {
@@ -227,7 +227,7 @@ fn device_of(alloc: Global, author: u16, text: &str, count: u8) -> Option<Device
     }
 }
 
-/// A device that made so many versions, of the pictures 1 and more, and keeps those of a rating of 4 or more.
+/// A device that has made `count` versions, of pictures 1, 2 and so on, and keeps ratings of 4 or more.
 pub fn device(alloc: Global, count: u8) -> Option<Device> {
     device_of(alloc, 0, "rating >= 4", count)
 }
@@ -270,7 +270,7 @@ fn is_fresh(device: &Device, filter: &Filter) -> bool {
         && device.knowledge().fragments() == 1
 }
 
-/// Whether a device has made a version of that number, of that picture, and holds it at that place.
+/// Whether a device has made a version of that number of that picture, and holds it at that place.
 pub fn has_made(
     device: &Device,
     made: (Version, Place),
@@ -328,7 +328,7 @@ fn edits_to(alloc: Global, device: &mut Device, content: &Record) -> Option<bool
     has_changed(device, made, next, picture)
 }
 
-// Whether a change went into the out, and nothing else of the picture is held. None where memory was wanted.
+// Whether a change went into the out, and the device holds nothing else of the picture. `None` where memory was refused.
 fn has_changed(
     device: &Device,
     made: Result<(Version, Place), ChangeFault>,
@@ -355,7 +355,7 @@ fn removes(alloc: Global, device: &mut Device) -> Option<bool> {
     has_changed(device, made, next, picture)
 }
 
-// What tells a device of three versions of another one's, and has it take and give up nothing.
+// A change that tells a device of three versions of another device, and makes it take and drop nothing.
 fn change(alloc: Global) -> Option<Change>
     ensures drops { IfSome result (λ change. change.drops ≡ []) }
     ensures takes { IfSome result (λ change. change.takes ≡ []) }
@@ -400,7 +400,7 @@ fn stages(alloc: Global, device: &mut Device, change: Change, twin: &Device) -> 
     Some(verdict)
 }
 
-// Whether a device is as its twin, and has nothing staged.
+// Whether a device equals its twin and has nothing staged.
 fn is_as_before(device: &Device, twin: &Device) -> bool {
     same_device(device, twin) && has_nothing_staged(device)
 }
@@ -417,7 +417,7 @@ fn is_change(alloc: Global, change: &Change) -> bool {
     right
 }
 
-// Lends a device three versions of another one's, and has it take and give up nothing.
+// Lends a device the knowledge of three versions of another device, and makes it take and drop nothing.
 fn stages_lent(alloc: Global, device: &mut Device) -> Option<bool> {
     if device.author().value() != 0 {
         return None;
@@ -446,7 +446,7 @@ fn stages_gain(alloc: Global, device: &mut Device, gain: &Knowledge) -> Option<b
     is_staged(device, done)
 }
 
-// Tells a device of nothing, and has it take and give up nothing.
+// Tells a device nothing, and makes it take and drop nothing.
 fn stages_told(alloc: Global, device: &mut Device) -> Option<bool> {
     let told = told_by(alloc, &[], &[]).ok()?;
     let drops = VersionList::new(Vec::new(alloc));
@@ -458,7 +458,7 @@ fn stages_told(alloc: Global, device: &mut Device) -> Option<bool> {
     is_staged(device, done)
 }
 
-// None where memory was wanted, nothing is staged, and both lists came back.
+// `None` where memory was refused, nothing is staged, and both lists came back.
 fn is_staged(
     device: &Device,
     done: Result<(), (VersionList, SharedList, AllocError)>,
@@ -526,7 +526,8 @@ fn refilters(alloc: Global, device: &mut Device, filter: Filter, twin: &Device) 
     Some(verdict)
 }
 
-// Whether a device is in its second epoch, has made nothing in it, and knows each of its two versions of its picture alone.
+// Whether a device is in its second epoch, has made nothing in it, and knows each of its two versions only of the version's
+// picture.
 fn has_begun_anew(alloc: Global, device: &Device) -> bool {
     device.author() == Author::at(0, 1)
         && device.counter() == 0
@@ -536,7 +537,7 @@ fn has_begun_anew(alloc: Global, device: &Device) -> bool {
         && is_five(alloc, device.filter())
 }
 
-// Whether nothing is staged on a device, nor in what it knows.
+// Whether nothing is staged on a device or on its knowledge.
 fn has_nothing_staged(device: &Device) -> bool {
     !device.staged() && !device.knowledge().staged()
 }
@@ -555,7 +556,7 @@ fn is_five(alloc: Global, filter: &Filter) -> bool {
     right
 }
 
-/// Whether a device finds that it holds two versions of picture 7, and no other conflict. None where memory was wanted.
+/// Whether a device finds that it holds two versions of picture 7, and no other conflict. `None` where memory was refused.
 pub fn finds_conflicts(alloc: Global, device: &Device) -> Option<bool> {
     mark(alloc);
     let found = device.conflicts();
@@ -603,7 +604,7 @@ fn shares_copy(alloc: Global, copy: Held, held: &Held) -> Option<bool> {
     right
 }
 
-// Whether what was made is that version. None where memory was wanted.
+// Whether the shared version that was made is that version. `None` where memory was refused.
 fn is_shared(made: &Result<SharedHeld, AllocError>, held: &Held) -> Option<bool> {
     match made {
         Ok(shared) => Some(shared.as_held() == held),
@@ -649,9 +650,9 @@ fn lists(alloc: Global, set: &HeldSet) -> Option<bool> {
     right
 }
 
-// Asks a device for what it doesn't know of another one's store.
+// Asks a device what it doesn't know of another one's store.
 fn asks(alloc: Global, device: &mut Device, call: Call) -> Option<bool> {
-    // Another device, which has made two versions.
+    // The other device has made two versions.
     let made = device_of(alloc, 1, "all", 2);
     let right = match &made {
         Some(other) => asks_for(alloc, device, other, call),
@@ -686,7 +687,7 @@ fn asks_lent(alloc: Global, device: &Device, set: &HeldSet) -> Option<bool> {
     right
 }
 
-// Whether what was found is all of a set. None where memory was wanted.
+// Whether exactly all versions of a set were found. `None` where memory was refused.
 fn is_all_of(found: &Result<Vec<SharedHeld>, AllocError>, set: &HeldSet) -> Option<bool> {
     match found {
         Ok(found) => Some(are_those_of(found, set)),

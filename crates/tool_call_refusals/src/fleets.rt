@@ -1,4 +1,4 @@
-//! The calls of `Fleet` of `live_fleet`.
+//! Calls of `Fleet` of `live_fleet`.
 ghost use Rattle.std.specs.Prelude.{◌≡◌, ◌<◌, ◌≤◌, length, IfSome};
 
 use crate::devices::same_devices;
@@ -13,7 +13,7 @@ use photo_version::Version;
 use std::alloc::{AllocError, Global};
 use tool_value_refusals::{Verdict, filter_of, judged, mark, rated};
 
-/// What came of a call of `Fleet` that needs no script.
+/// The verdict on a call of `Fleet` that needs no script.
 pub fn verdict(alloc: Global, call: &str) -> Option<Verdict> {
     match call {
         "Fleet::new" => new(alloc),
@@ -23,14 +23,14 @@ pub fn verdict(alloc: Global, call: &str) -> Option<Verdict> {
     }
 }
 
-/// What the two devices of a fleet have done.
+/// What a fleet's two devices have done.
 #[derive(Clone, Copy)]
 pub enum Start {
     /// Nothing.
     Fresh,
     /// The first holds a version, and the second nothing.
     One,
-    /// They hold different versions of picture 7.
+    /// They hold different versions of picture 7, one each.
     Apart,
     /// The first holds two versions of picture 7, and the second one of them.
     Divided,
@@ -95,7 +95,7 @@ fn two_devices(alloc: Global) -> Option<Fleet>
     fleet
 }
 
-/// Two devices that have done so much.
+/// A fleet of two devices that have done that.
 pub fn begun(alloc: Global, start: Start) -> Option<Fleet>
     ensures devices { IfSome result (λ fleet. length fleet.devices ≡ 2) }
     ensures commands { IfSome result (λ fleet. fleet.commands ≤ 5) }
@@ -187,14 +187,14 @@ fn beside_twin(alloc: Global, fleet: &mut Fleet, start: Start, call: &str) -> Op
     verdict
 }
 
-/// Whether two fleets are the same, as far as public readers tell.
+/// Whether two fleets are the same, as far as the public readers show.
 pub fn same_fleet(one: &Fleet, other: &Fleet) -> bool {
     one.commands() == other.commands()
         && one.log() == other.log()
         && same_devices(one.devices(), other.devices())
 }
 
-// Whether the answer is the right one: None where no call has the name, and within where memory was wanted.
+// Whether the answer is right. The outer `None` means that no call has the name, the inner one that memory was refused.
 fn calls(alloc: Global, fleet: &mut Fleet, call: &str) -> Option<Option<bool>>
     requires devices { length fleet.old.devices ≡ 2 }
     requires commands { fleet.old.commands ≤ 5 }
@@ -210,7 +210,7 @@ fn calls(alloc: Global, fleet: &mut Fleet, call: &str) -> Option<Option<bool>>
     }
 }
 
-// Those that are lent a record or a filter.
+// The same for the calls that are lent a record or a filter.
 fn calls_with(alloc: Global, fleet: &mut Fleet, call: &str) -> Option<Option<bool>>
     requires devices { length fleet.old.devices ≡ 2 }
     requires commands { fleet.old.commands ≤ 5 }
@@ -264,7 +264,7 @@ fn runs(alloc: Global, fleet: &mut Fleet) -> Option<bool>
     Some(right? && fleet.commands() == 5 && fleet.log().len() == 4)
 }
 
-// Whether a report is of a version of that number. None where memory was wanted.
+// Whether a report is on a version of that number. `None` where memory was refused.
 fn is_made(report: &Result<Report, AllocError>, n: u32) -> Option<bool> {
     match report {
         Ok(Report::Made { version, .. }) => Some(version.n() == n),
@@ -288,7 +288,7 @@ fn makes(alloc: Global, fleet: &mut Fleet, content: &Record) -> Option<bool>
     Some(has_made(fleet, made.ok()?, 3, Place::Store))
 }
 
-// A fleet's first version, for which the log has no room yet.
+// The first version of a fleet, for which the log has no capacity yet.
 fn makes_first(alloc: Global, fleet: &mut Fleet, content: &Record) -> Option<bool>
     requires devices { length fleet.old.devices ≡ 2 }
     requires commands { fleet.old.commands ≤ 5 }
@@ -329,7 +329,7 @@ fn removes(alloc: Global, fleet: &mut Fleet) -> Option<bool>
     }
 }
 
-// It takes the other's version beside its own.
+// The pull takes the other device's version beside the target's own.
 const TAKEN: PullCounts = PullCounts {
     taken: 1,
     handed: 0,
@@ -348,7 +348,7 @@ fn pulls(alloc: Global, fleet: &mut Fleet) -> Option<bool>
     Some(counts.ok()? == TAKEN && fleet.commands() == 5 && fleet.log().len() == 3)
 }
 
-// A pull into a device whose store has no room yet.
+// A pull into a device whose store has no capacity yet.
 fn pulls_first(alloc: Global, fleet: &mut Fleet) -> Option<bool>
     requires devices { length fleet.old.devices ≡ 2 }
     requires commands { fleet.old.commands ≤ 5 }
@@ -409,8 +409,8 @@ fn copies(alloc: Global, fleet: &Fleet) -> Option<bool> {
     right
 }
 
-/// Whether a call on the script of four devices gives the right answer: None where no call has the name, and within where
-/// memory was wanted.
+/// Whether a call on the script of four devices gives the right answer. The outer `None` means that no call has the name, the
+/// inner one that memory was refused.
 pub fn calls_on_script(alloc: Global, script: &Script, call: &str) -> Option<Option<bool>> {
     match call {
         "Fleet::of_script" => Some(takes_devices(alloc, script)),
@@ -431,7 +431,7 @@ fn takes_devices(alloc: Global, script: &Script) -> Option<bool> {
     right
 }
 
-// The first command of a script, on its fleet.
+// Runs the first command of a script on the script's fleet.
 fn runs_first_of(alloc: Global, script: &Script) -> Option<Option<bool>> {
     if script.commands() == 0 {
         return None;

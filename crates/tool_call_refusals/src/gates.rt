@@ -1,4 +1,4 @@
-//! A command of a run by a worker, between the two calls of the run's gate.
+//! One command of a run by a worker, between the two calls of the run's gate.
 use crate::runs::is_run;
 use crate::scripts::is_four;
 use crate::streams::shared_script;
@@ -9,10 +9,10 @@ use std::sync::{Arc, Wait};
 use std::thread::Threads;
 use tool_value_refusals::{Verdict, judged, mark};
 
-// The number of a pull.
+// The number of the command that is marked, a pull.
 const MARKED: u32 = 5;
 
-// Marks the beginning and the end of one command.
+// Marks the beginning and the end of that command.
 #[derive(Drop)]
 struct Marks {
     alloc: Global,
@@ -36,7 +36,7 @@ impl Gate for Marks {
     }
 }
 
-/// What came of `run_fleet` with one worker, where the requests are counted that one of its commands makes.
+/// The verdict on `run_fleet` with one worker, where only one command's requests for memory are counted.
 pub fn verdict<R: Threads + Wait + Copy + Send + 'static>(rt: R, alloc: Global) -> Option<Verdict> {
     match shared_script(alloc) {
         Some(script) => {
@@ -67,7 +67,7 @@ fn runs<R: Threads + Wait + Copy + Send + 'static>(
     let workers = Workers::new(1)?;
     let right = is_run(run_fleet(rt, alloc, script, workers, gate));
     if right.is_none() {
-        // The command that wanted memory has no call after it.
+        // The gate isn't called after a command that was refused memory.
         mark(alloc);
     }
     right

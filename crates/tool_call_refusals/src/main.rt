@@ -1,6 +1,6 @@
-//! Makes calls that may want memory: reads a line such as `photo_version::Vector::join`, a call by its name, makes it on
-//! values of its own, and prints the line with what came of it. `tools/gate/refuse-calls` runs it and refuses the requests for
-//! memory of each call in turn.
+//! Makes calls that may want memory. It reads a line such as `photo_version::Vector::join`, which names a call, makes it on
+//! values of its own, and prints the line with the verdict. `tools/gate/refuse-calls` runs it and refuses each call's requests
+//! for memory one by one.
 #![tactic(auto)]
 
 mod calls;

@@ -1,4 +1,4 @@
-//! The calls of `photo_batcher`, and of what writes a plan.
+//! Calls of `photo_batcher`, and the writing of a plan.
 ghost use Rattle.std.specs.Prelude.{◌≡◌, ◌≤◌, ◌<◌, length};
 
 use crate::scripts::unless_changed;
@@ -8,11 +8,11 @@ use photo_script::Script;
 use std::alloc::{AllocError, Global};
 use tool_value_refusals::mark;
 
-/// An order that gives the run of the script of four devices.
+/// A lawful order for the script of four devices.
 pub const LAWFUL: &[u32] = &[2, 1, 4, 3, 6, 5, 7];
 
-/// Whether a call on the script of four devices gives the right answer: None where no call has the name, and within where
-/// memory was wanted.
+/// Whether a call on the script of four devices gives the right answer. The outer `None` means that no call has the name, the
+/// inner one that memory was refused.
 pub fn calls_on_script(alloc: Global, script: &Script, call: &str) -> Option<Option<bool>> {
     match call {
         "plan" => Some(plans(alloc, script)),
@@ -22,7 +22,7 @@ pub fn calls_on_script(alloc: Global, script: &Script, call: &str) -> Option<Opt
     }
 }
 
-/// The same of a call on its plan.
+/// The same for a call on the script's plan.
 pub fn calls_on_plan(alloc: Global, script: &Script, call: &str) -> Option<Option<bool>> {
     let made = plan(alloc, script);
     let right = match &made {

@@ -1,4 +1,4 @@
-//! The calls that pull, in the midst of a script.
+//! Calls that pull, in the middle of a script.
 ghost use Rattle.std.specs.Prelude.{◌≡◌, ◌<◌, ◌≤◌, ◌&&◌, nat_lt, true, not, None, is_some, length, IfSome};
 ghost use Rattle.std.specs.List.{list_all};
 ghost use Rattle.photo_version.specs.Author.{epoch_of_author};
@@ -12,7 +12,7 @@ use photo_script::{Command, Report, Script, read_script};
 use std::alloc::Global;
 use tool_value_refusals::{Verdict, judged, mark};
 
-/// What came of a pull.
+/// The verdict on a pull.
 pub fn verdict(alloc: Global, call: Call) -> Option<Verdict> {
     let mut made = before(alloc);
     let verdict = match &mut made {
@@ -65,11 +65,11 @@ pub enum Call {
     RunOn,
 }
 
-// `srv` holds the version that was handed over to it, and `cam` a later one that was made with it.
+// `srv` holds the version that was handed over to it, and `cam` a later one made with it.
 const BEFORE: &str =
     "device cam rating >= 4\ndevice srv all\ndevice tab all\nnew cam 7 5 2024-01-01 -\npull tab cam\nedit cam 7 1 2024-01-01 -\npull srv cam\nedit tab 7 4 2024-01-01 -\npull cam tab\nedit cam 7 5 2024-01-01 -\n";
 
-// What comes of that script, before `srv` pulls from `cam`.
+// The outcome of that script, before `srv` pulls from `cam`.
 fn before(alloc: Global) -> Option<Outcome>
     ensures { IfSome result (λ outcome. AreReady outcome.devices.items) }
 {
@@ -87,7 +87,8 @@ fn before(alloc: Global) -> Option<Outcome>
 fn run_before(alloc: Global, script: &Script) -> Option<Outcome>
     ensures { IfSome result (λ outcome. AreReady outcome.devices.items) }
 {
-    // For their facts alone: what is true of every script.
+    // `devices()` and `commands()` are called because their contracts state the invariants of every script, so that the devices
+    // are ready afterwards.
     let _devices = script.devices();
     let _commands = script.commands();
     match run_plain(alloc, script) {
@@ -96,7 +97,7 @@ fn run_before(alloc: Global, script: &Script) -> Option<Outcome>
     }
 }
 
-/// `srv` takes one version in the place of another.
+/// `srv` takes one version, which replaces another.
 pub const COUNTS: PullCounts = PullCounts {
     taken: 1,
     handed: 0,
@@ -112,7 +113,7 @@ fn is_told(report: &Report) -> bool {
     }
 }
 
-// Whether `srv` has one version, of which it knows, and nothing in conflict with it.
+// Whether `srv` has exactly one version, knows it, and has no conflict.
 fn has_taken(srv: &Device) -> bool {
     srv.store().len() == 1
         && srv.out().is_empty()
@@ -120,7 +121,7 @@ fn has_taken(srv: &Device) -> bool {
         && srv.knowledge().fragments() == 2
 }
 
-// Whether each device may make a version more, and begin its next epoch.
+// Whether each device may make one more version and begin its next epoch.
 fn have_room(devices: &[Device]) -> bool
     ensures { result ≡ list_all (λ d. nat_lt d.counter 4_294_967_295 && nat_lt (epoch_of_author d.author) 4_294_967_295) devices.now }
 {
@@ -134,7 +135,7 @@ fn are_settled(devices: &[Device]) -> bool
     devices.iter().all(|device| !device.staged())
 }
 
-// What came of a command that pulls. After one that was refused memory, the next one has to be right.
+// The verdict on a command that pulls. If memory was refused, the next try has to be right.
 fn on_all(alloc: Global, devices: &mut [Device], twins: &[Device]) -> Verdict
     requires three { length devices.old ≡ 3 }
     requires ready { AreReady devices.old }
@@ -154,7 +155,7 @@ fn on_all(alloc: Global, devices: &mut [Device], twins: &[Device]) -> Verdict
     }
 }
 
-// Whether the command that pulls is right. None where memory was refused.
+// Whether the command that pulls gives the right answer. `None` where memory was refused.
 #[tactic(auto, using(crate::proofs::Ready::room_for_all))]
 fn runs_on(alloc: Global, devices: &mut [Device]) -> Option<bool>
     requires three { length devices.old ≡ 3 }
@@ -201,7 +202,7 @@ fn pulls_from(alloc: Global, target: &mut Device, source: &mut Device) -> Option
     Some(counts.ok()? == COUNTS && has_taken(target))
 }
 
-// Whether a preview tells what the pull would count, and the target holds what it held.
+// Whether a preview gives the counts of the pull, and the target still holds what it held.
 fn previews(alloc: Global, target: &Device, source: &Device) -> Option<bool>
     requires { MayPull target.now source.now }
 {
@@ -225,7 +226,7 @@ fn runs_pull(alloc: Global, target: &mut Device, source: &mut Device) -> Option<
     right
 }
 
-// Whether a preview's command tells what the pull would count.
+// Whether the preview command reports the counts of the pull.
 fn runs_between(alloc: Global, target: &mut Device, source: &mut Device) -> Option<bool>
     requires { MayPull target.old source.old }
 {

@@ -1,4 +1,4 @@
-//! The calls of `live_fleet` that ask.
+//! Calls of `live_fleet` that ask questions.
 use crate::devices::finds_conflicts;
 use crate::fleets::{Start, begun, same_fleet};
 use live_fleet::{Fleet, audited, holding, knowing, lacking, pull_moves, selected};
@@ -8,8 +8,8 @@ use photo_record::PicNo;
 use std::alloc::{AllocError, Global};
 use tool_value_refusals::{Verdict, filter_of, judged, mark};
 
-/// What came of a call that asks a fleet, or of `Device::conflicts`, on two devices, the first of which holds two versions of
-/// picture 7 and the second one of them.
+/// The verdict on a question to a fleet, or on `Device::conflicts`. Of the fleet's two devices the first holds two versions of
+/// picture 7, the second one of them.
 pub fn verdict(alloc: Global, call: &str) -> Option<Verdict> {
     let made = begun(alloc, Start::Divided);
     let verdict = match &made {
@@ -31,7 +31,7 @@ fn beside_twin(alloc: Global, fleet: &Fleet, call: &str) -> Option<Verdict> {
     verdict
 }
 
-// Whether the answer is the right one: None where no call has the name, and within where memory was wanted.
+// Whether the answer is right. The outer `None` means that no call has the name, the inner one that memory was refused.
 fn asks(alloc: Global, fleet: &Fleet, call: &str) -> Option<Option<bool>> {
     let (Some(first), Some(second)) = (fleet.devices().first(), fleet.devices().get(1)) else {
         return None;
@@ -117,7 +117,7 @@ fn lacks(alloc: Global, fleet: &Fleet, picture: PicNo) -> Option<bool> {
     are_both(numbers)
 }
 
-// Whether they are the numbers of both devices. None where memory was wanted.
+// Whether the numbers are those of both devices. `None` where memory was refused.
 fn are_both(numbers: Result<Vec<u16>, AllocError>) -> Option<bool> {
     let right = match &numbers {
         Ok(numbers) => Some(numbers.as_slice() == [0, 1].as_slice()),

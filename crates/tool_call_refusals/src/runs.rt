@@ -1,4 +1,4 @@
-//! The calls of `fleet_steps` but those on one command.
+//! Calls of `fleet_steps`, except those that run one command.
 use crate::devices::{has_made, same_device, same_devices};
 use crate::plans::LAWFUL;
 use crate::{devices, pulls, scripts};
@@ -13,7 +13,7 @@ use photo_script::{Command, Report, Script, Totals};
 use std::alloc::Global;
 use tool_value_refusals::{Verdict, judged, mark, rated};
 
-/// What came of a call of `fleet_steps`.
+/// The verdict on a call of `fleet_steps`.
 pub fn verdict(alloc: Global, call: &str) -> Option<Verdict> {
     match call {
         "run_command" => devices::verdict_on_command(alloc),
@@ -26,8 +26,8 @@ pub fn verdict(alloc: Global, call: &str) -> Option<Verdict> {
     }
 }
 
-/// Whether a call on the script of four devices gives the right answer: None where no call has the name, and within where
-/// memory was wanted.
+/// Whether a call on the script of four devices gives the right answer. The outer `None` means that no call has the name, the
+/// inner one that memory was refused.
 pub fn calls_on_script(alloc: Global, script: &Script, call: &str) -> Option<Option<bool>> {
     match call {
         "opening_devices" => Some(opens(alloc, script)),
@@ -38,7 +38,7 @@ pub fn calls_on_script(alloc: Global, script: &Script, call: &str) -> Option<Opt
     }
 }
 
-/// Whether a device of two versions edits one of its pictures. None where memory was wanted.
+/// Whether a device with two versions can edit one of its pictures. `None` where memory was refused.
 pub fn runs_command(alloc: Global, device: &mut Device) -> Option<bool> {
     let picture = PicNo::new(1)?;
     match rated(alloc, 1) {
@@ -72,7 +72,7 @@ fn edits(alloc: Global, device: &mut Device, picture: PicNo, record: Record) -> 
     right
 }
 
-/// Whether a log has all of a set of two. None where memory was wanted.
+/// Whether a log has exactly the versions of a set of two. `None` where memory was refused.
 pub fn logs(alloc: Global, set: &HeldSet) -> Option<bool> {
     match set.to_list() {
         Ok(list) => logs_list(alloc, list, set),
@@ -171,7 +171,7 @@ fn is_not_held(report: &Report) -> bool {
     }
 }
 
-/// The right answer for a run of the script of four devices. None where memory was wanted.
+/// Whether the outcome is right for the script of four devices. `None` where memory was refused.
 pub fn is_run(outcome: Result<Outcome, RunError>) -> Option<bool> {
     let right = match &outcome {
         Ok(outcome) => Some(is_outcome(outcome)),
@@ -205,7 +205,7 @@ fn is_outcome(outcome: &Outcome) -> bool {
         && hold_so_many(outcome.devices.as_slice())
 }
 
-// Whether the third, fourth, fifth and seventh report are of pulls that took one version.
+// Whether the third, fourth, fifth and seventh reports are on pulls that took one version.
 fn have_pulled(reports: &[Report]) -> bool {
     reports.len() == 7
         && has_pulled(&reports[2])
@@ -221,7 +221,7 @@ fn has_pulled(report: &Report) -> bool {
     }
 }
 
-// The third device has both pictures, and the others one.
+// Whether the third device has both pictures, and each other one has one.
 fn hold_so_many(devices: &[Device]) -> bool {
     match devices {
         [a, b, c, d] => {

@@ -1,4 +1,4 @@
-//! The script that calls are made on, and the calls of `photo_script`.
+//! The script on which calls are made, and the calls of `photo_script`.
 use crate::pulls::COUNTS;
 use crate::{fleets, plans, runs, sessions, streams, texts};
 use photo_script::{Report, Script, ScriptFault, push_report, read_script, report_text};
@@ -24,7 +24,7 @@ pub fn is_four(script: &Script) -> bool {
         && script.tally().pulls == 4
 }
 
-/// What came of a call on the script of four devices.
+/// The verdict on a call on the script of four devices.
 pub fn verdict(alloc: Global, library: &str, call: &str) -> Option<Verdict> {
     let made = script_of(alloc, FOUR_DEVICES);
     let verdict = match &made {
@@ -57,7 +57,7 @@ fn of_fleets(alloc: Global, script: &Script, library: &str, call: &str) -> Optio
     }
 }
 
-/// An answer that is no longer want of memory where something was changed that is to be as it was.
+/// Turns want of memory into a wrong answer if something changed that has to be as it was.
 pub fn unless_changed(right: Option<bool>, unchanged: bool) -> Option<bool> {
     if right.is_none() && !unchanged {
         return Some(false);
@@ -65,7 +65,7 @@ pub fn unless_changed(right: Option<bool>, unchanged: bool) -> Option<bool> {
     right
 }
 
-/// Whether what was read is the script of four devices. None where memory was wanted.
+/// Whether the script that was read is that of four devices. `None` where memory was refused.
 pub fn is_read(read: &Result<Script, ScriptFault>) -> Option<bool> {
     match read {
         Ok(script) => Some(is_four(script)),
@@ -74,7 +74,7 @@ pub fn is_read(read: &Result<Script, ScriptFault>) -> Option<bool> {
     }
 }
 
-/// What came of the reading of a script.
+/// The verdict on reading a script.
 pub fn verdict_on_reading(alloc: Global) -> Option<Verdict> {
     mark(alloc);
     let read = read_script(alloc, FOUR_DEVICES.as_bytes());
@@ -119,7 +119,7 @@ fn push(alloc: Global, script: &Script) -> Option<bool> {
     right
 }
 
-// Puts a report behind a dash. Where it wants memory a part of it may stand there.
+// Appends a report to a dash. After want of memory a part of the report's text may be there.
 fn pushes(alloc: Global, text: &mut String, script: &Script) -> Option<bool> {
     let report = Report::Pulled(COUNTS);
     mark(alloc);

@@ -1,4 +1,4 @@
-//! The calls of `Session` of `live_fleet`.
+//! Calls of `Session` of `live_fleet`.
 use crate::fleets::{same_fleet, two_filters};
 use crate::scripts::script_of;
 use live_fleet::{FleetFault, Session};
@@ -8,7 +8,7 @@ use photo_script::{Command, Script};
 use std::alloc::Global;
 use tool_value_refusals::{Verdict, filter_of, judged, mark, rated};
 
-/// What came of a call of `Session` that needs no script.
+/// The verdict on a call of `Session` that needs no script.
 pub fn verdict(alloc: Global, call: &str) -> Option<Verdict> {
     match call {
         "Session::new" => new(alloc),
@@ -16,7 +16,7 @@ pub fn verdict(alloc: Global, call: &str) -> Option<Verdict> {
     }
 }
 
-// Two devices that keep all, and have made nothing.
+// Two devices that keep everything and have made nothing.
 fn opened(alloc: Global) -> Option<Session> {
     let made = two_filters(alloc, "all");
     let session = match &made {
@@ -27,7 +27,7 @@ fn opened(alloc: Global) -> Option<Session> {
     session
 }
 
-// The same, of which the first has made picture 7.
+// The same devices after the first has made picture 7.
 fn begun(alloc: Global) -> Option<Session> {
     match opened(alloc) {
         Some(mut session) => {
@@ -76,8 +76,8 @@ fn new_with(alloc: Global, filters: &[Filter; 2]) -> Verdict {
     verdict
 }
 
-/// Whether a call on the script of four devices gives the right answer: None where no call has the name, and within where
-/// memory was wanted.
+/// Whether a call on the script of four devices gives the right answer. The outer `None` means that no call has the name, the
+/// inner one that memory was refused.
 pub fn calls_on_script(alloc: Global, script: &Script, call: &str) -> Option<Option<bool>> {
     match call {
         "Session::of_script" => Some(takes_devices(alloc, script)),
@@ -118,7 +118,7 @@ fn beside_twin(alloc: Global, session: &mut Session, call: &str) -> Option<Verdi
     verdict
 }
 
-// Whether the answer is the right one: None where no call has the name, and within where memory was wanted.
+// Whether the answer is right. The outer `None` means that no call has the name, the inner one that memory was refused.
 fn calls(alloc: Global, session: &mut Session, call: &str) -> Option<Option<bool>> {
     match call {
         "Session::run" => Some(runs(alloc, session)),
@@ -131,7 +131,7 @@ fn calls(alloc: Global, session: &mut Session, call: &str) -> Option<Option<bool
     }
 }
 
-// Those that are lent a record or a filter.
+// The same for the calls that are lent a record or a filter.
 fn calls_with(alloc: Global, session: &mut Session, call: &str) -> Option<Option<bool>> {
     let record = rated(alloc, 3);
     let filter = filter_of(alloc, "rating >= 5");
@@ -161,7 +161,7 @@ fn calls_lent(
     }
 }
 
-// What a call answered: None where it wanted memory, and false where it was refused otherwise.
+// The result of a call: `None` where memory was refused, and false after any other fault.
 fn given<T: Drop>(answer: Result<T, FleetFault>) -> Option<bool> {
     match answer {
         Ok(_) => Some(true),

@@ -1,4 +1,4 @@
-//! The calls of `fleet_runner` and `fleet_workers`.
+//! Calls of `fleet_runner` and `fleet_workers`.
 use crate::plans::calls_on_plan;
 use crate::pulls::COUNTS;
 use crate::runs::is_run;
@@ -14,7 +14,7 @@ use std::sync::{Arc, Wait};
 use std::thread::Threads;
 use tool_value_refusals::{Verdict, judged, mark};
 
-/// What came of a call of `fleet_runner` that needs no script and waits for nobody.
+/// The verdict on a call of `fleet_runner` that needs no script and never waits.
 pub fn verdict(alloc: Global, call: &str) -> Option<Verdict> {
     match call {
         "read_source" => Some(judged(reads(alloc), true)),
@@ -25,8 +25,8 @@ pub fn verdict(alloc: Global, call: &str) -> Option<Verdict> {
     }
 }
 
-/// Whether a call on the script of four devices gives the right answer: None where no call has the name, and within where
-/// memory was wanted.
+/// Whether a call on the script of four devices gives the right answer. The outer `None` means that no call has the name, the
+/// inner one that memory was refused.
 pub fn calls_on_script(alloc: Global, script: &Script, call: &str) -> Option<Option<bool>> {
     match call {
         "write_reports" => Some(reports(alloc, script)),
@@ -35,7 +35,7 @@ pub fn calls_on_script(alloc: Global, script: &Script, call: &str) -> Option<Opt
     }
 }
 
-/// What came of `run_fleet` with two workers.
+/// The verdict on `run_fleet` with two workers.
 pub fn verdict_on_fleet<R: Threads + Wait + Copy + Send + 'static>(
     rt: R,
     alloc: Global,
@@ -72,7 +72,7 @@ fn runs_open<R: Threads + Wait + Copy + Send + 'static>(
     Some(judged(right, is_four(&**script)))
 }
 
-/// What came of `run_stream` with two workers.
+/// The verdict on `run_stream` with two workers.
 pub fn verdict_on_stream<R: Threads + Wait + Copy + Send + 'static>(
     rt: R,
     alloc: Global,
@@ -83,7 +83,7 @@ pub fn verdict_on_stream<R: Threads + Wait + Copy + Send + 'static>(
     Some(judged(right, is_front(output.as_slice())))
 }
 
-// A place for all that is written.
+// Capacity for all output.
 fn room(alloc: Global) -> Option<Vec<u8>> {
     Vec::with_capacity(alloc, 1000).ok()
 }
@@ -98,7 +98,7 @@ fn reads(alloc: Global) -> Option<bool> {
     right
 }
 
-// What the output of a writing or of a run is to be. None where memory was wanted.
+// Whether the output of a writing or of a run is `wanted`. `None` where memory was refused.
 fn is_written(done: Result<(), RunError>, output: &[u8], wanted: &str) -> Option<bool> {
     match done {
         Ok(()) => Some(output == wanted.as_bytes()),
@@ -116,7 +116,7 @@ fn reports(alloc: Global, script: &Script) -> Option<bool> {
     unless_changed(right, is_first_of_two(output.as_slice()))
 }
 
-// Whether it is the text of the first report, or of none.
+// Whether the output is the text of the first report, or empty.
 fn is_first_of_two(output: &[u8]) -> bool {
     output.is_empty()
         || output == "1 pulled taken 1 handed 0 notices 0 dropped 1 learned no\n".as_bytes()
@@ -134,7 +134,7 @@ fn writes(alloc: Global, script: &Script, output: &mut Vec<u8>) -> Option<bool> 
 const PLAN: &str =
     "1 batch 0 after -\n2 batch 0 after -\n3 batch 1 after 1\n4 batch 1 after 2\n5 batch 2 after 4\n6 batch 2 after 3\n7 batch 3 after 6\nbatches 4\n";
 
-/// Whether a plan is written out rightly. None where memory was wanted.
+/// Whether a plan is written rightly. `None` where memory was refused.
 pub fn writes_out_plan(alloc: Global, plan: &Plan) -> Option<bool> {
     let mut output = room(alloc)?;
     let right = writes_plan(alloc, plan, &mut output);
@@ -153,7 +153,7 @@ const SCRIPT: &str = "device cam all\nnew cam 7 5 2024-05-01 sun,beach\nlist cam
 const OUTPUT: &str =
     "1 made cam:1 store\n2 list cam store 1 out 0\n  store 7 cam:1 rating 5 day 2024-05-01 words beach,sun\n";
 
-// Whether it is the text of the first report, or of none.
+// Whether the output is the text of the first report, or empty.
 fn is_front(output: &[u8]) -> bool {
     output.is_empty() || output == "1 made cam:1 store\n".as_bytes()
 }

@@ -1,12 +1,12 @@
-//! The calls of `script_text`.
+//! Calls of `script_text`.
 use crate::scripts::FOUR_DEVICES;
 use photo_script::Script;
 use script_text::{command_text, script_text};
 use std::alloc::Global;
 use tool_value_refusals::mark;
 
-/// Whether a call on the script of four devices gives the right answer: None where no call has the name, and within where
-/// memory was wanted.
+/// Whether a call on the script of four devices gives the right answer. The outer `None` means that no call has the name, the
+/// inner one that memory was refused.
 pub fn calls_on_script(alloc: Global, script: &Script, call: &str) -> Option<Option<bool>> {
     match call {
         "script_text" => Some(writes(alloc, script)),

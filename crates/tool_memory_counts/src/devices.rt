@@ -1,4 +1,4 @@
-//! The calls of a device and of what it holds.
+//! Calls on a device and on what it holds.
 use crate::{held, staging};
 use photo_device::{Device, HeldSet};
 use photo_record::{PicNo, Record};
@@ -6,7 +6,7 @@ use photo_version::{Author, Version};
 use std::alloc::Global;
 use tool_value_refusals::{filter_of, rated};
 
-/// A device that has made nothing, and keeps what has a rating of 3 or more.
+/// A device that has made nothing, and keeps pictures with a rating of 3 or more.
 pub fn opened(alloc: Global, number: u16) -> Option<Device> {
     match filter_of(alloc, "rating >= 3") {
         Some(filter) => Device::new(alloc, Author::new(number), filter).ok(),
@@ -14,8 +14,8 @@ pub fn opened(alloc: Global, number: u16) -> Option<Device> {
     }
 }
 
-/// The groups of calls on a device: its readers and `held`; the readers of a set of held versions; `unknown_of` for a set of
-/// which it knows all; `conflicts`, which takes memory; and those of a shared version and of what is staged.
+/// The groups of calls on a device: its readers and `held`; the readers of a set of held versions; `unknown_of` for a set all
+/// of whose versions it knows; `conflicts`, which takes memory; the calls of a shared version; and those of what is staged.
 pub fn answer(alloc: Global, group: &str, times: u32) -> Option<bool> {
     let mut made = opened(alloc, 0);
     let right = match &mut made {
@@ -38,7 +38,7 @@ fn answer_of(alloc: Global, device: &mut Device, group: &str, times: u32) -> Opt
     }
 }
 
-/// Whether a device made a version of each of the pictures 1 to so many, with that rating.
+/// Whether the device makes a version of each of the pictures 1 to `pictures`, with that rating.
 pub fn has_made(alloc: Global, device: &mut Device, pictures: u32, rating: u8) -> bool {
     let made = rated(alloc, rating);
     let right = match &made {
@@ -65,7 +65,7 @@ fn makes(device: &mut Device, n: u32, content: &Record) -> bool {
     }
 }
 
-// Of a device that made and holds 300 versions.
+// The groups on a device that made and holds 300 versions.
 fn answer_of_full(alloc: Global, device: &mut Device, group: &str, times: u32) -> Option<bool> {
     match group {
         "asking" => knows_twin(alloc, device, times),

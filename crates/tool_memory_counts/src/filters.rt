@@ -1,4 +1,4 @@
-//! The calls of a filter.
+//! Calls on a filter.
 use photo_filter_rules::{Filter, covers};
 use photo_filter_text::FilterTree;
 use photo_record::Record;

@@ -1,4 +1,4 @@
-//! The readers of a fleet that is driven by hand, and those of a run's log.
+//! Calls of the readers of a fleet, of a session and of a run's log.
 use fleet_runner::{Fleet, IssueLog, Outcome};
 use fleet_steps::made_on;
 use live_fleet::Session;
@@ -49,7 +49,7 @@ fn is_fresh(fleet: &Fleet) -> bool {
         && !fleet.takes(&Command::List { device: 1 })
 }
 
-/// What passes a fleet on, and the readers of a session.
+/// The calls that pass a fleet on, and the readers of a session.
 pub fn answer_session(alloc: Global, times: u32) -> Option<bool> {
     match one_device(alloc) {
         Some(fleet) => Some(is_passed_on(fleet, times)),
@@ -95,7 +95,7 @@ fn has_one(log: &IssueLog) -> bool {
         && log.iter().all(|held| held.picture() == picture)
 }
 
-// The first command has made a version on the first device.
+// Whether the first command has made a version on the first device.
 fn has_made(script: &Script, outcome: &Outcome) -> bool {
     let (Some(report), Some(device)) = (outcome.reports.first(), outcome.devices.first()) else {
         return false;

@@ -4,8 +4,8 @@ use std::alloc::Global;
 use std::sync::Wait;
 use tool_value_counts::answer_on_values;
 
-/// Whether each of the calls that a line names answered as it has to, so many times. None where the line names none, or
-/// where the values for them can't be made.
+/// Whether each call that a line names gives the right answer, as often as the line says. `None` where the line names no group,
+/// or where the values for the calls can't be made.
 pub fn of_line<R: Wait>(rt: &R, alloc: Global, line: &str) -> Option<bool> {
     let (group, times) = line.split_once(' ')?;
     let times = times.parse::<u32>().ok()?;
@@ -18,7 +18,7 @@ pub fn of_line<R: Wait>(rt: &R, alloc: Global, line: &str) -> Option<bool> {
 
 fn of_devices(alloc: Global, group: &str, times: u32) -> Option<bool> {
     match group {
-        // Conflicts do take memory: where that isn't seen to, the others say nothing.
+        // `conflicts` does take memory: unless its allocations are counted, the other counts prove nothing.
         "device" | "held_set" | "asking" | "held" | "conflicts" => {
             devices::answer(alloc, group, times)
         }

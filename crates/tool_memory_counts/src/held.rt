@@ -1,10 +1,10 @@
-//! The readers of a held version that is shared, and the calls of a list of such.
+//! Calls of the readers of a shared held version, and of a list of them.
 use photo_device::{Device, ItemList, SharedHeld, SharedList};
 use photo_record::Record;
 use photo_version::Version;
 use std::alloc::Global;
 
-/// The readers of the first version that a device of 300 holds, and of a list of all of them; `ItemList::new` and `into_vec`.
+/// The readers of the first version held by a device of 300, and of a list of them all; `ItemList::new` and `into_vec`.
 pub fn answer(alloc: Global, device: &Device, times: u32) -> Option<bool> {
     let made = device.store().to_list();
     let right = match &made {

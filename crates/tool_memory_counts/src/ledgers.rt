@@ -1,4 +1,4 @@
-//! The calls of a ledger.
+//! Calls on a ledger.
 ghost use Rattle.std.specs.Prelude.{◌≡◌};
 ghost use Rattle.work_ledger.specs.Stakes.{tally};
 
@@ -25,7 +25,7 @@ const PULL: Kind = Kind::Pull {
     handed: 2,
 };
 
-/// `Share::split`, `join` and its readers, `Ledger::count` and `glance`; and `close`, once where any calls are asked for.
+/// `Share::split`, `join` and its readers, and `Ledger::count` and `glance`; and `close`, once if any calls are asked for.
 pub fn answer<R: Wait>(rt: &R, alloc: Global, times: u32) -> Option<bool> {
     answer_of::<Brand, R>(rt, alloc, Blanks::new(), times)
 }
@@ -62,7 +62,7 @@ fn closes<B: Books, R: Wait>(rt: &R, ledger: &Ledger<B>, share: Share<B>, times:
     ledger.close(rt, share) == counted && is_told(counted, times)
 }
 
-// A share that is split off counts a pull, the rest a change, and both are one again.
+// Whether a share that is split off can count a pull, the rest a change, and both be joined again.
 fn counts<B: Books, R: Wait>(rt: &R, ledger: &Ledger<B>, share: &mut Share<B>) -> bool {
     let left = share.left();
     if share.parts() < 2 || left.changes == 0 || left.pulls == 0 {

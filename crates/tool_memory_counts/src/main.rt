@@ -1,5 +1,6 @@
-//! Makes the calls that are to take no memory: reads a line such as `vector 1000`, a group of calls and how often, makes
-//! them, and prints whether each answered as it has to. `tools/gate/count-allocations` runs it and counts its allocations.
+//! Makes the calls that must not take memory. It reads a line such as `vector 1000`, which names a group of calls and how often
+//! to make them, makes them, and prints whether each gave the right answer. `tools/gate/count-allocations` runs it and counts
+//! its allocations.
 #![tactic(auto)]
 
 mod devices;

@@ -1,4 +1,4 @@
-//! The calls of a plan, the audit, and the number of workers.
+//! Calls on a plan, of the audit, and on the number of workers.
 use crate::fleets::answer_log;
 use fleet_runner::{Outcome, Workers, audit, run_plain};
 use photo_batcher::{Plan, places_of, plan};
@@ -39,7 +39,7 @@ fn has_last(plan: &Plan) -> bool {
     plan.commands() == 4 && plan.batch_of(4) == 2 && plan.after(4) == Some(3)
 }
 
-/// `audit`, or the calls of a log, on what comes of a script.
+/// `audit`, or the calls on a log, for the outcome of a script's run.
 pub fn answer_outcome(alloc: Global, script: &Script, group: &str, times: u32) -> Option<bool> {
     let run = run_plain(alloc, script);
     let right = match &run {

@@ -1,4 +1,4 @@
-//! The calls of a script.
+//! Calls on a script.
 use crate::runs;
 use photo_script::{Report, Script, devices_of, read_script, totals_of};
 use std::alloc::{AllocError, Global};
@@ -7,7 +7,8 @@ use std::alloc::{AllocError, Global};
 const TEXT: &str =
     "device cam all\ndevice frame rating >= 3\nnew cam 1 4 2024-01-01 sea\nknows frame 1 cam:1\npull frame cam\nlist cam\n";
 
-/// The groups of calls on that script: `devices_of`, `totals_of` and its readers, and those of its plan and of what comes of it.
+/// The groups of calls on that script: `devices_of`, `totals_of` and its readers, and those on its plan and on its run's
+/// outcome.
 pub fn answer(alloc: Global, group: &str, times: u32) -> Option<bool> {
     let read = read_script(alloc, TEXT.as_bytes());
     let right = match &read {
@@ -51,7 +52,7 @@ fn has_commands(script: &Script) -> bool {
         && tally.reports == 2
 }
 
-/// The reading of so many lines with equal words, which share them.
+/// Reads a script of `times` lines with equal words, which share them.
 pub fn answer_same_words(alloc: Global, times: u32) -> Option<bool> {
     let mut text = String::new(alloc);
     Some(push_edits(&mut text, times).is_ok() && reads(alloc, &text, times))
@@ -75,7 +76,7 @@ fn reads(alloc: Global, text: &str, times: u32) -> bool {
     right
 }
 
-// By the report of a question alone, which moved nothing.
+// Whether the totals are right for the report of a single question, which moves nothing.
 fn has_totals(script: &Script) -> bool {
     let totals = totals_of(script, &[Report::Knows(false)]);
     totals.changes == 1 && totals.pulls == 1 && totals.reports == 2 && totals.moved == 0

@@ -1,4 +1,4 @@
-//! What is staged on a device, what it hands over, and what it is given to know.
+//! Calls on what is staged on a device, on what it hands over, and on the knowledge that it is given.
 ghost use Rattle.std.specs.Prelude.{◌≡◌, ◌<◌, ◌==◌, ◌&&◌, ℕ, [], ◌∷◌, length, if◌then◌else◌};
 ghost use Rattle.photo_version.specs.Author as authors;
 ghost use Rattle.photo_version.specs.Version as versions;
@@ -49,8 +49,8 @@ fn stages_another(alloc: Global, device: &mut Device) -> bool {
     right
 }
 
-/// `hand_over`; and `staged`, `unstage`, of which the first round drops what is staged, and `commit`, once where any calls are
-/// asked for, of a device on which a knowledge is staged that is not its own.
+/// `hand_over`; and, on a device with another's knowledge staged, `staged`, `unstage`, whose first round drops what is staged,
+/// and `commit`, once if any calls are asked for.
 pub fn answer(alloc: Global, device: &mut Device, group: &str, times: u32) -> Option<bool> {
     if group == "handing" {
         return Some(has_made(alloc, device, 1_000, 2) && hands(alloc, device, times));
@@ -89,7 +89,7 @@ fn commits(alloc: Global, device: &mut Device) -> bool {
     !device.staged() && device.knowledge().fragments() == 2
 }
 
-// A round hands over one of a thousand versions in the out.
+// Each round hands over one of a thousand versions in the out.
 fn hands(alloc: Global, device: &mut Device, times: u32) -> bool {
     let mut room = Vec::with_capacity(alloc, 1_000);
     let right = match &mut room {
@@ -121,7 +121,7 @@ fn is_handed(device: &mut Device, n: u32, handed: &mut Vec<SharedHeld>) -> bool 
     device.out().len() < before
 }
 
-/// `with_knowledge`, once where any calls are asked for.
+/// `with_knowledge`, once if any calls are asked for.
 pub fn answer_given(alloc: Global, times: u32) -> Option<bool> {
     match opened(alloc, 1) {
         Some(device) => Some(is_given(alloc, device, times)),

@@ -1,4 +1,4 @@
-//! The calls of an arena.
+//! Calls on an arena.
 ghost use Rattle.std.specs.Prelude.{◌≡◌, ◌≤◌, length};
 
 use fragment_arena::{FragmentArena, RawWords, Row};
@@ -14,7 +14,7 @@ fn two_rows(alloc: Global) -> Option<FragmentArena> {
     }
 }
 
-/// The calls of an arena but `place`, `try_clone`, and a reservation of more than it ever had room for.
+/// All calls on an arena except `place`, `try_clone`, and `reserve` beyond the capacity that it has had.
 pub fn answer(alloc: Global, times: u32) -> Option<bool> {
     match two_rows(alloc) {
         Some(arena) => Some(answer_beside(alloc, &arena, times)),
@@ -39,7 +39,8 @@ fn answer_of(alloc: Global, arena: &FragmentArena, other: &mut FragmentArena, ti
     true
 }
 
-// Clears the other arena, reserves what it has had room for, and places a row of its own and both of the first there.
+// Clears the other arena, reserves capacity that it has had before, and places there a row of its own and both rows of the
+// first.
 fn is_worked(arena: &FragmentArena, other: &mut FragmentArena) -> bool {
     other.clear();
     if arena.rows() != 2 || arena.words_of_run(0, 2) != Some(4) || other.reserve(6, 3).is_err() {
@@ -59,7 +60,7 @@ fn has_rows(arena: &FragmentArena) -> bool
     arena.row(Row::at(1)) == [1, 2, 3].as_slice() && arena.row(Row::at(2)).len() == 1
 }
 
-// Reserves what it has had room for, and places two rows there at once.
+// Reserves capacity that it has had before, and places two rows there at once.
 fn is_paired(other: &mut FragmentArena) -> bool {
     other.clear();
     if other.reserve(6, 3).is_err() {
@@ -71,7 +72,7 @@ fn is_paired(other: &mut FragmentArena) -> bool {
     reserved && second.place() == 1 && other.rows() == 2 && blocks > 0
 }
 
-/// The calls of a block of raw words but `make`.
+/// All calls on a block of raw words except `make`.
 pub fn answer_raw(alloc: Global, times: u32) -> Option<bool> {
     match RawWords::make(alloc, 3) {
         Ok(mut words) => Some(answer_of_raw(&mut words, times)),

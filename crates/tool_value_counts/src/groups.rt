@@ -2,9 +2,9 @@
 use crate::{arenas, epochs, knowledges, lists, records, vectors};
 use std::alloc::Global;
 
-/// Whether each of the calls of a group answered as it has to, so many times. None where no group has the name, or where
-/// the values for it can't be made. The groups `vector_with`, `knowledge_copy` and `list_cut` do take memory: where these aren't
-/// seen to, the others say nothing.
+/// Whether each call of a group gives the right answer, as often as asked. `None` where no group has that name, or where the
+/// values for it can't be made. The groups `vector_with`, `knowledge_copy` and `list_cut` do take memory: unless their
+/// allocations are counted, the other counts prove nothing.
 pub fn answer_on_values(alloc: Global, group: &str, times: u32) -> Option<bool> {
     match group {
         "fields" | "versions" | "epochs" => Some(answer_fields(group, times)),
@@ -28,7 +28,7 @@ fn of_parts(alloc: Global, group: &str, times: u32) -> Option<bool> {
     }
 }
 
-// Calls of values that are made in each round.
+// Calls on values that each round makes anew.
 fn answer_fields(group: &str, times: u32) -> bool {
     for _ in 0..times {
         let right = match group {

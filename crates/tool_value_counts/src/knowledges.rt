@@ -1,4 +1,4 @@
-//! The calls of a knowledge.
+//! Calls on a knowledge.
 ghost use Rattle.std.specs.Prelude.{◌≡◌, ℕ, ◌<◌, IfSome, if◌then◌else◌};
 ghost use Rattle.photo_version.specs.Author as authors;
 ghost use Rattle.photo_version.specs.Version as versions;
@@ -11,9 +11,9 @@ use photo_record::PicNo;
 use photo_version::{Author, Vector, Version};
 use std::alloc::Global;
 
-/// The calls of a knowledge by their groups: `knows`, `same` and what stands beside them; `fragment` and the readers of one;
-/// `stage` of what is known already, `staged`, `commit` and `unstage`; `commit` of what was not known, once where any calls are
-/// asked for; and `try_clone`, which takes memory.
+/// The calls on a knowledge by their groups: `knows`, `same` and similar calls; `fragment` and a fragment's readers; `stage` of
+/// what is known already, `staged`, `commit` and `unstage`; `commit` of what wasn't known, once if any calls are asked for; and
+/// `try_clone`, which takes memory.
 pub fn answer(alloc: Global, group: &str, times: u32) -> Option<bool> {
     match twenty(alloc, 0) {
         Some(mut one) => answer_beside(alloc, &mut one, group, times),
@@ -47,7 +47,7 @@ fn answer_of(one: &mut Knowledge, other: &Knowledge, group: &str, times: u32) ->
     true
 }
 
-// Tells of a picture the versions of a device up to that number.
+// Makes the knowledge learn a device's versions up to that number of a picture.
 fn is_told(alloc: Global, knowledge: &mut Knowledge, device: u16, n: u32) -> bool {
     let (Some(picture), Some(version)) = (PicNo::new(n), Version::new(Author::new(device), n))
     else {
@@ -59,8 +59,8 @@ fn is_told(alloc: Global, knowledge: &mut Knowledge, device: u16, n: u32) -> boo
     }
 }
 
-// Tells of each of the pictures 1 to 20 as many versions of a device as its number, and of the eleventh three versions of each
-// of twenty devices.
+// Makes the knowledge learn, of each of the pictures 1 to 20, as many versions of a device as its number, and of the eleventh
+// three versions of each of twenty devices.
 fn are_told(alloc: Global, knowledge: &mut Knowledge, device: u16) -> bool {
     for n in 1..21u32 {
         if !is_told(alloc, knowledge, device, n) {
@@ -112,7 +112,7 @@ fn has_fragments(knowledge: &Knowledge) -> bool {
         && eleventh.entries().next_entry().is_some()
 }
 
-// Stages what another knows that is the same, and commits it, and again, and leaves it.
+// Stages and commits what an equal knowledge knows, then stages it again and drops it.
 fn stages_same(knowledge: &mut Knowledge, same: &Knowledge) -> bool {
     if !stages(knowledge, same, true) || knowledge.stage(same).is_err() {
         return false;
@@ -122,7 +122,7 @@ fn stages_same(knowledge: &mut Knowledge, same: &Knowledge) -> bool {
     staged && !knowledge.staged() && knowledge.same(same)
 }
 
-// Stages what another knows, and commits it if that is asked for.
+// Stages what another knowledge knows, and commits it if asked.
 fn stages(knowledge: &mut Knowledge, other: &Knowledge, commits: bool) -> bool {
     if knowledge.stage(other).is_err() || !knowledge.staged() {
         return false;
@@ -141,7 +141,7 @@ fn is_copied(knowledge: &Knowledge) -> bool {
     }
 }
 
-/// What knows device 0's first version of every picture, and nothing else.
+/// A knowledge of exactly device 0's first version, of every picture.
 pub fn first_known(alloc: Global) -> Option<Knowledge>
     ensures star { IfSome result
         (λ k. (a : authors.Author) → star_bound k.known a ≡ (if authors.same_author (authors.author 0) a then 1 else 0)) }
@@ -158,7 +158,7 @@ pub fn first_known(alloc: Global) -> Option<Knowledge>
     }
 }
 
-/// `raise_own`, once where any calls are asked for.
+/// `raise_own`, once if any calls are asked for.
 pub fn answer_raising(alloc: Global, times: u32) -> Option<bool> {
     match first_known(alloc) {
         Some(mut knowledge) => answer_of_raising(&mut knowledge, times),

@@ -1,4 +1,4 @@
-//! Makes the calls of `tool_memory_counts` on records, versions, lists, arenas and knowledges.
+//! The calls of `tool_memory_counts` on records, versions, lists, arenas and knowledges.
 #![tactic(auto)]
 
 mod arenas;

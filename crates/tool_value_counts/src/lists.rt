@@ -1,4 +1,4 @@
-//! The calls of a list of blocks.
+//! Calls on a list of blocks.
 ghost use Rattle.std.specs.Prelude.{◌≤◌, length};
 
 use block_list::{BlockList, Room, Spot};
@@ -14,8 +14,8 @@ fn list_of(alloc: Global, n: u32) -> Option<BlockList<u32>> {
     Some(list)
 }
 
-/// The calls of a list by their groups: the readers; `remove_range`, `retain` and `take_near`, a round of which takes
-/// the first number away, and one from the middle; and `insert`, which takes memory where a block has grown long and is halved.
+/// The calls on a list by their groups: the readers; `remove_range`, `retain` and `take_near`, which take the first number and
+/// one from the middle away in each round; and `insert`, which takes memory where a block has grown long and is halved.
 pub fn answer(alloc: Global, group: &str, times: u32) -> Option<bool> {
     match list_of(alloc, 2_500) {
         Some(mut list) => Some(answer_of(alloc, &mut list, group, times)),
@@ -72,8 +72,8 @@ fn cuts(list: &mut BlockList<u32>, n: u32) -> bool {
     list.insert(middle, n).is_ok()
 }
 
-/// `insert_behind`, a round of which puts a number into room that was taken for a thousand; and `open` and `close`, once where
-/// any calls are asked for.
+/// `insert_behind`, which in each round puts a number into the capacity that was reserved for a thousand; and `open` and
+/// `close`, once if any calls are asked for.
 pub fn answer_growing(alloc: Global, times: u32) -> Option<bool> {
     if times > 1_000 {
         return None;

@@ -1,8 +1,8 @@
-//! The calls of ratings, days, picture numbers and words.
+//! Calls on ratings, days, picture numbers and words.
 use photo_record::{Day, PicNo, Rating, Words};
 use std::alloc::Global;
 
-/// `Rating::new`, `Rating::read`, `Day::read`, `PicNo::new`, and the readers of these.
+/// `Rating::new`, `Rating::read`, `Day::read`, `PicNo::new`, and their readers.
 pub fn are_fields_right() -> bool {
     let (Some(rating), Some(day), Some(picture)) = (
         Rating::new(4),

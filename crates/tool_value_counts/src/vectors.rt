@@ -1,8 +1,8 @@
-//! The calls of authors, versions and vectors.
+//! Calls on authors, versions and vectors.
 use photo_version::{Author, Vector, Version};
 use std::alloc::{AllocError, Global};
 
-/// `Author::new`, `Author::of_word`, `Version::new`, and the readers of these.
+/// `Author::new`, `Author::of_word`, `Version::new`, and their readers.
 pub fn is_version_right() -> bool {
     match Version::new(Author::new(7), 3) {
         Some(version) => version.n() == 3 && is_seventh(version.author()),
@@ -23,8 +23,9 @@ pub fn vector_of(alloc: Global, n: u32) -> Option<Vector> {
     Some(vector)
 }
 
-/// The calls of a vector by their groups: `Vector::new`, `has`, `leq`, the readers of a vector, and what shares its entries, a
-/// copy, and a union or a vector with one version more where nothing is added; and `Vector::with`, which takes memory.
+/// The calls on a vector by their groups: `Vector::new`, `has`, `leq` and the readers; the calls whose result shares the
+/// entries: a copy, and a union or a vector with one more version where nothing is added; and `Vector::with`, which takes
+/// memory.
 pub fn answer(alloc: Global, group: &str, times: u32) -> Option<bool> {
     match vector_of(alloc, 3) {
         Some(one) => answer_beside(alloc, &one, group, times),

@@ -1,11 +1,11 @@
-//! The calls of `fragment_arena`.
+//! Calls of `fragment_arena`.
 ghost use Rattle.std.specs.Prelude.{◌≡◌, ◌∷◌, [], IfSome, length};
 
 use crate::verdict::{Verdict, judged, mark};
 use fragment_arena::{FragmentArena, RawWords};
 use std::alloc::Global;
 
-/// What came of a call of `fragment_arena`.
+/// The verdict on a call of `fragment_arena`.
 pub fn verdict(alloc: Global, call: &str) -> Option<Verdict> {
     match call {
         "FragmentArena::reserve" => on_one_row(alloc, false),
@@ -16,7 +16,7 @@ pub fn verdict(alloc: Global, call: &str) -> Option<Verdict> {
     }
 }
 
-// An arena of one row.
+// An arena with one row.
 fn one_row(alloc: Global) -> Option<FragmentArena> {
     let mut arena = FragmentArena::new(alloc);
     if arena.place(&[3, 5]).is_ok() {
@@ -30,7 +30,7 @@ fn has_one_row(arena: &FragmentArena) -> bool {
     arena.rows() == 1 && arena.words_of_run(0, 1) == Some(2)
 }
 
-// What came of a copy of an arena of one row, or of a reservation there.
+// The verdict on copying an arena with one row, or on reserving there.
 fn on_one_row(alloc: Global, is_copied: bool) -> Option<Verdict> {
     match one_row(alloc) {
         Some(mut arena) => {

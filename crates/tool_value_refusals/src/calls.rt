@@ -3,7 +3,8 @@ use crate::verdict::Verdict;
 use crate::{arenas, filters, knowledges, ledgers, lists, records, vectors};
 use std::alloc::Global;
 
-/// What came of a call of a library. None where none is named, or where the values for the call can't be made.
+/// The verdict on a call of a library. `None` where the library has no call of that name, or where the values for the call
+/// can't be made.
 pub fn verdict_on(alloc: Global, library: &str, call: &str) -> Option<Verdict> {
     match library {
         "photo_record" => records::verdict(alloc, call),

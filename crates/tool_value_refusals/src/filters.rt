@@ -1,4 +1,4 @@
-//! The calls of `photo_filter_text` and `photo_filter_rules`.
+//! Calls of `photo_filter_text` and `photo_filter_rules`.
 use crate::verdict::{Verdict, judged, mark};
 use photo_filter_rules::{BuildFault, Filter};
 use photo_filter_text::{FilterFault, FilterTree, print, read};
@@ -6,10 +6,10 @@ use std::alloc::Global;
 
 const TEXT: &str = "rating >= 4 and not keyword ball";
 
-// The same with all brackets.
+// The same text with all brackets.
 const PRINTED: &str = "( rating >= 4 and not keyword ball )";
 
-/// What came of a call of `photo_filter_text`.
+/// The verdict on a call of `photo_filter_text`.
 pub fn verdict_on_texts(alloc: Global, call: &str) -> Option<Verdict> {
     match call {
         "read" => Some(judged(reads(alloc), true)),
@@ -19,7 +19,7 @@ pub fn verdict_on_texts(alloc: Global, call: &str) -> Option<Verdict> {
     }
 }
 
-/// What came of a call of `photo_filter_rules`.
+/// The verdict on a call of `photo_filter_rules`.
 pub fn verdict_on_rules(alloc: Global, call: &str) -> Option<Verdict> {
     match call {
         "Filter::build" => build(alloc),
@@ -49,7 +49,7 @@ fn is_text_of(alloc: Global, tree: &FilterTree) -> bool {
     }
 }
 
-// What came of a copy of a tree, or of printing it.
+// The verdict on copying a tree, or on printing it.
 fn on_tree(alloc: Global, is_copied: bool) -> Option<Verdict> {
     let made = read(alloc, TEXT);
     let verdict = match &made {
@@ -111,18 +111,18 @@ fn build_of(alloc: Global, tree: FilterTree) -> Verdict {
     verdict
 }
 
-// Whether it is the filter of the text.
+// Whether the filter is that of the text.
 fn is_filter(alloc: Global, filter: &Filter) -> bool {
     filter.alternatives() == 1 && is_text_of(alloc, filter.tree())
 }
 
-/// The filter of a text. None where it has none, or where memory is wanted.
+/// The filter with that text. `None` where the text isn't a filter, or where memory is refused.
 pub fn filter_of(alloc: Global, text: &str) -> Option<Filter> {
     let tree = read(alloc, text).ok()?;
     Filter::build(alloc, tree).ok()
 }
 
-/// Whether two filters are the same, as far as public readers tell.
+/// Whether two filters are the same, as far as the public readers show.
 pub fn same_filter(one: &Filter, other: &Filter) -> bool {
     one.alternatives() == other.alternatives() && one.tree() == other.tree()
 }

@@ -1,4 +1,4 @@
-//! The calls of `item_knowledge`.
+//! Calls of `item_knowledge`.
 ghost use Rattle.std.specs.Prelude.{◌≡◌, ◌+◌, ◌<◌, ◌==◌, ◌&&◌, ℕ, [], ◌∷◌, true, IfSome};
 ghost use Rattle.photo_version.specs.Author.{author};
 ghost use Rattle.photo_version.specs.Version as versions;
@@ -14,7 +14,7 @@ use photo_record::PicNo;
 use photo_version::{Author, Vector, Version};
 use std::alloc::Global;
 
-/// What came of a call of `item_knowledge`.
+/// The verdict on a call of `item_knowledge`.
 pub fn verdict(alloc: Global, call: &str) -> Option<Verdict> {
     match call {
         "Knowledge::new" => Some(judged(makes(alloc), true)),
@@ -23,7 +23,7 @@ pub fn verdict(alloc: Global, call: &str) -> Option<Verdict> {
     }
 }
 
-// What came of a call on what knows of picture 7 three versions.
+// The verdict on a call on a knowledge of three versions of picture 7.
 fn on_knowledge(alloc: Global, call: &str) -> Option<Verdict> {
     let mut made = told(alloc, 7, 3);
     let verdict = match &mut made {
@@ -39,8 +39,8 @@ fn on_told(alloc: Global, knowledge: &mut Knowledge, call: &str) -> Option<Verdi
     Some(judged(right, is_told(knowledge, 7, 3)))
 }
 
-// Whether the call gave the right answer, which is None where memory was wanted. None where no call has the name, or the
-// values for it can't be made.
+// Whether the call gives the right answer; the inner `None` means that memory was refused. The outer one means that no call has
+// the name, or that the values for it can't be made.
 fn calls(alloc: Global, knowledge: &mut Knowledge, call: &str) -> Option<Option<bool>> {
     match call {
         "Knowledge::of" => Some(tells(alloc, knowledge)),
@@ -101,7 +101,7 @@ fn knows(knowledge: &Knowledge, picture: u32, n: u32) -> bool {
     }
 }
 
-// Whether of one picture device 1's first `n` versions are known, and nothing else.
+// Whether exactly device 1's first `n` versions are known, of one picture.
 fn is_told(knowledge: &Knowledge, picture: u32, n: u32) -> bool {
     if knowledge.fragments() != 2 {
         return false;
@@ -113,7 +113,8 @@ fn is_told(knowledge: &Knowledge, picture: u32, n: u32) -> bool {
     told.pictures() == [u64::from(picture)].as_slice() && told.entry(0) == (Author::new(1), n)
 }
 
-/// What knows of a picture device 1's first `n` versions, and no more. None where a number is out of range, or memory is wanted.
+/// A knowledge of exactly device 1's first `n` versions, of a picture. `None` where a number is out of range, or memory is
+/// refused.
 pub fn told(alloc: Global, picture: u32, n: u32) -> Option<Knowledge>
     ensures { IfSome result (λ knowledge. (p : ℕ) (v : versions.Version) → 0 < p
         → knows knowledge.known p v ≡ ((picture == p) && denotes ((author 1, n) ∷ []) v)) }
@@ -125,7 +126,7 @@ pub fn told(alloc: Global, picture: u32, n: u32) -> Option<Knowledge>
     }
 }
 
-// What knows of a picture the versions of a vector, and no more.
+// A knowledge of exactly the versions of a vector, of a picture.
 fn told_one(alloc: Global, picture: PicNo, vector: &Vector) -> Option<Knowledge>
     ensures { IfSome result (λ knowledge. (p : ℕ) (v : versions.Version) → 0 < p
         → knows knowledge.known p v ≡ ((picture == p) && denotes vector.now v)) }
@@ -178,7 +179,7 @@ fn learns(alloc: Global, knowledge: &mut Knowledge) -> Option<Option<bool>> {
     }
 }
 
-// Whether what was lent is as it was, and what it tells was learned. None where memory was wanted.
+// Whether what was lent is as it was, and the knowledge has learned what it tells. `None` where memory was refused.
 fn is_right(done: bool, kept: bool, knowledge: &Knowledge) -> Option<bool> {
     if !kept {
         return Some(false);
@@ -198,7 +199,7 @@ fn has_learned(knowledge: &Knowledge) -> bool {
         && !knows(knowledge, 7, 4)
 }
 
-// Four versions of picture 9.
+// A table with four versions of picture 9.
 fn table(alloc: Global) -> Option<Vec<(PicNo, Vector)>>
     ensures { IfSome result (λ table. in_order table.items ≡ true) }
 {
@@ -233,7 +234,7 @@ fn stages_table(alloc: Global, knowledge: &mut Knowledge) -> Option<Option<bool>
     Some(is_right(done, kept, knowledge))
 }
 
-// What is told is right where it is learned as it was meant.
+// A table is told rightly if the knowledge then learns exactly what it says.
 fn tells_table(alloc: Global, knowledge: &mut Knowledge) -> Option<Option<bool>> {
     let table = table(alloc)?;
     mark(alloc);

@@ -1,4 +1,4 @@
-//! The calls of `work_ledger`.
+//! Calls of `work_ledger`.
 ghost use Rattle.std.specs.Prelude.{◌≡◌};
 ghost use Rattle.work_ledger.specs.Stakes.{tally};
 
@@ -14,7 +14,7 @@ const TALLY: Tally = Tally {
     reports: 0,
 };
 
-/// What came of a call of `work_ledger`.
+/// The verdict on a call of `work_ledger`.
 pub fn verdict(alloc: Global, call: &str) -> Option<Verdict> {
     match call {
         "open" => Some(judged(opens::<Brand>(alloc, Blanks::new()), true)),

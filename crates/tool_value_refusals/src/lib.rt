@@ -1,4 +1,4 @@
-//! Makes the calls of `tool_call_refusals` on values and ledgers, and has the words for what comes of any call.
+//! The calls of `tool_call_refusals` on values and ledgers, and the words for the verdict on any call.
 #![tactic(auto)]
 
 mod arenas;

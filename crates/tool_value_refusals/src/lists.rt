@@ -1,9 +1,9 @@
-//! The calls of `block_list`.
+//! Calls of `block_list`.
 use crate::verdict::{Verdict, judged, mark};
 use block_list::BlockList;
 use std::alloc::Global;
 
-/// What came of a call of `block_list`.
+/// The verdict on a call of `block_list`.
 pub fn verdict(alloc: Global, call: &str) -> Option<Verdict> {
     match call {
         "BlockList::insert" => on_evens(alloc, 0, call),
@@ -15,7 +15,7 @@ pub fn verdict(alloc: Global, call: &str) -> Option<Verdict> {
     }
 }
 
-// What came of a call on so many even numbers.
+// The verdict on a call on a list of `count` even numbers.
 fn on_evens(alloc: Global, count: u32, call: &str) -> Option<Verdict> {
     match evens(alloc, count) {
         Some(mut list) => {
@@ -30,7 +30,7 @@ fn on_evens(alloc: Global, count: u32, call: &str) -> Option<Verdict> {
     }
 }
 
-// The even numbers from 0 on, so many of them.
+// The first `count` even numbers, from 0 on.
 fn evens(alloc: Global, count: u32) -> Option<BlockList<u32>> {
     let mut list = BlockList::new(alloc);
     for i in 0..count {
@@ -54,7 +54,7 @@ fn has_evens(list: &BlockList<u32>, count: usize) -> bool {
     true
 }
 
-// Puts the next even number behind the others.
+// Appends the next even number.
 fn inserts(alloc: Global, list: &mut BlockList<u32>, count: u32) -> Option<bool> {
     let end = list.len();
     mark(alloc);

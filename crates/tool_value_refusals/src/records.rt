@@ -1,9 +1,9 @@
-//! The calls of `photo_record`.
+//! Calls of `photo_record`.
 use crate::verdict::{Verdict, judged, mark};
 use photo_record::{Day, Rating, Record, Word, WordFault, Words};
 use std::alloc::Global;
 
-/// What came of a call of `photo_record`.
+/// The verdict on a call of `photo_record`.
 pub fn verdict(alloc: Global, call: &str) -> Option<Verdict> {
     match call {
         "Word::read" => Some(judged(reads_word(alloc), true)),
@@ -44,7 +44,7 @@ fn reads_words(alloc: Global) -> Option<bool> {
     }
 }
 
-// What came of a copy of a set, or of its first word.
+// The verdict on copying a set, or its first word.
 fn words_copy(alloc: Global, of_word: bool) -> Option<Verdict> {
     let made = Words::read(alloc, "tree,sea,ball");
     let verdict = match &made {
@@ -84,7 +84,7 @@ fn copies_words(alloc: Global, words: &Words) -> Option<bool> {
     }
 }
 
-/// A record of that rating, with three words. None where the rating is out of range, or memory is wanted.
+/// A record with that rating and three words. `None` where the rating is out of range, or memory is refused.
 pub fn rated(alloc: Global, rating: u8) -> Option<Record> {
     let rating = Rating::new(rating)?;
     let day = Day::read("2024-05-01")?;

@@ -1,4 +1,4 @@
-//! The calls of `photo_version`.
+//! Calls of `photo_version`.
 ghost use Rattle.std.specs.Prelude.{◌≡◌, [], ◌∷◌, true, IfSome};
 ghost use Rattle.photo_version.specs.Author.{author};
 ghost use Rattle.photo_version.specs.Vector.{is_vector};
@@ -7,7 +7,7 @@ use crate::verdict::{Verdict, judged, mark};
 use photo_version::{Author, Vector, Version};
 use std::alloc::{AllocError, Global};
 
-/// What came of a call of `photo_version`.
+/// The verdict on a call of `photo_version`.
 pub fn verdict(alloc: Global, call: &str) -> Option<Verdict> {
     match call {
         "Vector::from_entries" => from_entries(alloc),
@@ -27,7 +27,7 @@ fn has_one(vector: &Vector, device: u16, n: u32) -> bool {
     vector.len() == 1 && vector.entry(0) == (Author::new(device), n)
 }
 
-// Whether the vector that was made has two versions of device 0 and three of device 1. None where memory was wanted.
+// Whether the vector that was made has two versions of device 0 and three of device 1. `None` where memory was refused.
 fn is_of_two(made: &Result<Vector, AllocError>) -> Option<bool> {
     match made {
         Ok(vector) => Some(
@@ -60,7 +60,7 @@ fn from_entries(alloc: Global) -> Option<Verdict> {
     }
 }
 
-// What came of a call on the vector of three versions of device 1.
+// The verdict on a call on the vector of three versions of device 1.
 fn on_vector(alloc: Global, call: &str) -> Option<Verdict> {
     let made = vector_of(alloc, 1, 3);
     let verdict = match &made {
@@ -76,8 +76,8 @@ fn on_three(alloc: Global, vector: &Vector, call: &str) -> Option<Verdict> {
     Some(judged(right, has_one(vector, 1, 3)))
 }
 
-// Whether the call gave the right answer, which is None where memory was wanted. None where no call has the name, or the
-// values for it can't be made.
+// Whether the call gives the right answer; the inner `None` means that memory was refused. The outer one means that no call has
+// the name, or that the values for it can't be made.
 fn calls(alloc: Global, vector: &Vector, call: &str) -> Option<Option<bool>> {
     match call {
         "Vector::join" => joins(alloc, vector),

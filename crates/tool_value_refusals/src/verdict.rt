@@ -1,18 +1,18 @@
-//! The verdicts on calls, and their words.
+//! The verdicts on calls, and the word for each.
 use std::alloc::Global;
 
-/// What came of a call.
+/// The verdict on a call.
 #[derive(Clone, Copy)]
 pub enum Verdict {
-    /// It gave the right answer.
+    /// The call gave the right answer.
     Answered,
-    /// It wanted memory. What was lent to it is as it was, and what it gave back is what it was given.
+    /// The call was refused memory. What was lent to it is as it was, and it gave back what it was given.
     Refused,
-    /// It did anything else.
+    /// The call did anything else.
     Wrong,
 }
 
-/// The verdict on a call. `right` tells whether the answer is the right one, and is None where memory was wanted.
+/// The verdict on a call. `right` tells whether the answer is right, and is `None` where memory was refused.
 pub fn judged(right: Option<bool>, unchanged: bool) -> Verdict {
     match right {
         Some(true) => Verdict::Answered,
@@ -22,7 +22,7 @@ pub fn judged(right: Option<bool>, unchanged: bool) -> Verdict {
     }
 }
 
-/// The word of a verdict. There is none where the values for the call couldn't be made, or no call has its name.
+/// The word for a verdict. `None` means that the values for the call couldn't be made, or that no call has its name.
 pub fn word_of(verdict: Option<Verdict>) -> &'static str {
     match verdict {
         Some(Verdict::Answered) => "answered",
@@ -32,7 +32,7 @@ pub fn word_of(verdict: Option<Verdict>) -> &'static str {
     }
 }
 
-// Nothing else asks for a block of just this size.
+// No other request is for exactly this size, in bytes.
 const MARK: usize = 1_000_003;
 
 /// Begins or ends the stretch in which requests for memory are counted.

@@ -17,7 +17,7 @@ order_pushed (y ∷ ys) x h g =
     let b = and_parts (ltb y.0 x.0) (keys_pass (λ k. ltb k x.0) ys) g in
     and_from _ _ (pass_pushed (λ k. ltb y.0 k) ys x a.0 b.0) (order_pushed ys x a.1 b.1)
 
--- pictures up to the ith, in order
+-- the pictures up to number i, in order
 pub record IsTo {A : Type 0} (i : ℕ) (xs : List (ℕ × A)) : Type 0 where
   pub order : in_order xs ≡ true
   pub below : keys_pass (λ k. ltb k (i + 1)) xs ≡ true

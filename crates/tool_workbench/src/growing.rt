@@ -1,4 +1,4 @@
-//! A knowledge that learns the versions of one author, one after another.
+//! A knowledge that learns one author's versions, one after another.
 ghost use Rattle.std.specs.Prelude.{◌≡◌};
 ghost use Rattle.photo_version.specs.Author.{author};
 ghost use Rattle.item_knowledge.specs.Kept.{star_bound};
@@ -7,10 +7,10 @@ use crate::table::{of_table, version};
 use item_knowledge::Knowledge;
 use std::alloc::{AllocError, Global};
 
-/// The author of what is learned later.
+/// The author of the versions that are learned later.
 pub const LATER: u16 = 7;
 
-/// A knowledge, and how many versions of the later author it knows of every picture.
+/// A knowledge, and how many versions of the later author it knows, of every picture.
 #[derive(Drop)]
 pub struct Growing {
     pub knowledge: Knowledge,
@@ -27,7 +27,7 @@ impl Growing {
         })
     }
 
-    /// The next version of the later author is learned.
+    /// Learns the next version of the later author.
     pub fn learn_own(&mut self) -> Result<(), AllocError> {
         if self.learned < u32::MAX {
             self.knowledge.learn_own(version(LATER, self.learned + 1))?;

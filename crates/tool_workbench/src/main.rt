@@ -1,10 +1,11 @@
-//! Works the libraries for the tools that measure and compare them. The first word of the command line says with what:
+//! Runs work on the libraries for the tools that measure and compare them. The first word of the command line names the work,
+//! and the input follows on standard input:
 //!
-//!     tool_workbench knowledge      lines such as `learn_all 1000 5`, a kind of work, a number of pictures and how often: does it
+//!     tool_workbench knowledge      lines such as `learn_all 1000 5`: a kind of work, a number of pictures and how often
 //!     tool_workbench text           a script: writes its text in its one form, or its fault
-//!     tool_workbench audit TIMES    a script: runs it, and audits so often what comes of it
+//!     tool_workbench audit TIMES    a script: runs it, and audits the outcome that many times
 //!
-//! The status is 0 where the words are such, all was done and each audit said yes.
+//! The status is 0 where the command line is one of these, all work was done and each audit said yes.
 #![tactic(auto)]
 
 mod growing;

@@ -1,10 +1,10 @@
-//! Questions whether a knowledge has a version of a picture.
+//! Asks whether a knowledge has a version of a picture.
 use crate::table::{of_table, star, version};
 use item_knowledge::Knowledge;
 use photo_record::PicNo;
 use std::alloc::{AllocError, Global};
 
-/// Asks a knowledge of so many pictures, or one that has a version of every picture, so many times, and counts the answers
+/// Asks `times` questions of a knowledge of `n` pictures, or of one that has a version of every picture, and counts the answers
 /// yes.
 pub fn ask(alloc: Global, kind: &str, n: u32, times: u32) -> Result<u64, AllocError> {
     let knowledge = match kind {
@@ -22,7 +22,7 @@ fn known(knowledge: &Knowledge, kind: &str, n: u32, times: u32) -> u64 {
     }
 }
 
-// Asks of all pictures in turn whether the last of their versions is known, or the one behind it.
+// Asks of pictures in random order whether their last version is known, or the one after it.
 fn known_at_random(knowledge: &Knowledge, n: u32, times: u32) -> u64 {
     let mut sum = 0u64;
     let mut seed = 1u32;
@@ -38,8 +38,8 @@ fn known_at_random(knowledge: &Knowledge, n: u32, times: u32) -> u64 {
     sum
 }
 
-// Asks of all pictures in rising order, again and again, whether the last of their versions is known, or the one behind
-// it, each time with the hint of the answer before.
+// Asks of all pictures in rising order, again and again, whether their last version is known, or the one after it. Each
+// question uses the hint of the answer before.
 fn known_in_order(knowledge: &Knowledge, n: u32, times: u32) -> u64 {
     let mut sum = 0u64;
     let mut hint = 0;
@@ -56,7 +56,7 @@ fn known_in_order(knowledge: &Knowledge, n: u32, times: u32) -> u64 {
     sum
 }
 
-// The same of the first version of every picture, and of the one behind it.
+// The same for the first version of every picture, or the one after it.
 fn known_of_star(knowledge: &Knowledge, n: u32, times: u32) -> u64 {
     let mut sum = 0u64;
     let mut hint = 0;

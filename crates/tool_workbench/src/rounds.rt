@@ -1,5 +1,5 @@
-//! The same work with each of some knowledges, in each of so many rounds. What comes of it is kept until the next round, as a
-//! device keeps what it knows.
+//! The same work on each of several knowledges, in each of several rounds. A round's results are kept until the next round, as
+//! a device keeps its knowledge.
 ghost use Rattle.std.specs.Prelude.{◌≡◌, true};
 ghost use Rattle.item_knowledge.specs.Tables.{in_order};
 
@@ -9,15 +9,15 @@ use photo_record::PicNo;
 use photo_version::Vector;
 use std::alloc::{AllocError, Global};
 
-// So many pictures have the knowledges of a round together, whatever a single one has: so a round works on as much memory.
+// All knowledges of a round together have that many pictures, however many each has, so each round works on as much memory.
 const PICTURES: u32 = 64_000;
 
-/// How many knowledges a round has where each has so many pictures.
+/// How many knowledges a round has if each has `n` pictures.
 pub fn count_of(n: u32) -> u32 {
     PICTURES / n.max(1)
 }
 
-/// Knowledges that know the same of a device, as many as a round has.
+/// The knowledges of a round; all know the same versions of a device.
 pub fn of_round(alloc: Global, device: u16, n: u32) -> Result<Vec<Knowledge>, AllocError> {
     let mut all = Vec::new(alloc);
     for _ in 0..count_of(n) {
@@ -26,7 +26,7 @@ pub fn of_round(alloc: Global, device: u16, n: u32) -> Result<Vec<Knowledge>, Al
     Ok(all)
 }
 
-// Knowledges that know nothing, each of them to be worked.
+// Empty knowledges, on which a round works.
 fn unworked(alloc: Global, count: usize) -> Result<Vec<Knowledge>, AllocError> {
     let mut all = Vec::new(alloc);
     for _ in 0..count {
@@ -35,8 +35,8 @@ fn unworked(alloc: Global, count: usize) -> Result<Vec<Knowledge>, AllocError> {
     Ok(all)
 }
 
-/// Copies each of some knowledges, and has it learn what another one knows of the same pictures; gives a number that depends
-/// on it.
+/// Copies each of several knowledges and makes the copy learn what another knowledge knows of the same pictures. Gives a number
+/// that depends on the result.
 pub fn work(alloc: Global, kind: &str, n: u32, times: u32) -> Result<u64, AllocError> {
     let mut all = of_round(alloc, 1, n)?;
     work_all(alloc, kind, &mut all, n, times)
@@ -110,7 +110,7 @@ fn copy_and_learn(
     worked.learn_all(other)
 }
 
-/// What a knowledge is told, and the knowledge that learned it last.
+/// The table that a knowledge is told.
 #[derive(Drop)]
 struct Told {
     table: Vec<(PicNo, Vector)>,
@@ -131,7 +131,7 @@ fn make_told(alloc: Global, n: u32) -> Result<Told, AllocError> {
     Ok(Told { table })
 }
 
-/// New knowledges learn a table each.
+/// New knowledges learn one table each.
 pub fn learn_table(alloc: Global, n: u32, times: u32) -> Result<u64, AllocError> {
     let all = told_of_round(alloc, n)?;
     learn_tables(alloc, &all, times)

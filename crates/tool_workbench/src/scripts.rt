@@ -20,7 +20,7 @@ fn print_text(rt: HostRuntime, script: &Script) -> io::Result<()> {
     }
 }
 
-/// Whether each of so many audits of what the script's run gives says yes.
+/// Whether each of `times` audits of the outcome of the script's run says yes.
 pub fn is_audited(rt: HostRuntime, times: u32) -> bool {
     match read_source(rt.alloc(), &mut rt.stdin()) {
         Ok(script) => runs_well(rt.alloc(), &script, times),

@@ -1,4 +1,4 @@
-//! Tables of pictures, and a knowledge of one.
+//! Tables of pictures, and a knowledge made from one.
 ghost use Rattle.std.specs.Prelude.{◌≡◌, ◌<◌, true, nat_lt, ℕ, IfOk};
 ghost use Rattle.photo_version.specs.Author.{Author, author};
 ghost use Rattle.photo_version.specs.Version as versions;
@@ -10,7 +10,7 @@ use photo_record::PicNo;
 use photo_version::{Author, Vector, Version};
 use std::alloc::{AllocError, Global};
 
-/// The `n`th version of a device.
+/// A device's version number `n`.
 pub fn version(device: u16, n: u32) -> Version
     requires { 0 < n }
     ensures { result ≡ versions.version (author device) n }
@@ -18,7 +18,7 @@ pub fn version(device: u16, n: u32) -> Version
     Version::new(Author::new(device), n).unwrap()
 }
 
-/// Pictures 1 to `n`, of each of which as many versions of a device are told as its number.
+/// A table of the pictures 1 to `n`, each with as many versions of a device as its number.
 pub fn table(alloc: Global, device: u16, n: u32) -> Result<Vec<(PicNo, Vector)>, AllocError>
     ensures { IfOk result (λ table. in_order table.items ≡ true) }
 {
@@ -33,7 +33,7 @@ pub fn table(alloc: Global, device: u16, n: u32) -> Result<Vec<(PicNo, Vector)>,
     Ok(table)
 }
 
-/// A knowledge of that table alone.
+/// A knowledge of exactly what that table tells.
 pub fn of_table(alloc: Global, device: u16, n: u32) -> Result<Knowledge, AllocError>
     ensures { IfOk result (λ knowledge. (a : Author) → star_bound knowledge.known a ≡ 0) }
 {
@@ -52,7 +52,7 @@ fn told(alloc: Global, table: &[(PicNo, Vector)]) -> Result<Knowledge, AllocErro
     }
 }
 
-/// A knowledge of the first version of every picture alone.
+/// A knowledge of exactly the first version of device 1, of every picture.
 pub fn star(alloc: Global) -> Result<Knowledge, AllocError> {
     let mut knowledge = Knowledge::new(alloc)?;
     match knowledge.learn_own(version(1, 1)) {

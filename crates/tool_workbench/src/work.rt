@@ -1,4 +1,4 @@
-//! The kinds of work on knowledges, by their lines.
+//! The kinds of work on knowledges, by the lines that ask for them.
 ghost use Rattle.std.specs.Prelude.{◌<◌};
 
 use crate::growing::{Growing, LATER};
@@ -10,7 +10,7 @@ use photo_record::PicNo;
 use photo_version::Vector;
 use std::alloc::{AllocError, Global};
 
-/// Does what a line says, and gives a number that depends on it.
+/// Does the work of a line, and gives a number that depends on the result.
 pub fn of_line(alloc: Global, line: &str) -> Result<u64, AllocError> {
     match words_of(line) {
         Some((kind, n, times)) => of_kind(alloc, kind, n, times),
@@ -36,7 +36,7 @@ fn of_kind(alloc: Global, kind: &str, n: u32, times: u32) -> Result<u64, AllocEr
     }
 }
 
-// Each of some knowledges learns the next version of an author, in each of so many rounds.
+// Each of several knowledges learns the next version of an author, in each round.
 fn learn_own(alloc: Global, n: u32, times: u32) -> Result<u64, AllocError> {
     let mut all = Vec::new(alloc);
     for _ in 0..count_of(n) {
@@ -54,7 +54,7 @@ fn learn_own_each(all: &mut [Growing], times: u32) -> Result<u64, AllocError> {
     Ok(all.len() as u64)
 }
 
-// Each of some knowledges learns a vector of a picture.
+// Each of several knowledges learns a vector of a picture.
 fn learn_each(all: &mut [Knowledge], picture: PicNo, vector: &Vector) -> Result<(), AllocError> {
     for one in all {
         one.learn(picture, vector)?;
@@ -62,7 +62,7 @@ fn learn_each(all: &mut [Knowledge], picture: PicNo, vector: &Vector) -> Result<
     Ok(())
 }
 
-// Each of some knowledges learns all of another one.
+// Each of several knowledges learns all that another one knows.
 fn learn_all_of(all: &mut [Knowledge], other: &Knowledge) -> Result<(), AllocError> {
     for one in all {
         one.learn_all(other)?;
@@ -70,8 +70,8 @@ fn learn_all_of(all: &mut [Knowledge], other: &Knowledge) -> Result<(), AllocErr
     Ok(())
 }
 
-// Some knowledges learn of one picture one version more in each of so many rounds: by its vector, or as all of another
-// knowledge that learned it.
+// In each round several knowledges learn one more version of one picture: by its vector, or from another knowledge that learned
+// it.
 fn learn_of_one(alloc: Global, kind: &str, n: u32, times: u32) -> Result<u64, AllocError> {
     let Some(picture) = PicNo::new(n / 2 + 1) else {
         return Ok(0);
@@ -83,7 +83,7 @@ fn learn_of_one(alloc: Global, kind: &str, n: u32, times: u32) -> Result<u64, Al
     }
 }
 
-// The version of the later author that stands behind so many.
+// The vector of the later author's version after its first `i`.
 fn next(alloc: Global, i: u32) -> Result<Vector, AllocError>
     requires { i < 4_294_967_295 }
 {
@@ -127,8 +127,8 @@ fn learn_few_of(
     Ok(all.len() as u64)
 }
 
-// Each of some knowledges learns all of another one, which learns the next version of an author of every picture in each of
-// so many rounds.
+// In each round another knowledge learns the next version of an author of every picture, and each of several knowledges learns
+// all that it knows.
 fn learn_risen(alloc: Global, n: u32, times: u32) -> Result<u64, AllocError> {
     let mut all = of_round(alloc, 1, n)?;
     learn_risen_of(alloc, &mut all, n, times)

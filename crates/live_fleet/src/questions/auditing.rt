@@ -1,4 +1,4 @@
-//! Whether a fleet is as it ought to be.
+//! Audits a fleet.
 ghost use Rattle.std.specs.Prelude.{◌≡◌, ◌&&◌, true, List, IfOk};
 ghost use Rattle.std.specs.List.{AllZip, list_all};
 ghost use Rattle.photo_device.specs.Held.{entries_of};
@@ -12,8 +12,8 @@ use fleet_steps::IssueLog;
 use photo_device::{Held, SharedHeld};
 use std::alloc::{AllocError, Global};
 
-/// Whether each device of a fleet stores just what its filter selects of the newest versions that it knows, and each version
-/// of the log that no other one supersedes is held by some device, as an audit of its devices and its log finds. It says yes of
+/// Whether an audit of the devices and the log finds the fleet sound: each device stores exactly what its filter selects of the
+/// newest versions that it knows, and some device holds each version of the log that no other supersedes. The answer is yes for
 /// every fleet. Its only error is want of memory.
 pub fn audited(alloc: Global, fleet: &Fleet) -> Result<bool, AllocError>
     ensures is { IfOk result (λ answer. (models : List ModelDevice) → AllZip Shows fleet.now.devices models
@@ -25,7 +25,7 @@ pub fn audited(alloc: Global, fleet: &Fleet) -> Result<bool, AllocError>
     Ok(audit(devices, &log))
 }
 
-// A fleet's log as audits go along it. Its only error is want of memory.
+// The fleet's log in the form that an audit reads. Its only error is want of memory.
 fn log_of(alloc: Global, log: &[Held]) -> Result<IssueLog, AllocError>
     ensures { IfOk result (λ issued. issued ≡ log.now) }
 {

@@ -9,16 +9,16 @@ ghost use Rattle.live_fleet.specs.Moving.{are_taken, are_handed};
 use photo_device::{Device, SharedHeld};
 use std::alloc::{AllocError, Global};
 
-/// The versions that a pull would move, each as its source holds it, by picture and then by version.
+/// The versions that a pull would move, each as its source holds it, sorted by picture and then version.
 #[derive(Debug, Drop)]
 pub struct Moves {
-    /// What the target would take of the source's store.
+    /// What the target would take from the source's store.
     pub taken: Vec<SharedHeld>,
-    /// What the source would hand over out of its out.
+    /// What the source would hand over from its out.
     pub handed: Vec<SharedHeld>,
 }
 
-/// The versions that a pull of the target from the source would move: as many as a preview counts. They are shared with the
+/// The versions that a pull by the target from the source would move: as many as a preview counts. They are shared with the
 /// source, and neither device changes. Its only error is want of memory.
 pub fn pull_moves(alloc: Global, target: &Device, source: &Device) -> Result<Moves, AllocError>
     ensures taken { IfOk result (λ moves. moves.taken.items ≡ are_taken target.now source.now) }
@@ -28,14 +28,15 @@ pub fn pull_moves(alloc: Global, target: &Device, source: &Device) -> Result<Mov
     ensures handed_shown { IfOk result (λ moves. (t s : ModelDevice) → Shows target.now t → Shows source.now s
         → entries_of moves.handed.items ≡ pulls.handed t s) }
 {
-    // For its fact alone: what is true of every device.
+    // `knowledge()` is called because its contract states the invariants of every device, which the clauses on shown devices
+    // need.
     let _knowledge = source.knowledge();
     let taken = taken_between(alloc, target, source)?;
     let handed = target.unknown_by(alloc, source.out())?;
     Ok(Moves { taken, handed })
 }
 
-// Of what the target doesn't know of the source's store, what its filter matches.
+// The versions of the source's store that the target doesn't know and its filter matches.
 fn taken_between(
     alloc: Global,
     target: &Device,

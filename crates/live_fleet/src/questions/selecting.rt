@@ -1,4 +1,4 @@
-//! The pictures that a device holds and a filter selects.
+//! The pictures of a device that a filter selects.
 ghost use Rattle.std.specs.Prelude.{◌≡◌, ◌++◌, IfOk, OnOk};
 ghost use Rattle.live_fleet.specs.Selected.{AreSelected, matched};
 
@@ -6,9 +6,8 @@ use photo_device::{Device, HeldSet, SharedHeld};
 use photo_filter_rules::Filter;
 use std::alloc::{AllocError, Global};
 
-/// Of what a device holds, in its store and in its out, the versions whose records a filter matches, by picture and then by
-/// version. They are shared with the device. No filter matches a version that removes its picture. Its only error is want of
-/// memory.
+/// The versions of a device's store and out whose records a filter matches, sorted by picture and then version. They are shared
+/// with the device. No filter matches a version that removes its picture. Its only error is want of memory.
 pub fn selected(
     alloc: Global,
     device: &Device,
@@ -21,7 +20,7 @@ pub fn selected(
     Ok(found)
 }
 
-// Those of the store, and then those of the out.
+// The versions of the store that the filter matches, and behind them those of the out.
 fn held_matched(
     alloc: Global,
     device: &Device,
@@ -35,7 +34,7 @@ fn held_matched(
     Ok(found)
 }
 
-// Puts those of a set that a filter matches behind others.
+// Appends the versions of a set that a filter matches.
 fn push_of_set(
     found: &mut Vec<SharedHeld>,
     wanted: &Filter,
@@ -49,7 +48,7 @@ fn push_of_set(
     Ok(())
 }
 
-// Puts those of a list that a filter matches behind others.
+// Appends the versions of a list that a filter matches.
 fn push_matched(
     found: &mut Vec<SharedHeld>,
     wanted: &Filter,

@@ -7,8 +7,8 @@ use photo_device::{Device, Held, HeldSet, SharedHeld};
 use photo_record::{PicNo, Record};
 use std::alloc::{AllocError, Global};
 
-/// The numbers of the devices that hold a picture, in order: in its store or in its out each has a version of it that doesn't
-/// remove it. Its only error is want of memory.
+/// The numbers of the devices that hold a picture, in order. Such a device has in its store or its out a version of the picture
+/// that doesn't remove it. Its only error is want of memory.
 pub fn holding(alloc: Global, fleet: &Fleet, picture: PicNo) -> Result<Vec<u16>, AllocError>
     ensures { IfOk result (λ numbers. numbers.items ≡ numbers_of (filter (holds picture) fleet.now.devices)) }
 {
@@ -21,8 +21,9 @@ pub fn holding(alloc: Global, fleet: &Fleet, picture: PicNo) -> Result<Vec<u16>,
     Ok(numbers)
 }
 
-/// The numbers of the devices that hold no version of a picture but such as remove it, in order: all others. Such a device may know
-/// of the picture, and not want it by its filter, or know that it was removed. Its only error is want of memory.
+/// The numbers of all other devices, in order: those that hold no version of a picture, or only versions that remove it. Such a
+/// device may know of the picture: its filter may not match it, or it may know that the picture was removed. Its only error is
+/// want of memory.
 pub fn lacking(alloc: Global, fleet: &Fleet, picture: PicNo) -> Result<Vec<u16>, AllocError>
     ensures { IfOk result (λ numbers. numbers.items ≡ numbers_of (filter (λ d. not (holds picture d)) fleet.now.devices)) }
 {
@@ -35,7 +36,7 @@ pub fn lacking(alloc: Global, fleet: &Fleet, picture: PicNo) -> Result<Vec<u16>,
     Ok(numbers)
 }
 
-/// The numbers of the devices that know of some version that was made of a picture, in order, whether they hold one or not. A
+/// The numbers of the devices that know some version that was made of a picture, in order, whether or not they hold one. A
 /// version that removes it counts. Its only error is want of memory.
 pub fn knowing(alloc: Global, fleet: &Fleet, picture: PicNo) -> Result<Vec<u16>, AllocError>
     ensures { IfOk result (λ numbers. numbers.items ≡ numbers_of (filter (knows_of fleet.now.log picture) fleet.now.devices)) }
@@ -83,7 +84,7 @@ fn is_picture(record: &Record) -> bool
     }
 }
 
-// Whether a device knows of a version that was made of a picture.
+// Whether a device knows a version that was made of a picture.
 fn knows_of(device: &Device, log: &[Held], picture: PicNo) -> bool
     ensures { result ≡ knows_of log.now picture device.now }
 {

@@ -1,4 +1,4 @@
-//! Writers and files in memory, and the program over them.
+//! Writers and files in memory, and runs of the program over them.
 ghost use Rattle.std.specs.Prelude.{Some, None, codes, if◌then◌else◌};
 ghost use Rattle.std.specs.Str.{bytes_eq};
 
@@ -12,7 +12,7 @@ use std::thread::Threads;
 /// The stored run's script.
 pub const SCRIPT: &str = "device cam all\nnew cam 7 5 2024-05-01 sun,beach\nlist cam\n";
 
-/// What it prints.
+/// What the stored run prints.
 pub const OUTPUT: &str =
     "1 made cam:1 store\n2 list cam store 1 out 0\n  store 7 cam:1 rating 5 day 2024-05-01 words beach,sun\n";
 
@@ -23,7 +23,7 @@ pub enum Full {
     Zero,
 }
 
-/// Takes at most `room` bytes in all, and keeps them.
+/// Takes at most `room` bytes in total, and keeps them.
 #[derive(Drop)]
 pub struct Sink {
     pub taken: Vec<u8>,
@@ -32,12 +32,12 @@ pub struct Sink {
 }
 
 impl Sink {
-    /// A writer that takes all.
+    /// A writer that takes all bytes.
     pub fn new(alloc: Global) -> Sink {
         Sink::of_room(alloc, usize::MAX, Full::Error)
     }
 
-    /// A writer that takes so many bytes in all.
+    /// A writer that takes at most `room` bytes in total.
     pub fn of_room(alloc: Global, room: usize, full: Full) -> Sink {
         Sink {
             taken: Vec::new(alloc),
@@ -63,7 +63,7 @@ impl Write for Sink {
     }
 }
 
-/// One file in memory: `script`. No other can be opened.
+/// Has one file in memory, `script`; no other can be opened.
 #[derive(Drop)]
 pub struct Shelf<'a> {
     pub script: &'a [u8],
@@ -82,7 +82,7 @@ impl<'a> Opener for Shelf<'a> {
     }
 }
 
-/// Whether the program on those words, with the script in the one file, gives a status, an output and an error's text.
+/// Whether the program gives this status, output and error text for these words, with the script in the one file.
 pub fn serves<T: Threads + Wait + Copy + Send + 'static>(
     rt: T,
     alloc: Global,
@@ -100,7 +100,7 @@ pub fn serves<T: Threads + Wait + Copy + Send + 'static>(
         && err.taken.as_slice() == error
 }
 
-/// The same of the words that run the script.
+/// The same for the words that run the script.
 pub fn runs<T: Threads + Wait + Copy + Send + 'static>(
     rt: T,
     alloc: Global,
@@ -121,7 +121,7 @@ pub fn runs<T: Threads + Wait + Copy + Send + 'static>(
     )
 }
 
-/// The same of words behind the program's name.
+/// The same for words behind the program's name.
 pub fn does<T: Threads + Wait + Copy + Send + 'static>(
     rt: T,
     alloc: Global,

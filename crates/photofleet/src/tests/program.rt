@@ -1,4 +1,4 @@
-//! Command lines: their statuses, and what is printed and told.
+//! Tests of command lines: their statuses, and what they write to the output and to `err`.
 use super::memory::{Full, OUTPUT, SCRIPT, Shelf, Sink, does, runs, serves};
 use crate::arguments::Arguments;
 use photofleet_cli::{serve, without_words};
@@ -43,7 +43,7 @@ fn statuses_and_texts(rt: HostRuntime) {
     }
 }
 
-// What a makes and what b makes are apart, and may change places.
+// The commands of `a` and of `b` share no device before the pull, so they may change places.
 const APART: &str =
     "device a all\ndevice b all\nnew a 1 5 2024-01-01 -\nnew b 2 4 2024-01-01 -\npull b a\nlist a\n";
 
@@ -56,7 +56,7 @@ const APART_PLAN: &str =
 
 const UNLAWFUL: &str = "run error: E3 NotLawful\n";
 
-// Words behind the program's name, the script, the status, what is printed, and what is told.
+// Words behind the program's name, the script, the status, the output, and the text on `err`.
 const WORK: &[(&[&str], &str, u8, &str, &str)] = &[
     (&["batches", "script"], APART, 0, APART_PLAN, ""),
     (&["batches", "script"], "", 0, "batches 0\n", ""),
@@ -211,7 +211,7 @@ const REFUSED: &[&[&str]] = &[
     &["photofleet", "replay", "elsewhere", "one"],
 ];
 
-// Whether the words are refused by a text of `clap`, and nothing is written to the output.
+// Whether `clap` refuses the words with a text, and nothing is written to the output.
 fn refuses<T: Threads + Wait + Copy + Send + 'static>(
     rt: T,
     alloc: Global,
@@ -281,7 +281,7 @@ impl Env for Given<'_> {
     }
 }
 
-// Whether these words are given as they are, or not where one isn't UTF-8.
+// Whether the words are read unchanged, or refused where one isn't UTF-8.
 fn are_given(alloc: Global, words: &[&[u8]], is_text: bool) -> bool {
     match Arguments::read(&Given { words }, alloc) {
         Ok(given) => are_in(alloc, &given, words, is_text),
@@ -289,7 +289,7 @@ fn are_given(alloc: Global, words: &[&[u8]], is_text: bool) -> bool {
     }
 }
 
-// Whether these words were read, or have one that isn't UTF-8.
+// Whether these words were read, or one of them isn't UTF-8.
 fn are_in(alloc: Global, given: &Arguments, words: &[&[u8]], is_text: bool) -> bool {
     match given.words(alloc) {
         Ok(given) => {
@@ -321,7 +321,7 @@ fn words_as_they_were_given(rt: HostRuntime) {
     }
 }
 
-// The status of a wish for help, whose text is written to that writer, with what is told of it.
+// The status of a request for help that writes to that writer, or `None` where the text on `err` isn't `error`.
 fn helped<W: Write, T: Threads + Wait + Copy + Send + 'static>(
     rt: T,
     alloc: Global,
@@ -334,7 +334,7 @@ fn helped<W: Write, T: Threads + Wait + Copy + Send + 'static>(
     (err.taken.as_slice() == error).then_some(status)
 }
 
-// Whether help is told to be unwritten where the output is gathered, and fails when it is flushed.
+// Whether the program reports on `err` that help wasn't written, where the output is buffered and its flush fails.
 fn is_told_unflushed<T: Threads + Wait + Copy + Send + 'static>(
     rt: T,
     alloc: Global,
@@ -377,7 +377,7 @@ fn help(rt: HostRuntime) {
     }
 }
 
-// Whether an output with so much room, which then fails, keeps a front of what is printed, with that status and text.
+// Whether an output of that capacity, which then fails, keeps a front of the text, with that status and error text.
 fn filled<T: Threads + Wait + Copy + Send + 'static>(
     rt: T,
     alloc: Global,
@@ -421,7 +421,7 @@ fn an_output_that_is_full(rt: HostRuntime) {
     }
 }
 
-// Whether an order that is refused is told before the output is tried.
+// Whether a refused order is reported before anything is written to the output.
 fn is_refused_first<T: Threads + Wait + Copy + Send + 'static>(rt: T, alloc: Global) -> bool {
     let mut out = Sink::of_room(alloc, 0, Full::Error);
     let mut err = Sink::new(alloc);
@@ -438,7 +438,7 @@ fn an_order_is_judged_before_the_output(rt: HostRuntime) {
     assert!(rt; is_refused_first(rt, rt.alloc()));
 }
 
-// Whether a run whose output is gathered before a writer takes it has that status, and the writer took so many bytes.
+// Whether a run with a buffered output has that status, and the writer took that many bytes.
 fn is_buffered<T: Threads + Wait + Copy + Send + 'static>(
     rt: T,
     alloc: Global,
@@ -455,7 +455,7 @@ fn is_buffered<T: Threads + Wait + Copy + Send + 'static>(
     }
 }
 
-// The status of a run into that writer.
+// The status of a run that writes to that writer.
 fn ran_into<T: Threads + Wait + Copy + Send + 'static>(
     rt: T,
     alloc: Global,

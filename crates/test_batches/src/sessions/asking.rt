@@ -1,4 +1,4 @@
-// What a session is asked.
+// Tests of questions to a session.
 use super::working::pulls;
 use super::{filter_of, has};
 use live_fleet::{FleetFault, Session, holding, knowing, lacking, pull_moves, selected};
@@ -8,7 +8,7 @@ use photo_script::{Command, Report};
 use photo_version::Author;
 use std::alloc::Global;
 
-/// Which devices are asked for by a picture.
+/// Which devices a question about a picture asks for.
 #[derive(Clone, Copy)]
 pub enum Question {
     Holding,
@@ -16,7 +16,7 @@ pub enum Question {
     Knowing,
 }
 
-/// Whether those are the devices that hold, lack or know a picture.
+/// Whether exactly those devices hold, lack or know a picture.
 pub fn is_asked(
     alloc: Global,
     session: &Session,
@@ -38,7 +38,7 @@ pub fn is_asked(
     }
 }
 
-/// Whether a device is listed with so many versions in its store and in its out.
+/// Whether the listing of a device says that its store and its out have that many versions.
 pub fn lists(
     session: &mut Session,
     device: u16,
@@ -69,7 +69,7 @@ fn are_of(helds: &[SharedHeld], pictures: &[u32]) -> bool {
     true
 }
 
-/// Whether a filter selects the versions of those pictures on a device.
+/// Whether a filter selects exactly the versions of those pictures on a device.
 pub fn selects(alloc: Global, session: &Session, device: u16, text: &str, right: &[u32]) -> bool {
     match (session.device(device), filter_of(alloc, text)) {
         (Some(device), Some(filter)) => match selected(alloc, device, &filter) {
@@ -80,7 +80,7 @@ pub fn selects(alloc: Global, session: &Session, device: u16, text: &str, right:
     }
 }
 
-/// Whether a pull would take and be handed over the versions of those pictures.
+/// Whether a pull would take the versions of the first pictures, and be handed over those of the second.
 pub fn moves(
     alloc: Global,
     session: &Session,
@@ -97,7 +97,7 @@ pub fn moves(
     }
 }
 
-/// Whether a device holds two versions of a picture, the first of each device, and tells of a conflict between them alone.
+/// Whether a device holds two versions of a picture, the first of each device, and reports a conflict between exactly these.
 pub fn has_conflict(session: &Session, device: u16) -> bool {
     match session.device(device) {
         Some(device) => tells_conflict(device),
@@ -125,7 +125,7 @@ fn is_conflict(store: &HeldSet, conflict: &Conflict) -> bool {
         && second.author() == Author::new(1)
 }
 
-/// Whether a copy of a session that has made two versions is like it, and pulls for itself alone.
+/// Whether a copy of a session that has made two versions equals it, and pulls without changing it.
 pub fn copies(alloc: Global, session: &Session) -> bool {
     match session.try_clone() {
         Ok(mut copy) => goes_its_own_way(alloc, &mut copy),

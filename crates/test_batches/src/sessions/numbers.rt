@@ -1,4 +1,4 @@
-// A script whose commands a session is given by number.
+// Tests of a session that runs a script's commands by number.
 use live_fleet::{FleetFault, Session};
 use photo_script::{Script, read_script, report_text};
 use std::alloc::Global;
@@ -12,7 +12,7 @@ const TEXTS: [&str; 3] = [
     "3 list b store 1 out 0\n  store 1 a:1 rating 5 day 2024-01-01 words -\n",
 ];
 
-/// Whether the commands of the script run one after another, and no others.
+/// Whether the script's commands run one after another, and no others.
 pub fn runs_script(alloc: Global) -> bool {
     match read_script(alloc, SCRIPT.as_bytes()) {
         Ok(script) => runs(alloc, &script),
@@ -27,7 +27,7 @@ fn runs(alloc: Global, script: &Script) -> bool {
     }
 }
 
-// Whether the texts of the reports are the right ones, and there is no command before the first and behind the last one.
+// Whether the reports have the right texts, and there is no command before the first or after the last.
 fn tells(alloc: Global, session: &mut Session, script: &Script) -> bool {
     for i in 0..TEXTS.len() {
         if !is_told(alloc, session, script, i as u32 + 1, TEXTS[i]) {

@@ -1,14 +1,14 @@
-// What is done by a session.
+// Tests of commands given to a session.
 use super::filter_of;
 use live_fleet::{FleetFault, Session};
 use photo_device::Place;
 use photo_record::{Day, PicNo, Rating, Record, Words};
 use std::alloc::Global;
 
-/// The number of a version that a device makes, and its place.
+/// The number and the place of a version that a device makes.
 pub type Made = (u32, Place);
 
-/// How many versions are taken and handed over, and whether all is learned that the source knows.
+/// How many versions are taken and handed over, and whether the target learns all that the source knows.
 pub type Counts = (u64, u64, bool);
 
 fn rated(alloc: Global, rating: u8) -> Option<Record> {
@@ -19,7 +19,7 @@ fn rated(alloc: Global, rating: u8) -> Option<Record> {
     })
 }
 
-/// Whether that comes of the making of a version of a picture with a rating.
+/// Whether making a version of a picture with a rating has that result.
 pub fn makes(
     alloc: Global,
     session: &mut Session,
@@ -36,7 +36,7 @@ pub fn makes(
     }
 }
 
-/// Whether that comes of an edit of a picture to a rating, or of its removal.
+/// Whether an edit of a picture to a rating, or its removal, has that result.
 pub fn changes(
     alloc: Global,
     session: &mut Session,
@@ -61,7 +61,7 @@ pub fn changes(
     }
 }
 
-/// Whether so many versions go where a device narrows, or its filter doesn't cover the new one.
+/// Whether narrowing moves that many versions to the out, or is refused because the filter doesn't cover the new one.
 pub fn narrows(
     alloc: Global,
     session: &mut Session,
@@ -75,7 +75,7 @@ pub fn narrows(
     }
 }
 
-/// Whether a device's store and out have so many versions once it has another filter.
+/// Whether the device's store and out have that many versions after it gets another filter.
 pub fn refilters(
     alloc: Global,
     session: &mut Session,
@@ -89,7 +89,7 @@ pub fn refilters(
     }
 }
 
-/// Whether that comes of a pull, and of a preview before it.
+/// Whether a pull, and a preview before it, have that result.
 pub fn pulls(
     session: &mut Session,
     target: u16,
@@ -105,7 +105,7 @@ pub fn pulls(
         }
 }
 
-/// Whether a device with that filter joins with that number.
+/// Whether a device with that filter joins and gets that number.
 pub fn adds(alloc: Global, session: &mut Session, text: &str, number: u16) -> bool {
     match filter_of(alloc, text) {
         Some(filter) => session.add(&filter) == Ok(number),

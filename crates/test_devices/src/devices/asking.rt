@@ -1,14 +1,15 @@
-// What a device is asked: what it doesn't know of another one's store.
+// Tests of a device that is asked what it doesn't know of another one's store.
 use super::changing::makes;
 use super::steps::{Step, are, opened};
 use super::{Run, is_run};
 use photo_device::{Device, HeldSet, Place};
 use std::alloc::Global;
 
-/// The pictures that a device makes, those that another one makes, and what the device then doesn't know of the other.
+/// The pictures that the device makes, those that the other one makes, and what the device then doesn't know of the other's
+/// store.
 pub type Round = (&'static [u32], &'static [u32], &'static [(u32, u32)]);
 
-/// Whether a device of one more number makes and is asked as the rounds say.
+/// Whether the device and another one, of that number, make pictures and answer as the rounds say.
 pub fn asks(alloc: Global, device: &mut Device, author: u16, rounds: &[Round]) -> bool {
     let mut other = opened(alloc, author, "all");
     asks_one(alloc, device, &mut other, rounds)
@@ -48,7 +49,8 @@ fn makes_all(alloc: Global, device: &mut Device, pictures: &[u32]) -> bool {
     true
 }
 
-// Whether of a set a device doesn't know just these, where it notes nothing, and also where it is asked again.
+// Whether exactly these versions of a set are new to the device, both where it notes the answer and where it doesn't; it is
+// asked three times.
 fn is_unknown(alloc: Global, device: &mut Device, set: &HeldSet, wanted: &[(u32, u32)]) -> bool {
     for _ in 0..3u8 {
         if !matches!(device.unknown_by(alloc, set), Ok(found) if are(&found, wanted)) {
@@ -62,7 +64,7 @@ fn is_unknown(alloc: Global, device: &mut Device, set: &HeldSet, wanted: &[(u32,
 }
 
 const RUNS: &[Run] = &[
-    // the other one is of the same author, so the device knows what it made up to its own last version
+    // the other device has the same author, so the device knows its versions up to its own last one
     (
         "a device knows what it made as another holds it",
         3,

@@ -1,4 +1,4 @@
-// New versions, edits and removals.
+// Tests of new versions, edits and removals.
 use super::steps::{Step, content_of};
 use super::{Run, is_run};
 use photo_device::{ChangeFault, Device, Place};
@@ -6,10 +6,10 @@ use photo_record::PicNo;
 use photo_version::Version;
 use std::alloc::Global;
 
-/// The number of the version that is made, and its place, or why none is.
+/// The number and the place of the version that is made, or why none is.
 pub type Changed = Result<(u32, Place), ChangeFault>;
 
-/// Whether a device makes that version of a picture with a rating.
+/// Whether the device makes that version of a picture with a rating.
 pub fn makes(
     alloc: Global,
     device: &mut Device,
@@ -31,7 +31,7 @@ pub fn makes(
     }
 }
 
-/// Whether that comes of an edit of a picture.
+/// Whether an edit of a picture has that result.
 pub fn edits(alloc: Global, device: &mut Device, number: u32, rating: u8, wanted: Changed) -> bool {
     let (Some(picture), Some(content)) = (PicNo::new(number), content_of(alloc, Some(rating)))
     else {
@@ -43,7 +43,7 @@ pub fn edits(alloc: Global, device: &mut Device, number: u32, rating: u8, wanted
     told(device.edit(picture, &content)) == wanted
 }
 
-/// Whether that comes of the removal of a picture.
+/// Whether the removal of a picture has that result.
 pub fn removes(device: &mut Device, number: u32, wanted: Changed) -> bool {
     match PicNo::new(number) {
         Some(picture) if device.counter() < u32::MAX => told(device.remove(picture)) == wanted,
@@ -58,7 +58,7 @@ fn told(change: Result<(Version, Place), ChangeFault>) -> Changed {
     }
 }
 
-/// Whether that is the text of a change of what is not held.
+/// Whether that is the text of the fault `NotHeld`.
 pub fn is_shown(alloc: Global, wanted: &str) -> bool {
     match ChangeFault::NotHeld.to_string(alloc) {
         Ok(text) => text.as_str() == wanted,
@@ -66,7 +66,7 @@ pub fn is_shown(alloc: Global, wanted: &str) -> bool {
     }
 }
 
-// A removed picture goes to the out, whatever the filter.
+// The version that removes a picture goes to the out, whatever the filter is.
 const REMOVED: &[Step] = &[
     Step::Make(7, None, (1, Place::Out)),
     Step::Has(&[], &[(7, 1)]),

@@ -1,11 +1,11 @@
-// Narrower filters and any others, and what is handed over.
+// Tests of narrower filters, of any other filters, and of handing over.
 use super::steps::{Step, are, filter_of};
 use super::{Run, is_run};
 use photo_device::{Device, NarrowFault, Place};
 use photo_version::Version;
 use std::alloc::Global;
 
-/// Whether so many versions go where a device narrows, or its filter doesn't cover the new one.
+/// Whether narrowing moves that many versions to the out, or is refused because the filter doesn't cover the new one.
 pub fn narrows(alloc: Global, device: &mut Device, text: &str, wanted: Option<u64>) -> bool {
     let Some(filter) = filter_of(alloc, text) else {
         return false;
@@ -16,7 +16,7 @@ pub fn narrows(alloc: Global, device: &mut Device, text: &str, wanted: Option<u6
     }
 }
 
-/// Whether a device's store and out have so many versions once it has another filter.
+/// Whether the device's store and out have that many versions after it gets another filter.
 pub fn refilters(alloc: Global, device: &mut Device, text: &str, wanted: (u64, u64)) -> bool {
     if device.author().epoch() == u32::MAX {
         return false;
@@ -27,7 +27,7 @@ pub fn refilters(alloc: Global, device: &mut Device, text: &str, wanted: (u64, u
     }
 }
 
-/// Whether that is handed over where a device is asked for its version of that number.
+/// Whether the device hands over exactly that when it is asked for its version of that number.
 pub fn hands_over(alloc: Global, device: &mut Device, n: u32, wanted: &[(u32, u32)]) -> bool {
     let Some(version) = Version::new(device.author(), n) else {
         return false;
@@ -73,7 +73,7 @@ const RUNS: &[Run] = &[
             Step::Has(&[(2, 2)], &[]),
         ],
     ),
-    // of its picture each version is known with its history, and of other pictures none is
+    // each version of its picture is known with its history, and no version of other pictures
     (
         "what is held is sorted anew",
         0,

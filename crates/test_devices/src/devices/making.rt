@@ -1,4 +1,4 @@
-// Versions that a device makes, and what it knows of them.
+// Tests of the versions that a device makes and of what it knows of them.
 use super::steps::Step;
 use super::{Run, is_run};
 use photo_device::Place;

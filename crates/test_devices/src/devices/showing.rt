@@ -1,4 +1,4 @@
-// What a device holds, gone over and shown.
+// Tests of iterating over what a device holds, and of showing it.
 ghost use Rattle.std.specs.Prelude.{◌≡◌, map, IfOk};
 
 use super::changing::makes;
@@ -8,7 +8,7 @@ use photo_device::{Device, HeldSet, Place};
 use photo_record::PicNo;
 use std::alloc::{AllocError, Global};
 
-// The pictures of a set, one for each version.
+// The pictures of a set, one for each of its versions.
 fn pictures_of(alloc: Global, set: &HeldSet) -> Result<Vec<PicNo>, AllocError>
     ensures { IfOk result (λ pictures. pictures.items ≡ map (λ held. held.picture) set.now) }
 {
@@ -31,7 +31,7 @@ fn count_to(pictures: &[PicNo], n: u32) -> bool {
     last == n
 }
 
-/// Whether a device's store has a version of each picture up to that number.
+/// Whether the device's store has exactly one version of each picture up to that number.
 pub fn is_gone_over(alloc: Global, device: &Device, n: u32) -> bool {
     match pictures_of(alloc, device.store()) {
         Ok(pictures) => count_to(&pictures, n),
@@ -49,7 +49,7 @@ pub fn fills(alloc: Global, device: &mut Device, n: u32) -> bool {
     true
 }
 
-// Puts a line for each version of a set behind a text, with the numbers of devices in place of their names.
+// Appends a line for each version of a set, with the devices' numbers in place of their names.
 fn push_lines(set: &HeldSet, lines: &mut String) -> Result<(), AllocError> {
     for held in set {
         let (picture, version, content) = (held.picture(), held.version(), held.content());
@@ -63,7 +63,7 @@ fn has_lines(alloc: Global, set: &HeldSet, wanted: &str) -> bool {
     push_lines(set, &mut lines).is_ok() && lines.as_str() == wanted
 }
 
-/// Whether those are the lines of a device's store and of its out.
+/// Whether those are the lines of the device's store and of its out.
 pub fn shows(alloc: Global, device: &Device, store: &str, out: &str) -> bool {
     has_lines(alloc, device.store(), store) && has_lines(alloc, device.out(), out)
 }

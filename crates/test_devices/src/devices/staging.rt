@@ -1,4 +1,4 @@
-// Changes that are staged, and copies of devices.
+// Tests of staged changes and of copies of devices.
 ghost use Rattle.std.specs.Prelude.{◌≡◌, ℕ, false};
 
 use super::changing::makes;
@@ -10,7 +10,7 @@ use photo_record::PicNo;
 use photo_version::Version;
 use std::alloc::Global;
 
-/// Whether a device stages that it gives up its version of that number, where it holds it.
+/// Whether the device holds its version of that number and stages dropping it, with capacity for `room` more.
 pub fn stages(alloc: Global, device: &mut Device, n: u32, room: usize) -> bool {
     let Some(version) = Version::new(device.author(), n) else {
         return false;
@@ -34,7 +34,7 @@ pub fn stages(alloc: Global, device: &mut Device, n: u32, room: usize) -> bool {
     }
 }
 
-// Those pictures.
+// The pictures of those numbers.
 fn pictures(alloc: Global, numbers: &[u32]) -> Option<Vec<PicNo>> {
     let mut pictures = Vec::new(alloc);
     for number in numbers {
@@ -43,7 +43,7 @@ fn pictures(alloc: Global, numbers: &[u32]) -> Option<Vec<PicNo>> {
     Some(pictures)
 }
 
-/// Whether a device stages that it gives up its versions 3, 2 and 5, where it holds them, with hints.
+/// Whether the device holds its versions 3, 2 and 5 and stages dropping them, with hints.
 pub fn stages_hinted(alloc: Global, device: &mut Device, hints: &[u32]) -> bool {
     let author = device.author();
     let (Some(one), Some(two), Some(three)) = (
@@ -78,7 +78,7 @@ pub fn stages_hinted(alloc: Global, device: &mut Device, hints: &[u32]) -> bool 
     }
 }
 
-/// Commits what is staged, where something is.
+/// Whether the device commits what is staged, if anything is.
 pub fn commits(alloc: Global, device: &mut Device) -> bool {
     if !device.staged() {
         return false;
@@ -87,7 +87,8 @@ pub fn commits(alloc: Global, device: &mut Device) -> bool {
     !device.staged()
 }
 
-/// Whether a copy of a device that has made five versions is like it, and makes a sixth one for itself alone.
+/// Whether a copy of a device that has made five versions knows the same, has nothing staged, and makes a sixth version that
+/// the device doesn't know.
 pub fn copies(alloc: Global, device: &Device) -> bool {
     match device.try_clone() {
         Ok(mut copy) => goes_its_own_way(alloc, device, &mut copy),
@@ -174,7 +175,7 @@ const RUNS: &[Run] = &[
             Step::Knows(9, (2, 0, 6), false),
         ],
     ),
-    // the versions that go are of the pictures 3, 2 and 5
+    // the versions that are dropped are of pictures 3, 2 and 5
     (
         "what is given up by right hints",
         0,

@@ -1,4 +1,4 @@
-// The steps of the tables: what a device does, with what comes of it, and what it has.
+// The steps of the tables: what a device does, with the result, and what it has.
 use super::asking::{Round, asks};
 use super::changing::{Changed, edits, makes, removes};
 use super::filtering::{hands_over, narrows, refilters};
@@ -13,55 +13,55 @@ use std::alloc::Global;
 /// Versions, each by its picture and its number.
 pub type List = &'static [(u32, u32)];
 
-/// A step of a device. Pictures, ratings and its own versions are given by their numbers, and what is removed has no rating.
+/// A step of a device. Numbers give pictures, ratings and the device's own versions; a removed picture has no rating.
 pub enum Step {
-    /// It makes a version of a picture with a rating: the version's number and place.
+    /// The device makes a version of a picture with a rating: the version's number and place.
     Make(u32, Option<u8>, (u32, Place)),
-    /// It makes a version of each picture up to that number.
+    /// The device makes a version of each picture up to that number.
     Fill(u32),
-    /// It edits a picture to a rating.
+    /// The device edits a picture to a rating: the result.
     Edit(u32, u8, Changed),
-    /// It removes a picture.
+    /// The device removes a picture: the result.
     Remove(u32, Changed),
-    /// It narrows to a filter: how many versions go to the out, or that it is refused.
+    /// The device narrows to a filter: how many versions go to the out, or `None` where it refuses.
     Narrow(&'static str, Option<u64>),
-    /// It gets another filter: how many versions its store and its out have then.
+    /// The device gets another filter: how many versions its store and its out then have.
     Refilter(&'static str, (u64, u64)),
-    /// It hands over a version: what goes.
+    /// The device hands over a version: what it hands over.
     HandOver(u32, List),
-    /// It stages that it gives up a version, with room for so many more: whether it does.
+    /// The device stages dropping a version, with capacity for that many more: whether it does.
     Stage(u32, usize, bool),
-    /// It stages that it gives up its versions 3, 2 and 5, with pictures as hints.
+    /// The device stages dropping its versions 3, 2 and 5, with pictures as hints.
     StageHinted(&'static [u32]),
-    /// It commits what is staged.
+    /// The device commits what is staged.
     Commit,
-    /// Whether it has something staged.
+    /// Whether the device has something staged.
     IsStaged(bool),
-    /// A copy of it goes its own way.
+    /// A copy of the device changes without changing the device.
     Copy,
-    /// It is asked what it doesn't know of another one, by that one's number.
+    /// The device is asked what it doesn't know of another one, given by its number.
     Ask(u16, &'static [Round]),
-    /// Its number, its epoch and how many versions it has made.
+    /// The device's number, its epoch, and how many versions it has made.
     Is(u16, u32, u32),
-    /// What its store and its out have, and no more.
+    /// Exactly what the device's store and out have.
     Has(List, List),
-    /// Whether it holds its version of that number: the picture and the rating.
+    /// Whether the device holds its version of that number: the picture and the rating.
     Holds(u32, Option<(u32, Option<u8>)>),
-    /// Whether its store has, of a picture, the version of a device and a number.
+    /// Whether the device's store has the version, given by its device and number, of that picture.
     Finds(u32, (u16, u32), bool),
-    /// Whether it knows, of a picture, the version of a device, an epoch and a number.
+    /// Whether the device knows the version, given by its device, epoch and number, of that picture.
     Knows(u32, (u16, u32, u32), bool),
-    /// How many fragments its knowledge has.
+    /// How many fragments the device's knowledge has.
     Fragments(usize),
-    /// The last of its versions that one of its versions was made with, or 0.
+    /// The last of the device's versions in the history of one of its versions, or 0.
     MadeWith(u32, u32),
-    /// Its store has so many blocks, and a version of each picture up to that number.
+    /// The device's store has that many blocks, and a version of each picture up to that number.
     GoneOver(usize, u32),
-    /// The lines of its store and of its out.
+    /// The lines of the device's store and of its out.
     Shows(&'static str, &'static str),
 }
 
-/// Whether a device takes those steps one after another.
+/// Whether the device passes the steps one after another.
 pub fn does(alloc: Global, device: &mut Device, steps: &[Step]) -> bool {
     for step in steps {
         if !does_one(alloc, device, step) {
@@ -88,7 +88,7 @@ fn does_one(alloc: Global, device: &mut Device, step: &Step) -> bool {
     }
 }
 
-// Whether a device is as a step says that does nothing to it.
+// Whether the device is as the step says; such a step doesn't change it.
 fn has_come(alloc: Global, device: &Device, step: &Step) -> bool {
     match step {
         Step::IsStaged(staged) => {
@@ -112,7 +112,7 @@ fn has_come(alloc: Global, device: &Device, step: &Step) -> bool {
     }
 }
 
-/// The filter of a text.
+/// The filter with that text.
 pub fn filter_of(alloc: Global, text: &str) -> Option<Filter> {
     let tree = photo_filter_text::read(alloc, text).ok()?;
     Filter::build(alloc, tree).ok()
@@ -124,7 +124,7 @@ pub fn opened(alloc: Global, author: u16, text: &str) -> Option<Device> {
     Device::new(alloc, Author::new(author), filter).ok()
 }
 
-/// The record of a picture with that rating, or of one that is removed.
+/// The record of a picture with that rating, or of a removed picture.
 pub fn content_of(alloc: Global, rating: Option<u8>) -> Option<Record> {
     let Some(rating) = rating else {
         return Some(Record::Removed);
@@ -136,7 +136,7 @@ pub fn content_of(alloc: Global, rating: Option<u8>) -> Option<Record> {
     })
 }
 
-/// Whether a list has just the versions with those pictures and numbers, each as it stands beside what is shared and in it.
+/// Whether a list has exactly the versions with those pictures and numbers, both in the list itself and in what it shares.
 pub fn are(helds: &[SharedHeld], wanted: &[(u32, u32)]) -> bool {
     if helds.len() != wanted.len() {
         return false;
@@ -153,7 +153,7 @@ pub fn are(helds: &[SharedHeld], wanted: &[(u32, u32)]) -> bool {
     true
 }
 
-// The same of a set.
+// The same for a set.
 fn lists(set: &HeldSet, wanted: &[(u32, u32)]) -> bool {
     if set.len() != wanted.len() || set.is_empty() != wanted.is_empty() {
         return false;
@@ -167,7 +167,7 @@ fn lists(set: &HeldSet, wanted: &[(u32, u32)]) -> bool {
     true
 }
 
-// The same of a set's list.
+// The same for a set's list.
 fn is_list(set: &HeldSet, wanted: &[(u32, u32)]) -> bool {
     match set.to_list() {
         Ok(list) => list.len() == wanted.len() && are(list.as_slice(), wanted),
@@ -175,7 +175,7 @@ fn is_list(set: &HeldSet, wanted: &[(u32, u32)]) -> bool {
     }
 }
 
-// Whether a device has just those in its store and its out. Alone it has no conflict.
+// Whether the device has exactly those in its store and its out. A device by itself has no conflict.
 fn has(device: &Device, store: &[(u32, u32)], out: &[(u32, u32)]) -> bool {
     lists(device.store(), store)
         && lists(device.out(), out)
@@ -184,7 +184,7 @@ fn has(device: &Device, store: &[(u32, u32)], out: &[(u32, u32)]) -> bool {
         && matches!(device.conflicts(), Ok(list) if list.is_empty())
 }
 
-// What a device holds of its version of that number.
+// The device's version of that number, as the device holds it.
 fn held(device: &Device, n: u32) -> Option<&Held> {
     device.held(Version::new(device.author(), n)?)
 }
@@ -196,7 +196,7 @@ fn holds(alloc: Global, device: &Device, n: u32, wanted: Option<(u32, Option<u8>
     }
 }
 
-// Whether what a device holds is of a picture and a rating, and found by its picture.
+// Whether a held version has that picture and rating, and a search by its picture finds it.
 fn is_held(alloc: Global, device: &Device, held: &Held, number: u32, rating: Option<u8>) -> bool {
     match (
         device.held_of(held.picture, held.version),
@@ -209,7 +209,7 @@ fn is_held(alloc: Global, device: &Device, held: &Held, number: u32, rating: Opt
     }
 }
 
-// Whether a device's store has that version of that picture: by a search, and by a look at all of them.
+// Whether the device's store has that version of that picture, both by a search and by looking at all versions.
 fn finds(device: &Device, number: u32, (author, n): (u16, u32)) -> Option<bool> {
     let picture = PicNo::new(number)?;
     let version = Version::new(Author::new(author), n)?;
@@ -223,14 +223,14 @@ fn finds(device: &Device, number: u32, (author, n): (u16, u32)) -> Option<bool> 
     }
 }
 
-// Whether a device knows, of a picture, the version of a device, an epoch and a number.
+// Whether the device knows the version, given by its device, epoch and number, of that picture.
 fn knows(device: &Device, number: u32, (author, epoch, n): (u16, u32, u32)) -> Option<bool> {
     let picture = PicNo::new(number)?;
     let version = Version::new(Author::at(author, epoch), n)?;
     Some(device.knowledge().knows(picture, version))
 }
 
-// Whether a device's version of that number was made with just the device's versions up to another number.
+// Whether the history of the device's version of that number is exactly the device's versions up to another number.
 fn is_made_with(device: &Device, n: u32, last: u32) -> bool {
     match held(device, n) {
         Some(held) if last == 0 => held.made_with.is_empty(),

@@ -1,8 +1,8 @@
-// Texts that are built of parts, and what comes of them.
+// Tests of texts that are built of parts.
 use super::{Wanted, is_so};
 use std::alloc::{AllocError, Global};
 
-/// So many times a text, each time with its number from 0 and one more text behind it, where that is given.
+/// A text repeated that many times. If there is another text, each repetition is followed by its number, from 0, and that text.
 type Part = (u32, &'static str, Option<&'static str>);
 
 fn push(text: &mut String, (count, front, back): &Part) -> Result<(), AllocError> {
@@ -48,7 +48,7 @@ const EIGHT: &str = "all and all and all and all and all and all and all and all
 const OR_EIGHT: &str = " or all and all and all and all and all and all and all and all";
 
 const PRINTED: &[(&[Part], Wanted<'static>)] = &[
-    // what scripts print
+    // the printed texts of scripts
     (&[(1, "", None)], Wanted::Printed("")),
     (&[(1, "# nothing\n\n", None)], Wanted::Printed("")),
     (
@@ -63,7 +63,7 @@ const PRINTED: &[(&[Part], Wanted<'static>)] = &[
         )],
         Wanted::Printed("device a not ( rating = 0 or keyword x )\nnew a 1 0 1970-01-01 -,x\n"),
     ),
-    // of equal texts of words the set is kept
+    // the reader keeps the set of equal texts of words
     (
         &[(
             1,
@@ -102,7 +102,7 @@ const PRINTED: &[(&[Part], Wanted<'static>)] = &[
         Wanted::Line(11, "knows hall 7 cam.100000:100000"),
     ),
     (&[(1, EACH_KIND, None)], Wanted::Tally(5, 1, 6)),
-    // with all their brackets 64 have 253 tokens, and 65 have 257, which are too many
+    // with all their brackets 64 have 253 tokens; 65 have 257, which is too many
     (
         &[
             (1, "device a ", None),
@@ -123,7 +123,7 @@ const PRINTED: &[(&[Part], Wanted<'static>)] = &[
 ];
 
 const TALLIED: &[(&[Part], Wanted<'static>)] = &[
-    // how many changes, pulls and reports there are
+    // the numbers of changes, pulls and reports
     (&[(1, "", None)], Wanted::Tally(0, 0, 0)),
     (&[(1, "device a all", None)], Wanted::Tally(0, 0, 0)),
     (
@@ -334,7 +334,7 @@ const MANY: &[(&[Part], Wanted<'static>)] = &[
     // large texts
     (&[(8_388_608, "\n", None)], Wanted::Is("read")),
     (&[(8_388_609, "\n", None)], Wanted::Is("F2 TooLarge")),
-    // the sets of 4,096 texts of words are kept
+    // the reader keeps the sets of 4,096 texts of words
     (
         &[
             (1, "device a all\n", None),
@@ -365,7 +365,7 @@ const MANY: &[(&[Part], Wanted<'static>)] = &[
     ),
 ];
 
-// The last of the parts, by which a row is named.
+// The last part's text, which names a row.
 fn last_of(parts: &[Part]) -> &'static str {
     match parts.last() {
         Some((_, text, _)) => *text,

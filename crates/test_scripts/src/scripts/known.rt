@@ -1,4 +1,4 @@
-// Reports of what a device knows.
+// Tests of reports on a device's knowledge.
 ghost use Rattle.std.specs.Prelude.{◌≡◌, ◌<◌, true, length};
 ghost use Rattle.std.specs.List.{AllByRecursion};
 ghost use Rattle.photo_script.specs.Reports.{IsFragmentOfScript};
@@ -23,7 +23,7 @@ fn is_fragment_of(script: &Script, fragment: &Fragment<'_>) -> bool
     true
 }
 
-// The same of a knowledge.
+// The same for a knowledge.
 fn is_knowledge_of(script: &Script, knowledge: &Knowledge) -> bool
     ensures { result ≡ true → AllByRecursion (IsFragmentOfScript script.now) knowledge.now.known }
 {
@@ -35,7 +35,7 @@ fn is_knowledge_of(script: &Script, knowledge: &Knowledge) -> bool
     true
 }
 
-// Learns of a picture all versions of the first device up to the `n`th, and the second one's first.
+// Learns of a picture the first device's versions up to number `n`, and the second device's first.
 fn learns(alloc: Global, knowledge: &mut Knowledge, number: u32, n: u32) -> Option<()> {
     let vector = Vector::new(alloc).with(version(0, n)?).ok()?;
     let vector = vector.with(version(1, 1)?).ok()?;
@@ -51,7 +51,7 @@ fn learns_all(alloc: Global, knowledge: &mut Knowledge, learned: &[(u32, u32)]) 
     true
 }
 
-// What knows of every picture the first device's first version.
+// A knowledge of the first device's first version, of every picture.
 fn known_star(alloc: Global) -> Option<Knowledge> {
     let Some(version) = Version::new(Author::new(0), 1) else {
         return None;
@@ -65,7 +65,8 @@ fn known_star(alloc: Global) -> Option<Knowledge> {
     }
 }
 
-/// Whether what the second device knows is told so: the first version of the first one of every picture, and others.
+/// Whether the report on the second device's knowledge has that text. The device knows the first device's first version of
+/// every picture, and other versions.
 pub fn is_knowledge_told(
     alloc: Global,
     script: &Script,
@@ -88,7 +89,7 @@ pub fn is_knowledge_told(
     }
 }
 
-// The same of a knowledge whose authors are devices of the script.
+// The same for a knowledge whose authors are devices of the script.
 fn is_told(
     alloc: Global,
     script: &Script,

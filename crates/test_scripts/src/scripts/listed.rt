@@ -1,4 +1,4 @@
-// Reports of what a device holds.
+// Tests of reports on what a device holds.
 ghost use Rattle.std.specs.Prelude.{◌≡◌, ◌<◌, ◌≤◌, length, IfSome};
 
 use super::reports::{is_reported, version};
@@ -8,7 +8,7 @@ use photo_script::{Command, Report, Script};
 use photo_version::{Vector, Version};
 use std::alloc::Global;
 
-// A version of the picture that a command makes.
+// A held version of the picture that a command makes.
 fn held(alloc: Global, script: &Script, number: u32, version: Version) -> Option<SharedHeld>
     requires first { 0 < number }
     requires within { number ≤ length script.now.commands }
@@ -38,7 +38,7 @@ fn shared(alloc: Global, picture: PicNo, version: Version, content: Record) -> O
     SharedHeld::new(alloc, held).ok()
 }
 
-/// Whether a store of the first command's picture is listed so.
+/// Whether the listing of a store with the first command's picture has that text.
 pub fn is_store_listed(alloc: Global, script: &Script, number: u32, wanted: &str) -> bool {
     if script.devices() != 2 || script.commands() != 2 {
         return false;
@@ -60,7 +60,7 @@ pub fn is_store_listed(alloc: Global, script: &Script, number: u32, wanted: &str
     is_reported(alloc, script, number, &listed, wanted)
 }
 
-/// Whether an out of the second command's picture, removed and then not, is listed so.
+/// Whether the listing of an out with the second command's picture, removed and then not removed, has that text.
 pub fn is_out_listed(alloc: Global, script: &Script, number: u32, wanted: &str) -> bool {
     if script.devices() != 2 || script.commands() != 2 {
         return false;

@@ -1,4 +1,4 @@
-// The texts of reports.
+// Tests of reports' texts.
 ghost use Rattle.std.specs.Prelude.{◌≡◌, ◌<◌, length, IfSome};
 ghost use Rattle.std.specs.List.{AllByRecursion};
 ghost use Rattle.photo_version.specs.Author.{author};
@@ -14,7 +14,7 @@ use photo_script::{Report, Script, read_script, report_text};
 use photo_version::{Author, Version};
 use std::alloc::Global;
 
-/// The version that the device at a place makes as its `n`th in its first epoch.
+/// Version `n` of the device at a place, in its first epoch.
 pub fn version(device: u16, n: u32) -> Option<Version>
     ensures { IfSome result (λ v. v.author ≡ author device) }
 {
@@ -37,9 +37,9 @@ pub fn is_reported(
     }
 }
 
-// What is reported.
+// What a report says.
 enum Told {
-    // A version by its device, its epoch and its number.
+    // A version, by its device, its epoch and its number, and its place.
     Made(u16, u32, u32, Place),
     NotHeld,
     NotNarrower,
@@ -48,17 +48,17 @@ enum Told {
     Pulled(PullCounts),
     Preview(PullCounts),
     Knows(bool),
-    // What a store has.
+    // The listing of a store.
     Store,
-    // What an out has.
+    // The listing of an out.
     Out,
     // A conflict of two versions.
     Conflict,
-    // What is known of the devices' versions: of each picture, and of single ones.
+    // What is known of the devices' versions: of every picture, and of single ones.
     Knowledge(bool, &'static [(u32, u32)]),
 }
 
-// The report of what is told in the same words in each script.
+// The report of what has the same words in each script.
 fn report_of(told: &Told) -> Report
     ensures { (script : Contents) → IsAbout script (answer_of result) }
 {
@@ -76,7 +76,7 @@ fn report_of(told: &Told) -> Report
     }
 }
 
-// Whether what is told in the same words in each script is told so.
+// Whether what has the same words in each script is reported with that text.
 fn is_told_anywhere(
     alloc: Global,
     script: &Script,
@@ -87,7 +87,7 @@ fn is_told_anywhere(
     is_reported(alloc, script, number, &report_of(told), wanted)
 }
 
-// Whether that is told so on the command of that number.
+// Whether the report on the command of that number has that text.
 fn is_told(alloc: Global, script: &Script, number: u32, told: &Told, wanted: &str) -> bool {
     match told {
         Told::Made(device, epoch, n, place) => {
@@ -104,7 +104,7 @@ fn is_told(alloc: Global, script: &Script, number: u32, told: &Told, wanted: &st
     }
 }
 
-// Whether the making of an author's version of that number is told so, where the script has its device.
+// Whether the report that an author made its version of that number has that text, if the script has the author's device.
 fn is_made_told(
     alloc: Global,
     script: &Script,
@@ -129,7 +129,7 @@ fn is_made_told(
     }
 }
 
-// Whether a conflict of two versions is told so.
+// Whether the report on a conflict of two versions has that text.
 fn is_conflict_told(
     alloc: Global,
     script: &Script,
@@ -257,7 +257,7 @@ const TOLD: &[(u32, Told, &str)] = &[
     ),
 ];
 
-// Whether that is told so in the script.
+// Whether the report has that text in the script.
 fn is_right(alloc: Global, number: u32, told: &Told, wanted: &str) -> bool {
     match read_script(alloc, SCRIPT.as_bytes()) {
         Ok(script) => is_told(alloc, &script, number, told, wanted),

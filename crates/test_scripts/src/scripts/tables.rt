@@ -1,4 +1,4 @@
-// Texts, and `read` or the texts of their faults.
+// Texts, each with `read` or the text of its fault.
 use super::is_answered;
 
 const SINGLE_FAULTS: &[(&str, &str)] = &[

@@ -1,4 +1,4 @@
-// What the reports of a script's run say that was moved.
+// Tests of how many versions a run's reports say were moved.
 ghost use Rattle.std.specs.Prelude.{◌+◌, ◌≤◌};
 
 use photo_pull::PullCounts;
@@ -19,7 +19,7 @@ conflicts a
 knowledge a
 knows a 1 b:7";
 
-// The totals by two pulls that moved so much, with a preview of as much and other reports beside them.
+// The totals of two pulls that moved that many versions, beside a preview with the same counts and other reports.
 fn totals_of_two_pulls(script: &Script, taken: u64, handed: u64) -> Totals
     requires { taken + handed ≤ 200000 }
 {
@@ -41,7 +41,7 @@ fn totals_of_two_pulls(script: &Script, taken: u64, handed: u64) -> Totals
     totals_of(script, &reports)
 }
 
-// Whether the totals of the script with each command, and of these pulls, have so much that was moved.
+// Whether the totals of a script with each command, and of these pulls, say that `moved` versions were moved.
 fn is_moved(alloc: Global, taken: u64, handed: u64, moved: u64) -> bool
     requires { taken + handed ≤ 200000 }
 {

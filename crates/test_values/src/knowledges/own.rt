@@ -1,4 +1,4 @@
-//! What a device learns of its own versions: a bound that rises in every fragment.
+//! Tests of what a device learns of its own versions: a bound that rises in every fragment.
 ghost use Rattle.std.specs.Prelude.{◌≡◌, ◌<◌, OnOk};
 ghost use Rattle.photo_version.specs.Author.{author};
 ghost use Rattle.item_knowledge.specs.Kept.{star_bound};
@@ -8,7 +8,7 @@ use item_knowledge::{FragmentEntries, Knowledge};
 use photo_version::{Author, Vector};
 use std::alloc::{AllocError, Global};
 
-// Learns of every picture the first two versions of device 0, and between them a version of picture 7.
+// Learns the first two versions of device 0 of every picture, and between them a version of picture 7.
 fn learn_two(knowledge: &mut Knowledge, other: &Vector) -> Result<(), AllocError>
     requires { star_bound knowledge.old.known (author 0) ≡ 0 }
     ensures { OnOk result (star_bound knowledge.new.known (author 0) ≡ 2) }
@@ -18,7 +18,7 @@ fn learn_two(knowledge: &mut Knowledge, other: &Vector) -> Result<(), AllocError
     knowledge.learn_own(version(0, 2))
 }
 
-// Whether the next entry is that of a device, up to a number.
+// Whether the next entry is that of a device, with that bound.
 fn comes(entries: &mut FragmentEntries<'_>, device: u16, n: u32) -> bool {
     match entries.next_entry() {
         Some((author, number)) => author == Author::new(device) && number == n,
@@ -26,7 +26,7 @@ fn comes(entries: &mut FragmentEntries<'_>, device: u16, n: u32) -> bool {
     }
 }
 
-// Whether the fragment behind the star has two entries, up to these numbers.
+// Whether the fragment behind the star has two entries, with these bounds.
 fn shows(knowledge: &Knowledge, first: u32, second: u32) -> bool {
     if knowledge.fragments() != 2 {
         return false;
@@ -41,7 +41,7 @@ fn shows(knowledge: &Knowledge, first: u32, second: u32) -> bool {
         && entries.next_entry().is_none()
 }
 
-// Whether all versions of device 0 are known up to the second, and of picture 7 the first of device 1.
+// Whether device 0's versions up to the second are known of every picture, and device 1's first of picture 7.
 fn has_two(knowledge: &Knowledge) -> bool {
     shows(knowledge, 2, 1)
         && knowledge.knows(picture(5), version(0, 2))
@@ -51,7 +51,7 @@ fn has_two(knowledge: &Knowledge) -> bool {
         && !knowledge.knows(picture(7), version(0, 3))
 }
 
-// Whether a bound that rises again is shown in every fragment, and others may have it too.
+// Whether a bound that rises again is in every fragment, and other knowledges can learn it too.
 fn rises_again(alloc: Global, knowledge: &mut Knowledge) -> bool
     requires { star_bound knowledge.old.known (author 0) ≡ 2 }
 {
@@ -67,7 +67,7 @@ fn rises_again(alloc: Global, knowledge: &mut Knowledge) -> bool
         && knowledge.knows(picture(9), version(0, 3))
 }
 
-// Whether a knowledge has more than the one before has, which is the same once it learned it.
+// Whether a knowledge has more than an earlier one, which equals it after learning it.
 fn has_more(knowledge: &Knowledge, before: &mut Knowledge) -> bool {
     knowledge.has_all(before)
         && !before.has_all(knowledge)
@@ -77,7 +77,7 @@ fn has_more(knowledge: &Knowledge, before: &mut Knowledge) -> bool {
         && knowledge.same(before)
 }
 
-// Whether a knowledge whose bound rises is compared with, and learned by, its copy from before.
+// Whether a knowledge whose bound rises compares rightly with its earlier copy, which then learns it.
 fn rises_beside_its_copy(alloc: Global, knowledge: &mut Knowledge) -> bool
     requires { star_bound knowledge.old.known (author 0) ≡ 2 }
 {

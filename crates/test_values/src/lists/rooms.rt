@@ -1,4 +1,4 @@
-//! Lists that grow in room that was taken for them.
+//! Tests of lists that grow in reserved capacity.
 ghost use Rattle.std.specs.Prelude.{◌<◌, ◌≤◌, length};
 
 use super::{Shape, shape};
@@ -6,7 +6,7 @@ use block_list::{BlockList, Room};
 use std::alloc::{AllocError, Global};
 use std::mem;
 
-/// So many numbers, from 1,000 on and each 1,000 more than the one before, in blocks of 127.
+/// The first `n` multiples of 1,000, from 1,000 on, in blocks of 127.
 fn thousands(alloc: Global, n: u32) -> Result<BlockList<u32>, AllocError> {
     let mut list = BlockList::new(alloc);
     for i in 0..n {
@@ -16,7 +16,7 @@ fn thousands(alloc: Global, n: u32) -> Result<BlockList<u32>, AllocError> {
     Ok(list)
 }
 
-/// So many numbers below `end`, in no order.
+/// `n` numbers below `end`, in no order.
 fn scattered(alloc: Global, n: u32, end: u32) -> Result<Vec<u32>, AllocError>
     requires { 0 < end }
 {
@@ -27,7 +27,7 @@ fn scattered(alloc: Global, n: u32, end: u32) -> Result<Vec<u32>, AllocError>
     Ok(numbers)
 }
 
-/// Puts the numbers in, each where it would stand among the others.
+/// Inserts the numbers, each at its place in the order.
 fn grow(alloc: Global, list: &mut BlockList<u32>, room: Room<u32>, numbers: &[u32])
     requires most { length list.old ≤ room.most }
     requires more { length numbers.now ≤ room.more }
@@ -52,7 +52,7 @@ fn is_in_order(list: &BlockList<u32>) -> bool {
     true
 }
 
-/// Whether the list grows by the numbers in room that was taken for it, and is in order then.
+/// Whether the list grows by the numbers in reserved capacity, and is in order afterwards.
 fn grows_in_order(alloc: Global, list: &mut BlockList<u32>, numbers: &[u32]) -> bool {
     let len = list.len();
     match list.room(numbers.len()) {
@@ -64,7 +64,7 @@ fn grows_in_order(alloc: Global, list: &mut BlockList<u32>, numbers: &[u32]) -> 
     }
 }
 
-/// Whether so many thousands grow by the numbers, and have that shape then, where one is given.
+/// Whether `n` multiples of 1,000 grow by the numbers, and then have that shape, if one is given.
 fn grow_to(alloc: Global, n: u32, numbers: &[u32], wanted: Option<Shape>) -> bool {
     match thousands(alloc, n) {
         Ok(mut list) => {
@@ -75,7 +75,7 @@ fn grow_to(alloc: Global, n: u32, numbers: &[u32], wanted: Option<Shape>) -> boo
     }
 }
 
-/// How many thousands there are, what is put in, and what shape the list has then.
+/// How many multiples of 1,000 there are, what is inserted, and the shape of the list afterwards.
 const GROWTHS: &[(u32, &[u32], Shape)] = &[
     (0, &[], (0, 0)),
     (0, &[5], (1, 1)),
@@ -98,7 +98,7 @@ fn a_list_grows_in_its_room(rt: HostRuntime) {
     }
 }
 
-/// Whether two full blocks grow by a thousand numbers that lie among theirs.
+/// Whether two full blocks grow by a thousand numbers between theirs.
 fn grow_by_a_thousand(alloc: Global) -> bool {
     match scattered(alloc, 1_000, 300_000) {
         Ok(numbers) => grow_to(alloc, 254, &numbers, None),
@@ -108,8 +108,7 @@ fn grow_by_a_thousand(alloc: Global) -> bool {
 
 const FORTY: [u32; 40] = [5; 40];
 
-/// Whether 40 numbers before the first fill the places that are left, a spare block and a part of another, which one more
-/// goes to.
+/// Whether 40 numbers before the first fill the free places, a spare block and a part of another block, where one more goes.
 fn full_blocks_spill(alloc: Global) -> bool {
     match thousands(alloc, 254) {
         Ok(mut list) => {
@@ -128,7 +127,7 @@ fn full_blocks_grow(rt: HostRuntime) {
     assert!(rt; full_blocks_spill(rt.alloc()));
 }
 
-/// Whether a list grows in room that was taken for a longer one.
+/// Whether a list grows in capacity that a longer one reserved.
 fn grows_in_room_of(alloc: Global, longer: &mut BlockList<u32>, list: &mut BlockList<u32>) -> bool {
     if longer.len() < list.len() {
         return false;
@@ -149,8 +148,8 @@ fn grow_beside(alloc: Global, longer: &mut BlockList<u32>, n: u32, wanted: Shape
     }
 }
 
-/// Whether room of a list of 600 serves shorter ones, also one that has no place for a further block, and whether room
-/// without end is refused.
+/// Whether capacity reserved for a list of 600 serves shorter ones, even one that has no place for another block, and whether
+/// endless capacity is refused.
 fn room_serves(alloc: Global) -> bool {
     match thousands(alloc, 600) {
         Ok(mut longer) => {
@@ -163,7 +162,7 @@ fn room_serves(alloc: Global) -> bool {
     }
 }
 
-/// Four blocks have no place for a fifth, as no place was taken for it: the list is gathered in one.
+/// Four blocks have no place for a fifth, since none was reserved for it, so the list is gathered into one block.
 #[test]
 fn room_serves_a_shorter_list(rt: HostRuntime) {
     assert!(rt; room_serves(rt.alloc()));

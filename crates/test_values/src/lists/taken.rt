@@ -1,14 +1,14 @@
-//! Single elements that are taken out of a list, from a hint on.
+//! Tests of single elements that are taken out of a list, from a hint on.
 use super::{counted, spot_of};
 use block_list::{BlockList, Spot};
 use std::alloc::Global;
 
-/// Takes out a number that isn't below `least`, looked for from that hint on.
+/// Takes out a number that isn't below `least`, searching from the hint on.
 fn takes(list: &mut BlockList<u32>, near: Spot, least: u32) -> (Option<u32>, Spot) {
     list.take_near(near, |item| *item >= least)
 }
 
-/// Takes the numbers from `from` up to before `to` out of a list in order, each with the hint that the one before gave.
+/// Takes the numbers from `from` up to before `to` out in order, each with the hint that the last one gave.
 fn takes_in_order(list: &mut BlockList<u32>, from: u32, to: u32) -> bool {
     let mut near = Spot::start();
     for wanted in from..to {
@@ -21,7 +21,7 @@ fn takes_in_order(list: &mut BlockList<u32>, from: u32, to: u32) -> bool {
     true
 }
 
-/// Takes the last ones down to 0 out, each with the hint that the one before gave.
+/// Takes all numbers below `end` out, the greatest first, each with the hint that the last one gave.
 fn takes_in_falling_order(list: &mut BlockList<u32>, end: u32) -> bool {
     let mut near = Spot::start();
     for wanted in (0..end).rev() {
@@ -34,13 +34,13 @@ fn takes_in_falling_order(list: &mut BlockList<u32>, end: u32) -> bool {
     true
 }
 
-/// How many numbers there are to be, and how many blocks.
+/// Whether the list has that many numbers in that many blocks.
 fn has(list: &BlockList<u32>, len: usize, blocks: usize) -> bool {
     list.len() == len && list.as_blocks().len() == blocks
 }
 
-/// Whether of 1,000 numbers some are taken out, also from hints behind and beyond them, where a block goes, and where none is
-/// left that passes.
+/// Whether some of 1,000 numbers can be taken out, also from hints behind and beyond them, where a block goes away, and where
+/// no number that passes is left.
 fn loses_some(list: &mut BlockList<u32>) -> bool {
     let (behind, beyond) = (spot_of(list, 255), spot_of(list, 1_000));
     takes_in_order(list, 100, 300)
@@ -61,7 +61,7 @@ fn some_are_lost(alloc: Global) -> bool {
     }
 }
 
-/// Whether all of 1,000 numbers are taken out, in order or the last first, of a list that grew at its front or its end.
+/// Whether all of 1,000 numbers can be taken out, in order or the last first, of a list that grew at its front or its end.
 fn is_emptied(alloc: Global, falls: bool, in_order: bool) -> bool {
     match counted(alloc, 1_000, falls) {
         Ok(mut list) => {

@@ -5,7 +5,7 @@ use Rattle.photo_model.specs.Entry.{Entry, put_entries}
 use Rattle.test_list_device.specs.Entries.{entries_of}
 use Rattle.test_list_device.proofs.lists.sort_in.Given as goal
 
--- what is left comes into the two lists as all of it came into those at first
+-- putting the rest into the two lists now gives what putting everything into the first lists gives
 abbrev pub invariant-loop-entry : goal.invariant-loop-entry
 invariant-loop-entry l = record {
   store : put_entries (filter (λ (e : Entry). matches l.wanted e.content) (entries_of l.coming.items)) (entries_of l.store.items)

@@ -10,7 +10,7 @@ use Rattle.test_list_device.specs.Shown.{shown}
 use Rattle.test_list_device.proofs.Calls.{kept_by}
 use Rattle.test_list_device.proofs.pulling.kept_stored.Goals as goal
 
--- judged by those that are told
+-- the test that decides by what was told
 abbrev test : List Entry → ModelDevice → ModelDevice → Entry → Bool
 test news t s e = not (superseded_by news e || is_stale t s e)
 

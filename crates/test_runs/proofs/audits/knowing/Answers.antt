@@ -1,4 +1,4 @@
--- A knowledge of one device's first version alone, which says nothing of another device.
+-- A knowledge of one device's first version alone says nothing of another device.
 use Rattle.std.proofs.Common.{rules, ◌≡◌, ℕ, ◌<◌, true, false, ◌&&◌, List, if◌then◌else◌, refl, ap, ◌∙◌, inl, inr, arith}
 use Rattle.std.proofs.lemmas.Bool.{and_parts, ne_eqb, ltb-true, cases_lt, lt-leb, le-leb}
 use Rattle.std.proofs.Math.Dec.{eqb, leb}
@@ -16,7 +16,7 @@ none_up_to n =
       | inr some ↦ rw (le-leb 1 n some, lt-leb n 0 (omega arith)) refl
     ]
 
--- who isn't the author of the one version knows just its own, which are none
+-- an author other than that version's knows exactly its own versions, of which there are none
 knows_none_of_its_own : (a : Author) (counter : ℕ) (knowledge : List Fragment) → 0 < device_of_author a → counter ≡ 0
     → ((b : Author) → star_bound knowledge b ≡ (if same_author (author 0) b then 1 else 0))
     → ((p : ℕ) (v : Version) → 0 < p → knows knowledge p v ≡ same_version (version (author 0) 1) v)
