@@ -25,8 +25,9 @@ code,pre{font:13px/1.5 ui-monospace,"DejaVu Sans Mono",monospace;margin:0;white-
 .key{color:var(--soft)}
 #chart{overflow:auto;max-height:42vh;border-bottom:1px solid var(--line)}
 #chart svg{display:block}
-#now{stroke:var(--ink);stroke-width:2;opacity:.55}
-.touched{stroke:var(--violet);stroke-width:3;opacity:.5}
+#chart{position:relative}
+#now{position:absolute;top:0;left:0;width:2px;background:var(--ink);opacity:.6;pointer-events:none;will-change:transform}
+#touched span{position:absolute;top:0;width:5px;height:12px;background:var(--violet)}
 main{display:grid;grid-template-columns:repeat(auto-fill,minmax(min(340px,100%),1fr));gap:12px;padding:12px 16px;align-items:start}
 main section{border:1px solid var(--line);border-radius:8px;padding:8px 12px;min-width:0;content-visibility:auto;contain-intrinsic-size:auto 320px}
 main section.acts{border-color:var(--green);box-shadow:0 0 0 1px var(--green)}
@@ -128,27 +129,42 @@ function inOrder(a, b) {
 
 // ---- The fleet after so many commands
 
-// A device before the first command.
-function openingDevice(place) {
-  return {place, filter: run.filters[place], epoch: 0, store: new Set(), out: new Set(), star: new Map(), of: new Map(), mark: null};
-}
+// The devices after the first commands, as many as 'undone' has lists: of each what it changed, to be undone from the end.
+const fleet = run.devices.map((_, place) => ({place, filter: run.filters[place], epoch: 0, store: new Set(), out: new Set(), star: new Map(), of: new Map()}));
+const undone = [];
 
-function copyOf(device, mark) {
-  return {...device, store: new Set(device.store), out: new Set(device.out), star: new Map(device.star), of: new Map(device.of), mark};
-}
-
-// What each thing that happened to a version does to the store and the out.
+// The sets in which each thing that happens to a version puts it, and from which it takes it.
 const EFFECTS = {
-  "made in its store": (device, version) => device.store.add(version),
-  "made in its out": (device, version) => device.out.add(version),
-  "took": (device, version) => device.store.add(version),
-  "was handed, into its store": (device, version) => device.store.add(version),
-  "was handed, into its out": (device, version) => device.out.add(version),
-  "gave up": (device, version) => { device.store.delete(version); device.out.delete(version); },
-  "handed over": (device, version) => { device.store.delete(version); device.out.delete(version); },
-  "moved to its store": (device, version) => { device.out.delete(version); device.store.add(version); },
-  "moved to its out": (device, version) => { device.store.delete(version); device.out.add(version); },
+  "made in its store": ["store", ""],
+  "made in its out": ["out", ""],
+  "took": ["store", ""],
+  "was handed, into its store": ["store", ""],
+  "was handed, into its out": ["out", ""],
+  "gave up": ["", "store out"],
+  "handed over": ["", "out"],
+  "moved to its store": ["store", "out"],
+  "moved to its out": ["out", "store"],
 };
+
+// Puts a version into a set of a device or takes it out, and notes it where that changed the set.
+function put(changes, device, part, version, isIn) {
+  if (device[part].has(version) === isIn) return;
+  if (isIn) device[part].add(version);
+  else device[part].delete(version);
+  changes.push({place: device.place, part, version, came: isIn});
+}
+
+// Sets a field of a device, or an entry of a map of it (none: undefined), and notes what it was.
+function set(changes, device, field, value) {
+  changes.push({place: device.place, field, was: device[field]});
+  device[field] = value;
+}
+
+function setEntry(changes, device, map, key, value) {
+  changes.push({place: device.place, map, key, was: device[map].get(key)});
+  if (value === undefined) device[map].delete(key);
+  else device[map].set(key, value);
+}
 
 // Bounds are written as device, epoch, number, and again.
 function boundsOf(flat) {
@@ -157,66 +173,72 @@ function boundsOf(flat) {
   return bounds;
 }
 
-function learn(device, [, isAnew, star, rows]) {
+function learn(changes, device, [, isAnew, star, rows]) {
   if (isAnew) {
-    device.star.clear();
-    device.of.clear();
+    set(changes, device, "star", new Map());
+    set(changes, device, "of", new Map());
   }
-  for (const [author, number] of boundsOf(star)) device.star.set(author, number);
+  for (const [author, number] of boundsOf(star)) setEntry(changes, device, "star", author, number);
   for (const [pictures, flat] of rows) {
-    const bounds = boundsOf(flat);
-    for (const picture of pictures) {
-      if (bounds.length) device.of.set(picture, bounds);
-      else device.of.delete(picture);
+    const bounds = flat.length ? boundsOf(flat) : undefined;
+    for (const picture of pictures) setEntry(changes, device, "of", picture, bounds);
+  }
+}
+
+// Does what the next command did.
+function doNext() {
+  const command = run.commands[undone.length], changes = [];
+  for (const [place, what, versions] of command.did || []) {
+    const [into, from] = EFFECTS[what] || ["", ""];
+    for (const version of versions) {
+      if (into) put(changes, fleet[place], into, version, true);
+      for (const part of from ? from.split(" ") : []) put(changes, fleet[place], part, version, false);
     }
   }
-}
-
-// Does what a command did. Each device that it changes is copied first, unless that was done with the same mark.
-function apply(fleet, command, mark) {
-  const changing = place => {
-    if (fleet[place].mark !== mark) fleet[place] = copyOf(fleet[place], mark);
-    return fleet[place];
-  };
-  for (const [place, what, versions] of command.did || []) {
-    const effect = EFFECTS[what];
-    if (effect) for (const version of versions) effect(changing(place), version);
+  for (const [place, filter, epoch] of command.filter || []) {
+    set(changes, fleet[place], "filter", filter);
+    set(changes, fleet[place], "epoch", epoch);
   }
-  for (const [place, filter, epoch] of command.filter || []) Object.assign(changing(place), {filter, epoch});
-  for (const change of command.knows || []) learn(changing(change[0]), change);
+  for (const change of command.knows || []) learn(changes, fleet[change[0]], change);
+  undone.push(changes);
 }
 
-// The fleet is kept after each hundredth command, and made from there.
-const STEP = 100;
-const kept = [run.devices.map((_, place) => openingDevice(place))];
-const recent = new Map();
-
-function replay(fleet, from, to) {
-  const next = fleet.slice(), mark = {};
-  for (let number = from; number < to; number++) apply(next, run.commands[number], mark);
-  return next;
-}
-
-function fleetAfter(number) {
-  if (recent.has(number)) return recent.get(number);
-  while (kept.length * STEP <= number) {
-    const from = (kept.length - 1) * STEP;
-    kept.push(replay(kept[kept.length - 1], from, from + STEP));
+// Undoes what the last command did.
+function undoLast() {
+  for (const change of undone.pop().reverse()) {
+    const device = fleet[change.place];
+    if (change.part) {
+      if (change.came) device[change.part].delete(change.version);
+      else device[change.part].add(change.version);
+    } else if (change.field) device[change.field] = change.was;
+    else if (change.was === undefined) device[change.map].delete(change.key);
+    else device[change.map].set(change.key, change.was);
   }
-  const place = Math.floor(number / STEP);
-  const fleet = recent.has(number - 1) ? replay(recent.get(number - 1), number - 1, number) : replay(kept[place], place * STEP, number);
-  if (recent.size > 4) recent.delete(recent.keys().next().value);
-  recent.set(number, fleet);
-  return fleet;
+}
+
+// Makes the fleet what it is after so many commands, and notes each device whose drawing is stale then.
+function goTo(number) {
+  const touch = () => { for (const change of undone[undone.length - 1] || []) stale.add(change.place); };
+  touch();
+  while (undone.length > number) {
+    undoLast();
+    touch();
+  }
+  while (undone.length < number) {
+    doNext();
+    touch();
+  }
 }
 
 // The pictures of which a device holds two or more versions.
 function picturesTorn(device) {
   const seen = new Set(), torn = new Set();
-  for (const version of [...device.store, ...device.out]) {
-    const picture = pictureOf(version);
-    if (seen.has(picture)) torn.add(picture);
-    seen.add(picture);
+  for (const part of [device.store, device.out]) {
+    for (const version of part) {
+      const picture = pictureOf(version);
+      if (seen.has(picture)) torn.add(picture);
+      seen.add(picture);
+    }
   }
   return torn;
 }
@@ -289,10 +311,12 @@ run.commands.forEach((command, place) => {
 
 // ---- What is shown
 
-// After which command, which picture is followed (null: none), which lists are unfolded, and what is drawn of each device.
+// After which command, which picture is followed (null: none), and which lists are unfolded.
 let at = 0, followed = null;
 const unfolded = new Set();
-const drawn = [];
+// The devices whose drawing is stale, and those in sight, of which alone many are drawn.
+const stale = new Set(run.devices.keys()), inSight = new Set();
+const isMany = run.devices.length >= MANY;
 
 function pictureButton(picture) {
   const made = button("link", String(picture), () => follow(picture));
@@ -322,30 +346,45 @@ function unfolder(key, count, draw) {
   return button("more", "all " + count, () => { unfolded.add(key); draw(); });
 }
 
-// The rows of the store or the out: those that came or left first of all where not all are shown.
-function partOf(part, device, was, whys, torn, redraw) {
-  const box = document.createDocumentFragment();
+// The first so many of a list in an order.
+function firstOf(list, most, order) {
+  if (list.length <= most) return list.sort(order);
+  const first = [];
+  for (const item of list) {
+    if (first.length === most && order(item, first[most - 1]) >= 0) continue;
+    let place = first.length === most ? most - 1 : first.length;
+    while (place > 0 && order(item, first[place - 1]) < 0) {
+      first[place] = first[place - 1];
+      place--;
+    }
+    first[place] = item;
+  }
+  return first;
+}
+
+// The rows of the store or the out. Where not all are shown, those of the picture that is followed stand first, and then those
+// that came or left.
+function partOf(part, device, changes, whys, torn, redraw) {
+  const box = document.createDocumentFragment(), hows = new Map();
+  for (const change of changes) if (change.part === part) hows.set(change.version, change.came ? "came" : "left");
   box.append(element("h3", "", part + " " + device[part].size));
-  const came = version => !was[part].has(version);
-  let versions = [...device[part], ...[...was[part]].filter(version => !device[part].has(version))];
+  const versions = [...device[part]], key = device.place + part;
+  for (const [version, how] of hows) if (how === "left") versions.push(version);
   if (!versions.length) {
     box.append(element("div", "soft", "nothing"));
     return box;
   }
-  versions.sort(inOrder);
-  const count = versions.length, key = device.place + part;
-  if (count > ROWS && !unfolded.has(key)) {
-    const first = version => pictureOf(version) === followed ? 0 : came(version) || !device[part].has(version) ? 1 : 2;
-    versions = versions.map(version => [first(version), version]).sort((a, b) => a[0] - b[0]).slice(0, ROWS).map(pair => pair[1]).sort(inOrder);
-  }
+  const rank = version => pictureOf(version) === followed ? 0 : hows.has(version) ? 1 : 2;
+  const most = unfolded.has(key) ? Infinity : ROWS;
+  const shown = firstOf(versions, most, (a, b) => (most === Infinity ? 0 : rank(a) - rank(b)) || inOrder(a, b));
   const table = element("table");
   table.setAttribute("aria-label", part + " of " + authorName(authorOf(device.place, device.epoch)));
-  for (const version of versions) {
-    const how = !device[part].has(version) ? "left" : came(version) ? "came" : "";
+  for (const version of shown) {
+    const how = hows.get(version) || "";
     table.append(row(version, how, how ? whys.get(version) : "", torn.has(pictureOf(version))));
   }
   box.append(table);
-  if (versions.length < count) box.append(unfolder(key, count, redraw));
+  if (shown.length < versions.length) box.append(unfolder(key, versions.length, redraw));
   return box;
 }
 
@@ -359,17 +398,21 @@ function knowledgeOf(device, redraw) {
   return box;
 }
 
-// Draws a device as it is, against what it was before the command.
-function drawDevice(box, device, was, command) {
-  const redraw = () => drawDevice(box, device, was, command);
+// Draws a device, with what the command changed on it.
+function drawDevice(place) {
+  const box = byId("fleet").children[place], device = fleet[place], command = at ? run.commands[at - 1] : null;
+  const redraw = () => drawDevice(place);
+  const changes = (undone[at - 1] || []).filter(change => change.place === place);
   const whys = new Map(), torn = picturesTorn(device);
-  if (device !== was) for (const event of eventsOf(command)) if (event.place === device.place) whys.set(event.version, whyOf(command, event));
-  const name = authorName(authorOf(device.place, device.epoch)), heading = element("h2", "", name);
+  for (const event of command ? eventsOf(command) : []) if (event.place === place) whys.set(event.version, whyOf(command, event));
+  const name = authorName(authorOf(place, device.epoch)), rule = changes.find(change => change.field === "filter");
   box.setAttribute("aria-label", name);
-  box.replaceChildren(heading, element("div", "rule", device.filter));
-  if (device.filter !== was.filter) box.append(element("div", "soft", "before: " + was.filter));
+  box.replaceChildren(element("h2", "", name), element("div", "rule", device.filter));
+  if (rule && rule.was !== device.filter) box.append(element("div", "soft", "before: " + rule.was));
   if (torn.size) box.append(element("div", "torn", "in conflict: " + [...torn].sort((a, b) => a - b).join(", ")));
-  box.append(partOf("store", device, was, whys, torn, redraw), partOf("out", device, was, whys, torn, redraw), knowledgeOf(device, redraw));
+  for (const part of ["store", "out"]) box.append(partOf(part, device, changes, whys, torn, redraw));
+  box.append(knowledgeOf(device, redraw));
+  stale.delete(place);
 }
 
 function say(box, key, text) {
@@ -413,16 +456,27 @@ function drawMoved(command) {
   }
 }
 
-function drawFleet(command) {
-  const now = fleetAfter(at), before = fleetAfter(Math.max(0, at - 1)), boxes = byId("fleet").children;
-  for (let place = 0; place < now.length; place++) {
-    const acts = command ? command.devices.includes(place) : false;
-    boxes[place].classList.toggle("acts", acts);
-    const last = drawn[place];
-    if (last && last.now === now[place] && last.before === before[place]) continue;
-    drawn[place] = {now: now[place], before: before[place]};
-    drawDevice(boxes[place], now[place], before[place], command);
-  }
+// Draws the devices that are stale, of many only those in sight.
+function drawFleet() {
+  for (const place of [...stale]) if (!isMany || inSight.has(place)) drawDevice(place);
+}
+
+function drawActing(command) {
+  for (const box of document.querySelectorAll("main section.acts")) box.classList.remove("acts");
+  for (const place of command ? command.devices : []) byId("fleet").children[place].classList.add("acts");
+}
+
+// Draws a device when it comes in sight.
+function watch() {
+  const places = new Map([...byId("fleet").children].map((box, place) => [box, place]));
+  const watcher = new IntersectionObserver(seen => {
+    for (const {target, isIntersecting} of seen) {
+      if (isIntersecting) inSight.add(places.get(target));
+      else inSight.delete(places.get(target));
+    }
+    drawFleet();
+  }, {rootMargin: "600px"});
+  for (const box of places.keys()) watcher.observe(box);
 }
 
 // ---- The picture that is followed
@@ -452,20 +506,23 @@ function drawStory() {
 // ---- The chart
 
 const chart = byId("chart"), drawing = chart.querySelector("svg");
-const line = document.createElementNS("http://www.w3.org/2000/svg", "path");
-const touched = document.createElementNS("http://www.w3.org/2000/svg", "path");
 
+// A line at the command, and a mark at each command that did something to the picture that is followed.
 function drawLine() {
-  const height = Number(drawing.getAttribute("height")), x = at ? run.columns[at - 1] : (run.columns[0] || 20) - 12;
-  line.setAttribute("d", `M${x} 32V${height - 60}`);
-  const numbers = followed === null ? [] : touching.get(followed) || [];
-  touched.setAttribute("d", numbers.map(number => `M${run.columns[number - 1]} 32v10`).join(""));
-  const room = chart.clientWidth;
+  const x = at ? run.columns[at - 1] : (run.columns[0] || 20) - 12, room = chart.clientWidth;
+  byId("now").style.transform = `translateX(${x - 1}px)`;
   if (x < chart.scrollLeft + 80 || x > chart.scrollLeft + room - 80) chart.scrollLeft = x - room / 2;
-  const acting = at ? run.commands[at - 1].devices : [];
-  if (!acting.length) return;
-  const y = run.lanes[acting[0]];
-  if (y < chart.scrollTop + 40 || y > chart.scrollTop + chart.clientHeight - 40) chart.scrollTop = y - chart.clientHeight / 2;
+  const y = at ? run.lanes[run.commands[at - 1].devices[0]] : 0;
+  if (y < chart.scrollTop || y > chart.scrollTop + chart.clientHeight - 40) chart.scrollTop = y - chart.clientHeight / 2;
+}
+
+function drawTouched() {
+  const marks = followed === null ? [] : touching.get(followed) || [];
+  byId("touched").replaceChildren(...marks.map(number => {
+    const mark = element("span");
+    mark.style.left = run.columns[number - 1] - 2 + "px";
+    return mark;
+  }));
 }
 
 // The command whose column is nearest to a place in the chart.
@@ -491,9 +548,11 @@ function draw() {
   byId("at").value = at;
   byId("at").setAttribute("aria-valuetext", command ? "after " + at + " " + command.text : "before the first command");
   byId("count").textContent = at + " / " + COMMANDS;
+  goTo(at);
   drawSaid(command);
   drawMoved(command);
-  drawFleet(command);
+  drawActing(command);
+  drawFleet();
   drawStory();
   drawLine();
 }
@@ -507,7 +566,8 @@ function go(number) {
 function follow(picture) {
   followed = picture;
   byId("picture").value = picture === null ? "" : picture;
-  drawn.length = 0;
+  for (const place of run.devices.keys()) stale.add(place);
+  drawTouched();
   go(at);
 }
 
@@ -523,7 +583,8 @@ function goThere() {
   const [number, picture] = location.hash.slice(1).split(",").map(text => /^\d+$/.test(text) ? Number(text) : null);
   followed = picture === undefined ? null : picture;
   byId("picture").value = followed === null ? "" : followed;
-  drawn.length = 0;
+  for (const place of run.devices.keys()) stale.add(place);
+  drawTouched();
   go(number === null ? COMMANDS : number);
 }
 
@@ -558,11 +619,19 @@ function begin() {
   style.id = "follow";
   document.head.append(style);
   byId("at").max = COMMANDS;
-  byId("fleet").classList.toggle("many", run.devices.length >= MANY);
-  for (const _ of run.devices) byId("fleet").append(element("section"));
-  line.id = "now";
-  touched.setAttribute("class", "touched");
-  drawing.append(touched, line);
+  byId("fleet").classList.toggle("many", isMany);
+  for (const name of run.devices) {
+    const box = element("section");
+    box.append(element("h2", "", name));
+    byId("fleet").append(box);
+  }
+  for (const name of ["touched", "now"]) {
+    const layer = element("div");
+    layer.id = name;
+    chart.append(layer);
+  }
+  byId("now").style.height = drawing.getAttribute("height") + "px";
+  if (isMany) watch();
   byId("first").onclick = () => go(0);
   byId("back").onclick = () => go(at - 1);
   byId("on").onclick = () => go(at + 1);
