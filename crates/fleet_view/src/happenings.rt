@@ -29,6 +29,7 @@ pub enum Happening {
 }
 
 /// A command that has run on a fleet, and its devices as they were before it.
+#[derive(Drop)]
 pub struct Moment<'a> {
     pub script: &'a Script,
     pub fleet: &'a Fleet,
@@ -39,6 +40,7 @@ pub struct Moment<'a> {
 }
 
 /// A device before and behind a command.
+#[derive(Drop)]
 pub struct Seen<'a> {
     pub device: u16,
     pub was: &'a Device,

@@ -366,7 +366,7 @@ fn push_version_data(text: &mut String, held: &Held) -> Result<(), AllocError> {
 }
 
 fn push_record(text: &mut String, held: &Held) -> Result<(), AllocError> {
-    let record = &held.content;
-    let shown = format!(in *text.allocator(); "{record}")?;
+    let (alloc, record) = (*text.allocator(), &held.content);
+    let shown = format!(in alloc; "{record}")?;
     push_quoted(text, &shown)
 }

@@ -36,7 +36,9 @@ h2{font-size:16px;margin:0}
 h3{font-size:13px;margin:8px 0 2px;color:var(--soft)}
 .rule{color:var(--violet);font-size:13px;overflow-wrap:anywhere}
 table{border-collapse:collapse;width:100%}
-td{padding:1px 6px 1px 0;vertical-align:top;font-size:13px;overflow-wrap:anywhere}
+td{padding:1px 8px 1px 0;vertical-align:top;font-size:13px}
+td:first-child,td:nth-child(2){white-space:nowrap;width:1%}
+td:last-child{overflow-wrap:anywhere}
 tr.came{background:var(--came-on)}
 tr.left{background:var(--left-on);color:var(--soft)}
 tr.left .what{text-decoration:line-through}

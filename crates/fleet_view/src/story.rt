@@ -247,6 +247,7 @@ fn add_lacking(
     current: &[&Held],
 ) -> Result<(), AllocError> {
     for held in current {
+        let held = *held;
         if !is_held(device, held) {
             table.cells.push_str("  ")?;
             add_cell(table, device_name(script, device.author().value()))?;

@@ -116,9 +116,10 @@ impl Table {
     // The cell of that number, row by row.
     fn cell_at(&self, place: usize) -> &str {
         let end = self.ends.get(place).copied().unwrap_or(0);
-        let from = match place {
-            0 => 0,
-            _ => self.ends.get(place - 1).copied().unwrap_or(0),
+        let from = if place == 0 {
+            0
+        } else {
+            self.ends.get(place - 1).copied().unwrap_or(0)
         };
         self.cell(from, end)
     }

@@ -189,7 +189,7 @@ fn add_lines(
         table.end_cell()?;
     }
     for held in current {
-        note_reason(lines, script, fleet, held)?;
+        note_reason(lines, script, fleet, *held)?;
     }
     push_conflict(&mut lines.conflicts, script, picture, current)
 }
