@@ -69,12 +69,12 @@ class Browser:
             self.note(message)
 
     def open(self, url):
-        """Opens a page, and waits until it is loaded."""
-        self.call("Page.navigate", url="about:blank")
-        self.events.clear()
-        self.call("Page.navigate", url=url)
-        while not any(event.get("method") == "Page.loadEventFired" for event in self.events):
-            self.note(self.message())
+        """Opens a page anew, and waits until it is loaded."""
+        for address in ("about:blank", url):
+            self.events.clear()
+            self.call("Page.navigate", url=address)
+            while not any(event.get("method") == "Page.loadEventFired" for event in self.events):
+                self.note(self.message())
 
     def value(self, code):
         """Returns what an expression of the page gives."""

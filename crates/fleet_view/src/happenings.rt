@@ -115,7 +115,7 @@ fn push_device(before: &mut Vec<Device>, device: Device) -> Result<(), AllocErro
 
 /// What the command did to the versions of a picture, or of all pictures where it is 0: on the device that it names first and
 /// then on the source of a pull, the latest version first.
-pub fn happened<'a>(
+pub fn happenings_of<'a>(
     alloc: Global,
     moment: &Moment<'a>,
     picture: u32,

@@ -5,7 +5,7 @@ use crate::chart::{push_chart, push_places};
 use crate::columns::{Columns, picture_of};
 use crate::filters::push_quoted_filter;
 use crate::happenings::{
-    Happened, Happening, Moment, devices_before, first_seen, happened, superseder,
+    Happened, Happening, Moment, devices_before, first_seen, happenings_of, superseder,
 };
 use crate::json::push_quoted;
 use crate::learning::push_learning;
@@ -194,7 +194,7 @@ fn push_devices(text: &mut String, command: &Command) -> Result<(), AllocError> 
 
 // What the command did to versions, if it did something to some.
 fn push_did(alloc: Global, text: &mut String, moment: &Moment<'_>) -> Result<(), AllocError> {
-    let list = happened(alloc, moment, picture_of(moment.command))?;
+    let list = happenings_of(alloc, moment, picture_of(moment.command))?;
     if list.is_empty() {
         return Ok(());
     }

@@ -364,8 +364,8 @@ function firstOf(list, most, order) {
   return first;
 }
 
-// The rows of the store or the out. Where not all are shown, those of the picture that is followed stand first, and then those
-// that came or left.
+// The rows of the store or the out. Where not all are shown, those of the picture that is followed and those that came or left
+// are.
 function partOf(part, device, changes, whys, torn, redraw) {
   const box = document.createDocumentFragment(), hows = new Map();
   for (const change of changes) if (change.part === part) hows.set(change.version, change.came ? "came" : "left");
@@ -378,7 +378,7 @@ function partOf(part, device, changes, whys, torn, redraw) {
   }
   const rank = version => pictureOf(version) === followed ? 0 : hows.has(version) ? 1 : 2;
   const most = unfolded.has(key) ? Infinity : ROWS;
-  const shown = firstOf(versions, most, (a, b) => (most === Infinity ? 0 : rank(a) - rank(b)) || inOrder(a, b));
+  const shown = firstOf(versions, most, (a, b) => rank(a) - rank(b) || inOrder(a, b)).sort(inOrder);
   const table = element("table");
   table.setAttribute("aria-label", part + " of " + authorName(authorOf(device.place, device.epoch)));
   for (const version of shown) {

@@ -2,7 +2,7 @@
 ghost use Rattle.std.specs.Prelude.{◌≡◌, ◌≤◌, ◌<◌, ◌+◌, length};
 
 use crate::current::current_of;
-use crate::happenings::{Happened, Happening, Moment, devices_before, happened, is_held};
+use crate::happenings::{Happened, Happening, Moment, devices_before, happenings_of, is_held};
 use crate::lines::push_what;
 use crate::names::{device_name, push_version};
 use crate::reasons::push_unselected;
@@ -139,7 +139,7 @@ fn tell_beside(
 }
 
 fn tell_moment(story: &mut Story, moment: &Moment<'_>) -> Result<(), AllocError> {
-    let list = happened(*story.table.cells.allocator(), moment, story.picture)?;
+    let list = happenings_of(*story.table.cells.allocator(), moment, story.picture)?;
     tell_list(story, moment, &list)
 }
 

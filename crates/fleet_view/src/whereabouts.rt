@@ -26,7 +26,7 @@ const REASONS: &str = "\nonly known, since the device's filter doesn't select it
 
 /// What is asked of a script.
 #[derive(Drop)]
-pub struct Asked {
+pub struct Wanted {
     /// The pictures; all where none is named.
     pub pictures: Vec<u32>,
     /// At most so many commands run.
@@ -51,7 +51,7 @@ pub fn push_whereabouts(
     alloc: Global,
     text: &mut String,
     script: &Script,
-    asked: &Asked,
+    asked: &Wanted,
 ) -> Result<(), AllocError> {
     let mut fleet = Fleet::of_script(alloc, script)?;
     push_played(alloc, text, script, &mut fleet, asked)
@@ -63,7 +63,7 @@ fn push_played(
     text: &mut String,
     script: &Script,
     fleet: &mut Fleet,
-    asked: &Asked,
+    asked: &Wanted,
 ) -> Result<(), AllocError>
     requires devices { length fleet.old.devices ≡ length script.now.names }
     requires none { fleet.old.commands ≡ 0 }
@@ -79,7 +79,7 @@ fn push_pictures(
     text: &mut String,
     script: &Script,
     fleet: &Fleet,
-    asked: &Asked,
+    asked: &Wanted,
 ) -> Result<(), AllocError> {
     let mut histories = BTreeMap::new(alloc);
     note_histories(alloc, &mut histories, fleet, &asked.pictures)?;
@@ -115,7 +115,7 @@ fn push_histories(
     text: &mut String,
     script: &Script,
     fleet: &Fleet,
-    asked: &Asked,
+    asked: &Wanted,
     histories: &BTreeMap<u32, Vec<&Held>>,
 ) -> Result<(), AllocError> {
     let shown = vec![in alloc; false; script.devices()]?;
@@ -307,7 +307,7 @@ fn push_conflict(
 fn push_lines(
     text: &mut String,
     lines: &Lines,
-    asked: &Asked,
+    asked: &Wanted,
     histories: &BTreeMap<u32, Vec<&Held>>,
 ) -> Result<(), AllocError> {
     lines.table.push_to(text, asked.width)?;

@@ -1,7 +1,7 @@
 //! The words of the command line, and what they ask for.
 use crate::columns::Columns;
 use crate::helps::{CHART, FAULT, OVERVIEW, PAGE, STORY, WHERE};
-use crate::whereabouts::Asked;
+use crate::whereabouts::Wanted;
 use clap::error::ErrorKind;
 use clap::{Arg, ArgAction, ArgMatches, Command, value_parser};
 use std::alloc::{AllocError, Global};
@@ -18,7 +18,7 @@ pub struct Request<'a> {
 #[derive(Drop)]
 pub enum View {
     /// Where pictures are.
-    Where(Asked),
+    Where(Wanted),
     /// What happened to a picture.
     Story(u32),
     /// Its run as a page.
@@ -69,7 +69,7 @@ fn request_in<'a>(
 fn view_in(alloc: Global, name: &str, given: &ArgMatches<'_>) -> Result<Option<View>, AllocError> {
     match name {
         "where" => match numbers_in(alloc, given, "PICTURE")? {
-            Some(pictures) => Ok(Some(View::Where(Asked {
+            Some(pictures) => Ok(Some(View::Where(Wanted {
                 pictures,
                 commands: number_in(given, "at").unwrap_or(u32::MAX),
                 width: number_in(given, "width").unwrap_or(0) as usize,
