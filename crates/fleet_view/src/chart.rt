@@ -44,6 +44,41 @@ fn push_columned(
     push_legend(text, legend)
 }
 
+/// Puts behind a text, as data, where in the chart each command's column has its middle, and where each device's lane lies.
+pub fn push_places(alloc: Global, text: &mut String, script: &Script) -> Result<(), AllocError> {
+    let columned = columned_by(alloc, script, Columns::Commands)?;
+    push_middles(alloc, text, script, &columned)
+}
+
+fn push_middles(
+    alloc: Global,
+    text: &mut String,
+    script: &Script,
+    columned: &Columned,
+) -> Result<(), AllocError> {
+    let left = left_width(alloc, script)?;
+    let layout = layout_of(alloc, script, columned, left, names_width(script))?;
+    push_layout(text, script, &layout)
+}
+
+fn push_layout(text: &mut String, script: &Script, layout: &Layout) -> Result<(), AllocError> {
+    let mut front = "\"columns\":[";
+    text.push_str(if script.commands() == 0 { front } else { "" })?;
+    for place in 0..script.commands() {
+        let x = layout.x(place as u32);
+        write!(text, "{front}{x}")?;
+        front = ",";
+    }
+    front = "],\n\"lanes\":[";
+    text.push_str(if script.devices() == 0 { front } else { "" })?;
+    for place in 0..script.devices() {
+        let y = layout.y(place as u16);
+        write!(text, "{front}{y}")?;
+        front = ",";
+    }
+    text.push_str("],\n")
+}
+
 // How wide the devices' names are.
 fn names_width(script: &Script) -> usize {
     let mut widest = 0usize;

@@ -1,5 +1,6 @@
 //! The texts of filters.
 use crate::escaping::push_escaped;
+use crate::json::push_quoted;
 use photo_filter_rules::Filter;
 use photo_filter_text::print;
 use std::alloc::{AllocError, Global};
@@ -35,4 +36,10 @@ fn push_cut(text: &mut String, whole: &str, most: usize) -> Result<(), AllocErro
 pub fn push_whole_filter(text: &mut String, filter: &Filter) -> Result<(), AllocError> {
     let whole = print(*text.allocator(), filter.tree())?;
     push_escaped(text, &whole)
+}
+
+/// Puts a filter's whole text behind another as JSON has it.
+pub fn push_quoted_filter(text: &mut String, filter: &Filter) -> Result<(), AllocError> {
+    let whole = print(*text.allocator(), filter.tree())?;
+    push_quoted(text, &whole)
 }

@@ -6,6 +6,8 @@ pub const OVERVIEW: &str =
 
     fleet_view where my.script            a table: a line for each picture, a column for each device
     fleet_view where my.script 3 7        the same of the pictures 3 and 7
+    fleet_view story my.script 3          what happened to picture 3, and why devices don't have it
+    fleet_view page my.script > my.html   the run as a page to step through, for a browser
     fleet_view chart my.script > my.svg   the run as a picture, for a browser
     fleet_view fault my.script            where the script's fault is, and how it is mended
     fleet_view where - < my.script        each of them takes - for standard input
@@ -24,8 +26,37 @@ pub const WHERE: &str =
 and V* or [V]* of a version that the device holds and that is superseded. Two versions that are
 current are in conflict, and have ! between them.
 
-Below stand the pictures in conflict, and each pull that would bring its target a version: one that
-its filter selects, or one that waits in the source's out, which stands in brackets.
+Below stand the versions that devices only know, with their records and those devices' filters, which
+don't select them; the pictures in conflict; and each pull that would bring its target a version: one
+that its filter selects, or one that waits in the source's out, which stands in brackets. What a pull
+takes and is handed is counted of the pictures that are asked for.
+
+With --at N it is told where the pictures are after the first N commands. With --width N a table that
+is wider becomes several, as in 'fleet_view where --width 80 my.script'.
+
+Exit status: 0 done, 2 refused words, 3 script fault, 4 no memory, 5 output not written.";
+
+/// The end of the help of `story`.
+pub const STORY: &str =
+    "The script is run command by command. Each thing that happens to a version of the picture has a line
+with the command's number and the device: it is made, in the store or in the out; taken by a pull from
+the source's store, or handed over by its out; told of or learned of without its contents; given up,
+with the version that supersedes it; moved between store and out by another filter; or forgotten.
+
+Below stands for each device that lacks a current version why: it never heard of it, or its filter
+doesn't select it. What the device held last is told too, where it holds nothing of the picture now.
+
+Exit status: 0 done, 2 refused words, 3 script fault, 4 no memory, 5 output not written.";
+
+/// The end of the help of `page`.
+pub const PAGE: &str =
+    "One HTML file that needs no network: the chart, the command and its report, and each device after it
+with its filter, its store, its out and what it knows. Rows that came with the command are green, those
+that left with it red. A click on a picture's number follows it through the run.
+
+Left and right go one command back and on, Home and End to the first and the last; / asks for a picture,
+n and p go to the next and the previous command that did something to it, Esc follows none. The page's
+address keeps the command and the picture.
 
 Exit status: 0 done, 2 refused words, 3 script fault, 4 no memory, 5 output not written.";
 

@@ -1,5 +1,5 @@
 //! The pulls that would bring what a device is to keep and hasn't, or take what waits in an out.
-ghost use Rattle.std.specs.Prelude.{◌≤◌, ◌<◌, ◌≢◌, length};
+ghost use Rattle.std.specs.Prelude.{◌≤◌, ◌<◌, length};
 
 use crate::names::{device_name, push_version};
 use crate::whereabouts::is_asked;
@@ -78,38 +78,34 @@ fn push_pull(
 ) -> Result<(), AllocError>
     requires target { devices.0 < length fleet.now.devices }
     requires source { devices.1 < length fleet.now.devices }
-    requires differ { devices.1 ≢ devices.0 }
 {
     let (target, source) = devices;
     let mut moved = String::new(alloc);
-    push_moved(
+    let counts = push_moved(
         &mut moved,
         script,
         &fleet.devices()[usize::from(target)],
         &fleet.devices()[usize::from(source)],
         pictures,
     )?;
-    push_line(lines, script, fleet, devices, &moved)
+    push_line(lines, script, devices, &moved, counts)
 }
 
 fn push_line(
     lines: &mut String,
     script: &Script,
-    fleet: &Fleet,
     devices: (u16, u16),
     moved: &str,
-) -> Result<(), AllocError>
-    requires target { devices.0 < length fleet.now.devices }
-    requires source { devices.1 < length fleet.now.devices }
-    requires differ { devices.1 ≢ devices.0 }
-{
+    counts: (usize, usize),
+) -> Result<(), AllocError> {
     if moved.is_empty() {
         return Ok(());
     }
-    let (target, source) = devices;
-    let counts = fleet.preview(target, source)?;
-    let (taken, handed) = (counts.taken, counts.handed);
-    let (target, source) = (device_name(script, target), device_name(script, source));
+    let (taken, handed) = counts;
+    let (target, source) = (
+        device_name(script, devices.0),
+        device_name(script, devices.1),
+    );
     writeln!(
         lines,
         "  pull {target} {source}  takes {taken}, is handed {handed}:{moved}"
@@ -117,16 +113,17 @@ fn push_line(
 }
 
 /// What a pull would bring of the pictures that are asked for: what the target doesn't know of the source's store and is to
-/// keep, and what it doesn't know of the source's out.
+/// keep, and what it doesn't know of the source's out. Gives how many versions these are.
 pub fn push_moved(
     moved: &mut String,
     script: &Script,
     target: &Device,
     source: &Device,
     pictures: &[u32],
-) -> Result<(), AllocError> {
-    push_moved_from(moved, script, target, source, Place::Store, pictures)?;
-    push_moved_from(moved, script, target, source, Place::Out, pictures)
+) -> Result<(usize, usize), AllocError> {
+    let taken = push_moved_from(moved, script, target, source, Place::Store, pictures)?;
+    let handed = push_moved_from(moved, script, target, source, Place::Out, pictures)?;
+    Ok((taken, handed))
 }
 
 fn push_moved_from(
@@ -136,7 +133,7 @@ fn push_moved_from(
     source: &Device,
     place: Place,
     pictures: &[u32],
-) -> Result<(), AllocError> {
+) -> Result<usize, AllocError> {
     let set = match place {
         Place::Store => source.store(),
         Place::Out => source.out(),
@@ -152,20 +149,22 @@ fn push_list(
     unknown: &[SharedHeld],
     place: Place,
     pictures: &[u32],
-) -> Result<(), AllocError> {
+) -> Result<usize, AllocError> {
     let (before, behind) = match place {
         Place::Store => (" ", ""),
         Place::Out => (" [", "]"),
     };
+    let mut count = 0usize;
     for held in unknown {
         let picture = held.picture().value();
         if is_asked(pictures, picture) && is_wanted(target, held, place) {
             write!(moved, "{before}{picture} ")?;
             push_version(moved, script, held.version())?;
             moved.push_str(behind)?;
+            count = count.saturating_add(1);
         }
     }
-    Ok(())
+    Ok(count)
 }
 
 // Whether a device takes a version that it doesn't know: what waits in an out it always does.

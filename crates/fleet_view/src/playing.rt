@@ -5,12 +5,12 @@ use live_fleet::Fleet;
 use photo_script::Script;
 use std::alloc::AllocError;
 
-/// Runs all commands of the script, one after another, on its devices, on which none has run.
-pub fn play(fleet: &mut Fleet, script: &Script) -> Result<(), AllocError>
+/// Runs the script's commands, one after another and at most so many, on its devices, on which none has run.
+pub fn play(fleet: &mut Fleet, script: &Script, most: u32) -> Result<(), AllocError>
     requires devices { length fleet.old.devices ≡ length script.now.names }
     requires none { fleet.old.commands ≡ 0 }
 {
-    for place in 0..script.commands() {
+    for place in 0..script.commands().min(most as usize) {
         let _report = fleet.run(script.command(place as u32 + 1))?;
     }
     Ok(())

@@ -91,7 +91,7 @@ fn moved_by(
             devices.get(usize::from(target)),
             devices.get(usize::from(source)),
         ) {
-            push_moved(&mut moved, script, target, source, &[])?;
+            let _counts = push_moved(&mut moved, script, target, source, &[])?;
         }
     }
     Ok(moved)

@@ -1,10 +1,12 @@
 //! What the program does, from the words to the exit status.
 use crate::chart::push_chart;
 use crate::orders::push_order;
+use crate::page::push_page;
 use crate::refusals::refused;
 use crate::remarks::push_remarks;
 use crate::source::{Unread, read_bytes};
 use crate::statuses::{BAD_SCRIPT, DONE, status_of};
+use crate::story::push_story;
 use crate::whereabouts::push_whereabouts;
 use crate::words::{Request, View, request_of};
 use fleet_steps::RunError;
@@ -118,7 +120,9 @@ fn push_view(
     view: &View,
 ) -> Result<u8, RunError> {
     let pushed = match view {
-        View::Where(pictures) => push_whereabouts(alloc, text, script, pictures),
+        View::Where(asked) => push_whereabouts(alloc, text, script, asked),
+        View::Story(picture) => push_story(alloc, text, script, *picture),
+        View::Page => push_page(alloc, text, script),
         View::Chart(columns) => push_chart(alloc, text, script, *columns),
         View::Fault(order) => return push_no_fault(alloc, text, bytes, script, order),
     };
@@ -163,16 +167,15 @@ fn push_fault(
     view: &View,
 ) -> Result<u8, RunError> {
     match (view, fault) {
-        (View::Where(_) | View::Chart(_), _) | (_, ScriptFault::NoMemory) => Err(RunError::Script(
-            fault,
-        )),
-        _ => match fault_view(alloc, bytes, fault) {
+        (_, ScriptFault::NoMemory) => Err(RunError::Script(fault)),
+        (View::Fault(_), _) => match fault_view(alloc, bytes, fault) {
             Ok(told) => {
                 *text = told;
                 Ok(BAD_SCRIPT)
             }
             Err(_) => Err(RunError::NoMemory),
         },
+        _ => Err(RunError::Script(fault)),
     }
 }
 

@@ -2,10 +2,11 @@
 ghost use Rattle.std.specs.Prelude.{◌≤◌, ◌<◌, length};
 
 use crate::drawing::{Drawing, Spot};
+use crate::happenings::is_change;
 use crate::names::{device_name, push_version};
 use live_fleet::Fleet;
 use photo_device::{Conflict, Device};
-use photo_script::{Command, Script, devices_of};
+use photo_script::{Script, devices_of};
 use std::alloc::AllocError;
 
 /// A device's conflicts: since which column it has some, and of how many pictures.
@@ -38,19 +39,6 @@ pub fn note_strife(
         Some(device) => note_spot(drawing, script, fleet, number, Spot { column, device }),
         None => Ok(()),
     }
-}
-
-// Whether the command can change what its devices hold.
-fn is_change(command: &Command) -> bool {
-    matches!(
-        command,
-        Command::New { .. }
-            | Command::Edit { .. }
-            | Command::Remove { .. }
-            | Command::Pull { .. }
-            | Command::Narrow { .. }
-            | Command::Refilter { .. }
-    )
 }
 
 fn note_spot(

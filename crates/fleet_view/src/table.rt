@@ -5,6 +5,8 @@ use unicode_width::UnicodeWidthStr;
 
 // Between two columns.
 const GAP: usize = 2;
+// How many columns each part of a table has that is cut.
+const FIRST: usize = 2;
 
 /// Rows of equally many cells.
 #[derive(Drop)]
@@ -34,11 +36,69 @@ impl Table {
         Ok(())
     }
 
-    /// Puts the table behind a text, a line for each row.
-    pub fn push_to(&self, text: &mut String) -> Result<(), AllocError> {
+    /// Puts the table behind a text, a line for each row. Where it is wider than so many columns of a terminal it becomes
+    /// several tables, each with the first columns; 0 says that it may be as wide as it is.
+    pub fn push_to(&self, text: &mut String, width: usize) -> Result<(), AllocError> {
         let mut widths = vec![in self.alloc; 0; self.columns]?;
         self.widen(&mut widths);
-        self.push_rows(text, &widths)
+        self.push_parts(text, &widths, width)
+    }
+
+    // The parts of the table that are no wider than that, but for those of a single column beside the first ones.
+    fn push_parts(
+        &self,
+        text: &mut String,
+        widths: &[usize],
+        width: usize,
+    ) -> Result<(), AllocError> {
+        let room = room_beside(widths, width);
+        let (mut from, mut used) = (FIRST, 0usize);
+        for column in FIRST..self.columns {
+            let wanted = width_at(widths, column).saturating_add(GAP);
+            if used.saturating_add(wanted) > room && column > from {
+                self.push_part(text, widths, from, column)?;
+                text.push_str("\n")?;
+                from = column;
+                used = 0;
+            }
+            used = used.saturating_add(wanted);
+        }
+        self.push_part(text, widths, from, self.columns)
+    }
+
+    fn push_part(
+        &self,
+        text: &mut String,
+        widths: &[usize],
+        from: usize,
+        end: usize,
+    ) -> Result<(), AllocError> {
+        for row in 0..self.ends.len() / self.columns.max(1) {
+            self.push_row(text, widths, row, from, end)?;
+        }
+        Ok(())
+    }
+
+    // No space stands behind the last cell of a row.
+    fn push_row(
+        &self,
+        text: &mut String,
+        widths: &[usize],
+        row: usize,
+        from: usize,
+        end: usize,
+    ) -> Result<(), AllocError> {
+        let first = row.saturating_mul(self.columns);
+        let mut spaces = 0;
+        for column in 0..end {
+            if column < FIRST || column >= from {
+                push_spaces(text, spaces)?;
+                let cell = self.cell_at(first.saturating_add(column));
+                text.push_str(cell)?;
+                spaces = missing(cell, width_at(widths, column)).saturating_add(GAP);
+            }
+        }
+        text.push_str("\n")
     }
 
     // Makes each column as wide as its widest cell.
@@ -53,22 +113,15 @@ impl Table {
         }
     }
 
-    // No space stands behind the last cell of a row.
-    fn push_rows(&self, text: &mut String, widths: &[usize]) -> Result<(), AllocError> {
-        let (mut from, mut column) = (0, 0);
-        for end in &self.ends {
-            let cell = self.cell(from, *end);
-            text.push_str(cell)?;
-            from = *end;
-            let width = widths.get(column).copied().unwrap_or(0);
-            column = self.behind(column);
-            if column == 0 {
-                text.push_str("\n")?;
-            } else {
-                push_spaces(text, missing(cell, width).saturating_add(GAP))?;
-            }
-        }
-        Ok(())
+    // The cell of that number, row by row.
+    fn cell_at(&self, place: usize) -> &str {
+        let end = self.ends.get(place).copied().unwrap_or(0);
+        let from = if place == 0 {
+            0
+        } else {
+            self.ends.get(place - 1).copied().unwrap_or(0)
+        };
+        self.cell(from, end)
     }
 
     fn cell(&self, from: usize, end: usize) -> &str {
@@ -80,6 +133,22 @@ impl Table {
         let next = column.saturating_add(1);
         if next < self.columns { next } else { 0 }
     }
+}
+
+fn width_at(widths: &[usize], column: usize) -> usize {
+    widths.get(column).copied().unwrap_or(0)
+}
+
+// How much of a width the first columns leave.
+fn room_beside(widths: &[usize], width: usize) -> usize {
+    if width == 0 {
+        return usize::MAX;
+    }
+    let mut room = width.saturating_add(GAP);
+    for column in 0..FIRST {
+        room = room.saturating_sub(width_at(widths, column).saturating_add(GAP));
+    }
+    room
 }
 
 // Puts so many spaces behind a text.

@@ -21,11 +21,28 @@ const LEGEND: &str =
 // What stands above the conflicts.
 const CONFLICTS: &str = "\nconflicts, which an edit on a device that has all of them resolves:\n";
 
-// What is said of pictures: a line of a table for each, and one more of each that is in conflict.
+// What stands above the reasons.
+const REASONS: &str = "\nonly known, since the device's filter doesn't select it:\n";
+
+/// What is asked of a script.
+#[derive(Drop)]
+pub struct Wanted {
+    /// The pictures; all where none is named.
+    pub pictures: Vec<u32>,
+    /// At most so many commands run.
+    pub commands: u32,
+    /// How wide tables may be; as wide as they are where it is 0.
+    pub width: usize,
+}
+
+// What is said of pictures: a line of a table for each, one more of each that is in conflict and of each version that some
+// device only knows; and which devices' filters are to be shown.
 #[derive(Drop)]
 struct Lines {
     table: Table,
     conflicts: String,
+    reasons: String,
+    shown: Vec<bool>,
 }
 
 /// Puts the text of `where` behind another: a line for each of the pictures, or for each picture that was made where none is
@@ -34,10 +51,10 @@ pub fn push_whereabouts(
     alloc: Global,
     text: &mut String,
     script: &Script,
-    pictures: &[u32],
+    asked: &Wanted,
 ) -> Result<(), AllocError> {
     let mut fleet = Fleet::of_script(alloc, script)?;
-    push_played(alloc, text, script, &mut fleet, pictures)
+    push_played(alloc, text, script, &mut fleet, asked)
 }
 
 // Runs the script on its devices, and tells where the pictures are then.
@@ -46,14 +63,14 @@ fn push_played(
     text: &mut String,
     script: &Script,
     fleet: &mut Fleet,
-    pictures: &[u32],
+    asked: &Wanted,
 ) -> Result<(), AllocError>
     requires devices { length fleet.old.devices ≡ length script.now.names }
     requires none { fleet.old.commands ≡ 0 }
 {
-    play(fleet, script)?;
-    push_pictures(alloc, text, script, fleet, pictures)?;
-    push_moves(alloc, text, script, fleet, pictures)
+    play(fleet, script, asked.commands)?;
+    push_pictures(alloc, text, script, fleet, asked)?;
+    push_moves(alloc, text, script, fleet, &asked.pictures)
 }
 
 // What is said of single pictures.
@@ -62,11 +79,11 @@ fn push_pictures(
     text: &mut String,
     script: &Script,
     fleet: &Fleet,
-    pictures: &[u32],
+    asked: &Wanted,
 ) -> Result<(), AllocError> {
     let mut histories = BTreeMap::new(alloc);
-    note_histories(alloc, &mut histories, fleet, pictures)?;
-    push_histories(alloc, text, script, fleet, pictures, &histories)
+    note_histories(alloc, &mut histories, fleet, &asked.pictures)?;
+    push_histories(alloc, text, script, fleet, asked, &histories)
 }
 
 // Notes the versions of each picture that is asked for, oldest first.
@@ -98,15 +115,20 @@ fn push_histories(
     text: &mut String,
     script: &Script,
     fleet: &Fleet,
-    pictures: &[u32],
+    asked: &Wanted,
     histories: &BTreeMap<u32, Vec<&Held>>,
 ) -> Result<(), AllocError> {
+    let shown = vec![in alloc; false; script.devices()]?;
     let mut lines = Lines {
         table: Table::new(alloc, script.devices().saturating_add(2)),
         conflicts: String::new(alloc),
+        reasons: String::new(alloc),
+        shown,
     };
     fill(alloc, &mut lines, script, fleet, histories)?;
-    push_lines(text, &lines, pictures, histories)
+    push_lines(text, &lines, asked, histories)?;
+    push_reasons(text, &lines, script, fleet)?;
+    push_conflicts(text, &lines)
 }
 
 fn fill(
@@ -166,7 +188,54 @@ fn add_lines(
         push_standings(&mut table.cells, script, device, versions, current)?;
         table.end_cell()?;
     }
+    for held in current {
+        note_reason(lines, script, fleet, *held)?;
+    }
     push_conflict(&mut lines.conflicts, script, picture, current)
+}
+
+// A line of a version that some devices only know, with what it says and their names.
+fn note_reason(
+    lines: &mut Lines,
+    script: &Script,
+    fleet: &Fleet,
+    held: &Held,
+) -> Result<(), AllocError> {
+    let mut names = String::new(*lines.reasons.allocator());
+    for device in fleet.devices() {
+        if standing_of(device, held.picture, held.version) == Standing::Known {
+            let place = device.author().value();
+            let name = device_name(script, place);
+            write!(names, " {name}")?;
+            note_shown(lines, held, place);
+        }
+    }
+    push_reason(&mut lines.reasons, script, held, &names)
+}
+
+// The device's filter is shown, unless the version is a removal, which no filter selects.
+fn note_shown(lines: &mut Lines, held: &Held, place: u16) {
+    if let Record::Removed = &held.content {
+        return;
+    }
+    if let Some(shown) = lines.shown.get_mut(usize::from(place)) {
+        *shown = true;
+    }
+}
+
+fn push_reason(
+    reasons: &mut String,
+    script: &Script,
+    held: &Held,
+    names: &str,
+) -> Result<(), AllocError> {
+    if names.is_empty() {
+        return Ok(());
+    }
+    let (picture, record) = (held.picture, &held.content);
+    write!(reasons, "  {picture} ")?;
+    push_version(reasons, script, held.version)?;
+    write!(reasons, ", {record}:{names}\n")
 }
 
 // The current versions; two or more of them are in conflict.
@@ -238,19 +307,45 @@ fn push_conflict(
 fn push_lines(
     text: &mut String,
     lines: &Lines,
-    pictures: &[u32],
+    asked: &Wanted,
     histories: &BTreeMap<u32, Vec<&Held>>,
 ) -> Result<(), AllocError> {
-    lines.table.push_to(text)?;
+    lines.table.push_to(text, asked.width)?;
     text.push_str(LEGEND)?;
-    for picture in pictures {
+    for picture in &asked.pictures {
         if !histories.contains_key(picture) {
             writeln!(text, "no command made picture {picture}")?;
         }
     }
-    if !lines.conflicts.is_empty() {
-        text.push_str(CONFLICTS)?;
-        text.push_str(lines.conflicts.as_str())?;
+    Ok(())
+}
+
+// Which versions are only known, and the filters of the devices that only know them.
+fn push_reasons(
+    text: &mut String,
+    lines: &Lines,
+    script: &Script,
+    fleet: &Fleet,
+) -> Result<(), AllocError> {
+    if lines.reasons.is_empty() {
+        return Ok(());
+    }
+    text.push_str(REASONS)?;
+    text.push_str(lines.reasons.as_str())?;
+    for device in fleet.devices() {
+        let place = device.author().value();
+        if lines.shown.get(usize::from(place)).copied() == Some(true) {
+            let (name, filter) = (device_name(script, place), device.filter().tree());
+            writeln!(text, "  {name} keeps {filter}")?;
+        }
     }
     Ok(())
+}
+
+fn push_conflicts(text: &mut String, lines: &Lines) -> Result<(), AllocError> {
+    if lines.conflicts.is_empty() {
+        return Ok(());
+    }
+    text.push_str(CONFLICTS)?;
+    text.push_str(lines.conflicts.as_str())
 }

@@ -1,6 +1,7 @@
 //! The words of the command line, and what they ask for.
 use crate::columns::Columns;
-use crate::helps::{CHART, FAULT, OVERVIEW, WHERE};
+use crate::helps::{CHART, FAULT, OVERVIEW, PAGE, STORY, WHERE};
+use crate::whereabouts::Wanted;
 use clap::error::ErrorKind;
 use clap::{Arg, ArgAction, ArgMatches, Command, value_parser};
 use std::alloc::{AllocError, Global};
@@ -16,8 +17,12 @@ pub struct Request<'a> {
 /// What is shown of a script.
 #[derive(Drop)]
 pub enum View {
-    /// Where those pictures are, or all where none is named.
-    Where(Vec<u32>),
+    /// Where pictures are.
+    Where(Wanted),
+    /// What happened to a picture.
+    Story(u32),
+    /// Its run as a page.
+    Page,
     /// A chart of its run.
     Chart(Columns),
     /// What is wrong with it, or with that order of its commands where one is given.
@@ -64,9 +69,18 @@ fn request_in<'a>(
 fn view_in(alloc: Global, name: &str, given: &ArgMatches<'_>) -> Result<Option<View>, AllocError> {
     match name {
         "where" => match numbers_in(alloc, given, "PICTURE")? {
-            Some(pictures) => Ok(Some(View::Where(pictures))),
+            Some(pictures) => Ok(Some(View::Where(Wanted {
+                pictures,
+                commands: number_in(given, "at").unwrap_or(u32::MAX),
+                width: number_in(given, "width").unwrap_or(0) as usize,
+            }))),
             None => Ok(None),
         },
+        "story" => match number_in(given, "PICTURE") {
+            Some(picture) => Ok(Some(View::Story(picture))),
+            None => Ok(None),
+        },
+        "page" => Ok(Some(View::Page)),
         "chart" => {
             let columns = if given.get_flag("batches") {
                 Columns::Batches
@@ -81,6 +95,11 @@ fn view_in(alloc: Global, name: &str, given: &ArgMatches<'_>) -> Result<Option<V
         },
         _ => Ok(None),
     }
+}
+
+// The number of an argument, if it is there.
+fn number_in(given: &ArgMatches<'_>, argument: &str) -> Option<u32> {
+    given.get_str(argument)?.parse::<u32>().ok()
 }
 
 // The numbers of an argument, perhaps none.
@@ -105,7 +124,9 @@ pub fn command_line<'a>(alloc: Global) -> Result<Command<'a>, AllocError> {
     let mut commands = Vec::new(alloc);
     push_commands(alloc, &mut commands)?;
     Command::new(alloc, "fleet_view")
-        .about("Shows where a script's pictures are, a chart of its run, or what is wrong with it")
+        .about(
+            "Shows where a script's pictures are, their story, its run as a page or a chart, or its fault",
+        )
         .after_help(OVERVIEW)
         .subcommand_required(true)
         .subcommands(commands)
@@ -113,6 +134,8 @@ pub fn command_line<'a>(alloc: Global) -> Result<Command<'a>, AllocError> {
 
 fn push_commands<'a>(alloc: Global, commands: &mut Vec<Command<'a>>) -> Result<(), AllocError> {
     push_command(commands, where_command(alloc))?;
+    push_command(commands, story_command(alloc))?;
+    push_command(commands, page_command(alloc))?;
     push_command(commands, chart_command(alloc))?;
     push_command(commands, fault_command(alloc))
 }
@@ -125,13 +148,36 @@ fn push_command<'a>(
     Ok(())
 }
 
-// `where FILE [PICTURE]...`
+// `where [--at N] [--width N] FILE [PICTURE]...`
 fn where_command<'a>(alloc: Global) -> Result<Command<'a>, AllocError> {
     Command::new(alloc, "where")
         .about("Tells where each picture is once the script has run")
         .after_help(WHERE)
+        .arg(number_argument(alloc, "at", "After the first N commands, and not after all"))?
+        .arg(number_argument(
+            alloc,
+            "width",
+            "In tables of at most N columns of the terminal",
+        ))?
         .arg(file_argument(alloc))?
         .arg(picture_argument(alloc))
+}
+
+// `story FILE PICTURE`
+fn story_command<'a>(alloc: Global) -> Result<Command<'a>, AllocError> {
+    Command::new(alloc, "story")
+        .about("Tells what happened to a picture, and why devices don't have it")
+        .after_help(STORY)
+        .arg(file_argument(alloc))?
+        .arg(one_picture_argument(alloc))
+}
+
+// `page FILE`
+fn page_command<'a>(alloc: Global) -> Result<Command<'a>, AllocError> {
+    Command::new(alloc, "page")
+        .about("Writes the script's run as an HTML page to step through")
+        .after_help(PAGE)
+        .arg(file_argument(alloc))
 }
 
 // `chart [--batches] FILE`
@@ -165,6 +211,23 @@ fn picture_argument<'a>(alloc: Global) -> Arg<'a> {
         .num_args(0..)
         .value_parser(value_parser!(u32).range(1..=999_999_999))
         .action(ArgAction::Append)
+}
+
+fn one_picture_argument<'a>(alloc: Global) -> Arg<'a> {
+    Arg::new(alloc, "PICTURE")
+        .help("The picture's number")
+        .required(true)
+        .value_parser(value_parser!(u32).range(1..=999_999_999))
+        .action(ArgAction::Set)
+}
+
+fn number_argument<'a>(alloc: Global, name: &'a str, help: &'a str) -> Arg<'a> {
+    Arg::new(alloc, name)
+        .long(name)
+        .value_name("N")
+        .help(help)
+        .value_parser(value_parser!(u32).range(0..=999_999_999))
+        .action(ArgAction::Set)
 }
 
 fn order_argument<'a>(alloc: Global) -> Arg<'a> {
