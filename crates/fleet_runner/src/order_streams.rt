@@ -63,6 +63,8 @@ pub fn plan_stream<R: Read, W: Write>(
         Ok(script) => script,
         Err(fault) => return Err(RunError::Script(fault)),
     };
-    let plan = plan(alloc, &script)?;
+    let Ok(plan) = plan(alloc, &script) else {
+        return Err(RunError::NoMemory);
+    };
     write_plan(alloc, writer, &plan)
 }

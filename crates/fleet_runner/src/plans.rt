@@ -37,11 +37,15 @@ fn write_lines<W: Write>(alloc: Global, writer: &mut W, plan: &Plan) -> Result<(
     let mut text = String::new(alloc);
     for place in 0..plan.commands() {
         text.clear();
-        push_command(&mut text, plan, place + 1)?;
+        let Ok(()) = push_command(&mut text, plan, place + 1) else {
+            return Err(RunError::NoMemory);
+        };
         write_text(writer, text.as_bytes())?;
     }
     text.clear();
-    push_count(&mut text, plan.batches())?;
+    let Ok(()) = push_count(&mut text, plan.batches()) else {
+        return Err(RunError::NoMemory);
+    };
     write_text(writer, text.as_bytes())
 }
 

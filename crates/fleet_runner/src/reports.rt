@@ -60,7 +60,9 @@ fn write_texts<W: Write>(
     for report in reports {
         number += 1;
         text.clear();
-        push_report(&mut text, script, number, report)?;
+        let Ok(()) = push_report(&mut text, script, number, report) else {
+            return Err(RunError::NoMemory);
+        };
         write_text(writer, text.as_bytes())?;
     }
     Ok(())

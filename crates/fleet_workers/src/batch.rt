@@ -55,9 +55,13 @@ pub(crate) fn run_batch<
 {
     let mut slots = slots;
     let count = slots.workers.count().min(members.len());
-    let groups = deal(alloc, shared.script(), &mut slots.devices, members, count)?;
+    let Ok(groups) = deal(alloc, shared.script(), &mut slots.devices, members, count) else {
+        return Err(RunError::NoMemory);
+    };
     let done = run_crew(rt, alloc, shared, share, groups)?;
-    take_back(shared.script(), &mut slots, done)?;
+    let Ok(()) = take_back(shared.script(), &mut slots, done) else {
+        return Err(RunError::NoMemory);
+    };
     Ok(slots)
 }
 

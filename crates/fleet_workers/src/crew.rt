@@ -44,7 +44,10 @@ impl<B: Books> Running<B> {
         ensures err { IfErr result (λ e. e ≡ NoMemory) }
     {
         let Running { handle } = self;
-        Ok(handle.join(rt)?)
+        match handle.join(rt) {
+            Ok(finished) => Ok(finished),
+            Err(_) => Err(RunError::NoMemory),
+        }
     }
 }
 
@@ -71,7 +74,10 @@ pub(crate) fn run_crew<
         return Ok(Vec::new(alloc));
     };
     if groups.is_empty() {
-        return Ok(run_jobs(&rt, alloc, shared, share, jobs)?);
+        let Ok(done) = run_jobs(&rt, alloc, shared, share, jobs) else {
+            return Err(RunError::NoMemory);
+        };
+        return Ok(done);
     }
     // `left()` is called because its contract bounds what the share may count, which each worker's own share needs.
     let _left = share.left();
@@ -103,7 +109,9 @@ fn start<
         ≡ stake (share.old.parts - 1) (less share.old.left (tally_at (arc_value shared.now.script) (numbers_of jobs.items))) share.old.done) }
     ensures err { IfErr result (λ e. (e ≡ NoMemory) ⊎ (e ≡ NoWorker)) }
 {
-    let shared = shared.try_clone()?;
+    let Ok(shared) = shared.try_clone() else {
+        return Err(RunError::NoMemory);
+    };
     let share = share.split(tally(shared.script(), &jobs));
     spawn(rt, alloc, shared, share, jobs)
 }
@@ -199,6 +207,8 @@ fn gather<B: Books>(
     share.join(theirs);
     let mut done = done;
     let mut last = last;
-    done.append(&mut last)?;
-    Ok(done)
+    match done.append(&mut last) {
+        Ok(()) => Ok(done),
+        Err(_) => Err(RunError::NoMemory),
+    }
 }
