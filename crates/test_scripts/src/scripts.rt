@@ -1,5 +1,6 @@
 // Tests of texts: each is a script, with its own text and tally, or has a fault.
 mod built;
+mod grown;
 mod known;
 mod listed;
 mod reports;

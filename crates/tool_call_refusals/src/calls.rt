@@ -1,5 +1,5 @@
 //! Calls by their names.
-use crate::{devices, fleets, gates, pulls, questions, runs, scripts, sessions, streams};
+use crate::{devices, fleets, gates, growing, pulls, questions, runs, scripts, sessions, streams};
 use std::alloc::Global;
 use std::sync::Wait;
 use std::thread::Threads;
@@ -26,6 +26,7 @@ fn of_fleets(alloc: Global, library: &str, call: &str) -> Option<Verdict> {
         "Fleet::of_script" | "Fleet::run_number" => scripts::verdict(alloc, library, call),
         "Session::of_script" => scripts::verdict(alloc, library, call),
         "read_script" => scripts::verdict_on_reading(alloc),
+        "GrowingScript::of" | "GrowingScript::push" => growing::verdict(alloc, call),
         _ => of_library(alloc, library, call),
     }
 }

@@ -7,6 +7,7 @@ mod calls;
 mod devices;
 mod fleets;
 mod gates;
+mod growing;
 mod plans;
 mod pulls;
 mod questions;
