@@ -15,7 +15,7 @@ use Rattle.script_reader.specs.Lines.{pieces_of, lines_of, fields_of, third_fiel
 use Rattle.script_reader.specs.Reading.{script_of, script_of_lines, MayWantMemory}
 use Rattle.script_reader.specs.Saying.{said}
 use Rattle.script_reader.specs.Growing.{AreTaken, lines_in, with_line}
-use Rattle.script_reader.specs.Steps.{HasTaken, IsAsItWas, IsFirst, Refuses, Takes, fault_at, seen}
+use Rattle.script_reader.specs.Steps.{HasTaken, IsFirst, Refuses, Takes, fault_at, seen}
 use Rattle.script_reader.specs.declared.fault.ScriptFault.TheVariants.{NoMemory}
 use Rattle.script_reader.specs.declared.reader.Reader.{Reader}
 use Rattle.script_reader.specs.declared.refusal.Refusal.{Refusal}
@@ -82,27 +82,6 @@ utf8_line (suc n) text line utf8 =
     let lf : get_or whole (length text) 0 ≡ 10 = get_or_at text 10 line 0 (length text) refl in
     let rest : drop (length text + 1) whole ≡ line = ap (drop (length text + 1)) (sym (append_assoc text (10 ∷ []) line)) ∙ drop_at (text ++ 10 ∷ []) line (length text + 1) (length-append text (10 ∷ [])) in
     subst IsUtf8 rest (IsUtf8-drop whole (length text + 1) utf8 (IsCharBoundary-after_ascii whole (length text) utf8 within (omega (arith, lf))))
-
--- a reader that is as it was has taken the same
-HasTaken-same : (lines : List (List ℕ)) (old new : Reader) → IsAsItWas old new → HasTaken lines old → HasTaken lines new
-HasTaken-same lines old new same h = record {
-  names = ap (λ s. s.names) same.0 ∙ h.names;
-  filters = ap (λ s. s.filters) same.0 ∙ h.filters;
-  makes = λ p. same.1 p ∙ h.makes p;
-  counted = ap (λ s. length s.commands) same.0 ∙ h.counted;
-  said = h.said ∙ ap (λ s. Ok s.commands) (sym same.0);
-}
-
-pub taken_still : (text : List ℕ) (old new : Reader) (n bytes : ℕ) → IsAsItWas old new → AreTaken text old n bytes → AreTaken text new n bytes
-taken_still text old new n bytes same h = record {
-  bytes_are = h.bytes_are;
-  lines_are = h.lines_are;
-  none = h.none;
-  small = h.small;
-  utf8 = h.utf8;
-  taken = HasTaken-same (lines_in n text) old new same h.taken;
-  read = h.read ∙ ap Ok (sym same.0);
-}
 
 -- a reader of no lines has taken those of the empty text
 pub taken_none : (r : Reader) → IsFirst r → AreTaken [] r 0 0
