@@ -38,6 +38,7 @@ h3{font-size:13px;margin:8px 0 2px;color:var(--soft)}
 table{border-collapse:collapse;width:100%}
 td{padding:1px 8px 1px 0;vertical-align:top;font-size:13px}
 td:first-child,td:nth-child(2){white-space:nowrap;width:1%}
+td code{white-space:nowrap;overflow-wrap:normal}
 td:last-child{overflow-wrap:anywhere}
 tr.came{background:var(--came-on)}
 tr.left{background:var(--left-on);color:var(--soft)}
