@@ -4,11 +4,12 @@ use Rattle.std.specs.Prelude.{nat_lt}
 use Rattle.std.specs.List.{AllZip, list_all}
 use Rattle.std.proofs.lemmas.Bool.{and_parts, ltb-true}
 use Rattle.photo_version.specs.Author.{epoch_of_author}
-use Rattle.photo_device.specs.Device.{Kept, Shows}
+use Rattle.photo_device.specs.Device.{Kept, Shows, unstaged}
 use Rattle.fleet_model.specs.Limits.{max_devices, max_commands}
 use Rattle.fleet_model.specs.Contents.{Contents, NamesDevices, AreInRange}
 use Rattle.fleet_model.specs.Runs.{run}
 use Rattle.fleet_steps.specs.Between.{AreReady, HaveRoom}
+use Rattle.photo_pull.specs.MayPull.{MayPull}
 use Rattle.fleet_model.proofs.ReadyRuns.{run_is_ready}
 
 pub ready_after : (script : Contents) (devices : List Kept) → length script.names ≤ max_devices → length script.filters ≡ length script.names → length script.commands ≤ max_commands → NamesDevices script → AreInRange script → AllZip Shows devices (run script).devices → AreReady devices
@@ -24,3 +25,7 @@ room_for_all (d ∷ ds) h =
     let r = and_parts _ _ h in
     let here = and_parts _ _ r.0 in
     ((ltb-true _ _ here.0, ltb-true _ _ here.1), room_for_all ds r.1)
+
+-- a pull asks nothing of what is staged
+pub may_pull_copies : (target source : Kept) → MayPull target source → MayPull (unstaged target) (unstaged source)
+may_pull_copies target source h = record { differ = h.differ; one = h.one; own = h.own }

@@ -117,6 +117,7 @@ fn ask(rt: HostRuntime, target: &Device, source: &Device)
     }
 }
 
+#[tactic(auto, using(crate::proofs::Ready::may_pull_copies))]
 fn is_pulled(alloc: Global, target: &Device, source: &Device) -> bool
     requires { MayPull target.now source.now }
 {
@@ -126,6 +127,7 @@ fn is_pulled(alloc: Global, target: &Device, source: &Device) -> bool
     }
 }
 
+#[tactic(auto, using(crate::proofs::Ready::may_pull_copies))]
 fn is_pull_run(alloc: Global, target: &Device, source: &Device) -> bool
     requires { MayPull target.now source.now }
 {
@@ -135,6 +137,7 @@ fn is_pull_run(alloc: Global, target: &Device, source: &Device) -> bool
     }
 }
 
+#[tactic(auto, using(crate::proofs::Ready::may_pull_copies))]
 fn is_run_between(alloc: Global, target: &Device, source: &Device) -> bool
     requires { MayPull target.now source.now }
 {
