@@ -27,5 +27,8 @@ room_for_all (d ∷ ds) h =
     ((ltb-true _ _ here.0, ltb-true _ _ here.1), room_for_all ds r.1)
 
 -- a pull asks nothing of what is staged
-pub may_pull_copies : (target source : Kept) → MayPull target source → MayPull (unstaged target) (unstaged source)
-may_pull_copies target source h = record { differ = h.differ; one = h.one; own = h.own }
+pub pulls_as_copy : (target source : Kept) → MayPull target source → MayPull (unstaged target) source
+pulls_as_copy target source h = record { differ = h.differ; one = h.one; own = h.own }
+
+pub pulled_as_copy : (target source : Kept) → MayPull target source → MayPull target (unstaged source)
+pulled_as_copy target source h = record { differ = h.differ; one = h.one; own = h.own }

@@ -1,6 +1,6 @@
 //! The calls of `photo_device` on one device, which has made many versions, and those of `fleet_steps` on what it holds.
 ghost use Rattle.std.specs.Prelude.{◌≡◌, ◌<◌, ◌==◌, ◌&&◌, ℕ, [], ◌∷◌};
-ghost use Rattle.photo_version.specs.Author.{author, device_of_author};
+ghost use Rattle.photo_version.specs.Author.{author, device_of_author, epoch_of_author};
 ghost use Rattle.photo_version.specs.Version as versions;
 ghost use Rattle.photo_version.specs.Vector.{denotes};
 ghost use Rattle.item_knowledge.specs.Fragments.{knows};
@@ -8,9 +8,7 @@ ghost use Rattle.item_knowledge.specs.Fragments.{knows};
 use crate::told::tell;
 use fleet_steps::{IssueLog, run_command};
 use item_knowledge::Knowledge;
-use photo_device::{
-    Change, Device, Held, HeldSet, SharedHeld, SharedList, VersionList, told_by,
-};
+use photo_device::{Change, Device, Held, HeldSet, SharedHeld, SharedList, VersionList, told_by};
 use photo_record::{PicNo, Record};
 use photo_script::Command;
 use photo_version::Author;
@@ -20,20 +18,32 @@ use tool_value_refusals::{filter_of, rated, told};
 /// Makes them on devices of so many versions: on one that is to keep none of them, and on one that keeps them until its filter
 /// is narrowed.
 pub fn make(rt: HostRuntime, count: u32) {
-    let (Some(content), Some(picture)) = (rated(rt.alloc(), 4), PicNo::new(1)) else {
-        return;
-    };
-    let made = opened(rt.alloc(), "none");
-    tell(rt, "photo_device::Device::new", made.is_some());
-    if let Some(mut device) = made {
-        let done = has_made(&mut device, &content, count);
-        tell(rt, "photo_device::Device::make", done);
-        on_out(rt, &mut device, picture, &content);
+    let made = rated(rt.alloc(), 4);
+    if let Some(content) = &made {
+        on_out(rt, content, count);
+        on_store(rt, content, count);
     }
-    if let Some(mut device) = opened(rt.alloc(), "all") {
-        let done = has_made(&mut device, &content, count) && is_narrowed(rt.alloc(), &mut device);
+    drop(made);
+}
+
+fn on_out(rt: HostRuntime, content: &Record, count: u32) {
+    let mut made = opened(rt.alloc(), "none");
+    tell(rt, "photo_device::Device::new", made.is_some());
+    if let Some(device) = &mut made {
+        let done = has_made(device, content, count);
+        tell(rt, "photo_device::Device::make", done);
+        on_device(rt, device, content);
+    }
+    drop(made);
+}
+
+fn on_store(rt: HostRuntime, content: &Record, count: u32) {
+    let mut made = opened(rt.alloc(), "all");
+    if let Some(device) = &mut made {
+        let done = has_made(device, content, count) && is_narrowed(rt.alloc(), device);
         tell(rt, "photo_device::Device::narrow", done);
     }
+    drop(made);
 }
 
 fn opened(alloc: Global, text: &str) -> Option<Device> {
@@ -62,10 +72,9 @@ fn is_narrowed(alloc: Global, device: &mut Device) -> bool {
     }
 }
 
-fn on_out(rt: HostRuntime, device: &mut Device, picture: PicNo, content: &Record) {
-    change(rt, device, picture, content);
-    if let Ok(record) = content.try_clone() {
-        run(rt, device, picture, record);
+fn on_device(rt: HostRuntime, device: &mut Device, content: &Record) {
+    if let Some(picture) = PicNo::new(1) {
+        change(rt, device, picture, content);
     }
     of_set(rt, device.out());
     let done = device.try_clone().is_ok();
@@ -73,6 +82,9 @@ fn on_out(rt: HostRuntime, device: &mut Device, picture: PicNo, content: &Record
     let done = device.conflicts().is_ok();
     tell(rt, "photo_device::Device::conflicts", done);
     refilter(rt, device);
+    if device.author().value() == 0 {
+        stage_lent(rt, device);
+    }
     if device.author().value() == 0 {
         stage(rt, device);
     }
@@ -87,18 +99,20 @@ fn change(rt: HostRuntime, device: &mut Device, picture: PicNo, content: &Record
         let done = device.remove(picture).is_ok();
         tell(rt, "photo_device::Device::remove", done);
     }
-}
-
-fn run(rt: HostRuntime, device: &mut Device, picture: PicNo, record: Record) {
-    let command = Command::Edit {
-        device: 0,
-        picture,
-        record,
-    };
     if device.counter() < u32::MAX && device.author().epoch() < u32::MAX {
-        let done = run_command(rt.alloc(), &command, device).is_ok();
+        let done = is_command_run(rt.alloc(), device, picture);
         tell(rt, "fleet_steps::run_command", done);
     }
+}
+
+fn is_command_run(alloc: Global, device: &mut Device, picture: PicNo) -> bool
+    requires room { device.old.counter < 4_294_967_295 }
+    requires epoch { epoch_of_author device.old.author < 4_294_967_295 }
+{
+    let command = Command::Remove { device: 0, picture };
+    let done = run_command(alloc, &command, device).is_ok();
+    drop(command);
+    done
 }
 
 fn of_set(rt: HostRuntime, set: &HeldSet) {
@@ -128,6 +142,7 @@ fn share(rt: HostRuntime, held: Held) {
         let done = shared.try_clone().is_ok();
         tell(rt, "photo_device::SharedHeld::try_clone", done);
     }
+    drop(made);
 }
 
 // From here on it knows each of its versions by itself.
@@ -140,16 +155,25 @@ fn refilter(rt: HostRuntime, device: &mut Device) {
     }
 }
 
-// Stages what another device knows.
+// Stages what another device knows, and what is told.
+fn stage_lent(rt: HostRuntime, device: &mut Device)
+    requires { device_of_author device.old.author ≡ 0 }
+{
+    let made = told(rt.alloc(), 7, 3);
+    if let Some(gain) = &made {
+        let done = is_staged_lent(rt.alloc(), device, gain);
+        tell(rt, "photo_device::Device::stage_lent", done);
+    }
+    drop(made);
+    let done = is_staged_told(rt.alloc(), device);
+    tell(rt, "photo_device::Device::stage_told", done);
+}
+
 fn stage(rt: HostRuntime, device: &mut Device)
     requires { device_of_author device.old.author ≡ 0 }
 {
     if let Some(gain) = told(rt.alloc(), 7, 3) {
-        let done = is_staged_lent(rt.alloc(), device, &gain);
-        tell(rt, "photo_device::Device::stage_lent", done);
-        let done = is_staged_told(rt.alloc(), device);
-        tell(rt, "photo_device::Device::stage_told", done);
-        let done = device.author().value() == 0 && is_staged(rt.alloc(), device, gain);
+        let done = is_staged(rt.alloc(), device, gain);
         tell(rt, "photo_device::Device::stage", done);
     }
 }

@@ -14,27 +14,38 @@ use photo_version::Vector;
 pub fn make(rt: HostRuntime, count: u32) {
     let done = Knowledge::new(rt.alloc()).is_ok();
     tell(rt, "item_knowledge::Knowledge::new", done);
-    if let (Ok(one), Ok(other)) = (table(rt.alloc(), 1, count), table(rt.alloc(), 2, count)) {
-        of_tables(rt, &one, &other);
+    let made = table(rt.alloc(), 1, count);
+    if let Ok(table) = &made {
+        on_table(rt, table, count);
     }
+    drop(made);
 }
 
-fn of_tables(rt: HostRuntime, one: &[(PicNo, Vector)], other: &[(PicNo, Vector)])
+fn on_table(rt: HostRuntime, one: &[(PicNo, Vector)], count: u32)
+    requires { in_order one.now ≡ true }
+{
+    let made = table(rt.alloc(), 2, count);
+    if let Ok(other) = &made {
+        on_tables(rt, one, other);
+    }
+    drop(made);
+}
+
+fn on_tables(rt: HostRuntime, one: &[(PicNo, Vector)], other: &[(PicNo, Vector)])
     requires one { in_order one.now ≡ true }
     requires other { in_order other.now ≡ true }
 {
-    let first = of_table(rt.alloc(), one);
-    tell(rt, "item_knowledge::Knowledge::learn_table", first.is_ok());
-    let second = of_table(rt.alloc(), other);
-    if let (Ok(mut first), Ok(second)) = (first, second) {
-        learn_told(rt, &mut first, other);
-        learn_from(rt, &mut first, &second);
-        learn(rt, second);
+    let mut made = of_table(rt.alloc(), one);
+    tell(rt, "item_knowledge::Knowledge::learn_table", made.is_ok());
+    if let Ok(knowledge) = &mut made {
+        stage_told(rt, knowledge, other);
+        learn_table(rt, knowledge, other);
     }
+    drop(made);
 }
 
 // Stages as many fragments more, as a table tells them, which are all others.
-fn learn_told(rt: HostRuntime, knowledge: &mut Knowledge, table: &[(PicNo, Vector)])
+fn stage_told(rt: HostRuntime, knowledge: &mut Knowledge, table: &[(PicNo, Vector)])
     requires { in_order table.now ≡ true }
 {
     let made = Told::of_table(rt.alloc(), table);
@@ -43,10 +54,22 @@ fn learn_told(rt: HostRuntime, knowledge: &mut Knowledge, table: &[(PicNo, Vecto
         let done = knowledge.stage_told(told).is_ok();
         tell(rt, "item_knowledge::Knowledge::stage_told", done);
     }
+    drop(made);
 }
 
-// Stages and learns them from another knowledge.
-fn learn_from(rt: HostRuntime, knowledge: &mut Knowledge, other: &Knowledge) {
+// Learns them from another knowledge, which learns versions of two more devices then.
+fn learn_table(rt: HostRuntime, knowledge: &mut Knowledge, table: &[(PicNo, Vector)])
+    requires { in_order table.now ≡ true }
+{
+    let mut made = of_table(rt.alloc(), table);
+    if let Ok(other) = &mut made {
+        learn_all(rt, knowledge, other);
+        learn_own(rt, other);
+    }
+    drop(made);
+}
+
+fn learn_all(rt: HostRuntime, knowledge: &mut Knowledge, other: &Knowledge) {
     let done = knowledge.stage(other).is_ok();
     tell(rt, "item_knowledge::Knowledge::stage", done);
     let done = knowledge.learn_all(other).is_ok();
@@ -55,20 +78,23 @@ fn learn_from(rt: HostRuntime, knowledge: &mut Knowledge, other: &Knowledge) {
     tell(rt, "item_knowledge::Knowledge::try_clone", done);
 }
 
-// Learns versions of two other devices.
-fn learn(rt: HostRuntime, knowledge: Knowledge)
-    requires { (a : Author) → star_bound knowledge.known a ≡ 0 }
+fn learn_own(rt: HostRuntime, knowledge: &mut Knowledge)
+    requires { (a : Author) → star_bound knowledge.old.known a ≡ 0 }
 {
-    let mut knowledge = knowledge;
     let done = knowledge.learn_own(version(3, 1)).is_ok();
     tell(rt, "item_knowledge::Knowledge::learn_own", done);
-    let Some(picture) = PicNo::new(1) else {
-        return;
-    };
-    if let Ok(vector) = Vector::new(rt.alloc()).with(version(4, 1)) {
-        let done = knowledge.learn(picture, &vector).is_ok();
+    if let Some(picture) = PicNo::new(1) {
+        learn(rt, knowledge, picture);
+    }
+}
+
+fn learn(rt: HostRuntime, knowledge: &mut Knowledge, picture: PicNo) {
+    let made = Vector::new(rt.alloc()).with(version(4, 1));
+    if let Ok(vector) = &made {
+        let done = knowledge.learn(picture, vector).is_ok();
         tell(rt, "item_knowledge::Knowledge::learn", done);
     }
+    drop(made);
     let done = knowledge.of(picture).is_ok();
     tell(rt, "item_knowledge::Knowledge::of", done);
 }

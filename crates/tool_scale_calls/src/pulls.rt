@@ -14,9 +14,11 @@ use std::alloc::{AllocError, Global};
 
 /// Makes them where the first device has so many versions.
 pub fn make(rt: HostRuntime, count: u32) {
-    if let Some(mut outcome) = before(rt.alloc(), count) {
+    let mut made = before(rt.alloc(), count);
+    if let Some(outcome) = &mut made {
         on_devices(rt, outcome.devices.as_mut_slice());
     }
+    drop(made);
 }
 
 /// A device that is to keep none of so many versions, begins an epoch behind them, and lists them; and one that keeps all.
@@ -36,7 +38,11 @@ fn before(alloc: Global, count: u32) -> Option<Outcome>
 {
     let text = text_of(alloc, count).ok()?;
     match read_script(alloc, text.as_bytes()) {
-        Ok(script) => run_before(alloc, &script),
+        Ok(script) => {
+            let outcome = run_before(alloc, &script);
+            drop(script);
+            outcome
+        }
         Err(_) => None,
     }
 }
@@ -81,7 +87,9 @@ fn is_run_on(alloc: Global, devices: &mut [Device]) -> bool
         target: 1,
         source: 0,
     };
-    run_on(alloc, &command, devices).is_ok()
+    let done = run_on(alloc, &command, devices).is_ok();
+    drop(command);
+    done
 }
 
 fn on_two(rt: HostRuntime, devices: &[Device])
@@ -94,61 +102,84 @@ fn on_two(rt: HostRuntime, devices: &[Device])
 fn between(rt: HostRuntime, target: &Device, source: &Device)
     requires { MayPull target.now source.now }
 {
-    ask(rt, target, source);
-    let done = is_pulled(rt.alloc(), target, source);
-    tell(rt, "photo_pull::pull", done);
-    let done = is_pull_run(rt.alloc(), target, source);
-    tell(rt, "fleet_steps::run_pull", done);
-    let done = is_run_between(rt.alloc(), target, source);
-    tell(rt, "fleet_steps::run_between", done);
-}
-
-// What the source has that the target doesn't know, and what a pull would move.
-fn ask(rt: HostRuntime, target: &Device, source: &Device)
-    requires { MayPull target.now source.now }
-{
     let done = preview(rt.alloc(), target, source).is_ok();
     tell(rt, "photo_pull::preview", done);
     let done = target.unknown_by(rt.alloc(), source.out()).is_ok();
     tell(rt, "photo_device::Device::unknown_by", done);
-    if let Ok(mut target) = target.try_clone() {
-        let done = target.unknown_of(rt.alloc(), source.out()).is_ok();
-        tell(rt, "photo_device::Device::unknown_of", done);
-    }
+    on_copy(rt, target, source, Call::Ask);
+    on_copy(rt, target, source, Call::Pull);
+    on_copy(rt, target, source, Call::RunPull);
+    on_copy(rt, target, source, Call::RunBetween);
 }
 
-#[tactic(auto, using(crate::proofs::Ready::may_pull_copies))]
-fn is_pulled(alloc: Global, target: &Device, source: &Device) -> bool
+// The calls that a device is lent to, to be changed.
+#[derive(Clone, Copy)]
+enum Call {
+    Ask,
+    Pull,
+    RunPull,
+    RunBetween,
+}
+
+// Makes a call on a copy of the target.
+#[tactic(auto, using(crate::proofs::Ready::pulls_as_copy))]
+fn on_copy(rt: HostRuntime, target: &Device, source: &Device, call: Call)
     requires { MayPull target.now source.now }
 {
-    match (target.try_clone(), source.try_clone()) {
-        (Ok(mut target), Ok(mut source)) => pull(alloc, &mut target, &mut source).is_ok(),
-        _ => false,
+    let mut made = target.try_clone();
+    if let Ok(copy) = &mut made {
+        match call {
+            Call::Ask => ask(rt, copy, source),
+            call => on_copies(rt, copy, source, call),
+        }
     }
+    drop(made);
 }
 
-#[tactic(auto, using(crate::proofs::Ready::may_pull_copies))]
-fn is_pull_run(alloc: Global, target: &Device, source: &Device) -> bool
-    requires { MayPull target.now source.now }
+fn ask(rt: HostRuntime, target: &mut Device, source: &Device) {
+    let done = target.unknown_of(rt.alloc(), source.out()).is_ok();
+    tell(rt, "photo_device::Device::unknown_of", done);
+}
+
+// Makes a call on the target and on a copy of the source.
+#[tactic(auto, using(crate::proofs::Ready::pulled_as_copy))]
+fn on_copies(rt: HostRuntime, target: &mut Device, source: &Device, call: Call)
+    requires { MayPull target.old source.now }
 {
-    match (target.try_clone(), source.try_clone()) {
-        (Ok(mut target), Ok(mut source)) => run_pull(alloc, &mut target, &mut source).is_ok(),
-        _ => false,
+    let mut made = source.try_clone();
+    if let Ok(copy) = &mut made {
+        make_call(rt, target, copy, call);
+    }
+    drop(made);
+}
+
+fn make_call(rt: HostRuntime, target: &mut Device, source: &mut Device, call: Call)
+    requires { MayPull target.old source.old }
+{
+    match call {
+        Call::Pull => {
+            let done = pull(rt.alloc(), target, source).is_ok();
+            tell(rt, "photo_pull::pull", done);
+        }
+        Call::RunPull => {
+            let done = run_pull(rt.alloc(), target, source).is_ok();
+            tell(rt, "fleet_steps::run_pull", done);
+        }
+        _ => {
+            let done = is_run_between(rt.alloc(), target, source);
+            tell(rt, "fleet_steps::run_between", done);
+        }
     }
 }
 
-#[tactic(auto, using(crate::proofs::Ready::may_pull_copies))]
-fn is_run_between(alloc: Global, target: &Device, source: &Device) -> bool
-    requires { MayPull target.now source.now }
+fn is_run_between(alloc: Global, target: &mut Device, source: &mut Device) -> bool
+    requires { MayPull target.old source.old }
 {
     let command = Command::Pull {
         target: 1,
         source: 0,
     };
-    match (target.try_clone(), source.try_clone()) {
-        (Ok(mut target), Ok(mut source)) => {
-            run_between(alloc, &command, &mut target, &mut source).is_ok()
-        }
-        _ => false,
-    }
+    let done = run_between(alloc, &command, target, source).is_ok();
+    drop(command);
+    done
 }

@@ -12,7 +12,7 @@ pub fn make(rt: HostRuntime, fleet: &Fleet) {
     if let Some(picture) = PicNo::new(1) {
         of_picture(rt, fleet, picture);
     }
-    if let (Some(first), Some(second)) = (fleet.devices().first(), fleet.devices().get(1)) {
+    if let [first, second] = fleet.devices() {
         of_devices(rt, first, second);
     }
 }
@@ -29,8 +29,10 @@ fn of_picture(rt: HostRuntime, fleet: &Fleet, picture: PicNo) {
 fn of_devices(rt: HostRuntime, first: &Device, second: &Device) {
     let done = pull_moves(rt.alloc(), second, first).is_ok();
     tell(rt, "live_fleet::pull_moves", done);
-    if let Some(wanted) = filter_of(rt.alloc(), "keyword sea") {
-        let done = selected(rt.alloc(), first, &wanted).is_ok();
+    let made = filter_of(rt.alloc(), "keyword sea");
+    if let Some(wanted) = &made {
+        let done = selected(rt.alloc(), first, wanted).is_ok();
         tell(rt, "live_fleet::selected", done);
     }
+    drop(made);
 }

@@ -18,14 +18,21 @@ pub fn make(rt: HostRuntime, source: &[u8]) {
     let mut reader = source;
     let done = read_source(rt.alloc(), &mut reader).is_ok();
     tell(rt, "fleet_runner::read_source", done);
-    if let Ok(bytes) = broken(rt.alloc(), source) {
-        fault(rt, &bytes);
+    let made = broken(rt.alloc(), source);
+    if let Ok(bytes) = &made {
+        fault(rt, bytes);
     }
+    drop(made);
+    on_source(rt, source);
+}
+
+fn on_source(rt: HostRuntime, source: &[u8]) {
     let made = read_script(rt.alloc(), source);
     tell(rt, "script_reader::read_script", made.is_ok());
     if let Ok(script) = &made {
         on_script(rt, script);
     }
+    drop(made);
 }
 
 // The bytes with a line behind them that is none.
@@ -48,16 +55,18 @@ fn fault(rt: HostRuntime, bytes: &[u8]) {
 fn on_script(rt: HostRuntime, script: &Script) {
     write(rt, script);
     open(rt, script);
-    if let Ok(order) = in_order(rt.alloc(), script) {
-        order_by(rt, script, &order);
+    let made = in_order(rt.alloc(), script);
+    if let Ok(order) = &made {
+        order_by(rt, script, order);
     }
+    drop(made);
     run(rt, script);
     run_fleet(rt, script);
     sessions::run_script(rt, script);
 }
 
 fn write(rt: HostRuntime, script: &Script) {
-    let done = script_text(rt.alloc(), script).is_ok();
+    let done = matches!(script_text(rt.alloc(), script), Ok(Some(_)));
     tell(rt, "script_text::script_text", done);
     let last = script.commands() as u32;
     if last > 0 {

@@ -15,17 +15,21 @@ pub fn make(rt: HostRuntime, session: &mut Session) {
     tell(rt, "live_fleet::Session::preview", done);
     let done = session.pull(1, 0).is_ok();
     tell(rt, "live_fleet::Session::pull", done);
-    if let (Some(content), Some(picture)) = (rated(rt.alloc(), 4), PicNo::new(2)) {
-        change(rt, session, picture, &content);
-        run(rt, session, picture, content);
+    if let Some(picture) = PicNo::new(2) {
+        make_versions(rt, session, picture);
     }
-    let filters = two_filters(rt.alloc());
-    if let Some(filters) = &filters {
-        filter(rt, session, filters);
-    }
+    filter(rt, session);
 }
 
 // The second device, which holds all that the first one made, makes versions.
+fn make_versions(rt: HostRuntime, session: &mut Session, picture: PicNo) {
+    let made = rated(rt.alloc(), 4);
+    if let Some(content) = &made {
+        change(rt, session, picture, content);
+    }
+    drop(made);
+}
+
 fn change(rt: HostRuntime, session: &mut Session, picture: PicNo, content: &Record) {
     let done = session.make(1, picture, content).is_ok();
     tell(rt, "live_fleet::Session::make", done);
@@ -33,19 +37,21 @@ fn change(rt: HostRuntime, session: &mut Session, picture: PicNo, content: &Reco
     tell(rt, "live_fleet::Session::edit", done);
     let done = session.remove(1, picture).is_ok();
     tell(rt, "live_fleet::Session::remove", done);
-}
-
-fn run(rt: HostRuntime, session: &mut Session, picture: PicNo, record: Record) {
-    let command = Command::New {
-        device: 1,
-        picture,
-        record,
-    };
+    let command = Command::Remove { device: 1, picture };
     let done = session.run(&command).is_ok();
     tell(rt, "live_fleet::Session::run", done);
+    drop(command);
 }
 
-fn filter(rt: HostRuntime, session: &mut Session, filters: &[Filter; 2]) {
+fn filter(rt: HostRuntime, session: &mut Session) {
+    let made = two_filters(rt.alloc());
+    if let Some(filters) = &made {
+        filter_by(rt, session, filters);
+    }
+    drop(made);
+}
+
+fn filter_by(rt: HostRuntime, session: &mut Session, filters: &[Filter; 2]) {
     let done = session.narrow(1, &filters[0]).is_ok();
     tell(rt, "live_fleet::Session::narrow", done);
     let done = session.refilter(1, &filters[1]).is_ok();

@@ -15,10 +15,12 @@ pub fn make(rt: HostRuntime, source: &[u8]) {
     tell(rt, "fleet_runner::plain_stream", done);
     let done = is_plan_stream(rt.alloc(), source);
     tell(rt, "fleet_runner::plan_stream", done);
-    if let Ok(script) = read_script(rt.alloc(), source) {
-        let done = is_replay_stream(rt.alloc(), source, &script);
+    let made = read_script(rt.alloc(), source);
+    if let Ok(script) = &made {
+        let done = is_replay_stream(rt.alloc(), source, script);
         tell(rt, "fleet_runner::replay_stream", done);
     }
+    drop(made);
 }
 
 fn is_plain_stream(alloc: Global, source: &[u8]) -> bool {

@@ -15,6 +15,7 @@ pub fn make(rt: HostRuntime, count: u32) {
     arenas(rt, count);
     words(rt);
     word(rt);
+    record(rt);
     filters(rt);
     vectors(rt, count);
     small(rt, "photo_version", "Vector::from_entries");
@@ -87,15 +88,21 @@ fn sixteen(alloc: Global) -> Result<String, AllocError> {
 }
 
 fn words(rt: HostRuntime) {
-    let Ok(text) = sixteen(rt.alloc()) else {
-        return;
-    };
-    let made = Words::read(rt.alloc(), &text);
+    let made = sixteen(rt.alloc());
+    if let Ok(text) = &made {
+        read_words(rt, text);
+    }
+    drop(made);
+}
+
+fn read_words(rt: HostRuntime, text: &str) {
+    let made = Words::read(rt.alloc(), text);
     tell(rt, "photo_record::Words::read", made.is_ok());
     if let Ok(words) = &made {
         let done = words.try_clone().is_ok();
         tell(rt, "photo_record::Words::try_clone", done);
     }
+    drop(made);
 }
 
 fn word(rt: HostRuntime) {
@@ -105,10 +112,16 @@ fn word(rt: HostRuntime) {
         let done = word.try_clone().is_ok();
         tell(rt, "photo_record::Word::try_clone", done);
     }
-    if let Some(record) = rated(rt.alloc(), 4) {
+    drop(made);
+}
+
+fn record(rt: HostRuntime) {
+    let made = rated(rt.alloc(), 4);
+    if let Some(record) = &made {
         let done = record.try_clone().is_ok();
         tell(rt, "photo_record::Record::try_clone", done);
     }
+    drop(made);
 }
 
 // A filter of 64 alternatives, in brackets by eight.
@@ -127,17 +140,22 @@ fn alternatives(alloc: Global) -> Result<String, AllocError> {
 }
 
 fn filters(rt: HostRuntime) {
-    let Ok(text) = alternatives(rt.alloc()) else {
-        return;
-    };
-    let made = read(rt.alloc(), &text);
+    let made = alternatives(rt.alloc());
+    if let Ok(text) = &made {
+        read_filter(rt, text);
+    }
+    drop(made);
+}
+
+fn read_filter(rt: HostRuntime, text: &str) {
+    let made = read(rt.alloc(), text);
     tell(rt, "photo_filter_text::read", made.is_ok());
     if let Ok(tree) = made {
-        trees(rt, tree);
+        build(rt, tree);
     }
 }
 
-fn trees(rt: HostRuntime, tree: FilterTree) {
+fn build(rt: HostRuntime, tree: FilterTree) {
     let done = print(rt.alloc(), &tree).is_ok();
     tell(rt, "photo_filter_text::print", done);
     let done = tree.try_clone().is_ok();
@@ -148,6 +166,7 @@ fn trees(rt: HostRuntime, tree: FilterTree) {
         let done = filter.try_clone().is_ok();
         tell(rt, "photo_filter_rules::Filter::try_clone", done);
     }
+    drop(made);
 }
 
 // A version of each of so many devices, from one on, but of no more than 1,000.
@@ -168,11 +187,19 @@ fn of_devices(alloc: Global, first: u16, count: u32) -> Result<Vector, AllocErro
 fn vectors(rt: HostRuntime, count: u32) {
     let made = of_devices(rt.alloc(), 0, count);
     tell(rt, "photo_version::Vector::with", made.is_ok());
-    let other = of_devices(rt.alloc(), 2000, count);
-    if let (Ok(vector), Ok(other)) = (&made, &other) {
+    if let Ok(vector) = &made {
+        join(rt, vector, count);
+    }
+    drop(made);
+}
+
+fn join(rt: HostRuntime, vector: &Vector, count: u32) {
+    let made = of_devices(rt.alloc(), 2000, count);
+    if let Ok(other) = &made {
         let done = vector.join(other).is_ok();
         tell(rt, "photo_version::Vector::join", done);
-        let done = vector.try_clone().is_ok();
-        tell(rt, "photo_version::Vector::try_clone", done);
     }
+    drop(made);
+    let done = vector.try_clone().is_ok();
+    tell(rt, "photo_version::Vector::try_clone", done);
 }
