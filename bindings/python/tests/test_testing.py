@@ -3,11 +3,11 @@ from collections import Counter
 from itertools import chain, combinations
 
 import pytest
-from hypothesis import HealthCheck, Phase, given, settings, strategies as st
+from hypothesis import HealthCheck, Phase, assume, given, settings, strategies as st
 
 import photofleet
-from photofleet import ALL, NONE, Alternative, Edit, Filter, New, Pull, Record, Remove, rated
-from photofleet.testing import FILTERS, Difference, JudgedMachine, Standing, devices, difference, filters, records, replayed, runs
+from photofleet import ALL, NONE, Alternative, Edit, Filter, Narrow, New, Pull, Record, Refilter, Remove, rated, read_command
+from photofleet.testing import FILTERS, JudgedMachine, Standing, devices, difference, filters, read_run, records, replayed, runs
 
 STEADY = settings(deadline=None, database=None, derandomize=True, max_examples=50, suppress_health_check=list(HealthCheck), print_blob=False)
 
@@ -30,6 +30,21 @@ def test_a_filter_selects_what_the_judge_says(drawn, record):
 def test_a_filter_covers_what_the_judge_says(source, target):
     with photofleet.Fleet([f"device a {source}", f"device b {target}"]) as fleet:
         assert fleet.ask("preview b a").counts.learned == source.covers(target)
+
+
+@STEADY
+@given(st.one_of(wide, filters()))
+def test_a_filter_is_read(drawn):
+    assert Filter.read(str(drawn)) == drawn
+
+
+def test_filters_that_are_read():
+    assert Filter.read("keyword and and rating <= 3 and rating >= 2 or not keyword or") == Filter(
+        (Alternative((2, 3), required=frozenset(["and"])), Alternative(forbidden=frozenset(["or"])))
+    )
+    for text in ("", "rating > 3", "(all)", "not all", "all or", "all all", "keyword", "all and none", "rating >= 4 and rating <= 3"):
+        with pytest.raises(ValueError):
+            Filter.read(text)
 
 
 def test_the_plain_filters():
@@ -227,6 +242,42 @@ class EditsRemoved(Keeps):
         self.own[device][picture] = None
 
 
+class StoresAlone(Keeps):
+    """It has no outs, so that it raises where it edits or removes what its filter left out."""
+
+    edits_waiting = False
+
+    def open(self, devices):
+        super().open(devices)
+        self.filters_of = devices
+
+    def new(self, device, picture, record):
+        if self.filters_of[device].selects(record):
+            self.own[device][picture] = record
+
+    def edit(self, device, picture, record):
+        del self.own[device][picture]
+        self.new(device, picture, record)
+
+    def remove(self, device, picture):
+        del self.own[device][picture]
+
+    def view(self, held):
+        return super().view(held) if held.place == "store" else None
+
+
+class EditsWaiting(StoresAlone):
+    edits_waiting = True
+
+
+def test_what_waits_is_edited_where_it_is_wanted():
+    assert difference(StoresAlone, runs=30, steps=8, seed=0) is None
+    found = difference(EditsWaiting, runs=200, steps=10, seed=0)
+    assert len(found.lines) == 3 and found.engine == "raised KeyError(1)"
+    declared, run = {"a": rated(4)}, [New("a", 1, Record(0)), Edit("a", 1, Record(5)), Remove("a", 1)]
+    assert replayed(StoresAlone, declared, run) is None and replayed(EditsWaiting, declared, run).given == run[:2]
+
+
 class EditsAll(EditsRemoved):
     edits_removed = True
 
@@ -240,6 +291,108 @@ def test_a_run_is_replayed():
     run = [New("a", 1, Record(0)), Edit("b", 1, Record(5)), Edit("a", 1, Record(5))]
     assert replayed(Keeps, {"a": ALL, "b": ALL}, run) is None
     assert replayed(Drops, {"a": ALL}, run).lines[-1] == "edit a 1 5 2024-05-01 -"
+
+
+def test_a_printed_run_is_read_and_replayed():
+    found = difference(Drops, runs=200, steps=10, seed=0)
+    script = "\n".join(f"    {it}" for it in found.lines) + "\n"
+    assert read_run(script) == (found.declared, found.given)
+    assert replayed(Drops, *read_run(script)).lines == found.lines and replayed(Keeps, *read_run(script)) is None
+
+
+names, numbers = st.sampled_from(["a", "b"]), st.integers(1, 9)
+changes = st.one_of(
+    *(st.builds(it, names, numbers, records()) for it in (New, Edit)), st.builds(Remove, names, numbers), st.builds(Pull, names, names),
+    *(st.builds(it, names, wide) for it in (Narrow, Refilter)),
+)
+
+
+@STEADY
+@given(devices(1, 2, [ALL, NONE, rated(4)]), st.lists(changes, max_size=4))
+def test_each_command_is_read(declared, run):
+    assert [read_command(str(it)) for it in run] == run
+    assert read_run("\n".join([*(f"device {name} {it}" for name, it in declared.items()), *map(str, run)])) == (declared, run)
+
+
+def test_what_is_no_command_is_not_read():
+    for line in ("", "list a", "new a 1 5 2024-05-01", "remove a", "narrow a", "# a remark", "new a one 5 2024-05-01 -"):
+        with pytest.raises(ValueError):
+            read_command(line)
+
+
+class Assumes(Drops):
+    """It gives a run up where a picture has a rating of 3."""
+
+    def new(self, device, picture, record):
+        assume(record.rating != 3)
+        super().new(device, picture, record)
+
+
+def test_a_run_may_be_given_up():
+    assert replayed(Assumes, {"a": ALL}, [New("a", 1, Record(3)), Edit("a", 1, Record(5))]) is None
+    assert replayed(Assumes, {"a": ALL}, [New("a", 1, Record(2)), Edit("a", 1, Record(5))]).engine == []
+    assert difference(Assumes, runs=200, steps=10, seed=0).lines == ["device a all", "new a 1 0 2024-05-01 -", "edit a 1 4 2024-05-01 -"]
+
+
+class HasNoCommand(JudgedMachine):
+    """Its methods of commands have other names."""
+
+    def open(self, devices):
+        pass
+
+    def holds(self, device):
+        return []
+
+    def create(self, device, picture, record):
+        pass
+
+
+class DoesNotOpen(Keeps):
+    open = JudgedMachine.open
+
+
+class DoesNotTell(Keeps):
+    holds = JudgedMachine.holds
+
+
+@pytest.mark.parametrize("machine, named", [
+    (HasNoCommand, ["HasNoCommand", "new(device, picture, record)", "pull(target, source)", "refilter(device, filter)"]),
+    (DoesNotOpen, ["DoesNotOpen", "open(devices)"]),
+    (DoesNotTell, ["DoesNotTell", "holds(device)"]),
+])
+def test_a_method_that_is_not_written_is_named(machine, named):
+    with pytest.raises(NotImplementedError) as raised:
+        difference(machine, runs=5, seed=0)
+    assert all(it in str(raised.value) for it in named)
+
+
+def test_a_command_that_the_engine_has_not_is_named():
+    with pytest.raises(NotImplementedError, match="pull"):
+        replayed(Keeps, {"a": ALL, "b": ALL}, [Pull("a", "b")])
+
+
+class GivesLists(Keeps):
+    def holds(self, device):
+        return map(list, super().holds(device))
+
+
+class ViewsLists(Keeps):
+    def view(self, held):
+        return list(super().view(held))
+
+
+class TellsTwice(Keeps):
+    def holds(self, device):
+        return list(super().holds(device)) * 2
+
+
+def test_what_is_compared_is_hashable_and_counted():
+    run = [New("a", 1, Record(0))]
+    for machine, method in ((GivesLists, "`holds`"), (ViewsLists, "`view`")):
+        with pytest.raises(TypeError, match=f"{method}.* hashable"):
+            replayed(machine, {"a": ALL}, run)
+    found = replayed(TellsTwice, {"a": ALL}, run)
+    assert (len(found.engine), len(found.judge)) == (2, 1)
 
 
 @STEADY

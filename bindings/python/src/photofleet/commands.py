@@ -1,4 +1,4 @@
-"""Commands as values. `str` of one is its line in a script."""
+"""Commands as values. `str` of one is its line in a script, and `read_command` reads the line of a change."""
 from __future__ import annotations
 
 from dataclasses import dataclass
@@ -131,3 +131,18 @@ class Preview:
 Change = Union[New, Edit, Remove, Pull, Narrow, Refilter]
 Question = Union[List, Conflicts, Knowledge, Knows, Preview]
 Command = Union[Change, Question]
+
+
+def read_command(line: str) -> Change:
+    """Reads a command that changes something, as `str` of one has it, with a filter that `Filter.read` reads."""
+    match line.split(" "):
+        case ["new" | "edit" as word, device, picture, rating, day, words]:
+            record = Record(int(rating), day, () if words == "-" else tuple(words.split(",")))
+            return (New if word == "new" else Edit)(device, int(picture), record)
+        case ["remove", device, picture]:
+            return Remove(device, int(picture))
+        case ["pull", target, source]:
+            return Pull(target, source)
+        case ["narrow" | "refilter" as word, device, *rest]:
+            return (Narrow if word == "narrow" else Refilter)(device, Filter.read(" ".join(rest)))
+    raise ValueError(f"no command that changes something: {line!r}")

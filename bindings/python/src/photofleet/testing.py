@@ -20,9 +20,10 @@ from typing import Any, Callable, ClassVar, Iterable, Mapping, Sequence, Union
 
 from hypothesis import HealthCheck, Phase, settings, strategies as st
 from hypothesis import seed as with_seed
+from hypothesis.errors import UnsatisfiedAssumption
 from hypothesis.stateful import RuleBasedStateMachine, initialize, precondition, rule, run_state_machine_as_test
 
-from .commands import Change, Edit, Narrow, New, Pull, Refilter, Remove
+from .commands import Change, Edit, Narrow, New, Pull, Refilter, Remove, read_command
 from .fleet import Fleet
 from .library import Library
 from .reports import Listed, Report
@@ -34,6 +35,11 @@ WORDS = ("sea", "sun")
 # Filters that overlap: all but one pair of them have a record that both select, and each has one that only one of them does.
 FILTERS = (ALL, rated(3), rated(0, 3), rated(2, 4), rated(forbidden=["sea"]), rated(2, required=["sun"]), rated(4))
 PICTURES = 3
+# The methods of commands that a machine may have
+COMMANDS = {
+    "new": "new(device, picture, record)", "edit": "edit(device, picture, record)", "remove": "remove(device, picture)",
+    "pull": "pull(target, source)", "narrow": "narrow(device, filter)", "refilter": "refilter(device, filter)",
+}
 # How many commands are few enough to be changed and left out at once where a run is shrunk
 FEW = 7
 
@@ -61,8 +67,8 @@ class Standing:
     """A fleet as it stands by the judge: the devices with their filters, what they hold, and the lines so far."""
 
     def __init__(self, declared: Mapping[str, Filter], *, library: Library | str | os.PathLike[str] | None = None, pictures: int = PICTURES,
-                 edits_removed: bool = True):
-        self.edits_removed = edits_removed
+                 edits_removed: bool = True, edits_waiting: bool = True):
+        self.edits_removed, self.edits_waiting = edits_removed, edits_waiting
         self.declared, self.filters = dict(declared), dict(declared)
         self.given: list[Change] = []
         self.lines = [f"device {name} {text}" for name, text in declared.items()]
@@ -94,7 +100,8 @@ class Standing:
 
     def _edited(self, name: str) -> set[int]:
         """The pictures that the device holds and that may be edited."""
-        return {it.picture for it in self.held[name] if self.edits_removed or it.record is not None}
+        held = (it for it in self.held[name] if self.edits_waiting or it.place == "store")
+        return {it.picture for it in held if self.edits_removed or it.record is not None}
 
     def holds(self, name: str, picture: int) -> bool:
         return picture in self._edited(name)
@@ -228,9 +235,25 @@ def _shown(value: object) -> list[str]:
     return [f"  {value}"]
 
 
+def _has(machine: JudgedMachine, name: str) -> bool:
+    """Whether a method of this name is written."""
+    return getattr(type(machine), name) is not getattr(JudgedMachine, name)
+
+
 def _takes(name: str) -> Callable[[Any], bool]:
     """Whether the engine has this command."""
-    return lambda self: getattr(type(self), name) is not getattr(JudgedMachine, name)
+    return lambda self: _has(self, name)
+
+
+def _unwritten(machine: JudgedMachine, method: str) -> NotImplementedError:
+    return NotImplementedError(f"{type(machine).__name__} has no method {method}")
+
+
+def _counted(what: str, found: Sequence[Any]) -> Counter[Any]:
+    try:
+        return Counter(found)
+    except TypeError as error:
+        raise TypeError(f"what {what} gives has to be hashable, as a tuple is: {error}") from error
 
 
 def _stands(holds: Callable[[Standing, JudgedMachine], object]) -> Callable[[Any], bool]:
@@ -241,9 +264,11 @@ def _stands(holds: Callable[[Standing, JudgedMachine], object]) -> Callable[[Any
 class JudgedMachine(RuleBasedStateMachine):
     """Derive from it, write `open`, `holds` and a method for each command that the engine has, and test `NAME.TestCase`.
 
-    A command whose method isn't written is not drawn. What such a method returns is compared with what the judge reports
-    (`Report.answer`: a Version, Counts, a number), and None is compared with nothing. What the engine holds is compared after
-    each step, for every device.
+    A command whose method isn't written is not drawn, and without `new` none is. What such a method returns is compared with
+    what the judge reports (`Report.answer`: a Version, Counts, a number), and None is compared with nothing. What the engine
+    holds is compared after each step, for every device: in any order, and what is there twice counts twice.
+
+    Only commands that the judge takes are drawn, so a method needs no `hypothesis.assume`. One that calls it gives the run up.
     """
 
     #: the library, or its path, where it isn't found by itself
@@ -256,6 +281,8 @@ class JudgedMachine(RuleBasedStateMachine):
     pictures: ClassVar[int] = PICTURES
     #: whether a picture is edited, or removed again, of which the device holds nothing but its removal, as a fleet may do
     edits_removed: ClassVar[bool] = False
+    #: whether a picture is edited, or removed, that the judge's device holds in its out alone; False is for engines without outs
+    edits_waiting: ClassVar[bool] = True
 
     standing: Standing | None = None
 
@@ -263,11 +290,14 @@ class JudgedMachine(RuleBasedStateMachine):
 
     def open(self, devices: Mapping[str, Filter]) -> None:
         """Opens the engine's devices, which hold nothing."""
-        raise NotImplementedError
+        raise _unwritten(self, "open(devices)")
 
     def holds(self, device: str) -> Iterable[Any]:
-        """What the engine's device holds, each as `view` gives it of what the judge's does: as `Held`, where it is not written."""
-        raise NotImplementedError
+        """What the engine's device holds, each as `view` gives it of what the judge's does: as `Held`, where it is not written.
+
+        Each has to be hashable, as what `view` and `views` give.
+        """
+        raise _unwritten(self, "holds(device)")
 
     def view(self, held: Held) -> Any:
         """What is compared of a version that the judge's device holds; None where the engine doesn't have its like."""
@@ -278,22 +308,22 @@ class JudgedMachine(RuleBasedStateMachine):
         return [it for it in map(self.view, held) if it is not None]
 
     def new(self, device: str, picture: int, record: Record) -> object:
-        raise NotImplementedError
+        raise _unwritten(self, COMMANDS["new"])
 
     def edit(self, device: str, picture: int, record: Record) -> object:
-        raise NotImplementedError
+        raise _unwritten(self, COMMANDS["edit"])
 
     def remove(self, device: str, picture: int) -> object:
-        raise NotImplementedError
+        raise _unwritten(self, COMMANDS["remove"])
 
     def pull(self, target: str, source: str) -> object:
-        raise NotImplementedError
+        raise _unwritten(self, COMMANDS["pull"])
 
     def narrow(self, device: str, filter: Filter) -> object:
-        raise NotImplementedError
+        raise _unwritten(self, COMMANDS["narrow"])
 
     def refilter(self, device: str, filter: Filter) -> object:
-        raise NotImplementedError
+        raise _unwritten(self, COMMANDS["refilter"])
 
     # What is drawn. The names of the rules stand in what Hypothesis prints.
 
@@ -303,7 +333,12 @@ class JudgedMachine(RuleBasedStateMachine):
 
     def begin(self, declared: Mapping[str, Filter]) -> None:
         """Opens the judge and the engine."""
-        self.standing = Standing(declared, library=self.library, pictures=self.pictures, edits_removed=self.edits_removed)
+        if not _has(self, "new"):
+            every = ", ".join(COMMANDS.values())
+            raise NotImplementedError(f"{_unwritten(self, COMMANDS['new'])}, so no command is drawn. The methods of commands are: {every}")
+        self.standing = Standing(
+            declared, library=self.library, pictures=self.pictures, edits_removed=self.edits_removed, edits_waiting=self.edits_waiting
+        )
         self.open(dict(declared))
         self._compare_all()
 
@@ -374,7 +409,7 @@ class JudgedMachine(RuleBasedStateMachine):
 
     def _has_nothing_to_do(self) -> bool:
         standing = self._now()
-        has = {name: _takes(name)(self) for name in ("new", "edit", "remove", "pull", "refilter")}
+        has = {name: _has(self, name) for name in ("new", "edit", "remove", "pull", "refilter")}
         makes_or_moves = has["new"] and standing.made < self.pictures or (has["pull"] or has["refilter"]) and standing.made > 0
         return not makes_or_moves and not (standing.held_by() and (has["edit"] or has["remove"]))
 
@@ -386,6 +421,9 @@ class JudgedMachine(RuleBasedStateMachine):
 
     def step(self, command: Change) -> None:
         """Gives a command to both, and compares them."""
+        name = type(command).__name__.lower()
+        if not _has(self, name):
+            raise _unwritten(self, COMMANDS[name])
         report = self._now().run(command)
         try:
             answer = self._does(command)
@@ -416,7 +454,7 @@ class JudgedMachine(RuleBasedStateMachine):
         for name, held in self._now().held.items():
             judged = list(self.views(name, held))
             own = list(self.holds(name))
-            if Counter(own) != Counter(judged):
+            if _counted("`holds`", own) != _counted("`view` or `views`", judged):
                 raise Difference(self._now(), f"{name} holds", sorted(map(str, own)), sorted(map(str, judged)))
 
     def teardown(self) -> None:
@@ -428,7 +466,10 @@ class JudgedMachine(RuleBasedStateMachine):
 
 
 def replayed(machine: type[JudgedMachine], declared: Mapping[str, Filter], given: Sequence[Change]) -> Difference | None:
-    """Runs these commands by a machine, without those that the fleet can't take as it stands then."""
+    """Runs these commands by a machine, without those that the fleet can't take as it stands then.
+
+    None is a run without a difference, or one that a method of the machine gives up by `hypothesis.assume`.
+    """
     one = machine()
     try:
         one.begin(declared)
@@ -437,9 +478,24 @@ def replayed(machine: type[JudgedMachine], declared: Mapping[str, Filter], given
                 one.step(it)
     except Difference as found:
         return found
+    except UnsatisfiedAssumption:
+        return None
     finally:
         one.teardown()
     return None
+
+
+def read_run(script: str) -> tuple[dict[str, Filter], list[Change]]:
+    """Reads a script as a `Difference` prints it: devices, then commands, for `replayed`. Spaces before a line don't matter."""
+    declared: dict[str, Filter] = {}
+    given: list[Change] = []
+    for line in filter(None, (it.strip(" ") for it in script.split("\n"))):
+        if line.startswith("device "):
+            _, name, text = line.split(" ", 2)
+            declared[name] = Filter.read(text)
+        else:
+            given.append(read_command(line))
+    return declared, given
 
 
 def _fewer(given: Sequence[Change]) -> Iterable[list[Change]]:

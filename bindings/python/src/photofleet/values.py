@@ -117,6 +117,12 @@ class Alternative(NamedTuple):
             and self.forbidden <= other.forbidden
         )
 
+    def and_also(self, other: Alternative) -> Alternative:
+        """What asks for both."""
+        (low, high), (first, last) = zip(self.ratings, other.ratings), zip(self.days, other.days)
+        ranges = (max(low), min(high)), (max(first), min(last))
+        return Alternative(*ranges, self.required | other.required, self.forbidden | other.forbidden)
+
     def is_possible(self) -> bool:
         return self.ratings[0] <= self.ratings[1] and self.days[0] <= self.days[1] and not self.required & self.forbidden
 
@@ -140,6 +146,30 @@ class Filter:
     def __post_init__(self) -> None:
         if not all(it.is_possible() for it in self.alternatives):
             raise ValueError("an alternative that no record fits")
+
+    @classmethod
+    def read(cls, text: str) -> Filter:
+        """Reads a filter as `str` prints one: tests with `and` between them, and `or` between these, without brackets."""
+        if text == "none":
+            return cls(())
+        alternatives: list[Alternative] = []
+        tokens = ["or", *text.split(" ")]
+        while tokens:
+            match tokens:
+                case ["and" | "or" as joint, "all", *tokens]:
+                    test = Alternative()
+                case ["and" | "or" as joint, "rating", "=" | ">=" | "<=" as sign, rating, *tokens]:
+                    test = Alternative(ratings=(int(rating) if sign != "<=" else 0, int(rating) if sign != ">=" else 5))
+                case ["and" | "or" as joint, "day", "=" | ">=" | "<=" as sign, day, *tokens]:
+                    test = Alternative(days=(day if sign != "<=" else FIRST_DAY, day if sign != ">=" else LAST_DAY))
+                case ["and" | "or" as joint, "keyword", word, *tokens]:
+                    test = Alternative(required=frozenset([word]))
+                case ["and" | "or" as joint, "not", "keyword", word, *tokens]:
+                    test = Alternative(forbidden=frozenset([word]))
+                case _:
+                    raise ValueError(f"no filter without brackets: {text!r}")
+            alternatives.append(alternatives.pop().and_also(test) if joint == "and" else test)
+        return cls(tuple(alternatives))
 
     def selects(self, record: Record | None) -> bool:
         """Whether it selects a record. It selects none that says that the picture was removed."""
