@@ -25,7 +25,7 @@ code,pre{font:13px/1.5 ui-monospace,"DejaVu Sans Mono",monospace;margin:0;white-
 .key{color:var(--soft)}
 #chart{overflow:auto;max-height:42vh;border-bottom:1px solid var(--line)}
 #chart svg{display:block}
-#chart{position:relative}
+#chart{position:relative;will-change:transform}
 #now{position:absolute;top:0;left:0;width:2px;background:var(--ink);opacity:.6;pointer-events:none;will-change:transform}
 #touched span{position:absolute;top:0;width:5px;height:12px;background:var(--violet)}
 main{display:grid;grid-template-columns:repeat(auto-fill,minmax(min(340px,100%),1fr));gap:12px;padding:12px 16px;align-items:start}
@@ -301,16 +301,20 @@ function* eventsOf(command) {
 }
 const whyOf = (command, event) => WHYS[event.what](command, event.later);
 
-// The commands that did something to each picture.
+// The numbers of the commands that did something to a picture.
 const touching = new Map();
-run.commands.forEach((command, place) => {
-  for (const {version} of eventsOf(command)) {
-    const picture = pictureOf(version);
-    if (!touching.has(picture)) touching.set(picture, []);
-    const numbers = touching.get(picture);
-    if (numbers[numbers.length - 1] !== place + 1) numbers.push(place + 1);
+function touchingOf(picture) {
+  if (picture === null) return [];
+  if (!touching.has(picture)) {
+    const isTouched = ([, , versions]) => versions.some(version => pictureOf(version) === picture);
+    const numbers = [];
+    run.commands.forEach((command, place) => {
+      if (command.did && command.did.some(isTouched)) numbers.push(place + 1);
+    });
+    touching.set(picture, numbers);
   }
-});
+  return touching.get(picture);
+}
 
 // ---- What is shown
 
@@ -491,7 +495,7 @@ function drawStory() {
   if (followed === null) return;
   story.append(element("h2", "", "Picture " + followed));
   const list = element("ol");
-  for (const number of touching.get(followed) || []) {
+  for (const number of touchingOf(followed)) {
     const command = run.commands[number - 1];
     for (const event of eventsOf(command)) {
       if (pictureOf(event.version) !== followed) continue;
@@ -520,8 +524,7 @@ function drawLine() {
 }
 
 function drawTouched() {
-  const marks = followed === null ? [] : touching.get(followed) || [];
-  byId("touched").replaceChildren(...marks.map(number => {
+  byId("touched").replaceChildren(...touchingOf(followed).map(number => {
     const mark = element("span");
     mark.style.left = run.columns[number - 1] - 2 + "px";
     return mark;
@@ -576,7 +579,7 @@ function follow(picture) {
 
 // To the next or the previous command that did something to the picture that is followed.
 function goTouching(isOn) {
-  const numbers = touching.get(followed) || [];
+  const numbers = touchingOf(followed);
   const found = isOn ? numbers.find(number => number > at) : numbers.filter(number => number < at).pop();
   if (found !== undefined) go(found);
 }
