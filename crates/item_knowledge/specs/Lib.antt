@@ -20,3 +20,4 @@ pub mod Pairing
 pub mod Apart
 pub mod OnTheWay
 pub mod Sides
+pub mod Searching

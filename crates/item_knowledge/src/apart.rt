@@ -21,7 +21,7 @@ use crate::marks::Marks;
 use crate::pairing::{Pairing, pictures_together};
 use crate::places::Places;
 use crate::rows::Rows;
-use crate::search::{bound_at, bound_near, entry_at, entry_count};
+use crate::search::{bound_near, entry_at, entry_count};
 use crate::side::Side;
 use crate::union::{begin, entries, pair};
 use std::alloc::{AllocError, Global};
@@ -69,7 +69,7 @@ fn adds_nothing(row: &[u64], other: &[u64], star: &[u64]) -> bool
         let (author, n) = entry_at(row, i);
         let (most, next) = bound_near(other, hint, author);
         hint = next;
-        if n > most && n > bound_at(star, author) {
+        if n > most && n > bound_near(star, 0, author).0 {
             return false;
         }
     }

@@ -3,7 +3,7 @@ use crate::Fragment;
 use crate::index::IndexEntry;
 use crate::known::has_table;
 use crate::live::{LiveRows, is_within};
-use crate::search::{number_at, number_near};
+use crate::search::number_near;
 use crate::told::Told;
 use photo_record::PicNo;
 use photo_version::{Vector, Version};
@@ -94,7 +94,7 @@ impl Knowledge {
         if self.has_at(0, version) {
             return true;
         }
-        let (number, _place) = number_at(&self.index, picture.value());
+        let (number, _place) = number_near(&self.index, 0, picture.value());
         self.has_at(number, version)
     }
 
@@ -161,7 +161,7 @@ impl Knowledge {
     pub fn of(&self, picture: PicNo) -> Result<Vector, AllocError>
         ensures { IfOk result (λ vector. (v : versions.Version) → vectors.denotes vector v ≡ spec.knows self.now.known picture v) }
     {
-        let (number, _place) = number_at(&self.index, picture.value());
+        let (number, _place) = number_near(&self.index, 0, picture.value());
         self.live.fragment(number).vector(self.alloc)
     }
 

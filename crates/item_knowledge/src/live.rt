@@ -10,7 +10,7 @@ use crate::Fragment;
 use crate::index::IndexEntry;
 use crate::join::join;
 use crate::rows::Rows;
-use crate::search::{bound_at, bound_near, entry_at, entry_count, number_near};
+use crate::search::{bound_near, entry_at, entry_count, number_near};
 use crate::side::Side;
 use crate::union::{begin, entries, union};
 use std::alloc::{AllocError, Global};
@@ -108,7 +108,8 @@ impl LiveRows {
         if beyond > 0 {
             return beyond;
         }
-        bound_at(&self.star, author)
+        let (bound, _behind) = bound_near(&self.star, 0, author);
+        bound
     }
 
     /// The fragment of a number. It is lent, and copies nothing.

@@ -1,109 +1,18 @@
-// Searches for a picture in an index, and for an author in a row.
-ghost use Rattle.std.specs.Prelude.{◌≡◌, ◌<◌, ◌≤◌, true, length, get_or, drop, IfSome};
+// One search by halves with a hint, for a picture in an index and for an author in a row.
+ghost use Rattle.std.specs.Prelude.{◌≡◌, ◌<◌, ◌≤◌, true, length, get_or};
 ghost use Rattle.item_knowledge.specs.Tables.{in_order, at};
 ghost use Rattle.item_knowledge.specs.Entries.{bound};
 ghost use Rattle.item_knowledge.specs.Rows.{pairs, IsRow, IsJustBehind};
+ghost use Rattle.item_knowledge.specs.Searching.{pairs_in, IsWhole, AreBelow, IsBetween};
 
 use crate::index::IndexEntry;
 
-// How many places one goes forward from a hint before the whole index is searched.
-const STEPS: usize = 32;
-
-// How many entries one goes forward from a hint before the whole row is searched.
-const FEW: usize = 8;
-
-/// The number of the fragment to which an index leads from a picture, 0 for the star, and the place in the index at which
-/// the picture stands or would stand.
-pub(crate) fn number_at(index: &[IndexEntry], picture: u32) -> (usize, usize)
-    requires { in_order index.now ≡ true }
-    ensures { result.0 ≡ at 0 index.now picture }
-{
-    let place = index.partition_point(|row| row.0 < picture);
-    if place == index.len() {
-        return (0, place);
-    }
-    let row = index[place];
-    if row.0 != picture {
-        return (0, place);
-    }
-    (row.1 as usize, place)
-}
-
-// Whether all pictures before a place in an index are smaller than this one.
-fn is_behind(index: &[IndexEntry], place: usize, picture: u32) -> bool
-    requires { in_order index.now ≡ true }
-    ensures { result ≡ true → at 0 (drop place index.now) picture ≡ at 0 index.now picture }
-{
-    if place == 0 {
-        return true;
-    }
-    if place > index.len() {
-        return false;
-    }
-    index[place - 1].0 < picture
-}
-
-// Whether a picture can be seen, in an index, a few places from this one at the latest.
-fn is_ahead(index: &[IndexEntry], place: usize, picture: u32) -> bool {
-    let last = place.saturating_add(STEPS);
-    last >= index.len() || picture <= index[last].0
-}
-
-// The number of the fragment to which an index leads from a picture, where the picture stands at that place.
-fn number_there(index: &[IndexEntry], place: usize, picture: u32) -> Option<usize>
-    requires { in_order index.now ≡ true }
-    ensures { IfSome result (λ number. number ≡ at 0 index.now picture) }
-{
-    if place >= index.len() {
-        return None;
-    }
-    let row = index[place];
-    if row.0 != picture {
-        return None;
-    }
-    Some(row.1 as usize)
-}
-
-// The number of the fragment to which an index leads from a picture, 0 for the star, where it is looked for from a place on;
-// and the place at which the picture stands or would stand.
-fn number_from(index: &[IndexEntry], from: usize, picture: u32) -> (usize, usize)
-    requires { in_order index.now ≡ true }
-    ensures { result.0 ≡ at 0 (drop from index.now) picture }
-{
-    let mut place = from;
-    while place < index.len() {
-        let row = index[place];
-        if picture < row.0 {
-            return (0, place);
-        }
-        if row.0 == picture {
-            return (row.1 as usize, place);
-        }
-        place += 1;
-    }
-    (0, place)
-}
-
-/// The number of the fragment to which an index leads from a picture, 0 for the star, and a hint for a later picture. The
-/// work is small where the hint is that of an earlier picture close by; the number is right with any hint.
-#[inline(always)]
-pub(crate) fn number_near(index: &[IndexEntry], hint: usize, picture: u32) -> (usize, usize)
-    requires { in_order index.now ≡ true }
-    ensures { result.0 ≡ at 0 index.now picture }
-{
-    if let Some(number) = number_there(index, hint, picture) {
-        return (number, hint);
-    }
-    let next = hint.saturating_add(1);
-    if let Some(number) = number_there(index, next, picture) {
-        return (number, next);
-    }
-    if is_behind(index, hint, picture) {
-        if is_ahead(index, hint, picture) {
-            return number_from(index, hint, picture);
-        }
-    }
-    number_at(index, picture)
+/// A list of pairs in the order of their keys, lent: the pictures of an index with the numbers of their fragments, or the authors
+/// of a row with their bounds.
+#[derive(Clone, Copy)]
+pub(crate) enum SortedPairs<'a> {
+    Index(&'a [IndexEntry]),
+    Row(&'a [u64]),
 }
 
 /// The number of entries of a row.
@@ -127,68 +36,127 @@ pub(crate) fn entry_at(row: &[u64], i: usize) -> (u64, u64)
     (row[2 * i], row[2 * i + 1])
 }
 
-// About the first place of a row of entries in order whose author is this one or a later one. It is a hint.
-fn place_of(row: &[u64], author: u64) -> usize
-    requires { IsRow row.now }
+// The number of pairs.
+#[inline(always)]
+fn pair_count(list: SortedPairs<'_>) -> usize
+    requires { IsWhole list }
+    ensures { result ≡ length (pairs_in list.entry) }
 {
-    let mut low = 0;
-    let mut high = entry_count(row);
-    while low < high {
-        let middle = low + (high - low) / 2;
-        if entry_at(row, middle).0 < author {
-            low = middle + 1;
-        } else {
-            high = middle;
-        }
+    match list {
+        SortedPairs::Index(index) => index.len(),
+        SortedPairs::Row(row) => entry_count(row),
     }
-    low
 }
 
-// Whether all entries before a place in a row have earlier authors than this one.
-fn are_earlier(row: &[u64], place: usize, author: u64) -> bool
-    requires row { IsRow row.now }
-    requires order { in_order (pairs row.now) ≡ true }
-    ensures { result ≡ true → bound (drop place (pairs row.now)) author ≡ bound (pairs row.now) author }
+// The pair at place `i`.
+#[inline(always)]
+fn pair_at(list: SortedPairs<'_>, i: usize) -> (u64, u64)
+    requires whole { IsWhole list }
+    requires place { i < length (pairs_in list) }
+    ensures { result ≡ get_or (pairs_in list.entry) i (0, 0) }
+{
+    match list {
+        SortedPairs::Index(index) => (u64::from(index[i].0), u64::from(index[i].1)),
+        SortedPairs::Row(row) => entry_at(row, i),
+    }
+}
+
+// Whether all pairs before a place have smaller keys.
+#[inline(always)]
+fn are_below(list: SortedPairs<'_>, place: usize, key: u64) -> bool
+    requires whole { IsWhole list }
+    requires order { in_order (pairs_in list) ≡ true }
+    ensures there { result ≡ true → place ≤ length (pairs_in list.entry) }
+    ensures below { result ≡ true → AreBelow key (pairs_in list.entry) place }
 {
     if place == 0 {
         return true;
     }
-    if place > entry_count(row) {
+    if place > pair_count(list) {
         return false;
     }
-    entry_at(row, place - 1).0 < author
+    pair_at(list, place - 1).0 < key
 }
 
-// Whether an author can be seen, in a row, a few places from this one at the latest.
-fn is_close(row: &[u64], place: usize, author: u64) -> bool
-    requires { IsRow row.now }
+// The place before which the keys are smaller, and from which on none is, between two places of which that is known.
+fn place_between(list: SortedPairs<'_>, from: usize, to: usize, key: u64) -> usize
+    requires whole { IsWhole list }
+    requires order { in_order (pairs_in list) ≡ true }
+    requires places { from ≤ to }
+    requires end { to ≤ length (pairs_in list) }
+    requires between { IsBetween key (pairs_in list) from to }
+    ensures { IsBetween key (pairs_in list.entry) result result }
 {
-    let last = place.saturating_add(FEW);
-    last >= entry_count(row) || author <= entry_at(row, last).0
+    let mut low = from;
+    let mut high = to;
+    while low < high {
+        let middle = low + (high - low) / 2;
+        let (found, _value) = pair_at(list, middle);
+        if found < key {
+            low = middle + 1;
+            continue;
+        }
+        high = middle;
+    }
+    low
 }
 
-// From which place of a row on an author is looked for, by a hint.
+// The place before which the keys are smaller, and from which on none is, where those before another place are smaller: it is
+// looked for in steps from there on, each twice as long as the one before, and then by halves.
 #[inline(always)]
-fn start_near(row: &[u64], hint: usize, author: u64) -> usize
-    requires row { IsRow row.now }
-    requires order { in_order (pairs row.now) ≡ true }
-    ensures { bound (drop result (pairs row.now)) author ≡ bound (pairs row.now) author }
+fn place_from(list: SortedPairs<'_>, from: usize, key: u64) -> usize
+    requires whole { IsWhole list }
+    requires order { in_order (pairs_in list) ≡ true }
+    requires place { from ≤ length (pairs_in list) }
+    requires below { AreBelow key (pairs_in list) from }
+    ensures { IsBetween key (pairs_in list.entry) result result }
 {
-    if is_close(row, hint, author) {
-        if are_earlier(row, hint, author) {
-            return hint;
+    let count = pair_count(list);
+    let mut low = from;
+    let mut step = 1;
+    while step <= count - low {
+        let last = low + (step - 1);
+        let (found, _value) = pair_at(list, last);
+        if found >= key {
+            return place_between(list, low, last, key);
+        }
+        low = last + 1;
+        step = step.saturating_mul(2);
+    }
+    place_between(list, low, count, key)
+}
+
+/// What stands beside a key, 0 where it isn't there, and a hint for a greater key: the place behind the key's, or where it would
+/// stand. The work is small where the hint is that of a smaller key close by; the value is right with any hint.
+#[inline(always)]
+pub(crate) fn value_near(list: SortedPairs<'_>, hint: usize, key: u64) -> (u64, usize)
+    requires whole { IsWhole list }
+    requires order { in_order (pairs_in list) ≡ true }
+    ensures value { result.0 ≡ at 0 (pairs_in list.entry) key }
+    ensures behind { 0 < at 0 (pairs_in list.entry) key → IsJustBehind (pairs_in list.entry) result.1 key }
+{
+    let start = if are_below(list, hint, key) { hint } else { 0 };
+    let place = place_from(list, start, key);
+    if place < pair_count(list) {
+        let (found, value) = pair_at(list, place);
+        if found == key {
+            return (value, place + 1);
         }
     }
-    let place = place_of(row, author);
-    if are_earlier(row, place, author) {
-        return place;
-    }
-    0
+    (0, place)
 }
 
-/// The bound of an author in a row of entries in order, 0 where it has none, and a hint for a later author: the place behind the
-/// author's, or where it would stand. The work is small where the hint is that of an earlier author close by; the bound is right
-/// with any hint.
+/// The number of the fragment to which an index leads from a picture, 0 for the star, and a hint for a later picture.
+#[inline(always)]
+pub(crate) fn number_near(index: &[IndexEntry], hint: usize, picture: u32) -> (usize, usize)
+    requires { in_order index.now ≡ true }
+    ensures { result.0 ≡ at 0 index.now picture }
+{
+    let (number, next) = value_near(SortedPairs::Index(index), hint, u64::from(picture));
+    (number as usize, next)
+}
+
+/// The bound of an author in a row of entries in order, 0 where it has none, and a hint for a later author.
 #[inline(always)]
 pub(crate) fn bound_near(row: &[u64], hint: usize, author: u64) -> (u64, usize)
     requires row { IsRow row.now }
@@ -196,34 +164,5 @@ pub(crate) fn bound_near(row: &[u64], hint: usize, author: u64) -> (u64, usize)
     ensures bound { result.0 ≡ bound (pairs row.now) author }
     ensures behind { 0 < bound (pairs row.now) author → IsJustBehind (pairs row.now) result.1 author }
 {
-    if hint < entry_count(row) {
-        let (word, n) = entry_at(row, hint);
-        if word == author {
-            return (n, hint + 1);
-        }
-        if author < word && are_earlier(row, hint, author) {
-            return (0, hint);
-        }
-    }
-    let mut place = start_near(row, hint, author);
-    while place < entry_count(row) {
-        let (word, n) = entry_at(row, place);
-        if author < word {
-            return (0, place);
-        }
-        place += 1;
-        if word == author {
-            return (n, place);
-        }
-    }
-    (0, place)
-}
-
-/// The bound of an author in a row of entries in order, 0 where it has none.
-pub(crate) fn bound_at(row: &[u64], author: u64) -> u64
-    requires row { IsRow row.now }
-    requires order { in_order (pairs row.now) ≡ true }
-    ensures { result ≡ bound (pairs row.now) author }
-{
-    bound_near(row, place_of(row, author), author).0
+    value_near(SortedPairs::Row(row), hint, author)
 }

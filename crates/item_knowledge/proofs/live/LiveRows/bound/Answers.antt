@@ -17,5 +17,5 @@ returns c =
     let at = shown_at c.self.inside.star.items c.self.inside.rows c.args.self.now c.self.invariant c.self.view_is c.args.k c.requires.number in
     let whole = at.bounds c.args.author in
     let beyond = c.bound_near-beyond.ensures.bound ∙ ap (λ es. bound es c.args.author) c.entries.ensures.entries in
-    let star = c.bound_at.ensures ∙ ap (λ ws. bound (pairs ws) c.args.author) c.deref.ensures.value in
+    let star = c.bound_near-bound.ensures.bound ∙ ap (λ ws. bound (pairs ws) c.args.author) c.deref.ensures.value in
     omega arith
