@@ -9,7 +9,7 @@ use Rattle.item_knowledge.specs.Entries.{Entry, is_entry, is_vector, bound, join
 use Rattle.item_knowledge.specs.Excess.{exceeding, exceeds_all, is_covered, whole, wholes, AllDiffer}
 use Rattle.item_knowledge.specs.Rows.{pairs}
 use Rattle.item_knowledge.specs.Fragments.{Fragment, nothing, lists, goes_before, are_groups, is_normal, find, or_star, known, entries_at}
-use Rattle.item_knowledge.specs.Gathering.{is_above, IsSide, IsIndex}
+use Rattle.item_knowledge.specs.Gathering.{is_above, IsOperand, IsIndex}
 use Rattle.item_knowledge.proofs.EntryLemmas.{vector_parts, bound_below, one_by_bounds}
 use Rattle.item_knowledge.proofs.FragmentLemmas.{entries_decide, groups_parts, before_parts, normal_parts}
 use Rattle.item_knowledge.proofs.JoinLemmas.{vector_order, joined_bound, joined_vector, joined_leq, leq_self}
@@ -191,9 +191,9 @@ none_below : (fs : List Fragment) → ((k : ℕ) → is_vector (entries_at fs k)
 none_below [] v = refl
 none_below (f ∷ fs) v = and_from _ _ (and_from _ _ (v 0) refl) (none_below fs (λ k. v (suc k)))
 
--- a side of whole vectors is one of what exceeds the star
-pub wholes_side : (star : List Entry) (fs : List Fragment) (xs : List (ℕ × ℕ)) → entries_at fs 0 ≡ [] → ((k : ℕ) → is_vector (entries_at fs k) ≡ true) → IsSide (wholes star fs) xs → IsSide fs xs
-wholes_side star fs xs first vectors h = record {
+-- an operand of whole vectors is one of what exceeds the star
+pub wholes_operand : (star : List Entry) (fs : List Fragment) (xs : List (ℕ × ℕ)) → entries_at fs 0 ≡ [] → ((k : ℕ) → is_vector (entries_at fs k) ≡ true) → IsOperand (wholes star fs) xs → IsOperand fs xs
+wholes_operand star fs xs first vectors h = record {
   star = subst (λ n. 0 < n) (length_wholes star fs) h.star;
   above = subst (λ es. list_all (λ (f : Fragment). is_above es f) fs ≡ true) (sym first) (none_below fs vectors);
   order = h.order;

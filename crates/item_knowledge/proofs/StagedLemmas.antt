@@ -16,11 +16,11 @@ on_err (Err e) p = p
 pub known_of : {k l : Knowing} → k ≡ l → k.known ≡ l.known
 known_of e = ap (λ k. k.known) e
 
--- the union with a side, whose index leads to what its fragments know
-pub side_union : (staged : Option (List Fragment)) (left gs : List Fragment) (ys items : List (ℕ × ℕ)) → ((p : ℕ) (v : Version) → 0 < p → knows gs p v ≡ denotes (vector_of gs ys p) v)
+-- the union with an operand, whose index leads to what its fragments know
+pub operand_union : (staged : Option (List Fragment)) (left gs : List Fragment) (ys items : List (ℕ × ℕ)) → ((p : ℕ) (v : Version) → 0 < p → knows gs p v ≡ denotes (vector_of gs ys p) v)
     → items ≡ ys → is_some staged ≡ true → IfSome staged (λ s. IsJoined left gs items s) → IsStagedUnion staged left gs
-side_union None left gs ys items known e there joined = absurd (false≢true there)
-side_union (Some s) left gs ys items known e there joined = record {
+operand_union None left gs ys items known e there joined = absurd (false≢true there)
+operand_union (Some s) left gs ys items known e there joined = record {
   there = refl;
   star = joined.star;
   pairs = λ p v z. joined.pairs p v z ∙ ap (λ b. knows left p v || b) (ap (λ xs. denotes (vector_of gs xs p) v) e ∙ sym (known p v z));

@@ -9,7 +9,7 @@ use Rattle.item_knowledge.specs.Excess.{exceeding, shown}
 use Rattle.item_knowledge.specs.Raising.{are_level}
 use Rattle.item_knowledge.specs.Rows.{flat, rows_of}
 use Rattle.item_knowledge.specs.Staged.{IsStagedUnion}
-use Rattle.item_knowledge.specs.Marks.{place_of, is_marked}
+use Rattle.item_knowledge.specs.BoundFilter.{place_of, is_marked}
 use Rattle.item_knowledge.specs.Written.{IsBeyond}
 
 abbrev of : List ℕ → List Entry → Fragment

@@ -19,7 +19,7 @@ exceeds_all star es = list_all (λ e. nat_lt (bound star e.0) e.1) es
 abbrev pub is_covered : List Entry → List Entry → List Entry → Bool
 is_covered star others es = list_all (λ e. nat_le e.1 (bound others e.0) || nat_le e.1 (bound star e.0)) es
 
--- what two fragments of the two sides give together beyond the star of the union
+-- what two fragments of the two operands give together beyond the star of the union
 abbrev pub union_vector : List Entry → List Fragment → List Fragment → ℕ × ℕ → List Entry
 union_vector star fs gs k = exceeding star (pair_vector fs gs k)
 

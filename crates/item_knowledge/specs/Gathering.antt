@@ -13,8 +13,8 @@ vector_of fs index p = entries_at fs (at 0 index p)
 abbrev pub is_above : List Entry → Fragment → Bool
 is_above star f = is_vector f.entries && leq star f.entries
 
--- one side of a union: a star, vectors above it, and pictures in order with the numbers of their vectors
-pub record IsSide (fs : List Fragment) (index : List (ℕ × ℕ)) : Type 0 where
+-- one operand of a union: a star, vectors above it, and pictures in order with the numbers of their vectors
+pub record IsOperand (fs : List Fragment) (index : List (ℕ × ℕ)) : Type 0 where
   pub star : 0 < length fs
   pub above : list_all (λ f. is_above (entries_at fs 0) f) fs ≡ true
   pub order : in_order index ≡ true
@@ -28,11 +28,11 @@ pub record IsIndex (index : List (ℕ × ℕ)) (fs : List Fragment) : Type 0 whe
   pub range : list_all (λ r. nat_lt r.1 (length fs)) index ≡ true
   pub vectors : (p : ℕ) → vector_of fs index p ≡ known fs p
 
--- beside each picture the numbers of its fragments on both sides, 0 for the star
+-- beside each picture the numbers of its fragments on both operands, 0 for the star
 abbrev pub paired : List (ℕ × ℕ) → List (ℕ × ℕ) → List (ℕ × (ℕ × ℕ))
 paired xs ys = merge (λ a. (a, 0)) (λ a b. (a, b.1)) (λ b. (0, b)) xs ys
 
--- what two fragments of the two sides give together
+-- what two fragments of the two operands give together
 abbrev pub pair_vector : List Fragment → List Fragment → ℕ × ℕ → List Entry
 pair_vector fs gs k = joined (entries_at fs k.0) (entries_at gs k.1)
 
@@ -68,7 +68,7 @@ pub record IsAdded (p : ℕ) (v : List Entry) (gs more : List Fragment) (place :
   pub pictures : (k : ℕ) → pictures_at more k ≡ pictures_at gs k ++ pictures_of (suc k) ((p, suc place) ∷ [])
   pub new : (k : ℕ) → length gs ≤ k → k < length more → (k ≡ place) × (pictures_at gs k ≡ [])
 
--- what holds of the union of two sides
+-- what holds of the union of two operands
 pub record IsUnion (fs : List Fragment) (xs : List (ℕ × ℕ)) (gs : List Fragment) (ys : List (ℕ × ℕ)) (us : List Fragment) (zs : List (ℕ × ℕ)) : Type 0 where
   pub normal : is_normal us ≡ true
   pub index : IsIndex zs us

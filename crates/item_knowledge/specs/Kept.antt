@@ -23,14 +23,14 @@ nothing_known = nothing ∷ []
 abbrev pub star_bound : List Fragment → Author → ℕ
 star_bound fs a = bound (entries_at fs 0) (author_word a)
 
--- each vector of the one side is at most the other's at the same picture
-abbrev pub is_side_within : List Fragment → List (ℕ × ℕ) → List Fragment → List (ℕ × ℕ) → Bool
-is_side_within fs xs gs ys =
+-- each vector of the one operand is at most the other's at the same picture
+abbrev pub is_operand_within : List Fragment → List (ℕ × ℕ) → List Fragment → List (ℕ × ℕ) → Bool
+is_operand_within fs xs gs ys =
     leq (entries_at fs 0) (entries_at gs 0) && list_all (λ r. leq (entries_at fs r.1) (vector_of gs ys r.0)) xs
 
--- each pair that a side denotes is known
-abbrev pub IsSideKnown : List Fragment → List Fragment → List (ℕ × ℕ) → Type 0
-IsSideKnown now gs ys = (p : ℕ) (v : Version) → 0 < p → denotes (vector_of gs ys p) v ≡ true → knows now p v ≡ true
+-- each pair that an operand denotes is known
+abbrev pub IsOperandKnown : List Fragment → List Fragment → List (ℕ × ℕ) → Type 0
+IsOperandKnown now gs ys = (p : ℕ) (v : Version) → 0 < p → denotes (vector_of gs ys p) v ≡ true → knows now p v ≡ true
 
 -- each version of a vector is known of a picture
 abbrev pub IsVectorKnown : List Fragment → ℕ → List vectors.Bound → Type 0

@@ -1,6 +1,6 @@
 -- Machinery of the proofs: rows of words, of each fragment its pictures, then its entries with two words each, author and
 -- number.
-use Rattle.std.specs.Prelude.{◌≡◌, ℕ, ◌+◌, ◌<◌, List, [], ◌∷◌, length, get_or}
+use Rattle.std.specs.Prelude.{◌≡◌, ℕ, ◌<◌, List, [], ◌∷◌, length, get_or}
 use Rattle.std.specs.Simd.Lanes.{zip2}
 use Rattle.item_knowledge.specs.Entries.{Entry}
 use Rattle.item_knowledge.specs.Fragments.{Fragment}
@@ -18,12 +18,10 @@ flat (e ∷ es) = e.0 ∷ e.1 ∷ flat es
 abbrev pub IsRow : List ℕ → Type 0
 IsRow ws = flat (pairs ws) ≡ ws
 
--- a place is the one behind an author's entry
-pub record IsJustBehind (es : List Entry) (place author : ℕ) : Type 0 where
-  pub at : ℕ
-  pub next : place ≡ at + 1
-  pub inside : at < length es
-  pub author_is : (get_or es at (0, 0)).0 ≡ author
+-- a place is that of a key
+pub record IsPlaceOf (es : List (ℕ × ℕ)) (place key : ℕ) : Type 0 where
+  pub inside : place < length es
+  pub key_is : (get_or es place (0, 0)).0 ≡ key
 
 abbrev pub fragments_of : List (List ℕ) → List Fragment
 fragments_of [] = []

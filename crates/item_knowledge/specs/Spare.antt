@@ -26,7 +26,7 @@ pub record IsWhole (live : List (List ℕ)) (numbers : List (ℕ × ℕ)) (stage
   pub kept : IsKept live numbers
   pub spare_kept : IsSpareKept staged spare
 
--- what is known once what a side denotes was learned
+-- what is known once what an operand denotes was learned
 pub record IsJoined (known gs : List Fragment) (ys : List (ℕ × ℕ)) (new : List Fragment) : Type 0 where
   pub star : (a : Author) → star_bound new a ≡ max (star_bound known a) (star_bound gs a)
   pub pairs : (p : ℕ) (v : Version) → 0 < p → knows new p v ≡ (knows known p v || denotes (vector_of gs ys p) v)

@@ -4,10 +4,10 @@ use Rattle.std.specs.List.{list_all}
 use Rattle.photo_version.specs.Author.{author_word}
 use Rattle.photo_version.specs.Vector.{Bound}
 use Rattle.photo_version.specs.Version.{Version}
-use Rattle.item_knowledge.specs.Apart.{numbered}
+use Rattle.item_knowledge.specs.DistinctUnion.{numbered}
 use Rattle.item_knowledge.specs.Entries.{Entry, denotes, is_vector}
 use Rattle.item_knowledge.specs.Fragments.{Fragment, knows, entries_at}
-use Rattle.item_knowledge.specs.Gathering.{star_first, vector_of, IsSide}
+use Rattle.item_knowledge.specs.Gathering.{star_first, vector_of, IsOperand}
 use Rattle.item_knowledge.specs.Rows.{rows_of, fragments_of, AreRows}
 use Rattle.item_knowledge.specs.Tables.{keys_pass}
 
@@ -29,9 +29,9 @@ pub record IsTold (table : List (ℕ × List Bound)) (rows : List (List ℕ)) (n
   pub positive : keys_pass (λ p. nat_lt 0 p) table ≡ true
   pub vectors : list_all (λ t. is_vector (entries_of t.1)) table ≡ true
 
--- what is told is kept: a side whose star has nothing, and whose index leads from each picture to what is told of it
+-- what is told is kept: an operand whose star has nothing, and whose index leads from each picture to what is told of it
 pub record IsTelling (live : List (List ℕ)) (numbers : List (ℕ × ℕ)) : Type 0 where
   pub rows : AreRows live
-  pub side : IsSide (fragments_of live) numbers
+  pub operand : IsOperand (fragments_of live) numbers
   pub star : entries_at (fragments_of live) 0 ≡ []
   pub pairs : (p : ℕ) (v : Version) → 0 < p → knows (fragments_of live) p v ≡ denotes (vector_of (fragments_of live) numbers p) v

@@ -1,4 +1,4 @@
--- Machinery of the proofs: the union of two sides beyond its star, as the code writes it.
+-- Machinery of the proofs: the union of two operands beyond its star, as the code writes it.
 use Rattle.std.specs.Prelude.{◌≡◌, ℕ, suc, ◌<◌, true, List, [], length}
 use Rattle.item_knowledge.specs.Tables.{at}
 use Rattle.item_knowledge.specs.Entries.{Entry}
@@ -7,7 +7,7 @@ use Rattle.item_knowledge.specs.Fragments.{Fragment, is_normal, known, entries_a
 use Rattle.item_knowledge.specs.Gathering.{IsIndex, paired, table_of}
 use Rattle.item_knowledge.specs.Rows.{rows_of}
 
--- what two sides have beyond the star of their union: a normal form with its index, in which each picture has what its two
+-- what two operands have beyond the star of their union: a normal form with its index, in which each picture has what its two
 -- fragments give together, and each fragment what some picture has
 pub record IsBeyond (star : List Entry) (fs : List Fragment) (xs : List (ℕ × ℕ)) (gs : List Fragment) (ys : List (ℕ × ℕ)) (us : List Fragment) (zs : List (ℕ × ℕ)) : Type 0 where
   pub first : entries_at us 0 ≡ []
@@ -22,6 +22,6 @@ pub record IsWritten (star : List Entry) (fs : List Fragment) (xs : List (ℕ ×
   pub rows : out ≡ rows_of us
   pub union : IsBeyond star fs xs gs ys us index
 
--- the pictures of two sides with what they have beyond the star of the union
+-- the pictures of two operands with what they have beyond the star of the union
 abbrev pub union_table : List Entry → List Fragment → List Fragment → List (ℕ × ℕ) → List (ℕ × ℕ) → List (ℕ × List Entry)
 union_table star fs gs xs ys = table_of [] (union_vector star fs gs) (paired xs ys)

@@ -1,9 +1,9 @@
 // A knowledge: what it is seen as, and its calls.
 use crate::Fragment;
 use crate::index::IndexEntry;
-use crate::known::has_table;
-use crate::live::{LiveRows, is_within};
-use crate::search::number_near;
+use crate::knowledge_rows::{KnowledgeRows, is_within};
+use crate::known_table::has_table;
+use crate::search::{NO_HINT, number_near};
 use crate::told::Told;
 use photo_record::PicNo;
 use photo_version::{Vector, Version};
@@ -31,9 +31,9 @@ enum Staged {
 #[derive(Debug, Drop)]
 pub struct Knowledge {
     alloc: Global,
-    live: LiveRows,
+    live: KnowledgeRows,
     index: Vec<IndexEntry>,
-    spare: LiveRows,
+    spare: KnowledgeRows,
     staged: Staged,
 }
 
@@ -64,8 +64,8 @@ impl Knowledge {
     ghost use Rattle.item_knowledge.specs.Entries.{bound};
     ghost use Rattle.item_knowledge.specs.Fragments as spec;
     ghost use Rattle.item_knowledge.specs.Rows.{AreRows, fragments_of};
-    ghost use Rattle.item_knowledge.specs.Gathering.{IsSide};
-    ghost use Rattle.item_knowledge.specs.Kept.{nothing_known, star_bound, IsSideKnown, IsTableKnown};
+    ghost use Rattle.item_knowledge.specs.Gathering.{IsOperand};
+    ghost use Rattle.item_knowledge.specs.Kept.{nothing_known, star_bound, IsOperandKnown, IsTableKnown};
     ghost use Rattle.item_knowledge.specs.Spare.{IsJoined};
     ghost use Rattle.item_knowledge.specs.Staged.{settled, IsStagedUnion};
 
@@ -74,12 +74,12 @@ impl Knowledge {
         ensures value { IfOk result (λ k. k ≡ settled nothing_known) }
         ensures nothing { IfOk result (λ k. (p : ℕ) (v : versions.Version) → spec.knows k.known p v ≡ false) }
     {
-        let live = LiveRows::of_star(alloc, &[])?;
+        let live = KnowledgeRows::of_star(alloc, &[])?;
         Ok(Knowledge {
             alloc,
             live,
             index: Vec::new(alloc),
-            spare: LiveRows::none(alloc),
+            spare: KnowledgeRows::none(alloc),
             staged: Staged::Nothing,
         })
     }
@@ -94,7 +94,7 @@ impl Knowledge {
         if self.has_at(0, version) {
             return true;
         }
-        let (number, _place) = number_near(&self.index, 0, picture.value());
+        let (number, _place) = number_near(&self.index, NO_HINT, picture.value());
         self.has_at(number, version)
     }
 
@@ -149,7 +149,7 @@ impl Knowledge {
     }
 
     /// Whether all that the other knows is known here too. Takes no memory.
-    #[tactic(auto, using(crate::proofs::KeptLemmas::kept_side))]
+    #[tactic(auto, using(crate::proofs::KeptLemmas::kept_operand))]
     pub fn has_all(&self, other: &Knowledge) -> bool
         ensures { IsTrue result ↔ ((p : ℕ) (v : versions.Version) → 0 < p → spec.knows other.now.known p v ≡ true
             → spec.knows self.now.known p v ≡ true) }
@@ -161,20 +161,20 @@ impl Knowledge {
     pub fn of(&self, picture: PicNo) -> Result<Vector, AllocError>
         ensures { IfOk result (λ vector. (v : versions.Version) → vectors.denotes vector v ≡ spec.knows self.now.known picture v) }
     {
-        let (number, _place) = number_near(&self.index, 0, picture.value());
+        let (number, _place) = number_near(&self.index, NO_HINT, picture.value());
         self.live.fragment(number).vector(self.alloc)
     }
 
-    // Stages what is known and what a side denotes. No memory is wanted where all of that is known.
-    #[tactic(auto, using(crate::proofs::KeptLemmas::kept_side))]
-    fn stage_union(&mut self, rows: &LiveRows, index: &[IndexEntry]) -> Result<(), AllocError>
+    // Stages what is known and what an operand denotes. No memory is wanted where all of that is known.
+    #[tactic(auto, using(crate::proofs::KeptLemmas::kept_operand))]
+    fn stage_union(&mut self, rows: &KnowledgeRows, index: &[IndexEntry]) -> Result<(), AllocError>
         requires rows { AreRows rows.now }
-        requires side { IsSide (fragments_of rows.now) index.now }
+        requires operand { IsOperand (fragments_of rows.now) index.now }
         ensures known { self.new.known ≡ self.old.known }
         ensures there { OnOk result (is_some self.new.staged ≡ true) }
         ensures joined { OnOk result (IfSome self.new.staged (λ s. IsJoined self.old.known (fragments_of rows.now) index.now s)) }
         ensures refused { OnErr result (self.new.staged ≡ None) }
-        ensures wanted { OnErr result (IsSideKnown self.old.known (fragments_of rows.now) index.now → ⊥) }
+        ensures wanted { OnErr result (IsOperandKnown self.old.known (fragments_of rows.now) index.now → ⊥) }
     {
         self.staged = Staged::Nothing;
         if is_within(rows, index, &self.live, &self.index) {
@@ -190,7 +190,7 @@ impl Knowledge {
 
     /// Prepares to learn all that the other knows: what is known stays, and what is staged is the union. Its only error
     /// is want of memory, which leaves nothing staged; none is wanted where the other knows nothing more.
-    #[tactic(auto, using(crate::proofs::KeptLemmas::kept_side))]
+    #[tactic(auto, using(crate::proofs::KeptLemmas::kept_operand))]
     pub fn stage(&mut self, other: &Knowledge) -> Result<(), AllocError>
         ensures known { self.new.known ≡ self.old.known }
         ensures staged { OnOk result (IsStagedUnion self.new.staged self.old.known other.now.known) }
@@ -246,10 +246,10 @@ impl Knowledge {
         self.spare.clear();
     }
 
-    // Learns what a side denotes.
-    fn take_union(&mut self, rows: &LiveRows, index: &[IndexEntry]) -> Result<(), AllocError>
+    // Learns what an operand denotes.
+    fn take_union(&mut self, rows: &KnowledgeRows, index: &[IndexEntry]) -> Result<(), AllocError>
         requires rows { AreRows rows.now }
-        requires side { IsSide (fragments_of rows.now) index.now }
+        requires operand { IsOperand (fragments_of rows.now) index.now }
         ensures joined { OnOk result (IsJoined self.old.known (fragments_of rows.now) index.now self.new.known) }
         ensures staged { self.new.staged ≡ None }
         ensures refused { OnErr result (self.new.known ≡ self.old.known) }
@@ -324,7 +324,7 @@ impl Knowledge {
     {
         self.unstage();
         let entry = [version.author().word(), u64::from(version.n())];
-        let rows = LiveRows::of_star(self.alloc, &entry)?;
+        let rows = KnowledgeRows::of_star(self.alloc, &entry)?;
         self.take_union(&rows, &[])?;
         Ok(())
     }
@@ -358,7 +358,7 @@ impl Knowledge {
             alloc: self.alloc,
             live,
             index,
-            spare: LiveRows::none(self.alloc),
+            spare: KnowledgeRows::none(self.alloc),
             staged: Staged::Nothing,
         })
     }

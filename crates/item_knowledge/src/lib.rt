@@ -10,24 +10,24 @@
 //! is committed; after a refusal nothing is staged.
 #![tactic(auto)]
 
-mod apart;
+mod bound_filter;
+mod distinct_union;
 mod fragment;
-mod gather;
 mod group;
+mod grouping;
 mod index;
 mod join;
 mod knowledge;
-mod known;
+mod knowledge_rows;
+mod known_table;
 pub mod laws;
-mod live;
-mod marks;
-mod pairing;
-mod places;
+mod operand;
+mod picture_cursor;
 mod rows;
 mod search;
-mod side;
 mod told;
 mod union;
+mod vector_index;
 
 pub use fragment::{Fragment, FragmentEntries};
 pub use knowledge::Knowledge;

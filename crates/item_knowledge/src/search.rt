@@ -2,10 +2,16 @@
 ghost use Rattle.std.specs.Prelude.{◌≡◌, ◌<◌, ◌≤◌, true, length, get_or};
 ghost use Rattle.item_knowledge.specs.Tables.{in_order, at};
 ghost use Rattle.item_knowledge.specs.Entries.{bound};
-ghost use Rattle.item_knowledge.specs.Rows.{pairs, IsRow, IsJustBehind};
+ghost use Rattle.item_knowledge.specs.Rows.{pairs, IsRow, IsPlaceOf};
 ghost use Rattle.item_knowledge.specs.Searching.{pairs_in, IsWhole, AreBelow, IsBetween};
 
 use crate::index::IndexEntry;
+
+/// The hint of whoever has none: the list is searched by halves at once.
+pub(crate) const NO_HINT: usize = usize::MAX;
+
+// So many pairs from a hint on are looked at one by one before the list is searched by halves.
+const FEW: usize = 8;
 
 /// A list of pairs in the order of their keys, lent: the pictures of an index with the numbers of their fragments, or the authors
 /// of a row with their bounds.
@@ -56,7 +62,10 @@ fn pair_at(list: SortedPairs<'_>, i: usize) -> (u64, u64)
     ensures { result ≡ get_or (pairs_in list.entry) i (0, 0) }
 {
     match list {
-        SortedPairs::Index(index) => (u64::from(index[i].0), u64::from(index[i].1)),
+        SortedPairs::Index(index) => {
+            let pair = index[i];
+            (u64::from(pair.0), u64::from(pair.1))
+        }
         SortedPairs::Row(row) => entry_at(row, i),
     }
 }
@@ -82,7 +91,7 @@ fn are_below(list: SortedPairs<'_>, place: usize, key: u64) -> bool
 fn place_between(list: SortedPairs<'_>, from: usize, to: usize, key: u64) -> usize
     requires whole { IsWhole list }
     requires order { in_order (pairs_in list) ≡ true }
-    requires places { from ≤ to }
+    requires ends { from ≤ to }
     requires end { to ≤ length (pairs_in list) }
     requires between { IsBetween key (pairs_in list) from to }
     ensures { IsBetween key (pairs_in list.entry) result result }
@@ -101,8 +110,7 @@ fn place_between(list: SortedPairs<'_>, from: usize, to: usize, key: u64) -> usi
     low
 }
 
-// The place before which the keys are smaller, and from which on none is, where those before another place are smaller: it is
-// looked for in steps from there on, each twice as long as the one before, and then by halves.
+// The same, where the keys before one place are smaller: the next few are looked at one by one.
 #[inline(always)]
 fn place_from(list: SortedPairs<'_>, from: usize, key: u64) -> usize
     requires whole { IsWhole list }
@@ -112,38 +120,49 @@ fn place_from(list: SortedPairs<'_>, from: usize, key: u64) -> usize
     ensures { IsBetween key (pairs_in list.entry) result result }
 {
     let count = pair_count(list);
-    let mut low = from;
-    let mut step = 1;
-    while step <= count - low {
-        let last = low + (step - 1);
-        let (found, _value) = pair_at(list, last);
+    let last = from.saturating_add(FEW).min(count);
+    let mut place = from;
+    while place < last {
+        let (found, _value) = pair_at(list, place);
         if found >= key {
-            return place_between(list, low, last, key);
+            return place_between(list, place, place, key);
         }
-        low = last + 1;
-        step = step.saturating_mul(2);
+        place += 1;
     }
-    place_between(list, low, count, key)
+    place_between(list, place, count, key)
 }
 
-/// What stands beside a key, 0 where it isn't there, and a hint for a greater key: the place behind the key's, or where it would
-/// stand. The work is small where the hint is that of a smaller key close by; the value is right with any hint.
+// What stands beside a key, 0 where it isn't there, where its place is known.
+#[inline(always)]
+fn value_there(list: SortedPairs<'_>, place: usize, key: u64) -> u64
+    requires whole { IsWhole list }
+    requires order { in_order (pairs_in list) ≡ true }
+    requires place { IsBetween key (pairs_in list) place place }
+    ensures value { result ≡ at 0 (pairs_in list.entry) key }
+    ensures there { 0 < at 0 (pairs_in list.entry) key → IsPlaceOf (pairs_in list.entry) place key }
+{
+    if place >= pair_count(list) {
+        return 0;
+    }
+    let (found, value) = pair_at(list, place);
+    if found == key { value } else { 0 }
+}
+
+/// What stands beside a key, 0 where it isn't there, and its place or where it would stand, which is a hint for a greater key. The
+/// work is small where the hint is that of the same key or of a smaller one close by; the value is right with any hint.
 #[inline(always)]
 pub(crate) fn value_near(list: SortedPairs<'_>, hint: usize, key: u64) -> (u64, usize)
     requires whole { IsWhole list }
     requires order { in_order (pairs_in list) ≡ true }
     ensures value { result.0 ≡ at 0 (pairs_in list.entry) key }
-    ensures behind { 0 < at 0 (pairs_in list.entry) key → IsJustBehind (pairs_in list.entry) result.1 key }
+    ensures there { 0 < at 0 (pairs_in list.entry) key → IsPlaceOf (pairs_in list.entry) result.1 key }
 {
-    let start = if are_below(list, hint, key) { hint } else { 0 };
-    let place = place_from(list, start, key);
-    if place < pair_count(list) {
-        let (found, value) = pair_at(list, place);
-        if found == key {
-            return (value, place + 1);
-        }
-    }
-    (0, place)
+    let place = if are_below(list, hint, key) {
+        place_from(list, hint, key)
+    } else {
+        place_between(list, 0, pair_count(list), key)
+    };
+    (value_there(list, place, key), place)
 }
 
 /// The number of the fragment to which an index leads from a picture, 0 for the star, and a hint for a later picture.
@@ -162,7 +181,7 @@ pub(crate) fn bound_near(row: &[u64], hint: usize, author: u64) -> (u64, usize)
     requires row { IsRow row.now }
     requires order { in_order (pairs row.now) ≡ true }
     ensures bound { result.0 ≡ bound (pairs row.now) author }
-    ensures behind { 0 < bound (pairs row.now) author → IsJustBehind (pairs row.now) result.1 author }
+    ensures there { 0 < bound (pairs row.now) author → IsPlaceOf (pairs row.now) result.1 author }
 {
     value_near(SortedPairs::Row(row), hint, author)
 }

@@ -5,7 +5,7 @@ ghost use Rattle.item_knowledge.specs.Rows.{flat};
 ghost use Rattle.item_knowledge.specs.TableRows as spec;
 
 use crate::index::{IndexEntry, to_u32};
-use crate::live::LiveRows;
+use crate::knowledge_rows::KnowledgeRows;
 use crate::rows::Rows;
 use crate::union::begin;
 use photo_record::PicNo;
@@ -17,7 +17,7 @@ use std::marker::Model;
 /// that denote these pairs of a picture and a version; their order and form may be any.
 #[derive(Debug, Drop)]
 pub struct Told {
-    live: LiveRows,
+    live: KnowledgeRows,
     index: Vec<IndexEntry>,
 }
 
@@ -56,7 +56,7 @@ impl Told {
     }
 
     /// Its rows and their index.
-    pub(crate) fn parts(&self) -> (&LiveRows, &[IndexEntry])
+    pub(crate) fn parts(&self) -> (&KnowledgeRows, &[IndexEntry])
         ensures telling { IsTelling result.0.now result.1.now }
         ensures value { fragments_of result.0.now ≡ self.now }
     {
@@ -83,7 +83,7 @@ fn write_row(vector: &Vector, row: &mut Vec<u64>) -> Result<(), AllocError>
 fn rows_of(
     alloc: Global,
     table: &[(PicNo, Vector)],
-) -> Result<(LiveRows, Vec<IndexEntry>), AllocError>
+) -> Result<(KnowledgeRows, Vec<IndexEntry>), AllocError>
     ensures { IfOk result (λ all. spec.IsTold table.now all.0 all.1.items) }
 {
     let mut rows = Rows::new(alloc);
@@ -98,6 +98,6 @@ fn rows_of(
         let number = to_u32(i + 1)?;
         index.push((picture, number))?;
     }
-    let live = LiveRows::of_rows(alloc, rows)?;
+    let live = KnowledgeRows::of_rows(alloc, rows)?;
     Ok((live, index))
 }

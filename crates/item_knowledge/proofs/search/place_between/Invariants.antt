@@ -4,7 +4,7 @@ use Rattle.item_knowledge.proofs.search.place_between.Given as goal
 
 abbrev pub invariant-loop-low : goal.invariant-loop-low
 invariant-loop-low l = record {
-  places : l.low ≤ l.high;
+  ends : l.low ≤ l.high;
   inside : l.high ≤ length (pairs_in l.list);
   between : IsBetween l.key (pairs_in l.list) l.low l.high;
 }
