@@ -6,8 +6,8 @@ use Rattle.std.proofs.lemmas.Bool.{and_from, lt-ltb, false≢true}
 use Rattle.std.proofs.lemmas.Bool.Decides.{nat_tests}
 use Rattle.item_knowledge.specs.Tables.{in_order, at}
 use Rattle.item_knowledge.specs.Entries.{Entry, is_entry, is_vector, bound, joined}
-use Rattle.item_knowledge.specs.Excess.{exceeding, exceeds_all, is_covered, whole, wholes, AllDiffer}
-use Rattle.item_knowledge.specs.Rows.{pairs}
+use Rattle.item_knowledge.specs.Excess.{exceeding, union_vector, whole, wholes, IsExcess}
+use Rattle.item_knowledge.specs.Rows.{pairs, fragments_of}
 use Rattle.item_knowledge.specs.Fragments.{Fragment, nothing, lists, goes_before, are_groups, is_normal, find, or_star, known, entries_at}
 use Rattle.item_knowledge.specs.Gathering.{is_above, IsSide, IsIndex}
 use Rattle.item_knowledge.proofs.EntryLemmas.{vector_parts, bound_below, one_by_bounds}
@@ -36,15 +36,6 @@ exceeding_order star (e ∷ es) h = grind (arith, nat_tests, exceeding_order sta
 pub exceeding_vector : (star es : List Entry) → is_vector es ≡ true → is_vector (exceeding star es) ≡ true
 exceeding_vector star es h = grind (arith, nat_tests, exceeding_order star es, exceeding_all (λ (e : Entry). is_entry e) star es)
 
--- all is above what has no entries
-pub none_exceeds : (words : List ℕ) (es : List Entry) → length words ≡ 0 → Exceeds (pairs words) es
-none_exceeds [] es none a z = z
-none_exceeds (w ∷ ws) es none a z = absurd (omega arith)
-
--- what is above an old star and above what has risen since is above the star
-pub above_risen : (old star es : List Entry) → in_order star ≡ true → Exceeds old es → Exceeds (exceeding old star) es → Exceeds star es
-above_risen old star es order above risen a z = grind (arith, nat_tests, exceeding_bound old star a order, above a, risen a)
-
 -- above nothing are all
 pub exceeding_none : (es : List Entry) → is_vector es ≡ true → exceeding [] es ≡ es
 exceeding_none [] h = refl
@@ -67,20 +58,20 @@ one_excess : (star xs ys : List Entry) → is_vector star ≡ true → is_vector
 one_excess star xs ys s h g e f same = one_by_bounds xs ys h g
     (λ a. grind (arith, joined_bound xs star a h s, joined_bound ys star a g s, ap (λ es. bound es a) same, e a, f a))
 
-pub all_exceed : (star es : List Entry) → exceeds_all star es ≡ true → Exceeds star es
-all_exceed star [] x a z = absurd (omega arith)
-all_exceed star (e ∷ es) x a z = grind (arith, nat_tests, all_exceed star es)
+-- where the star has nothing beyond an old one, what exceeds the old one stays
+level_stays : (old star xs : List Entry) → in_order star ≡ true → exceeding old star ≡ [] → is_vector xs ≡ true → Exceeds old xs → exceeding star (joined xs []) ≡ xs
+level_stays old star xs order level h above =
+    let v = joined_vector xs [] h refl in
+    one_by_bounds (exceeding star (joined xs [])) xs (exceeding_vector star (joined xs []) v) h
+    (λ a. grind (arith, nat_tests, exceeding_bound star (joined xs []) a (vector_order (joined xs []) v), joined_bound xs [] a h refl, above a, exceeding_bound old star a order, ap (λ es. bound es a) level))
 
-covered_at : (star xs ys : List Entry) (a : ℕ) → is_covered star xs ys ≡ true → bound ys a ≤ max (bound xs a) (bound star a)
-covered_at star xs [] a h = omega arith
-covered_at star xs (y ∷ ys) a h = grind (arith, nat_tests, covered_at star xs ys a)
-
--- what is covered adds nothing
-pub covered_joined : (star xs ys : List Entry) → is_vector xs ≡ true → is_vector ys ≡ true → Exceeds star xs → is_covered star xs ys ≡ true → exceeding star (joined xs ys) ≡ xs
-covered_joined star xs ys h g e covered =
-    let v = joined_vector xs ys h g in
-    one_by_bounds (exceeding star (joined xs ys)) xs (exceeding_vector star (joined xs ys) v) h
-    (λ a. grind (arith, nat_tests, exceeding_bound star (joined xs ys) a (vector_order (joined xs ys) v), joined_bound xs ys a h g, e a, covered_at star xs ys a covered))
+-- where the right has none beside it, what the left has comes as it stands
+pub level_pair : (star : List Entry) (old others : List ℕ) (left right : List (List ℕ)) (a b : ℕ) → IsExcess old left → IsExcess others right → in_order star ≡ true → exceeding (pairs old) star ≡ [] → b ≡ 0
+    → entries_at (fragments_of left) a ≡ union_vector star (fragments_of left) (fragments_of right) (a, b)
+level_pair star old others left right a b l r order level none =
+    let xs = entries_at (fragments_of left) a in
+    let ys : entries_at (fragments_of right) b ≡ [] = ap (entries_at (fragments_of right)) none ∙ r.first in
+    sym (ap (λ es. exceeding star (joined xs es)) ys ∙ level_stays (pairs old) star xs order level (l.vectors a) (l.exceeds a))
 
 -- Fragments with their whole vectors
 
@@ -162,30 +153,6 @@ wholes_index star fs xs h i = record {
       entries_wholes star fs (at 0 xs p) (at_number xs (length fs) p (normal_some fs h) i.range)
       ∙ (ap (λ es. joined es star) (i.vectors p) ∙ sym (wholes_known star fs p h));
 }
-
--- Vectors of a normal form differ
-
-groups_differ : (star : List Entry) (gs : List Fragment) (a b : ℕ) → are_groups star gs ≡ true → a < b → b < length gs → entries_at gs a ≡ entries_at gs b → ⊥
-groups_differ star [] a b h l m e = absurd (omega (arith, m))
-groups_differ star (g ∷ gs) a zero h l m e = absurd (omega (arith, l))
-groups_differ star (g ∷ gs) zero (suc b) h l m e = (before_parts g (get_or gs b nothing) (all_at (λ (x : Fragment). goes_before g x) gs b nothing (groups_parts star g gs h).before (omega (arith, m)))).other e
-groups_differ star (g ∷ gs) (suc a) (suc b) h l m e = groups_differ star gs a b (groups_parts star g gs h).rest (omega (arith, l)) (omega (arith, m)) e
-
-star_differs : (star : List Entry) (gs : List Fragment) (b : ℕ) → are_groups star gs ≡ true → b < length gs → star ≡ entries_at gs b → ⊥
-star_differs star [] b h m e = absurd (omega (arith, m))
-star_differs star (g ∷ gs) zero h m e = (groups_parts star g gs h).group.other e
-star_differs star (g ∷ gs) (suc b) h m e = star_differs star gs b (groups_parts star g gs h).rest (omega (arith, m)) e
-
-vectors_differ : (fs : List Fragment) (a b : ℕ) → is_normal fs ≡ true → a < b → b < length fs → entries_at fs a ≡ entries_at fs b → ⊥
-vectors_differ [] a b h l m e = absurd (omega (arith, m))
-vectors_differ (s ∷ gs) a zero h l m e = absurd (omega (arith, l))
-vectors_differ (s ∷ gs) zero (suc b) h l m e = star_differs s.entries gs b (normal_parts s gs h).groups (omega (arith, m)) e
-vectors_differ (s ∷ gs) (suc a) (suc b) h l m e = groups_differ s.entries gs a b (normal_parts s gs h).groups (omega (arith, l)) (omega (arith, m)) e
-
-pub wholes_differ : (star : List Entry) (fs : List Fragment) → is_normal (wholes star fs) ≡ true → AllDiffer fs
-wholes_differ star fs h = λ a b l m e.
-    vectors_differ (wholes star fs) a b h l (omega (arith, length_wholes star fs))
-    (entries_wholes star fs a (omega arith) ∙ (ap (λ es. joined es star) e ∙ sym (entries_wholes star fs b m)))
 
 none_below : (fs : List Fragment) → ((k : ℕ) → is_vector (entries_at fs k) ≡ true) → list_all (λ (f : Fragment). is_above [] f) fs ≡ true
 none_below [] v = refl

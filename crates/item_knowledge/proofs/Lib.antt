@@ -8,7 +8,6 @@ pub mod RowLemmas
 pub mod GatherLemmas
 pub mod ChainLemmas
 pub mod PlaceLemmas
-pub mod MarkLemmas
 pub mod UnionLemmas
 pub mod SearchLemmas
 pub mod KeptLemmas
@@ -19,6 +18,4 @@ pub mod NextLemmas
 pub mod ExcessLemmas
 pub mod LiveLemmas
 pub mod NormalLemmas
-pub mod ApartLemmas
-pub mod WayLemmas
 pub mod WorkedExamples

@@ -28,7 +28,7 @@ pub vectors_grown : (rows more : List (List ℕ)) (numbers : List ℕ) → ((k :
 vectors_grown rows more [] h = refl
 vectors_grown rows more (n ∷ numbers) h = λ i. get_or-append rows more [] (2 * n + 1) (h 0 (omega arith)) i ∷ vectors_grown rows more numbers (λ k l. h (suc k) (omega (arith, l))) i
 
-pub none_placed : (places : Places) (rows pictures : List (List ℕ)) → ((rs : List (List ℕ)) → IsFound places rs) → places.numbers.items ≡ [] → rows ≡ [] → pictures ≡ [] → Placed places rows pictures
+pub none_placed : (places : Places) (rows pictures : List (List ℕ)) → ((rs : List (List ℕ)) → IsFound places rs) → places.numbers.items ≡ [] → rows ≡ [] ∷ [] ∷ [] → pictures ≡ [] → Placed places rows pictures
 none_placed places rows pictures found n r p =
     let e = vectors_length rows places.numbers.items in
     record { found = found rows; even = grind arith; counted = grind arith; whole = λ k l. grind arith }
@@ -54,13 +54,13 @@ pub record IsBehind (places : Places) (rows new : List (List ℕ)) (row : List �
   pub vectors : (numbers : List ℕ) → numbers ≡ places.numbers.items ++ n ∷ [] → vectors_at new numbers ≡ vectors_at rows places.numbers.items ++ row ∷ []
   pub can : CanPlace places new b n
 
-pub behind : (places : Places) (rows new pictures : List (List ℕ)) (row : List ℕ) (b n : ℕ) → Placed places rows pictures → new ≡ (rows ++ [] ∷ []) ++ row ∷ [] → n ≡ length places.numbers.items
+pub behind : (places : Places) (rows new pictures : List (List ℕ)) (ps row : List ℕ) (b n : ℕ) → Placed places rows pictures → new ≡ (rows ++ ps ∷ []) ++ row ∷ [] → n ≡ length places.numbers.items + 1
     → b ≡ bucket places.seed (length places.heads.items) row → is_new (vectors_at rows places.numbers.items) row → IsBehind places rows new row b n
-behind places rows new pictures row b n h is number in_bucket fresh =
+behind places rows new pictures ps row b n h is number in_bucket fresh =
     let even = h.even in
     let more : length new ≡ length rows + 2 = grind (arith, common_steps) in
     let same : vectors_at new places.numbers.items ≡ vectors_at rows places.numbers.items =
-    ap (λ rs. vectors_at rs places.numbers.items) (is ∙ append_assoc rows ([] ∷ []) (row ∷ [])) ∙ vectors_grown rows ([] ∷ row ∷ []) places.numbers.items h.found.there in
+    ap (λ rs. vectors_at rs places.numbers.items) (is ∙ append_assoc rows (ps ∷ []) (row ∷ [])) ∙ vectors_grown rows (ps ∷ row ∷ []) places.numbers.items h.found.there in
     let at_end : get_or new (2 * n + 1) [] ≡ row = grind (arith, common_steps) in
     record {
       more = more;

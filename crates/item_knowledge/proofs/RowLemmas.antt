@@ -1,5 +1,5 @@
 -- Rows of words.
-use Rattle.std.proofs.Common.{◌≡◌, ℕ, zero, suc, ◌+◌, ◌*◌, ◌<◌, List, [], ◌∷◌, length, get_or, refl, sym, ap, ◌∙◌, arith}
+use Rattle.std.proofs.Common.{◌≡◌, ℕ, zero, suc, ◌+◌, ◌*◌, ◌<◌, List, [], ◌∷◌, ◌++◌, length, get_or, refl, sym, ap, ◌∙◌, arith}
 use Rattle.item_knowledge.specs.Entries.{Entry}
 use Rattle.item_knowledge.specs.Fragments.{Fragment, nothing, entries_at}
 use Rattle.item_knowledge.specs.Rows.{pairs, flat, IsRow, fragments_of, rows_of, AreRows}
@@ -36,6 +36,11 @@ rows_at (f ∷ fs) (suc k) l =
 
 pub entries_row : (fs : List Fragment) (k : ℕ) → k < length fs → get_or (rows_of fs) (2 * k + 1) [] ≡ flat (entries_at fs k)
 entries_row fs k l = (rows_at fs k l).1
+
+-- one fragment more
+pub rows_snoc : (fs : List Fragment) (ps : List ℕ) (v : List Entry) → rows_of (fs ++ record { pictures = ps; entries = v } ∷ []) ≡ (rows_of fs ++ ps ∷ []) ++ flat v ∷ []
+rows_snoc [] ps v = refl
+rows_snoc (f ∷ fs) ps v = ap (λ rs. f.pictures ∷ flat f.entries ∷ rs) (rows_snoc fs ps v)
 
 -- a row read from rows of whole fragments
 

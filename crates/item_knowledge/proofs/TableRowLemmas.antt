@@ -13,15 +13,13 @@ use Rattle.photo_version.specs.Version.{Version}
 use Rattle.photo_version.specs.Vector as versions
 use Rattle.photo_version.specs.Vector.{Bound}
 use Rattle.item_knowledge.specs.Tables.{keys_pass, in_order, at}
-use Rattle.item_knowledge.specs.Apart.{numbered}
 use Rattle.item_knowledge.specs.Entries.{Entry, denotes, is_entry, is_vector}
 use Rattle.item_knowledge.specs.Fragments.{Fragment, reaches, knows, nothing, entries_at}
 use Rattle.item_knowledge.specs.Rows.{flat, fragments_of, rows_of, AreRows}
 use Rattle.item_knowledge.specs.Gathering.{is_above, vector_of, IsSide, star_first}
-use Rattle.item_knowledge.specs.TableRows.{entries_of, told_one, told, IsTold, IsTelling}
-use Rattle.item_knowledge.proofs.ApartLemmas.{rows_snoc, numbered_snoc}
+use Rattle.item_knowledge.specs.TableRows.{entries_of, told_one, told, numbered, IsTold, IsTelling}
 use Rattle.item_knowledge.proofs.EntryLemmas.{vector_parts}
-use Rattle.item_knowledge.proofs.RowLemmas.{fragments_rows, rows_rows}
+use Rattle.item_knowledge.proofs.RowLemmas.{fragments_rows, rows_rows, rows_snoc}
 
 pub got_take : {X : Type 0} (xs : List X) (i : ℕ) (x : X) → slice_get xs i ≡ Some x → take (i + 1) xs ≡ take i xs ++ x ∷ []
 got_take xs i x h = take_more xs i x (slice_get_within xs i x h) ∙ ap (λ y. take i xs ++ y ∷ []) (get_or_from_slice_get xs i x x h)
@@ -66,6 +64,10 @@ row_more bs b row new h is e = record {
 
 -- The rows of what is told
 
+numbered_snoc : (n : ℕ) (gs : List Fragment) (p : ℕ) (v : List Entry) → numbered n (gs ++ record { pictures = p ∷ []; entries = v } ∷ []) ≡ numbered n gs ++ (p, n + length gs) ∷ []
+numbered_snoc n [] p v = let e : n ≡ n + 0 = omega arith in ap (λ m. (p, m) ∷ []) e
+numbered_snoc n (g ∷ gs) p v = let rest = numbered_snoc (suc n) gs p v in grind arith
+
 pub none_told : (rows : List (List ℕ)) (numbers : List (ℕ × ℕ)) → rows ≡ [] ∷ [] ∷ [] → numbers ≡ [] → IsTold [] rows numbers
 none_told rows numbers e n = record { rows_are = e; index_is = n; positive = refl; vectors = refl }
 
@@ -75,7 +77,7 @@ one_told ts t rows new numbers more n h is pushed number z v =
     let many = length-map ts (λ (u : ℕ × List Bound). told_one u) in
     let next : n ≡ 1 + length (told ts) = omega arith in
     record {
-      rows_are = is ∙ (λ i. (h.rows_are i ++ (t.0 ∷ []) ∷ []) ++ flat (entries_of t.1) ∷ []) ∙ sym (rows_snoc (star_first [] (told ts)) t.0 (entries_of t.1)) ∙ ap (λ gs. rows_of (star_first [] gs)) groups;
+      rows_are = is ∙ (λ i. (h.rows_are i ++ (t.0 ∷ []) ∷ []) ++ flat (entries_of t.1) ∷ []) ∙ sym (rows_snoc (star_first [] (told ts)) (t.0 ∷ []) (entries_of t.1)) ∙ ap (λ gs. rows_of (star_first [] gs)) groups;
       index_is = pushed ∙ (λ i. h.index_is i ++ (t.0, next i) ∷ []) ∙ sym (numbered_snoc 1 (told ts) t.0 (entries_of t.1)) ∙ ap (numbered 1) groups;
       positive = list_all-append (λ (u : ℕ × List Bound). ltb 0 u.0) ts (t ∷ []) ∙ and_from _ _ h.positive (and_from _ _ (lt-ltb 0 t.0 z) refl);
       vectors = list_all-append (λ (u : ℕ × List Bound). is_vector (entries_of u.1)) ts (t ∷ []) ∙ and_from _ _ h.vectors (and_from _ _ v refl);

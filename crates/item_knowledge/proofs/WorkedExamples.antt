@@ -1,12 +1,11 @@
--- The worked unions, groups and marks: what holds of every picture and version is shown by the cases of a few tests.
+-- The worked unions and groups: what holds of every picture and version is shown by the cases of a few tests.
 use Rattle.std.proofs.Common.{◌≡◌, length, refl, sym, ap, arith}
 use Rattle.std.proofs.lemmas.Bool.{false≢true}
 use Rattle.std.proofs.lemmas.Bool.Decides.{nat_tests}
 use Rattle.photo_version.specs.Author.{author}
 use Rattle.photo_version.specs.Version.{version}
 use Rattle.item_knowledge.specs.Entries.{bound}
-use Rattle.item_knowledge.specs.Examples.{TheStaged, TheUnions, TheGroups, TheMarks}
-use Rattle.item_knowledge.specs.Places.{mixed, share}
+use Rattle.item_knowledge.specs.Examples.{TheStaged, TheUnions, TheGroups}
 use Rattle.item_knowledge.proofs.GatherLemmas.{group_grown, group_begun}
 
 pub the_staged : TheStaged
@@ -54,7 +53,3 @@ the_groups = record {
   other_vector = λ a. let bad = ap (λ es. bound es 0) a.vector in omega (arith, bad);
   lost = λ a. absurd (omega (arith, ap length (a.pictures 0)));
 }
-
-pub the_marks : TheMarks
-unfolding mixed share
-the_marks = record { place = refl; by_the_last = refl; no_entry = refl; marked = refl; unmarked = refl; shared = refl }

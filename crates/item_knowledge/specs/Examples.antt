@@ -1,5 +1,5 @@
 -- The definitions at some fragments.
-use Rattle.std.specs.Prelude.{◌≡◌, ℕ, Bool, true, false, List, [], ◌∷◌, Some, None}
+use Rattle.std.specs.Prelude.{◌≡◌, ℕ, true, false, List, [], ◌∷◌, Some, None}
 use Rattle.photo_version.specs.Author.{author, author_at, author_word}
 use Rattle.photo_version.specs.Version.{Version, version}
 use Rattle.item_knowledge.specs.Entries.{Entry, joined}
@@ -9,7 +9,6 @@ use Rattle.item_knowledge.specs.Excess.{exceeding, shown}
 use Rattle.item_knowledge.specs.Raising.{are_level}
 use Rattle.item_knowledge.specs.Rows.{flat, rows_of}
 use Rattle.item_knowledge.specs.Staged.{IsStagedUnion}
-use Rattle.item_knowledge.specs.Marks.{place_of, is_marked}
 use Rattle.item_knowledge.specs.Written.{IsBeyond}
 
 abbrev of : List ℕ → List Entry → Fragment
@@ -120,19 +119,6 @@ pub record TheGroups : Type 0 where
   pub other_vector : IsAdded 8 (entry 1 1 ∷ []) seven (of (7 ∷ 8 ∷ []) (entry 0 1 ∷ []) ∷ []) 0 → ⊥
   -- the picture that was there is gone
   pub lost : IsAdded 9 (entry 0 1 ∷ []) seven (of (9 ∷ []) (entry 0 1 ∷ []) ∷ []) 0 → ⊥
-
--- nine places for marks, of which that of the second version of device 0 has one
-abbrev marks : List Bool
-marks = false ∷ false ∷ true ∷ false ∷ false ∷ false ∷ false ∷ false ∷ false ∷ []
-
-pub record TheMarks : Type 0 where
-  pub place : place_of 9 (flat (entry 0 2 ∷ [])) ≡ 2
-  pub by_the_last : place_of 9 (flat (entry 0 2 ∷ entry 1 3 ∷ [])) ≡ 8
-  pub no_entry : place_of 9 [] ≡ 0
-  pub marked : is_marked marks (flat (entry 0 2 ∷ [])) ≡ true
-  pub unmarked : is_marked marks (flat (entry 0 1 ∷ [])) ≡ false
-  -- another row may share its place
-  pub shared : is_marked marks (flat (entry 1 2 ∷ [])) ≡ true
 
 -- a star that stands once, and rows of what exceeds it
 pub record TheExcess : Type 0 where

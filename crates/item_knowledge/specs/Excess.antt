@@ -1,6 +1,5 @@
 -- Machinery of the proofs: a star that stands once, and rows of what exceeds it.
-use Rattle.std.specs.Prelude.{◌≡◌, ℕ, ◌<◌, Bool, true, nat_lt, nat_le, ◌||◌, if◌then◌else◌, List, [], ◌∷◌, length, map}
-use Rattle.std.specs.List.{list_all}
+use Rattle.std.specs.Prelude.{◌≡◌, ℕ, ◌<◌, true, nat_lt, if◌then◌else◌, List, [], ◌∷◌, length, map}
 use Rattle.item_knowledge.specs.Entries.{Entry, is_vector, bound, joined}
 use Rattle.item_knowledge.specs.Fragments.{Fragment, entries_at}
 use Rattle.item_knowledge.specs.Gathering.{pair_vector}
@@ -10,14 +9,6 @@ use Rattle.item_knowledge.specs.Rows.{pairs, IsRow, AreRows, fragments_of, rows_
 abbrev pub exceeding : List Entry → List Entry → List Entry
 exceeding star [] = []
 exceeding star (e ∷ es) = if nat_lt (bound star e.0) e.1 then e ∷ exceeding star es else exceeding star es
-
--- each bound is above the star's
-abbrev pub exceeds_all : List Entry → List Entry → Bool
-exceeds_all star es = list_all (λ e. nat_lt (bound star e.0) e.1) es
-
--- each bound is at most that of other entries or of the star
-abbrev pub is_covered : List Entry → List Entry → List Entry → Bool
-is_covered star others es = list_all (λ e. nat_le e.1 (bound others e.0) || nat_le e.1 (bound star e.0)) es
 
 -- what two fragments of the two sides give together beyond the star of the union
 abbrev pub union_vector : List Entry → List Fragment → List Fragment → ℕ × ℕ → List Entry

@@ -8,7 +8,6 @@ pub mod Merging
 pub mod Written
 pub mod Raising
 pub mod Places
-pub mod Marks
 pub mod Kept
 pub mod Staged
 pub mod Spare
@@ -17,6 +16,4 @@ pub mod TableRows
 pub mod Laws
 pub mod Examples
 pub mod Pairing
-pub mod Apart
-pub mod OnTheWay
 pub mod Sides

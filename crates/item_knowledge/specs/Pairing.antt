@@ -10,7 +10,3 @@ left_of at xs ys = paired (drop at.left xs) (drop at.right ys)
 -- how many entries of both are still to come
 abbrev pub to_come : Pairing → List (ℕ × ℕ) → List (ℕ × ℕ) → ℕ
 to_come at xs ys = (length xs - at.left) + (length ys - at.right)
-
--- behind one more of the left
-abbrev pub left_passed : Pairing → Pairing
-left_passed at = record { left = at.left + 1; right = at.right }

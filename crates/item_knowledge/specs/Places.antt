@@ -2,7 +2,8 @@
 use Rattle.std.specs.Prelude.{◌≡◌, ℕ, ◌<◌, ◌≤◌, ◌+◌, ◌-◌, ◌*◌, ◌/◌, ◌%◌, ◌^◌, List, [], ◌∷◌, length, get_or, map, bit_xor}
 use Rattle.std.specs.Int.{rotate_left, w64}
 use Rattle.item_knowledge.specs.declared.places.Places.{Places}
-use Rattle.item_knowledge.specs.Rows.{IsRow}
+use Rattle.item_knowledge.specs.Gathering.{star_first}
+use Rattle.item_knowledge.specs.Rows.{IsRow, rows_of, grouped}
 
 -- a hash and one word more
 unfoldable pub mixed : ℕ → ℕ → ℕ
@@ -53,9 +54,13 @@ pub record CanPlace (places : Places) (rows : List (List ℕ)) (place number : �
   pub in_bucket : place ≡ bucket places.seed (length places.heads.items) (get_or rows (2 * number + 1) [])
   pub new : is_new (vectors_at rows places.numbers.items) (get_or rows (2 * number + 1) [])
 
--- of each group the pictures stand beside its vector
+-- of each group the pictures stand beside its vector, which is in rows behind those of a star
 pub record Placed (places : Places) (rows pictures : List (List ℕ)) : Type 0 where
   pub found : IsFound places rows
-  pub even : length rows ≡ 2 * length places.numbers.items
+  pub even : length rows ≡ 2 * (length places.numbers.items + 1)
   pub counted : length pictures ≡ length (vectors_at rows places.numbers.items)
   pub whole : (k : ℕ) → k < length (vectors_at rows places.numbers.items) → IsRow (get_or (vectors_at rows places.numbers.items) k [])
+
+-- the rows are those of a star and of the groups: none has a picture that is still to be written
+abbrev pub AreAlone : Places → List (List ℕ) → List (List ℕ) → Type 0
+AreAlone places rows pictures = rows ≡ rows_of (star_first [] (grouped pictures (vectors_at rows places.numbers.items)))

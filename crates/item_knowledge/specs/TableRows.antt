@@ -1,12 +1,11 @@
 -- Machinery of the proofs: what is told of pictures, with their vectors as those of versions have them.
-use Rattle.std.specs.Prelude.{◌≡◌, ℕ, ◌<◌, true, nat_lt, List, [], ◌∷◌, map}
+use Rattle.std.specs.Prelude.{◌≡◌, ℕ, suc, ◌<◌, true, nat_lt, List, [], ◌∷◌, map}
 use Rattle.std.specs.List.{list_all}
 use Rattle.photo_version.specs.Author.{author_word}
 use Rattle.photo_version.specs.Vector.{Bound}
 use Rattle.photo_version.specs.Version.{Version}
-use Rattle.item_knowledge.specs.Apart.{numbered}
 use Rattle.item_knowledge.specs.Entries.{Entry, denotes, is_vector}
-use Rattle.item_knowledge.specs.Fragments.{Fragment, knows, entries_at}
+use Rattle.item_knowledge.specs.Fragments.{Fragment, first, knows, entries_at}
 use Rattle.item_knowledge.specs.Gathering.{star_first, vector_of, IsSide}
 use Rattle.item_knowledge.specs.Rows.{rows_of, fragments_of, AreRows}
 use Rattle.item_knowledge.specs.Tables.{keys_pass}
@@ -21,6 +20,11 @@ told_one t = record { pictures = t.0 ∷ []; entries = entries_of t.1 }
 
 abbrev pub told : List (ℕ × List Bound) → List Fragment
 told table = map (λ t. told_one t) table
+
+-- beside the first picture of each fragment its number
+abbrev pub numbered : ℕ → List Fragment → List (ℕ × ℕ)
+numbered n [] = []
+numbered n (g ∷ gs) = (first g.pictures, n) ∷ numbered (suc n) gs
 
 -- rows and an index are those of what is told
 pub record IsTold (table : List (ℕ × List Bound)) (rows : List (List ℕ)) (numbers : List (ℕ × ℕ)) : Type 0 where

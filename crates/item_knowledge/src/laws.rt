@@ -1,6 +1,6 @@
 //! Laws of what fragments denote. Each function's contract is a law, and its body does nothing.
 ghost use Rattle.item_knowledge.specs.Laws.{VectorsAreOne, NormalFormsAreOne, StarIsOfEvery, EachHasOneNormalForm};
-ghost use Rattle.item_knowledge.specs.Examples.{TheLibrary, TheNormalForms, TheVectors, TheStaged, TheUnions, TheGroups, TheMarks, TheEpochs, TheExcess};
+ghost use Rattle.item_knowledge.specs.Examples.{TheLibrary, TheNormalForms, TheVectors, TheStaged, TheUnions, TheGroups, TheEpochs, TheExcess};
 
 /// A vector is determined by the versions that it denotes.
 #[tactic(auto, using(crate::proofs::EntryLemmas::one_vector))]
@@ -27,7 +27,7 @@ pub fn star_is_of_every()
 {}
 
 /// The definitions at some fragments.
-#[tactic(auto, using(crate::proofs::WorkedExamples::the_staged, crate::proofs::WorkedExamples::the_unions, crate::proofs::WorkedExamples::the_groups, crate::proofs::WorkedExamples::the_marks))]
+#[tactic(auto, using(crate::proofs::WorkedExamples::the_staged, crate::proofs::WorkedExamples::the_unions, crate::proofs::WorkedExamples::the_groups))]
 pub fn examples()
     ensures library { TheLibrary }
     ensures normal_forms { TheNormalForms }
@@ -35,7 +35,6 @@ pub fn examples()
     ensures staged { TheStaged }
     ensures unions { TheUnions }
     ensures groups { TheGroups }
-    ensures marks { TheMarks }
     ensures epochs { TheEpochs }
     ensures excess { TheExcess }
 {}

@@ -10,7 +10,6 @@
 //! is committed; after a refusal nothing is staged.
 #![tactic(auto)]
 
-mod apart;
 mod fragment;
 mod gather;
 mod group;
@@ -20,7 +19,6 @@ mod knowledge;
 mod known;
 pub mod laws;
 mod live;
-mod marks;
 mod pairing;
 mod places;
 mod rows;

@@ -33,8 +33,7 @@ impl Model for Rows {
 }
 
 impl Rows {
-    ghost use Rattle.fragment_arena.specs.Arena.{run};
-    ghost use Rattle.std.specs.Prelude.{◌≡◌, ◌<◌, ◌≤◌, [], ◌∷◌, ◌++◌, length, get_or, OnOk, OnErr, IfOk};
+    ghost use Rattle.std.specs.Prelude.{◌≡◌, ◌<◌, [], ◌∷◌, ◌++◌, length, get_or, OnOk, OnErr, IfOk};
 
     /// No rows. Takes no memory.
     pub(crate) fn new(alloc: Global) -> Rows
@@ -110,31 +109,6 @@ impl Rows {
         row.push(first)?;
         row.extend_from_slice(others)?;
         self.place(&row)
-    }
-
-    /// The rows of another list from one place up to another, at the end.
-    #[inline(always)]
-    pub(crate) fn place_run(
-        &mut self,
-        other: &Rows,
-        from: usize,
-        to: usize,
-    ) -> Result<(), AllocError>
-        requires order { from ≤ to }
-        requires there { to ≤ length other.now }
-        ensures { OnOk result (self.new ≡ self.old ++ run other.now from to) }
-    {
-        if from == to {
-            return Ok(());
-        }
-        // As many words as no `usize` counts can't be reserved.
-        let Some(words) = other.arena.words_of_run(from, to) else {
-            return Err(AllocError);
-        };
-        self.arena.reserve(words, to - from)?;
-        self.arena.place_run(&other.arena, from, to);
-        self.words = self.words.saturating_add(words);
-        Ok(())
     }
 
     /// The row at a place.

@@ -1,19 +1,21 @@
-use Rattle.std.proofs.Common.{rules, ◌≡◌, ℕ, ◌<◌, ◌++◌, ◌∷◌, [], sym, subst, ap, ◌∙◌, set, get_or, length, arith}
+use Rattle.std.proofs.Common.{rules, ◌≡◌, ℕ, ◌+◌, ◌<◌, ◌++◌, ◌∷◌, [], sym, subst, ap, ◌∙◌, set, get_or, length, arith}
 use Rattle.std.proofs.lemmas.Grind.{common_steps}
 use Rattle.std.proofs.lemmas.List.{get_or_default}
 use Rattle.item_knowledge.specs.Fragments.{Fragment}
 use Rattle.item_knowledge.specs.Places.{is_new, vectors_at}
-use Rattle.item_knowledge.specs.Rows.{pairs, IsRow, grouped}
+use Rattle.item_knowledge.specs.Gathering.{star_first}
+use Rattle.item_knowledge.specs.Rows.{pairs, IsRow, rows_of, grouped}
 use Rattle.item_knowledge.proofs.GatherLemmas.{group_grown, group_begun}
 use Rattle.item_knowledge.proofs.MergeLemmas.{snoc_each}
 use Rattle.item_knowledge.proofs.PlaceLemmas.{behind, vectors_length, grouped_length, grouped_at, grouped_set, grouped_push}
+use Rattle.item_knowledge.proofs.RowLemmas.{rows_snoc}
 use Rattle.item_knowledge.proofs.gather.add.Goals as goal
 
 pub returns-in-Some : goal.returns-in-Some
 returns-in-Some c =
-    let vectors = vectors_at c.args.vectors.now c.args.places.now.numbers.items in
+    let vectors = vectors_at c.args.rows.now c.args.places.now.numbers.items in
     let pushed : c.push.new.self ≡ c.index_mut.result.now ++ c.args.picture ∷ [] = search rules in
-    let long = vectors_length c.args.vectors.now c.args.places.now.numbers.items in
+    let long = vectors_length c.args.rows.now c.args.places.now.numbers.items in
     let below = c.find-bucket.ensures.below c.in-Some.k c.in-Some.is in
     let less : c.in-Some.k < length vectors = omega (arith, long, below) in
     let was : c.index_mut.result.now ≡ get_or c.args.groups.now.items c.in-Some.k [] = c.index_mut.ensures.value ∙ get_or_default c.args.groups.now.items c.in-Some.k c.index_mut.result.now [] (omega (arith, less, c.requires.placed.counted)) in
@@ -25,22 +27,27 @@ returns-in-Some c =
           ∙ ap (set (grouped c.args.groups.now.items vectors) c.in-Some.k) (λ i. record { pictures = (pushed ∙ ap (λ ps. ps ++ c.args.picture ∷ []) (was ∙ ap (λ (g : Fragment). g.pictures) (sym there))) i; entries = (sym there i).entries }));
       placed = grind (arith, common_steps);
       below = search rules;
+      longer = grind (arith, common_steps);
+      alone = λ l a. grind (arith, common_steps);
     }
 
 pub returns : goal.returns
 returns c =
-    let vectors = vectors_at c.args.vectors.now c.args.places.now.numbers.items in
+    let vectors = vectors_at c.args.rows.now c.args.places.now.numbers.items in
     let new : is_new vectors c.args.row.now = c.find-bucket.ensures.absent (search rules) in
     let groups : c.push-2.new.self.items ≡ c.args.groups.now.items ++ (c.args.picture ∷ []) ∷ [] = search rules in
-    let more = behind c.args.places.now c.args.vectors.now c.place_fragment.new.self c.args.groups.now.items c.args.row.now c.find-bucket.result.0 c.len-k.result c.requires.placed (search rules) c.len-k.ensures c.find-bucket.ensures.bucket new in
+    let written : c.place_fragment.new.self ≡ (c.args.rows.now ++ (c.args.picture ∷ []) ∷ []) ++ c.args.row.now ∷ [] = search rules in
+    let more = behind c.args.places.now c.args.rows.now c.place_fragment.new.self c.args.groups.now.items (c.args.picture ∷ []) c.args.row.now c.find-bucket.result.0 (c.len-k.result + 1) c.requires.placed written (ap (λ n. n + 1) c.len-k.ensures) c.find-bucket.ensures.bucket new in
     let rows = more.vectors c.push-3.new.self.numbers.items c.in_ok-push-3.ensures.numbers in
     let long = more.more in
     let numbers = c.in_ok-push-3.ensures.numbers in
     let even = c.requires.placed.even in
     let many = grouped_length c.args.groups.now.items vectors c.requires.placed.counted in
-    let count = vectors_length c.args.vectors.now c.args.places.now.numbers.items in
+    let count = vectors_length c.args.rows.now c.args.places.now.numbers.items in
+    let grown : grouped c.push-2.new.self.items (vectors_at c.place_fragment.new.self c.push-3.new.self.numbers.items) ≡ grouped c.args.groups.now.items vectors ++ record { pictures = c.args.picture ∷ []; entries = pairs c.args.row.now } ∷ [] =
+    (λ i. grouped (groups i) (rows i)) ∙ grouped_push c.args.groups.now.items vectors (c.args.picture ∷ []) c.args.row.now c.requires.placed.counted in
     record {
-      added = group_begun c.args.picture (pairs c.args.row.now) (grouped c.args.groups.now.items vectors) _ c.len-k.result (omega (arith, count, many, c.len-k.ensures)) ((λ i. grouped (groups i) (rows i)) ∙ grouped_push c.args.groups.now.items vectors (c.args.picture ∷ []) c.args.row.now c.requires.placed.counted);
+      added = group_begun c.args.picture (pairs c.args.row.now) (grouped c.args.groups.now.items vectors) _ c.len-k.result (omega (arith, count, many, c.len-k.ensures)) grown;
       placed = record {
         found = c.in_ok-push-3.ensures.found c.place_fragment.new.self more.can;
         even = grind (arith, common_steps);
@@ -48,4 +55,10 @@ returns c =
         whole = subst (λ vs. (k : ℕ) → k < length vs → IsRow (get_or vs k [])) (sym rows) (snoc_each (λ _ ws. IsRow ws) vectors c.args.row.now [] c.requires.placed.whole c.requires.row);
       };
       below = grind (arith, common_steps);
+      longer = grind (arith, common_steps);
+      alone = λ l alone.
+          written
+          ∙ (λ i. (alone i ++ (c.args.picture ∷ []) ∷ []) ++ sym c.requires.row i ∷ [])
+          ∙ sym (rows_snoc (star_first [] (grouped c.args.groups.now.items vectors)) (c.args.picture ∷ []) (pairs c.args.row.now))
+          ∙ ap (λ gs. rows_of (star_first [] gs)) (sym grown);
     }

@@ -4,7 +4,6 @@ use Rattle.item_knowledge.specs.Excess.{IsExcess}
 use Rattle.item_knowledge.specs.Fragments.{is_normal}
 use Rattle.item_knowledge.specs.Rows.{pairs, fragments_of}
 use Rattle.item_knowledge.specs.Tables.{in_order}
-use Rattle.item_knowledge.proofs.ExcessLemmas.{wholes_differ}
 use Rattle.item_knowledge.proofs.JoinLemmas.{joined_vector, vector_order}
 use Rattle.item_knowledge.proofs.LiveLemmas.{shown_are, shown_side, star_joined, union_made}
 use Rattle.item_knowledge.specs.Written.{IsWritten}
@@ -23,9 +22,6 @@ invariant_of-right c = record {
   excess = subst (λ ws. IsExcess ws c.others.inside.rows) (sym c.deref-4.ensures.value) c.others.invariant;
   side = shown_side c.others.inside.star.items c.others.inside.rows c.args.others.now c.others.invariant c.others.view_is c.args.others_index.now c.requires.right;
 }
-
-pub union-requires-clause-differ : goal.union-requires-clause-differ
-union-requires-clause-differ c = wholes_differ (pairs c.self.inside.star.items) (fragments_of c.self.inside.rows) (subst (λ fs. is_normal fs ≡ true) (shown_are c.self.inside.star.items c.self.inside.rows c.args.self.now c.self.invariant c.self.view_is) c.requires.normal)
 
 pub union-requires-clause-star : goal.union-requires-clause-star
 union-requires-clause-star c =
