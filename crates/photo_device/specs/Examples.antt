@@ -10,8 +10,8 @@ use Rattle.item_knowledge.specs.Fragments.{Fragment, knows}
 use Rattle.photo_device.specs.declared.held.Held.{Held}
 use Rattle.photo_device.specs.Held.{find_version, count_of}
 use Rattle.photo_device.specs.Device.{Kept, Staging}
-use Rattle.photo_device.specs.Anew.{HasBesides, IsNextOf, is_second_next}
-use Rattle.photo_device.specs.Noted.{author_of_row}
+use Rattle.photo_device.specs.Resorted.{HasBesides, IsNextOf, is_second_next}
+use Rattle.photo_device.specs.Cached.{author_of_row}
 use Rattle.photo_device.specs.Staging.{HasStaged, MayHand, MayStage}
 
 abbrev pub bright : Record
@@ -71,27 +71,29 @@ ready = record camera { staged = Some change }
 
 -- which changes may be staged on the camera, and, before a ⊥, which may not
 pub record MayStageAsTold : Type 0 where
-  pub edit : MayStage (nth 0 1 ∷ []) (edited ∷ []) gain camera
+  pub edit : MayStage (first ∷ []) [] (edited ∷ []) gain camera
   -- a change of nothing
-  pub none : MayStage [] [] [] camera
+  pub none : MayStage [] [] [] [] camera
   -- a version is given up that isn't held
-  pub not_held : MayStage (nth 1 1 ∷ []) (edited ∷ []) gain camera → ⊥
+  pub not_held : MayStage (edited ∷ []) [] (edited ∷ []) gain camera → ⊥
+  -- one is given up in the out that is in the store
+  pub elsewhere : MayStage [] (first ∷ []) (edited ∷ []) gain camera → ⊥
   -- one is taken that is held, though it is given up as well
   pub found : find_version (nth 0 1) camera.store ≡ Some first
-  pub held : MayStage (nth 0 1 ∷ []) (first ∷ []) gain camera → ⊥
+  pub held : MayStage (first ∷ []) [] (first ∷ []) gain camera → ⊥
   -- one is taken twice
   pub count : count_of (nth 1 1) (edited ∷ edited ∷ []) ≡ 2
-  pub twice : MayStage (nth 0 1 ∷ []) (edited ∷ edited ∷ []) gain camera → ⊥
+  pub twice : MayStage (first ∷ []) [] (edited ∷ edited ∷ []) gain camera → ⊥
   -- one is taken that is its author's second, and was made without the first
-  pub gap : MayStage [] (held_of 7 (nth 1 2) [] ∷ []) (of [] (bound 1 2 ∷ []) ∷ []) camera → ⊥
+  pub gap : MayStage [] [] (held_of 7 (nth 1 2) [] ∷ []) (of [] (bound 1 2 ∷ []) ∷ []) camera → ⊥
   -- one is taken and not learned, or without what it was made with, or of another picture alone
-  pub not_learned : MayStage (nth 0 1 ∷ []) (edited ∷ []) [] camera → ⊥
-  pub no_history : MayStage (nth 0 1 ∷ []) (edited ∷ []) (of [] [] ∷ of (7 ∷ []) (bound 1 1 ∷ []) ∷ []) camera → ⊥
-  pub of_another : MayStage (nth 0 1 ∷ []) (edited ∷ []) (of [] [] ∷ of (9 ∷ []) (bound 0 1 ∷ bound 1 1 ∷ []) ∷ []) camera → ⊥
+  pub not_learned : MayStage (first ∷ []) [] (edited ∷ []) [] camera → ⊥
+  pub no_history : MayStage (first ∷ []) [] (edited ∷ []) (of [] [] ∷ of (7 ∷ []) (bound 1 1 ∷ []) ∷ []) camera → ⊥
+  pub of_another : MayStage (first ∷ []) [] (edited ∷ []) (of [] [] ∷ of (9 ∷ []) (bound 0 1 ∷ bound 1 1 ∷ []) ∷ []) camera → ⊥
   -- the camera learns of a second version of its own, and has made one
-  pub not_made : MayStage [] [] (of [] [] ∷ of (9 ∷ []) (bound 0 2 ∷ []) ∷ []) camera → ⊥
+  pub not_made : MayStage [] [] [] (of [] [] ∷ of (9 ∷ []) (bound 0 2 ∷ []) ∷ []) camera → ⊥
   -- it learns of a version of a later epoch of its own
-  pub too_late : MayStage [] [] (of [] [] ∷ of (9 ∷ []) ((author_word (author_at 0 1), 1) ∷ []) ∷ []) camera → ⊥
+  pub too_late : MayStage [] [] [] (of [] [] ∷ of (9 ∷ []) ((author_word (author_at 0 1), 1) ∷ []) ∷ []) camera → ⊥
 
 -- what staging the change leaves, and, before a ⊥, what it doesn't
 pub record HasStagedAsTold : Type 0 where
@@ -126,8 +128,8 @@ pub record MayHandAsTold : Type 0 where
   -- it will not be known
   pub not_known : MayHand (other ∷ []) (record change { knowledge = camera.knowledge }) ready → ⊥
 
--- whose row of notes stands at a place
-pub record TheRowsOfNotes : Type 0 where
+-- whose row of the cache stands at a place
+pub record TheCacheRows : Type 0 where
   pub first : author_of_row 0 ≡ author 0
   pub last : author_of_row 255 ≡ author 255
   pub next_epoch : author_of_row 256 ≡ author_at 0 1

@@ -1,6 +1,6 @@
 -- Held versions, and the entries that they show.
 use Rattle.std.specs.Prelude.{◌≡◌, ℕ, ◌≤◌, Bool, not, ◌&&◌, ◌||◌, ◌==◌, nat_lt, List, [], ◌∷◌, ◌++◌, length, map, filter, take, drop, Option}
-use Rattle.std.specs.List.{find, filter_map, list_any}
+use Rattle.std.specs.List.{find, list_any}
 use Rattle.photo_device.specs.declared.held.Held.{Held}
 use Rattle.photo_version.specs.Version.{Version, same_version, version_before}
 use Rattle.photo_version.specs.Vector.{denotes}
@@ -63,6 +63,9 @@ has_version_of picture version helds = list_any (λ h. is_of h picture version) 
 abbrev pub find_version_of : ℕ → Version → List Held → Option Held
 find_version_of picture version helds = find (λ h. is_of h picture version) helds
 
+abbrev pub versions_of : List Held → List Version
+versions_of helds = map (λ h. h.version) helds
+
 -- a version is among versions
 abbrev pub is_listed : List Version → Version → Bool
 is_listed versions version = list_any (λ v. same_version v version) versions
@@ -70,10 +73,6 @@ is_listed versions version = list_any (λ v. same_version v version) versions
 -- the held versions but those
 abbrev pub helds_without : List Version → List Held → List Held
 helds_without versions helds = filter (λ h. not (is_listed versions h.version)) helds
-
--- the held versions of those, in that order
-abbrev pub helds_at : List Version → List Held → List Held
-helds_at versions helds = filter_map (λ v. find_version v helds) versions
 
 -- a set of held versions with all those of a list
 abbrev pub put_helds : List Held → List Held → List Held
@@ -83,7 +82,3 @@ put_helds (h ∷ more) helds = put held_before h (put_helds more helds)
 -- how many of them are of that version
 abbrev pub count_of : Version → List Held → ℕ
 count_of v helds = length (filter (λ h. same_version h.version v) helds)
-
--- how often a version is among versions
-abbrev pub times_in : Version → List Version → ℕ
-times_in v versions = length (filter (λ w. same_version w v) versions)

@@ -4,10 +4,23 @@ use Rattle.std.specs.List.{AllByRecursion}
 use Rattle.photo_version.specs.Version.{Version}
 use Rattle.item_knowledge.specs.Fragments.{Fragment, knows}
 use Rattle.photo_device.specs.declared.held.Held.{Held}
+use Rattle.photo_device.specs.declared.change.Gain.{Gain}
+use Rattle.photo_device.specs.declared.change.Gain.TheVariants.{Known, Told}
+use Rattle.photo_device.specs.declared.change.Selection.{Selection}
 use Rattle.photo_device.specs.declared.prepared.Prepared.{Prepared}
-use Rattle.photo_device.specs.Held.{find_version, count_of}
+use Rattle.block_list.specs.Room.{Reserved}
+use Rattle.photo_device.specs.Held.{find_version, has_version_of, count_of, versions_of}
 use Rattle.photo_device.specs.Device.{Kept, Staging, IsAsItWas}
 use Rattle.photo_device.specs.Own.{HasEarlier, IsDevice, IsKnownBy, KnowsItsOwn, KnowsNoMore}
+
+-- all versions of a selection
+abbrev pub versions_in : Selection → List Version
+versions_in s = versions_of s.stored.items ++ versions_of s.waiting.items
+
+-- what is learned
+abbrev pub gained : Gain → List Fragment
+gained (Known knowledge) = knowledge.now.known
+gained (Told told) = told.now
 
 -- a change is staged on a device that is otherwise as it was: what will be known is what is known and what is gained
 pub record HasStaged (drops : List Version) (takes : List Held) (gain : List Fragment) (room : ℕ) (old new : Kept) : Type 0 where
@@ -27,9 +40,11 @@ pub record MayHand (handed : List Held) (s : Staging) (d : Kept) : Type 0 where
   pub known : AllByRecursion (IsKnownBy s.knowledge) handed
 
 -- a change may be staged on a device
-pub record MayStage (drops : List Version) (takes : List Held) (gain : List Fragment) (d : Kept) : Type 0 where
-  -- what is given up is held, and no version is taken twice, or held already
-  pub held : AllByRecursion (λ v. is_some (find_version v (d.store ++ d.out)) ≡ true) drops
+pub record MayStage (of_store of_out takes : List Held) (gain : List Fragment) (d : Kept) : Type 0 where
+  -- what is given up stands in the store, or in the out
+  pub stored : AllByRecursion (λ h. has_version_of h.picture h.version d.store ≡ true) of_store
+  pub waiting : AllByRecursion (λ h. has_version_of h.picture h.version d.out ≡ true) of_out
+  -- no version is taken twice, or held already
   pub new : AllByRecursion (λ h. find_version h.version (d.store ++ d.out) ≡ None) takes
   pub distinct : (v : Version) → count_of v takes ≤ 1
   pub earlier : AllByRecursion HasEarlier takes
@@ -46,7 +61,7 @@ known_then (Some knowledge) = knowledge
 
 -- what contracts see of it
 abbrev pub staging : Prepared → Option (List Fragment) → Staging
-staging p knowledge = record { drops = p.drops; takes = p.takes; knowledge = known_then knowledge; room = p.room }
+staging p knowledge = record { drops = versions_in p.drops; takes = p.takes; knowledge = known_then knowledge; room = p.room }
 
 abbrev pub staging_of : Option Prepared → Option (List Fragment) → Option Staging
 staging_of None knowledge = None
@@ -59,26 +74,27 @@ pub record IsAhead (knowledge : List Fragment) (takes : List Held) (d : Kept) : 
   pub more : (p : ℕ) (v : Version) → 0 < p → knows d.knowledge p v ≡ true → knows knowledge p v ≡ true
   pub known : AllByRecursion (IsKnownBy knowledge) takes
 
+-- no version of the first list is held in the second
+abbrev pub AreNoneOf : List Held → List Held → Type 0
+AreNoneOf hs helds = AllByRecursion (λ h. count_of h.version helds ≡ 0) hs
+
 -- what is prepared fits the device
 pub record IsPrepared (p : Prepared) (knowledge : Option (List Fragment)) (d : Kept) : Type 0 where
   pub there : is_some knowledge ≡ true
   pub ahead : IsAhead (known_then knowledge) p.takes d
   pub once : (v : Version) → count_of v (p.takes ++ (d.store ++ d.out)) ≤ 1
   pub earlier : AllByRecursion HasEarlier p.takes
+  pub not_stored : AreNoneOf p.drops.waiting.items d.store
+  pub not_waiting : AreNoneOf p.drops.stored.items d.out
   pub store : length d.store ≤ p.in_store.most
   pub store_room : length p.takes + p.room ≤ p.in_store.more
   pub out : length d.out ≤ p.in_out.most
   pub out_room : length p.takes + p.room ≤ p.in_out.more
 
--- a change is prepared but for what is learned, with room for all that it takes and that may be handed over
-pub record IsReadied (drops : List Version) (takes : List Held) (room : ℕ) (d : Kept) (p : Prepared) : Type 0 where
-  pub drops_are : p.drops ≡ drops
-  pub takes_are : p.takes ≡ takes
-  pub room_is : p.room ≡ room
-  pub store : p.in_store.most ≡ length d.store
-  pub store_room : p.in_store.more ≡ length takes + room
-  pub out : p.in_out.most ≡ length d.out
-  pub out_room : p.in_out.more ≡ length takes + room
+-- room for all that is taken and that may be handed over
+pub record IsRoomFor (helds : List Held) (takes handed : ℕ) (room : Reserved) : Type 0 where
+  pub most : room.most ≡ length helds
+  pub more : room.more ≡ takes + handed
 
 -- what is prepared fits the device, and where nothing is prepared, its knowledge has nothing staged either
 abbrev pub FitsWhatIsPrepared : Option Prepared → Option (List Fragment) → Kept → Type 0

@@ -4,7 +4,7 @@ ghost use Rattle.photo_device.specs.Held.{entries_of, are_in_order, put_helds};
 ghost use Rattle.photo_device.specs.Taking.{AreNewTo};
 ghost use Rattle.photo_model.specs.Conflicts.{conflicts_in};
 
-use crate::anew::listed;
+use crate::resorted::listed;
 use crate::takes::put_in;
 use crate::{Conflict, HeldSet, SharedHeld, VersionList};
 use std::alloc::{AllocError, Global};

@@ -3,17 +3,16 @@ ghost use Rattle.std.specs.Prelude.{◌≡◌, ◌+◌, None, IfOk, OnOk, OnErr}
 ghost use Rattle.photo_device.specs.Device.{store_with, out_with};
 ghost use Rattle.photo_device.specs.Learning.{IsHeldNext, IsNextKnown};
 
-use crate::anew::{Anew, held_anew, narrowed};
-use crate::drops::give_up;
-use crate::noted_knowledge::NotedKnowledge;
+use crate::cached_knowledge::CachedKnowledge;
 use crate::placing::place_of;
 use crate::prepared::Prepared;
+use crate::resorted::{Resorted, narrowed, resort};
 use crate::takes::{rooms, take_in};
 use crate::{
-    Change, ChangeFault, Conflict, Held, HeldSet, NarrowFault, Place, SharedHeld, SharedList,
-    VersionList, conflicts,
+    Change, ChangeFault, Conflict, Held, HeldSet, NarrowFault, Place, SharedHeld, conflicts,
 };
-use item_knowledge::{Knowledge, Told};
+use block_list::Room;
+use item_knowledge::Knowledge;
 use photo_filter_rules::{Filter, covers};
 use photo_record::{PicNo, Record};
 use photo_version::{Author, Version};
@@ -29,7 +28,7 @@ pub struct Device {
     counter: u32,
     store: HeldSet,
     out: HeldSet,
-    knowledge: NotedKnowledge,
+    knowledge: CachedKnowledge,
     prepared: Option<Prepared>,
 }
 
@@ -67,21 +66,20 @@ impl Model for Device {
 impl Device {
     ghost use Rattle.std.specs.Prelude.{◌≡◌, ◌≢◌, ◌+◌, ◌<◌, ◌≤◌, ◌||◌, ◌++◌, true, false, not, filter, is_some, length, None};
     ghost use Rattle.std.specs.Prelude.{Err, IfOk, IfErr, IfSome, OnOk, OnErr};
-    ghost use Rattle.std.specs.Prelude.{vec_len, vec_capacity};
     ghost use Rattle.std.specs.List.{AllByRecursion, list_any};
     ghost use Rattle.std.specs.Option.{option_copied, option_map};
     ghost use Rattle.photo_model.specs.Entry.{find_entry};
-    ghost use Rattle.photo_device.specs.Held.{are_in_order, find_version, find_version_of, has_picture, count_of, times_in};
-    ghost use Rattle.photo_device.specs.Held.{entry_of, entries_of, helds_at};
+    ghost use Rattle.photo_device.specs.Held.{are_in_order, find_version, find_version_of, has_picture, count_of, versions_of};
+    ghost use Rattle.photo_device.specs.Held.{entry_of, entries_of};
     ghost use Rattle.photo_device.specs.Own.{HasEarlier, HasMade, IsDevice, IsKnownBy, IsNext, KnowsItsOwn, KnowsNoMore};
-    ghost use Rattle.photo_device.specs.Staging.{HasStaged, MayHand, MayStage, IsReadied};
+    ghost use Rattle.photo_device.specs.Staging.{HasStaged, MayHand, MayStage, IsRoomFor, gained, versions_in};
     ghost use Rattle.photo_version.specs.Author.{epoch_of_author};
     ghost use Rattle.photo_version.specs.Version as versions;
     ghost use Rattle.item_knowledge.specs.Fragments.{knows};
     ghost use Rattle.photo_model.specs.Device.{ModelDevice, holds, is_held, opening, made, next_version, new_place, changed, without_waiting, narrowed, moved};
     ghost use Rattle.photo_device.specs.Device.{Shows, unstaged, IsAsItWas};
     ghost use Rattle.photo_model.specs.Refiltered.{refiltered};
-    ghost use Rattle.photo_device.specs.Anew.{IsAnew};
+    ghost use Rattle.photo_device.specs.Resorted.{IsResorted};
     ghost use Rattle.photo_model.specs.Conflicts.{conflicts_of};
     ghost use Rattle.photo_record.specs.declared.record.Record.TheVariants.{Removed};
     ghost use Rattle.photo_device.specs.declared.fault.ChangeFault.TheVariants.{NotHeld};
@@ -106,7 +104,7 @@ impl Device {
                 counter: 0,
                 store: HeldSet::new(alloc),
                 out: HeldSet::new(alloc),
-                knowledge: NotedKnowledge::new(alloc, knowledge),
+                knowledge: CachedKnowledge::new(alloc, knowledge),
                 prepared: None,
             }),
             Err(refused) => Err((filter, refused)),
@@ -126,7 +124,7 @@ impl Device {
             author: self.author,
             filter,
             counter: self.counter,
-            knowledge: NotedKnowledge::new(store.alloc(), knowledge),
+            knowledge: CachedKnowledge::new(store.alloc(), knowledge),
             store,
             out,
             prepared: None,
@@ -169,7 +167,7 @@ impl Device {
         ensures err { OnErr result (self.new ≡ self.old) }
     {
         let version = held.version();
-        self.knowledge.make_place(version);
+        self.knowledge.reserve(version);
         hold_next(
             &mut self.store,
             &mut self.out,
@@ -326,111 +324,41 @@ impl Device {
     /// the out otherwise, and to learn; with room for so many versions more that will be handed over. What the device holds
     /// and knows stays until `commit`. Whatever was staged before is not any more.
     ///
-    /// Its only error is want of memory (also for more versions than can be counted), which leaves nothing staged and gives
-    /// the change back.
-    pub fn stage(&mut self, change: Change, room: usize) -> Result<(), (Change, AllocError)>
-        requires drops { AllByRecursion (λ v. is_some (find_version v (self.old.store ++ self.old.out)) ≡ true) change.drops }
-        requires new { AllByRecursion (λ h. find_version h.version (self.old.store ++ self.old.out) ≡ None) change.takes }
-        requires distinct { (v : versions.Version) → count_of v change.takes ≤ 1 }
-        requires earlier { AllByRecursion HasEarlier change.takes }
-        requires known { AllByRecursion (IsKnownBy change.gain.known) change.takes }
-        requires own { KnowsNoMore self.old.author self.old.counter change.gain.known }
-        ensures staged { OnOk result (HasStaged change.drops change.takes change.gain.known room self.old self.new) }
+    /// Its only error is want of memory (also for more versions than can be counted), which leaves nothing staged.
+    pub fn stage(&mut self, change: Change<'_>, room: usize) -> Result<(), AllocError>
+        requires may { MayStage change.drops.stored.items change.drops.waiting.items change.takes (gained change.gain) self.old }
+        ensures staged { OnOk result (HasStaged (versions_in change.entry.drops) change.entry.takes (gained change.entry.gain) room self.old self.new) }
         ensures err { OnErr result (IsAsItWas self.old self.new) }
         ensures unstaged { OnErr result (self.new.staged ≡ None) }
-        ensures returned { IfErr result (λ e. e.0 ≡ change) }
-    {
-        let Change { drops, takes, gain } = change;
-        let pictures = Vec::new(self.store.alloc());
-        match self.stage_lent(drops, pictures, takes, &gain, room) {
-            Ok(()) => Ok(()),
-            Err((drops, takes, refused)) => Err((Change { drops, takes, gain }, refused)),
-        }
-    }
-
-    /// Prepares a change as `stage` does, where what is learned is lent, so that nobody has to copy it. The pictures of the
-    /// versions that are given up, in their order, are hints where to look for these at `commit`. Any will do; without them
-    /// it goes over all that is held.
-    ///
-    /// Its only error is want of memory (also for more versions than can be counted), which leaves nothing staged and gives
-    /// both lists back.
-    pub fn stage_lent(
-        &mut self,
-        drops: VersionList,
-        pictures: Vec<PicNo>,
-        takes: SharedList,
-        gain: &Knowledge,
-        room: usize,
-    ) -> Result<(), (VersionList, SharedList, AllocError)>
-        requires may { MayStage drops takes gain.now.known self.old }
-        ensures staged { OnOk result (HasStaged drops takes gain.now.known room self.old self.new) }
-        ensures err { OnErr result (IsAsItWas self.old self.new) }
-        ensures unstaged { OnErr result (self.new.staged ≡ None) }
-        ensures drops_back { IfErr result (λ e. e.0 ≡ drops) }
-        ensures takes_back { IfErr result (λ e. e.1 ≡ takes) }
-    {
-        let prepared = self.prepare(drops, pictures, takes, room)?;
-        // For its fact alone: a knowledge is in normal form.
-        let _fragments = gain.fragments();
-        if let Err(refused) = self.knowledge.stage(gain) {
-            return Err((prepared.drops, prepared.takes, refused));
-        }
-        self.prepared = Some(prepared);
-        Ok(())
-    }
-
-    /// Prepares a change as `stage_lent` does, where what is learned is what held versions tell. Its only error is the same.
-    pub fn stage_told(
-        &mut self,
-        drops: VersionList,
-        pictures: Vec<PicNo>,
-        takes: SharedList,
-        told: &Told,
-        room: usize,
-    ) -> Result<(), (VersionList, SharedList, AllocError)>
-        requires may { MayStage drops takes told.now self.old }
-        ensures staged { OnOk result (HasStaged drops takes told.now room self.old self.new) }
-        ensures err { OnErr result (IsAsItWas self.old self.new) }
-        ensures unstaged { OnErr result (self.new.staged ≡ None) }
-        ensures drops_back { IfErr result (λ e. e.0 ≡ drops) }
-        ensures takes_back { IfErr result (λ e. e.1 ≡ takes) }
-    {
-        let prepared = self.prepare(drops, pictures, takes, room)?;
-        if let Err(refused) = self.knowledge.stage_told(told) {
-            return Err((prepared.drops, prepared.takes, refused));
-        }
-        self.prepared = Some(prepared);
-        Ok(())
-    }
-
-    // A change but for what is learned, with room for it. Nothing is staged then.
-    fn prepare(
-        &mut self,
-        drops: VersionList,
-        pictures: Vec<PicNo>,
-        takes: SharedList,
-        room: usize,
-    ) -> Result<Prepared, (VersionList, SharedList, AllocError)>
-        ensures unstaged { self.new ≡ unstaged self.old }
-        ensures ok { IfOk result (λ prepared. IsReadied drops takes room self.new prepared) }
-        ensures drops_back { IfErr result (λ e. e.0 ≡ drops) }
-        ensures takes_back { IfErr result (λ e. e.1 ≡ takes) }
     {
         self.unstage();
-        let Some(more) = takes.len().checked_add(room) else {
-            return Err((drops, takes, AllocError));
+        let Change { drops, takes, gain } = change;
+        let (in_store, in_out) = self.rooms_for(takes.len(), room)?;
+        self.knowledge.stage(gain)?;
+        self.prepared = Some(Prepared {
+            drops,
+            takes,
+            room,
+            in_store,
+            in_out,
+        });
+        Ok(())
+    }
+
+    // Room in the store and in the out for so many versions that are taken, and so many that are handed over.
+    fn rooms_for(
+        &mut self,
+        takes: usize,
+        handed: usize,
+    ) -> Result<(Room<SharedHeld>, Room<SharedHeld>), AllocError>
+        ensures kept { self.new ≡ self.old }
+        ensures store { IfOk result (λ rooms. IsRoomFor self.old.store takes handed rooms.0) }
+        ensures out { IfOk result (λ rooms. IsRoomFor self.old.out takes handed rooms.1) }
+    {
+        let Some(more) = takes.checked_add(handed) else {
+            return Err(AllocError);
         };
-        match rooms(&mut self.store, &mut self.out, more) {
-            Ok((in_store, in_out)) => Ok(Prepared {
-                drops,
-                pictures,
-                takes,
-                room,
-                in_store,
-                in_out,
-            }),
-            Err(refused) => Err((drops, takes, refused)),
-        }
+        rooms(&mut self.store, &mut self.out, more)
     }
 
     /// Whether a change is staged.
@@ -450,17 +378,13 @@ impl Device {
         self.knowledge.unstage();
     }
 
-    /// Those of the versions that it holds in the out leave it, and come to the end of a list in the order asked for. Nothing
-    /// is staged then. It takes no memory, and is quickest where they are asked for in the order of the out.
-    pub fn hand_over(&mut self, asked: &[Version], handed: &mut Vec<SharedHeld>)
-        requires distinct { (v : versions.Version) → times_in v asked.now ≤ 1 }
-        requires room { vec_len handed.old + length asked.now ≤ vec_capacity handed.old }
-        ensures shows { (m : ModelDevice) → Shows self.old m → Shows self.new (without_waiting asked.now m) }
-        ensures handed { handed.new.items ≡ handed.old.items ++ helds_at asked.now self.old.out }
+    /// Those of the versions that it holds in the out leave it. Nothing is staged then. It takes no memory.
+    pub fn hand_over(&mut self, handed: &[SharedHeld])
+        ensures shows { (m : ModelDevice) → Shows self.old m → Shows self.new (without_waiting (versions_of handed.now) m) }
         ensures staged { self.new.staged ≡ None }
     {
         self.unstage();
-        self.out.hand_over(asked, handed);
+        self.out.give_up(handed);
     }
 
     /// Makes the change that is staged, and takes the versions that were handed over besides, each into the store where the
@@ -477,13 +401,13 @@ impl Device {
         };
         let Prepared {
             drops,
-            pictures,
             takes,
             room: _,
             in_store,
             in_out,
         } = prepared;
-        give_up(drops.as_slice(), &pictures, &mut self.store, &mut self.out);
+        self.store.give_up(&drops.stored);
+        self.out.give_up(&drops.waiting);
         take_in(
             &self.filter,
             handed,
@@ -524,7 +448,7 @@ impl Device {
         Ok(gone as u64)
     }
 
-    /// Is to keep from now on what any filter matches, and begins its next epoch as an author. What it holds is sorted anew
+    /// Is to keep from now on what any filter matches, and begins its next epoch as an author. What it holds is sorted again
     /// into the store and the out, and it has made nothing then, and knows what this tells and no more. Gives how many
     /// versions are in the store then, and in the out.
     ///
@@ -540,17 +464,17 @@ impl Device {
         ensures staged { self.new.staged ≡ None }
     {
         self.unstage();
-        match held_anew(&filter, &self.store, &self.out) {
-            Ok(anew) => Ok(self.begin_anew(filter, anew)),
+        match resort(&filter, &self.store, &self.out) {
+            Ok(resorted) => Ok(self.begin_epoch(filter, resorted)),
             Err(refused) => Err((filter, refused)),
         }
     }
 
-    // Begins its next epoch with what it holds, sorted anew by the filter that it gets.
-    fn begin_anew(&mut self, filter: Filter, anew: Anew) -> (u64, u64)
+    // Begins its next epoch with what it holds, sorted again by the filter that it gets.
+    fn begin_epoch(&mut self, filter: Filter, resorted: Resorted) -> (u64, u64)
         requires unstaged { self.old.staged ≡ None }
         requires epoch { epoch_of_author self.old.author < 4_294_967_295 }
-        requires anew { IsAnew filter self.old.store self.old.out anew }
+        requires resorted { IsResorted filter self.old.store self.old.out resorted }
         ensures shows { (m : ModelDevice) → Shows self.old m → Shows self.new (refiltered filter m) }
         ensures store { result.0 ≡ length self.new.store }
         ensures out { result.1 ≡ length self.new.out }
@@ -562,7 +486,7 @@ impl Device {
         self.author = author;
         self.filter = filter;
         self.counter = 0;
-        let Anew { store, out, told } = anew;
+        let Resorted { store, out, told } = resorted;
         self.store = store;
         self.out = out;
         self.knowledge.replace(told);
@@ -605,7 +529,7 @@ impl Device {
 fn hold_next(
     store: &mut HeldSet,
     out: &mut HeldSet,
-    knowledge: &mut NotedKnowledge,
+    knowledge: &mut CachedKnowledge,
     place: Place,
     held: SharedHeld,
 ) -> Result<(), AllocError>

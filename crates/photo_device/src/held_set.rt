@@ -2,7 +2,6 @@
 ghost use Rattle.std.specs.Prelude.{◌≡◌, true};
 ghost use Rattle.photo_device.specs.Held.{are_in_order, IsRangeOf};
 
-use crate::sought::Sought;
 use crate::{Held, SharedHeld, SharedList};
 use block_list::{BlockList, Iter, Room, Roomy, Spot};
 use photo_record::PicNo;
@@ -34,12 +33,12 @@ impl Model for HeldSet {
 
 impl HeldSet {
     ghost use Rattle.std.specs.Prelude.{◌≡◌, ◌+◌, ◌<◌, ◌≤◌, ◌==◌, true, false, None, [], ◌∷◌, ◌++◌, length, slice_get, Some};
-    ghost use Rattle.std.specs.Prelude.{IfOk, OnOk, OnErr, vec_len, vec_capacity};
+    ghost use Rattle.std.specs.Prelude.{IfOk, OnOk, OnErr};
     ghost use Rattle.std.specs.Option.{option_copied};
     ghost use Rattle.block_list.specs.Blocks.{joined};
     ghost use Rattle.photo_device.specs.Held.{are_in_order, held_of_others, has_picture, has_version_of};
-    ghost use Rattle.photo_device.specs.Held.{helds_without, replaced};
-    ghost use Rattle.photo_device.specs.Held.{find_version, find_version_of, count_of, times_in, helds_at};
+    ghost use Rattle.photo_device.specs.Held.{helds_without, replaced, versions_of};
+    ghost use Rattle.photo_device.specs.Held.{find_version, find_version_of, count_of};
     ghost use Rattle.photo_version.specs.Version as spec;
 
     pub(crate) fn new(alloc: Global) -> HeldSet
@@ -188,51 +187,16 @@ impl HeldSet {
         Ok(())
     }
 
-    /// Gives up those versions, in whatever order they come. It takes no memory, and is quickest where they stand in
-    /// the order of versions.
-    pub(crate) fn drop_versions(&mut self, versions: &[Version])
-        ensures { self.new ≡ helds_without versions.now self.old }
+    /// Gives up the versions of a list. Each is looked for first where its picture stands, and then everywhere. It takes no
+    /// memory.
+    #[tactic(auto, using(std::proofs::lemmas::Grind::common_steps, crate::proofs::Taken::one_given_up))]
+    pub(crate) fn give_up(&mut self, gone: &[SharedHeld])
+        requires { (v : spec.Version) → count_of v self.old ≤ 1 }
+        ensures { self.new ≡ helds_without (versions_of gone.now) self.old }
     {
-        if versions.is_empty() {
-            return;
-        }
-        let sought = Sought::new(versions);
-        self.items.retain(|held| !sought.has(held.version()));
-    }
-
-    /// Gives up that version of that picture, if it has it; whether it had it. It is found by a search, which takes no memory.
-    #[tactic(auto, using(crate::proofs::Putting::found_any))]
-    pub(crate) fn drop_version_of(&mut self, picture: PicNo, version: Version) -> bool
-        requires { count_of version self.old ≤ 1 }
-        ensures had { result ≡ has_version_of picture version self.old }
-        ensures dropped { result ≡ true → self.new ≡ helds_without (version ∷ []) self.old }
-        ensures kept { result ≡ false → self.new ≡ self.old }
-    {
-        let (found, near) = self.look_for(picture, version);
-        if found.is_none() {
-            return false;
-        }
-        self.take_version(near, version);
-        true
-    }
-
-    /// Those of the versions that it has leave it, and come to the end of a list, in the order asked for. It takes no
-    /// memory, and is quickest where they are asked for in the order of the set.
-    pub(crate) fn hand_over(&mut self, versions: &[Version], handed: &mut Vec<SharedHeld>)
-        requires once { (v : spec.Version) → count_of v self.old ≤ 1 }
-        requires distinct { (v : spec.Version) → times_in v versions.now ≤ 1 }
-        requires room { vec_len handed.old + length versions.now ≤ vec_capacity handed.old }
-        ensures rest { self.new ≡ helds_without versions.now self.old }
-        ensures handed { handed.new.items ≡ handed.old.items ++ helds_at versions.now self.old }
-        ensures capacity { vec_capacity handed.new ≡ vec_capacity handed.old }
-    {
-        let mut near = Spot::start();
-        for version in versions {
-            let (found, further) = self.take_version(near, *version);
-            near = further;
-            if let Some(held) = found {
-                handed.push_reserved(held);
-            }
+        for held in gone {
+            let (_, near) = self.look_for(held.picture(), held.version());
+            self.drop_version(near, held.version());
         }
     }
 
@@ -252,13 +216,12 @@ impl HeldSet {
         (Some(held), spot)
     }
 
-    // Takes the one of that version out, if it has it, and gives a hint for the next.
-    fn take_version(&mut self, near: Spot, version: Version) -> (Option<SharedHeld>, Spot)
+    // Gives up the one of that version, if it has it. It is looked for from a hint on.
+    fn drop_version(&mut self, near: Spot, version: Version)
         requires { count_of version self.old ≤ 1 }
-        ensures found { result.0 ≡ find_version version self.old }
-        ensures rest { self.new ≡ helds_without (version ∷ []) self.old }
+        ensures { self.new ≡ helds_without (version ∷ []) self.old }
     {
-        self.items.take_near(near, |held| held.version() == version)
+        self.items.take_near(near, |held| held.version() == version);
     }
 
     /// Gives up all versions of a picture.

@@ -2,7 +2,7 @@
 ghost use Rattle.std.specs.Prelude.{◌≡◌, None};
 ghost use Rattle.std.specs.List.{AllByRecursion};
 ghost use Rattle.photo_device.specs.Own.{IsKnownBy, KnowsItsOwn};
-ghost use Rattle.photo_device.specs.Examples.{MayStageAsTold, HasStagedAsTold, MayHandAsTold, TheRowsOfNotes, TheTables, TheNexts};
+ghost use Rattle.photo_device.specs.Examples.{MayStageAsTold, HasStagedAsTold, MayHandAsTold, TheCacheRows, TheTables, TheNexts};
 
 use crate::Device;
 use item_knowledge::Knowledge;
@@ -20,13 +20,13 @@ pub fn with_knowledge(device: Device, knowledge: Knowledge) -> Device
 }
 
 /// The definitions at some changes: which may be staged, what staging leaves, and what may be handed over with one; and at some
-/// rows of notes, tables and lists.
-#[tactic(auto, using(crate::proofs::WorkedExamples::may_stage_as_told, crate::proofs::WorkedExamples::has_staged_as_told, crate::proofs::WorkedExamples::may_hand_as_told, crate::proofs::WorkedExamples::the_rows_of_notes, crate::proofs::WorkedExamples::the_tables, crate::proofs::WorkedExamples::the_nexts))]
+/// rows of the cache, tables and lists.
+#[tactic(auto, using(crate::proofs::WorkedExamples::may_stage_as_told, crate::proofs::WorkedExamples::has_staged_as_told, crate::proofs::WorkedExamples::may_hand_as_told, crate::proofs::WorkedExamples::the_cache_rows, crate::proofs::WorkedExamples::the_tables, crate::proofs::WorkedExamples::the_nexts))]
 pub fn examples()
     ensures may_stage { MayStageAsTold }
     ensures has_staged { HasStagedAsTold }
     ensures may_hand { MayHandAsTold }
-    ensures rows { TheRowsOfNotes }
+    ensures rows { TheCacheRows }
     ensures tables { TheTables }
     ensures nexts { TheNexts }
 {}

@@ -5,28 +5,26 @@
 //! versions in its history.
 #![tactic(auto)]
 
-mod anew;
+mod cached_knowledge;
 mod change;
 mod conflict;
 mod conflicts;
 mod device;
-mod drops;
 mod each;
 mod fault;
 mod held;
 mod held_set;
 mod item_list;
+mod known_cache;
 pub mod laws;
-mod noted_knowledge;
-mod noted_versions;
 mod placing;
 mod prepared;
+mod resorted;
 mod shared_held;
-mod sought;
 mod table;
 mod takes;
 
-pub use change::Change;
+pub use change::{Change, Gain, Selection};
 pub use conflict::Conflict;
 pub use device::Device;
 pub use fault::{ChangeFault, NarrowFault};

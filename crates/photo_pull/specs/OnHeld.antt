@@ -9,11 +9,11 @@ use Rattle.photo_filter_text.specs.Tree.{Tree}
 use Rattle.photo_filter_rules.specs.Matching.{matches}
 use Rattle.photo_filter_rules.specs.Covers.{covers}
 use Rattle.photo_device.specs.declared.held.Held.{Held}
-use Rattle.photo_device.specs.Held.{are_in_order, held_before}
+use Rattle.photo_device.specs.declared.change.Selection.{Selection}
+use Rattle.photo_device.specs.Held.{are_in_order, held_before, versions_of}
 use Rattle.photo_device.specs.Device.{Kept}
 use Rattle.photo_device.specs.Telling.{tells}
-use Rattle.photo_pull.specs.declared.gap.Gap.{Gap}
-use Rattle.photo_pull.specs.declared.part.Part.{Part}
+use Rattle.photo_pull.specs.declared.quiet_range.QuietRange.{QuietRange}
 
 -- not known
 abbrev pub is_new : List Fragment → Held → Bool
@@ -31,33 +31,33 @@ has_above ws h = list_any (λ w. is_above w h) ws
 abbrev pub has_below : List Held → Held → Bool
 has_below hs w = list_any (λ h. is_above w h) hs
 
--- one of a part supersedes h
-abbrev pub part_above : Part → Held → Bool
-part_above part h = has_above part.stored.items h || has_above part.waiting.items h
+-- one of a selection supersedes h
+abbrev pub selection_above : Selection → Held → Bool
+selection_above selection h = has_above selection.stored.items h || has_above selection.waiting.items h
 
--- w supersedes one of a part
-abbrev pub part_below : Part → Held → Bool
-part_below part w = has_below part.stored.items w || has_below part.waiting.items w
+-- w supersedes one of a selection
+abbrev pub selection_below : Selection → Held → Bool
+selection_below selection w = has_below selection.stored.items w || has_below selection.waiting.items w
 
--- of its pictures nothing in a part supersedes a version, and of later ones only what stands from its places on
-pub record IsGap (part : Part) (gap : Gap) : Type 0 where
-  pub none : (h : Held) → gap.from ≤ h.picture → h.picture < gap.end → part_above part h ≡ false
-  pub stored : (h : Held) → gap.from ≤ h.picture → has_above (drop gap.stored part.stored.items) h ≡ has_above part.stored.items h
-  pub waiting : (h : Held) → gap.from ≤ h.picture → has_above (drop gap.waiting part.waiting.items) h ≡ has_above part.waiting.items h
+-- of its pictures nothing in a selection supersedes a version, and of later ones only what stands from its places on
+pub record IsQuiet (selection : Selection) (quiet : QuietRange) : Type 0 where
+  pub none : (h : Held) → quiet.from ≤ h.picture → h.picture < quiet.end → selection_above selection h ≡ false
+  pub stored : (h : Held) → quiet.from ≤ h.picture → has_above (drop quiet.stored selection.stored.items) h ≡ has_above selection.stored.items h
+  pub waiting : (h : Held) → quiet.from ≤ h.picture → has_above (drop quiet.waiting selection.waiting.items) h ≡ has_above selection.waiting.items h
 
--- a part is in the order of its pictures
-pub record IsOrdered (part : Part) : Type 0 where
-  pub stored : are_in_order part.stored.items ≡ true
-  pub waiting : are_in_order part.waiting.items ≡ true
+-- a selection is in the order of its pictures
+pub record IsOrdered (selection : Selection) : Type 0 where
+  pub stored : are_in_order selection.stored.items ≡ true
+  pub waiting : are_in_order selection.waiting.items ≡ true
 
 -- that version of that picture is among them
 abbrev pub has_same : List Held → Held → Bool
 has_same hs h = list_any (λ g. (g.picture == h.picture) && same_version g.version h.version) hs
 
 -- what is left of a list, the next of it at hand
-abbrev pub coming : Option (Bor Held) → List Held → List Held
-coming None others = []
-coming (Some next) others = next.now ∷ others
+abbrev pub left_of : Option (Bor Held) → List Held → List Held
+left_of None others = []
+left_of (Some next) others = next.now ∷ others
 
 -- a list in order is left, and of what stands no earlier than h it has what the old one has
 pub record HasPassed (h : Held) (old new : List Held) : Type 0 where
@@ -65,8 +65,8 @@ pub record HasPassed (h : Held) (old new : List Held) : Type 0 where
   pub same : (k : Held) → held_before k h ≡ false → has_same new k ≡ has_same old k
 
 -- something new supersedes h, or, where what a device keeps is followed, that knows h and doesn't keep it
-abbrev pub is_gone : Part → Bool → Kept → Held → Bool
-is_gone news followed d h = part_above news h || (followed && (knows d.knowledge h.picture h.version && not (has_same d.store h)))
+abbrev pub is_gone : Selection → Bool → Kept → Held → Bool
+is_gone news followed d h = selection_above news h || (followed && (knows d.knowledge h.picture h.version && not (has_same d.store h)))
 
 -- what the target doesn't know of the source's store, and of its out
 abbrev pub new_stored : Kept → Kept → List Held
@@ -109,11 +109,8 @@ heard t s = filter (is_heard t s) (new_stored t s)
 abbrev pub taken_stored : Kept → Kept → List Held
 taken_stored t s = filter (is_selected t.tree) (heard t s)
 
-abbrev pub versions : List Held → List Version
-versions hs = map (λ h. h.version) hs
-
 abbrev pub drops : Kept → Kept → List Version
-drops t s = versions (dropped_stored t s) ++ versions (dropped_waiting t s)
+drops t s = versions_of (dropped_stored t s) ++ versions_of (dropped_waiting t s)
 
 -- what the target learns
 abbrev pub gains : Kept → Kept → ℕ → Versions

@@ -3,15 +3,15 @@
 #![tactic(auto)]
 
 mod change;
+mod delta;
 mod filtered;
-mod gap;
-mod hearing;
-mod keeping;
 pub mod laws;
 mod news;
-mod part;
 mod previewing;
 mod pulling;
+mod quiet_range;
+mod selection;
+mod set_cursor;
 mod superseding;
 
 pub use photo_model::PullCounts;

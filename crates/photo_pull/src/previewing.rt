@@ -6,7 +6,7 @@ ghost use Rattle.photo_model.specs.Pull.{counts_of, is_up_to_date};
 ghost use Rattle.photo_pull.specs.MayPull.{MayPull};
 
 use crate::PullCounts;
-use crate::hearing::heard_between;
+use crate::delta::delta_between;
 use crate::news::news_by;
 use photo_device::Device;
 use std::alloc::{AllocError, Global};
@@ -21,6 +21,6 @@ pub fn preview(alloc: Global, target: &Device, source: &Device) -> Result<PullCo
     ensures wanted { OnErr result ((t s : ModelDevice) → Shows target.now t → Shows source.now s → is_up_to_date t s ≡ false) }
 {
     let news = news_by(alloc, target, source)?;
-    let hearing = heard_between(alloc, news, target, source)?;
-    Ok(hearing.counts(target, source))
+    let delta = delta_between(alloc, news, target, source)?;
+    Ok(delta.counts(target, source))
 }

@@ -7,11 +7,10 @@ ghost use Rattle.photo_model.specs.Pull.{pulled, handed_over, counts_of};
 ghost use Rattle.photo_pull.specs.Findings.{AreNews, HavePulled, HasToPull};
 
 use crate::PullCounts;
-use crate::change::{handed_of, stage_found};
-use crate::hearing::heard_between;
+use crate::change::stage_found;
+use crate::delta::delta_between;
 use crate::news::news_of;
-use crate::part::Part;
-use photo_device::Device;
+use photo_device::{Device, Selection};
 use std::alloc::{AllocError, Global};
 
 /// The target takes from the source the versions that it doesn't know and is to keep, and all that the source only
@@ -47,7 +46,7 @@ pub fn pull(
 // The pull by what is new to the target, between two devices on which nothing is staged.
 fn pull_news(
     alloc: Global,
-    news: Part,
+    news: Selection,
     target: &mut Device,
     source: &mut Device,
 ) -> Result<PullCounts, AllocError>
@@ -61,14 +60,13 @@ fn pull_news(
     ensures target_still { target.new.staged ≡ None }
     ensures source_still { source.new.staged ≡ None }
 {
-    let hearing = heard_between(alloc, news, target, source)?;
-    let counts = hearing.counts(target, source);
-    if hearing.is_nothing(target.knowledge(), source.knowledge()) {
+    let delta = delta_between(alloc, news, target, source)?;
+    let counts = delta.counts(target, source);
+    if delta.is_nothing(target.knowledge(), source.knowledge()) {
         return Ok(counts);
     }
-    let (asked, mut handed) = handed_of(alloc, &hearing)?;
-    stage_found(alloc, hearing, target, source, asked.len())?;
-    source.hand_over(&asked, &mut handed);
+    let handed = stage_found(alloc, delta, target, source)?;
+    source.hand_over(&handed);
     target.commit(handed);
     Ok(counts)
 }

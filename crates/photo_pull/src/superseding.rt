@@ -4,7 +4,7 @@ ghost use Rattle.photo_device.specs.declared.held.Held as spec;
 ghost use Rattle.photo_device.specs.Held.{are_in_order};
 ghost use Rattle.photo_pull.specs.OnHeld.{is_above, has_above, has_below};
 
-use crate::gap::Gap;
+use crate::quiet_range::QuietRange;
 use photo_device::SharedHeld;
 use photo_record::PicNo;
 
@@ -37,19 +37,19 @@ pub(crate) fn picture_at(list: &[SharedHeld], place: usize) -> u32
 }
 
 /// How many at the start of a list are of pictures of which there is no news, by what was found last.
-pub(crate) fn without_news(list: &[SharedHeld], gap: Gap) -> usize
+pub(crate) fn without_news(list: &[SharedHeld], quiet: QuietRange) -> usize
     requires { are_in_order list.now ≡ true }
     ensures bound { result ≤ length list.now }
-    ensures passed { (f : spec.Held → Bool) → ((h : spec.Held) → gap.from ≤ h.picture → h.picture < gap.end → f h ≡ false)
+    ensures passed { (f : spec.Held → Bool) → ((h : spec.Held) → quiet.from ≤ h.picture → h.picture < quiet.end → f h ≡ false)
         → filter f (drop result list.now) ≡ filter f list.now }
 {
-    if list.is_empty() || !gap.has(list[0].picture()) {
+    if list.is_empty() || !quiet.has(list[0].picture()) {
         return 0;
     }
-    if gap.has(list[list.len() - 1].picture()) {
+    if quiet.has(list[list.len() - 1].picture()) {
         return list.len();
     }
-    list.partition_point(|held| held.picture().value() < gap.end)
+    list.partition_point(|held| held.picture().value() < quiet.end)
 }
 
 /// Whether one of those from a place on supersedes the version.
