@@ -13,7 +13,7 @@ use Rattle.block_list.specs.Room.{Reserved, Growing}
 use Rattle.photo_version.specs.Version.{Version, same_version}
 use Rattle.photo_device.specs.declared.held.Held.{Held}
 use Rattle.photo_model.specs.Ordered.{put}
-use Rattle.photo_device.specs.Held.{held_before, has_version_of, count_of, times_in, are_in_order, find_version, is_listed, helds_without, helds_at, put_helds, versions_of}
+use Rattle.photo_device.specs.Held.{held_before, has_version_of, count_of, are_in_order, find_version, is_listed, helds_without, put_helds, versions_of}
 use Rattle.photo_device.specs.Staging.{AreNoneOf}
 use Rattle.photo_device.specs.Taking.{AreNewTo, HasRoomFor, HasTaken, MayTake, with_those}
 use Rattle.photo_device.proofs.Counts.{one_of, count_of-cons, count_of-append, count_of-put, count_of-filter, not_found, same_version_self}
@@ -165,6 +165,9 @@ one_given_up gone before h left now is = record {
   once = λ v. let was = is.once v in omega (arith, count_of-filter v (λ (g : Held). not (is_listed (h.version ∷ []) g.version)) now);
   rest = without-cons h.version (versions_of left) now ∙ is.rest;
 }
+
+pub all_given_up : (gone before now : List Held) → IsGivingUp gone before [] now → now ≡ helds_without (versions_of gone) before
+all_given_up gone before now is = sym (without_none now) ∙ is.rest
 
 -- what is left of a set, where a search by the code's test took out what it found
 pub left_by_test : (v : Version) (old shown new : List Held) (found : Option Held) {F : Type 0} {f : Mut F (Bor Held × Unit {0}) Bool} {pred : F} → IfNone found (new ≡ old) → IfNone found ((p : Held → Bool) → ComputesKey f p pred → list_any p old ≡ false)

@@ -189,7 +189,6 @@ impl HeldSet {
 
     /// Gives up the versions of a list. Each is looked for first where its picture stands, and then everywhere. It takes no
     /// memory.
-    #[tactic(auto, using(std::proofs::lemmas::Grind::common_steps, crate::proofs::Taken::one_given_up))]
     pub(crate) fn give_up(&mut self, gone: &[SharedHeld])
         requires { (v : spec.Version) → count_of v self.old ≤ 1 }
         ensures { self.new ≡ helds_without (versions_of gone.now) self.old }

@@ -7,8 +7,8 @@ use Rattle.photo_device.proofs.device.Device.commit.Goals as goal
 pub give_up-requires : goal.give_up-requires
 give_up-requires c = λ v. omega (arith, held_once _ _ _ _ (committing _ _ _ c.args.handed.items _ _ (sym c.take.ensures.value ∙ c.in-Some.is) c.self.view_is c.self.invariant c.requires.handed) v)
 
-pub give_up-2-requires : goal.give_up-2-requires
-give_up-2-requires c = λ v. omega (arith, held_once _ _ _ _ (committing _ _ _ c.args.handed.items _ _ (sym c.take.ensures.value ∙ c.in-Some.is) c.self.view_is c.self.invariant c.requires.handed) v)
+pub give_up-requires-2 : goal.give_up-requires-2
+give_up-requires-2 c = λ v. omega (arith, held_once _ _ _ _ (committing _ _ _ c.args.handed.items _ _ (sym c.take.ensures.value ∙ c.in-Some.is) c.self.view_is c.self.invariant c.requires.handed) v)
 
 pub take_in-requires : goal.take_in-requires
 take_in-requires c =
