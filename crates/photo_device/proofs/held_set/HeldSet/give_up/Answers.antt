@@ -1,5 +1,4 @@
 use Rattle.std.proofs.Common.{◌+◌, List, ◌∷◌, drop, subst, sym, ap, ◌∙◌, arith}
-use Rattle.std.proofs.lemmas.Grind.{common_steps}
 use Rattle.std.proofs.lemmas.List.{drop_all, drop_more}
 use Rattle.photo_device.specs.declared.held.Held.{Held}
 use Rattle.photo_device.proofs.Taken.{IsGivingUp, one_given_up, all_given_up}
@@ -15,4 +14,7 @@ loop-held-preserved c =
     rw (c.drop_version.ensures, c.version-in-loop-held.ensures) (one_given_up gone c.args.self.now h (drop (i + 1) gone) c.loop-held.self are)
 
 pub returns : goal.returns
-returns c = grind (arith, common_steps, drop_all, all_given_up)
+returns c =
+    let gone = c.args.gone.now in
+    let done = drop_all c.loop-held.held-index gone (omega (arith, c.loop-held-test.false)) in
+    all_given_up gone c.args.self.now c.loop-held.self (subst (λ (l : List Held). IsGivingUp gone c.args.self.now l c.loop-held.self) done c.loop-held.invariant)
