@@ -12,7 +12,7 @@ mod tally;
 pub use fleet_model::{Command, Tally, Totals};
 pub use report::{Report, push_report, report_text};
 pub use script_reader::{
-    LineFault, MAX_COMMANDS, MAX_DEVICES, MAX_TEXT_BYTES, Script, ScriptFault, devices_of,
-    read_script,
+    GrowingScript, LineFault, MAX_COMMANDS, MAX_DEVICES, MAX_TEXT_BYTES, Said, Script, ScriptFault,
+    devices_of, read_script,
 };
 pub use tally::totals_of;

@@ -35,11 +35,11 @@ use Rattle.script_reader.proofs.Taken.{names_of-push, filters_of-push, commands_
 
 -- what is said, step by step
 
-bound : {A B : Type 0} (r : Result A LineFault) (f : A → Result B LineFault) (b : B) → (r >>= f) ≡ Ok b → (a : A) × (r ≡ Ok a) × (f a ≡ Ok b)
+pub bound : {A B : Type 0} (r : Result A LineFault) (f : A → Result B LineFault) (b : B) → (r >>= f) ≡ Ok b → (a : A) × (r ≡ Ok a) × (f a ≡ Ok b)
 bound (Ok a) f b h = (a, refl, h)
 bound (Err e) f b h = cc
 
-passed : {A : Type 0} (b : Bool) (e : LineFault) (r : Result A LineFault) (x : A) → cond b (Err e) r ≡ Ok x → (b ≡ false) × (r ≡ Ok x)
+pub passed : {A : Type 0} (b : Bool) (e : LineFault) (r : Result A LineFault) (x : A) → cond b (Err e) r ≡ Ok x → (b ≡ false) × (r ≡ Ok x)
 passed true e r x h = cc
 passed false e r x h = (refl, h)
 
@@ -359,7 +359,7 @@ fields_taken before (word ∷ arguments) filter x h = by (is_comment word) refl 
     by true is h = let same : None ≡ x = cc in subst (IsTaken before (word ∷ arguments) filter) same (silent before word arguments filter is (comment_is_none word is))
     by false is h = by_device (is_word word (codes "device")) refl is h
 
-line_taken : (before : Earlier) (line : List ℕ) (x : Option Command) → said before line ≡ Ok x → IsTaken before (fields_of line) (third_field_on line) x
+pub line_taken : (before : Earlier) (line : List ℕ) (x : Option Command) → said before line ≡ Ok x → IsTaken before (fields_of line) (third_field_on line) x
 unfolding said
 line_taken before line x h = fields_taken before (fields_of line) (third_field_on line) x (passed (ltb max_line_bytes (length line)) fault.LineTooLong _ x h).1
 

@@ -12,7 +12,7 @@ use Rattle.fleet_model.specs.Contents.{contents}
 use Rattle.script_reader.specs.Fields.{is_word}
 use Rattle.script_reader.specs.Earlier.{Earlier, is_comment, declared_by, filter_declared_by, made_by, is_command}
 use Rattle.script_reader.specs.Saying.{with_room, command_said, device_said, ◌>>=◌}
-use Rattle.script_reader.specs.Steps.{Gives, Lacks, Reads, Refuses, Takes, first_said}
+use Rattle.script_reader.specs.Steps.{Gives, IsAsItWas, Lacks, Reads, Refuses, Takes, first_said}
 use Rattle.fleet_model.specs.declared.command.Command.{Command}
 use Rattle.script_reader.specs.declared.fault.LineFault.{LineFault}
 use Rattle.script_reader.specs.declared.fault.LineFault.TheVariants.{TooMany}
@@ -48,8 +48,8 @@ pub first-known : (before : Earlier) (name : List ℕ) (device : ℕ) → Ok dev
 unfolding first_said
 first-known before name device e = known-cases (leb max_commands before.commands) (device_said before name) device e
 
-reads-refused : (old new : Reader) (fields : List (List ℕ)) (filter : List ℕ) (said : Result (Option Command) LineFault) (r : Result (Unit {0}) Refusal) (e : Refusal) → r ≡ Err e → Refuses e said → Reads old fields filter said r new
-reads-refused old new fields filter said r e is refused = subst (λ x. Reads old fields filter said x new) (sym is) refused
+reads-refused : (old new : Reader) (fields : List (List ℕ)) (filter : List ℕ) (said : Result (Option Command) LineFault) (r : Result (Unit {0}) Refusal) (e : Refusal) → r ≡ Err e → Refuses e said → IsAsItWas old new → Reads old fields filter said r new
+reads-refused old new fields filter said r e is refused kept = subst (λ x. Reads old fields filter said x new) (sym is) (refused, kept)
 
 -- what a `?` hands on: the same fault
 pub hands-fault : {A : Type 0} (r : Result A LineFault) (f : LineFault) → IsErrAnd r (λ e. e ≡ f) → r ≡ Err f
@@ -70,23 +70,23 @@ gives-same view r said e h refused =
     let p = err_from_is_err_and r h in
     gives-refused view r said p.0 p.1 (subst (λ x. Refuses x said) (sym p.2) refused)
 
--- and for a line: a fault
-pub reads-fault : (old new : Reader) (fields : List (List ℕ)) (filter : List ℕ) (said : Result (Option Command) LineFault) (r : Result (Unit {0}) Refusal) (f : LineFault) → IsErrAnd r (λ e. e ≡ Fault f) → said ≡ Err f → Reads old fields filter said r new
-reads-fault old new fields filter said r f h is =
+-- and for a line: a fault, before anything has changed
+pub reads-fault : (old : Reader) (fields : List (List ℕ)) (filter : List ℕ) (said : Result (Option Command) LineFault) (r : Result (Unit {0}) Refusal) (f : LineFault) → IsErrAnd r (λ e. e ≡ Fault f) → said ≡ Err f → Reads old fields filter said r old
+reads-fault old fields filter said r f h is =
     let p = err_from_is_err_and r h in
-    reads-refused old new fields filter said r p.0 p.1 (subst (λ e. Refuses e said) (sym p.2) is)
+    reads-refused old old fields filter said r p.0 p.1 (subst (λ e. Refuses e said) (sym p.2) is) (refl, λ p. refl)
 
 -- the same refusal
-pub reads-same : (old new : Reader) (fields : List (List ℕ)) (filter : List ℕ) (said : Result (Option Command) LineFault) (r : Result (Unit {0}) Refusal) (e : Refusal) → IsErrAnd r (λ x. x ≡ e) → Refuses e said → Reads old fields filter said r new
-reads-same old new fields filter said r e h refused =
+pub reads-same : (old new : Reader) (fields : List (List ℕ)) (filter : List ℕ) (said : Result (Option Command) LineFault) (r : Result (Unit {0}) Refusal) (e : Refusal) → IsErrAnd r (λ x. x ≡ e) → Refuses e said → IsAsItWas old new → Reads old fields filter said r new
+reads-same old new fields filter said r e h refused kept =
     let p = err_from_is_err_and r h in
-    reads-refused old new fields filter said r p.0 p.1 (subst (λ x. Refuses x said) (sym p.2) refused)
+    reads-refused old new fields filter said r p.0 p.1 (subst (λ x. Refuses x said) (sym p.2) refused) kept
 
 -- and want of memory
-pub reads-memory : (old new : Reader) (fields : List (List ℕ)) (filter : List ℕ) (said : Result (Option Command) LineFault) (r : Result (Unit {0}) Refusal) → IsErrAnd r (λ e. e ≡ Memory) → Reads old fields filter said r new
-reads-memory old new fields filter said r h =
+pub reads-memory : (old new : Reader) (fields : List (List ℕ)) (filter : List ℕ) (said : Result (Option Command) LineFault) (r : Result (Unit {0}) Refusal) → IsErrAnd r (λ e. e ≡ Memory) → IsAsItWas old new → Reads old fields filter said r new
+reads-memory old new fields filter said r h kept =
     let p = err_from_is_err_and r h in
-    reads-refused old new fields filter said r p.0 p.1 (subst (λ e. Refuses e said) (sym p.2) tt)
+    reads-refused old new fields filter said r p.0 p.1 (subst (λ e. Refuses e said) (sym p.2) tt) kept
 
 -- a line that declares no device and makes no picture lacks but its command from the first
 pub lacks-first : (r : Reader) (fields : List (List ℕ)) (filter : List ℕ) → declared_by fields ≡ [] → filter_declared_by fields filter ≡ [] → made_by fields ≡ [] → is_command fields ≡ true → Lacks r fields filter r
@@ -106,7 +106,7 @@ no_name word [] other = refl
 no_name word (name ∷ more) other = rw other refl
 
 -- and only `new` makes a picture
-no_picture : (word : List ℕ) (arguments : List (List ℕ)) → is_word word (codes "new") ≡ false → made_by (word ∷ arguments) ≡ []
+pub no_picture : (word : List ℕ) (arguments : List (List ℕ)) → is_word word (codes "new") ≡ false → made_by (word ∷ arguments) ≡ []
 no_picture word [] other = refl
 no_picture word (device ∷ []) other = refl
 no_picture word (device ∷ picture ∷ more) other = rw other refl

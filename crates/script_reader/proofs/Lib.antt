@@ -7,7 +7,9 @@ mod Cuts
 mod FilterTexts
 mod Gathered
 mod HasField
+mod Grown
 mod Knowing
+mod MadeBy
 mod Moving
 mod Numbers
 mod Places

@@ -1,9 +1,7 @@
 -- What a reader shows of the lines that it has taken.
 use Rattle.std.proofs.Common.{◌≡◌, ◌+◌, ◌∷◌, ◌++◌, ℕ, List, [], length, cond, ◌||◌, eqb, Option, Ok, sym, ap, ◌∙◌, length-append, zero-add}
-use Rattle.std.specs.BTreeSet.{contains}
 use Rattle.std.specs.List.{list_any}
 use Rattle.std.specs.Option.{option_to_list}
-use Rattle.std.specs.Ordering.{nat_cmp}
 use Rattle.std.proofs.lemmas.List.{append-nil}
 use Rattle.std.proofs.lemmas.List.Concat.{flat_map-append}
 use Rattle.std.proofs.lemmas.List.Folds.{list_any-append}
@@ -11,20 +9,11 @@ use Rattle.std.proofs.lemmas.List.Sums.{sum_by-append}
 use Rattle.photo_filter_text.specs.Tree.{Tree}
 use Rattle.script_reader.specs.Lines.{fields_of, third_field_on}
 use Rattle.script_reader.specs.Earlier.{earlier, names_of, filters_of, pictures_of, commands_of, declared_by, filter_declared_by, made_by, is_command}
-use Rattle.script_reader.specs.Reading.{sayings, commands_said}
 use Rattle.script_reader.specs.Saying.{said}
-use Rattle.script_reader.specs.Steps.{IsFirst, Takes, seen}
+use Rattle.script_reader.specs.Steps.{HasTaken, IsFirst, Takes, seen}
 use Rattle.fleet_model.specs.declared.command.Command.{Command}
 use Rattle.script_reader.specs.declared.reader.Reader.{Reader}
 use Rattle.script_reader.proofs.Gathered.{commands_said-more}
-
--- the reader has taken these lines, and none has a fault
-pub record HasTaken (lines : List (List ℕ)) (r : Reader) : Type 0 where
-  pub names : r.script.names ≡ names_of lines
-  pub filters : r.script.filters ≡ filters_of lines
-  pub makes : (p : ℕ) → contains nat_cmp r.pictures p ≡ (earlier lines).makes p
-  pub counted : length r.script.commands ≡ commands_of lines
-  pub said : commands_said 1 (sayings [] lines) ≡ Ok r.script.commands
 
 -- at first it has taken none
 pub HasTaken-none : (r : Reader) → IsFirst r → HasTaken [] r

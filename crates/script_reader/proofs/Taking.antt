@@ -1,11 +1,11 @@
 -- What a reader has after a line of each kind, and what the line says then.
-use Rattle.std.proofs.Common.{◌≡◌, ◌≤◌, ◌<◌, ◌∷◌, ◌++◌, ℕ, List, [], length, Bool, true, false, cond, ◌||◌, eqb, codes, Option, Some, None, Result, Ok, Err, refl, sym, ap, ◌∙◌, arith}
+use Rattle.std.proofs.Common.{◌≡◌, ◌≤◌, ◌<◌, ◌∷◌, ◌++◌, ℕ, List, [], length, Bool, true, false, cond, ◌||◌, eqb, codes, Option, Some, None, Result, Ok, Err, refl, sym, ap, subst, ◌∙◌, arith}
 use Rattle.std.proofs.Math.Bool.{or-false}
-use Rattle.std.specs.BTreeSet.{contains, Updates}
+use Rattle.std.specs.BTreeSet.{BTreeSet, contains, Updates}
 use Rattle.std.specs.List.{list_any}
 use Rattle.std.specs.Option.{is_some, option_to_list}
 use Rattle.std.specs.Ordering.{nat_cmp, is_eq}
-use Rattle.std.proofs.lemmas.Bool.{le-ltb, lt-leb}
+use Rattle.std.proofs.lemmas.Bool.{eqb-true, le-ltb, lt-leb}
 use Rattle.std.proofs.lemmas.List.{append-nil}
 use Rattle.std.proofs.lemmas.Bool.Decides.{nat_tests}
 use Rattle.std.proofs.lemmas.Option.{cond_some}
@@ -110,7 +110,7 @@ unless_true : {A : Type 0} (b : Bool) (e : LineFault) (x y : A) → Ok y ≡ con
 unless_true true e x y h = cc
 unless_true false e x y h = cc
 
-number-said : (before : Earlier) (text : List ℕ) (number : ℕ) → Ok number ≡ new_picture_said before text → number_of text ≡ number
+pub number-said : (before : Earlier) (text : List ℕ) (number : ℕ) → Ok number ≡ new_picture_said before text → number_of text ≡ number
 unfolding new_picture_said
 number-said before text number said =
     let found = or_fault-ok (picture_of text) fault.BadNumber _ number said in
@@ -139,3 +139,35 @@ lacks_new old now name picture rating date words number said script pictures = r
       pictures.0 p ∙ ap (λ b. cond b true had) (is_equal number p) ∙ or_last (eqb number p) had ∙ ap (λ n. had || (eqb n p || false)) (sym (number-said (seen old) picture number said));
   counts = refl;
 }
+
+unless_false : {A : Type 0} (b : Bool) (e : LineFault) (x y : A) → Ok y ≡ cond b (Err e) (Ok x) → b ≡ false
+unless_false true e x y h = cc
+unless_false false e x y h = refl
+
+pub picture-found : (before : Earlier) (text : List ℕ) (number : ℕ) → Ok number ≡ new_picture_said before text → picture_of text ≡ Some number
+unfolding new_picture_said
+picture-found before text number said =
+    let found = or_fault-ok (picture_of text) fault.BadNumber _ number said in
+    let same : found.0 ≡ number = unless_true _ _ _ _ found.2 in
+    found.1 ∙ ap Some same
+
+-- a picture that a line may make is made by none before it
+pub is-fresh : (before : Earlier) (text : List ℕ) (number : ℕ) → Ok number ≡ new_picture_said before text → before.makes number ≡ false
+unfolding new_picture_said
+is-fresh before text number said =
+    let found = or_fault-ok (picture_of text) fault.BadNumber _ number said in
+    let same : found.0 ≡ number = unless_true _ _ _ _ found.2 in
+    subst (λ n. before.makes n ≡ false) same (unless_false _ _ _ _ found.2)
+
+-- so with it put to the others and removed again they are as they were
+pub put_back : (old : Reader) (text : List ℕ) (number : ℕ) (with_it then without : BTreeSet ℕ) → Ok number ≡ new_picture_said (seen old) text
+    → Updates nat_cmp old.pictures with_it number true → then ≡ with_it → Updates nat_cmp then without number false
+    → (p : ℕ) → contains nat_cmp without p ≡ contains nat_cmp old.pictures p
+put_back old text number with_it then without said put same removed p =
+    let was : contains nat_cmp then p ≡ contains nat_cmp with_it p = ap (λ s. contains nat_cmp s p) same in
+    by (is_eq (nat_cmp number p)) (is_equal number p) (removed.0 p) (was ∙ put.0 p)
+  where
+    by : (b : Bool) → b ≡ eqb number p → contains nat_cmp without p ≡ cond b false (contains nat_cmp then p) → contains nat_cmp then p ≡ cond b true (contains nat_cmp old.pictures p)
+        → contains nat_cmp without p ≡ contains nat_cmp old.pictures p
+    by true is gone put = gone ∙ sym (subst (λ n. contains nat_cmp old.pictures n ≡ false) (eqb-true number p (sym is)) (is-fresh (seen old) text number said))
+    by false is kept put = kept ∙ put

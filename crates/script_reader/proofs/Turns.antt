@@ -1,5 +1,5 @@
 -- The turns of the loop over the pieces of a text.
-use Rattle.std.proofs.Common.{◌≡◌, ◌≢◌, ◌<◌, ◌≤◌, ◌+◌, ◌∷◌, ◌++◌, ℕ, suc, List, [], length, get_or, take, drop, map, Option, Result, Ok, Err, refl, sym, ap, ◌∙◌, drop-cons, Bor}
+use Rattle.std.proofs.Common.{◌≡◌, ◌≢◌, ◌<◌, ◌≤◌, ◌+◌, ◌∷◌, ◌++◌, ℕ, suc, List, [], length, get_or, take, drop, map, Option, Result, Ok, Err, refl, sym, ap, subst, ◌∙◌, drop-cons, Bor}
 use Rattle.std.specs.Result.{is_ok}
 use Rattle.std.specs.Str.{IsUtf8}
 use Rattle.std.specs.Str.Lines.{strip_carriage_return}
@@ -11,7 +11,7 @@ use Rattle.script_reader.specs.Earlier.{names_of, filters_of}
 use Rattle.script_reader.specs.Saying.{said}
 use Rattle.fleet_model.specs.Contents.{contents}
 use Rattle.script_reader.specs.Reading.{script_of_commands, script_of_lines, MayWantMemory}
-use Rattle.script_reader.specs.Steps.{Refuses, Takes, seen, fault_at}
+use Rattle.script_reader.specs.Steps.{HasTaken, Refuses, Takes, seen, fault_at}
 use Rattle.fleet_model.specs.declared.command.Command.{Command}
 use Rattle.script_reader.specs.declared.fault.ScriptFault.{ScriptFault}
 use Rattle.script_reader.specs.declared.fault.ScriptFault.TheVariants.{NoMemory}
@@ -19,7 +19,7 @@ use Rattle.script_reader.specs.declared.reader.Reader.{Reader}
 use Rattle.script_reader.specs.declared.refusal.Refusal.{Refusal}
 use Rattle.script_reader.specs.declared.refusal.Refusal.TheVariants.{Memory, Fault}
 use Rattle.script_reader.proofs.Gathered.{commands_said-fault}
-use Rattle.script_reader.proofs.Taken.{HasTaken, HasTaken-more, seen-earlier}
+use Rattle.script_reader.proofs.Taken.{HasTaken-more, seen-earlier}
 use Rattle.script_reader.proofs.Trailing.{script_of_lines-pieces}
 
 -- the lines of some pieces
@@ -43,7 +43,7 @@ lines-turn pieces yielded piece front within item =
     let whole : pieces ≡ map (λ p. p.now) yielded ++ piece ∷ drop (suc k) pieces = sym (take-append-drop k pieces) ∙ ap (λ t. take k pieces ++ t) rest ∙ ap (λ t. t ++ piece ∷ drop (suc k) pieces) (sym front) in
     ap (map strip_carriage_return) whole ∙ map-append strip_carriage_return (map (λ p. p.now) yielded) (piece ∷ drop (suc k) pieces) ∙ ap (λ t. t ++ strip_carriage_return piece ∷ map strip_carriage_return (drop (suc k) pieces)) (sym (taken_lines-now yielded))
 
-refused-line : (text : List ℕ) (lines rest : List (List ℕ)) (line : List ℕ) (r : Reader) (refusal : Refusal) (number : ℕ) → HasTaken lines r → Refuses refusal (said (seen r) line)
+pub refused-line : (text : List ℕ) (lines rest : List (List ℕ)) (line : List ℕ) (r : Reader) (refusal : Refusal) (number : ℕ) → HasTaken lines r → Refuses refusal (said (seen r) line)
     → map strip_carriage_return (pieces_of text) ≡ lines ++ line ∷ rest → 1 + length lines ≡ number → fault_at number refusal ≢ NoMemory → script_of_lines (lines_of text) ≡ Err (fault_at number refusal)
 refused-line text lines rest line r Memory number h refused whole place other = absurd (other refl)
 refused-line text lines rest line r (Fault f) number h refused whole place other =
@@ -64,12 +64,21 @@ pub taken-turn : (yielded : List (Bor (List ℕ))) (piece : Bor (List ℕ)) (old
 taken-turn yielded piece old new x h says takes =
     rw (map-append (λ p. strip_carriage_return p.now) yielded (piece ∷ [])) (HasTaken-more (taken_lines yielded) (strip_carriage_return piece.now) old new x h says takes)
 
+-- where lines are taken, there is their script
+pub taken-script : (lines : List (List ℕ)) (r : Reader) → HasTaken lines r → script_of_lines lines ≡ Ok r.script
+taken-script lines r h =
+    ap (script_of_commands (names_of lines) (filters_of lines)) h.said ∙ ap (λ n. Ok (contents n (filters_of lines) r.script.commands)) (sym h.names) ∙ ap (λ f. Ok (contents r.script.names f r.script.commands)) (sym h.filters)
+
 -- where all are taken, there is the script
 pub taken-end : (text : List ℕ) (yielded : List (Bor (List ℕ))) (r : Reader) → HasTaken (taken_lines yielded) r → map (λ p. p.now) yielded ≡ pieces_of text → script_of_lines (lines_of text) ≡ Ok r.script
 taken-end text yielded r h all =
     let lines = taken_lines yielded in
     let whole = ap (map strip_carriage_return) (sym all) ∙ sym (taken_lines-now yielded) in
-    sym (script_of_lines-pieces text) ∙ ap script_of_lines whole ∙ ap (script_of_commands (names_of lines) (filters_of lines)) h.said ∙ ap (λ n. Ok (contents n (filters_of lines) r.script.commands)) (sym h.names) ∙ ap (λ f. Ok (contents r.script.names f r.script.commands)) (sym h.filters)
+    sym (script_of_lines-pieces text) ∙ ap script_of_lines whole ∙ taken-script lines r h
+
+-- and all of them are taken
+pub taken-all : (text : List ℕ) (yielded : List (Bor (List ℕ))) (r : Reader) → HasTaken (taken_lines yielded) r → map (λ p. p.now) yielded ≡ pieces_of text → HasTaken (map strip_carriage_return (pieces_of text)) r
+taken-all text yielded r h all = subst (λ lines. HasTaken lines r) (taken_lines-now yielded ∙ ap (map strip_carriage_return) all) h
 
 -- where memory is refused, no fault came before
 pub wants-turn : (text : List ℕ) (yielded : List (Bor (List ℕ))) (piece line : List ℕ) (r : Reader) (refusal : Refusal) (number : ℕ) → length text ≤ max_text_bytes → IsUtf8 text → HasTaken (taken_lines yielded) r

@@ -5,7 +5,9 @@ pub mod Fields
 pub mod Earlier
 pub mod Saying
 pub mod Reading
+pub mod Making
 pub mod Steps
+pub mod Growing
 pub mod Sharing
 pub mod Laws
 pub mod Examples

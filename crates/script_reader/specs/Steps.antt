@@ -1,15 +1,18 @@
 -- Machinery of the proofs, which only contracts of private functions cite: how what a reader does is tied to what lines
 -- say, where memory may be refused instead.
-use Rattle.std.specs.Prelude.{◌≡◌, ℕ, true, false, ◌||◌, ◌==◌, if◌then◌else◌, List, [], ◌++◌, length, map, Option, Some, option_to_list, Result, Ok, Err}
+use Rattle.std.specs.Prelude.{◌≡◌, ◌<◌, ℕ, Bool, true, false, ◌||◌, ◌==◌, if◌then◌else◌, List, [], ◌∷◌, ◌++◌, length, take, map, Option, Some, None, option_to_list, Result, Ok, Err}
 use Rattle.std.specs.Borrow.{Bor}
 use Rattle.std.specs.BTreeSet.{contains}
 use Rattle.std.specs.List.{list_any}
 use Rattle.std.specs.Ordering.{nat_cmp}
-use Rattle.fleet_model.specs.Contents.{contents}
-use Rattle.script_reader.specs.Earlier.{Earlier, declared_by, filter_declared_by, made_by, is_command}
+use Rattle.fleet_model.specs.Contents.{Contents, contents}
+use Rattle.script_reader.specs.Earlier.{Earlier, earlier, declared_by, filter_declared_by, made_by, is_command, names_of, filters_of, commands_of}
+use Rattle.photo_record.specs.declared.record.Record.{Record}
 use Rattle.fleet_model.specs.declared.command.Command.{Command}
+use Rattle.fleet_model.specs.declared.command.Command.TheVariants as command
 use Rattle.script_reader.specs.declared.reader.Reader.{Reader}
 use Rattle.script_reader.specs.Saying.{with_room, device_said}
+use Rattle.script_reader.specs.Reading.{sayings, commands_said}
 use Rattle.script_reader.specs.declared.fault.LineFault.{LineFault}
 use Rattle.script_reader.specs.declared.fault.ScriptFault.{ScriptFault}
 use Rattle.script_reader.specs.declared.fault.ScriptFault.TheVariants as script
@@ -42,10 +45,14 @@ pub record Takes (old : Reader) (fields : List (List ℕ)) (filter : List ℕ) (
   pub makes : (p : ℕ) → contains nat_cmp new.pictures p ≡ (contains nat_cmp old.pictures p || list_any (λ q. q == p) (made_by fields))
   pub counted : length (option_to_list said) ≡ (if is_command fields then 1 else 0)
 
--- a reader has taken the line, or it is refused as it is said
+-- a reader is as it was, whatever sets of words it keeps
+abbrev pub IsAsItWas : Reader → Reader → Type 0
+IsAsItWas old new = (new.script ≡ old.script) × ((p : ℕ) → contains nat_cmp new.pictures p ≡ contains nat_cmp old.pictures p)
+
+-- a reader has taken the line; or it is refused as it is said, and the reader is as it was
 abbrev pub Reads : Reader → List (List ℕ) → List ℕ → Result (Option Command) LineFault → Result (Unit {0}) Refusal → Reader → Type 0
 Reads old fields filter said (Ok done) new = (x : Option Command) × (said ≡ Ok x) × Takes old fields filter x new
-Reads old fields filter said (Err e) new = Refuses e said
+Reads old fields filter said (Err e) new = Refuses e said × IsAsItWas old new
 
 -- a reader of no lines
 pub record IsFirst (r : Reader) : Type 0 where
@@ -66,7 +73,35 @@ pub record Lacks (before : Reader) (fields : List (List ℕ)) (filter : List ℕ
 
 -- and then that command, unless memory was refused
 abbrev pub TakesLast : Command → Reader → Result (Unit {0}) Refusal → Reader → Type 0
-TakesLast command old result new = (before : Reader) (fields : List (List ℕ)) (filter : List ℕ) → Lacks before fields filter old → Reads before fields filter (Ok (Some command)) result new
+TakesLast command old result new = (before : Reader) (fields : List (List ℕ)) (filter : List ℕ) → Lacks before fields filter old → IsAsItWas before old → Reads before fields filter (Ok (Some command)) result new
+
+-- the reader has taken these lines, and none has a fault
+pub record HasTaken (lines : List (List ℕ)) (r : Reader) : Type 0 where
+  pub names : r.script.names ≡ names_of lines
+  pub filters : r.script.filters ≡ filters_of lines
+  pub makes : (p : ℕ) → contains nat_cmp r.pictures p ≡ (earlier lines).makes p
+  pub counted : length r.script.commands ≡ commands_of lines
+  pub said : commands_said 1 (sayings [] lines) ≡ Ok r.script.commands
+
+-- the command that makes the picture with the record that is said stands behind the others
+pub record HasMade (old : Contents) (device picture : ℕ) (said : Result Record LineFault) (new : Contents) : Type 0 where
+  pub content : Record
+  pub says : said ≡ Ok content
+  pub script : new ≡ contents old.names old.filters (old.commands ++ command.New device picture content ∷ [])
+
+-- the picture is not among them, whatever there was
+abbrev pub without : Option ℕ → (ℕ → Bool) → ℕ → Bool
+without None has p = has p
+without (Some made) has p = if made == p then false else has p
+
+-- a reader came from one that had so many devices and commands, by a line that makes that picture. There were no commands
+-- where the line declares a device
+pub record Leads (was : Reader) (devices commands : ℕ) (made : Option ℕ) (now : Reader) : Type 0 where
+  pub names : was.script.names ≡ take devices now.script.names
+  pub filters : was.script.filters ≡ take devices now.script.filters
+  pub commands_are : was.script.commands ≡ take commands now.script.commands
+  pub makes : (p : ℕ) → contains nat_cmp was.pictures p ≡ without made (λ q. contains nat_cmp now.pictures q) p
+  pub late : 0 < length was.script.commands → (now.script.names ≡ was.script.names) × (now.script.filters ≡ was.script.filters)
 
 abbrev pub texts : List (Bor (List ℕ)) → List (List ℕ)
 texts fields = map (λ f. f.now) fields

@@ -3,7 +3,8 @@ ghost use Rattle.std.specs.Prelude.{◌≡◌, ◌≢◌, ◌<◌, ◌^◌, [], 
 ghost use Rattle.script_reader.specs.Lines.{fields_of, without_spaces, behind_field, third_field_on};
 ghost use Rattle.script_reader.specs.Fields.{is_name, cut_at_colon, cut_at_dot, epoch_of, is_decimal, number_of, picture_of, version_number_of};
 ghost use Rattle.script_reader.specs.Saying.{filter_said};
-ghost use Rattle.script_reader.specs.Steps.{Gives};
+ghost use Rattle.script_reader.specs.Making.{made_number, second_picture};
+ghost use Rattle.script_reader.specs.Steps.{Gives, texts};
 
 use crate::LineFault;
 use crate::limits::{MAX_EPOCH, MAX_NAME_CHARACTERS, MAX_VERSION};
@@ -67,6 +68,25 @@ pub fn is_name(text: &str) -> bool
     others
         .iter()
         .all(|b| b.is_ascii_lowercase() || b.is_ascii_digit())
+}
+
+/// The number of the picture that a line of these fields makes, if it is a line of a script that makes one.
+pub fn made_by(fields: &[&str]) -> Option<u32>
+    ensures { result ≡ made_number (texts fields.now) }
+{
+    let (word, arguments) = fields.split_first()?;
+    if *word != "new" {
+        return None;
+    }
+    second_picture(arguments)
+}
+
+fn second_picture(arguments: &[&str]) -> Option<u32>
+    ensures { result ≡ second_picture (texts arguments.now) }
+{
+    let (_, others) = arguments.split_first()?;
+    let (picture, _) = others.split_first()?;
+    Some(picture_of(picture)?.value())
 }
 
 /// What stands before the first dot of a text and behind it.

@@ -6,6 +6,7 @@
 mod command;
 mod fault;
 mod field;
+mod growing;
 pub mod laws;
 mod limits;
 mod names;
@@ -18,6 +19,7 @@ mod word_sets;
 pub use command::devices_of;
 pub use fault::{LineFault, ScriptFault};
 pub use fleet_model::{Command, Tally};
+pub use growing::{GrowingScript, Said};
 pub use limits::{MAX_COMMANDS, MAX_DEVICES, MAX_TEXT_BYTES};
 pub use reader::read_script;
 pub use script::Script;

@@ -1,6 +1,6 @@
 // The names of the declared devices.
 ghost use Rattle.std.specs.Prelude.{◌≡◌, ◌<◌, [], ◌∷◌, ◌++◌};
-ghost use Rattle.std.specs.Prelude.{ℕ, List, length, map, slice_get, string_bytes, Some, None, IfSome, OnOk, OnErr};
+ghost use Rattle.std.specs.Prelude.{ℕ, List, length, map, take, slice_get, string_bytes, Some, None, IfSome, OnOk, OnErr};
 ghost use Rattle.script_reader.specs.Fields.{place_of};
 
 use indexmap::IndexSet;
@@ -63,5 +63,12 @@ impl Names {
         let name = String::from_str(self.alloc, name)?;
         self.texts.insert(name)?;
         Ok(())
+    }
+
+    /// Keeps so many names, the first ones.
+    pub fn keep(&mut self, count: usize)
+        ensures { self.new ≡ take count self.old }
+    {
+        self.texts.truncate(count);
     }
 }

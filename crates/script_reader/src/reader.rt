@@ -1,6 +1,6 @@
 // Reading a script, line by line.
-ghost use Rattle.std.specs.Prelude.{◌≡◌, ◌≢◌, ℕ, List, [], ◌∷◌, ◌<◌, ◌≤◌, length, codes, Ok, Err, IfOk, IfErr, IfSome, OnOk, true};
-ghost use Rattle.script_reader.specs.Lines.{fields_of, lines_of, third_field_on};
+ghost use Rattle.std.specs.Prelude.{◌≡◌, ◌≢◌, ℕ, List, [], ◌∷◌, ◌<◌, ◌≤◌, length, map, codes, Ok, Err, IfOk, IfErr, IfSome, OnOk, OnErr, true};
+ghost use Rattle.script_reader.specs.Lines.{fields_of, lines_of, pieces_of, third_field_on};
 ghost use Rattle.script_reader.specs.Limits.{max_text_bytes, max_line_bytes};
 ghost use Rattle.std.specs.Str.Lines.{strip_carriage_return};
 ghost use Rattle.photo_filter_rules.specs.Matching.{IsInRange};
@@ -56,32 +56,27 @@ fn read_lines(alloc: Global, text: &str) -> Result<Script, ScriptFault>
     ensures no_memory { result ≡ Err NoMemory → MayWantMemory text.now }
     ensures no_read { result ≢ Err Read }
 {
-    let mut reader = Reader {
-        alloc,
-        script: Script::new(alloc),
-        pictures: BTreeSet::new(alloc),
-        words: WordSets::new(alloc),
-    };
+    let mut reader = Reader::new(alloc);
     let mut fields = Vec::new(alloc);
     match reader.read_pieces(text, &mut fields) {
-        Ok(()) => Ok(reader.script),
+        Ok(_) => Ok(reader.script),
         Err(fault) => Err(fault),
     }
 }
 
-// A line without the CR that it may end in.
-fn without_return(line: &str) -> &str
+/// A line without the CR that it may end in.
+pub(crate) fn without_return(line: &str) -> &str
     ensures { result.now ≡ strip_carriage_return line.now }
 {
     line.strip_suffix('\r').unwrap_or(line)
 }
 
-// The script of the lines so far, the pictures that they make, and the sets of words that they have.
+/// The script of the lines so far, the pictures that they make, and the sets of words that they have.
 #[derive(Drop)]
-struct Reader {
-    alloc: Global,
-    script: Script,
-    pictures: BTreeSet<u32>,
+pub(crate) struct Reader {
+    pub(crate) alloc: Global,
+    pub(crate) script: Script,
+    pub(crate) pictures: BTreeSet<u32>,
     words: WordSets,
 }
 
@@ -90,18 +85,32 @@ impl Reader {
     ghost use Rattle.std.specs.Ordering.{nat_cmp};
     ghost use Rattle.fleet_model.specs.Contents.{IsWithin, record_of};
     ghost use Rattle.fleet_model.specs.Limits.{max_commands};
-    ghost use Rattle.script_reader.specs.Steps.{IsFirst, Reads, TakesLast, first_said, seen, texts};
+    ghost use Rattle.script_reader.specs.Steps.{Leads, HasMade, HasTaken, IsAsItWas, IsFirst, Reads, Refuses, TakesLast, first_said, seen, texts};
     ghost use Rattle.script_reader.specs.declared.refusal.Refusal.TheVariants.{Memory};
 
-    // Reads the lines of a script from the first one on, with one list for the fields of each.
-    fn read_pieces<'a>(
+    /// A reader of no lines. Takes no memory.
+    pub(crate) fn new(alloc: Global) -> Reader
+        ensures { IsFirst result }
+    {
+        Reader {
+            alloc,
+            script: Script::new(alloc),
+            pictures: BTreeSet::new(alloc),
+            words: WordSets::new(alloc),
+        }
+    }
+
+    /// Reads the lines of a script from the first one on, with one list for the fields of each, and tells how many they are.
+    pub(crate) fn read_pieces<'a>(
         &mut self,
         text: &'a str,
         fields: &mut Vec<&'a str>,
-    ) -> Result<(), ScriptFault>
+    ) -> Result<u32, ScriptFault>
         requires small { length text.now ≤ max_text_bytes }
         requires first { IsFirst self.old }
         ensures read { OnOk result (script_of_lines (lines_of text.now) ≡ Ok self.new.script) }
+        ensures count { IfOk result (λ count. count ≡ length (pieces_of text.now)) }
+        ensures taken { OnOk result (HasTaken (map strip_carriage_return (pieces_of text.now)) self.new) }
         ensures refused { IfErr result (λ fault. fault ≢ NoMemory → script_of_lines (lines_of text.now) ≡ Err fault) }
         ensures no_memory { result ≡ Err NoMemory → MayWantMemory text.now }
         ensures no_read { result ≢ Err Read }
@@ -113,14 +122,16 @@ impl Reader {
                 return Err(refusal.in_line(number));
             }
         }
-        Ok(())
+        Ok(number)
     }
 
+    /// Reads one line more, and leaves its fields in the list. A refusal leaves the script and the pictures as they were.
     #[tactic(auto, unfolding(crate::specs::Saying::said))]
-    fn read_line<'a>(&mut self, line: &'a str, fields: &mut Vec<&'a str>) -> Result<(), Refusal>
+    pub(crate) fn read_line<'a>(&mut self, line: &'a str, fields: &mut Vec<&'a str>) -> Result<(), Refusal>
         ensures reads { Reads self.old (fields_of line.now) (third_field_on line.now) (said (seen self.old) line.now) result self.new }
         ensures memory { result ≡ Err Memory → length line.now ≤ max_line_bytes }
         ensures has_field { result ≡ Err Memory → fields_of line.now ≢ [] }
+        ensures fields { OnOk result (map (λ f. f.now) fields.new.items ≡ fields_of line.now) }
     {
         if line.len() > MAX_LINE_BYTES {
             return Err(Refusal::Fault(LineFault::LineTooLong));
@@ -243,12 +254,39 @@ impl Reader {
     {
         let device = self.first_device(name)?;
         let picture = self.new_picture(picture)?;
+        match self.make(device, picture, rating, date, words) {
+            Ok(()) => Ok(()),
+            Err(refusal) => {
+                self.pictures.remove(&picture.value());
+                Err(refusal)
+            }
+        }
+    }
+
+    // Puts the command that makes a picture behind the others.
+    fn make(
+        &mut self,
+        device: u16,
+        picture: PicNo,
+        rating: &str,
+        date: &str,
+        words: &str,
+    ) -> Result<(), Refusal>
+        requires room { length self.old.script.commands < max_commands }
+        requires known { device < length self.old.script.names }
+        ensures made { OnOk result
+            (HasMade self.old.script device picture (record_said rating.now date.now words.now) self.new.script) }
+        ensures refused { IfErr result (λ e. Refuses e (record_said rating.now date.now words.now)) }
+        ensures kept { OnErr result (self.new.script ≡ self.old.script) }
+        ensures pictures { self.new.pictures ≡ self.old.pictures }
+    {
         let record = record_of(&mut self.words, rating, date, words)?;
-        self.take(Command::New {
+        self.script.push(Command::New {
             device,
             picture,
             record,
-        })
+        })?;
+        Ok(())
     }
 
     // `edit DEV PIC RATING DATE WORDS`
@@ -490,7 +528,8 @@ impl Reader {
     #[tactic(auto, unfolding(crate::specs::Saying::new_picture_said))]
     fn new_picture(&mut self, text: &str) -> Result<PicNo, Refusal>
         ensures said { Gives (λ number. number) result (new_picture_said (seen self.old) text.now) }
-        ensures script { OnOk result (self.new.script ≡ self.old.script) }
+        ensures script { self.new.script ≡ self.old.script }
+        ensures kept { OnErr result (IsAsItWas self.old self.new) }
         ensures made { IfOk result (λ number. Updates nat_cmp self.old.pictures self.new.pictures number true) }
     {
         let picture = picture_of(text).ok_or(LineFault::BadNumber)?;
@@ -498,6 +537,17 @@ impl Reader {
             return Err(Refusal::Fault(LineFault::RepeatedPicture));
         }
         Ok(picture)
+    }
+
+    /// Keeps so many devices and commands, the first ones, and not the picture that a line makes.
+    pub(crate) fn go_back(&mut self, devices: usize, commands: usize, made: Option<u32>)
+        ensures { (was : Reader) → Leads was devices commands made self.old → IsAsItWas was self.new }
+    {
+        self.script.keep_commands(commands);
+        self.script.keep_devices(devices);
+        if let Some(picture) = made {
+            self.pictures.remove(&picture);
+        }
     }
 
     // Puts the command that a line says behind the others.

@@ -1,5 +1,5 @@
 // Scripts, as they are read.
-ghost use Rattle.std.specs.Prelude.{◌≡◌, ◌<◌, ◌≤◌, ◌-◌, ◌++◌, ◌∷◌, [], length, slice_get, Some, None, IfSome, OnOk, OnErr};
+ghost use Rattle.std.specs.Prelude.{◌≡◌, ◌<◌, ◌≤◌, ◌-◌, ◌++◌, ◌∷◌, [], length, take, slice_get, Some, None, IfSome, OnOk, OnErr};
 ghost use Rattle.fleet_model.specs.Limits.{max_devices, max_commands};
 ghost use Rattle.script_reader.specs.Fields.{place_of};
 
@@ -133,5 +133,24 @@ impl Script {
     {
         self.commands.push(command)?;
         Ok(())
+    }
+
+    /// Keeps so many commands, the first ones.
+    pub(crate) fn keep_commands(&mut self, count: usize)
+        ensures { self.new ≡ contents self.old.names self.old.filters (take count self.old.commands) }
+    {
+        self.commands.truncate(count);
+    }
+
+    /// Keeps so many devices, the first ones, where there are no commands.
+    pub(crate) fn keep_devices(&mut self, count: usize)
+        ensures none { self.old.commands ≡ [] → self.new ≡ contents (take count self.old.names) (take count self.old.filters) [] }
+        ensures some { 0 < length self.old.commands → self.new ≡ self.old }
+    {
+        if !self.commands.is_empty() {
+            return;
+        }
+        self.names.keep(count);
+        self.filters.truncate(count);
     }
 }

@@ -1,5 +1,6 @@
 // What comes of texts: scripts, with their own texts and tallies, or faults.
 mod built;
+mod grown;
 mod known;
 mod listed;
 mod reports;

@@ -10,7 +10,7 @@ returns-in_err-device c =
     let old = c.args.self.now in
     let name = field c.args.arguments.now 0 in
     let said = knowledge_line-first (seen old) name _ c.in_err-device.ensures.said in
-    rw (texts-one c.args.arguments.now (omega arith)) (reads-fault old old (codes "knowledge" ∷ name ∷ []) [] _ c.from_residual.result _ c.from_residual.ensures.1 said)
+    rw (texts-one c.args.arguments.now (omega arith)) (reads-fault old (codes "knowledge" ∷ name ∷ []) [] _ c.from_residual.result _ c.from_residual.ensures.1 said)
 
 pub returns : goal.returns
 returns c =
@@ -18,4 +18,4 @@ returns c =
     let name = field c.args.arguments.now 0 in
     let device = c.in_ok-device.device in
     let said = knowledge_line-said (seen old) name device c.in_ok-device.ensures.room (first-known (seen old) name device c.in_ok-device.ensures.said) in
-    rw (texts-one c.args.arguments.now (omega arith), said) (c.take.ensures old (codes "knowledge" ∷ name ∷ []) [] (lacks-first old (codes "knowledge" ∷ name ∷ []) [] refl refl refl refl))
+    rw (texts-one c.args.arguments.now (omega arith), said) (c.take.ensures old (codes "knowledge" ∷ name ∷ []) [] (lacks-first old (codes "knowledge" ∷ name ∷ []) [] refl refl refl refl) (refl, λ p. refl))

@@ -10,7 +10,7 @@ returns-in_err-device c =
     let old = c.args.self.now in
     let at = field c.args.arguments.now in
     let said = knows_line-first (seen old) (at 0) (at 1) (at 2) _ c.in_err-device.ensures.said in
-    rw (texts-three c.args.arguments.now (omega arith)) (reads-fault old old (codes "knows" ∷ at 0 ∷ at 1 ∷ at 2 ∷ []) [] _ c.from_residual.result _ c.from_residual.ensures.1 said)
+    rw (texts-three c.args.arguments.now (omega arith)) (reads-fault old (codes "knows" ∷ at 0 ∷ at 1 ∷ at 2 ∷ []) [] _ c.from_residual.result _ c.from_residual.ensures.1 said)
 
 pub returns-in_err-picture : goal.returns-in_err-picture
 returns-in_err-picture c =
@@ -19,7 +19,7 @@ returns-in_err-picture c =
     let device = c.in_ok-device.device in
     let known = first-known (seen old) (at 0) device c.in_ok-device.ensures.said in
     let said = knows_line-picture (seen old) (at 0) (at 1) (at 2) device _ c.in_ok-device.ensures.room known c.in_err-picture.ensures in
-    rw (texts-three c.args.arguments.now (omega arith)) (reads-fault old old (codes "knows" ∷ at 0 ∷ at 1 ∷ at 2 ∷ []) [] _ c.from_residual-in_err-picture.result _ c.from_residual-in_err-picture.ensures.1 said)
+    rw (texts-three c.args.arguments.now (omega arith)) (reads-fault old (codes "knows" ∷ at 0 ∷ at 1 ∷ at 2 ∷ []) [] _ c.from_residual-in_err-picture.result _ c.from_residual-in_err-picture.ensures.1 said)
 
 pub returns-in_err-version : goal.returns-in_err-version
 returns-in_err-version c =
@@ -28,7 +28,7 @@ returns-in_err-version c =
     let device = c.in_ok-device.device in
     let known = first-known (seen old) (at 0) device c.in_ok-device.ensures.said in
     let said = knows_line-version (seen old) (at 0) (at 1) (at 2) device c.in_ok-picture.picture _ c.in_ok-device.ensures.room known c.in_ok-picture.ensures c.in_err-version.ensures in
-    rw (texts-three c.args.arguments.now (omega arith)) (reads-fault old old (codes "knows" ∷ at 0 ∷ at 1 ∷ at 2 ∷ []) [] _ c.from_residual-in_err-version.result _ c.from_residual-in_err-version.ensures.1 said)
+    rw (texts-three c.args.arguments.now (omega arith)) (reads-fault old (codes "knows" ∷ at 0 ∷ at 1 ∷ at 2 ∷ []) [] _ c.from_residual-in_err-version.result _ c.from_residual-in_err-version.ensures.1 said)
 
 pub returns : goal.returns
 returns c =
@@ -37,4 +37,4 @@ returns c =
     let device = c.in_ok-device.device in
     let known = first-known (seen old) (at 0) device c.in_ok-device.ensures.said in
     let said = knows_line-said (seen old) (at 0) (at 1) (at 2) device c.in_ok-picture.picture c.in_ok-version.version c.in_ok-device.ensures.room known c.in_ok-picture.ensures c.in_ok-version.ensures in
-    rw (texts-three c.args.arguments.now (omega arith), said) (c.take.ensures old (codes "knows" ∷ at 0 ∷ at 1 ∷ at 2 ∷ []) [] (lacks-first old (codes "knows" ∷ at 0 ∷ at 1 ∷ at 2 ∷ []) [] refl refl refl refl))
+    rw (texts-three c.args.arguments.now (omega arith), said) (c.take.ensures old (codes "knows" ∷ at 0 ∷ at 1 ∷ at 2 ∷ []) [] (lacks-first old (codes "knows" ∷ at 0 ∷ at 1 ∷ at 2 ∷ []) [] refl refl refl refl) (refl, λ p. refl))

@@ -1,5 +1,5 @@
 use Rattle.std.proofs.Common.{◌≡◌, length}
-use Rattle.script_reader.proofs.Taken.{HasTaken}
+use Rattle.script_reader.specs.Steps.{HasTaken}
 use Rattle.script_reader.proofs.Turns.{taken_lines}
 use Rattle.script_reader.proofs.reader.Reader.read_pieces.Given as goal
 

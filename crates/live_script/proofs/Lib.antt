@@ -1,0 +1,2 @@
+mod Longer
+mod Played
