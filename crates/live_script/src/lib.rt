@@ -8,6 +8,7 @@ mod live;
 mod opening;
 mod playing;
 mod refusal;
+mod several;
 
 pub use live::{LiveScript, Told};
 pub use refusal::Refusal;

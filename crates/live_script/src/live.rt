@@ -13,6 +13,7 @@ ghost use Rattle.live_script.specs.declared.refusal.Refusal.TheVariants.{NoMemor
 use crate::Refusal;
 use crate::lines::{asked_line, given_line};
 use crate::opening::fleet_of;
+use crate::several::with_lines;
 use fleet_steps::laws::accepted_stays_sound;
 use live_fleet::Fleet;
 use photo_script::{GrowingScript, Script};
@@ -85,9 +86,27 @@ impl LiveScript {
         self.script.lines()
     }
 
-    /// Gives a line, without an LF in it or behind it, and tells what is printed of it. Where that has over so many bytes the
-    /// line isn't taken, and its command hasn't run. After a refusal the script is as it was.
+    /// Gives a line, and tells what is printed of it. Where that has over so many bytes the line isn't taken, and its command
+    /// hasn't run. After a refusal the script is as it was. An LF within the line ends it: then several are given at once, which
+    /// are all taken or none, and which cost as much as all lines.
     pub fn give(&mut self, line: &[u8], most: usize) -> Result<Told, Refusal>
+        ensures told { IfOk result (λ told. IsTold self.old (with_line self.old line.now) (string_bytes told.text)) }
+        ensures taken { IfOk result (λ told. OnTrue told.is_taken (self.new ≡ with_line self.old line.now)) }
+        ensures fits { IfOk result (λ told. OnTrue told.is_taken (length (string_bytes told.text) ≤ most)) }
+        ensures long { IfOk result (λ told. OnFalse told.is_taken (most < length (string_bytes told.text))) }
+        ensures left { IfOk result (λ told. OnFalse told.is_taken (self.new ≡ self.old)) }
+        ensures refused { IfErr result (IsOfFault (with_line self.old line.now)) }
+        ensures kept { OnErr result (self.new ≡ self.old) }
+    {
+        if line.contains(&b'\n') {
+            self.give_lines(line, most)
+        } else {
+            self.give_line(line, most)
+        }
+    }
+
+    /// Gives one line, as [`LiveScript::give`] does.
+    pub(crate) fn give_line(&mut self, line: &[u8], most: usize) -> Result<Told, Refusal>
         requires one { list_any (λ b. b == 10) line.now ≡ false }
         ensures told { IfOk result (λ told. IsTold self.old (with_line self.old line.now) (string_bytes told.text)) }
         ensures taken { IfOk result (λ told. OnTrue told.is_taken (self.new ≡ with_line self.old line.now)) }
@@ -112,13 +131,40 @@ impl LiveScript {
         }
     }
 
+    // Gives several lines. The script with them is made anew.
+    fn give_lines(&mut self, line: &[u8], most: usize) -> Result<Told, Refusal>
+        ensures told { IfOk result (λ told. IsTold self.old (with_line self.old line.now) (string_bytes told.text)) }
+        ensures taken { IfOk result (λ told. OnTrue told.is_taken (self.new ≡ with_line self.old line.now)) }
+        ensures fits { IfOk result (λ told. OnTrue told.is_taken (length (string_bytes told.text) ≤ most)) }
+        ensures long { IfOk result (λ told. OnFalse told.is_taken (most < length (string_bytes told.text))) }
+        ensures left { IfOk result (λ told. OnFalse told.is_taken (self.new ≡ self.old)) }
+        ensures refused { IfErr result (IsOfFault (with_line self.old line.now)) }
+        ensures kept { OnErr result (self.new ≡ self.old) }
+    {
+        match with_lines(self.alloc, self, line) {
+            Ok((live, text)) => {
+                let is_taken = text.len() <= most;
+                if is_taken {
+                    *self = live;
+                }
+                Ok(Told { text, is_taken })
+            }
+            Err(refusal) => Err(refusal),
+        }
+    }
+
     /// What would be printed of a line, which isn't given: the script is as it was.
     pub fn ask(&mut self, line: &[u8]) -> Result<String, Refusal>
-        requires one { list_any (λ b. b == 10) line.now ≡ false }
         ensures told { IfOk result (λ told. IsTold self.old (with_line self.old line.now) (string_bytes told)) }
         ensures refused { IfErr result (IsOfFault (with_line self.old line.now)) }
         ensures kept { self.new ≡ self.old }
     {
+        if line.contains(&b'\n') {
+            return match with_lines(self.alloc, self, line) {
+                Ok((_, text)) => Ok(text),
+                Err(refusal) => Err(refusal),
+            };
+        }
         asked_line(self.alloc, &mut self.script, &mut self.fleet, line)
     }
 

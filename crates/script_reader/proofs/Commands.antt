@@ -10,7 +10,7 @@ use Rattle.std.proofs.lemmas.Result.{err_from_is_err_and}
 use Rattle.fleet_model.specs.Limits.{max_commands}
 use Rattle.fleet_model.specs.Contents.{contents}
 use Rattle.script_reader.specs.Fields.{is_word}
-use Rattle.script_reader.specs.Earlier.{Earlier, is_comment, declared_by, filter_declared_by, made_by, is_command}
+use Rattle.script_reader.specs.Earlier.{Earlier, declared_by, filter_declared_by, made_by, is_command}
 use Rattle.script_reader.specs.Saying.{with_room, command_said, device_said, ◌>>=◌}
 use Rattle.script_reader.specs.Steps.{Gives, IsAsItWas, Lacks, Reads, Refuses, Takes, first_said}
 use Rattle.fleet_model.specs.declared.command.Command.{Command}

@@ -1,8 +1,9 @@
 -- What a text is with one line more, and what a reader has taken then.
-use Rattle.std.proofs.Common.{◌≡◌, ◌≢◌, ◌<◌, ◌≤◌, ◌+◌, ◌∷◌, ◌++◌, ℕ, zero, suc, List, [], length, map, get_or, drop, Bool, true, false, cond, ◌||◌, eqb, Option, Result, Ok, Err, refl, sym, ap, subst, ◌∙◌, length-append, append_assoc, arith}
-use Rattle.std.specs.List.{slice_split, onto_first, list_any, count_by}
+use Rattle.std.proofs.Common.{◌≡◌, ◌≢◌, ◌<◌, ◌≤◌, ◌+◌, ◌∷◌, ◌++◌, ℕ, zero, suc, List, [], length, map, get_or, drop, Bool, true, false, cond, ◌||◌, eqb, Option, Ok, Err, refl, sym, ap, subst, ◌∙◌, length-append, append_assoc, arith}
+use Rattle.std.specs.List.{slice_split, onto_first, list_any}
 use Rattle.std.specs.Result.{is_ok}
 use Rattle.std.specs.Str.{IsUtf8, is_utf8}
+use lib.Utf8.{encode}
 use Rattle.std.specs.Str.Lines.{strip_carriage_return}
 use Rattle.std.proofs.lemmas.List.{drop_at, get_or_at, map-append}
 use Rattle.std.proofs.lemmas.List.Splits.{length-slice_split}
@@ -11,12 +12,10 @@ use Rattle.std.proofs.lemmas.Str.{IsCharBoundary-after_ascii, IsUtf8-append, IsU
 use Rattle.fleet_model.specs.declared.command.Command.{Command}
 use Rattle.script_reader.specs.Limits.{max_text_bytes, max_line_bytes}
 use Rattle.script_reader.specs.Lines.{pieces_of, lines_of, fields_of, third_field_on}
-use Rattle.script_reader.specs.Earlier.{earlier}
 use Rattle.script_reader.specs.Reading.{script_of, script_of_lines, MayWantMemory}
 use Rattle.script_reader.specs.Saying.{said}
 use Rattle.script_reader.specs.Growing.{AreTaken, lines_in, with_line}
 use Rattle.script_reader.specs.Steps.{HasTaken, IsAsItWas, IsFirst, Refuses, Takes, fault_at, seen}
-use Rattle.script_reader.specs.declared.fault.ScriptFault.{ScriptFault}
 use Rattle.script_reader.specs.declared.fault.ScriptFault.TheVariants.{NoMemory}
 use Rattle.script_reader.specs.declared.reader.Reader.{Reader}
 use Rattle.script_reader.specs.declared.refusal.Refusal.{Refusal}
@@ -67,7 +66,8 @@ few_lines (suc n) text all =
 -- its characters
 
 lf_utf8 : IsUtf8 (10 ∷ [])
-lf_utf8 = (10 ∷ [], refl, refl)
+unfolding encode
+lf_utf8 = (10 ∷ [], (refl, refl))
 
 utf8_more : (n : ℕ) (text line : List ℕ) → is_utf8 text ≡ true → IsUtf8 line → IsUtf8 (with_line n text line)
 utf8_more zero text line was new = new

@@ -1,11 +1,10 @@
 -- What the fields of a line tell of the script with that line, where none has a fault.
-use Rattle.std.proofs.Common.{◌≡◌, ◌<◌, ◌≤◌, ◌∷◌, ◌++◌, ℕ, zero, suc, List, [], length, take, Bool, true, false, cond, not, ◌||◌, ◌&&◌, eqb, codes, Option, Some, None, Result, Ok, Err, refl, sym, ap, subst, ◌∙◌, length-append, arith}
+use Rattle.std.proofs.Common.{◌≡◌, ◌<◌, ◌≤◌, ◌∷◌, ◌++◌, ℕ, zero, suc, List, [], length, take, Bool, true, false, cond, not, ◌||◌, eqb, leb, codes, Option, Some, None, Ok, refl, sym, ap, subst, ◌∙◌, length-append, arith}
 use Rattle.std.proofs.Math.Bool.{or-false}
 use Rattle.std.specs.BTreeSet.{contains}
 use Rattle.std.specs.List.{list_any}
 use Rattle.std.specs.Option.{option_to_list}
 use Rattle.std.specs.Ordering.{nat_cmp}
-use Rattle.std.specs.Str.{bytes_eq}
 use Rattle.std.proofs.lemmas.Bool.{and_parts, eqb-true, lt-ltb}
 use Rattle.std.proofs.lemmas.List.{append-nil, take_at}
 use Rattle.std.proofs.lemmas.Slice.Eq.{bytes_eq-Decides}
@@ -14,22 +13,20 @@ use Rattle.fleet_model.specs.Limits.{max_commands}
 use Rattle.fleet_model.specs.Contents.{Contents, contents}
 use Rattle.fleet_model.specs.declared.command.Command.{Command}
 use Rattle.script_reader.specs.Lines.{fields_of, third_field_on}
-use Rattle.script_reader.specs.Limits.{max_line_bytes}
 use Rattle.script_reader.specs.Fields.{is_word, picture_of}
 use Rattle.script_reader.specs.Earlier.{Earlier, is_comment, declared_by, filter_declared_by, made_by, is_command}
 use Rattle.script_reader.specs.Making.{made_number, second_picture}
 use Rattle.script_reader.specs.Saying.{◌>>=◌, command_said, creation_said, device_said, fields_said, command_line_said, device_line_said, new_line_said, new_picture_said, record_said, said}
 use Rattle.script_reader.specs.Steps.{Leads, Takes, seen, without}
-use Rattle.script_reader.specs.Growing.{Grows, IsDeclared}
+use Rattle.script_reader.specs.Growing.{Grows}
 use Rattle.script_reader.specs.declared.reader.Reader.{Reader}
-use Rattle.script_reader.specs.declared.fault.LineFault.{LineFault}
 use Rattle.script_reader.specs.declared.fault.LineFault.TheVariants as fault
 use Rattle.script_reader.proofs.Accepted.{bound, passed, line_taken}
 use Rattle.script_reader.proofs.Commands.{no_name, no_picture}
 use Rattle.script_reader.proofs.Taking.{is-fresh, number-said, picture-found}
 
 -- the picture that the fields make, which no line before them makes
-record IsMade (before : Earlier) (fields : List (List ℕ)) : Type 0 where
+pub record IsMade (before : Earlier) (fields : List (List ℕ)) : Type 0 where
   pub made : made_by fields ≡ option_to_list (made_number fields)
   pub fresh : (m : ℕ) → made_number fields ≡ Some m → before.makes m ≡ false
 
@@ -41,8 +38,9 @@ makes_none before word arguments other =
 creates : (before : Earlier) (arguments : List (List ℕ)) (filter : List ℕ) (x : Option Command) → fields_said before (codes "new" ∷ arguments) filter ≡ Ok x → IsMade before (codes "new" ∷ arguments)
 unfolding fields_said command_line_said new_line_said command_said creation_said
 creates before (name ∷ picture ∷ rating ∷ date ∷ words ∷ []) filter x h =
-    let room = passed _ fault.TooMany _ x h in
-    let command = bound (creation_said before name picture (record_said rating date words)) _ x room.1 in
+    let making = creation_said before name picture (record_said rating date words) in
+    let room = passed (leb max_commands before.commands) fault.TooMany (making >>= λ c. Ok (Some c)) x h in
+    let command = bound making (λ c. Ok (Some c)) x room.1 in
     let device = bound (device_said before name) _ command.0 command.1 in
     let number = bound (new_picture_said before picture) _ command.0 device.2 in
     let found : picture_of picture ≡ Some number.0 = picture-found before picture number.0 (sym number.1) in
@@ -63,7 +61,7 @@ is_made before (word ∷ arguments) filter x h = by (is_word word (codes "new"))
         subst (λ w. IsMade before (w ∷ arguments)) (sym same) (creates before arguments filter x (subst (λ w. fields_said before (w ∷ arguments) filter ≡ Ok x) same h))
 
 -- the fields declare nothing
-record DeclareNothing (fields : List (List ℕ)) (filter : List ℕ) : Type 0 where
+pub record DeclareNothing (fields : List (List ℕ)) (filter : List ℕ) : Type 0 where
   pub names : declared_by fields ≡ []
   pub filters : filter_declared_by fields filter ≡ []
 
@@ -82,9 +80,7 @@ command_alone (word ∷ arguments) filter h = by (is_word word (codes "device"))
 late-refused : (before : Earlier) (arguments : List (List ℕ)) (filter : List ℕ) (x : Option Command) → 0 < before.commands → fields_said before (codes "device" ∷ arguments) filter ≡ Ok x → ⊥
 unfolding fields_said device_line_said
 late-refused before arguments filter x some h =
-    let p = passed _ fault.LateDevice _ x h in
-    let late = lt-ltb 0 before.commands some in
-    let first = p.0 in
+    let late = rw (lt-ltb 0 before.commands some) at h in
     cc
 
 -- behind a command nothing does
@@ -112,7 +108,7 @@ no_elements (x ∷ xs) h = absurd (omega arith)
 same_with : {X : Type 0} (new old xs : List X) → new ≡ old ++ xs → xs ≡ [] → new ≡ old
 same_with new old xs is none = is ∙ ap (λ ys. old ++ ys) none ∙ append-nil old
 
-counted : (b : Bool) → 1 ≡ cond b 1 0 → b ≡ true
+counted : (b : Bool) → ◌≡◌ {A = ℕ} 1 (cond b 1 0) → b ≡ true
 counted true h = refl
 counted false h = absurd (omega arith)
 

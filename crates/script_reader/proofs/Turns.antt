@@ -83,7 +83,7 @@ taken-all text yielded r h all = subst (λ lines. HasTaken lines r) (taken_lines
 -- where memory is refused, no fault came before
 pub wants-turn : (text : List ℕ) (yielded : List (Bor (List ℕ))) (piece line : List ℕ) (r : Reader) (refusal : Refusal) (number : ℕ) → length text ≤ max_text_bytes → IsUtf8 text → HasTaken (taken_lines yielded) r
     → map (λ p. p.now) yielded ≡ take (length yielded) (pieces_of text) → length yielded < length (pieces_of text) → piece ≡ get_or (pieces_of text) (length yielded) piece
-    → line ≡ strip_carriage_return piece → (refusal ≡ Memory → length line ≤ max_line_bytes) → (refusal ≡ Memory → fields_of line ≢ []) → ◌≡◌ {A = Result (Unit {0}) ScriptFault} (Err (fault_at number refusal)) (Err NoMemory) → MayWantMemory text
+    → line ≡ strip_carriage_return piece → (refusal ≡ Memory → length line ≤ max_line_bytes) → (refusal ≡ Memory → fields_of line ≢ []) → ◌≡◌ {A = Result ℕ ScriptFault} (Err (fault_at number refusal)) (Err NoMemory) → MayWantMemory text
 wants-turn text yielded piece line r (Fault f) number small utf8 h front within item end short has_field e = cc
 wants-turn text yielded piece line r Memory number small utf8 h front within item end short has_field e =
     let read : script_of_lines (taken_lines yielded) ≡ Ok (contents (names_of (taken_lines yielded)) (filters_of (taken_lines yielded)) r.script.commands) = ap (script_of_commands (names_of (taken_lines yielded)) (filters_of (taken_lines yielded))) h.said in

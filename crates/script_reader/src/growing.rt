@@ -146,8 +146,7 @@ impl GrowingScript {
         self.last = None;
         self.bytes = last.bytes;
         self.lines = self.lines.saturating_sub(1);
-        self.reader
-            .go_back(last.devices, last.commands, last.made);
+        self.reader.go_back(last.devices, last.commands, last.made);
     }
 
     // How many bytes the text has with that line behind it.

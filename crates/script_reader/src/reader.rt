@@ -127,7 +127,11 @@ impl Reader {
 
     /// Reads one line more, and leaves its fields in the list. A refusal leaves the script and the pictures as they were.
     #[tactic(auto, unfolding(crate::specs::Saying::said))]
-    pub(crate) fn read_line<'a>(&mut self, line: &'a str, fields: &mut Vec<&'a str>) -> Result<(), Refusal>
+    pub(crate) fn read_line<'a>(
+        &mut self,
+        line: &'a str,
+        fields: &mut Vec<&'a str>,
+    ) -> Result<(), Refusal>
         ensures reads { Reads self.old (fields_of line.now) (third_field_on line.now) (said (seen self.old) line.now) result self.new }
         ensures memory { result ≡ Err Memory → length line.now ≤ max_line_bytes }
         ensures has_field { result ≡ Err Memory → fields_of line.now ≢ [] }

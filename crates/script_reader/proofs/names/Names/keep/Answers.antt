@@ -1,4 +1,4 @@
-use Rattle.std.proofs.Common.{string_bytes, map, take, sym, ap, ◌∙◌}
+use Rattle.std.proofs.Common.{string_bytes, map, take, ap, ◌∙◌}
 use Rattle.script_reader.proofs.Places.{map-take}
 use Rattle.script_reader.proofs.names.Names.keep.Goals as goal
 

@@ -1,4 +1,6 @@
-use Rattle.std.proofs.Common.{◌∷◌, [], codes, sym, Some, ◌∙◌}
+use Rattle.std.proofs.Common.{ℕ, false, ◌∷◌, [], codes, sym, subst, Some, ◌∙◌}
+use Rattle.std.specs.BTreeSet.{Updates}
+use Rattle.std.specs.Ordering.{nat_cmp}
 use Rattle.fleet_model.specs.declared.command.Command.TheVariants.{New}
 use Rattle.script_reader.specs.Steps.{seen}
 use Rattle.script_reader.specs.Saying.{command_said, creation_said, record_said}
@@ -40,8 +42,10 @@ returns-in-Err c =
     let number = c.in_ok-picture.picture in
     let fresh = sym c.in_ok-picture.ensures.said in
     let known = first-known (seen old) c.args.name.now device c.in_ok-device.ensures.said in
-    (
+    let removed = subst (λ (n : ℕ). Updates nat_cmp c.make.new.self.pictures c.remove.new.self n false) c.value.ensures.value c.remove.ensures.updates in (
       creation-record (seen old) c.args.name.now c.args.picture.now c.args.rating.now c.args.date.now c.args.words.now device number c.in-Err.refusal c.in_ok-device.ensures.room known fresh c.in-Err.ensures.refused,
-      (c.in-Err.ensures.kept ∙ c.in_ok-picture.ensures.script,
-      put_back old c.args.picture.now number c.new_picture.new.self.pictures c.make.new.self.pictures c.remove.new.self.pictures fresh c.in_ok-picture.ensures.made c.make.ensures.pictures c.remove.ensures.updates),
+      (
+        c.in-Err.ensures.kept ∙ c.in_ok-picture.ensures.script,
+        put_back old c.args.picture.now number c.new_picture.new.self.pictures c.make.new.self.pictures c.remove.new.self fresh c.in_ok-picture.ensures.made c.make.ensures.pictures removed,
+      ),
     )
