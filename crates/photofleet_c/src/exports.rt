@@ -1,8 +1,9 @@
 //! The call for a whole script as C sees it. `Global` takes no bytes: C passes nothing for it.
 ghost use Rattle.std.specs.Prelude.{◌≡◌, ℕ, List};
 ghost use Rattle.photofleet_c.specs.Placed.{HasNoRoom, Holds};
-ghost use Rattle.photofleet_c.specs.Printed.{IsPrinted};
-ghost use Rattle.photofleet_c.specs.Refused.{IsScript, TellsFault, TellsWant};
+ghost use Rattle.live_script.specs.Printed.{IsPrinted};
+ghost use Rattle.live_script.specs.Refused.{IsScript};
+ghost use Rattle.photofleet_c.specs.Refused.{TellsFault, TellsWant};
 ghost use Rattle.photofleet_c.specs.Statuses.{IsPlainStatus};
 
 use crate::placing::place;

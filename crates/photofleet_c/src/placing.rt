@@ -1,4 +1,5 @@
 //! The placing of a text in the caller's memory.
+ghost use Rattle.std.specs.Prelude.{◌≤◌, length};
 ghost use Rattle.std.specs.Bool.{OnFalse, OnTrue};
 ghost use Rattle.photofleet_c.specs.Placed.{HasNoRoom, Holds};
 
@@ -12,6 +13,16 @@ pub fn place(text: &[u8], out: &mut [u8], written: &mut usize) -> bool
     if out.len() < count {
         return false;
     }
-    out[..count].copy_from_slice(text);
+    put(text, out, written);
     true
+}
+
+/// Puts a text at the front of `out`, where it has room, and tells how many bytes it takes.
+pub fn put(text: &[u8], out: &mut [u8], written: &mut usize)
+    requires { length text.now ≤ length out.old }
+    ensures { Holds out.old out.new written.new text.now }
+{
+    let count = text.len();
+    *written = count;
+    out[..count].copy_from_slice(text);
 }

@@ -3,12 +3,12 @@ ghost use Rattle.std.specs.Prelude.{◌≡◌, ◌<◌, ◌≤◌, length, strin
 ghost use Rattle.std.specs.Bool.{OnFalse, OnTrue};
 ghost use Rattle.live_script.specs.Live.{IsTold};
 ghost use Rattle.live_script.specs.Refused.{IsOfFault, IsWhy};
-ghost use Rattle.photofleet_c.specs.Sessions.{Has, with_line};
+ghost use Rattle.photofleet_c.specs.Sessions.{Has, IsStepOf, with_line};
 
 use live_script::{LiveScript, Refusal, Told};
 use std::alloc::Global;
 
-/// The lines of a script that runs as they are given.
+/// A script that runs as its lines are given.
 #[derive(Drop)]
 pub struct Session {
     live: LiveScript,
@@ -33,30 +33,22 @@ impl Session {
     /// Gives a line, if what is printed of it has at most so many bytes, and tells that. An LF within it ends a line.
     pub fn give(&mut self, line: &[u8], most: usize) -> Result<Told, Refusal>
         ensures told { IfOk result (λ told. IsTold self.old.live (with_line self.old line.now) (string_bytes told.text)) }
-        ensures taken { IfOk result (λ told. OnTrue told.is_taken (Has (with_line self.old line.now) self.new)) }
+        ensures taken { IfOk result (λ told. OnTrue told.is_taken (IsStepOf self.old line.now self.new (string_bytes told.text))) }
         ensures fits { IfOk result (λ told. OnTrue told.is_taken (length (string_bytes told.text) ≤ most)) }
         ensures long { IfOk result (λ told. OnFalse told.is_taken (most < length (string_bytes told.text))) }
         ensures left { IfOk result (λ told. OnFalse told.is_taken (self.new ≡ self.old)) }
         ensures refused { IfErr result (IsOfFault (with_line self.old line.now)) }
         ensures kept { OnErr result (self.new ≡ self.old) }
     {
-        if line.contains(&b'\n') {
-            self.live.give_lines(line, most)
-        } else {
-            self.live.give(line, most)
-        }
+        self.live.give(line, most)
     }
 
     /// What would be printed of a line, which isn't given.
     pub fn ask(&mut self, line: &[u8]) -> Result<String, Refusal>
-        ensures told { IfOk result (λ told. IsTold self.old.live (with_line self.old line.now) (string_bytes told)) }
+        ensures told { IfOk result (λ text. IsTold self.old.live (with_line self.old line.now) (string_bytes text)) }
         ensures refused { IfErr result (IsOfFault (with_line self.old line.now)) }
         ensures kept { self.new ≡ self.old }
     {
-        if line.contains(&b'\n') {
-            self.live.ask_lines(line)
-        } else {
-            self.live.ask(line)
-        }
+        self.live.ask(line)
     }
 }

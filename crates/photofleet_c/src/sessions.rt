@@ -3,16 +3,18 @@ ghost use Rattle.std.specs.Prelude.{◌≡◌, ◌≢◌, ◌↔◌, ◌⊎◌, 
 ghost use Rattle.std.specs.Option.{option_map};
 ghost use Rattle.photofleet_c.specs.declared.session.Session.{Session};
 ghost use Rattle.photofleet_c.specs.Placed.{Holds, IsUntouched};
-ghost use Rattle.photofleet_c.specs.Refused.{IsScript, IsWhy, TellsFault, TellsWant};
+ghost use Rattle.live_script.specs.Refused.{IsScript, IsWhy};
+ghost use Rattle.photofleet_c.specs.Refused.{TellsFault, TellsWant};
 ghost use Rattle.photofleet_c.specs.Sessions.{Has, IsStep, TellsLine};
 ghost use Rattle.photofleet_c.specs.Statuses.{IsClosingStatus, IsOpeningStatus};
 
 use crate::handle::Handle;
 use crate::loose::Loose;
-use crate::refusal::{Refusal, refused};
+use crate::refusal::refused;
 use crate::session::Session;
 use crate::statuses::{BAD_SESSION, DONE};
-use crate::steps::stepped;
+use crate::steps::{asked, given};
+use live_script::Refusal;
 use std::alloc::Global;
 use std::mem::replace;
 
@@ -72,13 +74,7 @@ pub extern "C" fn photofleet_give(
         return BAD_SESSION;
     };
     let mut kept = loose.into_box();
-    let status = match stepped(alloc, &kept, line, out, written) {
-        Ok(next) => {
-            *kept = next;
-            DONE
-        }
-        Err(status) => status,
-    };
+    let status = given(&mut kept, line, out, written);
     *session = Handle::of(Loose::of(kept));
     status
 }
@@ -101,11 +97,8 @@ pub extern "C" fn photofleet_ask(
     let Some(loose) = taken(alloc, session) else {
         return BAD_SESSION;
     };
-    let kept = loose.into_box();
-    let status = match stepped(alloc, &kept, line, out, written) {
-        Ok(_) => DONE,
-        Err(status) => status,
-    };
+    let mut kept = loose.into_box();
+    let status = asked(&mut kept, line, out, written);
     *session = Handle::of(Loose::of(kept));
     status
 }
