@@ -1,10 +1,16 @@
 # Completion of fleet_view for fish.
 complete -c fleet_view -n __fish_use_subcommand -f
 complete -c fleet_view -n __fish_use_subcommand -a where -d 'Tells where each picture is once the script has run'
+complete -c fleet_view -n __fish_use_subcommand -a story -d 'Tells what happened to a picture, and why devices don\'t have it'
+complete -c fleet_view -n __fish_use_subcommand -a page -d 'Writes the script\'s run as an HTML page to step through'
 complete -c fleet_view -n __fish_use_subcommand -a chart -d 'Draws the script\'s run as an SVG'
 complete -c fleet_view -n __fish_use_subcommand -a fault -d 'Tells what is wrong with a script, where, and how it is mended'
 complete -c fleet_view -n __fish_use_subcommand -l help -s h -d 'Print help'
+complete -c fleet_view -n '__fish_seen_subcommand_from where' -l at -x -d 'After the first N commands, and not after all'
+complete -c fleet_view -n '__fish_seen_subcommand_from where' -l width -x -d 'In tables of at most N columns of the terminal'
 complete -c fleet_view -n '__fish_seen_subcommand_from where' -l help -s h -d 'Print help'
+complete -c fleet_view -n '__fish_seen_subcommand_from story' -l help -s h -d 'Print help'
+complete -c fleet_view -n '__fish_seen_subcommand_from page' -l help -s h -d 'Print help'
 complete -c fleet_view -n '__fish_seen_subcommand_from chart' -l batches -d 'A band for each batch, the commands that can run at once, and not for each command'
 complete -c fleet_view -n '__fish_seen_subcommand_from chart' -l help -s h -d 'Print help'
 complete -c fleet_view -n '__fish_seen_subcommand_from fault' -l help -s h -d 'Print help'
