@@ -23,7 +23,8 @@ class Browser:
         self.home = tempfile.TemporaryDirectory()
         read, self.to = os.pipe()
         self.from_, write = os.pipe()
-        flags = ["--headless=new", "--no-sandbox", "--disable-gpu", "--remote-debugging-pipe", f"--user-data-dir={self.home.name}", f"--window-size={width},{height}"]
+        # (a run is stepped through faster than by a reader, which Chromium would hold back)
+        flags = ["--headless=new", "--no-sandbox", "--disable-ipc-flooding-protection", "--disable-gpu", "--remote-debugging-pipe", f"--user-data-dir={self.home.name}", f"--window-size={width},{height}"]
         # The protocol has the descriptors 3 and 4.
         words = ["bash", "-c", f'exec "$@" 3<&{read} 4>&{write} 2> /dev/null', "browser", path, *flags, "about:blank"]
         self.process = subprocess.Popen(words, pass_fds=(read, write), stdout=subprocess.DEVNULL)
