@@ -128,7 +128,7 @@ fn is_between(script: &Script, number: u32) -> bool {
 // The most columns of a chart with texts in it.
 const MOST_LABELLED: usize = 500;
 
-/// The layout of a chart whose texts at the left have so many columns of a terminal, and the devices' names so many.
+/// The layout of a chart. The texts at its left take `left` columns of a terminal, and the devices' names take `names`.
 pub fn layout_of(
     alloc: Global,
     script: &Script,
@@ -147,7 +147,7 @@ pub fn layout_of(
     Ok(layout)
 }
 
-// How wide a column with a number of so many digits is.
+// The width of a column whose number has that many digits.
 fn width_of(digits: u16) -> u16 {
     digits.clamp(3, 9) * 7 + 13
 }

@@ -23,7 +23,7 @@ pub struct Spot {
 }
 
 impl Drawing {
-    /// Nothing is drawn, and none of so many devices has conflicts.
+    /// An empty drawing. None of the `devices` devices has conflicts.
     pub fn new(alloc: Global, layout: Layout, devices: usize) -> Result<Drawing, AllocError> {
         let strife = vec![in alloc; None; devices]?;
         Ok(Drawing {

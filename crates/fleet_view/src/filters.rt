@@ -10,7 +10,7 @@ pub const AT_LEFT: usize = 28;
 /// The most characters that stand below another filter's mark.
 pub const AT_MARK: usize = 16;
 
-/// A filter's text, cut where it has more than so many characters.
+/// A filter's text, cut to `most` characters.
 pub fn shown_filter(alloc: Global, filter: &Filter, most: usize) -> Result<String, AllocError> {
     let whole = print(alloc, filter.tree())?;
     cut(alloc, &whole, most)

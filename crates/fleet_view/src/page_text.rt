@@ -130,7 +130,7 @@ function inOrder(a, b) {
   return pictureOf(a) - pictureOf(b) || authorOfVersion(a) - authorOfVersion(b) || run.versions[a][3] - run.versions[b][3];
 }
 
-// ---- The fleet after so many commands
+// ---- The fleet after a command
 
 // The devices after the first commands, as many as 'undone' has lists: of each what it changed, to be undone from the end.
 const fleet = run.devices.map((_, place) => ({place, filter: run.filters[place], epoch: 0, store: new Set(), out: new Set(), star: new Map(), of: new Map()}));
@@ -219,7 +219,7 @@ function undoLast() {
   }
 }
 
-// Makes the fleet what it is after so many commands, and notes each device whose drawing is stale then.
+// Moves the fleet to its state after command `number`, and marks each device that has to be drawn again.
 function goTo(number) {
   const touch = () => { for (const change of undone[undone.length - 1] || []) stale.add(change.place); };
   touch();
@@ -258,7 +258,7 @@ function joined(star, bounds) {
   return [...all];
 }
 
-// The lines of its knowledge, of which the first so many are made.
+// The lines of what a device knows; only the first `most` are made.
 function knowledgeLines(device, most) {
   const groups = new Map();
   for (const [picture, bounds] of device.of) {
@@ -353,7 +353,7 @@ function unfolder(key, count, draw) {
   return button("more", "all " + count, () => { unfolded.add(key); draw(); });
 }
 
-// The first so many of a list in an order.
+// The first `most` items of a list in the given order.
 function firstOf(list, most, order) {
   if (list.length <= most) return list.sort(order);
   const first = [];

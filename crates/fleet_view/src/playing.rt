@@ -5,7 +5,7 @@ use live_fleet::Fleet;
 use photo_script::Script;
 use std::alloc::AllocError;
 
-/// Runs the script's commands, one after another and at most so many, on its devices, on which none has run.
+/// Runs the first `most` commands of the script in their order. No command has run on its devices before.
 pub fn play(fleet: &mut Fleet, script: &Script, most: u32) -> Result<(), AllocError>
     requires devices { length fleet.old.devices ≡ length script.now.names }
     requires none { fleet.old.commands ≡ 0 }

@@ -20,7 +20,7 @@ pub struct Table {
 }
 
 impl Table {
-    /// A table of so many columns, without rows.
+    /// A table of `columns` columns, without rows.
     pub fn new(alloc: Global, columns: usize) -> Table {
         Table {
             cells: String::new(alloc),
@@ -36,8 +36,8 @@ impl Table {
         Ok(())
     }
 
-    /// Puts the table behind a text, a line for each row. Where it is wider than so many columns of a terminal it becomes
-    /// several tables, each with the first columns; 0 says that it may be as wide as it is.
+    /// Appends the table to a text, a line for each row. A table wider than `width` columns of a terminal becomes several,
+    /// each with the first columns; 0 sets no limit.
     pub fn push_to(&self, text: &mut String, width: usize) -> Result<(), AllocError> {
         let mut widths = vec![in self.alloc; 0; self.columns]?;
         self.widen(&mut widths);
@@ -151,7 +151,7 @@ fn room_beside(widths: &[usize], width: usize) -> usize {
     room
 }
 
-// Puts so many spaces behind a text.
+// Appends `count` spaces to a text.
 fn push_spaces(text: &mut String, count: usize) -> Result<(), AllocError> {
     for _ in 0..count {
         text.push_str(" ")?;

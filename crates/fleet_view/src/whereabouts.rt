@@ -24,14 +24,14 @@ const CONFLICTS: &str = "\nconflicts, which an edit on a device that has all of 
 // What stands above the reasons.
 const REASONS: &str = "\nonly known, since the device's filter doesn't select it:\n";
 
-/// What is asked of a script.
+/// The options of `where`.
 #[derive(Drop)]
 pub struct Wanted {
     /// The pictures; all where none is named.
     pub pictures: Vec<u32>,
-    /// At most so many commands run.
+    /// The most commands to run.
     pub commands: u32,
-    /// How wide tables may be; as wide as they are where it is 0.
+    /// The most columns of a table; 0 sets no limit.
     pub width: usize,
 }
 

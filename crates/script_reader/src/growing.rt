@@ -174,7 +174,7 @@ fn read(reader: &mut Reader, line: &str) -> Result<Option<u32>, Refusal>
     }
 }
 
-// What was put into a script that had so many devices and commands before.
+// What a line put into a script that had `devices` devices and `commands` commands before it.
 fn said_in(script: &Script, devices: usize, commands: usize) -> Said
     ensures { (old : Contents) → length old.names ≡ devices → length old.commands ≡ commands → Grows old script.now → Adds result old script.now }
 {

@@ -15,8 +15,8 @@ use photo_version::Author;
 use std::alloc::Global;
 use tool_value_refusals::{filter_of, rated, told};
 
-/// Makes them on devices of so many versions: on one that is to keep none of them, and on one that keeps them until its filter
-/// is narrowed.
+/// Makes the calls on devices of `count` versions: on one whose filter selects none, and on one that stores all until its
+/// filter is narrowed.
 pub fn make(rt: HostRuntime, count: u32) {
     let made = rated(rt.alloc(), 4);
     if let Some(content) = &made {
@@ -51,7 +51,7 @@ fn opened(alloc: Global, text: &str) -> Option<Device> {
     Device::new(alloc, Author::new(0), filter).ok()
 }
 
-// Makes a version of each of the first so many pictures.
+// Makes a version of each of the first `count` pictures.
 fn has_made(device: &mut Device, content: &Record, count: u32) -> bool {
     for i in 0..count {
         let done = match PicNo::new(i.saturating_add(1)) {

@@ -12,7 +12,7 @@ use photo_script::{Command, Report, Script, push_report, read_script, report_tex
 use std::alloc::Global;
 use tool_value_refusals::{filter_of, rated};
 
-/// Makes them where the first device has so many versions.
+/// Makes the calls on a fleet whose first device has `count` versions.
 pub fn make(rt: HostRuntime, count: u32) {
     let made = text_of(rt.alloc(), count);
     if let Ok(text) = &made {

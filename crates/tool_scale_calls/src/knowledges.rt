@@ -10,7 +10,7 @@ use item_knowledge::{Knowledge, Told};
 use photo_record::PicNo;
 use photo_version::Vector;
 
-/// Makes them on so many pictures.
+/// Makes the calls on a knowledge of `count` pictures.
 pub fn make(rt: HostRuntime, count: u32) {
     let done = Knowledge::new(rt.alloc()).is_ok();
     tell(rt, "item_knowledge::Knowledge::new", done);

@@ -52,7 +52,7 @@ fn source(rt: HostRuntime) -> io::Result<Vec<u8>> {
     Ok(source)
 }
 
-// Makes the calls on values, devices and fleets of so many pictures.
+// Makes the calls on values, devices and fleets of `count` pictures.
 fn make_of(rt: HostRuntime, count: u32) {
     values::make(rt, count);
     knowledges::make(rt, count);

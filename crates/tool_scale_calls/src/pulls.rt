@@ -12,7 +12,7 @@ use photo_pull::{preview, pull};
 use photo_script::{Command, Script, read_script};
 use std::alloc::{AllocError, Global};
 
-/// Makes them where the first device has so many versions.
+/// Makes the calls on two devices, the first with `count` versions.
 pub fn make(rt: HostRuntime, count: u32) {
     let mut made = before(rt.alloc(), count);
     if let Some(outcome) = &mut made {
