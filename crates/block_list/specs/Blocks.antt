@@ -1,11 +1,11 @@
--- Lists that are kept in blocks.
+-- Lists in blocks.
 use Rattle.std.specs.Prelude.{◌≡◌, ℕ, ◌+◌, ◌<◌, ◌≤◌, Bool, true, false, Option, Some, None, List, ◌∷◌, ◌++◌, length, take, drop, slice_index_or, Vec}
 use Rattle.std.specs.List.{flat_map, All}
 use Rattle.std.specs.List.Sorted.{IsPartitionPoint}
 use Rattle.std.specs.declared.alloc.Global.{Global}
 
 module _ {T : Type 0} where
-  -- the list that the blocks are, one after another
+  -- the blocks joined
   abbrev pub joined : List (Vec T Global) → List T
   joined blocks = flat_map (λ block. block.items) blocks
 
@@ -16,7 +16,7 @@ module _ {T : Type 0} where
   abbrev pub AreFilled : List (Vec T Global) → Type 0
   AreFilled blocks = All IsFilled blocks
 
-  -- what a list in blocks keeps: its blocks, and how many elements are in them
+  -- what a list in blocks keeps: its blocks, none of them empty, and how many elements they have
   pub record IsKept (blocks : List (Vec T Global)) (len : ℕ) : Type 0 where
     pub filled : AreFilled blocks
     pub len_is : len ≡ length (joined blocks)
@@ -25,17 +25,17 @@ module _ {T : Type 0} where
   abbrev pub start_of : List (Vec T Global) → ℕ → ℕ
   start_of blocks b = length (joined (take b blocks))
 
-  -- n elements of block b stand from its place k on, which may be behind its last
+  -- n elements of block b stand from its place k on; k may be behind the last
   pub record IsAt (blocks : List (Vec T Global)) (b k n : ℕ) : Type 0 where
     pub block : b < length blocks
     pub within : (d : Vec T Global) → k + n ≤ length (slice_index_or blocks b d).items
 
-  -- whether there is an element, and it passes p
+  -- there is an element, and it passes p
   abbrev pub passes : (T → Bool) → Option T → Bool
   passes p None = false
   passes p (Some x) = p x
 
-  -- the elements that fail p and pass q stand from the first place up to before the second
+  -- the elements that fail p and pass q stand from the first place to before the second
   pub record AreBetween (p q : T → Bool) (xs : List T) (from to : ℕ) : Type 0 where
     pub order : from ≤ to
     pub within : to ≤ length xs

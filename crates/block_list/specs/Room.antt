@@ -1,7 +1,7 @@
--- Room for elements that are to come.
+-- Room for new elements.
 use Rattle.std.specs.Prelude.{ℕ, List}
 
--- room that was taken: how many elements the list may have when it is opened, and how many may come
+-- reserved room: how many elements the list may have when it is opened, and how many may come
 pub record Reserved : Type 0 where
   pub most : ℕ
   pub more : ℕ

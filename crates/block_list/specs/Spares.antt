@@ -1,4 +1,4 @@
--- Machinery of the proofs: what is there before elements come.
+-- Machinery of the proofs: the blocks that are there before elements come.
 use Rattle.std.specs.Prelude.{◌≡◌, ℕ, ◌+◌, ◌^◌, ◌<◌, ◌≤◌, List, [], ◌++◌, length, Vec, vec_capacity}
 use Rattle.std.specs.List.{All}
 use Rattle.std.specs.declared.alloc.Global.{Global}
@@ -17,7 +17,7 @@ module _ {T : Type 0} where
     pub room : all ≤ vec_capacity whole
     pub fits : all < 2 ^ 64
 
-  -- elements that are in blocks or all in the one block, with room for those that may come
+  -- the elements are in blocks, or all in the one block, and there is room for those that may come
   pub record IsRoomy (blocks : List (Vec T Global)) (spare : Vec (Vec T Global) Global) (whole : Vec T Global) (len more : ℕ) : Type 0 where
     pub filled : AreFilled blocks
     pub len_is : len ≡ length (whole.items ++ joined blocks)

@@ -1,8 +1,8 @@
--- One element that is taken out of a list.
+-- Removal of one element from a list.
 use Rattle.std.specs.Prelude.{◌≡◌, ℕ, ◌+◌, ◌<◌, Bool, true, List, ◌++◌, length, take, drop, slice_get, Some}
 
 module _ {T : Type 0} where
-  -- x, which passes p, stood among the old, and the others are left in their order
+  -- x passes p and stood in the old list; the others stay, in their order
   pub record IsTakenOut (p : T → Bool) (old : List T) (x : T) (new : List T) : Type 0 where
     pub place : ℕ
     pub within : place < length old

@@ -1,4 +1,4 @@
-//! The list in blocks: what it is seen as, and its calls.
+//! The list in blocks: what contracts see of it, and its calls.
 use crate::blocks::{element_at, insert_at, insert_in, remove_some, set_in};
 use crate::kept::retain_in;
 use crate::search::{element_behind, first_failing, index_of, passing_from, spot_of};
@@ -8,10 +8,10 @@ use crate::{Iter, Room, Roomy, Spot};
 use std::alloc::{AllocError, Global};
 use std::marker::Model;
 
-/// A list in blocks. It is seen as the list that its blocks are, one after another.
+/// A list in blocks. Contracts see the blocks joined, as one list.
 ///
-/// An element's place is found by a walk over the lengths of the blocks. Only an insertion takes memory; it halves
-/// a block that has grown long, where there is memory for that.
+/// A walk over the lengths of the blocks finds an element's place. Only an insertion takes memory: it halves a block that has
+/// grown long, if there is memory.
 #[derive(Debug, Drop)]
 pub struct BlockList<T> {
     pub(crate) blocks: Vec<Vec<T>>,
@@ -37,7 +37,7 @@ impl<T> BlockList<T> {
     ghost use Rattle.std.specs.Fn.{ComputesKey};
     ghost use Rattle.block_list.specs.Blocks.{joined};
 
-    /// The list of no element. It takes no memory.
+    /// An empty list. Takes no memory.
     pub fn new(alloc: Global) -> BlockList<T>
         ensures { result ≡ [] }
     {
@@ -47,21 +47,21 @@ impl<T> BlockList<T> {
         }
     }
 
-    /// How many elements it has.
+    /// How many elements the list has.
     pub fn len(&self) -> usize
         ensures { result ≡ length self.now }
     {
         self.len
     }
 
-    /// Whether it has none.
+    /// Whether the list is empty.
     pub fn is_empty(&self) -> bool
         ensures { result ≡ (length self.now == 0) }
     {
         self.len == 0
     }
 
-    /// The element at place `i`, from 0. To go over all of them, take `as_blocks`.
+    /// The element at place `i`, from 0. To visit all elements, use `as_blocks`.
     #[tactic(auto, using(std::proofs::lemmas::Grind::common_steps, crate::proofs::Joined::at_read, crate::proofs::Joined::read_at))]
     pub fn get(&self, i: usize) -> &T
         requires { i < length self.now }
@@ -82,27 +82,26 @@ impl<T> BlockList<T> {
         }
     }
 
-    /// The blocks, which one after another are the list.
+    /// The blocks; joined, they are the list.
     pub fn as_blocks(&self) -> &[Vec<T>]
         ensures { joined result.now ≡ self.now }
     {
         self.blocks.as_slice()
     }
 
-    /// How many elements pass the test, in a list where those that pass stand before those that fail.
+    /// How many elements pass the test. In the list, those that pass must stand before those that fail.
     pub fn partition_point<P: Fn(&T) -> bool>(&self, pred: P) -> usize
         requires { P.IsAlwaysCallable pred }
         ensures bound { result ≤ length self.now }
         ensures partitioned { (p : T → Bool) → ComputesKey P.FnMut p pred → IsPartitionedBy p self.now
             → IsPartitionPoint (λ y. p y ≡ true) (λ y. p y ≡ false) self.now result }
     {
-        // For its fact alone: how long the list is.
+        // Reading `len` tells the proof that the list has fewer than 2 ^ 64 elements.
         let _len = self.len;
         first_failing(&self.blocks, pred)
     }
 
-    /// The first element that fails the test, in a list where those that pass stand before those that fail. It counts no
-    /// blocks.
+    /// The first element that fails the test. In the list, those that pass must stand before those that fail. Counts no blocks.
     pub fn find_failing<P: Fn(&T) -> bool>(&self, pred: P) -> Option<&T>
         requires { P.IsAlwaysCallable pred }
         ensures { (p : T → Bool) → ComputesKey P.FnMut p pred → IsPartitionedBy p self.now
@@ -111,7 +110,7 @@ impl<T> BlockList<T> {
         self.find_failing_at(pred).0
     }
 
-    /// What `find_failing` gives, and a hint for `take_near`.
+    /// What `find_failing` returns, and a hint for `take_near`.
     pub fn find_failing_at<P: Fn(&T) -> bool>(&self, pred: P) -> (Option<&T>, Spot)
         requires { P.IsAlwaysCallable pred }
         ensures { (p : T → Bool) → ComputesKey P.FnMut p pred → IsPartitionedBy p self.now
@@ -135,9 +134,9 @@ impl<T: Drop> BlockList<T> {
     ghost use Rattle.block_list.specs.Blocks.{IsReplaced};
     ghost use Rattle.block_list.specs.Taken.{IsTakenOut};
 
-    /// Puts an element before element `i`, or behind the last.
+    /// Inserts an element before element `i`, or at the end.
     ///
-    /// The only error is want of memory, also for a list of `usize::MAX` elements. It leaves the list as it was.
+    /// The only error is refused memory, also for a list of `usize::MAX` elements. It leaves the list as it was.
     pub fn insert(&mut self, i: usize, item: T) -> Result<(), AllocError>
         requires { i ≤ length self.old }
         ensures ok { OnOk result (self.new ≡ insert self.old i item) }
@@ -151,11 +150,11 @@ impl<T: Drop> BlockList<T> {
         Ok(())
     }
 
-    /// Puts an element in the place of those that fail the first test and pass the second, or where they would stand.
+    /// Puts an element in place of those that fail the first test and pass the second, or where they would stand.
     ///
-    /// The list is one where those that pass a test stand before those that fail it, and what passes the first test
-    /// passes the second. Where at most one is to be replaced, this seldom counts blocks. The only error is want of
-    /// memory, also for a list of `usize::MAX` elements. It leaves the list as it was.
+    /// In the list, the elements that pass a test must stand before those that fail it, and what passes the first test
+    /// must pass the second. Where at most one element is replaced, this seldom counts blocks. The only error is
+    /// refused memory, also for a list of `usize::MAX` elements. It leaves the list as it was.
     pub fn replace_between<P: Fn(&T) -> bool, Q: Fn(&T) -> bool>(
         &mut self,
         before: P,
@@ -193,11 +192,10 @@ impl<T: Drop> BlockList<T> {
         Ok(())
     }
 
-    /// Takes out an element that passes the test, if there is one, and gives a hint for the next search. It takes no
+    /// Removes an element that passes the test, if there is one, and returns a hint for the next search. Takes no
     /// memory. Any hint will do.
     ///
-    /// Where what is sought stands behind what was taken before, each with the hint that the one before gave, the work
-    /// for one is small.
+    /// A call does little work if it gets the last call's hint, and its element stands behind the one that call removed.
     #[tactic(auto, using(crate::proofs::Passing::taken_out))]
     pub fn take_near<P: Fn(&T) -> bool>(&mut self, near: Spot, pred: P) -> (Option<T>, Spot)
         requires { P.IsAlwaysCallable pred }
@@ -214,7 +212,7 @@ impl<T: Drop> BlockList<T> {
         (Some(taken), Spot { block, place: 0 })
     }
 
-    /// Gives up the elements from place `from` up to before place `to`. It takes no memory.
+    /// Removes the elements from place `from` to before place `to`. Takes no memory.
     #[tactic(auto, using(std::proofs::lemmas::Grind::common_steps, crate::proofs::Joined::removed_more))]
     pub fn remove_range(&mut self, from: usize, to: usize)
         requires order { from ≤ to }
@@ -228,7 +226,7 @@ impl<T: Drop> BlockList<T> {
         self.len -= to - from;
     }
 
-    // Puts an element in the place of those from place `from` up to before place `to`, where there is one at least.
+    // Puts an element in place of those from place `from` to before place `to`; there must be at least one.
     fn replace_range(&mut self, from: usize, to: usize, item: T)
         requires in_range { to ≤ length self.old }
         ensures { from < to → self.new ≡ take from self.old ++ item ∷ drop to self.old }
@@ -240,21 +238,21 @@ impl<T: Drop> BlockList<T> {
         }
     }
 
-    /// Keeps the elements that pass the test, in their order. It takes no memory.
+    /// Keeps the elements that pass the test, in their order. Takes no memory.
     pub fn retain<P: Fn(&T) -> bool>(&mut self, pred: P)
         requires { P.IsAlwaysCallable pred }
         ensures { (p : T → Bool) → ComputesKey P.FnMut p pred → self.new ≡ filter p self.old }
     {
-        // For its fact alone: how long the list is.
+        // Reading `len` tells the proof that the list has fewer than 2 ^ 64 elements.
         let _len = self.len;
         self.len -= retain_in(&mut self.blocks, pred);
     }
 
-    /// Takes room for `more` elements that are to come. `open` puts it to the list, and then they take no memory.
+    /// Reserves room for `more` elements. After `open` has given the list this room, their insertion takes no memory.
     ///
-    /// The list may lose elements before it is opened. The room is a block for all elements, and, where there is memory for
-    /// them too, spare blocks for those that come: with them no other element moves further than in its block or the next.
-    /// The work is in proportion to `more`. The only error is want of memory.
+    /// The list may lose elements before it is opened. The room is a block for all elements and, if there is memory,
+    /// spare blocks for the new ones. With spare blocks an insertion moves elements only within their block, or to the
+    /// next one. The work is proportional to `more`. The only error is refused memory.
     pub fn room(&mut self, more: usize) -> Result<Room<T>, AllocError>
         ensures kept { self.new ≡ self.old }
         ensures most { IfOk result (λ room. room.most ≡ length self.old) }
@@ -275,7 +273,7 @@ impl<T: Drop> BlockList<T> {
         })
     }
 
-    /// The list, with room that was taken for it. It takes no memory.
+    /// The list with the room that was reserved for it. Takes no memory.
     pub fn open(self, room: Room<T>) -> Roomy<T>
         requires { length self ≤ room.most }
         ensures items { result.items ≡ self }

@@ -1,4 +1,4 @@
-//! The work on the blocks of a list. None of them is empty.
+//! Operations on the blocks of a list. No block is empty.
 ghost use Rattle.std.specs.Prelude.{◌≡◌, ℕ, ◌+◌, ◌<◌, ◌≤◌, ◌++◌, length, take, drop, slice_set, slice_index_or, Vec, OnOk, OnErr};
 ghost use Rattle.std.specs.declared.alloc.Global.{Global};
 ghost use Rattle.std.specs.List.{insert};
@@ -6,11 +6,11 @@ ghost use Rattle.block_list.specs.Blocks.{joined, AreFilled, start_of, IsAt};
 
 use std::alloc::AllocError;
 
-// A block that has so many elements after an insertion is cut in two. An insertion moves the elements behind it in its
-// block, and a cut the blocks behind it, so blocks are neither long nor many.
+// A block of this length is cut in two after an insertion. An insertion moves the later elements of its block, and a cut moves
+// the later blocks, so blocks are neither long nor many.
 const LONG: usize = 128;
 
-/// Where element `i` stands: its block, and its place there.
+/// The place of element `i`: its block, and its place in the block.
 pub fn element_at<T>(blocks: &[Vec<T>], i: usize) -> (usize, usize)
     requires { i < length (joined blocks.now) }
     ensures place { IsAt blocks.now result.0 result.1 1 }
@@ -25,7 +25,7 @@ pub fn element_at<T>(blocks: &[Vec<T>], i: usize) -> (usize, usize)
     (block, place)
 }
 
-// The place before element `i`, or behind the last: its block, and the place there.
+// The place before element `i`, or behind the last: its block, and the place in the block.
 fn place_of<T>(blocks: &[Vec<T>], i: usize) -> (usize, usize)
     requires some { 0 < length blocks.now }
     requires in_range { i ≤ length (joined blocks.now) }
@@ -39,9 +39,9 @@ fn place_of<T>(blocks: &[Vec<T>], i: usize) -> (usize, usize)
     (block, place + 1)
 }
 
-// Cuts a block in two where it is long and memory allows it. The list stays.
+// Cuts a block in two if it is long and memory allows it. The list stays the same.
 //
-// It is cut in the middle, but a list that grows at its end gets full blocks.
+// The cut is in the middle; but a list that grows at its end gets full blocks.
 fn cut_long<T>(blocks: &mut Vec<Vec<T>>, block: usize, inserted: usize)
     requires filled { AreFilled blocks.old.items }
     requires in_range { block < length blocks.old.items }
@@ -67,7 +67,7 @@ fn cut_long<T>(blocks: &mut Vec<Vec<T>>, block: usize, inserted: usize)
     }
 }
 
-/// Puts an element before element `i`, or behind the last. An error leaves the list as it was.
+/// Inserts an element before element `i`, or at the end. An error leaves the list as it was.
 pub fn insert_at<T: Drop>(blocks: &mut Vec<Vec<T>>, i: usize, item: T) -> Result<(), AllocError>
     requires filled { AreFilled blocks.old.items }
     requires in_range { i ≤ length (joined blocks.old.items) }
@@ -86,7 +86,7 @@ pub fn insert_at<T: Drop>(blocks: &mut Vec<Vec<T>>, i: usize, item: T) -> Result
     Ok(())
 }
 
-/// Puts an element before a place in a block, or behind its last. An error leaves the list as it was.
+/// Inserts an element before a place in a block, or at the block's end. An error leaves the list as it was.
 #[tactic(auto, using(crate::proofs::Joined::joined_same, crate::proofs::Joined::joined_insert))]
 pub fn insert_in<T: Drop>(
     blocks: &mut Vec<Vec<T>>,
@@ -105,7 +105,7 @@ pub fn insert_in<T: Drop>(
     Ok(())
 }
 
-/// Puts an element in the place of one in a block.
+/// Puts an element in place of one in a block.
 #[tactic(auto, using(crate::proofs::Joined::joined_write))]
 pub fn set_in<T: Drop>(blocks: &mut Vec<Vec<T>>, block: usize, place: usize, item: T)
     requires filled { AreFilled blocks.old.items }
@@ -116,7 +116,7 @@ pub fn set_in<T: Drop>(blocks: &mut Vec<Vec<T>>, block: usize, place: usize, ite
     blocks[block][place] = item;
 }
 
-/// Gives up a block if it is empty. The others aren't.
+/// Removes a block if it is empty. The other blocks aren't empty.
 #[tactic(auto, using(std::proofs::lemmas::Grind::common_steps, crate::proofs::Joined::joined_remove))]
 pub fn drop_if_empty<T: Drop>(blocks: &mut Vec<Vec<T>>, block: usize)
     requires in_range { block < length blocks.old.items }
@@ -129,7 +129,7 @@ pub fn drop_if_empty<T: Drop>(blocks: &mut Vec<Vec<T>>, block: usize)
     }
 }
 
-// Gives up the elements of a block from place `from` up to before place `to`.
+// Removes the elements of a block from place `from` to before place `to`.
 fn remove_part<T: Drop>(block: &mut Vec<T>, from: usize, to: usize)
     requires order { from ≤ to }
     requires in_range { to ≤ length block.old.items }
@@ -138,7 +138,7 @@ fn remove_part<T: Drop>(block: &mut Vec<T>, from: usize, to: usize)
     block.drain(from..to);
 }
 
-/// Gives up elements from element `i` on, at most `count` of them: those that stand in its block. Says how many.
+/// Removes at most `count` elements from element `i` on: those in its block. Returns how many.
 #[tactic(auto, using(std::proofs::lemmas::Grind::common_steps, crate::proofs::Joined::joined_drop))]
 pub fn remove_some<T: Drop>(blocks: &mut Vec<Vec<T>>, i: usize, count: usize) -> usize
     requires filled { AreFilled blocks.old.items }

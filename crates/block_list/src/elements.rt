@@ -1,4 +1,4 @@
-//! Going over a list in blocks.
+//! Iteration over a list in blocks.
 ghost use Rattle.std.specs.Prelude.{◌≡◌, ◌++◌, [], length, Some, IfSome};
 ghost use Rattle.std.specs.Iterator.{YieldsFirstRef, UpTo, item_count};
 ghost use Rattle.std.specs.Iterator.SizeHint.{IsWithinCount};
@@ -8,10 +8,10 @@ use crate::BlockList;
 use std::iter::FusedIterator;
 use std::marker::Model;
 
-/// What is left of a list that is gone over. It is seen as the list of those elements.
+/// The elements that an iteration hasn't visited. Contracts see the list of them.
 #[derive(Drop)]
 pub struct Iter<'a, T> {
-    // What is left of a block, and the blocks behind it.
+    // The rest of a block, and the blocks behind it.
     pub(crate) block: &'a [T],
     pub(crate) blocks: &'a [Vec<T>],
     pub(crate) len: usize,
@@ -53,7 +53,7 @@ impl<'a, T> Iterator for Iter<'a, T> {
     }
 }
 
-// The same elements, where the first of them, if there is one, is in the part of a block.
+// The same elements; if there are any, the first one is in the part of a block.
 fn opened<'a, T>(block: &'a [T], blocks: &'a [Vec<T>]) -> (&'a [T], &'a [Vec<T>])
     requires { AreFilled blocks.now }
     ensures elements { result.0.now ++ joined result.1.now ≡ block.now ++ joined blocks.now }

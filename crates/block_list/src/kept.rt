@@ -1,9 +1,9 @@
-//! Keeping the elements of blocks that pass a test.
+//! Keeps the elements of blocks that pass a test.
 ghost use Rattle.std.specs.Prelude.{◌≡◌, ◌+◌, ◌^◌, ◌<◌, Bool, length, filter};
 ghost use Rattle.std.specs.Fn.{ComputesKey};
 ghost use Rattle.block_list.specs.Blocks.{joined, AreFilled};
 
-// Keeps the elements of a block that pass the test. Says how many go.
+// Keeps the elements of a block that pass the test. Returns how many it removes.
 fn retain_block<T: Drop, P: Fn(&T) -> bool>(block: &mut Vec<T>, pred: &P) -> usize
     requires { P.IsAlwaysCallable pred.now }
     ensures items { (p : T → Bool) → ComputesKey P.FnMut p pred.now → block.new.items ≡ filter p block.old.items }
@@ -14,7 +14,7 @@ fn retain_block<T: Drop, P: Fn(&T) -> bool>(block: &mut Vec<T>, pred: &P) -> usi
     len - block.len()
 }
 
-// Gives up the blocks that are empty. The list stays.
+// Removes the empty blocks. The list stays the same.
 fn drop_empty<T: Drop>(blocks: &mut Vec<Vec<T>>)
     ensures same { joined blocks.new.items ≡ joined blocks.old.items }
     ensures filled { AreFilled blocks.new.items }
@@ -22,7 +22,7 @@ fn drop_empty<T: Drop>(blocks: &mut Vec<Vec<T>>)
     blocks.retain(|block| !block.is_empty());
 }
 
-/// Keeps the elements that pass the test. Says how many go.
+/// Keeps the elements that pass the test. Returns how many it removes.
 #[tactic(auto, using(std::proofs::lemmas::Grind::common_steps, crate::proofs::Filtered::filter_set, crate::proofs::Filtered::passing_more, crate::proofs::Filtered::length_set_block, crate::proofs::Filtered::part_within))]
 pub fn retain_in<T: Drop, P: Fn(&T) -> bool>(blocks: &mut Vec<Vec<T>>, pred: P) -> usize
     requires callable { P.IsAlwaysCallable pred }

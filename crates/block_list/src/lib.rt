@@ -1,5 +1,5 @@
-//! A list that is kept in blocks, so that an insertion or a removal moves few elements. Its invariant: **the blocks one after
-//! another are the list**, and none is empty.
+//! A list in blocks, so that an insertion or a removal moves few elements. Its invariant: **the blocks joined are the
+//! list**, and no block is empty.
 #![tactic(auto)]
 
 mod block_list;

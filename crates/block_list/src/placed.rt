@@ -9,7 +9,7 @@ ghost use Rattle.block_list.specs.Spares.{IsSpare};
 use crate::search::spot_of;
 use crate::spare::open_spare;
 
-// Puts an element into a block that isn't full.
+// Inserts an element into a block that isn't full.
 fn place_within<T: Drop>(block: &mut Vec<T>, place: usize, item: T)
     requires place { place ≤ length block.old.items }
     requires room { vec_len block.old < vec_capacity block.old }
@@ -22,7 +22,7 @@ fn place_within<T: Drop>(block: &mut Vec<T>, place: usize, item: T)
     }
 }
 
-// Puts an element into a full block, out of which the last one goes.
+// Inserts an element into a full block, and returns the block's last element, which gives way.
 fn push_out<T: Drop>(block: &mut Vec<T>, place: usize, item: T) -> T
     requires { place ≤ length block.old.items }
     ensures items { block.new.items ++ result ∷ [] ≡ insert block.old.items place item }
@@ -38,7 +38,7 @@ fn push_out<T: Drop>(block: &mut Vec<T>, place: usize, item: T) -> T
     last
 }
 
-// Puts an element before those of a block, or behind all blocks: into that block, or a spare one before it.
+// Inserts an element before those of a block, or behind all blocks: into that block, or into a spare block before it.
 #[tactic(auto, using(crate::proofs::Joined::joined_first, crate::proofs::Joined::joined_open, crate::proofs::Joined::filled_insert))]
 fn place_first<T: Drop>(blocks: &mut Vec<Vec<T>>, spare: &mut Vec<Vec<T>>, block: usize, item: T)
     requires in_range { block ≤ length blocks.old.items }
@@ -62,7 +62,7 @@ fn place_first<T: Drop>(blocks: &mut Vec<Vec<T>>, spare: &mut Vec<Vec<T>>, block
     }
 }
 
-// Puts an element before a place in a block, or behind its last. Where the block is full its last element gives way.
+// Inserts an element before a place in a block, or at the block's end. The last element of a full block gives way.
 #[tactic(auto, using(crate::proofs::Joined::joined_insert, crate::proofs::Joined::joined_push_out))]
 fn place_in<T: Drop>(
     blocks: &mut Vec<Vec<T>>,
@@ -89,7 +89,7 @@ fn place_in<T: Drop>(
     place_first(blocks, spare, block + 1, last);
 }
 
-/// Puts an element behind those that pass the test, where there are a spare block and a place for it.
+/// Inserts an element behind those that pass the test. There must be a spare block with a place for it.
 pub fn place_between<T: Drop, P: Fn(&T) -> bool>(
     blocks: &mut Vec<Vec<T>>,
     spare: &mut Vec<Vec<T>>,
@@ -116,7 +116,7 @@ pub fn place_between<T: Drop, P: Fn(&T) -> bool>(
     place_in(blocks, spare, block, place, item);
 }
 
-/// Puts an element behind those that pass the test, into the block that has room for all.
+/// Inserts an element behind those that pass the test, into the block with room for all elements.
 pub fn place_alone<T: Drop, P: Fn(&T) -> bool>(whole: &mut Vec<T>, before: P, item: T)
     requires callable { P.IsAlwaysCallable before }
     requires room { vec_len whole.old < vec_capacity whole.old }

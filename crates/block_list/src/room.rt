@@ -1,16 +1,15 @@
-//! Room that is taken before a list grows, and a list that grows in it.
+//! Room that is reserved before a list grows, and a list that grows in it.
 use crate::BlockList;
 use crate::placed::{place_alone, place_between};
 use crate::spare::gather;
 use std::marker::Model;
 
-/// Room that is taken before a list grows, so that growing takes no memory.
+/// Room that is reserved before a list grows, so that growing takes no memory.
 ///
-/// It is seen as two numbers: `most`, how many elements the list may have when it is opened, and `more`, how many may
-/// come.
+/// Contracts see two numbers: `most`, how many elements the list may have when it is opened, and `more`, how many may come.
 #[derive(Debug, Drop)]
 pub struct Room<T> {
-    // Blocks that may be put between others, and an empty one with room for all elements.
+    // Blocks to be put between others, and an empty block with room for all elements.
     pub(crate) spare: Vec<Vec<T>>,
     pub(crate) whole: Vec<T>,
     pub(crate) most: usize,
@@ -29,10 +28,10 @@ impl<T> Model for Room<T> {
     ghost invariant = { λ r. (r.whole.items ≡ []) × HasRoom r.spare r.whole (r.most + r.more) };
 }
 
-/// A list with room for elements that are to come. It is seen as its elements, and how many more there is room for.
+/// A list with room for new elements. Contracts see its elements, and how many more there is room for.
 #[derive(Debug, Drop)]
 pub struct Roomy<T> {
-    // The elements are in blocks, or all in the block with room for them: the last ones where the spare blocks ran out.
+    // The elements are in blocks; after the spare blocks ran out, all are in the block with room for them.
     pub(crate) blocks: Vec<Vec<T>>,
     pub(crate) spare: Vec<Vec<T>>,
     pub(crate) whole: Vec<T>,
@@ -59,8 +58,8 @@ impl<T: Drop> Roomy<T> {
     ghost use Rattle.std.specs.Fn.{ComputesKey};
     ghost use Rattle.block_list.specs.Blocks.{IsReplaced};
 
-    /// Puts an element behind those that pass the test, in a list where those that pass stand before those that fail.
-    /// It takes no memory.
+    /// Inserts an element behind those that pass the test. In the list, those that pass must stand before those that
+    /// fail. Takes no memory.
     pub fn insert_behind<P: Fn(&T) -> bool>(&mut self, before: P, item: T)
         requires before { P.IsAlwaysCallable before }
         requires room { 0 < self.old.more }
@@ -79,7 +78,7 @@ impl<T: Drop> Roomy<T> {
         place_alone(&mut self.whole, before, item);
     }
 
-    /// The list alone. It takes no memory, and room that was not used is given back.
+    /// The list alone. Gives unused room back. Takes no memory.
     pub fn close(self) -> BlockList<T>
         ensures { result ≡ self.items }
     {

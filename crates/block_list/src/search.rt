@@ -1,4 +1,4 @@
-//! The binary search over the blocks of a list.
+//! Binary search over the blocks of a list.
 ghost use Rattle.std.specs.Prelude.{◌≡◌, ℕ, ◌+◌, ◌^◌, ◌<◌, ◌≤◌, Bool, true, false, length, slice_get, slice_index_or, Some, IfSome, IfNone};
 ghost use Rattle.std.specs.Option.{option_copied};
 ghost use Rattle.std.specs.List.Sorted.{IsPartitionedBy, IsPartitionPoint};
@@ -19,7 +19,7 @@ fn count_before<T>(blocks: &[Vec<T>], block: usize) -> usize
     count
 }
 
-/// Whether there is an element, and it passes the test.
+/// Whether there is an element that passes the test.
 pub fn passes<T, P: Fn(&T) -> bool>(found: Option<&T>, pred: &P) -> bool
     requires { P.IsAlwaysCallable pred.now }
     ensures { (p : T → Bool) → ComputesKey P.FnMut p pred.now → result ≡ passes p (option_copied found.entry) }
@@ -30,8 +30,8 @@ pub fn passes<T, P: Fn(&T) -> bool>(found: Option<&T>, pred: &P) -> bool
     }
 }
 
-/// Where the first element that fails the test stands, in a list where those that pass stand before it: a block, and a
-/// place there or behind its last. None of the blocks is counted.
+/// The place of the first element that fails the test: a block, and a place in it or behind its last. In the list, those that
+/// pass must stand before those that fail. Counts no blocks.
 pub fn spot_of<T, P: Fn(&T) -> bool>(blocks: &[Vec<T>], pred: P) -> (usize, usize)
     requires callable { P.IsAlwaysCallable pred }
     requires filled { AreFilled blocks.now }
@@ -52,7 +52,7 @@ pub fn spot_of<T, P: Fn(&T) -> bool>(blocks: &[Vec<T>], pred: P) -> (usize, usiz
     (turn - 1, blocks[turn - 1].partition_point(pred))
 }
 
-/// The place of the first element that fails the test, in a list where those that pass stand before it.
+/// The place of the first element that fails the test. In the list, those that pass must stand before those that fail.
 pub fn first_failing<T, P: Fn(&T) -> bool>(blocks: &[Vec<T>], pred: P) -> usize
     requires callable { P.IsAlwaysCallable pred }
     requires filled { AreFilled blocks.now }
@@ -68,7 +68,7 @@ pub fn first_failing<T, P: Fn(&T) -> bool>(blocks: &[Vec<T>], pred: P) -> usize
     index_of(blocks, block, place)
 }
 
-/// The place in the list of a place in a block.
+/// The place in the list that a place in a block has.
 pub fn index_of<T>(blocks: &[Vec<T>], block: usize, place: usize) -> usize
     requires place { IsAt blocks.now block place 0 }
     requires fits { length (joined blocks.now) < 2 ^ 64 }
@@ -78,7 +78,7 @@ pub fn index_of<T>(blocks: &[Vec<T>], block: usize, place: usize) -> usize
     count_before(blocks, block) + place
 }
 
-/// The element at a place in a block, or behind its last the first of the next one.
+/// The element at a place in a block, or, behind its last, the first element of the next block.
 #[tactic(auto, using(std::proofs::lemmas::Grind::common_steps, crate::proofs::Joined::read_at, crate::proofs::Joined::read_behind, crate::proofs::Joined::read_past))]
 pub fn element_behind<T>(blocks: &[Vec<T>], block: usize, place: usize) -> Option<&T>
     requires filled { AreFilled blocks.now }
@@ -95,8 +95,8 @@ pub fn element_behind<T>(blocks: &[Vec<T>], block: usize, place: usize) -> Optio
     None
 }
 
-/// How many elements from a place on pass the test, where all before it do: none, or one that stands in the block. Else
-/// `None`: there is one, and perhaps more.
+/// How many elements from a place on pass the test, if it is none, or one within the block; `None` if one passes and more may.
+/// All elements before the place pass.
 #[tactic(auto, using(crate::proofs::Turn::turns_at))]
 pub fn passing_from<T, P: Fn(&T) -> bool>(
     blocks: &[Vec<T>],

@@ -1,4 +1,4 @@
-//! Blocks that are there before the elements come.
+//! Spare blocks, which are made before the elements come.
 ghost use Rattle.std.specs.Prelude.{◌≡◌, ◌+◌, ◌<◌, ◌≤◌, ◌++◌, [], ◌∷◌, length, vec_capacity, IfOk};
 ghost use Rattle.std.specs.List.{All};
 ghost use Rattle.block_list.specs.Blocks.{joined};
@@ -7,20 +7,20 @@ ghost use Rattle.block_list.specs.Spares.{IsSpare};
 use std::alloc::{AllocError, Global};
 use std::mem::replace;
 
-// How many elements a spare block has room for. Many are opened for a few elements, so it isn't a long one.
+// How many elements a spare block has room for. Many blocks are opened for few elements, so a spare block is short.
 const SPARE_LEN: usize = 32;
 
-/// How many spare blocks serve `more` elements that come to a list of so many blocks.
+/// How many spare blocks suffice for `more` elements that come to a list of so many blocks.
 ///
-/// A full block opens a spare one behind it, and another one when that is full too: one for each block that an element
-/// may come to, and at most two for each spare block that is filled.
+/// A full block opens a spare block behind it, and another one when that is full too. That makes one for each block that an
+/// element may come to, and at most two for each spare block that fills up.
 pub fn spares_for(blocks: usize, more: usize) -> usize
     ensures { 0 < result }
 {
     (more / (SPARE_LEN / 2) + 1).saturating_add(blocks.min(more))
 }
 
-/// So many empty blocks, or as many as memory allows, and a place for one at least. The only error is want of memory.
+/// So many empty blocks, or as many as memory allows, and a place for at least one. The only error is refused memory.
 pub fn spare_blocks<T: Drop>(alloc: Global, count: usize) -> Result<Vec<Vec<T>>, AllocError>
     requires { 0 < count }
     ensures spares { IfOk result (λ spare. All IsSpare spare.items) }
@@ -38,7 +38,7 @@ pub fn spare_blocks<T: Drop>(alloc: Global, count: usize) -> Result<Vec<Vec<T>>,
     Ok(blocks)
 }
 
-/// One of the spare blocks, with an element in it.
+/// Takes a spare block, and puts an element into it.
 pub fn open_spare<T: Drop>(spare: &mut Vec<Vec<T>>, item: T) -> Vec<T>
     requires some { 0 < length spare.old.items }
     requires spares { All IsSpare spare.old.items }
@@ -53,7 +53,7 @@ pub fn open_spare<T: Drop>(spare: &mut Vec<Vec<T>>, item: T) -> Vec<T>
     block
 }
 
-/// Moves the elements of all blocks into one block with room for them, behind those that it has.
+/// Moves the elements of all blocks into one block with room for them, behind the elements that it has.
 pub fn gather<T: Drop>(blocks: &mut Vec<Vec<T>>, whole: &mut Vec<T>)
     requires { length whole.old.items + length (joined blocks.old.items) ≤ vec_capacity whole.old }
     ensures none { blocks.new.items ≡ [] }

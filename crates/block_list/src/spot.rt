@@ -1,4 +1,4 @@
-/// Where a search in a list ended: a hint for the next one. It has no meaning beyond that.
+/// Where a search in a list ended: a hint for the next search, with no other meaning.
 #[derive(Clone, Copy, Debug)]
 pub struct Spot {
     pub(crate) block: usize,
@@ -6,7 +6,7 @@ pub struct Spot {
 }
 
 impl Spot {
-    /// The hint of who has searched for nothing yet.
+    /// The hint before any search.
     pub fn start() -> Spot {
         Spot { block: 0, place: 0 }
     }

@@ -1,4 +1,4 @@
-//! Taking one element out of the blocks of a list. None of them is empty.
+//! Removes one element from the blocks of a list. No block is empty.
 ghost use Rattle.std.specs.Prelude.{◌≡◌, ◌+◌, ◌<◌, ◌≤◌, Bool, true, false, ◌++◌, length, take, drop, slice_get, Some, IfNone, IfSome};
 ghost use Rattle.std.specs.List.{list_any};
 ghost use Rattle.std.specs.Fn.{ComputesKey};
@@ -7,8 +7,8 @@ ghost use Rattle.block_list.specs.Blocks.{joined, AreFilled, start_of, IsAt, pas
 use crate::blocks::drop_if_empty;
 use crate::search::passes;
 
-/// Where an element stands that passes the test, if there is one: its block, and its place there. It is looked for from
-/// block `near` on to the end, then in the blocks before that.
+/// The place of an element that passes the test, if there is one: its block, and its place in the block. Searches from block
+/// `near` to the end, then the blocks before it.
 #[tactic(auto, using(std::proofs::lemmas::Grind::common_steps, crate::proofs::Passing::none_in_turn, crate::proofs::Passing::found_in_list, crate::proofs::Passing::none_in_blocks))]
 pub fn spot_passing<T, P: Fn(&T) -> bool>(
     blocks: &[Vec<T>],
@@ -31,7 +31,7 @@ pub fn spot_passing<T, P: Fn(&T) -> bool>(
     None
 }
 
-// Where one is after `i` steps from place `from` on to the end, and then on from the first.
+// The place `i` steps after `from`, where the first place follows the last.
 fn in_turn(from: usize, len: usize, i: usize) -> usize
     requires from { from ≤ len }
     requires i { i < len }
@@ -58,7 +58,7 @@ fn first_passing<T, P: Fn(&T) -> bool>(items: &[T], pred: &P) -> Option<usize>
     None
 }
 
-/// Takes out an element of a block. The block goes with it where it is the last there.
+/// Removes an element of a block, and the block with it if no other element is left there.
 #[tactic(auto, using(crate::proofs::Joined::read_at, crate::proofs::Joined::joined_drop))]
 pub fn take_at<T: Drop>(blocks: &mut Vec<Vec<T>>, block: usize, place: usize) -> T
     requires filled { AreFilled blocks.old.items }

@@ -8,7 +8,7 @@ use Rattle.std.proofs.lemmas.Bool.{cases_eq}
 use Rattle.std.proofs.lemmas.Nat.{div_below}
 use Rattle.std.proofs.Math.Nat.{mod-lt, mul-lt-mul_of_pos_right}
 use Rattle.item_knowledge.proofs.MergeLemmas.{snoc_each}
-use Rattle.item_knowledge.specs.Places.{mixed, hashed, share, bucket, IsLast, is_new, IsPlaced}
+use Rattle.item_knowledge.specs.VectorIndex.{mixed, hashed, share, bucket, IsLast, is_new, IsChained}
 
 -- The bucket of a row
 
@@ -38,7 +38,7 @@ pub record Along (bucket_of : List ℕ → ℕ) (rows : List (List ℕ)) (row : 
   pub others : (k : ℕ) → place ≤ k → k < length rows → get_or rows k [] ≡ row → ⊥
 
 -- it begins at the bucket's latest row
-pub along_first : (bucket_of : List ℕ → ℕ) (heads before : List ℕ) (rows : List (List ℕ)) (row : List ℕ) (b place : ℕ) → IsPlaced bucket_of heads before rows → b ≡ bucket_of row → b < length heads → place ≡ get_or heads b 0 → Along bucket_of rows row place
+pub along_first : (bucket_of : List ℕ → ℕ) (heads before : List ℕ) (rows : List (List ℕ)) (row : List ℕ) (b place : ℕ) → IsChained bucket_of heads before rows → b ≡ bucket_of row → b < length heads → place ≡ get_or heads b 0 → Along bucket_of rows row place
 along_first bucket_of heads before rows row b place h is l at =
     let last = h.latest b l in
     subst (Along bucket_of rows row) (sym at) (record {
@@ -84,7 +84,7 @@ module _ (bucket_of : List ℕ → ℕ) (rows : List (List ℕ)) (row : List ℕ
   once_more : ((j k : ℕ) → j < k → k < length rows → get_or rows j [] ≡ get_or rows k [] → ⊥) → is_new rows row → (j k : ℕ) → j < k → k < suc (length rows) → get_or (rows ++ row ∷ []) j [] ≡ get_or (rows ++ row ∷ []) k [] → ⊥
   once_more once new j k l m e = grind (arith, get_or-append rows (row ∷ []) [] j, get_or-append rows (row ∷ []) [] k, at_end, once j k, new j)
 
-  module _ (heads before : List ℕ) (h : IsPlaced bucket_of heads before rows) (l : bucket_of row < length heads) where
+  module _ (heads before : List ℕ) (h : IsChained bucket_of heads before rows) (l : bucket_of row < length heads) where
     heads_more : (c : ℕ) → c < length heads → IsLast bucket_of c (rows ++ row ∷ []) (suc (length rows)) (get_or (set heads (bucket_of row) (suc (length rows))) c 0)
     heads_more c m = elim (cases_eq c (bucket_of row)) [
       | inl here ↦
@@ -106,16 +106,16 @@ module _ (bucket_of : List ℕ → ℕ) (rows : List (List ℕ)) (row : List ℕ
         (subst (IsLast bucket_of (bucket_of row) (rows ++ row ∷ []) (length rows)) place (last_more (bucket_of row) (length rows) head (omega arith) (h.latest (bucket_of row) l))) k (omega arith)
 
     -- what the code holds after a row came to the end
-    pub pushed : (heads_new before_new : List ℕ) (rows_new : List (List ℕ)) → is_new rows row → before_new ≡ before ++ get_or heads (bucket_of row) 0 ∷ [] → rows_new ≡ rows ++ row ∷ [] → heads_new ≡ set heads (bucket_of row) (length before_new) → IsPlaced bucket_of heads_new before_new rows_new
+    pub pushed : (heads_new before_new : List ℕ) (rows_new : List (List ℕ)) → is_new rows row → before_new ≡ before ++ get_or heads (bucket_of row) 0 ∷ [] → rows_new ≡ rows ++ row ∷ [] → heads_new ≡ set heads (bucket_of row) (length before_new) → IsChained bucket_of heads_new before_new rows_new
     pushed heads_new before_new rows_new new e f g =
         let many = h.counted in
         let also = length-append before (get_or heads (bucket_of row) 0 ∷ []) in
         let count : length before_new ≡ suc (length rows) = ap length e ∙ (omega arith) in
         let same : length heads ≡ length (set heads (bucket_of row) (suc (length rows))) = sym (length-set heads (bucket_of row) (suc (length rows))) in
         let more : suc (length rows) ≡ length (rows ++ row ∷ []) = sym (length-append rows (row ∷ []) ∙ (omega arith)) in
-        subst (λ hs. IsPlaced bucket_of hs before_new rows_new) (sym (g ∙ ap (set heads (bucket_of row)) count))
-        (subst (λ bs. IsPlaced bucket_of (set heads (bucket_of row) (suc (length rows))) bs rows_new) (sym e)
-        (subst (λ rs. IsPlaced bucket_of (set heads (bucket_of row) (suc (length rows))) (before ++ get_or heads (bucket_of row) 0 ∷ []) rs) (sym f) (record {
+        subst (λ hs. IsChained bucket_of hs before_new rows_new) (sym (g ∙ ap (set heads (bucket_of row)) count))
+        (subst (λ bs. IsChained bucket_of (set heads (bucket_of row) (suc (length rows))) bs rows_new) (sym e)
+        (subst (λ rs. IsChained bucket_of (set heads (bucket_of row) (suc (length rows))) (before ++ get_or heads (bucket_of row) 0 ∷ []) rs) (sym f) (record {
           below = λ ws. subst (λ n. bucket_of ws < n) same (h.below ws);
           counted = omega arith;
           latest = λ c m. subst (λ n. IsLast bucket_of c (rows ++ row ∷ []) n (get_or (set heads (bucket_of row) (suc (length rows))) c 0)) more (heads_more c (omega arith));
@@ -124,7 +124,7 @@ module _ (bucket_of : List ℕ → ℕ) (rows : List (List ℕ)) (row : List ℕ
         })))
 
 -- no rows yet
-pub none_placed : (bucket_of : List ℕ → ℕ) (heads before : List ℕ) (rows : List (List ℕ)) (count : ℕ) → ((row : List ℕ) → bucket_of row < length heads) → heads ≡ replicate count 0 → before ≡ [] → rows ≡ [] → IsPlaced bucket_of heads before rows
+pub none_placed : (bucket_of : List ℕ → ℕ) (heads before : List ℕ) (rows : List (List ℕ)) (count : ℕ) → ((row : List ℕ) → bucket_of row < length heads) → heads ≡ replicate count 0 → before ≡ [] → rows ≡ [] → IsChained bucket_of heads before rows
 none_placed bucket_of heads before rows count below free none empty =
     let many = ap (length {A = List ℕ}) empty in
     let long = ap (length {A = ℕ}) free ∙ length-replicate count 0 in

@@ -9,7 +9,7 @@ use Rattle.item_knowledge.specs.Entries.{Entry, is_entry, is_vector, bound, join
 use Rattle.item_knowledge.specs.Excess.{exceeding, exceeds_all, is_covered, whole, wholes, AllDiffer}
 use Rattle.item_knowledge.specs.Rows.{pairs}
 use Rattle.item_knowledge.specs.Fragments.{Fragment, nothing, lists, goes_before, are_groups, is_normal, find, or_star, known, entries_at}
-use Rattle.item_knowledge.specs.Gathering.{is_above, IsSide, IsIndex}
+use Rattle.item_knowledge.specs.Gathering.{is_above, IsOperand, IsIndex}
 use Rattle.item_knowledge.proofs.EntryLemmas.{vector_parts, bound_below, one_by_bounds}
 use Rattle.item_knowledge.proofs.FragmentLemmas.{entries_decide, groups_parts, before_parts, normal_parts}
 use Rattle.item_knowledge.proofs.JoinLemmas.{vector_order, joined_bound, joined_vector, joined_leq, leq_self}
@@ -165,35 +165,31 @@ wholes_index star fs xs h i = record {
 
 -- Vectors of a normal form differ
 
-groups_differ : (star : List Entry) (gs : List Fragment) (a b : ℕ) → are_groups star gs ≡ true → a < b → b < length gs → entries_at gs a ≡ entries_at gs b → ⊥
-groups_differ star [] a b h l m e = absurd (omega (arith, m))
-groups_differ star (g ∷ gs) a zero h l m e = absurd (omega (arith, l))
-groups_differ star (g ∷ gs) zero (suc b) h l m e = (before_parts g (get_or gs b nothing) (all_at (λ (x : Fragment). goes_before g x) gs b nothing (groups_parts star g gs h).before (omega (arith, m)))).other e
-groups_differ star (g ∷ gs) (suc a) (suc b) h l m e = groups_differ star gs a b (groups_parts star g gs h).rest (omega (arith, l)) (omega (arith, m)) e
+groups_differ : (s : Fragment) (gs : List Fragment) (a b : ℕ) → are_groups s.entries gs ≡ true → a < b → b < length (s ∷ gs) → entries_at (s ∷ gs) a ≡ entries_at (s ∷ gs) b → ⊥
+groups_differ s gs a zero h l m e = absurd (omega (arith, l))
+groups_differ s [] a (suc b) h l m e = absurd (omega (arith, m))
+groups_differ s (g ∷ gs) zero (suc zero) h l m e = (groups_parts s.entries g gs h).group.other e
+groups_differ s (g ∷ gs) zero (suc (suc b)) h l m e = groups_differ s gs zero (suc b) (groups_parts s.entries g gs h).rest (omega arith) (omega (arith, m)) e
+groups_differ s (g ∷ gs) (suc a) (suc zero) h l m e = absurd (omega (arith, l))
+groups_differ s (g ∷ gs) (suc zero) (suc (suc b)) h l m e = (before_parts g (get_or gs b nothing) (all_at (λ (x : Fragment). goes_before g x) gs b nothing (groups_parts s.entries g gs h).before (omega (arith, m)))).other e
+groups_differ s (g ∷ gs) (suc (suc a)) (suc (suc b)) h l m e = groups_differ s gs (suc a) (suc b) (groups_parts s.entries g gs h).rest (omega (arith, l)) (omega (arith, m)) e
 
-star_differs : (star : List Entry) (gs : List Fragment) (b : ℕ) → are_groups star gs ≡ true → b < length gs → star ≡ entries_at gs b → ⊥
-star_differs star [] b h m e = absurd (omega (arith, m))
-star_differs star (g ∷ gs) zero h m e = (groups_parts star g gs h).group.other e
-star_differs star (g ∷ gs) (suc b) h m e = star_differs star gs b (groups_parts star g gs h).rest (omega (arith, m)) e
-
-vectors_differ : (fs : List Fragment) (a b : ℕ) → is_normal fs ≡ true → a < b → b < length fs → entries_at fs a ≡ entries_at fs b → ⊥
-vectors_differ [] a b h l m e = absurd (omega (arith, m))
-vectors_differ (s ∷ gs) a zero h l m e = absurd (omega (arith, l))
-vectors_differ (s ∷ gs) zero (suc b) h l m e = star_differs s.entries gs b (normal_parts s gs h).groups (omega (arith, m)) e
-vectors_differ (s ∷ gs) (suc a) (suc b) h l m e = groups_differ s.entries gs a b (normal_parts s gs h).groups (omega (arith, l)) (omega (arith, m)) e
+normal_differ : (fs : List Fragment) → is_normal fs ≡ true → AllDiffer fs
+normal_differ [] h = absurd (false≢true h)
+normal_differ (s ∷ gs) h = λ a b. groups_differ s gs a b (normal_parts s gs h).groups
 
 pub wholes_differ : (star : List Entry) (fs : List Fragment) → is_normal (wholes star fs) ≡ true → AllDiffer fs
 wholes_differ star fs h = λ a b l m e.
-    vectors_differ (wholes star fs) a b h l (omega (arith, length_wholes star fs))
+    normal_differ (wholes star fs) h a b l (omega (arith, length_wholes star fs))
     (entries_wholes star fs a (omega arith) ∙ (ap (λ es. joined es star) e ∙ sym (entries_wholes star fs b m)))
 
 none_below : (fs : List Fragment) → ((k : ℕ) → is_vector (entries_at fs k) ≡ true) → list_all (λ (f : Fragment). is_above [] f) fs ≡ true
 none_below [] v = refl
 none_below (f ∷ fs) v = and_from _ _ (and_from _ _ (v 0) refl) (none_below fs (λ k. v (suc k)))
 
--- a side of whole vectors is one of what exceeds the star
-pub wholes_side : (star : List Entry) (fs : List Fragment) (xs : List (ℕ × ℕ)) → entries_at fs 0 ≡ [] → ((k : ℕ) → is_vector (entries_at fs k) ≡ true) → IsSide (wholes star fs) xs → IsSide fs xs
-wholes_side star fs xs first vectors h = record {
+-- an operand of whole vectors is one of what exceeds the star
+pub wholes_operand : (star : List Entry) (fs : List Fragment) (xs : List (ℕ × ℕ)) → entries_at fs 0 ≡ [] → ((k : ℕ) → is_vector (entries_at fs k) ≡ true) → IsOperand (wholes star fs) xs → IsOperand fs xs
+wholes_operand star fs xs first vectors h = record {
   star = subst (λ n. 0 < n) (length_wholes star fs) h.star;
   above = subst (λ es. list_all (λ (f : Fragment). is_above es f) fs ≡ true) (sym first) (none_below fs vectors);
   order = h.order;

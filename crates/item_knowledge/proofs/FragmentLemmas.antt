@@ -163,13 +163,13 @@ pub leq_denotes : (es fs : List Entry) (v : Version) → is_vector es ≡ true �
 leq_denotes es fs v x y h = grind (arith, nat_tests, denotes-bound es v x, denotes-bound fs v y, leq_at es fs (author_word v.author) h)
 
 -- what the vector of a group that lists a picture is
-record IsFound (star e : List Entry) (p : ℕ) : Type 0 where
+record IsIndexed (star e : List Entry) (p : ℕ) : Type 0 where
   vector : is_vector e ≡ true
   above : leq star e ≡ true
   other : star ≡ e → ⊥
   positive : 0 < p
 
-is_found : (star : List Entry) (gs : List Fragment) (p : ℕ) (e : List Entry) → are_groups star gs ≡ true → find gs p ≡ Some e → IsFound star e p
+is_found : (star : List Entry) (gs : List Fragment) (p : ℕ) (e : List Entry) → are_groups star gs ≡ true → find gs p ≡ Some e → IsIndexed star e p
 is_found star [] p e a f = absurd (cc)
 is_found star (g ∷ gs) p e a f =
     let parts = groups_parts star g gs a in
@@ -177,7 +177,7 @@ is_found star (g ∷ gs) p e a f =
       | inl l ↦
           let same : Some g.entries ≡ Some e = sym (find_here g gs p l) ∙ f in
           let entries : g.entries ≡ e = cc in
-          subst (λ es. IsFound star es p) entries (record {
+          subst (λ es. IsIndexed star es p) entries (record {
             vector = parts.group.vector;
             above = parts.group.above;
             other = parts.group.other;

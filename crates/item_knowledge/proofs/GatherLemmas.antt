@@ -1,5 +1,5 @@
 -- Pictures of a table that are gathered in the groups of their vectors.
-use Rattle.std.proofs.Common.{◌≡◌, ℕ, zero, suc, ◌+◌, ◌<◌, ◌≤◌, Bool, true, false, not, ltb, eqb, ◌&&◌, List, [], ◌∷◌, ◌++◌, length, get_or, set, map, refl, sym, subst, ap, ◌∙◌, inl, inr, arith, append-nil, length-set}
+use Rattle.std.proofs.Common.{◌≡◌, ℕ, zero, suc, ◌+◌, ◌<◌, ◌≤◌, Bool, true, false, not, ltb, eqb, List, [], ◌∷◌, ◌++◌, length, get_or, set, map, refl, sym, subst, ap, ◌∙◌, inl, inr, arith, append-nil, length-set}
 use Rattle.std.specs.List.{list_all, filter, position_or_len}
 use Rattle.std.proofs.lemmas.List.Folds.{list_all-append, list_all-map}
 use Rattle.std.proofs.lemmas.Bool.{and_parts, and_from, or_right, not-true, lt-ltb, eq-eqb, ne_eqb, eqb-true, cases_lt, true≢false}
@@ -14,7 +14,7 @@ use Rattle.item_knowledge.specs.Fragments.{Fragment, is_empty, first, lists, ris
 use Rattle.item_knowledge.specs.Gathering.{IsIndex, table_of, pictures_of, pictures_at, star_first, IsGathered, IsAdded}
 use Rattle.item_knowledge.proofs.FragmentLemmas.{entries_decide, find_here, find_later}
 use Rattle.item_knowledge.proofs.PictureLemmas.{lists_head, first_listed}
-use Rattle.item_knowledge.proofs.TableLemmas.{at_above, each_at}
+use Rattle.item_knowledge.proofs.TableLemmas.{at_above, each_keys, each_order, each_at}
 
 abbrev pub of_one : ℕ → List Entry → Fragment
 of_one p v = record { pictures = p ∷ []; entries = v }
@@ -37,14 +37,6 @@ order_kept keep (x ∷ xs) h =
     let all = all_kept (λ y. ltb x.0 y.0) keep xs (and_parts _ _ h).0 in
     let rest = order_kept keep xs (and_parts _ _ h).1 in
     grind arith
-
-each_keys : {B C : Type 0} (other : B → C) (test : ℕ → Bool) (ys : List (ℕ × B)) → keys_pass test (each other ys) ≡ keys_pass test ys
-each_keys other test [] = refl
-each_keys other test (y ∷ ys) = ap (λ b. test y.0 && b) (each_keys other test ys)
-
-each_order : {B C : Type 0} (other : B → C) (ys : List (ℕ × B)) → in_order (each other ys) ≡ in_order ys
-each_order other [] = refl
-each_order other (y ∷ ys) = λ i. each_keys other (λ k. ltb y.0 k) ys i && each_order other ys i
 
 each_append : {B C : Type 0} (other : B → C) (xs ys : List (ℕ × B)) → each other (xs ++ ys) ≡ each other xs ++ each other ys
 each_append other [] ys = refl

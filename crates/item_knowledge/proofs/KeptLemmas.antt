@@ -10,20 +10,16 @@ use Rattle.item_knowledge.specs.Tables.{keys_pass, in_order, at}
 use Rattle.item_knowledge.specs.Entries.{Entry, denotes, is_vector, bound, leq}
 use Rattle.item_knowledge.specs.Fragments.{Fragment, knows, IsWithin, is_normal, entries_at}
 use Rattle.item_knowledge.specs.Rows.{fragments_of}
-use Rattle.item_knowledge.specs.Gathering.{vector_of, IsSide, IsUnion}
+use Rattle.item_knowledge.specs.Gathering.{vector_of, IsOperand, IsUnion}
 use Rattle.item_knowledge.specs.Spare.{IsJoined}
-use Rattle.item_knowledge.specs.Kept.{IsKept, is_side_within, IsSideKnown, star_bound}
+use Rattle.item_knowledge.specs.Kept.{IsKept, is_operand_within, IsOperandKnown, star_bound}
 use Rattle.item_knowledge.proofs.EntryLemmas.{bound_by, denotes-bound}
 use Rattle.item_knowledge.proofs.FragmentLemmas.{normal_parts, leq_at, leq_denotes, star_of_every}
 use Rattle.item_knowledge.proofs.JoinLemmas.{leq_from}
-use Rattle.item_knowledge.proofs.ExcessLemmas.{at_number}
-use Rattle.item_knowledge.proofs.UnionLemmas.{above, side_vector, normal_side, knows_vector}
+use Rattle.item_knowledge.proofs.UnionLemmas.{above, number_below, operand_vector, normal_operand, knows_vector}
 
-pub kept_side : (rows : List (List ℕ)) (xs : List (ℕ × ℕ)) → IsKept rows xs → IsSide (fragments_of rows) xs
-kept_side rows xs h = normal_side (fragments_of rows) xs h.normal h.index
-
-pub number_below : (fs : List Fragment) (xs : List (ℕ × ℕ)) (p : ℕ) → IsSide fs xs → at 0 xs p < length fs
-number_below fs xs p h = at_number xs (length fs) p h.star h.range
+pub kept_operand : (rows : List (List ℕ)) (xs : List (ℕ × ℕ)) → IsKept rows xs → IsOperand (fragments_of rows) xs
+kept_operand rows xs h = normal_operand (fragments_of rows) xs h.normal h.index
 
 pub kept_knows : (rows : List (List ℕ)) (xs : List (ℕ × ℕ)) (p : ℕ) (v : Version) → IsKept rows xs → knows (fragments_of rows) p v ≡ denotes (vector_of (fragments_of rows) xs p) v
 kept_knows rows xs p v h = knows_vector (fragments_of rows) p v h.normal ∙ ap (λ es. denotes es v) (sym (h.index.vectors p))
@@ -36,8 +32,8 @@ pub record IsOf (fs now : List Fragment) (p n : ℕ) : Type 0 where
 
 pub is_of : (rows : List (List ℕ)) (xs : List (ℕ × ℕ)) (now : List Fragment) (p n : ℕ) → IsKept rows xs → fragments_of rows ≡ now → n ≡ at 0 xs p → IsOf (fragments_of rows) now p n
 is_of rows xs now p n h is e = subst (IsOf (fragments_of rows) now p) (sym e) (record {
-  there = number_below (fragments_of rows) xs p (kept_side rows xs h);
-  vector = side_vector (fragments_of rows) xs p (kept_side rows xs h);
+  there = number_below (fragments_of rows) xs p (kept_operand rows xs h);
+  vector = operand_vector (fragments_of rows) xs p (kept_operand rows xs h);
   known = λ v. sym (kept_knows rows xs p v h) ∙ ap (λ fs. knows fs p v) is;
 })
 
@@ -53,7 +49,7 @@ has_known rows xs now p n v h is e z =
 
 -- the vector of a fragment
 pub kept_vector : (rows : List (List ℕ)) (xs : List (ℕ × ℕ)) (k : ℕ) → IsKept rows xs → k < length (fragments_of rows) → is_vector (entries_at (fragments_of rows) k) ≡ true
-kept_vector rows xs k h l = (above (fragments_of rows) xs k (kept_side rows xs h) l).vector
+kept_vector rows xs k h l = (above (fragments_of rows) xs k (kept_operand rows xs h) l).vector
 
 -- what is known after a union
 pub joins : (rows : List (List ℕ)) (xs : List (ℕ × ℕ)) (now gs us : List Fragment) (ys zs : List (ℕ × ℕ)) → IsKept rows xs → fragments_of rows ≡ now → IsUnion (fragments_of rows) xs gs ys us zs → IsJoined now gs ys us
@@ -71,31 +67,31 @@ leq_along : (fs gs : List Fragment) (ys : List (ℕ × ℕ)) (p : ℕ) (xs : Lis
 leq_along fs gs ys p [] h s = s
 leq_along fs gs ys p (x ∷ xs) h s = grind (arith, nat_tests, leq_along fs gs ys p xs)
 
-within_leq : (fs gs : List Fragment) (xs ys : List (ℕ × ℕ)) (p : ℕ) → IsSide fs xs → IsSide gs ys → is_side_within fs xs gs ys ≡ true → leq (vector_of fs xs p) (vector_of gs ys p) ≡ true
+within_leq : (fs gs : List Fragment) (xs ys : List (ℕ × ℕ)) (p : ℕ) → IsOperand fs xs → IsOperand gs ys → is_operand_within fs xs gs ys ≡ true → leq (vector_of fs xs p) (vector_of gs ys p) ≡ true
 within_leq fs gs xs ys p h g w =
     let a = and_parts (leq (entries_at fs 0) (entries_at gs 0)) (list_all (λ r. leq (entries_at fs r.1) (vector_of gs ys r.0)) xs) w in
     leq_along fs gs ys p xs a.1
     (leq_trans (entries_at fs 0) (entries_at gs 0) (vector_of gs ys p) (above fs xs 0 h h.star).vector a.0 (above gs ys (at 0 ys p) g (number_below gs ys p g)).above)
 
 -- what is known already adds nothing
-within_denotes : (rows : List (List ℕ)) (xs ys : List (ℕ × ℕ)) (gs : List Fragment) → IsKept rows xs → IsSide gs ys → is_side_within gs ys (fragments_of rows) xs ≡ true
+within_denotes : (rows : List (List ℕ)) (xs ys : List (ℕ × ℕ)) (gs : List Fragment) → IsKept rows xs → IsOperand gs ys → is_operand_within gs ys (fragments_of rows) xs ≡ true
     → (p : ℕ) (v : Version) → knows (fragments_of rows) p v ≡ (knows (fragments_of rows) p v || denotes (vector_of gs ys p) v)
 within_denotes rows xs ys gs h t w p v =
     let fs = fragments_of rows in
-    let s = kept_side rows xs h in
-    let e = leq_denotes (vector_of gs ys p) (vector_of fs xs p) v (side_vector gs ys p t) (side_vector fs xs p s) (within_leq gs fs ys xs p t s w) in
+    let s = kept_operand rows xs h in
+    let e = leq_denotes (vector_of gs ys p) (vector_of fs xs p) v (operand_vector gs ys p t) (operand_vector fs xs p s) (within_leq gs fs ys xs p t s w) in
     rw (kept_knows rows xs p v h) (sym e ∙ or_comm (denotes (vector_of gs ys p) v) (denotes (vector_of fs xs p) v))
 
-within_knows : (rows others : List (List ℕ)) (xs ys : List (ℕ × ℕ)) → IsKept rows xs → IsKept others ys → is_side_within (fragments_of others) ys (fragments_of rows) xs ≡ true → (p : ℕ) (v : Version) → knows (fragments_of rows) p v ≡ (knows (fragments_of rows) p v || knows (fragments_of others) p v)
+within_knows : (rows others : List (List ℕ)) (xs ys : List (ℕ × ℕ)) → IsKept rows xs → IsKept others ys → is_operand_within (fragments_of others) ys (fragments_of rows) xs ≡ true → (p : ℕ) (v : Version) → knows (fragments_of rows) p v ≡ (knows (fragments_of rows) p v || knows (fragments_of others) p v)
 within_knows rows others xs ys h g w p v =
-    within_denotes rows xs ys (fragments_of others) h (kept_side others ys g) w p v ∙ ap (λ b. knows (fragments_of rows) p v || b) (sym (kept_knows others ys p v g))
+    within_denotes rows xs ys (fragments_of others) h (kept_operand others ys g) w p v ∙ ap (λ b. knows (fragments_of rows) p v || b) (sym (kept_knows others ys p v g))
 
 -- nor does a star that is within another
-star_within : (fs gs : List Fragment) (xs ys : List (ℕ × ℕ)) (a : Author) → is_side_within fs xs gs ys ≡ true → star_bound gs a ≡ max (star_bound gs a) (star_bound fs a)
+star_within : (fs gs : List Fragment) (xs ys : List (ℕ × ℕ)) (a : Author) → is_operand_within fs xs gs ys ≡ true → star_bound gs a ≡ max (star_bound gs a) (star_bound fs a)
 star_within fs gs xs ys a w = grind (arith, nat_tests, leq_at (entries_at fs 0) (entries_at gs 0) (author_word a))
 
 -- so it is what is known after the union
-pub joins_none : (rows : List (List ℕ)) (xs ys : List (ℕ × ℕ)) (now gs : List Fragment) → IsKept rows xs → fragments_of rows ≡ now → IsSide gs ys → is_side_within gs ys (fragments_of rows) xs ≡ true → IsJoined now gs ys (fragments_of rows)
+pub joins_none : (rows : List (List ℕ)) (xs ys : List (ℕ × ℕ)) (now gs : List Fragment) → IsKept rows xs → fragments_of rows ≡ now → IsOperand gs ys → is_operand_within gs ys (fragments_of rows) xs ≡ true → IsJoined now gs ys (fragments_of rows)
 joins_none rows xs ys now gs h is t w = subst (λ fs. IsJoined fs gs ys (fragments_of rows)) is (record {
   star = λ a. star_within gs (fragments_of rows) ys xs a w;
   pairs = λ p v z. within_denotes rows xs ys gs h t w p v;
@@ -115,37 +111,37 @@ pub star_vector : (fs : List Fragment) → is_normal fs ≡ true → is_vector (
 star_vector [] h = absurd (false≢true h)
 star_vector (s ∷ gs) h = (normal_parts s gs h).vector
 
--- what a side's star has each of its vectors has
-star_up : (gs : List Fragment) (ys : List (ℕ × ℕ)) (p : ℕ) (v : Version) → IsSide gs ys → denotes (entries_at gs 0) v ≡ true → denotes (vector_of gs ys p) v ≡ true
+-- what an operand's star has each of its vectors has
+star_up : (gs : List Fragment) (ys : List (ℕ × ℕ)) (p : ℕ) (v : Version) → IsOperand gs ys → denotes (entries_at gs 0) v ≡ true → denotes (vector_of gs ys p) v ≡ true
 star_up gs ys p v g d =
-    sym (leq_denotes (entries_at gs 0) (vector_of gs ys p) v (above gs ys 0 g g.star).vector (side_vector gs ys p g) (above gs ys (at 0 ys p) g (number_below gs ys p g)).above)
+    sym (leq_denotes (entries_at gs 0) (vector_of gs ys p) v (above gs ys 0 g g.star).vector (operand_vector gs ys p g) (above gs ys (at 0 ys p) g (number_below gs ys p g)).above)
     ∙ ap (λ b. b || denotes (vector_of gs ys p) v) d
 
--- a side is within what is kept where all that it denotes is known
-within_side : (rows : List (List ℕ)) (xs ys : List (ℕ × ℕ)) (gs : List Fragment) → IsKept rows xs → IsSide gs ys → IsSideKnown (fragments_of rows) gs ys → is_side_within gs ys (fragments_of rows) xs ≡ true
-within_side rows xs ys gs h g all =
+-- an operand is within what is kept where all that it denotes is known
+within_operand : (rows : List (List ℕ)) (xs ys : List (ℕ × ℕ)) (gs : List Fragment) → IsKept rows xs → IsOperand gs ys → IsOperandKnown (fragments_of rows) gs ys → is_operand_within gs ys (fragments_of rows) xs ≡ true
+within_operand rows xs ys gs h g all =
     let fs = fragments_of rows in
     and_from _ _
     (leq_by (entries_at gs 0) (entries_at fs 0) (above gs ys 0 g g.star).vector (star_vector fs h.normal) (λ v d. (star_of_every fs h.normal v).1 (λ p z. all p v z (star_up gs ys p v g d))))
     (each_row (λ r. leq (entries_at gs r.1) (vector_of fs xs r.0)) ys 0 g.positive g.order (λ r z e.
     subst (λ n. leq (entries_at gs n) (vector_of fs xs r.0) ≡ true) e
-    (leq_by (vector_of gs ys r.0) (vector_of fs xs r.0) (side_vector gs ys r.0 g) (side_vector fs xs r.0 (kept_side rows xs h))
+    (leq_by (vector_of gs ys r.0) (vector_of fs xs r.0) (operand_vector gs ys r.0 g) (operand_vector fs xs r.0 (kept_operand rows xs h))
     (λ v d. sym (kept_knows rows xs r.0 v h) ∙ all r.0 v z d))))
 
--- what is kept is known as a side where what it denotes is known
-pub known_side : (now : List Fragment) (others : List (List ℕ)) (ys : List (ℕ × ℕ)) → IsKept others ys → IsWithin (fragments_of others) now → IsSideKnown now (fragments_of others) ys
-known_side now others ys g all = λ p v z d. all p v z (kept_knows others ys p v g ∙ d)
+-- what is kept is known as an operand where what it denotes is known
+pub known_operand : (now : List Fragment) (others : List (List ℕ)) (ys : List (ℕ × ℕ)) → IsKept others ys → IsWithin (fragments_of others) now → IsOperandKnown now (fragments_of others) ys
+known_operand now others ys g all = λ p v z d. all p v z (kept_knows others ys p v g ∙ d)
 
-within_from : (rows others : List (List ℕ)) (xs ys : List (ℕ × ℕ)) → IsKept rows xs → IsKept others ys → IsWithin (fragments_of others) (fragments_of rows) → is_side_within (fragments_of others) ys (fragments_of rows) xs ≡ true
+within_from : (rows others : List (List ℕ)) (xs ys : List (ℕ × ℕ)) → IsKept rows xs → IsKept others ys → IsWithin (fragments_of others) (fragments_of rows) → is_operand_within (fragments_of others) ys (fragments_of rows) xs ≡ true
 within_from rows others xs ys h g all =
-    within_side rows xs ys (fragments_of others) h (kept_side others ys g) (known_side (fragments_of rows) others ys g all)
+    within_operand rows xs ys (fragments_of others) h (kept_operand others ys g) (known_operand (fragments_of rows) others ys g all)
 
--- so a side that isn't within what is kept isn't known
-pub not_known : (rows : List (List ℕ)) (xs ys : List (ℕ × ℕ)) (now gs : List Fragment) → IsKept rows xs → fragments_of rows ≡ now → IsSide gs ys → is_side_within gs ys (fragments_of rows) xs ≡ false → IsSideKnown now gs ys → ⊥
+-- so an operand that isn't within what is kept isn't known
+pub not_known : (rows : List (List ℕ)) (xs ys : List (ℕ × ℕ)) (now gs : List Fragment) → IsKept rows xs → fragments_of rows ≡ now → IsOperand gs ys → is_operand_within gs ys (fragments_of rows) xs ≡ false → IsOperandKnown now gs ys → ⊥
 not_known rows xs ys now gs h is g outside all =
-    false≢true (sym outside ∙ within_side rows xs ys gs h g (subst (λ fs. IsSideKnown fs gs ys) (sym is) all))
+    false≢true (sym outside ∙ within_operand rows xs ys gs h g (subst (λ fs. IsOperandKnown fs gs ys) (sym is) all))
 
-pub within_pairs : (rows others : List (List ℕ)) (xs ys : List (ℕ × ℕ)) → IsKept rows xs → IsKept others ys → (is_side_within (fragments_of others) ys (fragments_of rows) xs ≡ true) ↔ ((p : ℕ) (v : Version) → 0 < p → knows (fragments_of others) p v ≡ true → knows (fragments_of rows) p v ≡ true)
+pub within_pairs : (rows others : List (List ℕ)) (xs ys : List (ℕ × ℕ)) → IsKept rows xs → IsKept others ys → (is_operand_within (fragments_of others) ys (fragments_of rows) xs ≡ true) ↔ ((p : ℕ) (v : Version) → 0 < p → knows (fragments_of others) p v ≡ true → knows (fragments_of rows) p v ≡ true)
 within_pairs rows others xs ys h g = (
   λ w p v z k. within_knows rows others xs ys h g w p v ∙ (ap (λ b. knows (fragments_of rows) p v || b) k ∙ or-true (knows (fragments_of rows) p v)),
   λ all. within_from rows others xs ys h g all,

@@ -7,8 +7,8 @@ pub mod JoinLemmas
 pub mod RowLemmas
 pub mod GatherLemmas
 pub mod ChainLemmas
-pub mod PlaceLemmas
-pub mod MarkLemmas
+pub mod VectorIndexLemmas
+pub mod BoundFilterLemmas
 pub mod UnionLemmas
 pub mod SearchLemmas
 pub mod KeptLemmas
@@ -17,8 +17,8 @@ pub mod TableRowLemmas
 pub mod KnownLemmas
 pub mod NextLemmas
 pub mod ExcessLemmas
-pub mod LiveLemmas
+pub mod KnowledgeRowLemmas
 pub mod NormalLemmas
-pub mod ApartLemmas
-pub mod WayLemmas
+pub mod DistinctUnionLemmas
+pub mod ProgressLemmas
 pub mod WorkedExamples

@@ -19,7 +19,7 @@ use Rattle.item_knowledge.proofs.KeptLemmas.{joins, next_known, star_next}
 use Rattle.item_knowledge.proofs.MergeLemmas.{all_at}
 use Rattle.item_knowledge.proofs.PictureLemmas.{listed, first_listed}
 use Rattle.item_knowledge.proofs.RowLemmas.{fragments_rows}
-use Rattle.item_knowledge.proofs.UnionLemmas.{above, knows_vector, normal_side, side_vector}
+use Rattle.item_knowledge.proofs.UnionLemmas.{above, knows_vector, normal_operand, operand_vector}
 
 -- Raised fragments are the union with the star of one entry
 
@@ -32,18 +32,18 @@ raised_union : (e : Entry) (fs : List Fragment) (xs : List (ℕ × ℕ)) → IsI
 raised_union e fs xs i w =
     let h = w.normal in
     let one : is_vector (e ∷ []) ≡ true = and_from _ _ refl (and_from _ _ w.entry refl) in
-    let side = normal_side fs xs h i in
+    let operand = normal_operand fs xs h i in
     let level : (k : ℕ) → k < length fs → bound (entries_at fs k) e.0 ≡ bound (entries_at fs 0) e.0 = λ k l.
-    grind (arith, nat_tests, leq_at (entries_at fs 0) (entries_at fs k) e.0 (above fs xs k side l).above, all_at (λ (f : Fragment). leb (bound f.entries e.0) (bound (entries_at fs 0) e.0)) fs k nothing w.level l) in
+    grind (arith, nat_tests, leq_at (entries_at fs 0) (entries_at fs k) e.0 (above fs xs k operand l).above, all_at (λ (f : Fragment). leb (bound f.entries e.0) (bound (entries_at fs 0) e.0)) fs k nothing w.level l) in
     let normal = joined_normal (λ es. bound es e.0 ≡ bound (entries_at fs 0) e.0) (e ∷ []) fs one h level (λ xs ys f g p q. apart xs ys e f g one (p ∙ sym q)) in
     record {
       normal = normal;
       index = wholes_index (e ∷ []) fs xs h i;
-      star = λ a. ap (λ es. bound es a) (entries_wholes (e ∷ []) fs 0 side.star) ∙ joined_bound (entries_at fs 0) (e ∷ []) a (above fs xs 0 side side.star).vector one;
+      star = λ a. ap (λ es. bound es a) (entries_wholes (e ∷ []) fs 0 operand.star) ∙ joined_bound (entries_at fs 0) (e ∷ []) a (above fs xs 0 operand operand.star).vector one;
       pairs = λ p v z.
           knows_vector (all_raised e fs) p v normal
           ∙ (ap (λ es. denotes es v) (wholes_known (e ∷ []) fs p h ∙ ap (λ es. joined es (e ∷ [])) (sym (i.vectors p)))
-          ∙ joined_denotes (vector_of fs xs p) (e ∷ []) v (side_vector fs xs p side) one);
+          ∙ joined_denotes (vector_of fs xs p) (e ∷ []) v (operand_vector fs xs p operand) one);
     }
 
 -- Where no version that is known has a number above b, no bound is above b

@@ -8,11 +8,11 @@ use Rattle.photo_version.specs.Version.{Version}
 use Rattle.item_knowledge.specs.Entries.{Entry, denotes, is_vector}
 use Rattle.item_knowledge.specs.Excess.{wholes}
 use Rattle.item_knowledge.specs.Fragments.{Fragment, knows, is_normal, nothing, entries_at}
-use Rattle.item_knowledge.specs.Gathering.{IsSide, IsIndex, vector_of}
+use Rattle.item_knowledge.specs.Gathering.{IsOperand, IsIndex, vector_of}
 use Rattle.item_knowledge.specs.Laws.{is_told, pairs_of, IsTheNormalForm}
 use Rattle.item_knowledge.proofs.FragmentLemmas.{one_normal}
 use Rattle.item_knowledge.proofs.JoinLemmas.{joined_denotes, joined_left, joined_vector, vector_order}
-use Rattle.item_knowledge.proofs.UnionLemmas.{normal_side, knows_vector, beyond, whole_union}
+use Rattle.item_knowledge.proofs.UnionLemmas.{normal_operand, knows_vector, beyond, whole_union}
 
 -- what is known of one picture
 
@@ -22,8 +22,8 @@ one t = nothing ∷ record { pictures = t.0 ∷ []; entries = t.1 } ∷ []
 abbrev one_index : ℕ × List Entry → List (ℕ × ℕ)
 one_index t = (t.0, 1) ∷ []
 
-one_side : (t : ℕ × List Entry) → is_told t ≡ true → IsSide (one t) (one_index t)
-one_side t h =
+one_operand : (t : ℕ × List Entry) → is_told t ≡ true → IsOperand (one t) (one_index t)
+one_operand t h =
     let parts = and_parts (ltb 0 t.0) (is_vector t.1) h in
     record {
       star = omega arith;
@@ -43,7 +43,7 @@ record Form (every : List Entry) (pairs : ℕ → Version → Bool) : Type 0 whe
   fragments : List Fragment
   index : List (ℕ × ℕ)
   first : entries_at fragments 0 ≡ []
-  side : IsSide fragments index
+  operand : IsOperand fragments index
   normal : is_normal (wholes every fragments) ≡ true
   indexed : IsIndex index (wholes every fragments)
   denoted : (p : ℕ) (v : Version) → 0 < p → knows (wholes every fragments) p v ≡ pairs p v
@@ -55,7 +55,7 @@ form_of every [] h g =
       fragments = nothing ∷ [];
       index = [];
       first = refl;
-      side = record { star = omega arith; above = refl; order = refl; positive = refl; range = refl };
+      operand = record { star = omega arith; above = refl; order = refl; positive = refl; range = refl };
       normal = normal;
       indexed = record { order = refl; positive = refl; range = refl; vectors = λ p. refl };
       denoted = λ p v z. knows_vector (wholes every (nothing ∷ [])) p v normal ∙ (joined_denotes [] every v refl h ∙ sym (or-false (denotes every v)));
@@ -66,14 +66,14 @@ form_of every (t ∷ some) h g =
     let fs = made.fragments in
     let index = made.index in
     let rest = λ (p : ℕ) (v : Version). list_any (λ u. eqb u.0 p && denotes u.1 v) some in
-    let other = one_side t parts.0 in
-    let both = beyond every fs (one t) index (one_index t) made.side other made.first refl in
-    let union = whole_union every fs (one t) index (one_index t) made.side other made.first refl both.0 both.1 both.2 every [] h refl (sym (joined_left every (vector_order every h))) in
+    let other = one_operand t parts.0 in
+    let both = beyond every fs (one t) index (one_index t) made.operand other made.first refl in
+    let union = whole_union every fs (one t) index (one_index t) made.operand other made.first refl both.0 both.1 both.2 every [] h refl (sym (joined_left every (vector_order every h))) in
     record {
       fragments = both.0;
       index = both.1;
       first = both.2.first;
-      side = normal_side both.0 both.1 both.2.normal both.2.index;
+      operand = normal_operand both.0 both.1 both.2.normal both.2.index;
       normal = union.normal;
       indexed = union.index;
       denoted = λ p v z.

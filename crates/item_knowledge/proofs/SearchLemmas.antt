@@ -1,9 +1,9 @@
 -- Searches in tables.
-use Rattle.std.proofs.Common.{rules, ◌≡◌, ℕ, zero, suc, ◌+◌, ◌<◌, ◌≤◌, true, false, ltb, List, [], ◌∷◌, length, get_or, drop, refl, subst, ap, ◌∙◌, inl, inr, arith, drop-cons}
-use Rattle.std.specs.List.Sorted.{IsNonDecreasingBy, IsPartitionPoint}
-use Rattle.std.proofs.lemmas.Bool.{and_parts, ltb-true, ltb-false, cases_lt}
+use Rattle.std.proofs.Common.{◌≡◌, ℕ, zero, suc, ◌+◌, ◌<◌, ◌≤◌, true, ltb, List, [], ◌∷◌, length, get_or, drop, refl, subst, ap, ◌∙◌, inl, inr, arith}
+use Rattle.std.proofs.lemmas.Bool.{and_parts, ltb-true, cases_lt}
 use Rattle.std.proofs.lemmas.Bool.Decides.{nat_tests}
 use Rattle.std.proofs.lemmas.List.{drop_all}
+use Rattle.item_knowledge.specs.Searching.{AreBelow, IsBetween}
 use Rattle.item_knowledge.specs.Tables.{keys_pass, in_order, at, merge}
 use Rattle.item_knowledge.proofs.MergeLemmas.{drop_next, all_at}
 use Rattle.item_knowledge.proofs.TableLemmas.{at_above, above_all, merge_left, merge_right, merge_both}
@@ -19,14 +19,6 @@ rise (x ∷ xs) h i zero d le l = absurd (omega arith)
 rise (x ∷ xs) h zero (suc j) d le l = grind (arith, nat_tests, first_below x.0 xs j d)
 rise (x ∷ xs) h (suc i) (suc j) d le l = rise xs (and_parts (keys_pass (λ n. ltb x.0 n) xs) (in_order xs) h).1 i j d (omega arith) (omega arith)
 
-pub no_fall : (xs : List (ℕ × ℕ)) → in_order xs ≡ true → IsNonDecreasingBy (λ r. r.0) xs
-no_fall xs h i j d le l = grind (arith, rise xs h i j d)
-
--- smaller numbers stand before the first place, and none from the second on
-pub record IsBetween (p : ℕ) (xs : List (ℕ × ℕ)) (low high : ℕ) : Type 0 where
-  pub below : (k : ℕ) → k < low → (get_or xs k (0, 0)).0 < p
-  pub from : (k : ℕ) → high ≤ k → k < length xs → p ≤ (get_or xs k (0, 0)).0
-
 pub absent_at : (xs : List (ℕ × ℕ)) (p i : ℕ) → in_order xs ≡ true → IsBetween p xs i i → (i < length xs → (get_or xs i (0, 0)).0 ≡ p → ⊥) → at 0 xs p ≡ 0
 absent_at [] p i o h n = refl
 absent_at (x ∷ xs) p zero o h n =
@@ -38,11 +30,13 @@ absent_at (x ∷ xs) p (suc i) o h n =
     let rest : IsBetween p xs i i = record { below = λ k g. h.below (suc k) (omega arith); from = λ k g m. h.from (suc k) (omega arith) (omega arith) } in
     grind (arith, nat_tests, absent_at xs p i (and_parts (keys_pass (λ k. ltb x.0 k) xs) (in_order xs) o).1 rest (λ l. n (omega arith)))
 
-pub is_place : (p : ℕ) (xs : List (ℕ × ℕ)) (i : ℕ) → IsPartitionPoint (λ r. ltb r.0 p ≡ true) (λ r. ltb r.0 p ≡ false) xs i → IsBetween p xs i i
-is_place p xs i h = record {
-  below = λ k l. ltb-true (get_or xs k (0, 0)).0 p (search (rules, h.0));
-  from = λ k l m. ltb-false (get_or xs k (0, 0)).0 p (search (rules, h.1));
-}
+-- where a place has a smaller key, all up to it are smaller
+pub below_to : (xs : List (ℕ × ℕ)) (key place : ℕ) → in_order xs ≡ true → place < length xs → (get_or xs place (0, 0)).0 < key → AreBelow key xs (place + 1)
+below_to xs key place h l less k m = grind (arith, rise xs h k place (0, 0))
+
+-- where a place has another one, none from it on is smaller
+pub from_on : (xs : List (ℕ × ℕ)) (key place k : ℕ) → in_order xs ≡ true → key ≤ (get_or xs place (0, 0)).0 → place ≤ k → k < length xs → key ≤ (get_or xs k (0, 0)).0
+from_on xs key place k h least le l = grind (arith, rise xs h place k (0, 0))
 
 -- A table, from a place on
 
@@ -57,11 +51,6 @@ above_next xs i d h l =
     let order = subst (λ zs. in_order zs ≡ true) (drop_next xs i d l) (order_from xs i h) in
     (and_parts (keys_pass (λ k. ltb (get_or xs i d).0 k) (drop (i + 1) xs)) (in_order (drop (i + 1) xs)) order).0
 
-pub none_from : (xs : List (ℕ × ℕ)) (i p : ℕ) (d : ℕ × ℕ) → in_order xs ≡ true → i < length xs → p < (get_or xs i d).0 → at 0 (drop i xs) p ≡ 0
-none_from xs i p d h l less =
-    let next = above_next xs i d h l in
-    grind (arith, nat_tests, drop_next xs i d l, at_above 0 (drop (i + 1) xs) p, above_all p (get_or xs i d).0 (drop (i + 1) xs))
-
 -- where a place has no greater number, nothing before it counts
 at_from : (xs : List (ℕ × ℕ)) (i q : ℕ) (d : ℕ × ℕ) → in_order xs ≡ true → i < length xs → (get_or xs i d).0 ≤ q → at 0 (drop i xs) q ≡ at 0 xs q
 at_from xs zero q d h l le = refl
@@ -70,10 +59,6 @@ at_from (x ∷ xs) (suc i) q d h l le = grind (arith, nat_tests, first_below x.0
 
 pub found_there : (xs : List (ℕ × ℕ)) (p i : ℕ) (d : ℕ × ℕ) → in_order xs ≡ true → i < length xs → (get_or xs i d).0 ≡ p → (get_or xs i d).1 ≡ at 0 xs p
 found_there xs p i d h l s = grind (arith, nat_tests, at_from xs i p d h l, drop_next xs i d l)
-
--- where a place has a smaller number, nothing up to it counts
-pub behind_from : (xs : List (ℕ × ℕ)) (i q : ℕ) (d : ℕ × ℕ) → in_order xs ≡ true → i < length xs → (get_or xs i d).0 < q → at 0 (drop (suc i) xs) q ≡ at 0 xs q
-behind_from xs i q d h l less = grind (arith, nat_tests, at_from xs i q d h l, drop-cons xs i d l)
 
 -- What comes next of two tables that are gone along together
 

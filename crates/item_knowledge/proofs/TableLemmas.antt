@@ -1,5 +1,5 @@
 -- The merge of two lists in order.
-use Rattle.std.proofs.Common.{◌≡◌, ℕ, suc, ◌≤◌, Bool, true, ltb, eqb, cond, List, [], ◌∷◌, length, refl, subst, ◌∙◌, arith}
+use Rattle.std.proofs.Common.{◌≡◌, ℕ, suc, ◌≤◌, Bool, true, ltb, eqb, cond, ◌&&◌, List, [], ◌∷◌, length, refl, subst, ap, ◌∙◌, arith}
 use Rattle.std.specs.List.{list_all}
 use Rattle.std.proofs.lemmas.Bool.{and_parts, and_from}
 use Rattle.std.proofs.lemmas.Bool.Decides.{nat_tests}
@@ -66,12 +66,16 @@ put_order : {A C : Type 0} (alone : A → C) (both : A → C → C) (x : ℕ × 
 put_order alone both x [] h = refl
 put_order alone both x (t ∷ ts) h = grind (arith, nat_tests, above_all x.0 t.0 ts, put_all alone both (λ u. ltb t.0 u.0) x ts, put_order alone both x ts)
 
-each_order : {B C : Type 0} (other : B → C) (ys : List (ℕ × B)) → in_order ys ≡ true → in_order (each other ys) ≡ true
-each_order other [] h = refl
-each_order other (y ∷ ys) h = grind (arith, nat_tests, each_all other (λ z. ltb y.0 z.0) (λ u. ltb y.0 u.0) (λ z e. e) ys, each_order other ys)
+pub each_keys : {B C : Type 0} (other : B → C) (test : ℕ → Bool) (ys : List (ℕ × B)) → keys_pass test (each other ys) ≡ keys_pass test ys
+each_keys other test [] = refl
+each_keys other test (y ∷ ys) = ap (λ b. test y.0 && b) (each_keys other test ys)
+
+pub each_order : {B C : Type 0} (other : B → C) (ys : List (ℕ × B)) → in_order (each other ys) ≡ in_order ys
+each_order other [] = refl
+each_order other (y ∷ ys) = λ i. each_keys other (λ k. ltb y.0 k) ys i && each_order other ys i
 
 pub merge_order : {A B C : Type 0} (alone : A → C) (both : A → C → C) (other : B → C) (xs : List (ℕ × A)) (ys : List (ℕ × B)) → in_order ys ≡ true → in_order (merge alone both other xs ys) ≡ true
-merge_order alone both other [] ys h = each_order other ys h
+merge_order alone both other [] ys h = each_order other ys ∙ h
 merge_order alone both other (x ∷ xs) ys h = put_order alone both x _ (merge_order alone both other xs ys h)
 
 -- what stands beside a number in the merge

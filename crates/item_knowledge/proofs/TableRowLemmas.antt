@@ -13,13 +13,13 @@ use Rattle.photo_version.specs.Version.{Version}
 use Rattle.photo_version.specs.Vector as versions
 use Rattle.photo_version.specs.Vector.{Bound}
 use Rattle.item_knowledge.specs.Tables.{keys_pass, in_order, at}
-use Rattle.item_knowledge.specs.Apart.{numbered}
+use Rattle.item_knowledge.specs.DistinctUnion.{numbered}
 use Rattle.item_knowledge.specs.Entries.{Entry, denotes, is_entry, is_vector}
 use Rattle.item_knowledge.specs.Fragments.{Fragment, reaches, knows, nothing, entries_at}
 use Rattle.item_knowledge.specs.Rows.{flat, fragments_of, rows_of, AreRows}
-use Rattle.item_knowledge.specs.Gathering.{is_above, vector_of, IsSide, star_first}
+use Rattle.item_knowledge.specs.Gathering.{is_above, vector_of, IsOperand, star_first}
 use Rattle.item_knowledge.specs.TableRows.{entries_of, told_one, told, IsTold, IsTelling}
-use Rattle.item_knowledge.proofs.ApartLemmas.{rows_snoc, numbered_snoc}
+use Rattle.item_knowledge.proofs.DistinctUnionLemmas.{rows_snoc, numbered_snoc}
 use Rattle.item_knowledge.proofs.EntryLemmas.{vector_parts}
 use Rattle.item_knowledge.proofs.RowLemmas.{fragments_rows, rows_rows}
 
@@ -133,8 +133,8 @@ module _ {table : List (ℕ × List Bound)} {rows : List (List ℕ)} {numbers : 
   pub told_are_vectors : list_all (λ (f : Fragment). is_vector f.entries) (fragments_of rows) ≡ true
   told_are_vectors = ap (list_all (λ (f : Fragment). is_vector f.entries)) made ∙ vectors
 
-  pub told_side : (xs : List (ℕ × ℕ)) → xs ≡ numbers → in_order table ≡ true → IsSide (fragments_of rows) xs
-  told_side xs same o = subst (λ fs. IsSide fs xs) (sym made) (subst (IsSide (star_first [] (told table))) (sym (same ∙ h.index_is)) (record {
+  pub told_operand : (xs : List (ℕ × ℕ)) → xs ≡ numbers → in_order table ≡ true → IsOperand (fragments_of rows) xs
+  told_operand xs same o = subst (λ fs. IsOperand fs xs) (sym made) (subst (IsOperand (star_first [] (told table))) (sym (same ∙ h.index_is)) (record {
     star = omega arith;
     above = and_from _ _ refl (above (told table) vectors);
     order = numbered_order 1 table o;
@@ -152,7 +152,7 @@ module _ {table : List (ℕ × List Bound)} {rows : List (List ℕ)} {numbers : 
   pub telling : (xs : List (ℕ × ℕ)) → xs ≡ numbers → in_order table ≡ true → IsTelling rows xs
   telling xs same o = record {
     rows = told_are_rows;
-    side = told_side xs same o;
+    operand = told_operand xs same o;
     star = told_star;
     pairs = λ p v z. told_knows p v o ∙ sym (entries_denote (at [] table p) v)
         ∙ ap (λ es. denotes es v) (sym ((λ i. vector_of (made i) ((same ∙ h.index_is) i) p) ∙ found_told (nothing ∷ []) 1 table p refl (omega arith) refl));

@@ -6,7 +6,7 @@ use Rattle.photo_version.specs.Author.{author}
 use Rattle.photo_version.specs.Version.{version}
 use Rattle.item_knowledge.specs.Entries.{bound}
 use Rattle.item_knowledge.specs.Examples.{TheStaged, TheUnions, TheGroups, TheMarks}
-use Rattle.item_knowledge.specs.Places.{mixed, share}
+use Rattle.item_knowledge.specs.VectorIndex.{mixed, share}
 use Rattle.item_knowledge.proofs.GatherLemmas.{group_grown, group_begun}
 
 pub the_staged : TheStaged

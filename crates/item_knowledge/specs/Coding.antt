@@ -1,4 +1,4 @@
--- Machinery of the proofs: fragments, and what a knowledge keeps, as the pairs of their parts, by which a proof tells two
+-- Machinery of the proofs: fragments and what a knowledge keeps, coded as pairs of their parts, so that a proof can tell two
 -- of them apart.
 use Rattle.std.specs.Prelude.{ℕ, List, Option, refl}
 use Rattle.std.specs.Coded.{Coded, code_by, coded×, coded_ℕ, coded_list, coded_option}

@@ -6,7 +6,7 @@ use Rattle.photo_version.specs.Author.{author_word, is_author_word}
 use Rattle.photo_version.specs.Version.{Version}
 use Rattle.item_knowledge.specs.Tables.{in_order, at, merge}
 
--- an author, as its word, with a bound
+-- an author's word, with a bound
 abbrev pub Entry : Type 0
 Entry = ℕ × ℕ
 
@@ -34,13 +34,13 @@ is_vector es = in_order es && list_all (λ e. is_entry e) es
 abbrev pub bound : List Entry → ℕ → ℕ
 bound es a = at 0 es a
 
--- each bound of the one is at most the other's
+-- each bound of the first is at most the second's bound of the same author
 abbrev pub leq : List Entry → List Entry → Bool
 leq es fs = list_all (λ e. nat_le e.1 (bound fs e.0)) es
 
 abbrev pub same_entries : List Entry → List Entry → Bool
 same_entries es fs = pointwise (λ e f. (e.0 == f.0) && (e.1 == f.1)) es fs
 
--- of each author the greater bound
+-- for each author the greater bound
 abbrev pub joined : List Entry → List Entry → List Entry
 joined xs ys = merge (λ a. a) (λ a b. max a b) (λ b. b) xs ys

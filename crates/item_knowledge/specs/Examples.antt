@@ -1,4 +1,4 @@
--- The definitions at some fragments.
+-- The definitions, worked for some fragments.
 use Rattle.std.specs.Prelude.{◌≡◌, ℕ, Bool, true, false, List, [], ◌∷◌, Some, None}
 use Rattle.photo_version.specs.Author.{author, author_at, author_word}
 use Rattle.photo_version.specs.Version.{Version, version}
@@ -9,13 +9,13 @@ use Rattle.item_knowledge.specs.Excess.{exceeding, shown}
 use Rattle.item_knowledge.specs.Raising.{are_level}
 use Rattle.item_knowledge.specs.Rows.{flat, rows_of}
 use Rattle.item_knowledge.specs.Staged.{IsStagedUnion}
-use Rattle.item_knowledge.specs.Marks.{place_of, is_marked}
+use Rattle.item_knowledge.specs.BoundFilter.{place_of, is_marked}
 use Rattle.item_knowledge.specs.Written.{IsBeyond}
 
 abbrev of : List ℕ → List Entry → Fragment
 of pictures entries = record { pictures = pictures; entries = entries }
 
--- the number-th version of the device of that number
+-- a version of the device of that number
 abbrev version_of : ℕ → ℕ → Version
 version_of device number = version (author device) number
 
@@ -30,11 +30,11 @@ later device epoch number = (author_word (author_at device epoch), number)
 abbrev none : List Fragment
 none = of [] [] ∷ []
 
--- of pictures 7 and 9 the first version of device 0
+-- for pictures 7 and 9 the first version of device 0
 abbrev of_two : List Fragment
 of_two = of [] [] ∷ of (7 ∷ 9 ∷ []) (entry 0 1 ∷ []) ∷ []
 
--- of every picture the first version of device 0
+-- for every picture the first version of device 0
 abbrev of_every : List Fragment
 of_every = of [] (entry 0 1 ∷ []) ∷ []
 
@@ -72,39 +72,39 @@ pub record TheEpochs : Type 0 where
   pub its_first : knows (of [] (entry 0 2 ∷ later 0 1 1 ∷ []) ∷ []) 7 (version (author_at 0 1) 1) ≡ true
   pub not_its_second : knows (of [] (entry 0 2 ∷ later 0 1 1 ∷ []) ∷ []) 7 (version (author_at 0 1) 2) ≡ false
 
--- of picture 8 the first version of device 1
+-- for picture 8 the first version of device 1
 abbrev other : List Fragment
 other = of [] [] ∷ of (8 ∷ []) (entry 1 1 ∷ []) ∷ []
 
--- of every picture the first version of device 0, and of picture 8 that of device 1 besides
+-- for every picture the first version of device 0, and for picture 8 that of device 1 too
 abbrev both : List Fragment
 both = of [] (entry 0 1 ∷ []) ∷ of (8 ∷ []) (entry 0 1 ∷ entry 1 1 ∷ []) ∷ []
 
--- the same of picture 8, with an empty star
+-- for picture 8 both versions, with an empty star
 abbrev both_at_eight : List Fragment
 both_at_eight = of [] [] ∷ of (8 ∷ []) (entry 0 1 ∷ entry 1 1 ∷ []) ∷ []
 
--- what is staged where it is to be the union of `of_every` and `other`, and, before a ⊥, what isn't
+-- which fragments are the staged union of `of_every` and `other`, and, before a ⊥, which aren't
 pub record TheStaged : Type 0 where
   pub union : IsStagedUnion (Some both) of_every other
   pub other_way : IsStagedUnion (Some both) other of_every
   pub normal : is_normal both ≡ true
-  -- with nothing more, it is what is known
+  -- the union with nothing is what is known
   pub same : IsStagedUnion (Some of_every) of_every none
-  -- nothing is staged, even where nothing is known
+  -- where nothing is staged, no union is, even of nothing
   pub nothing : IsStagedUnion None none none → ⊥
   -- one of the two is staged alone
   pub first_alone : IsStagedUnion (Some of_every) of_every other → ⊥
   pub second_alone : IsStagedUnion (Some other) of_every other → ⊥
-  -- what is known of picture 8 is staged of every picture
+  -- what is known of picture 8 is staged for every picture
   pub of_all : IsStagedUnion (Some (of [] (entry 0 1 ∷ entry 1 1 ∷ []) ∷ [])) of_every other → ⊥
   -- a second version of device 0 is staged
   pub too_late : IsStagedUnion (Some (of [] (entry 0 2 ∷ []) ∷ of (8 ∷ []) (entry 0 2 ∷ entry 1 1 ∷ []) ∷ [])) of_every other → ⊥
 
--- what a star alone and a row for picture 8 have beyond the star of their union, and, before a ⊥, what isn't
+-- what the union of a star alone and a row for picture 8 has beyond its star, and, before a ⊥, what it hasn't
 pub record TheUnions : Type 0 where
   pub beyond : IsBeyond (entry 0 1 ∷ []) none [] both_at_eight ((8, 1) ∷ []) other ((8, 1) ∷ [])
-  -- what the star has stands in the row once more
+  -- the row repeats what the star has
   pub repeated : IsBeyond (entry 0 1 ∷ []) none [] both_at_eight ((8, 1) ∷ []) both_at_eight ((8, 1) ∷ []) → ⊥
   pub left_out : IsBeyond (entry 0 1 ∷ []) none [] both_at_eight ((8, 1) ∷ []) none [] → ⊥
 

@@ -15,11 +15,11 @@ exceeding star (e ∷ es) = if nat_lt (bound star e.0) e.1 then e ∷ exceeding 
 abbrev pub exceeds_all : List Entry → List Entry → Bool
 exceeds_all star es = list_all (λ e. nat_lt (bound star e.0) e.1) es
 
--- each bound is at most that of other entries or of the star
+-- each bound is at most the bound of the same author in other entries or in the star
 abbrev pub is_covered : List Entry → List Entry → List Entry → Bool
 is_covered star others es = list_all (λ e. nat_le e.1 (bound others e.0) || nat_le e.1 (bound star e.0)) es
 
--- what two fragments of the two sides give together beyond the star of the union
+-- the join of two fragments, one of each operand, beyond the star of the union
 abbrev pub union_vector : List Entry → List Fragment → List Fragment → ℕ × ℕ → List Entry
 union_vector star fs gs k = exceeding star (pair_vector fs gs k)
 
@@ -30,11 +30,11 @@ whole star f = record { pictures = f.pictures; entries = joined f.entries star }
 abbrev pub wholes : List Entry → List Fragment → List Fragment
 wholes star fs = map (λ f. whole star f) fs
 
--- the rows of whole vectors
+-- the rows of fragments with their whole vectors
 abbrev pub shown : List ℕ → List (List ℕ) → List (List ℕ)
 shown star rows = rows_of (wholes (pairs star) (fragments_of rows))
 
--- the first fragment has no entries, and what the others have is above the star
+-- the first fragment has no entries, and the bounds of the others are above the star's
 pub record IsExcess (star : List ℕ) (rows : List (List ℕ)) : Type 0 where
   pub row : IsRow star
   pub vector : is_vector (pairs star) ≡ true
@@ -43,7 +43,7 @@ pub record IsExcess (star : List ℕ) (rows : List (List ℕ)) : Type 0 where
   pub vectors : (k : ℕ) → is_vector (entries_at (fragments_of rows) k) ≡ true
   pub exceeds : (k a : ℕ) → 0 < bound (entries_at (fragments_of rows) k) a → bound (pairs star) a < bound (entries_at (fragments_of rows) k) a
 
--- a row and a star as a fragment lends them
+-- a row and a star, as a fragment lends them
 pub record IsLent (words star_words : List ℕ) : Type 0 where
   pub row : IsRow words
   pub vector : is_vector (pairs words) ≡ true

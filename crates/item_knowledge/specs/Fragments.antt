@@ -4,7 +4,7 @@ use Rattle.std.specs.List.{list_any, list_all}
 use Rattle.photo_version.specs.Version.{Version}
 use Rattle.item_knowledge.specs.Entries.{Entry, denotes, is_vector, leq, same_entries}
 
--- pictures with what is known of each of them
+-- some pictures, and what is known of each of them
 pub record Fragment : Type 0 where
   pub pictures : List ℕ
   pub entries : List Entry
@@ -24,11 +24,11 @@ lists ps p = list_any (λ q. q == p) ps
 abbrev pub reaches : Fragment → ℕ → Bool
 reaches f p = is_empty f.pictures || lists f.pictures p
 
--- the pairs that fragments denote: whether of a picture, above 0, a version is known
+-- the pairs that fragments denote: whether a version is known of a picture above 0
 abbrev pub knows : List Fragment → ℕ → Version → Bool
 knows fs p v = list_any (λ f. reaches f p && denotes f.entries v) fs
 
--- each pair that the one denote, the other denote too
+-- the second denote each pair that the first denote
 abbrev pub IsWithin : List Fragment → List Fragment → Type 0
 IsWithin fs gs = (p : ℕ) (v : Version) → 0 < p → knows fs p v ≡ true → knows gs p v ≡ true
 
@@ -37,13 +37,13 @@ abbrev pub rises : List ℕ → Bool
 rises [] = true
 rises (p ∷ ps) = list_all (λ q. nat_lt p q) ps && rises ps
 
--- beside the star: at least one picture, sorted and above 0, and a vector above the star's
+-- a group beside the star: at least one picture, sorted and above 0, and a vector above the star's
 abbrev pub is_group : List Entry → Fragment → Bool
 is_group star g =
     (not (is_empty g.pictures) && (list_all (λ p. nat_lt 0 p) g.pictures && rises g.pictures))
     && (is_vector g.entries && (leq star g.entries && not (same_entries star g.entries)))
 
--- by first pictures; with another vector, and no picture in common
+-- the first group's first picture is smaller, and the two have different vectors and no picture in common
 abbrev pub goes_before : Fragment → Fragment → Bool
 goes_before g h =
     nat_lt (first g.pictures) (first h.pictures)
@@ -67,7 +67,7 @@ abbrev pub or_star : List Entry → Option (List Entry) → List Entry
 or_star star None = star
 or_star star (Some e) = e
 
--- the one vector that says what is known of a picture
+-- the vector of what is known of a picture
 abbrev pub known : List Fragment → ℕ → List Entry
 known [] p = []
 known (s ∷ gs) p = or_star s.entries (find gs p)

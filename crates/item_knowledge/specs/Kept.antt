@@ -15,27 +15,27 @@ pub record IsKept (live : List (List ℕ)) (numbers : List (ℕ × ℕ)) : Type 
   pub normal : is_normal (fragments_of live) ≡ true
   pub index : IsIndex numbers (fragments_of live)
 
--- nothing is known: the star alone, with no entries
+-- nothing is known: the star alone, without entries
 abbrev pub nothing_known : List Fragment
 nothing_known = nothing ∷ []
 
--- up to which number every picture's versions of an author are known
+-- the number up to which an author's versions are known of every picture
 abbrev pub star_bound : List Fragment → Author → ℕ
 star_bound fs a = bound (entries_at fs 0) (author_word a)
 
--- each vector of the one side is at most the other's at the same picture
-abbrev pub is_side_within : List Fragment → List (ℕ × ℕ) → List Fragment → List (ℕ × ℕ) → Bool
-is_side_within fs xs gs ys =
+-- each vector of the first operand is at most the second's vector of the same picture
+abbrev pub is_operand_within : List Fragment → List (ℕ × ℕ) → List Fragment → List (ℕ × ℕ) → Bool
+is_operand_within fs xs gs ys =
     leq (entries_at fs 0) (entries_at gs 0) && list_all (λ r. leq (entries_at fs r.1) (vector_of gs ys r.0)) xs
 
--- each pair that a side denotes is known
-abbrev pub IsSideKnown : List Fragment → List Fragment → List (ℕ × ℕ) → Type 0
-IsSideKnown now gs ys = (p : ℕ) (v : Version) → 0 < p → denotes (vector_of gs ys p) v ≡ true → knows now p v ≡ true
+-- each pair that an operand denotes is known
+abbrev pub IsOperandKnown : List Fragment → List Fragment → List (ℕ × ℕ) → Type 0
+IsOperandKnown now gs ys = (p : ℕ) (v : Version) → 0 < p → denotes (vector_of gs ys p) v ≡ true → knows now p v ≡ true
 
 -- each version of a vector is known of a picture
 abbrev pub IsVectorKnown : List Fragment → ℕ → List vectors.Bound → Type 0
 IsVectorKnown now p bounds = (v : Version) → vectors.denotes bounds v ≡ true → knows now p v ≡ true
 
--- each version of the vectors of a table is known of the picture beside it
+-- each version of the vectors of a table is known of the picture beside its vector
 abbrev pub IsTableKnown : List Fragment → List (ℕ × List vectors.Bound) → Type 0
 IsTableKnown now table = (p : ℕ) → IsVectorKnown now p (at [] table p)

@@ -28,8 +28,8 @@ StarIsOfEvery =
 abbrev pub is_told : ℕ × List Entry → Bool
 is_told t = nat_lt 0 t.0 && is_vector t.1
 
--- the pairs of what is known of every picture, and of what is known besides of some: these come in any order, and a
--- picture may come more than once
+-- the pairs of what is known of every picture, and of what else is known of some: these pictures come in any order, and one
+-- may come more than once
 abbrev pub pairs_of : List Entry → List (ℕ × List Entry) → ℕ → Version → Bool
 pairs_of every some p v = denotes every v || list_any (λ t. (t.0 == p) && denotes t.1 v) some
 
@@ -39,7 +39,7 @@ pub record IsTheNormalForm (fs : List Fragment) (pairs : ℕ → Version → Boo
   pub denoted : (p : ℕ) (v : Version) → 0 < p → knows fs p v ≡ pairs p v
   pub only : (gs : List Fragment) → is_normal gs ≡ true → ((p : ℕ) (v : Version) → 0 < p → knows gs p v ≡ pairs p v) → gs ≡ fs
 
--- whatever is known of every picture and of some besides, by a bound per author, has exactly one normal form
+-- what is known of every picture, together with what else is known of some, has exactly one normal form; vectors say both
 abbrev pub EachHasOneNormalForm : Type 0
 EachHasOneNormalForm =
     (every : List Entry) (some : List (ℕ × List Entry)) → is_vector every ≡ true → list_all (λ t. is_told t) some ≡ true →

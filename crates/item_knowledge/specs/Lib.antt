@@ -4,11 +4,11 @@ pub mod Fragments
 pub mod Rows
 pub mod Gathering
 pub mod Excess
-pub mod Merging
+pub mod EntryCursor
 pub mod Written
 pub mod Raising
-pub mod Places
-pub mod Marks
+pub mod VectorIndex
+pub mod BoundFilter
 pub mod Kept
 pub mod Staged
 pub mod Spare
@@ -16,7 +16,8 @@ pub mod Coding
 pub mod TableRows
 pub mod Laws
 pub mod Examples
-pub mod Pairing
-pub mod Apart
-pub mod OnTheWay
-pub mod Sides
+pub mod PictureCursor
+pub mod DistinctUnion
+pub mod UnionProgress
+pub mod Operand
+pub mod Searching

@@ -1,4 +1,4 @@
--- Machinery of the proofs: an author's bound is raised in each fragment.
+-- Machinery of the proofs: raising an author's bound in each fragment.
 use Rattle.std.specs.Prelude.{◌≡◌, ℕ, ◌<◌, ◌≤◌, Bool, true, nat_le, List, [], ◌∷◌}
 use Rattle.std.specs.List.{list_all}
 use Rattle.item_knowledge.specs.Entries.{Entry, is_entry, bound}
@@ -16,8 +16,8 @@ all_raised e fs = wholes (e ∷ []) fs
 abbrev pub star_of_one : Entry → List Fragment
 star_of_one e = record { pictures = []; entries = e ∷ [] } ∷ []
 
--- an author's bound may be raised beside a normal form's rows: the star has an entry of the author, of at most the new bound, and
--- no vector has more
+-- an author's bound may be raised in each fragment of a normal form: the star has a bound of the author, which is at most the new
+-- one, and no fragment has a greater bound than the star
 pub record IsWaiting (e : Entry) (fs : List Fragment) : Type 0 where
   pub normal : is_normal fs ≡ true
   pub entry : is_entry e ≡ true

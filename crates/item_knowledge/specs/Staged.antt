@@ -6,7 +6,7 @@ use Rattle.photo_version.specs.Version.{Version}
 use Rattle.item_knowledge.specs.Fragments.{Fragment, knows}
 use Rattle.item_knowledge.specs.Kept.{star_bound}
 
--- what a knowledge keeps: the fragments of what is known, and of what is staged, where something is
+-- what a knowledge keeps: the fragments of what is known, and of what is staged if something is
 pub record Knowing : Type 0 where
   pub known : List Fragment
   pub staged : Option (List Fragment)
@@ -15,7 +15,7 @@ pub record Knowing : Type 0 where
 abbrev pub settled : List Fragment → Knowing
 settled fs = record { known = fs; staged = None }
 
--- what is staged is the union of two
+-- something is staged, and it is the union of two
 pub record IsStagedUnion (staged : Option (List Fragment)) (left right : List Fragment) : Type 0 where
   pub there : is_some staged ≡ true
   pub star : IfSome staged (λ s. (a : Author) → star_bound s a ≡ max (star_bound left a) (star_bound right a))

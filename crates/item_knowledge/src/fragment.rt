@@ -1,14 +1,14 @@
-// A fragment, lent, and its entries one after another.
-use crate::join::Merging;
+// A lent fragment, and a cursor along its entries.
+use crate::join::EntryCursor;
 use photo_version::{Author, Vector};
 use std::alloc::{AllocError, Global};
 use std::marker::Model;
 
-/// Pictures with what is known of each of them, lent by a knowledge. The star stands for all pictures and lists none.
+/// Some pictures and what is known of each of them, lent by a knowledge. The star stands for all pictures and lists none.
 #[derive(Debug, Drop)]
 pub struct Fragment<'a> {
     pictures: &'a [u64],
-    // What it has beyond the star.
+    // The entries that exceed the star's, two words each.
     row: &'a [u64],
     star: &'a [u64],
 }
@@ -57,19 +57,19 @@ impl<'a> Fragment<'a> {
         self.pictures.is_empty()
     }
 
-    /// The numbers of its pictures, sorted; none for the star.
+    /// The numbers of its pictures, in rising order; none for the star.
     pub fn pictures(&self) -> &'a [u64]
         ensures { result.now ≡ self.now.pictures }
     {
         self.pictures
     }
 
-    /// The number of entries, one for each author of whom a version is known. They are counted.
+    /// The number of entries, one for each author of whom a version is known. The call goes over all entries.
     #[tactic(auto, using(crate::proofs::RowLemmas::row_length, crate::proofs::JoinLemmas::joined_length))]
     pub fn len(&self) -> usize
         ensures { result ≡ length self.now.entries }
     {
-        // For its fact alone: how long the row and the star are.
+        // `len` is called because the lengths of slices are bounded, so `count` can't overflow.
         let _lengths = (self.row.len(), self.star.len());
         let mut count: usize = 0;
         let mut entries = self.entries();
@@ -79,19 +79,19 @@ impl<'a> Fragment<'a> {
         count
     }
 
-    /// Its entries, from the first. They are lent.
+    /// A cursor along its entries, from the first on. They are lent.
     pub fn entries(&self) -> FragmentEntries<'a>
         ensures { result ≡ self.now.entries }
     {
         FragmentEntries {
             row: self.row,
             star: self.star,
-            merging: Merging::new(),
+            cursor: EntryCursor::new(),
         }
     }
 
-    /// The author at place `i`, from 0, in order, and up to which number, above 0, its versions are known. It goes over those
-    /// before: whoever wants all takes [`Fragment::entries`].
+    /// The author at place `i`, from 0, in order, and the number, above 0, up to which its versions are known. The call goes over
+    /// all earlier entries; [`Fragment::entries`] goes over each entry once.
     #[tactic(auto, using(crate::proofs::JoinLemmas::entry_next))]
     pub fn entry(&self, i: usize) -> (Author, u32)
         requires { i < length self.now.entries }
@@ -107,11 +107,11 @@ impl<'a> Fragment<'a> {
         entries.next_entry().unwrap()
     }
 
-    /// What is known of each of its pictures.
+    /// The vector of what is known of each of its pictures.
     pub(crate) fn vector(&self, alloc: Global) -> Result<Vector, AllocError>
         ensures { IfOk result (λ vector. entries_of vector ≡ self.now.entries) }
     {
-        // For its fact alone: its entries are a vector.
+        // A field is read because the proof then knows the invariant: the entries are a vector.
         let _star = self.star;
         let mut bounds = Vec::with_capacity(alloc, self.len())?;
         let mut entries = self.entries();
@@ -127,7 +127,7 @@ impl<'a> Fragment<'a> {
 pub struct FragmentEntries<'a> {
     row: &'a [u64],
     star: &'a [u64],
-    merging: Merging,
+    cursor: EntryCursor,
 }
 
 impl<'a> Model for FragmentEntries<'a> {
@@ -135,29 +135,29 @@ impl<'a> Model for FragmentEntries<'a> {
     ghost use Rattle.std.specs.Coded.{coded×, coded_ℕ, coded_list};
     ghost use Rattle.item_knowledge.specs.Entries.{Entry, is_vector};
     ghost use Rattle.item_knowledge.specs.Excess.{IsLent};
-    ghost use Rattle.item_knowledge.specs.Merging.{left_of};
+    ghost use Rattle.item_knowledge.specs.EntryCursor.{left_of};
 
     ghost Value = { List Entry };
 
     ghost coded = { coded_list (coded× coded_ℕ coded_ℕ) };
 
-    ghost view = { λ e. left_of e.merging e.row.now e.star.now };
+    ghost view = { λ e. left_of e.cursor e.row.now e.star.now };
 
-    ghost invariant = { λ e. IsLent e.row.now e.star.now × (is_vector (left_of e.merging e.row.now e.star.now) ≡ true) };
+    ghost invariant = { λ e. IsLent e.row.now e.star.now × (is_vector (left_of e.cursor e.row.now e.star.now) ≡ true) };
 }
 
 impl<'a> FragmentEntries<'a> {
     ghost use Rattle.std.specs.Prelude.{◌≡◌, ◌<◌, ◌∷◌, [], None, IfSome};
     ghost use Rattle.photo_version.specs.Author.{author_word, author_of_word};
 
-    /// The next author, in order, and up to which number, above 0, its versions are known; none behind the last one.
+    /// The next author, in order, and the number, above 0, up to which its versions are known; none after the last author.
     #[tactic(auto, using(crate::proofs::JoinLemmas::vector_order))]
     pub fn next_entry(&mut self) -> Option<(Author, u32)>
         ensures next { IfSome result (λ e. self.old ≡ (author_word e.0, e.1) ∷ self.new) }
         ensures above_zero { IfSome result (λ e. 0 < e.1) }
         ensures none { result ≡ None → self.old ≡ [] }
     {
-        let (word, number) = self.merging.next(self.row, self.star)?;
+        let (word, number) = self.cursor.next(self.row, self.star)?;
         Some((Author::of_word(word), number as u32))
     }
 }

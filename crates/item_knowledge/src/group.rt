@@ -34,7 +34,7 @@ impl Group {
         }
     }
 
-    /// One picture more, at the end. A refusal changes nothing.
+    /// Appends a picture. A refusal changes nothing.
     pub(crate) fn push(&mut self, picture: u64) -> Result<(), AllocError>
         ensures pushed { OnOk result (self.new ≡ self.old ++ picture ∷ []) }
         ensures refused { OnErr result (self.new ≡ self.old) }
@@ -43,7 +43,7 @@ impl Group {
         Ok(())
     }
 
-    /// The pictures come to the end of rows, as one more.
+    /// Appends the pictures to `out`, as one row.
     pub(crate) fn place(&self, out: &mut Rows) -> Result<(), AllocError>
         ensures { OnOk result (out.new ≡ out.old ++ self.now ∷ []) }
     {

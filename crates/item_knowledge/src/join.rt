@@ -3,30 +3,30 @@ ghost use Rattle.std.specs.Prelude.{◌≡◌, true, OnOk};
 ghost use Rattle.item_knowledge.specs.Tables.{in_order};
 ghost use Rattle.item_knowledge.specs.Entries.{joined};
 ghost use Rattle.item_knowledge.specs.Excess.{exceeding};
-ghost use Rattle.item_knowledge.specs.Merging as spec;
+ghost use Rattle.item_knowledge.specs.EntryCursor as spec;
 ghost use Rattle.item_knowledge.specs.Rows.{pairs, IsRow};
 
 use crate::search::{bound_near, entry_at, entry_count};
 use std::alloc::AllocError;
 
-/// How far two rows have been gone along together.
+/// A cursor along two rows of entries at once: the place of the next entry in each.
 #[derive(Debug, Clone, Copy)]
-pub(crate) struct Merging {
+pub(crate) struct EntryCursor {
     pub left: usize,
     pub right: usize,
 }
 
-impl Merging {
+impl EntryCursor {
     ghost use Rattle.std.specs.Prelude.{◌≡◌, ◌<◌, ◌∷◌, [], None, IfSome, true};
     ghost use Rattle.item_knowledge.specs.Tables.{in_order};
     ghost use Rattle.item_knowledge.specs.Rows.{pairs, IsRow};
 
-    /// At the first entries of both.
-    pub(crate) fn new() -> Merging
+    /// A cursor at the first entries of both.
+    pub(crate) fn new() -> EntryCursor
         ensures left { result.left ≡ 0 }
         ensures right { result.right ≡ 0 }
     {
-        Merging { left: 0, right: 0 }
+        EntryCursor { left: 0, right: 0 }
     }
 
     /// The next entry of the join: an author of either row, and the greater of its bounds.
@@ -69,7 +69,7 @@ impl Merging {
     }
 }
 
-/// Writes the row of what the join of two vectors has above a star's bounds, in place of what was there.
+/// Replaces `out` by a row: the entries of the join of `xs` and `ys` whose bounds are above the star's.
 #[inline(always)]
 pub(crate) fn join(
     xs: &[u64],
@@ -88,9 +88,9 @@ pub(crate) fn join(
 {
     out.clear();
     out.reserve(xs.len().saturating_add(ys.len()))?;
-    let mut merging = Merging::new();
+    let mut cursor = EntryCursor::new();
     let mut hint = 0;
-    while let Some((author, n)) = merging.next(xs, ys) {
+    while let Some((author, n)) = cursor.next(xs, ys) {
         let (least, next) = bound_near(star, hint, author);
         hint = next;
         if least < n {

@@ -1,9 +1,9 @@
-// A knowledge: what it is seen as, and its calls.
+// The type `Knowledge`, its model and its methods.
 use crate::Fragment;
 use crate::index::IndexEntry;
-use crate::known::has_table;
-use crate::live::{LiveRows, is_within};
-use crate::search::{number_at, number_near};
+use crate::knowledge_rows::{KnowledgeRows, is_within};
+use crate::known_table::has_table;
+use crate::search::{NO_HINT, number_near};
 use crate::told::Told;
 use photo_record::PicNo;
 use photo_version::{Vector, Version};
@@ -14,26 +14,26 @@ use std::mem::{replace, swap};
 // What is staged.
 #[derive(Debug, Drop)]
 enum Staged {
-    // Nothing. The spare rows mean nothing.
+    // Nothing. The spare rows have no meaning.
     Nothing,
-    // What is known already, and no more.
+    // Just what is known already.
     AllKnown,
-    // What the spare rows are, with their index.
+    // The spare rows, with this index.
     Spare(Vec<IndexEntry>),
 }
 
-/// Of which picture which versions are known. It is seen as its fragments in normal form: the star, which is what is
-/// known of every picture, and beside it the pictures of which more is known, grouped by what is known of them. Two
-/// knowledges of the same pairs of a picture and a version have equal fragments.
+/// A set of pairs of a picture and a version that is known of it. Its value is a list of fragments in normal form: the star,
+/// which is what is known of every picture, and the pictures of which more is known, grouped by what is known of them. Two
+/// knowledges of the same pairs have equal fragments.
 ///
-/// Beside what is known something may be staged, in normal form too: it is prepared, and not known before it is
-/// committed, which wants no memory. Whatever is learned in between, also if that is refused, leaves nothing staged.
+/// A further set may be staged, in normal form too. It is prepared, and isn't known before it is committed, which wants no
+/// memory. Each learning in between leaves nothing staged, even a refused one.
 #[derive(Debug, Drop)]
 pub struct Knowledge {
     alloc: Global,
-    live: LiveRows,
+    live: KnowledgeRows,
     index: Vec<IndexEntry>,
-    spare: LiveRows,
+    spare: KnowledgeRows,
     staged: Staged,
 }
 
@@ -64,42 +64,42 @@ impl Knowledge {
     ghost use Rattle.item_knowledge.specs.Entries.{bound};
     ghost use Rattle.item_knowledge.specs.Fragments as spec;
     ghost use Rattle.item_knowledge.specs.Rows.{AreRows, fragments_of};
-    ghost use Rattle.item_knowledge.specs.Gathering.{IsSide};
-    ghost use Rattle.item_knowledge.specs.Kept.{nothing_known, star_bound, IsSideKnown, IsTableKnown};
+    ghost use Rattle.item_knowledge.specs.Gathering.{IsOperand};
+    ghost use Rattle.item_knowledge.specs.Kept.{nothing_known, star_bound, IsOperandKnown, IsTableKnown};
     ghost use Rattle.item_knowledge.specs.Spare.{IsJoined};
     ghost use Rattle.item_knowledge.specs.Staged.{settled, IsStagedUnion};
 
-    /// Nothing is known. Its only error is want of memory.
+    /// A knowledge of nothing. Its only error is want of memory.
     pub fn new(alloc: Global) -> Result<Knowledge, AllocError>
         ensures value { IfOk result (λ k. k ≡ settled nothing_known) }
         ensures nothing { IfOk result (λ k. (p : ℕ) (v : versions.Version) → spec.knows k.known p v ≡ false) }
     {
-        let live = LiveRows::of_star(alloc, &[])?;
+        let live = KnowledgeRows::of_star(alloc, &[])?;
         Ok(Knowledge {
             alloc,
             live,
             index: Vec::new(alloc),
-            spare: LiveRows::none(alloc),
+            spare: KnowledgeRows::none(alloc),
             staged: Staged::Nothing,
         })
     }
 
-    /// Whether of the picture the version is known. Takes no memory.
+    /// Whether the version is known of the picture. Takes no memory.
     #[tactic(auto, using(crate::proofs::KeptLemmas::number_known, crate::proofs::KeptLemmas::has_known, crate::proofs::KeptLemmas::star_has))]
     pub fn knows(&self, picture: PicNo, version: Version) -> bool
         ensures { result ≡ spec.knows self.now.known picture version }
     {
-        // For its fact alone: there is a star.
+        // A field is read because the proof then knows the invariant: there is a star.
         let _index = &self.index;
         if self.has_at(0, version) {
             return true;
         }
-        let (number, _place) = number_at(&self.index, picture.value());
+        let (number, _place) = number_near(&self.index, NO_HINT, picture.value());
         self.has_at(number, version)
     }
 
-    /// Whether of the picture the version is known, and a hint for the next question. Takes no memory. Any hint will do;
-    /// where pictures are asked in rising order, each with the hint that the one before gave, the work for one is small.
+    /// Whether the version is known of the picture, and a hint for the next question. Takes no memory. The answer is right with
+    /// any hint. It takes little work if pictures are asked in rising order, each with the hint of the question before.
     #[tactic(auto, using(crate::proofs::KeptLemmas::number_known, crate::proofs::KeptLemmas::has_known))]
     #[inline(always)]
     pub fn knows_near(&self, hint: usize, picture: PicNo, version: Version) -> (bool, usize)
@@ -109,7 +109,7 @@ impl Knowledge {
         (self.has_at(number, version), next)
     }
 
-    // Whether the fragment of a number has a version. What the star has is known of every picture.
+    // Whether the fragment of a number has a version. Each fragment has all that the star has.
     #[tactic(auto, using(crate::proofs::KeptLemmas::kept_vector, crate::proofs::JoinLemmas::vector_order))]
     #[inline(always)]
     fn has_at(&self, number: usize, version: Version) -> bool
@@ -119,7 +119,7 @@ impl Knowledge {
         u64::from(version.n()) <= self.live.bound(number, version.author().word())
     }
 
-    /// The number of fragments, the star among them.
+    /// The number of fragments, with the star.
     pub fn fragments(&self) -> usize
         ensures value { result ≡ length self.now.known }
         ensures normal { spec.is_normal self.now.known ≡ true }
@@ -127,7 +127,7 @@ impl Knowledge {
         self.live.len()
     }
 
-    /// The fragment of a number, from 0, which is the star. It is lent, and copies nothing.
+    /// Fragment number `k`; number 0 is the star. It is lent, and nothing is copied.
     #[tactic(auto, using(crate::proofs::KeptLemmas::kept_vector))]
     pub fn fragment(&self, k: usize) -> Fragment<'_>
         requires { k < length self.now.known }
@@ -136,20 +136,20 @@ impl Knowledge {
         self.live.fragment(k)
     }
 
-    /// Whether both denote the same pairs. Takes no memory.
+    /// Whether both know the same pairs. Takes no memory.
     pub fn same(&self, other: &Knowledge) -> bool
         ensures value { IsTrue result ↔ (self.now.known ≡ other.now.known) }
         ensures pairs { IsTrue result ↔ ((p : ℕ) (v : versions.Version) → 0 < p → spec.knows self.now.known p v
             ≡ spec.knows other.now.known p v) }
     {
-        // For their fact alone: both are in normal form.
+        // Fields are read because the proof then knows the invariants: both are in normal form.
         let _index = &self.index;
         let _other_index = &other.index;
         self.has_all(other) && other.has_all(self)
     }
 
-    /// Whether all that the other knows is known here too. Takes no memory.
-    #[tactic(auto, using(crate::proofs::KeptLemmas::kept_side))]
+    /// Whether each pair that the other knows is known here too. Takes no memory.
+    #[tactic(auto, using(crate::proofs::KeptLemmas::kept_operand))]
     pub fn has_all(&self, other: &Knowledge) -> bool
         ensures { IsTrue result ↔ ((p : ℕ) (v : versions.Version) → 0 < p → spec.knows other.now.known p v ≡ true
             → spec.knows self.now.known p v ≡ true) }
@@ -161,20 +161,20 @@ impl Knowledge {
     pub fn of(&self, picture: PicNo) -> Result<Vector, AllocError>
         ensures { IfOk result (λ vector. (v : versions.Version) → vectors.denotes vector v ≡ spec.knows self.now.known picture v) }
     {
-        let (number, _place) = number_at(&self.index, picture.value());
+        let (number, _place) = number_near(&self.index, NO_HINT, picture.value());
         self.live.fragment(number).vector(self.alloc)
     }
 
-    // Stages what is known and what a side denotes. No memory is wanted where all of that is known.
-    #[tactic(auto, using(crate::proofs::KeptLemmas::kept_side))]
-    fn stage_union(&mut self, rows: &LiveRows, index: &[IndexEntry]) -> Result<(), AllocError>
+    // Stages the union of what is known and what an operand denotes. It wants no memory where all of that is known already.
+    #[tactic(auto, using(crate::proofs::KeptLemmas::kept_operand))]
+    fn stage_union(&mut self, rows: &KnowledgeRows, index: &[IndexEntry]) -> Result<(), AllocError>
         requires rows { AreRows rows.now }
-        requires side { IsSide (fragments_of rows.now) index.now }
+        requires operand { IsOperand (fragments_of rows.now) index.now }
         ensures known { self.new.known ≡ self.old.known }
         ensures there { OnOk result (is_some self.new.staged ≡ true) }
         ensures joined { OnOk result (IfSome self.new.staged (λ s. IsJoined self.old.known (fragments_of rows.now) index.now s)) }
         ensures refused { OnErr result (self.new.staged ≡ None) }
-        ensures wanted { OnErr result (IsSideKnown self.old.known (fragments_of rows.now) index.now → ⊥) }
+        ensures wanted { OnErr result (IsOperandKnown self.old.known (fragments_of rows.now) index.now → ⊥) }
     {
         self.staged = Staged::Nothing;
         if is_within(rows, index, &self.live, &self.index) {
@@ -188,9 +188,9 @@ impl Knowledge {
         Ok(())
     }
 
-    /// Prepares to learn all that the other knows: what is known stays, and what is staged is the union. Its only error
-    /// is want of memory, which leaves nothing staged; none is wanted where the other knows nothing more.
-    #[tactic(auto, using(crate::proofs::KeptLemmas::kept_side))]
+    /// Prepares to learn all that the other knows: stages the union, and leaves what is known as it is. Its only error is want
+    /// of memory, which leaves nothing staged. It wants no memory where the other knows nothing more.
+    #[tactic(auto, using(crate::proofs::KeptLemmas::kept_operand))]
     pub fn stage(&mut self, other: &Knowledge) -> Result<(), AllocError>
         ensures known { self.new.known ≡ self.old.known }
         ensures staged { OnOk result (IsStagedUnion self.new.staged self.old.known other.now.known) }
@@ -201,8 +201,8 @@ impl Knowledge {
         Ok(())
     }
 
-    /// Prepares to learn what is told, as `stage` does what another knows. Its only error is want of memory, which leaves
-    /// nothing staged; none is wanted where all of it is known.
+    /// Prepares to learn what is told, as `stage` prepares to learn what another knows. Its only error is want of memory, which
+    /// leaves nothing staged. It wants no memory where all of it is known.
     pub fn stage_told(&mut self, told: &Told) -> Result<(), AllocError>
         ensures known { self.new.known ≡ self.old.known }
         ensures staged { OnOk result (IsStagedUnion self.new.staged self.old.known told.now) }
@@ -226,7 +226,7 @@ impl Knowledge {
         }
     }
 
-    /// Knows what is staged. It takes no memory.
+    /// Replaces what is known by what is staged. It takes no memory.
     pub fn commit(&mut self)
         requires { is_some self.old.staged ≡ true }
         ensures { IfSome self.old.staged (λ s. self.new ≡ settled s) }
@@ -246,20 +246,7 @@ impl Knowledge {
         self.spare.clear();
     }
 
-    // Learns what a side denotes.
-    fn take_union(&mut self, rows: &LiveRows, index: &[IndexEntry]) -> Result<(), AllocError>
-        requires rows { AreRows rows.now }
-        requires side { IsSide (fragments_of rows.now) index.now }
-        ensures joined { OnOk result (IsJoined self.old.known (fragments_of rows.now) index.now self.new.known) }
-        ensures staged { self.new.staged ≡ None }
-        ensures refused { OnErr result (self.new.known ≡ self.old.known) }
-    {
-        self.stage_union(rows, index)?;
-        self.commit();
-        Ok(())
-    }
-
-    /// Learns of the picture all versions of the vector. Its only error is want of memory, which changes nothing that is
+    /// Learns all versions of the vector for the picture. Its only error is want of memory, which changes nothing that is
     /// known.
     pub fn learn(&mut self, picture: PicNo, vector: &Vector) -> Result<(), AllocError>
         ensures star { OnOk result ((a : Author) → star_bound self.new.known a ≡ star_bound self.old.known a) }
@@ -274,8 +261,8 @@ impl Knowledge {
         Ok(())
     }
 
-    /// Learns of each picture of a table all versions of the vector beside it, at once. Its only error is want of
-    /// memory, which changes nothing that is known; none is wanted where all of it is known.
+    /// Learns for each picture of a table all versions of the vector beside it, in one step. Its only error is want of
+    /// memory, which changes nothing that is known. It wants no memory where all of it is known.
     pub fn learn_table(&mut self, table: &[(PicNo, Vector)]) -> Result<(), AllocError>
         requires { in_order table.now ≡ true }
         ensures star { OnOk result ((a : Author) → star_bound self.new.known a ≡ star_bound self.old.known a) }
@@ -295,8 +282,8 @@ impl Knowledge {
         Ok(())
     }
 
-    /// Learns all that the other knows. Its only error is want of memory, which changes nothing that is known; none is
-    /// wanted where the other knows nothing more.
+    /// Learns all that the other knows. Its only error is want of memory, which changes nothing that is known. It wants no
+    /// memory where the other knows nothing more.
     pub fn learn_all(&mut self, other: &Knowledge) -> Result<(), AllocError>
         ensures star { OnOk result ((a : Author) → star_bound self.new.known a
             ≡ max (star_bound self.old.known a) (star_bound other.now.known a)) }
@@ -311,8 +298,8 @@ impl Knowledge {
         Ok(())
     }
 
-    /// Learns of every picture the next version of an author. Its only error is want of memory, which changes nothing that
-    /// is known.
+    /// Learns an author's next version for every picture. Its only error is want of memory, which changes nothing that is
+    /// known.
     pub fn learn_own(&mut self, version: Version) -> Result<(), AllocError>
         requires { version.number ≡ star_bound self.old.known version.author + 1 }
         ensures star { OnOk result ((a : Author) → star_bound self.new.known a
@@ -324,13 +311,14 @@ impl Knowledge {
     {
         self.unstage();
         let entry = [version.author().word(), u64::from(version.n())];
-        let rows = LiveRows::of_star(self.alloc, &entry)?;
-        self.take_union(&rows, &[])?;
+        let rows = KnowledgeRows::of_star(self.alloc, &entry)?;
+        self.stage_union(&rows, &[])?;
+        self.commit();
         Ok(())
     }
 
-    /// Learns of every picture the next version of an author of whom the star has one, and no picture's versions are
-    /// known beyond the star's. It takes no memory.
+    /// Learns an author's next version for every picture. The star has a version of the author, and no picture has a later one
+    /// than the star. It takes no memory.
     pub fn raise_own(&mut self, version: Version)
         requires first { 0 < star_bound self.old.known version.author }
         requires next { version.number ≡ star_bound self.old.known version.author + 1 }
@@ -348,7 +336,7 @@ impl Knowledge {
         self.live.raise(author, n);
     }
 
-    /// A knowledge of the same, with nothing staged.
+    /// A copy, with nothing staged. Its only error is want of memory.
     pub fn try_clone(&self) -> Result<Knowledge, AllocError>
         ensures { IfOk result (λ copy. copy ≡ settled self.now.known) }
     {
@@ -358,7 +346,7 @@ impl Knowledge {
             alloc: self.alloc,
             live,
             index,
-            spare: LiveRows::none(self.alloc),
+            spare: KnowledgeRows::none(self.alloc),
             staged: Staged::Nothing,
         })
     }

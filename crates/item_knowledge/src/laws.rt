@@ -2,19 +2,19 @@
 ghost use Rattle.item_knowledge.specs.Laws.{VectorsAreOne, NormalFormsAreOne, StarIsOfEvery, EachHasOneNormalForm};
 ghost use Rattle.item_knowledge.specs.Examples.{TheLibrary, TheNormalForms, TheVectors, TheStaged, TheUnions, TheGroups, TheMarks, TheEpochs, TheExcess};
 
-/// A vector is determined by the versions that it denotes.
+/// The versions that a vector denotes determine the vector.
 #[tactic(auto, using(crate::proofs::EntryLemmas::one_vector))]
 pub fn vectors_are_one()
     ensures { VectorsAreOne }
 {}
 
-/// A normal form is determined by the pairs that it denotes.
+/// The pairs that a normal form denotes determine the normal form.
 #[tactic(auto, using(crate::proofs::FragmentLemmas::one_normal))]
 pub fn normal_forms_are_one()
     ensures { NormalFormsAreOne }
 {}
 
-/// What is known of every picture, and of some pictures besides, has exactly one normal form.
+/// What is known of every picture, together with what else is known of some pictures, has exactly one normal form.
 #[tactic(auto, using(crate::proofs::NormalLemmas::has_one))]
 pub fn each_has_one_normal_form()
     ensures { EachHasOneNormalForm }
@@ -26,7 +26,7 @@ pub fn star_is_of_every()
     ensures { StarIsOfEvery }
 {}
 
-/// The definitions at some fragments.
+/// The definitions, worked for some fragments.
 #[tactic(auto, using(crate::proofs::WorkedExamples::the_staged, crate::proofs::WorkedExamples::the_unions, crate::proofs::WorkedExamples::the_groups, crate::proofs::WorkedExamples::the_marks))]
 pub fn examples()
     ensures library { TheLibrary }

@@ -3,21 +3,21 @@ use fragment_arena::{FragmentArena, Row};
 use std::alloc::{AllocError, Global};
 use std::marker::Model;
 
-// So many words at most are reserved ahead (2 GiB); rows beyond them find room as they come.
+// The most words that are reserved ahead, 2 GiB. Rows beyond them get memory as they are placed.
 const MOST_AHEAD: usize = 0x1000_0000;
 
-// How far a seed is moved on: an odd number, so that it comes round only after 2^64 times.
+// The step from a seed to the next one: an odd number, so that a seed comes back only after 2^64 steps.
 const SEED_STEP: u64 = 11_400_714_819_323_198_485;
 
-/// Rows of words, each at its place from 0, in an arena.
+/// Rows of words in an arena, at places from 0 on.
 #[derive(Debug, Drop)]
 pub(crate) struct Rows {
     alloc: Global,
     arena: FragmentArena,
-    // How many words all rows have together, which only a guess at what has to be reserved goes by.
+    // The number of words in all rows together. Only estimates of what to reserve depend on it.
     words: usize,
-    // What hashes of these rows begin with. Each union clears the rows that it writes, and that moves the seed on, so that rows
-    // whose hashes are alike in one union mostly differ in another.
+    // The seed of the hashes of these rows. Each union clears the rows that it writes, and `clear` changes the seed. So rows whose
+    // hashes collide in one union mostly don't in another.
     seed: u64,
 }
 
@@ -48,7 +48,7 @@ impl Rows {
         }
     }
 
-    /// Makes room for so many rows more, which have so many words together.
+    /// Reserves memory for `count` more rows and for `words` more words, up to 2 GiB of these.
     pub(crate) fn reserve(&mut self, count: usize, words: usize) -> Result<(), AllocError>
         ensures { self.new ≡ self.old }
     {
@@ -56,17 +56,17 @@ impl Rows {
         Ok(())
     }
 
-    /// How many words all rows have together, or some more.
+    /// The number of words in all rows together, or somewhat more.
     pub(crate) fn words(&self) -> usize {
         self.words
     }
 
-    /// What hashes of these rows begin with. Nothing but time depends on it.
+    /// The seed of the hashes of these rows. Nothing but time depends on it.
     pub(crate) fn seed(&self) -> u64 {
         self.seed
     }
 
-    /// One row more, at the end. A refusal changes nothing.
+    /// Appends a row. A refusal changes nothing.
     pub(crate) fn place(&mut self, words: &[u64]) -> Result<(), AllocError>
         ensures placed { OnOk result (self.new ≡ self.old ++ words.now ∷ []) }
         ensures refused { OnErr result (self.new ≡ self.old) }
@@ -80,7 +80,7 @@ impl Rows {
         Ok(())
     }
 
-    /// The two rows of a fragment, at the end.
+    /// Appends the two rows of a fragment.
     #[inline(always)]
     pub(crate) fn place_fragment(
         &mut self,
@@ -99,7 +99,7 @@ impl Rows {
         Ok(())
     }
 
-    /// One row more, at the end, of a word and others behind it.
+    /// Appends a row of one word and others after it.
     pub(crate) fn place_first(&mut self, first: u64, others: &[u64]) -> Result<(), AllocError>
         ensures { OnOk result (self.new ≡ self.old ++ (first ∷ others.now) ∷ []) }
     {
@@ -112,7 +112,7 @@ impl Rows {
         self.place(&row)
     }
 
-    /// The rows of another list from one place up to another, at the end.
+    /// Appends the other's rows from place `from` up to `to`, which is left out.
     #[inline(always)]
     pub(crate) fn place_run(
         &mut self,
@@ -127,7 +127,7 @@ impl Rows {
         if from == to {
             return Ok(());
         }
-        // As many words as no `usize` counts can't be reserved.
+        // More words than a `usize` can count can't be reserved.
         let Some(words) = other.arena.words_of_run(from, to) else {
             return Err(AllocError);
         };
@@ -152,7 +152,7 @@ impl Rows {
         self.arena.rows()
     }
 
-    /// No rows any more. The largest block stays, for the rows to come; no word of those that stood is kept.
+    /// Removes all rows. The largest block stays for later rows, but no word of the old ones is kept.
     pub(crate) fn clear(&mut self)
         ensures { self.new ≡ [] }
     {
@@ -161,7 +161,7 @@ impl Rows {
         self.seed = self.seed.wrapping_add(SEED_STEP);
     }
 
-    /// An equal list of rows.
+    /// A copy.
     pub(crate) fn try_clone(&self) -> Result<Rows, AllocError>
         ensures { IfOk result (λ copy. copy ≡ self.now) }
     {

@@ -1,109 +1,24 @@
-// Searches for a picture in an index, and for an author in a row.
-ghost use Rattle.std.specs.Prelude.{◌≡◌, ◌<◌, ◌≤◌, true, length, get_or, drop, IfSome};
+// A binary search with a hint, for a picture in an index and for an author in a row.
+ghost use Rattle.std.specs.Prelude.{◌≡◌, ◌<◌, ◌≤◌, true, length, get_or};
 ghost use Rattle.item_knowledge.specs.Tables.{in_order, at};
 ghost use Rattle.item_knowledge.specs.Entries.{bound};
-ghost use Rattle.item_knowledge.specs.Rows.{pairs, IsRow, IsJustBehind};
+ghost use Rattle.item_knowledge.specs.Rows.{pairs, IsRow, IsPlaceOf};
+ghost use Rattle.item_knowledge.specs.Searching.{pairs_in, IsWhole, AreBelow, IsBetween};
 
 use crate::index::IndexEntry;
 
-// How many places one goes forward from a hint before the whole index is searched.
-const STEPS: usize = 32;
+/// The hint of a caller that has none: the whole list is searched by halves.
+pub(crate) const NO_HINT: usize = usize::MAX;
 
-// How many entries one goes forward from a hint before the whole row is searched.
+// The number of pairs from a hint on that are looked at one by one before the rest is searched by halves.
 const FEW: usize = 8;
 
-/// The number of the fragment to which an index leads from a picture, 0 for the star, and the place in the index at which
-/// the picture stands or would stand.
-pub(crate) fn number_at(index: &[IndexEntry], picture: u32) -> (usize, usize)
-    requires { in_order index.now ≡ true }
-    ensures { result.0 ≡ at 0 index.now picture }
-{
-    let place = index.partition_point(|row| row.0 < picture);
-    if place == index.len() {
-        return (0, place);
-    }
-    let row = index[place];
-    if row.0 != picture {
-        return (0, place);
-    }
-    (row.1 as usize, place)
-}
-
-// Whether all pictures before a place in an index are smaller than this one.
-fn is_behind(index: &[IndexEntry], place: usize, picture: u32) -> bool
-    requires { in_order index.now ≡ true }
-    ensures { result ≡ true → at 0 (drop place index.now) picture ≡ at 0 index.now picture }
-{
-    if place == 0 {
-        return true;
-    }
-    if place > index.len() {
-        return false;
-    }
-    index[place - 1].0 < picture
-}
-
-// Whether a picture can be seen, in an index, a few places from this one at the latest.
-fn is_ahead(index: &[IndexEntry], place: usize, picture: u32) -> bool {
-    let last = place.saturating_add(STEPS);
-    last >= index.len() || picture <= index[last].0
-}
-
-// The number of the fragment to which an index leads from a picture, where the picture stands at that place.
-fn number_there(index: &[IndexEntry], place: usize, picture: u32) -> Option<usize>
-    requires { in_order index.now ≡ true }
-    ensures { IfSome result (λ number. number ≡ at 0 index.now picture) }
-{
-    if place >= index.len() {
-        return None;
-    }
-    let row = index[place];
-    if row.0 != picture {
-        return None;
-    }
-    Some(row.1 as usize)
-}
-
-// The number of the fragment to which an index leads from a picture, 0 for the star, where it is looked for from a place on;
-// and the place at which the picture stands or would stand.
-fn number_from(index: &[IndexEntry], from: usize, picture: u32) -> (usize, usize)
-    requires { in_order index.now ≡ true }
-    ensures { result.0 ≡ at 0 (drop from index.now) picture }
-{
-    let mut place = from;
-    while place < index.len() {
-        let row = index[place];
-        if picture < row.0 {
-            return (0, place);
-        }
-        if row.0 == picture {
-            return (row.1 as usize, place);
-        }
-        place += 1;
-    }
-    (0, place)
-}
-
-/// The number of the fragment to which an index leads from a picture, 0 for the star, and a hint for a later picture. The
-/// work is small where the hint is that of an earlier picture close by; the number is right with any hint.
-#[inline(always)]
-pub(crate) fn number_near(index: &[IndexEntry], hint: usize, picture: u32) -> (usize, usize)
-    requires { in_order index.now ≡ true }
-    ensures { result.0 ≡ at 0 index.now picture }
-{
-    if let Some(number) = number_there(index, hint, picture) {
-        return (number, hint);
-    }
-    let next = hint.saturating_add(1);
-    if let Some(number) = number_there(index, next, picture) {
-        return (number, next);
-    }
-    if is_behind(index, hint, picture) {
-        if is_ahead(index, hint, picture) {
-            return number_from(index, hint, picture);
-        }
-    }
-    number_at(index, picture)
+/// A lent list of pairs, sorted by key: the pictures of an index with the numbers of their fragments, or the authors of a row with
+/// their bounds.
+#[derive(Clone, Copy)]
+pub(crate) enum SortedPairs<'a> {
+    Index(&'a [IndexEntry]),
+    Row(&'a [u64]),
 }
 
 /// The number of entries of a row.
@@ -115,115 +30,161 @@ pub(crate) fn entry_count(row: &[u64]) -> usize
     row.len() / 2
 }
 
-/// The entry at place `i` of a row: the author's word, and the bound.
+/// The entry at place `i` of a row: the author's word and the bound.
 #[tactic(auto, using(crate::proofs::RowLemmas::row_length, crate::proofs::RowLemmas::row_entry))]
 pub(crate) fn entry_at(row: &[u64], i: usize) -> (u64, u64)
     requires row { IsRow row.now }
     requires place { i < length (pairs row.now) }
     ensures { result ≡ get_or (pairs row.now) i (0, 0) }
 {
-    // For its fact alone: how long the row is.
+    // `len` is called because the length of a slice is bounded, so `2 * i` can't overflow.
     let _count = row.len();
     (row[2 * i], row[2 * i + 1])
 }
 
-// About the first place of a row of entries in order whose author is this one or a later one. It is a hint.
-fn place_of(row: &[u64], author: u64) -> usize
-    requires { IsRow row.now }
+// The number of pairs.
+#[inline(always)]
+fn pair_count(list: SortedPairs<'_>) -> usize
+    requires { IsWhole list }
+    ensures { result ≡ length (pairs_in list.entry) }
 {
-    let mut low = 0;
-    let mut high = entry_count(row);
-    while low < high {
-        let middle = low + (high - low) / 2;
-        if entry_at(row, middle).0 < author {
-            low = middle + 1;
-        } else {
-            high = middle;
-        }
+    match list {
+        SortedPairs::Index(index) => index.len(),
+        SortedPairs::Row(row) => entry_count(row),
     }
-    low
 }
 
-// Whether all entries before a place in a row have earlier authors than this one.
-fn are_earlier(row: &[u64], place: usize, author: u64) -> bool
-    requires row { IsRow row.now }
-    requires order { in_order (pairs row.now) ≡ true }
-    ensures { result ≡ true → bound (drop place (pairs row.now)) author ≡ bound (pairs row.now) author }
+// The pair at place `i`.
+#[inline(always)]
+fn pair_at(list: SortedPairs<'_>, i: usize) -> (u64, u64)
+    requires whole { IsWhole list }
+    requires place { i < length (pairs_in list) }
+    ensures { result ≡ get_or (pairs_in list.entry) i (0, 0) }
+{
+    match list {
+        SortedPairs::Index(index) => {
+            let pair = index[i];
+            (u64::from(pair.0), u64::from(pair.1))
+        }
+        SortedPairs::Row(row) => entry_at(row, i),
+    }
+}
+
+// Whether a place is at most the number of pairs, and all keys before it are smaller.
+#[inline(always)]
+fn are_below(list: SortedPairs<'_>, place: usize, key: u64) -> bool
+    requires whole { IsWhole list }
+    requires order { in_order (pairs_in list) ≡ true }
+    ensures there { result ≡ true → place ≤ length (pairs_in list.entry) }
+    ensures below { result ≡ true → AreBelow key (pairs_in list.entry) place }
 {
     if place == 0 {
         return true;
     }
-    if place > entry_count(row) {
+    if place > pair_count(list) {
         return false;
     }
-    entry_at(row, place - 1).0 < author
+    pair_at(list, place - 1).0 < key
 }
 
-// Whether an author can be seen, in a row, a few places from this one at the latest.
-fn is_close(row: &[u64], place: usize, author: u64) -> bool
-    requires { IsRow row.now }
+// The first place whose key isn't smaller, or the list's end, by halves. The keys before `from` are smaller, and none from `to` on
+// is.
+fn place_between(list: SortedPairs<'_>, from: usize, to: usize, key: u64) -> usize
+    requires whole { IsWhole list }
+    requires order { in_order (pairs_in list) ≡ true }
+    requires ends { from ≤ to }
+    requires end { to ≤ length (pairs_in list) }
+    requires between { IsBetween key (pairs_in list) from to }
+    ensures { IsBetween key (pairs_in list.entry) result result }
 {
-    let last = place.saturating_add(FEW);
-    last >= entry_count(row) || author <= entry_at(row, last).0
-}
-
-// From which place of a row on an author is looked for, by a hint.
-#[inline(always)]
-fn start_near(row: &[u64], hint: usize, author: u64) -> usize
-    requires row { IsRow row.now }
-    requires order { in_order (pairs row.now) ≡ true }
-    ensures { bound (drop result (pairs row.now)) author ≡ bound (pairs row.now) author }
-{
-    if is_close(row, hint, author) {
-        if are_earlier(row, hint, author) {
-            return hint;
+    let mut low = from;
+    let mut high = to;
+    while low < high {
+        let middle = low + (high - low) / 2;
+        let (found, _value) = pair_at(list, middle);
+        if found < key {
+            low = middle + 1;
+            continue;
         }
+        high = middle;
     }
-    let place = place_of(row, author);
-    if are_earlier(row, place, author) {
-        return place;
-    }
-    0
+    low
 }
 
-/// The bound of an author in a row of entries in order, 0 where it has none, and a hint for a later author: the place behind the
-/// author's, or where it would stand. The work is small where the hint is that of an earlier author close by; the bound is right
-/// with any hint.
+// The first place whose key isn't smaller, or the list's end. The keys before `from` are smaller. The next few are looked at one by
+// one, and the rest by halves.
+#[inline(always)]
+fn place_from(list: SortedPairs<'_>, from: usize, key: u64) -> usize
+    requires whole { IsWhole list }
+    requires order { in_order (pairs_in list) ≡ true }
+    requires place { from ≤ length (pairs_in list) }
+    requires below { AreBelow key (pairs_in list) from }
+    ensures { IsBetween key (pairs_in list.entry) result result }
+{
+    let count = pair_count(list);
+    let last = from.saturating_add(FEW).min(count);
+    let mut place = from;
+    while place < last {
+        let (found, _value) = pair_at(list, place);
+        if found >= key {
+            return place;
+        }
+        place += 1;
+    }
+    place_between(list, place, count, key)
+}
+
+// The value beside a key, 0 where the list hasn't got the key. `place` is the first place whose key isn't smaller.
+#[inline(always)]
+fn value_there(list: SortedPairs<'_>, place: usize, key: u64) -> u64
+    requires whole { IsWhole list }
+    requires order { in_order (pairs_in list) ≡ true }
+    requires place { IsBetween key (pairs_in list) place place }
+    ensures value { result ≡ at 0 (pairs_in list.entry) key }
+    ensures there { 0 < at 0 (pairs_in list.entry) key → IsPlaceOf (pairs_in list.entry) place key }
+{
+    if place >= pair_count(list) {
+        return 0;
+    }
+    let (found, value) = pair_at(list, place);
+    if found == key { value } else { 0 }
+}
+
+/// The value beside a key, 0 where the list hasn't got the key, and the key's place, or the place where it would stand. This place is
+/// a hint for a greater key. The value is right with any hint. It takes little work with the hint of the same key or of a smaller
+/// one close by.
+#[inline(always)]
+pub(crate) fn value_near(list: SortedPairs<'_>, hint: usize, key: u64) -> (u64, usize)
+    requires whole { IsWhole list }
+    requires order { in_order (pairs_in list) ≡ true }
+    ensures value { result.0 ≡ at 0 (pairs_in list.entry) key }
+    ensures there { 0 < at 0 (pairs_in list.entry) key → IsPlaceOf (pairs_in list.entry) result.1 key }
+{
+    let place = if are_below(list, hint, key) {
+        place_from(list, hint, key)
+    } else {
+        place_between(list, 0, pair_count(list), key)
+    };
+    (value_there(list, place, key), place)
+}
+
+/// The number of the fragment to which an index leads from a picture, 0 for the star, and a hint for a later picture.
+#[inline(always)]
+pub(crate) fn number_near(index: &[IndexEntry], hint: usize, picture: u32) -> (usize, usize)
+    requires { in_order index.now ≡ true }
+    ensures { result.0 ≡ at 0 index.now picture }
+{
+    let (number, next) = value_near(SortedPairs::Index(index), hint, u64::from(picture));
+    (number as usize, next)
+}
+
+/// The bound of an author in a row of sorted entries, 0 where it has none, and a hint for a later author.
 #[inline(always)]
 pub(crate) fn bound_near(row: &[u64], hint: usize, author: u64) -> (u64, usize)
     requires row { IsRow row.now }
     requires order { in_order (pairs row.now) ≡ true }
     ensures bound { result.0 ≡ bound (pairs row.now) author }
-    ensures behind { 0 < bound (pairs row.now) author → IsJustBehind (pairs row.now) result.1 author }
+    ensures there { 0 < bound (pairs row.now) author → IsPlaceOf (pairs row.now) result.1 author }
 {
-    if hint < entry_count(row) {
-        let (word, n) = entry_at(row, hint);
-        if word == author {
-            return (n, hint + 1);
-        }
-        if author < word && are_earlier(row, hint, author) {
-            return (0, hint);
-        }
-    }
-    let mut place = start_near(row, hint, author);
-    while place < entry_count(row) {
-        let (word, n) = entry_at(row, place);
-        if author < word {
-            return (0, place);
-        }
-        place += 1;
-        if word == author {
-            return (n, place);
-        }
-    }
-    (0, place)
-}
-
-/// The bound of an author in a row of entries in order, 0 where it has none.
-pub(crate) fn bound_at(row: &[u64], author: u64) -> u64
-    requires row { IsRow row.now }
-    requires order { in_order (pairs row.now) ≡ true }
-    ensures { result ≡ bound (pairs row.now) author }
-{
-    bound_near(row, place_of(row, author), author).0
+    value_near(SortedPairs::Row(row), hint, author)
 }

@@ -1,11 +1,11 @@
-// What is told of pictures, before it is learned.
+// What is told of pictures, still to be learned.
 ghost use Rattle.std.specs.Prelude.{◌≡◌, true, IfOk, OnOk};
 ghost use Rattle.item_knowledge.specs.Entries.{is_vector};
 ghost use Rattle.item_knowledge.specs.Rows.{flat};
 ghost use Rattle.item_knowledge.specs.TableRows as spec;
 
 use crate::index::{IndexEntry, to_u32};
-use crate::live::LiveRows;
+use crate::knowledge_rows::KnowledgeRows;
 use crate::rows::Rows;
 use crate::union::begin;
 use photo_record::PicNo;
@@ -13,11 +13,11 @@ use photo_version::Vector;
 use std::alloc::{AllocError, Global};
 use std::marker::Model;
 
-/// What is told of pictures, before it is learned: of each picture the versions that are told of it. It is seen as fragments
-/// that denote these pairs of a picture and a version; their order and form may be any.
+/// What is told of pictures, still to be learned: pairs of a picture and a version. Its value is a list of fragments that denote
+/// these pairs, in any order and form.
 #[derive(Debug, Drop)]
 pub struct Told {
-    live: LiveRows,
+    live: KnowledgeRows,
     index: Vec<IndexEntry>,
 }
 
@@ -46,7 +46,7 @@ impl Told {
     ghost use Rattle.item_knowledge.specs.Tables.{in_order, at};
     ghost use Rattle.item_knowledge.specs.TableRows.{IsTelling};
 
-    /// What a table tells of each of its pictures: all versions of the vector beside it. Its only error is want of memory.
+    /// What a table tells: of each of its pictures all versions of the vector beside it. Its only error is want of memory.
     pub fn of_table(alloc: Global, table: &[(PicNo, Vector)]) -> Result<Told, AllocError>
         requires { in_order table.now ≡ true }
         ensures { IfOk result (λ told. (p : ℕ) (v : Version) → 0 < p → knows told p v ≡ denotes (at [] table.now p) v) }
@@ -56,7 +56,7 @@ impl Told {
     }
 
     /// Its rows and their index.
-    pub(crate) fn parts(&self) -> (&LiveRows, &[IndexEntry])
+    pub(crate) fn parts(&self) -> (&KnowledgeRows, &[IndexEntry])
         ensures telling { IsTelling result.0.now result.1.now }
         ensures value { fragments_of result.0.now ≡ self.now }
     {
@@ -64,7 +64,7 @@ impl Told {
     }
 }
 
-// Writes the entries of a vector as a row of words, in place of what was there.
+// Replaces `row` by the entries of a vector, two words each.
 fn write_row(vector: &Vector, row: &mut Vec<u64>) -> Result<(), AllocError>
     ensures row { OnOk result (row.new.items ≡ flat (spec.entries_of vector.now)) }
     ensures vector { OnOk result (is_vector (spec.entries_of vector.now) ≡ true) }
@@ -78,12 +78,12 @@ fn write_row(vector: &Vector, row: &mut Vec<u64>) -> Result<(), AllocError>
     Ok(())
 }
 
-// The rows of what is told of pictures, with their index.
+// The rows of what a table tells, with their index.
 #[tactic(auto, using(crate::proofs::TableRowLemmas::none_told, crate::proofs::TableRowLemmas::told_star))]
 fn rows_of(
     alloc: Global,
     table: &[(PicNo, Vector)],
-) -> Result<(LiveRows, Vec<IndexEntry>), AllocError>
+) -> Result<(KnowledgeRows, Vec<IndexEntry>), AllocError>
     ensures { IfOk result (λ all. spec.IsTold table.now all.0 all.1.items) }
 {
     let mut rows = Rows::new(alloc);
@@ -98,6 +98,6 @@ fn rows_of(
         let number = to_u32(i + 1)?;
         index.push((picture, number))?;
     }
-    let live = LiveRows::of_rows(alloc, rows)?;
+    let live = KnowledgeRows::of_rows(alloc, rows)?;
     Ok((live, index))
 }

@@ -1,0 +1,23 @@
+-- Machinery of the proofs: a lent list of sorted pairs, and a place between smaller keys and the others.
+use Rattle.std.specs.Prelude.{ℕ, ◌<◌, ◌≤◌, List, length, get_or}
+use Rattle.item_knowledge.specs.declared.search.SortedPairs.{SortedPairs}
+use Rattle.item_knowledge.specs.declared.search.SortedPairs.TheVariants.{Index, Row}
+use Rattle.item_knowledge.specs.Rows.{pairs, IsRow}
+
+abbrev pub pairs_in : SortedPairs → List (ℕ × ℕ)
+pairs_in (Index index) = index.now
+pairs_in (Row row) = pairs row.now
+
+-- the words of a row are those of whole entries
+abbrev pub IsWhole : SortedPairs → Type 0
+IsWhole (Index index) = Unit {0}
+IsWhole (Row row) = IsRow row.now
+
+-- all keys before a place are smaller
+abbrev pub AreBelow : ℕ → List (ℕ × ℕ) → ℕ → Type 0
+AreBelow key xs place = (k : ℕ) → k < place → (get_or xs k (0, 0)).0 < key
+
+-- all keys before the first place are smaller, and none from the second place on is
+pub record IsBetween (key : ℕ) (xs : List (ℕ × ℕ)) (low high : ℕ) : Type 0 where
+  pub below : AreBelow key xs low
+  pub from : (k : ℕ) → high ≤ k → k < length xs → key ≤ (get_or xs k (0, 0)).0

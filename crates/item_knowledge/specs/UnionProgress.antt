@@ -1,0 +1,27 @@
+-- Machinery of the proofs: what holds while a union is written.
+use Rattle.std.specs.Prelude.{◌≡◌, ℕ, ◌*◌, ◌≤◌, true, List, [], ◌++◌, length}
+use Rattle.fragment_arena.specs.Arena.{run}
+use Rattle.item_knowledge.specs.DistinctUnion.{singles, spread_of, IsSpread}
+use Rattle.item_knowledge.specs.Entries.{Entry}
+use Rattle.item_knowledge.specs.Excess.{exceeding, union_vector}
+use Rattle.item_knowledge.specs.Fragments.{Fragment}
+use Rattle.item_knowledge.specs.declared.picture_cursor.PictureCursor.{PictureCursor}
+use Rattle.item_knowledge.specs.declared.operand.Operand.{Operand}
+use Rattle.item_knowledge.specs.PictureCursor.{left_of}
+use Rattle.item_knowledge.specs.Rows.{pairs, fragments_of}
+use Rattle.item_knowledge.specs.Tables.{in_order}
+
+-- a union that is written in part: the written fragments, then a run of the left's that is still to be written, then the rest
+pub record IsWrittenUpTo (left right : List (List ℕ)) (xs ys : List (ℕ × ℕ)) (star : List Entry) (out : List (List ℕ)) (index joined : List (ℕ × ℕ)) (at : PictureCursor) (from to : ℕ) : Type 0 where
+  pub gs : List Fragment
+  pub rest : gs ++ singles [] (union_vector star (fragments_of left) (fragments_of right)) (left_of at xs ys) ≡ spread_of star (fragments_of left) (fragments_of right) xs ys
+  pub spread : IsSpread left gs (out ++ run left (2 * from) (2 * to)) index joined
+  pub order : from ≤ to
+  pub there : to ≤ length (fragments_of left)
+
+-- where the star has nothing beyond the left's, more is written, and the run has become longer
+abbrev pub KeepsWriting : Operand → Operand → List (ℕ × ℕ) → PictureCursor → ℕ → List (ℕ × ℕ) → PictureCursor → ℕ → Type 0
+KeepsWriting left right index at to more then end = (star : List Entry) (out : List (List ℕ)) (joined : List (ℕ × ℕ)) (from : ℕ)
+    → in_order star ≡ true → exceeding (pairs left.star.now) star ≡ []
+    → IsWrittenUpTo left.rows.now right.rows.now left.index.now right.index.now star out index joined at from to
+    → IsWrittenUpTo left.rows.now right.rows.now left.index.now right.index.now star out more joined then from end
