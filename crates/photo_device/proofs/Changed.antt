@@ -218,8 +218,8 @@ put_in_none [] o = refl
 put_in_none (x ∷ xs) o = let rest = put_in_none xs in grind (arith, and_parts, put_first, held_order, list_all_wider)
 
 -- what the tree matches of a set in order
-pub kept_anew : (tree : Tree) (xs ys zs : List Held) → are_in_order xs ≡ true → ys ≡ [] → zs ≡ [] → with_side true tree (xs ++ ys) zs ≡ filter (λ h. matches tree h.content) xs
-kept_anew tree xs ys zs o none empty = grind (arith, append-nil, put_in_none, in_order-filter)
+pub kept_resorted : (tree : Tree) (xs ys zs : List Held) → are_in_order xs ≡ true → ys ≡ [] → zs ≡ [] → with_side true tree (xs ++ ys) zs ≡ filter (λ h. matches tree h.content) xs
+kept_resorted tree xs ys zs o none empty = grind (arith, append-nil, put_in_none, in_order-filter)
 
 -- versions of which none is there twice are new to an empty set
 pub new_to_empty : (takes : List Held) → ((v : Version) → count_of v takes ≤ 1) → AreNewTo [] takes

@@ -1,15 +1,14 @@
 pub mod Order
 pub mod Counts
 pub mod Shown
-pub mod NotedLemmas
+pub mod CacheLemmas
 pub mod OwnLemmas
 pub mod Putting
-pub mod Seeking
 pub mod Taken
 pub mod Changed
 pub mod Staged
 pub mod Grouping
 pub mod TellingLemmas
 pub mod TableLemmas
-pub mod AnewLemmas
+pub mod ResortLemmas
 pub mod WorkedExamples

@@ -56,11 +56,6 @@ module _ {A : Type 0} where
       let next : suc i + 1 ≡ suc (i + 1) = omega arith in
       grind (arith, nat_tests, any_counted)
 
-  -- what is found is found still, where it stays
-  pub found_still : (q r : A → Bool) → ((x : A) → q x ≡ true → r x ≡ true) → (xs : List A) → find q (filter r xs) ≡ find q xs
-  found_still q r stays [] = refl
-  found_still q r stays (x ∷ xs) = let here = stays x in let rest = found_still q r stays xs in grind (arith, nat_tests)
-
   pub list_all-filter : (q r : A → Bool) (xs : List A) → list_all q xs ≡ true → list_all q (filter r xs) ≡ true
   list_all-filter q r [] h = refl
   list_all-filter q r (x ∷ xs) h = let rest = list_all-filter q r xs in grind arith

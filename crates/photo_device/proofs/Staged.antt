@@ -13,18 +13,19 @@ use Rattle.std.specs.List.{AllByRecursion}
 use Rattle.photo_device.specs.declared.held.Held.{Held}
 use Rattle.photo_device.specs.declared.prepared.Prepared.{Prepared}
 use Rattle.photo_model.specs.Entry.{Entry, put_entries, without}
-use Rattle.photo_device.specs.Held.{entries_of, count_of, is_listed, helds_without}
+use Rattle.photo_device.specs.Held.{entries_of, count_of, is_listed, helds_without, versions_of}
 use Rattle.photo_model.specs.Device.{ModelDevice, changed}
 use Rattle.photo_device.specs.Device.{Kept, Staging, Shows, unstaged, IsAsItWas}
 use Rattle.photo_device.specs.Own.{HasEarlier, IsKnownBy, IsDevice}
 use Rattle.block_list.specs.Room.{Reserved}
 use Rattle.photo_device.specs.Taking.{AreNewTo, MayTake, with_side}
-use Rattle.photo_device.specs.Staging.{MayHand, MayStage, IsReadied, known_then, staging, staging_of, IsPrepared, FitsWhatIsPrepared, AreParts}
+use Rattle.photo_device.specs.Staging.{MayHand, MayStage, IsRoomFor, versions_in, known_then, staging, staging_of, IsPrepared, FitsWhatIsPrepared, AreParts}
 use Rattle.photo_model.proofs.AllLemmas.{all_append}
 use Rattle.photo_device.proofs.Counts.{count_of-append, count_of-filter}
 use Rattle.photo_device.proofs.OwnLemmas.{known_later, own_still}
 use Rattle.photo_device.proofs.Changed.{shorter, all_new, filters_device, joins_device}
 use Rattle.photo_device.proofs.Shown.{entries-put_those, entries-without}
+use Rattle.photo_device.proofs.Taken.{none_of_others, without_first, without_second}
 
 -- what is staged is no part of what a device shows
 
@@ -53,9 +54,9 @@ then_is (Some fs) P there all = all
 
 -- staging a change
 
-pub stages : (new : Knowing) (p : Prepared) (drops : List Version) (takes : List Held) (room : ℕ) (gain : List Fragment) (d : Kept) → new.known ≡ d.knowledge → IsStagedUnion new.staged d.knowledge gain → star_bound gain d.author ≤ d.counter
-    → MayStage drops takes gain d → IsReadied drops takes room d p → IsDevice (unstaged d) → AreParts (Some p) new.staged (record (unstaged d) { knowledge = new.known })
-stages new p drops takes room gain d known union star may ready is =
+pub stages : (new : Knowing) (p : Prepared) (gain : List Fragment) (d : Kept) → new.known ≡ d.knowledge → IsStagedUnion new.staged d.knowledge gain → star_bound gain d.author ≤ d.counter
+    → MayStage p.drops.stored.items p.drops.waiting.items p.takes gain d → IsRoomFor d.store (length p.takes) p.room p.in_store → IsRoomFor d.out (length p.takes) p.room p.in_out → IsDevice (unstaged d) → AreParts (Some p) new.staged (record (unstaged d) { knowledge = new.known })
+stages new p gain d known union star may in_store in_out is =
     subst (λ k. AreParts (Some p) new.staged (record (unstaged d) { knowledge = k })) (sym known) (record {
       device = is;
       fits = record {
@@ -63,23 +64,21 @@ stages new p drops takes room gain d known union star may ready is =
         ahead = record {
           own = own_still d.author d.counter gain d.knowledge (known_then new.staged) star may.own (then_is new.staged (λ s. (a : Author) → star_bound s a ≡ max (star_bound d.knowledge a) (star_bound gain a)) union.there union.star) pairs is.knows;
           more = λ p v above here. pairs p v above ∙ ap (λ b. b || knows gain p v) here;
-          known = subst (AllByRecursion (IsKnownBy (known_then new.staged))) (sym ready.takes_are)
-              (known_later gain (known_then new.staged) (λ p v above here. pairs p v above ∙ ap (λ b. knows d.knowledge p v || b) here ∙ or-true (knows d.knowledge p v)) takes may.known);
+          known = known_later gain (known_then new.staged) (λ p v above here. pairs p v above ∙ ap (λ b. knows d.knowledge p v || b) here ∙ or-true (knows d.knowledge p v)) p.takes may.known;
         };
-        once = subst (λ hs. (v : Version) → count_of v (hs ++ (d.store ++ d.out)) ≤ 1) (sym ready.takes_are) (all_new takes (unstaged d) may.new may.distinct is).once;
-        earlier = subst (AllByRecursion HasEarlier) (sym ready.takes_are) may.earlier;
-        store = let most = ready.store in omega arith;
-        store_room = room_for (p.in_store.more) ready.store_room;
-        out = let most = ready.out in omega arith;
-        out_room = room_for (p.in_out.more) ready.out_room;
+        once = (all_new p.takes (unstaged d) may.new may.distinct is).once;
+        earlier = may.earlier;
+        not_stored = none_of_others p.drops.waiting.items d.out d.store may.waiting (λ v. omega (arith, is.once v, count_of-append));
+        not_waiting = none_of_others p.drops.stored.items d.store d.out may.stored (λ v. omega (arith, is.once v, count_of-append));
+        store = let most = in_store.most in omega arith;
+        store_room = let more = in_store.more in omega arith;
+        out = let most = in_out.most in omega arith;
+        out_room = let more = in_out.more in omega arith;
       };
     })
   where
     pairs : (p : ℕ) (v : Version) → 0 < p → knows (known_then new.staged) p v ≡ (knows d.knowledge p v || knows gain p v)
     pairs = then_is new.staged (λ s. (p : ℕ) (v : Version) → 0 < p → knows s p v ≡ (knows d.knowledge p v || knows gain p v)) union.there union.pairs
-
-    room_for : (more : ℕ) → more ≡ length takes + room → length p.takes + p.room ≤ more
-    room_for more is = let taken = ap length ready.takes_are in let same = ready.room_is in omega arith
 
 -- where nothing is staged nothing is prepared
 pub none_prepared : (prepared : Option Prepared) (o : Option (List Fragment)) → staging_of prepared o ≡ None → prepared ≡ None
@@ -120,9 +119,9 @@ module _ (p : Prepared) (o : Option (List Fragment)) (handed : List Held) (d : K
   held_once v = let all = all_coming v in omega arith
 
   -- either set may take what comes, once it has given up what goes
-  fits_in : (helds : List Held) (room : Reserved) → ((v : Version) → count_of v helds ≤ count_of v d.store + count_of v d.out) → length helds ≤ room.most → length p.takes + p.room ≤ room.more → MayTake (helds_without p.drops helds) handed p.takes room
+  fits_in : (helds : List Held) (room : Reserved) → ((v : Version) → count_of v helds ≤ count_of v d.store + count_of v d.out) → length helds ≤ room.most → length p.takes + p.room ≤ room.more → MayTake (helds_without (versions_in p.drops) helds) handed p.takes room
   fits_in helds room part most more =
-      let left = λ (h : Held). not (is_listed p.drops h.version) in
+      let left = λ (h : Held). not (is_listed (versions_in p.drops) h.version) in
       let few = are.may.few in
       let less = shorter left helds in
       record {
@@ -133,17 +132,24 @@ module _ (p : Prepared) (o : Option (List Fragment)) (handed : List Held) (d : K
         more = omega arith;
       }
 
-  pub both_fit : MayTake (helds_without p.drops d.store) handed p.takes p.in_store × MayTake (helds_without p.drops d.out) handed p.takes p.in_out
+  pub both_fit : MayTake (helds_without (versions_in p.drops) d.store) handed p.takes p.in_store × MayTake (helds_without (versions_in p.drops) d.out) handed p.takes p.in_out
   both_fit = (
     fits_in d.store p.in_store (λ v. omega arith) are.prepared.store are.prepared.store_room,
     fits_in d.out p.in_out (λ v. omega arith) are.prepared.out are.prepared.out_room,
   )
 
+  -- either set gives up those that it holds
+  pub gone_of_store : helds_without (versions_of p.drops.stored.items) d.store ≡ helds_without (versions_in p.drops) d.store
+  gone_of_store = sym (without_second p.drops.stored.items p.drops.waiting.items d.store are.prepared.not_stored)
+
+  pub gone_of_out : helds_without (versions_of p.drops.waiting.items) d.out ≡ helds_without (versions_in p.drops) d.out
+  gone_of_out = sym (without_first p.drops.stored.items p.drops.waiting.items d.out are.prepared.not_waiting)
+
   -- what it keeps after the commit
   abbrev pub committed : Kept
   committed = record d {
-    store = with_side true d.tree (p.takes ++ handed) (helds_without p.drops d.store);
-    out = with_side false d.tree (p.takes ++ handed) (helds_without p.drops d.out);
+    store = with_side true d.tree (p.takes ++ handed) (helds_without (versions_in p.drops) d.store);
+    out = with_side false d.tree (p.takes ++ handed) (helds_without (versions_in p.drops) d.out);
     knowledge = known_then o;
   }
 
@@ -153,25 +159,25 @@ module _ (p : Prepared) (o : Option (List Fragment)) (handed : List Held) (d : K
       (all_append (IsKnownBy (known_then o)) p.takes handed are.prepared.ahead.known are.may.known) (filters_device d left left are.device)
     where
       left : Held → Bool
-      left h = not (is_listed p.drops h.version)
+      left h = not (is_listed (versions_in p.drops) h.version)
 
       less : Kept
-      less = record d { store = helds_without p.drops d.store; out = helds_without p.drops d.out }
+      less = record d { store = helds_without (versions_in p.drops) d.store; out = helds_without (versions_in p.drops) d.out }
 
       once : AreNewTo (less.store ++ less.out) (p.takes ++ handed)
       once = record { once = λ v. omega (arith, all_coming v, count_of-append, count_of-filter) }
 
-  shows_committed : (m : ModelDevice) → Shows d m → Shows committed (changed p.drops (entries_of (p.takes ++ handed)) (knows (known_then o)) m)
+  shows_committed : (m : ModelDevice) → Shows d m → Shows committed (changed (versions_in p.drops) (entries_of (p.takes ++ handed)) (knows (known_then o)) m)
   shows_committed m shows = record {
     author = shows.author;
     tree = shows.tree;
     counter = shows.counter;
     store =
-        entries-put_those (λ (e : Entry). matches d.tree e.content) (p.takes ++ handed) (helds_without p.drops d.store)
-        ∙ (λ i. put_entries (filter (λ (e : Entry). matches (shows.tree i) e.content) (entries_of (p.takes ++ handed))) ((entries-without p.drops d.store ∙ ap (without p.drops) shows.store) i));
+        entries-put_those (λ (e : Entry). matches d.tree e.content) (p.takes ++ handed) (helds_without (versions_in p.drops) d.store)
+        ∙ (λ i. put_entries (filter (λ (e : Entry). matches (shows.tree i) e.content) (entries_of (p.takes ++ handed))) ((entries-without (versions_in p.drops) d.store ∙ ap (without (versions_in p.drops)) shows.store) i));
     out =
-        entries-put_those (λ (e : Entry). not (matches d.tree e.content)) (p.takes ++ handed) (helds_without p.drops d.out)
-        ∙ (λ i. put_entries (filter (λ (e : Entry). not (matches (shows.tree i) e.content)) (entries_of (p.takes ++ handed))) ((entries-without p.drops d.out ∙ ap (without p.drops) shows.out) i));
+        entries-put_those (λ (e : Entry). not (matches d.tree e.content)) (p.takes ++ handed) (helds_without (versions_in p.drops) d.out)
+        ∙ (λ i. put_entries (filter (λ (e : Entry). not (matches (shows.tree i) e.content)) (entries_of (p.takes ++ handed))) ((entries-without (versions_in p.drops) d.out ∙ ap (without (versions_in p.drops)) shows.out) i));
     known = λ q above v.
         let more = are.prepared.ahead.more q v above in
         let known = shows.known q above v in

@@ -10,7 +10,7 @@ use Rattle.photo_version.specs.Vector.{Bound, denotes}
 use Rattle.item_knowledge.specs.Tables.{in_order, keys_pass, at}
 use Rattle.item_knowledge.proofs.TableLemmas.{keys_pass-weaker}
 use Rattle.photo_device.specs.declared.held.Held.{Held}
-use Rattle.photo_device.specs.Anew.{AreLeft, HasBesides, IsNextOf, is_second_next}
+use Rattle.photo_device.specs.Resorted.{AreLeft, HasBesides, IsNextOf, is_second_next}
 use Rattle.photo_device.specs.Held.{are_in_order, held_before}
 use Rattle.photo_device.specs.Telling.{tells}
 use Rattle.photo_device.proofs.Putting.{list_all_wider}

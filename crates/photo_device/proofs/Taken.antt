@@ -1,7 +1,7 @@
 -- What sets of held versions take, give up and hand over.
 use Rattle.std.proofs.Common.{◌≡◌, ℕ, ◌+◌, ◌<◌, ◌≤◌, ◌==◌, Bool, true, false, not, cond, ◌&&◌, List, [], ◌∷◌, ◌++◌, length, get_or, drop, refl, sym, ap, ◌∙◌, ◌⊎◌, append_assoc, append-nil, Bor, inl, inr, arith}
 use Rattle.std.specs.Prelude.{filter, Option, Some, None, IfSome, IfNone}
-use Rattle.std.specs.List.{cons_option, list_any}
+use Rattle.std.specs.List.{AllByRecursion, cons_option, list_any}
 use Rattle.std.specs.Fn.{Mut, Called, ComputesKey}
 use Rattle.std.proofs.lemmas.Bool.{cases_Bool}
 use Rattle.std.proofs.lemmas.Bool.Decides.{nat_tests}
@@ -13,11 +13,12 @@ use Rattle.block_list.specs.Room.{Reserved, Growing}
 use Rattle.photo_version.specs.Version.{Version, same_version}
 use Rattle.photo_device.specs.declared.held.Held.{Held}
 use Rattle.photo_model.specs.Ordered.{put}
-use Rattle.photo_device.specs.Held.{held_before, has_version_of, count_of, times_in, are_in_order, find_version, is_listed, helds_without, helds_at, put_helds}
+use Rattle.photo_device.specs.Held.{held_before, has_version_of, count_of, are_in_order, find_version, is_listed, helds_without, put_helds, versions_of}
+use Rattle.photo_device.specs.Staging.{AreNoneOf}
 use Rattle.photo_device.specs.Taking.{AreNewTo, HasRoomFor, HasTaken, MayTake, with_those}
 use Rattle.photo_device.proofs.Counts.{one_of, count_of-cons, count_of-append, count_of-put, count_of-filter, not_found, same_version_self}
 use Rattle.photo_device.proofs.Order.{held_order, held_apart}
-use Rattle.photo_device.proofs.Putting.{any_counted, any_wider, filter_true, count-cons, none_out, only_one, found_still, filter-filter, put-put}
+use Rattle.photo_device.proofs.Putting.{any_counted, any_wider, filter_true, count-cons, none_out, only_one, filter-filter, filter-swap, put-put}
 
 -- What is taken
 
@@ -116,10 +117,6 @@ pub without_none : (xs : List Held) → helds_without [] xs ≡ xs
 without_none [] = refl
 without_none (x ∷ xs) = ap (λ l. x ∷ l) (without_none xs)
 
-pub without_empty : (versions : List Version) (xs : List Held) → (length versions == 0) ≡ true → xs ≡ helds_without versions xs
-without_empty [] xs none = sym (without_none xs)
-without_empty (v ∷ versions) xs none = absurd (grind (arith, nat_tests))
-
 -- one version after another, or all at once
 pub without-cons : (v : Version) (versions : List Version) (xs : List Held) → helds_without versions (helds_without (v ∷ []) xs) ≡ helds_without (v ∷ versions) xs
 without-cons v versions xs = filter-filter _ _ xs ∙ filter_agree (λ h. not (is_listed (v ∷ []) h.version) && not (is_listed versions h.version)) _ (λ h. grind arith) xs
@@ -127,86 +124,62 @@ without-cons v versions xs = filter-filter _ _ xs ∙ filter_agree (λ h. not (i
 without_one : (v : Version) (xs : List Held) → helds_without (v ∷ []) xs ≡ filter (λ h. not (same_version h.version v)) xs
 without_one v xs = filter_agree _ _ (λ h. grind (arith, nat_tests)) xs
 
--- where one of two sets has it, the other has none to give up
-pub other_kept : (picture : ℕ) (v : Version) (xs ys : List Held) → count_of v xs + count_of v ys ≤ 1 → has_version_of picture v xs ≡ true → ys ≡ helds_without (v ∷ []) ys
-other_kept picture v xs ys once has =
-    let test = λ (h : Held). same_version h.version v in
-    let here = sym (any_counted test xs) ∙ any_wider _ test (λ h is. grind arith) xs has in
-    let none : list_any test ys ≡ false = any_counted test ys ∙ grind (arith, nat_tests) in
-    sym (without_one v ys ∙ none_out test ys none)
+-- two lists of versions, one after the other
+without-append : (vs ws : List Version) (xs : List Held) → helds_without ws (helds_without vs xs) ≡ helds_without (vs ++ ws) xs
+without-append [] ws xs = ap (helds_without ws) (without_none xs)
+without-append (v ∷ vs) ws xs =
+    ap (helds_without ws) (sym (without-cons v vs xs)) ∙ without-append vs ws (helds_without (v ∷ []) xs) ∙ without-cons v (vs ++ ws) xs
 
--- some are gone from the two sets, and others are left to be given up
-pub record AreGoing (versions : List Version) (store out : List Held) (left : List Version) (store_now out_now : List Held) : Type 0 where
-  pub once : (v : Version) → count_of v store_now + count_of v out_now ≤ 1
-  pub stored : helds_without left store_now ≡ helds_without versions store
-  pub waiting : helds_without left out_now ≡ helds_without versions out
+-- those of which a set has none
+without_absent : (hs xs : List Held) → AreNoneOf hs xs → helds_without (versions_of hs) xs ≡ xs
+without_absent [] xs none = without_none xs
+without_absent (h ∷ hs) xs none =
+    let test = λ (g : Held). same_version g.version h.version in
+    let absent : list_any test xs ≡ false = any_counted test xs ∙ (let zero = none.0 in grind (arith, nat_tests)) in
+    let one : helds_without (h.version ∷ []) xs ≡ xs = without_one h.version xs ∙ none_out test xs absent in
+    sym (without-cons h.version (versions_of hs) xs) ∙ ap (helds_without (versions_of hs)) one ∙ without_absent hs xs none.1
 
-pub one_gone : (versions : List Version) (store out : List Held) (v : Version) (left : List Version) (store_now out_now : List Held) → AreGoing versions store out (v ∷ left) store_now out_now
-    → AreGoing versions store out left (helds_without (v ∷ []) store_now) (helds_without (v ∷ []) out_now)
-one_gone versions store out v left store_now out_now are = record {
-  once = λ w. let was = are.once w in omega (arith, count_of-filter w (λ (h : Held). not (is_listed (v ∷ []) h.version)) store_now, count_of-filter w (λ (h : Held). not (is_listed (v ∷ []) h.version)) out_now);
-  stored = without-cons v left store_now ∙ are.stored;
-  waiting = without-cons v left out_now ∙ are.waiting;
+pub without_first : (hs gs xs : List Held) → AreNoneOf hs xs → helds_without (versions_of hs ++ versions_of gs) xs ≡ helds_without (versions_of gs) xs
+without_first hs gs xs none = sym (without-append (versions_of hs) (versions_of gs) xs) ∙ ap (helds_without (versions_of gs)) (without_absent hs xs none)
+
+pub without_second : (hs gs xs : List Held) → AreNoneOf gs xs → helds_without (versions_of hs ++ versions_of gs) xs ≡ helds_without (versions_of hs) xs
+without_second hs gs xs none =
+    sym (without-append (versions_of hs) (versions_of gs) xs) ∙ filter-swap _ _ xs ∙ ap (helds_without (versions_of hs)) (without_absent gs xs none)
+
+-- what stands in one of two sets stands not in the other, where no version is held twice
+pub none_of_others : (hs xs ys : List Held) → AllByRecursion (λ h. has_version_of h.picture h.version xs ≡ true) hs → ((v : Version) → count_of v xs + count_of v ys ≤ 1) → AreNoneOf hs ys
+none_of_others [] xs ys held once = tt
+none_of_others (h ∷ hs) xs ys held once =
+    let test = λ (g : Held). same_version g.version h.version in
+    let here = sym (any_counted test xs) ∙ any_wider _ test (λ g is. grind arith) xs held.0 in
+    let both = once h.version in
+    (grind (arith, nat_tests), none_of_others hs xs ys held.1 once)
+
+-- a set that gives versions up: those that are left to go, and what it has now
+pub record IsGivingUp (gone before left now : List Held) : Type 0 where
+  pub once : (v : Version) → count_of v now ≤ 1
+  pub rest : helds_without (versions_of left) now ≡ helds_without (versions_of gone) before
+
+pub one_given_up : (gone before : List Held) (h : Held) (left now : List Held) → IsGivingUp gone before (h ∷ left) now → IsGivingUp gone before left (helds_without (h.version ∷ []) now)
+one_given_up gone before h left now is = record {
+  once = λ v. let was = is.once v in omega (arith, count_of-filter v (λ (g : Held). not (is_listed (h.version ∷ []) g.version)) now);
+  rest = without-cons h.version (versions_of left) now ∙ is.rest;
 }
 
--- What is handed over
+pub all_given_up : (gone before now : List Held) → IsGivingUp gone before [] now → now ≡ helds_without (versions_of gone) before
+all_given_up gone before now is = sym (without_none now) ∙ is.rest
 
--- what a search by the code's test took out
-pub told_by_test : (v : Version) (old shown new : List Held) (found : Option Held) {F : Type 0} {f : Mut F (Bor Held × Unit {0}) Bool} {pred : F} → IfNone found (new ≡ old) → IfNone found ((p : Held → Bool) → ComputesKey f p pred → list_any p old ≡ false)
+-- what is left of a set, where a search by the code's test took out what it found
+pub left_by_test : (v : Version) (old shown new : List Held) (found : Option Held) {F : Type 0} {f : Mut F (Bor Held × Unit {0}) Bool} {pred : F} → IfNone found (new ≡ old) → IfNone found ((p : Held → Bool) → ComputesKey f p pred → list_any p old ≡ false)
     → IfSome found (λ x. (p : Held → Bool) → ComputesKey f p pred → IsTakenOut p old x new) → old ≡ shown → count_of v shown ≤ 1
     → ((a : Bor Held × Unit {0}) (r : Bool) (f' : F) → Called f pred a r f' → (r ≡ same_version a.0.now.version v) × (f' ≡ pred))
-    → (found ≡ find_version v shown) × (new ≡ helds_without (v ∷ []) shown)
-told_by_test v old shown new None {f = f} {pred = pred} kept absent taken is once same =
+    → new ≡ helds_without (v ∷ []) shown
+left_by_test v old shown new None {f = f} {pred = pred} kept absent taken is once same =
     let test = λ (h : Held). same_version h.version v in
     let none = rw is at (absent test (always_returns_same f (λ a r. r ≡ test a.0.now) pred same)) in
-    let zero : count_of v shown ≡ 0 = (let counted = sym (any_counted test shown) ∙ none in grind (arith, nat_tests)) in
-    (sym (not_found v shown zero), kept ∙ is ∙ sym (without_one v shown ∙ none_out test shown none))
-told_by_test v old shown new (Some x) {f = f} {pred = pred} kept absent taken is once same =
+    kept ∙ is ∙ sym (without_one v shown ∙ none_out test shown none)
+left_by_test v old shown new (Some x) {f = f} {pred = pred} kept absent taken is once same =
     let test = λ (h : Held). same_version h.version v in
     let out = rw is at (taken test (always_returns_same f (λ a r. r ≡ test a.0.now) pred same)) in
     let only = only_one test shown out.place x once out.at out.passes in
-    (only.0, out.rest ∙ only.1 ∙ sym (without_one v shown))
-
-abbrev one_in : Version → Version → ℕ
-one_in v w = cond (same_version w v) 1 0
-
-found_all_still : (v : Version) (left : List Version) (xs : List Held) → times_in v left ≡ 0 → helds_at left (helds_without (v ∷ []) xs) ≡ helds_at left xs
-found_all_still v [] xs none = refl
-found_all_still v (w ∷ left) xs none =
-    let rest = found_all_still v left xs in
-    let all = count-cons (λ u. same_version u v) w left in
-    let still : same_version w v ≡ false → find_version w (helds_without (v ∷ []) xs) ≡ find_version w xs = λ apart.
-    found_still (λ (h : Held). same_version h.version w) (λ h. not (is_listed (v ∷ []) h.version)) (λ h is. grind (arith, nat_tests)) xs in
-    grind (arith, nat_tests)
-
--- a set that hands versions over: those that are left to be asked for, what it has now, and what the list has now
-pub record IsHanding (versions : List Version) (before list_before : List Held) (left : List Version) (now handed : List Held) : Type 0 where
-  pub once : (v : Version) → count_of v now ≤ 1
-  pub distinct : (v : Version) → times_in v left ≤ 1
-  pub rest : helds_without left now ≡ helds_without versions before
-  pub list : handed ++ helds_at left now ≡ list_before ++ helds_at versions before
-
-pub has_ended : (versions : List Version) (before list_before now handed : List Held) → IsHanding versions before list_before [] now handed → (now ≡ helds_without versions before) × (handed ≡ list_before ++ helds_at versions before)
-has_ended versions before list_before now handed is = (sym (without_none now) ∙ is.rest, sym (append-nil handed) ∙ is.list)
-
--- one version more, of which that was found
-pub has_handed : (versions : List Version) (before list_before : List Held) (v : Version) (left : List Version) (now handed more : List Held) → IsHanding versions before list_before (v ∷ left) now handed
-    → more ≡ cons_option (find_version v now) [] → IsHanding versions before list_before left (helds_without (v ∷ []) now) (handed ++ more)
-has_handed versions before list_before v left now handed more is found =
-    let here = is.distinct v in
-    let self = same_version_self v in
-    let none : times_in v left ≡ 0 = (let one : one_in v v ≡ 1 = rw self refl in omega (arith, count-cons (λ u. same_version u v) v left)) in
-    record {
-      once = λ w. let was = is.once w in omega (arith, count_of-filter w (λ (h : Held). not (is_listed (v ∷ []) h.version)) now);
-      distinct = λ w. let was = is.distinct w in omega (arith, count-cons (λ u. same_version u w) v left);
-      rest = without-cons v left now ∙ is.rest;
-      list = append_assoc handed more _ ∙ (λ i. handed ++ (found i ++ found_all_still v left now none i)) ∙ ap (λ l. handed ++ l) (joined (find_version v now) (helds_at left now)) ∙ is.list;
-    }
-  where
-    joined : (o : Option Held) (l : List Held) → cons_option o [] ++ l ≡ cons_option o l
-    joined None l = refl
-    joined (Some x) l = refl
-
--- the next of them
-pub next_asked : (versions : List Version) (i : ℕ) (v : Version) → i < length versions → v ≡ get_or versions i v → drop i versions ≡ v ∷ drop (i + 1) versions
-next_asked versions i v within is = drop_more versions i v within ∙ ap (λ w. w ∷ drop (i + 1) versions) (sym is)
+    out.rest ∙ only.1 ∙ sym (without_one v shown)

@@ -9,7 +9,7 @@ use Rattle.item_knowledge.specs.Fragments.{Fragment, knows}
 use Rattle.photo_device.specs.Held.{count_of}
 use Rattle.photo_device.specs.Device.{Kept, Staging}
 use Rattle.photo_device.specs.Own.{HasEarlier, IsKnownBy}
-use Rattle.photo_device.specs.Examples.{nth, first, edited, other, gain, learned, MayStageAsTold, HasStagedAsTold, MayHandAsTold, TheRowsOfNotes, TheTables, TheNexts}
+use Rattle.photo_device.specs.Examples.{nth, first, edited, other, gain, learned, MayStageAsTold, HasStagedAsTold, MayHandAsTold, TheCacheRows, TheTables, TheNexts}
 
 no : false ≡ true → ⊥
 no e = false≢true e
@@ -36,7 +36,8 @@ two v = grind (arith, nat_tests)
 pub may_stage_as_told : MayStageAsTold
 may_stage_as_told = record {
   edit = record {
-    held = (refl, tt);
+    stored = (refl, tt);
+    waiting = tt;
     new = (refl, tt);
     distinct = λ v. grind (arith, nat_tests);
     earlier = (edited_earlier, tt);
@@ -46,8 +47,9 @@ may_stage_as_told = record {
       later = λ p v above later. grind (arith, nat_tests);
     };
   };
-  none = record { held = tt; new = tt; distinct = λ v. omega arith; earlier = tt; known = tt; own = record { own = λ p n above e. absurd (no e); later = λ p v above later. refl } };
-  not_held = λ m. no m.held.0;
+  none = record { stored = tt; waiting = tt; new = tt; distinct = λ v. omega arith; earlier = tt; known = tt; own = record { own = λ p n above e. absurd (no e); later = λ p v above later. refl } };
+  not_held = λ m. no m.stored.0;
+  elsewhere = λ m. no m.waiting.0;
   found = refl;
   held = λ m. no (sym (ap is_some m.new.0));
   count = refl;
@@ -99,8 +101,8 @@ may_hand_as_told = record {
   not_known = λ m. no m.known.0.itself;
 }
 
-pub the_rows_of_notes : TheRowsOfNotes
-the_rows_of_notes = record { first = refl; last = refl; next_epoch = refl; later = refl }
+pub the_cache_rows : TheCacheRows
+the_cache_rows = record { first = refl; last = refl; next_epoch = refl; later = refl }
 
 pub the_tables : TheTables
 the_tables = record {

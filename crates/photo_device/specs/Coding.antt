@@ -1,5 +1,4 @@
--- No definition, but a tool of the proofs: what a device keeps, as the tuple of its parts, by which a proof tells two of
--- them apart.
+-- Machinery of the proofs: a device's value as the tuple of its parts, by which a proof tells two values apart.
 use Rattle.std.specs.Prelude.{ℕ, List, Option, refl}
 use Rattle.std.specs.Coded.{Coded, code_by, coded×, coded_ℕ, coded_list, coded_option}
 use Rattle.photo_filter_text.specs.Tree.{Tree}

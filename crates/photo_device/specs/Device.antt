@@ -1,4 +1,4 @@
--- What a device of the program keeps, and the model device that it shows.
+-- What contracts see of a device of the program, and the model device that it shows.
 use Rattle.std.specs.Prelude.{◌≡◌, ℕ, ◌<◌, List, Option, None}
 use Rattle.photo_filter_text.specs.Tree.{Tree}
 use Rattle.photo_model.specs.declared.place.Place.{Place}
@@ -10,15 +10,14 @@ use Rattle.item_knowledge.specs.Fragments.{Fragment, knows}
 use Rattle.photo_model.specs.Device.{ModelDevice, known}
 use Rattle.photo_device.specs.Held.{entries_of, held_of_others, replaced}
 
--- a change that is staged: what is to be given up and taken, what will be known then, and for how many handed versions
--- there is room besides
+-- a staged change: the versions to drop and to take, what will be known, and how many handed versions there is room for
 pub record Staging : Type 0 where
   pub drops : List Version
   pub takes : List Held
   pub knowledge : List Fragment
   pub room : ℕ
 
--- what a device of the program keeps, and the change that is staged on it, if one is
+-- what contracts see of a device of the program, with the staged change, if there is one
 pub record Kept : Type 0 where
   pub author : Author
   pub tree : Tree
@@ -32,11 +31,11 @@ pub record Kept : Type 0 where
 abbrev pub unstaged : Kept → Kept
 unstaged d = record d { staged = None }
 
--- 'as it was' doesn't speak of what is staged
+-- a device is as it was, but for what is staged
 abbrev pub IsAsItWas : Kept → Kept → Type 0
 IsAsItWas old new = unstaged new ≡ unstaged old
 
--- a version is held at a place, and nothing else of its picture: what that makes of the store and of the out
+-- the store and the out when a version is held at a place, and nothing else of its picture
 
 abbrev pub store_with : Place → Held → List Held → List Held
 store_with Store held store = replaced held store
@@ -49,7 +48,7 @@ out_with Out held out = replaced held out
 abbrev pub held_at : Place → Held → Kept → Kept
 held_at place held d = record d { store = store_with place held d.store; out = out_with place held d.out }
 
--- the device shows the model device: what it knows of a picture is all that counts of its knowledge
+-- the device shows the model device; of its knowledge, only what it knows of each picture counts
 pub record Shows (d : Kept) (m : ModelDevice) : Type 0 where
   pub author : d.author ≡ m.author
   pub tree : d.tree ≡ m.tree

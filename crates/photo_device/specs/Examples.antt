@@ -1,4 +1,4 @@
--- Changes that may be staged, versions that may be handed over with them, and what staging leaves, worked.
+-- Worked examples: changes that may be staged, versions that may be handed over with them, and what staging leaves.
 use Rattle.std.specs.Prelude.{◌≡◌, ℕ, true, false, pos, List, [], ◌∷◌, Some, None}
 use Rattle.photo_record.specs.declared.record.Record.{Record}
 use Rattle.photo_record.specs.declared.record.Record.TheVariants.{Picture}
@@ -10,18 +10,18 @@ use Rattle.item_knowledge.specs.Fragments.{Fragment, knows}
 use Rattle.photo_device.specs.declared.held.Held.{Held}
 use Rattle.photo_device.specs.Held.{find_version, count_of}
 use Rattle.photo_device.specs.Device.{Kept, Staging}
-use Rattle.photo_device.specs.Anew.{HasBesides, IsNextOf, is_second_next}
-use Rattle.photo_device.specs.Noted.{author_of_row}
+use Rattle.photo_device.specs.Resorted.{HasBesides, IsNextOf, is_second_next}
+use Rattle.photo_device.specs.Cached.{author_of_row}
 use Rattle.photo_device.specs.Staging.{HasStaged, MayHand, MayStage}
 
 abbrev pub bright : Record
 bright = Picture 5 (pos 19_844) []
 
--- a version of the device at a place
+-- the version with that number of the device at that place
 abbrev pub nth : ℕ → ℕ → Version
 nth place number = version (author place) number
 
--- the bound of the device at a place
+-- the bound with that number of the device at that place
 abbrev pub bound : ℕ → ℕ → ℕ × ℕ
 bound place number = (author_word (author place), number)
 
@@ -42,7 +42,7 @@ edited = held_of 7 (nth 1 1) ((author 0, 1) ∷ [])
 abbrev pub other : Held
 other = held_of 9 (nth 2 1) []
 
--- the first device, which holds and knows just what it made
+-- the first device, which holds and knows exactly what it made
 abbrev pub camera : Kept
 camera = record {
   author = author 0;
@@ -54,80 +54,82 @@ camera = record {
   staged = None;
 }
 
--- what it is to learn: of picture 7 the edit with what that was made with, and of picture 9 the version there is
+-- what the camera learns: of picture 7 the edit with its history, and of picture 9 its version
 abbrev pub gain : List Fragment
 gain = of [] [] ∷ of (7 ∷ []) (bound 0 1 ∷ bound 1 1 ∷ []) ∷ of (9 ∷ []) (bound 2 1 ∷ []) ∷ []
 
--- what it will know then
+-- what the camera will then know
 abbrev pub learned : List Fragment
 learned = of [] (bound 0 1 ∷ []) ∷ of (7 ∷ []) (bound 0 1 ∷ bound 1 1 ∷ []) ∷ of (9 ∷ []) (bound 0 1 ∷ bound 2 1 ∷ []) ∷ []
 
--- the change by which the edit takes the place of the first version, with room for one that is handed over
+-- a change that takes the edit in place of the first version, with room for one handed version
 abbrev pub change : Staging
 change = record { drops = nth 0 1 ∷ []; takes = edited ∷ []; knowledge = learned; room = 1 }
 
 abbrev pub ready : Kept
 ready = record camera { staged = Some change }
 
--- which changes may be staged on the camera, and, before a ⊥, which may not
+-- changes that may be staged on the camera, and, before a ⊥, changes that may not
 pub record MayStageAsTold : Type 0 where
-  pub edit : MayStage (nth 0 1 ∷ []) (edited ∷ []) gain camera
-  -- a change of nothing
-  pub none : MayStage [] [] [] camera
-  -- a version is given up that isn't held
-  pub not_held : MayStage (nth 1 1 ∷ []) (edited ∷ []) gain camera → ⊥
-  -- one is taken that is held, though it is given up as well
+  pub edit : MayStage (first ∷ []) [] (edited ∷ []) gain camera
+  -- an empty change
+  pub none : MayStage [] [] [] [] camera
+  -- it drops a version that isn't held
+  pub not_held : MayStage (edited ∷ []) [] (edited ∷ []) gain camera → ⊥
+  -- it drops from the out a version that is in the store
+  pub elsewhere : MayStage [] (first ∷ []) (edited ∷ []) gain camera → ⊥
+  -- it takes a held version, although it also drops that one
   pub found : find_version (nth 0 1) camera.store ≡ Some first
-  pub held : MayStage (nth 0 1 ∷ []) (first ∷ []) gain camera → ⊥
-  -- one is taken twice
+  pub held : MayStage (first ∷ []) [] (first ∷ []) gain camera → ⊥
+  -- it takes a version twice
   pub count : count_of (nth 1 1) (edited ∷ edited ∷ []) ≡ 2
-  pub twice : MayStage (nth 0 1 ∷ []) (edited ∷ edited ∷ []) gain camera → ⊥
-  -- one is taken that is its author's second, and was made without the first
-  pub gap : MayStage [] (held_of 7 (nth 1 2) [] ∷ []) (of [] (bound 1 2 ∷ []) ∷ []) camera → ⊥
-  -- one is taken and not learned, or without what it was made with, or of another picture alone
-  pub not_learned : MayStage (nth 0 1 ∷ []) (edited ∷ []) [] camera → ⊥
-  pub no_history : MayStage (nth 0 1 ∷ []) (edited ∷ []) (of [] [] ∷ of (7 ∷ []) (bound 1 1 ∷ []) ∷ []) camera → ⊥
-  pub of_another : MayStage (nth 0 1 ∷ []) (edited ∷ []) (of [] [] ∷ of (9 ∷ []) (bound 0 1 ∷ bound 1 1 ∷ []) ∷ []) camera → ⊥
-  -- the camera learns of a second version of its own, and has made one
-  pub not_made : MayStage [] [] (of [] [] ∷ of (9 ∷ []) (bound 0 2 ∷ []) ∷ []) camera → ⊥
-  -- it learns of a version of a later epoch of its own
-  pub too_late : MayStage [] [] (of [] [] ∷ of (9 ∷ []) ((author_word (author_at 0 1), 1) ∷ []) ∷ []) camera → ⊥
+  pub twice : MayStage (first ∷ []) [] (edited ∷ edited ∷ []) gain camera → ⊥
+  -- it takes an author's second version whose history lacks the first
+  pub gap : MayStage [] [] (held_of 7 (nth 1 2) [] ∷ []) (of [] (bound 1 2 ∷ []) ∷ []) camera → ⊥
+  -- it takes a version that isn't learned, or is learned without its history, or of another picture alone
+  pub not_learned : MayStage (first ∷ []) [] (edited ∷ []) [] camera → ⊥
+  pub no_history : MayStage (first ∷ []) [] (edited ∷ []) (of [] [] ∷ of (7 ∷ []) (bound 1 1 ∷ []) ∷ []) camera → ⊥
+  pub of_another : MayStage (first ∷ []) [] (edited ∷ []) (of [] [] ∷ of (9 ∷ []) (bound 0 1 ∷ bound 1 1 ∷ []) ∷ []) camera → ⊥
+  -- it learns a second version of the camera's own, which has made one
+  pub not_made : MayStage [] [] [] (of [] [] ∷ of (9 ∷ []) (bound 0 2 ∷ []) ∷ []) camera → ⊥
+  -- it learns a version of a later epoch of the camera
+  pub too_late : MayStage [] [] [] (of [] [] ∷ of (9 ∷ []) ((author_word (author_at 0 1), 1) ∷ []) ∷ []) camera → ⊥
 
--- what staging the change leaves, and, before a ⊥, what it doesn't
+-- what staging the change leaves, and, before a ⊥, what it doesn't leave
 pub record HasStagedAsTold : Type 0 where
   pub edit : HasStaged (nth 0 1 ∷ []) (edited ∷ []) gain 1 camera ready
-  -- not yet known, and to be known of its picture alone
+  -- the edit isn't yet known, and will be known of its picture alone
   pub not_yet : knows ready.knowledge 7 (nth 1 1) ≡ false
   pub will : knows learned 7 (nth 1 1) ≡ true
   pub of_nine : knows learned 9 (nth 1 1) ≡ false
-  -- what was known stays known of each picture
+  -- what was known stays known, of each picture
   pub still : knows learned 8 (nth 0 1) ≡ true
-  -- nothing is staged, or with other room
+  -- nothing is staged, or the room is another
   pub nothing : HasStaged (nth 0 1 ∷ []) (edited ∷ []) gain 1 camera camera → ⊥
   pub other_room : HasStaged (nth 0 1 ∷ []) (edited ∷ []) gain 2 camera ready → ⊥
-  -- the first version is given up at once
+  -- the first version is dropped at once
   pub at_once : HasStaged (nth 0 1 ∷ []) (edited ∷ []) gain 1 camera (record ready { store = [] }) → ⊥
   -- the edit will not be known
   pub forgotten : HasStaged (nth 0 1 ∷ []) (edited ∷ []) gain 1 camera (record camera { staged = Some (record change { knowledge = camera.knowledge }) }) → ⊥
-  -- it will be known of every picture
+  -- the edit will be known of every picture
   pub of_every : HasStaged (nth 0 1 ∷ []) (edited ∷ []) gain 1 camera (record camera { staged = Some (record change { knowledge = of [] (bound 0 1 ∷ bound 1 1 ∷ bound 2 1 ∷ []) ∷ [] }) }) → ⊥
 
--- which versions may be handed to the camera with that change, and, before a ⊥, which may not
+-- versions that may be handed to the camera with that change, and, before a ⊥, versions that may not
 pub record MayHandAsTold : Type 0 where
   pub new_one : MayHand (other ∷ []) change ready
   pub none : MayHand [] change ready
   -- there is room for fewer
   pub no_room : MayHand (other ∷ []) (record change { room = 0 }) ready → ⊥
-  -- it is handed over twice, though there is room for two
+  -- a version is handed over twice, although there is room for two
   pub twice : MayHand (other ∷ other ∷ []) (record change { room = 2 }) ready → ⊥
-  -- it is taken, or held, though that one is to be given up
+  -- the version is taken too, or is held, although that one is to be dropped
   pub taken : MayHand (edited ∷ []) change ready → ⊥
   pub held : MayHand (first ∷ []) change ready → ⊥
-  -- it will not be known
+  -- the version will not be known
   pub not_known : MayHand (other ∷ []) (record change { knowledge = camera.knowledge }) ready → ⊥
 
--- whose row of notes stands at a place
-pub record TheRowsOfNotes : Type 0 where
+-- the author of a row of the cache
+pub record TheCacheRows : Type 0 where
   pub first : author_of_row 0 ≡ author 0
   pub last : author_of_row 255 ≡ author 255
   pub next_epoch : author_of_row 256 ≡ author_at 0 1
@@ -137,27 +139,27 @@ pub record TheRowsOfNotes : Type 0 where
 abbrev pub of_seven : List (ℕ × List Bound)
 of_seven = (7, (author 0, 1) ∷ []) ∷ []
 
--- what it has besides, of that picture and of one behind it, and, before a ⊥, what it hasn't
+-- what a table has besides, of that picture and of a later one, and, before a ⊥, what it doesn't have
 pub record TheTables : Type 0 where
   pub joined : HasBesides of_seven ((7, (author 0, 1) ∷ (author 1, 1) ∷ []) ∷ []) 7 (denotes ((author 1, 1) ∷ []))
   pub behind : HasBesides of_seven ((7, (author 0, 1) ∷ []) ∷ (8, (author 1, 1) ∷ []) ∷ []) 8 (denotes ((author 1, 1) ∷ []))
-  -- it is told of another picture
+  -- the versions are told of another picture
   pub of_another : HasBesides of_seven ((7, (author 0, 1) ∷ (author 1, 1) ∷ []) ∷ []) 8 (denotes ((author 1, 1) ∷ [])) → ⊥
-  -- what there was is lost
+  -- the table loses what it had
   pub lost : HasBesides of_seven ((7, (author 1, 1) ∷ []) ∷ []) 7 (denotes ((author 1, 1) ∷ [])) → ⊥
 
 abbrev second : Held
 second = held_of 8 (nth 1 1) []
 
--- two lists, each of one version, gone along together
+-- a cursor along two lists of one version each
 pub record TheNexts : Type 0 where
   pub lesser_first : is_second_next (second ∷ []) (first ∷ []) ≡ true
   pub greater_later : is_second_next (first ∷ []) (second ∷ []) ≡ false
-  -- of the same picture the first list's comes first
+  -- of the same picture, the first list's version comes first
   pub same_picture : is_second_next (first ∷ []) (first ∷ []) ≡ false
   pub last_ones : is_second_next [] (first ∷ []) ≡ true
   pub next : IsNextOf first (second ∷ first ∷ []) (second ∷ [])
-  -- a version of a lesser picture would be left
+  -- a version of a lesser picture is left behind
   pub too_early : IsNextOf second (second ∷ first ∷ []) (first ∷ []) → ⊥
   -- a version is lost
   pub one_lost : IsNextOf first (second ∷ first ∷ []) [] → ⊥

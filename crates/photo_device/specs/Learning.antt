@@ -1,4 +1,4 @@
--- Machinery of the proofs: an author's next version is held, and known of every picture.
+-- Machinery of the proofs: a device holds its author's next version, and knows it of every picture.
 use Rattle.std.specs.Prelude.{◌≡◌, ℕ, ◌+◌, ◌<◌, ◌≤◌, ◌||◌, true, if◌then◌else◌, List, None}
 use Rattle.photo_version.specs.Author.{Author, same_author}
 use Rattle.photo_version.specs.Version.{Version, version, same_version}
@@ -9,7 +9,7 @@ use Rattle.photo_device.specs.declared.held.Held.{Held}
 use Rattle.photo_model.specs.declared.place.Place.{Place}
 use Rattle.photo_device.specs.Device.{store_with, out_with}
 
--- it is the next one of its author, of which no further version is known
+-- the version is its author's next one, and no later version of the author is known
 pub record IsNextKnown (v : Version) (known : List Fragment) : Type 0 where
   pub next : v.number ≡ star_bound known v.author + 1
   pub level : (p n : ℕ) → 0 < p → knows known p (version v.author n) ≡ true → n ≤ star_bound known v.author

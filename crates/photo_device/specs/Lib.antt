@@ -1,12 +1,12 @@
 pub mod Held
-pub mod Noted
+pub mod Cached
 pub mod Device
 pub mod Telling
 pub mod Learning
 pub mod Own
 pub mod Staging
 pub mod Taking
-pub mod Anew
+pub mod Resorted
 pub mod Examples
 pub mod Coding
 pub use Rattle.photo_record.specs.Limits

@@ -3,7 +3,7 @@ use crate::VersionList;
 use photo_record::PicNo;
 use std::marker::Model;
 
-/// A picture of which two or more versions are held, with them in order.
+/// A picture of which a device holds two or more versions, and these versions in order.
 #[derive(Debug, Drop)]
 pub struct Conflict {
     pub picture: PicNo,

@@ -1,16 +1,15 @@
-//! The pictures of which two or more versions are held.
+//! The pictures of which a device holds two or more versions.
 ghost use Rattle.std.specs.Prelude.{◌≡◌, ◌<◌, ◌++◌, true, map, length, IfOk};
 ghost use Rattle.photo_device.specs.Held.{entries_of, are_in_order, put_helds};
 ghost use Rattle.photo_device.specs.Taking.{AreNewTo};
 ghost use Rattle.photo_model.specs.Conflicts.{conflicts_in};
 
-use crate::anew::listed;
+use crate::resorted::listed;
 use crate::takes::put_in;
 use crate::{Conflict, HeldSet, SharedHeld, VersionList};
 use std::alloc::{AllocError, Global};
 
-/// The conflicts of what two sets hold together, each version once, in the order of pictures. Its only error is want of
-/// memory.
+/// The conflicts of what two sets hold together, in the order of pictures. The only error is refused memory.
 pub fn conflicts_of(store: &HeldSet, out: &HeldSet) -> Result<Vec<Conflict>, AllocError>
     requires { AreNewTo out.now store.now }
     ensures { IfOk result (λ list. list.items ≡ conflicts_in (entries_of (put_helds store.now out.now))) }
@@ -20,7 +19,7 @@ pub fn conflicts_of(store: &HeldSet, out: &HeldSet) -> Result<Vec<Conflict>, All
     grouped(store.alloc(), list.as_slice())
 }
 
-// What two sets hold as one, which shares it. Its only error is want of memory.
+// One set with what two sets hold; the versions are shared. The only error is refused memory.
 fn joined(store: &HeldSet, out: &HeldSet) -> Result<HeldSet, AllocError>
     requires { AreNewTo out.now store.now }
     ensures { IfOk result (λ all. all ≡ put_helds store.now out.now) }
@@ -35,7 +34,7 @@ fn joined(store: &HeldSet, out: &HeldSet) -> Result<HeldSet, AllocError>
     Ok(all)
 }
 
-// The conflicts of versions in order.
+// The conflicts in a list of versions in order.
 fn grouped(alloc: Global, all: &[SharedHeld]) -> Result<Vec<Conflict>, AllocError>
     requires { are_in_order all.now ≡ true }
     ensures { IfOk result (λ list. list.items ≡ conflicts_in (entries_of all.now)) }
@@ -48,8 +47,8 @@ fn grouped(alloc: Global, all: &[SharedHeld]) -> Result<Vec<Conflict>, AllocErro
     Ok(conflicts)
 }
 
-// Adds the conflict of the first picture, if it has two or more versions, and gives those of other pictures. After an error
-// it may be missing.
+// Adds the conflict of the first picture, if the picture has two or more versions. Returns the versions of the other
+// pictures. After an error the conflict may be missing.
 fn add_first<'a>(
     alloc: Global,
     all: &'a [SharedHeld],
@@ -71,7 +70,7 @@ fn add_first<'a>(
     Ok(others)
 }
 
-// The versions alone.
+// The versions of the held versions.
 fn versions_of(alloc: Global, run: &[SharedHeld]) -> Result<VersionList, AllocError>
     ensures { IfOk result (λ list. list ≡ map (λ h. h.version) run.now) }
 {

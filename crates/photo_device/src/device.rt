@@ -1,27 +1,26 @@
-// A device: what it is seen as, and its calls.
+// A device: what contracts see of it, and its calls.
 ghost use Rattle.std.specs.Prelude.{◌≡◌, ◌+◌, None, IfOk, OnOk, OnErr};
 ghost use Rattle.photo_device.specs.Device.{store_with, out_with};
 ghost use Rattle.photo_device.specs.Learning.{IsHeldNext, IsNextKnown};
 
-use crate::anew::{Anew, held_anew, narrowed};
-use crate::drops::give_up;
-use crate::noted_knowledge::NotedKnowledge;
+use crate::cached_knowledge::CachedKnowledge;
 use crate::placing::place_of;
 use crate::prepared::Prepared;
+use crate::resorted::{Resorted, narrowed, resort};
 use crate::takes::{rooms, take_in};
 use crate::{
-    Change, ChangeFault, Conflict, Held, HeldSet, NarrowFault, Place, SharedHeld, SharedList,
-    VersionList, conflicts,
+    Change, ChangeFault, Conflict, Held, HeldSet, NarrowFault, Place, SharedHeld, conflicts,
 };
-use item_knowledge::{Knowledge, Told};
+use block_list::Room;
+use item_knowledge::Knowledge;
 use photo_filter_rules::{Filter, covers};
 use photo_record::{PicNo, Record};
 use photo_version::{Author, Version};
 use std::alloc::{AllocError, Global};
 use std::marker::Model;
 
-/// A device: who it is, which versions it is to keep, how many it has made, those that it holds, and of which picture
-/// which versions it knows.
+/// A device of the household. It has an author, a filter that says which versions it keeps, a counter of the versions that it
+/// made, the versions that it holds, and what it knows of each picture.
 #[derive(Debug, Drop)]
 pub struct Device {
     author: Author,
@@ -29,7 +28,7 @@ pub struct Device {
     counter: u32,
     store: HeldSet,
     out: HeldSet,
-    knowledge: NotedKnowledge,
+    knowledge: CachedKnowledge,
     prepared: Option<Prepared>,
 }
 
@@ -67,29 +66,28 @@ impl Model for Device {
 impl Device {
     ghost use Rattle.std.specs.Prelude.{◌≡◌, ◌≢◌, ◌+◌, ◌<◌, ◌≤◌, ◌||◌, ◌++◌, true, false, not, filter, is_some, length, None};
     ghost use Rattle.std.specs.Prelude.{Err, IfOk, IfErr, IfSome, OnOk, OnErr};
-    ghost use Rattle.std.specs.Prelude.{vec_len, vec_capacity};
     ghost use Rattle.std.specs.List.{AllByRecursion, list_any};
     ghost use Rattle.std.specs.Option.{option_copied, option_map};
     ghost use Rattle.photo_model.specs.Entry.{find_entry};
-    ghost use Rattle.photo_device.specs.Held.{are_in_order, find_version, find_version_of, has_picture, count_of, times_in};
-    ghost use Rattle.photo_device.specs.Held.{entry_of, entries_of, helds_at};
+    ghost use Rattle.photo_device.specs.Held.{are_in_order, find_version, find_version_of, has_picture, count_of, versions_of};
+    ghost use Rattle.photo_device.specs.Held.{entry_of, entries_of};
     ghost use Rattle.photo_device.specs.Own.{HasEarlier, HasMade, IsDevice, IsKnownBy, IsNext, KnowsItsOwn, KnowsNoMore};
-    ghost use Rattle.photo_device.specs.Staging.{HasStaged, MayHand, MayStage, IsReadied};
+    ghost use Rattle.photo_device.specs.Staging.{HasStaged, MayHand, MayStage, IsRoomFor, gained, versions_in};
     ghost use Rattle.photo_version.specs.Author.{epoch_of_author};
     ghost use Rattle.photo_version.specs.Version as versions;
     ghost use Rattle.item_knowledge.specs.Fragments.{knows};
     ghost use Rattle.photo_model.specs.Device.{ModelDevice, holds, is_held, opening, made, next_version, new_place, changed, without_waiting, narrowed, moved};
     ghost use Rattle.photo_device.specs.Device.{Shows, unstaged, IsAsItWas};
     ghost use Rattle.photo_model.specs.Refiltered.{refiltered};
-    ghost use Rattle.photo_device.specs.Anew.{IsAnew};
+    ghost use Rattle.photo_device.specs.Resorted.{IsResorted};
     ghost use Rattle.photo_model.specs.Conflicts.{conflicts_of};
     ghost use Rattle.photo_record.specs.declared.record.Record.TheVariants.{Removed};
     ghost use Rattle.photo_device.specs.declared.fault.ChangeFault.TheVariants.{NotHeld};
     ghost use Rattle.photo_device.specs.declared.fault.NarrowFault.TheVariants.{NotNarrower, NoMemory};
     ghost use Rattle.photo_filter_rules.specs.Covers.{covers};
 
-    /// A device that has made, holds and knows nothing, and is to keep what the filter matches. Its only error is want
-    /// of memory, which gives the filter back.
+    /// A device that has made, holds and knows nothing, and keeps what the filter matches. The only error is refused
+    /// memory, which gives the filter back.
     pub fn new(
         alloc: Global,
         author: Author,
@@ -106,15 +104,15 @@ impl Device {
                 counter: 0,
                 store: HeldSet::new(alloc),
                 out: HeldSet::new(alloc),
-                knowledge: NotedKnowledge::new(alloc, knowledge),
+                knowledge: CachedKnowledge::new(alloc, knowledge),
                 prepared: None,
             }),
             Err(refused) => Err((filter, refused)),
         }
     }
 
-    /// The same device with nothing staged, which goes its own way from then on. The held versions are shared. Its only error
-    /// is want of memory.
+    /// A copy with nothing staged; a change of either device doesn't change the other. They share the held versions.
+    /// The only error is refused memory.
     pub fn try_clone(&self) -> Result<Device, AllocError>
         ensures { IfOk result (λ copy. copy ≡ unstaged self.now) }
     {
@@ -126,18 +124,18 @@ impl Device {
             author: self.author,
             filter,
             counter: self.counter,
-            knowledge: NotedKnowledge::new(store.alloc(), knowledge),
+            knowledge: CachedKnowledge::new(store.alloc(), knowledge),
             store,
             out,
             prepared: None,
         })
     }
 
-    /// Makes the device's next version of a picture, in the place of all that it held of that picture. Its history is
-    /// what the device knew of the picture, and from then on the device knows it of every picture.
+    /// Makes the device's next version of a picture, in place of all that it held of the picture. The version's history
+    /// is what the device knew of the picture. From then on the device knows the version, of every picture.
     ///
-    /// It goes into the store where the filter matches its record, and into the out otherwise. Gives the version
-    /// and where it went. After want of memory the device is as it was. Nothing is staged then in any case.
+    /// The version goes into the store where the filter matches its record, else into the out. Returns the version and
+    /// its place. Refused memory leaves the device as it was. Nothing is staged after any result.
     pub fn make(&mut self, picture: PicNo, content: &Record) -> Result<(Version, Place), AllocError>
         requires { self.old.counter < 4_294_967_295 }
         ensures shows { IfOk result (λ answer. (m : ModelDevice) → Shows self.old m → Shows self.new (made m picture content.now)) }
@@ -161,7 +159,7 @@ impl Device {
         Ok((version, place))
     }
 
-    // Holds its next version at a place, counts it, and knows it of every picture. An error leaves the device as it was.
+    // Holds the next version at a place, counts it, and knows it of every picture. An error leaves the device as it was.
     fn add(&mut self, place: Place, held: SharedHeld) -> Result<(), AllocError>
         requires next { IsNext held self.old }
         requires unstaged { self.old.staged ≡ None }
@@ -169,7 +167,7 @@ impl Device {
         ensures err { OnErr result (self.new ≡ self.old) }
     {
         let version = held.version();
-        self.knowledge.make_place(version);
+        self.knowledge.reserve(version);
         hold_next(
             &mut self.store,
             &mut self.out,
@@ -181,28 +179,28 @@ impl Device {
         Ok(())
     }
 
-    /// Who it is as an author of versions.
+    /// The device as an author of versions.
     pub fn author(&self) -> Author
         ensures { result ≡ self.now.author }
     {
         self.author
     }
 
-    /// Which versions it is to keep.
+    /// The filter: which versions the device keeps.
     pub fn filter(&self) -> &Filter
         ensures { result.now ≡ self.now.tree }
     {
         &self.filter
     }
 
-    /// How many versions it has made.
+    /// How many versions the device has made in this epoch.
     pub fn counter(&self) -> u32
         ensures { result ≡ self.now.counter }
     {
         self.counter
     }
 
-    /// The versions that it keeps.
+    /// The versions that the device keeps.
     pub fn store(&self) -> &HeldSet
         ensures value { result.now ≡ self.now.store }
         ensures device { IsDevice (unstaged self.now) }
@@ -210,7 +208,7 @@ impl Device {
         &self.store
     }
 
-    /// The versions that it holds for another device to take.
+    /// The versions that the device holds for other devices to take.
     pub fn out(&self) -> &HeldSet
         ensures value { result.now ≡ self.now.out }
         ensures device { IsDevice (unstaged self.now) }
@@ -218,7 +216,7 @@ impl Device {
         &self.out
     }
 
-    /// Of which picture which versions it knows.
+    /// Which versions of which picture the device knows.
     pub fn knowledge(&self) -> &Knowledge
         ensures value { result.now.known ≡ self.now.knowledge }
         ensures unstaged { self.now.staged ≡ None → result.now.staged ≡ None }
@@ -227,10 +225,10 @@ impl Device {
         self.knowledge.as_knowledge()
     }
 
-    /// Copies of those of a set that it doesn't know, in their order. The device stays as it is to all contracts; a cache of
-    /// what it was found to know may change.
+    /// Copies of a set's versions that the device doesn't know, in their order. Contracts see no change of the device;
+    /// its cache of known versions may change.
     ///
-    /// Its only error is want of memory, and none is wanted where it knows all.
+    /// The only error is refused memory. No memory is wanted where the device knows all of them.
     pub fn unknown_of(
         &mut self,
         alloc: Global,
@@ -245,9 +243,9 @@ impl Device {
         self.knowledge.unknown_of(alloc, set)
     }
 
-    /// The same, where the device may not be changed.
+    /// Does what `unknown_of` does, with no change of the cache.
     ///
-    /// Its only error is want of memory, and none is wanted where it knows all.
+    /// The only error is refused memory. No memory is wanted where the device knows all of them.
     pub fn unknown_by(&self, alloc: Global, set: &HeldSet) -> Result<Vec<SharedHeld>, AllocError>
         ensures items { IfOk result (λ found. found.items
             ≡ filter (λ h. not (knows self.now.knowledge h.picture h.version)) set.now) }
@@ -257,7 +255,7 @@ impl Device {
         self.knowledge.unknown_by(alloc, set)
     }
 
-    /// What it holds of a version, in the store or in the out.
+    /// The held version of that version, if the store or the out has it. Looks at each.
     #[tactic(auto, using(crate::proofs::Shown::of_both))]
     pub fn held(&self, version: Version) -> Option<&Held>
         ensures { option_copied result ≡ find_version version (self.now.store ++ self.now.out) }
@@ -268,8 +266,8 @@ impl Device {
         }
     }
 
-    /// What it holds of that version of that picture, in the store or in the out. It is found by a search, which takes no
-    /// memory, and can be shared.
+    /// The held version of that version and picture, if the store or the out has it, to share. Searches by picture; takes no
+    /// memory.
     pub fn held_of(&self, picture: PicNo, version: Version) -> Option<&SharedHeld>
         ensures held { option_copied result ≡ find_version_of picture version (self.now.store ++ self.now.out) }
         ensures shows { (m : ModelDevice) → Shows self.now m
@@ -281,11 +279,11 @@ impl Device {
         }
     }
 
-    /// Makes the device's next version of a picture of which it holds one, in the store or in the out. A held version
-    /// that removes the picture counts.
+    /// Makes the device's next version of a picture of which the store or the out holds a version. A held version that
+    /// removes the picture counts.
     ///
-    /// `NotHeld` comes exactly where nothing of the picture is held. Else it does what `make` does. An error leaves the
-    /// device as it was. Nothing is staged then in any case.
+    /// `NotHeld` comes exactly where the device holds nothing of the picture. Otherwise this does what `make` does. An
+    /// error leaves the device as it was. Nothing is staged after any result.
     pub fn edit(
         &mut self,
         picture: PicNo,
@@ -307,8 +305,8 @@ impl Device {
         Ok(self.make(picture, content)?)
     }
 
-    /// Makes a version that removes a picture of which a version is held, as `edit` does. An error leaves the device as
-    /// it was. Nothing is staged then in any case.
+    /// Makes a version that removes a picture, as `edit` does. The device must hold a version of the picture. An error
+    /// leaves the device as it was. Nothing is staged after any result.
     pub fn remove(&mut self, picture: PicNo) -> Result<(Version, Place), ChangeFault>
         requires { self.old.counter < 4_294_967_295 }
         ensures shows { IfOk result (λ answer. (m : ModelDevice) → Shows self.old m → Shows self.new (made m picture Removed)) }
@@ -322,115 +320,55 @@ impl Device {
         self.edit(picture, &Record::Removed)
     }
 
-    /// Prepares a change: to give up held versions, to take others, each into the store where the filter matches it and into
-    /// the out otherwise, and to learn; with room for so many versions more that will be handed over. What the device holds
-    /// and knows stays until `commit`. Whatever was staged before is not any more.
+    /// Stages a change: to drop held versions, to take others and to learn. Each taken version goes into the store
+    /// where the filter matches it, else into the out. `room` is how many handed versions `commit` may take besides.
+    /// What the device holds and knows stays until `commit`. A change that was staged before is dropped.
     ///
-    /// Its only error is want of memory (also for more versions than can be counted), which leaves nothing staged and gives
+    /// The only error is refused memory, also for more versions than can be counted. It leaves nothing staged and gives
     /// the change back.
-    pub fn stage(&mut self, change: Change, room: usize) -> Result<(), (Change, AllocError)>
-        requires drops { AllByRecursion (λ v. is_some (find_version v (self.old.store ++ self.old.out)) ≡ true) change.drops }
-        requires new { AllByRecursion (λ h. find_version h.version (self.old.store ++ self.old.out) ≡ None) change.takes }
-        requires distinct { (v : versions.Version) → count_of v change.takes ≤ 1 }
-        requires earlier { AllByRecursion HasEarlier change.takes }
-        requires known { AllByRecursion (IsKnownBy change.gain.known) change.takes }
-        requires own { KnowsNoMore self.old.author self.old.counter change.gain.known }
-        ensures staged { OnOk result (HasStaged change.drops change.takes change.gain.known room self.old self.new) }
+    pub fn stage<'a>(
+        &mut self,
+        change: Change<'a>,
+        room: usize,
+    ) -> Result<(), (Change<'a>, AllocError)>
+        requires may { MayStage change.drops.stored.items change.drops.waiting.items change.takes (gained change.gain) self.old }
+        ensures staged { OnOk result (HasStaged (versions_in change.entry.drops) change.entry.takes (gained change.entry.gain) room self.old self.new) }
         ensures err { OnErr result (IsAsItWas self.old self.new) }
         ensures unstaged { OnErr result (self.new.staged ≡ None) }
-        ensures returned { IfErr result (λ e. e.0 ≡ change) }
-    {
-        let Change { drops, takes, gain } = change;
-        let pictures = Vec::new(self.store.alloc());
-        match self.stage_lent(drops, pictures, takes, &gain, room) {
-            Ok(()) => Ok(()),
-            Err((drops, takes, refused)) => Err((Change { drops, takes, gain }, refused)),
-        }
-    }
-
-    /// Prepares a change as `stage` does, where what is learned is lent, so that nobody has to copy it. The pictures of the
-    /// versions that are given up, in their order, are hints where to look for these at `commit`. Any will do; without them
-    /// it goes over all that is held.
-    ///
-    /// Its only error is want of memory (also for more versions than can be counted), which leaves nothing staged and gives
-    /// both lists back.
-    pub fn stage_lent(
-        &mut self,
-        drops: VersionList,
-        pictures: Vec<PicNo>,
-        takes: SharedList,
-        gain: &Knowledge,
-        room: usize,
-    ) -> Result<(), (VersionList, SharedList, AllocError)>
-        requires may { MayStage drops takes gain.now.known self.old }
-        ensures staged { OnOk result (HasStaged drops takes gain.now.known room self.old self.new) }
-        ensures err { OnErr result (IsAsItWas self.old self.new) }
-        ensures unstaged { OnErr result (self.new.staged ≡ None) }
-        ensures drops_back { IfErr result (λ e. e.0 ≡ drops) }
-        ensures takes_back { IfErr result (λ e. e.1 ≡ takes) }
-    {
-        let prepared = self.prepare(drops, pictures, takes, room)?;
-        // For its fact alone: a knowledge is in normal form.
-        let _fragments = gain.fragments();
-        if let Err(refused) = self.knowledge.stage(gain) {
-            return Err((prepared.drops, prepared.takes, refused));
-        }
-        self.prepared = Some(prepared);
-        Ok(())
-    }
-
-    /// Prepares a change as `stage_lent` does, where what is learned is what held versions tell. Its only error is the same.
-    pub fn stage_told(
-        &mut self,
-        drops: VersionList,
-        pictures: Vec<PicNo>,
-        takes: SharedList,
-        told: &Told,
-        room: usize,
-    ) -> Result<(), (VersionList, SharedList, AllocError)>
-        requires may { MayStage drops takes told.now self.old }
-        ensures staged { OnOk result (HasStaged drops takes told.now room self.old self.new) }
-        ensures err { OnErr result (IsAsItWas self.old self.new) }
-        ensures unstaged { OnErr result (self.new.staged ≡ None) }
-        ensures drops_back { IfErr result (λ e. e.0 ≡ drops) }
-        ensures takes_back { IfErr result (λ e. e.1 ≡ takes) }
-    {
-        let prepared = self.prepare(drops, pictures, takes, room)?;
-        if let Err(refused) = self.knowledge.stage_told(told) {
-            return Err((prepared.drops, prepared.takes, refused));
-        }
-        self.prepared = Some(prepared);
-        Ok(())
-    }
-
-    // A change but for what is learned, with room for it. Nothing is staged then.
-    fn prepare(
-        &mut self,
-        drops: VersionList,
-        pictures: Vec<PicNo>,
-        takes: SharedList,
-        room: usize,
-    ) -> Result<Prepared, (VersionList, SharedList, AllocError)>
-        ensures unstaged { self.new ≡ unstaged self.old }
-        ensures ok { IfOk result (λ prepared. IsReadied drops takes room self.new prepared) }
-        ensures drops_back { IfErr result (λ e. e.0 ≡ drops) }
-        ensures takes_back { IfErr result (λ e. e.1 ≡ takes) }
+        ensures returned { IfErr result (λ e. e.0 ≡ change.entry) }
     {
         self.unstage();
-        let Some(more) = takes.len().checked_add(room) else {
-            return Err((drops, takes, AllocError));
+        let Ok((in_store, in_out)) = self.rooms_for(change.takes.len(), room) else {
+            return Err((change, AllocError));
         };
-        match rooms(&mut self.store, &mut self.out, more) {
-            Ok((in_store, in_out)) => Ok(Prepared {
-                drops,
-                pictures,
-                takes,
-                room,
-                in_store,
-                in_out,
-            }),
-            Err(refused) => Err((drops, takes, refused)),
+        if let Err(refused) = self.knowledge.stage(&change.gain) {
+            return Err((change, refused));
         }
+        let Change { drops, takes, .. } = change;
+        self.prepared = Some(Prepared {
+            drops,
+            takes,
+            room,
+            in_store,
+            in_out,
+        });
+        Ok(())
+    }
+
+    // Reserves room in the store and in the out, for the taken and the handed versions.
+    fn rooms_for(
+        &mut self,
+        takes: usize,
+        handed: usize,
+    ) -> Result<(Room<SharedHeld>, Room<SharedHeld>), AllocError>
+        ensures kept { self.new ≡ self.old }
+        ensures store { IfOk result (λ rooms. IsRoomFor self.old.store takes handed rooms.0) }
+        ensures out { IfOk result (λ rooms. IsRoomFor self.old.out takes handed rooms.1) }
+    {
+        let Some(more) = takes.checked_add(handed) else {
+            return Err(AllocError);
+        };
+        rooms(&mut self.store, &mut self.out, more)
     }
 
     /// Whether a change is staged.
@@ -442,7 +380,7 @@ impl Device {
         self.prepared.is_some()
     }
 
-    /// Leaves nothing staged; the device is as it was. It takes no memory.
+    /// Drops the staged change; the device is otherwise as it was. Takes no memory.
     pub fn unstage(&mut self)
         ensures { self.new ≡ unstaged self.old }
     {
@@ -450,21 +388,17 @@ impl Device {
         self.knowledge.unstage();
     }
 
-    /// Those of the versions that it holds in the out leave it, and come to the end of a list in the order asked for. Nothing
-    /// is staged then. It takes no memory, and is quickest where they are asked for in the order of the out.
-    pub fn hand_over(&mut self, asked: &[Version], handed: &mut Vec<SharedHeld>)
-        requires distinct { (v : versions.Version) → times_in v asked.now ≤ 1 }
-        requires room { vec_len handed.old + length asked.now ≤ vec_capacity handed.old }
-        ensures shows { (m : ModelDevice) → Shows self.old m → Shows self.new (without_waiting asked.now m) }
-        ensures handed { handed.new.items ≡ handed.old.items ++ helds_at asked.now self.old.out }
+    /// Drops those of the versions that the out has. Nothing is staged afterwards. Takes no memory.
+    pub fn hand_over(&mut self, handed: &[SharedHeld])
+        ensures shows { (m : ModelDevice) → Shows self.old m → Shows self.new (without_waiting (versions_of handed.now) m) }
         ensures staged { self.new.staged ≡ None }
     {
         self.unstage();
-        self.out.hand_over(asked, handed);
+        self.out.give_up(handed);
     }
 
-    /// Makes the change that is staged, and takes the versions that were handed over besides, each into the store where the
-    /// filter matches it and into the out otherwise. Nothing is staged then. It takes no memory.
+    /// Makes the staged change, and takes the handed versions. Each goes into the store where the filter matches it,
+    /// else into the out. Nothing is staged afterwards. Takes no memory.
     pub fn commit(&mut self, handed: Vec<SharedHeld>)
         requires staged { is_some self.old.staged ≡ true }
         requires handed { IfSome self.old.staged (λ s. MayHand handed.items s self.old) }
@@ -477,13 +411,13 @@ impl Device {
         };
         let Prepared {
             drops,
-            pictures,
             takes,
             room: _,
             in_store,
             in_out,
         } = prepared;
-        give_up(drops.as_slice(), &pictures, &mut self.store, &mut self.out);
+        self.store.give_up(&drops.stored);
+        self.out.give_up(&drops.waiting);
         take_in(
             &self.filter,
             handed,
@@ -496,11 +430,11 @@ impl Device {
         self.knowledge.commit();
     }
 
-    /// Is to keep from now on what a filter matches that its own covers: what it doesn't match goes from the store to the
-    /// out. Gives how many versions went.
+    /// Replaces the filter by a narrower one. The store's versions that the new filter doesn't match go to the out.
+    /// Returns how many went.
     ///
-    /// `NotNarrower` comes exactly where its own filter doesn't cover the new one. An error leaves the device as it was,
-    /// and gives the filter back. Nothing is staged then in any case.
+    /// `NotNarrower` comes exactly where the device's filter doesn't cover the new one. An error leaves the device as
+    /// it was and gives the filter back. Nothing is staged after any result.
     pub fn narrow(&mut self, filter: Filter) -> Result<u64, (Filter, NarrowFault)>
         ensures shows { OnOk result ((m : ModelDevice) → Shows self.old m → Shows self.new (narrowed filter m)) }
         ensures moved { IfOk result (λ count. (m : ModelDevice) → Shows self.old m → count ≡ moved filter m) }
@@ -524,12 +458,12 @@ impl Device {
         Ok(gone as u64)
     }
 
-    /// Is to keep from now on what any filter matches, and begins its next epoch as an author. What it holds is sorted anew
-    /// into the store and the out, and it has made nothing then, and knows what this tells and no more. Gives how many
-    /// versions are in the store then, and in the out.
+    /// Replaces the filter by any other, and begins the device's next epoch as an author. Sorts what the device holds
+    /// again into the store and the out. The device has then made nothing, and knows exactly what its held versions
+    /// tell. Returns how many versions are then in the store, and in the out.
     ///
-    /// Its only error is want of memory, which leaves the device as it was and gives the filter back. Nothing is staged
-    /// then in any case.
+    /// The only error is refused memory, which leaves the device as it was and gives the filter back. Nothing is staged
+    /// after any result.
     pub fn refilter(&mut self, filter: Filter) -> Result<(u64, u64), (Filter, AllocError)>
         requires { epoch_of_author self.old.author < 4_294_967_295 }
         ensures shows { OnOk result ((m : ModelDevice) → Shows self.old m → Shows self.new (refiltered filter m)) }
@@ -540,17 +474,17 @@ impl Device {
         ensures staged { self.new.staged ≡ None }
     {
         self.unstage();
-        match held_anew(&filter, &self.store, &self.out) {
-            Ok(anew) => Ok(self.begin_anew(filter, anew)),
+        match resort(&filter, &self.store, &self.out) {
+            Ok(resorted) => Ok(self.begin_epoch(filter, resorted)),
             Err(refused) => Err((filter, refused)),
         }
     }
 
-    // Begins its next epoch with what it holds, sorted anew by the filter that it gets.
-    fn begin_anew(&mut self, filter: Filter, anew: Anew) -> (u64, u64)
+    // Begins the next epoch, with the new filter and with the held versions that it sorted.
+    fn begin_epoch(&mut self, filter: Filter, resorted: Resorted) -> (u64, u64)
         requires unstaged { self.old.staged ≡ None }
         requires epoch { epoch_of_author self.old.author < 4_294_967_295 }
-        requires anew { IsAnew filter self.old.store self.old.out anew }
+        requires resorted { IsResorted filter self.old.store self.old.out resorted }
         ensures shows { (m : ModelDevice) → Shows self.old m → Shows self.new (refiltered filter m) }
         ensures store { result.0 ≡ length self.new.store }
         ensures out { result.1 ≡ length self.new.out }
@@ -562,14 +496,14 @@ impl Device {
         self.author = author;
         self.filter = filter;
         self.counter = 0;
-        let Anew { store, out, told } = anew;
+        let Resorted { store, out, told } = resorted;
         self.store = store;
         self.out = out;
         self.knowledge.replace(told);
         (self.store.len() as u64, self.out.len() as u64)
     }
 
-    /// The same device with another knowledge, which has what every device has to know, and nothing staged.
+    /// The device with another knowledge, which has what every device has to know, and with nothing staged.
     pub(crate) fn with(self, knowledge: Knowledge) -> Device
         requires own { KnowsItsOwn self.author self.counter knowledge.known }
         requires store { AllByRecursion (IsKnownBy knowledge.known) self.store }
@@ -583,15 +517,15 @@ impl Device {
         device
     }
 
-    // Whether a version of a picture is held, in the store or in the out.
+    // Whether the store or the out has a version of a picture.
     fn holds(&self, picture: PicNo) -> bool
         ensures { result ≡ (has_picture picture self.now.store || has_picture picture self.now.out) }
     {
         self.store.has_picture(picture) || self.out.has_picture(picture)
     }
 
-    /// The pictures of which it holds two or more versions, in the store and the out together, each with them in order.
-    /// Its only error is want of memory.
+    /// The pictures of which the device holds two or more versions, in the store and the out together; the versions of
+    /// each are in order. The only error is refused memory.
     #[tactic(auto, using(crate::proofs::Shown::of_both))]
     pub fn conflicts(&self) -> Result<Vec<Conflict>, AllocError>
         ensures { IfOk result (λ list. (m : ModelDevice) → Shows self.now m → list.items ≡ conflicts_of m) }
@@ -601,11 +535,11 @@ impl Device {
     }
 }
 
-// Holds its author's next version at a place, and knows it of every picture. An error changes nothing.
+// Holds the author's next version at a place, and knows it of every picture. An error changes nothing.
 fn hold_next(
     store: &mut HeldSet,
     out: &mut HeldSet,
-    knowledge: &mut NotedKnowledge,
+    knowledge: &mut CachedKnowledge,
     place: Place,
     held: SharedHeld,
 ) -> Result<(), AllocError>
@@ -621,7 +555,7 @@ fn hold_next(
         knowledge.raise_own(version);
         return Ok(());
     }
-    // The first version wants memory for its author's bounds: so they are made in a copy of what is known.
+    // The first version wants memory for its author's bounds, so they are made in a copy of what is known.
     let mut known = knowledge.as_knowledge().try_clone()?;
     known.learn_own(version)?;
     hold(store, out, place, held)?;

@@ -1,4 +1,4 @@
-// Going over the held versions of a set, and over the items of a list.
+// Iteration over the held versions of a set, and over the items of a list.
 ghost use Rattle.std.specs.Prelude.{◌≡◌};
 ghost use Rattle.std.specs.Slice.Iter.{iter_rest};
 

@@ -5,10 +5,10 @@ ghost use Rattle.photo_device.specs.declared.fault.ChangeFault.TheVariants.{NoMe
 use std::alloc::AllocError;
 use thiserror::Error;
 
-/// Why a device did not change.
+/// Why a device did not make a version.
 #[derive(Clone, Copy, Debug, PartialEq, Eq, Drop, Error)]
 pub enum ChangeFault {
-    /// Nothing of the picture is held.
+    /// The device holds nothing of the picture.
     #[error("C1 NotHeld")]
     NotHeld,
     /// Memory was refused.

@@ -1,12 +1,12 @@
-// A held version, with what it was made with and its record.
+// A held version, with its history and its record.
 ghost use Rattle.std.specs.Prelude.{◌≡◌, IfOk};
 
 use photo_record::{PicNo, Record};
 use photo_version::{Vector, Version};
 use std::alloc::AllocError;
 
-/// A version of a picture that a device holds: with its history, which is what was known of the picture when it was made,
-/// and the record that it gives the picture.
+/// A version of a picture that a device holds. Its history, `made_with`, is what its author knew of the picture before it made
+/// the version. `content` is the record that the version gives the picture.
 #[derive(Debug, PartialEq, Eq, Drop)]
 pub struct Held {
     pub picture: PicNo,
@@ -16,7 +16,7 @@ pub struct Held {
 }
 
 impl Held {
-    /// An equal held version. Its only error is want of memory.
+    /// An equal held version. The only error is refused memory.
     pub fn try_clone(&self) -> Result<Held, AllocError>
         ensures { IfOk result (λ copy. copy ≡ self.now) }
     {

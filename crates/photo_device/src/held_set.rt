@@ -2,7 +2,6 @@
 ghost use Rattle.std.specs.Prelude.{◌≡◌, true};
 ghost use Rattle.photo_device.specs.Held.{are_in_order, IsRangeOf};
 
-use crate::sought::Sought;
 use crate::{Held, SharedHeld, SharedList};
 use block_list::{BlockList, Iter, Room, Roomy, Spot};
 use photo_record::PicNo;
@@ -11,9 +10,9 @@ use std::alloc::{AllocError, Global};
 use std::marker::Model;
 use std::mem::replace;
 
-/// A set of held versions, seen as the list of them by picture, then version. Each version stands in it once.
+/// A set of held versions. Contracts see the list of them, by picture, then by version. Each version stands in it once.
 ///
-/// It is kept in blocks, so that a version is put in or given up at little cost whatever its picture.
+/// The list is kept in blocks, so that putting in or dropping a version costs little, whatever its picture.
 #[derive(Debug, Drop)]
 pub struct HeldSet {
     items: BlockList<SharedHeld>,
@@ -34,12 +33,12 @@ impl Model for HeldSet {
 
 impl HeldSet {
     ghost use Rattle.std.specs.Prelude.{◌≡◌, ◌+◌, ◌<◌, ◌≤◌, ◌==◌, true, false, None, [], ◌∷◌, ◌++◌, length, slice_get, Some};
-    ghost use Rattle.std.specs.Prelude.{IfOk, OnOk, OnErr, vec_len, vec_capacity};
+    ghost use Rattle.std.specs.Prelude.{IfOk, OnOk, OnErr};
     ghost use Rattle.std.specs.Option.{option_copied};
     ghost use Rattle.block_list.specs.Blocks.{joined};
     ghost use Rattle.photo_device.specs.Held.{are_in_order, held_of_others, has_picture, has_version_of};
-    ghost use Rattle.photo_device.specs.Held.{helds_without, replaced};
-    ghost use Rattle.photo_device.specs.Held.{find_version, find_version_of, count_of, times_in, helds_at};
+    ghost use Rattle.photo_device.specs.Held.{helds_without, replaced, versions_of};
+    ghost use Rattle.photo_device.specs.Held.{find_version, find_version_of, count_of};
     ghost use Rattle.photo_version.specs.Version as spec;
 
     pub(crate) fn new(alloc: Global) -> HeldSet
@@ -51,12 +50,12 @@ impl HeldSet {
         }
     }
 
-    /// The allocator of what is made of it.
+    /// The allocator of the set.
     pub(crate) fn alloc(&self) -> Global {
         self.alloc
     }
 
-    /// Room for so many versions more. Its only error is want of memory.
+    /// Reserves room for `more` versions. The only error is refused memory.
     pub(crate) fn room(&mut self, more: usize) -> Result<Room<SharedHeld>, AllocError>
         ensures kept { self.new ≡ self.old }
         ensures most { IfOk result (λ room. room.most ≡ length self.old) }
@@ -65,7 +64,7 @@ impl HeldSet {
         self.items.room(more)
     }
 
-    /// The list of the set, with room that was taken before. The set has none of it then. It takes no memory.
+    /// Moves the versions out into a list with room that was reserved before. The set is then empty. Takes no memory.
     pub(crate) fn open(&mut self, room: Room<SharedHeld>) -> Roomy<SharedHeld>
         requires { length self.old ≤ room.most }
         ensures items { result.items ≡ self.old }
@@ -75,7 +74,7 @@ impl HeldSet {
         replace(&mut self.items, BlockList::new(self.alloc)).open(room)
     }
 
-    /// The set of a list in order, with its room given back. It takes no memory.
+    /// Makes a list in order the set's versions, and gives the list's room back. Takes no memory.
     pub(crate) fn close(&mut self, items: Roomy<SharedHeld>)
         requires { are_in_order items.items ≡ true }
         ensures { self.new ≡ items.items }
@@ -83,14 +82,14 @@ impl HeldSet {
         self.items = items.close();
     }
 
-    /// How many versions it has.
+    /// How many versions the set has.
     pub fn len(&self) -> usize
         ensures { result ≡ length self.now }
     {
         self.items.len()
     }
 
-    /// Whether it has none.
+    /// Whether the set has no versions.
     pub fn is_empty(&self) -> bool
         ensures { result ≡ (length self.now == 0) }
     {
@@ -114,7 +113,7 @@ impl HeldSet {
         self.items.iter()
     }
 
-    /// The held versions in blocks, which one after another are the set. For callers that go over all of them.
+    /// The held versions in blocks; joined, the blocks are the set.
     pub fn blocks(&self) -> &[Vec<SharedHeld>]
         ensures value { joined result.now ≡ self.now }
         ensures ordered { are_in_order self.now ≡ true }
@@ -122,7 +121,7 @@ impl HeldSet {
         self.items.as_blocks()
     }
 
-    /// Whether it has that version of that picture. It is found by a search, which takes no memory.
+    /// Whether the set has that version of that picture. Searches by picture; takes no memory.
     #[tactic(auto, using(crate::proofs::Putting::found_any))]
     pub fn has(&self, picture: PicNo, version: Version) -> bool
         ensures { result ≡ has_version_of picture version self.now }
@@ -130,14 +129,14 @@ impl HeldSet {
         self.of(picture, version).is_some()
     }
 
-    /// That version of that picture, if it has it. It is found by a search, which takes no memory.
+    /// That version of that picture, if the set has it. Searches by picture; takes no memory.
     pub fn of(&self, picture: PicNo, version: Version) -> Option<&SharedHeld>
         ensures { option_copied result ≡ find_version_of picture version self.now }
     {
         self.look_for(picture, version).0
     }
 
-    /// The held versions as a list, which shares them. Its only error is want of memory.
+    /// The held versions as a list that shares them. The only error is refused memory.
     pub fn to_list(&self) -> Result<SharedList, AllocError>
         ensures { IfOk result (λ list. list ≡ self.now) }
     {
@@ -148,7 +147,7 @@ impl HeldSet {
         Ok(SharedList::new(items))
     }
 
-    /// The same set, which shares what it has. Its only error is want of memory.
+    /// A set with the same held versions, which it shares. The only error is refused memory.
     pub(crate) fn try_clone(&self) -> Result<HeldSet, AllocError>
         ensures { IfOk result (λ copy. copy ≡ self.now) }
     {
@@ -162,7 +161,7 @@ impl HeldSet {
         })
     }
 
-    /// The one of that version, if it has it. It looks through all of them, since they are in the order of their pictures.
+    /// The held version of that version, if the set has it. Looks at each, since the set is in the order of pictures.
     pub fn find(&self, version: Version) -> Option<&Held>
         ensures { option_copied result ≡ find_version version self.now }
     {
@@ -174,7 +173,7 @@ impl HeldSet {
         None
     }
 
-    /// Puts a version in the place of all of its picture. An error leaves the set as it was.
+    /// Puts a version in place of all versions of its picture. An error leaves the set as it was.
     pub(crate) fn replace(&mut self, held: SharedHeld) -> Result<(), AllocError>
         ensures ok { OnOk result (self.new ≡ replaced held self.old) }
         ensures err { OnErr result (self.new ≡ self.old) }
@@ -188,55 +187,19 @@ impl HeldSet {
         Ok(())
     }
 
-    /// Gives up those versions, in whatever order they come. It takes no memory, and is quickest where they stand in
-    /// the order of versions.
-    pub(crate) fn drop_versions(&mut self, versions: &[Version])
-        ensures { self.new ≡ helds_without versions.now self.old }
+    /// Drops the versions of a list that the set has. Looks for each at its picture first, and then everywhere. Takes
+    /// no memory.
+    pub(crate) fn give_up(&mut self, gone: &[SharedHeld])
+        requires { (v : spec.Version) → count_of v self.old ≤ 1 }
+        ensures { self.new ≡ helds_without (versions_of gone.now) self.old }
     {
-        if versions.is_empty() {
-            return;
-        }
-        let sought = Sought::new(versions);
-        self.items.retain(|held| !sought.has(held.version()));
-    }
-
-    /// Gives up that version of that picture, if it has it; whether it had it. It is found by a search, which takes no memory.
-    #[tactic(auto, using(crate::proofs::Putting::found_any))]
-    pub(crate) fn drop_version_of(&mut self, picture: PicNo, version: Version) -> bool
-        requires { count_of version self.old ≤ 1 }
-        ensures had { result ≡ has_version_of picture version self.old }
-        ensures dropped { result ≡ true → self.new ≡ helds_without (version ∷ []) self.old }
-        ensures kept { result ≡ false → self.new ≡ self.old }
-    {
-        let (found, near) = self.look_for(picture, version);
-        if found.is_none() {
-            return false;
-        }
-        self.take_version(near, version);
-        true
-    }
-
-    /// Those of the versions that it has leave it, and come to the end of a list, in the order asked for. It takes no
-    /// memory, and is quickest where they are asked for in the order of the set.
-    pub(crate) fn hand_over(&mut self, versions: &[Version], handed: &mut Vec<SharedHeld>)
-        requires once { (v : spec.Version) → count_of v self.old ≤ 1 }
-        requires distinct { (v : spec.Version) → times_in v versions.now ≤ 1 }
-        requires room { vec_len handed.old + length versions.now ≤ vec_capacity handed.old }
-        ensures rest { self.new ≡ helds_without versions.now self.old }
-        ensures handed { handed.new.items ≡ handed.old.items ++ helds_at versions.now self.old }
-        ensures capacity { vec_capacity handed.new ≡ vec_capacity handed.old }
-    {
-        let mut near = Spot::start();
-        for version in versions {
-            let (found, further) = self.take_version(near, *version);
-            near = further;
-            if let Some(held) = found {
-                handed.push_reserved(held);
-            }
+        for held in gone {
+            let (_, near) = self.look_for(held.picture(), held.version());
+            self.drop_version(near, held.version());
         }
     }
 
-    // That version of that picture, if it has it, and a hint where it stands.
+    // That version of that picture, if the set has it, and a hint where it stands.
     fn look_for(&self, picture: PicNo, version: Version) -> (Option<&SharedHeld>, Spot)
         ensures { option_copied result.0 ≡ find_version_of picture version self.now }
     {
@@ -252,16 +215,15 @@ impl HeldSet {
         (Some(held), spot)
     }
 
-    // Takes the one of that version out, if it has it, and gives a hint for the next.
-    fn take_version(&mut self, near: Spot, version: Version) -> (Option<SharedHeld>, Spot)
+    // Drops the held version of that version, if the set has it. Looks for it from the hint on.
+    fn drop_version(&mut self, near: Spot, version: Version)
         requires { count_of version self.old ≤ 1 }
-        ensures found { result.0 ≡ find_version version self.old }
-        ensures rest { self.new ≡ helds_without (version ∷ []) self.old }
+        ensures { self.new ≡ helds_without (version ∷ []) self.old }
     {
-        self.items.take_near(near, |held| held.version() == version)
+        self.items.take_near(near, |held| held.version() == version);
     }
 
-    /// Gives up all versions of a picture.
+    /// Drops all versions of a picture.
     pub(crate) fn drop_picture(&mut self, picture: PicNo)
         ensures { self.new ≡ held_of_others picture self.old }
     {
@@ -272,7 +234,7 @@ impl HeldSet {
         self.items.remove_range(from, to);
     }
 
-    /// Whether it has a version of a picture.
+    /// Whether the set has a version of a picture.
     pub(crate) fn has_picture(&self, picture: PicNo) -> bool
         ensures { result ≡ has_picture picture self.now }
     {
@@ -283,7 +245,7 @@ impl HeldSet {
     }
 }
 
-// Where the versions of a picture stand: from the first place up to before the second.
+// The range of the versions of a picture: from the first place to before the second.
 fn range_of(items: &BlockList<SharedHeld>, picture: PicNo) -> (usize, usize)
     requires { are_in_order items.now ≡ true }
     ensures { IsRangeOf picture items.now result.0 result.1 }

@@ -1,7 +1,7 @@
 // Lists that contracts see as the list of their items.
 use std::marker::Model;
 
-/// A list of what a device tells, as a report or a log has it. Contracts see it as the list of its items.
+/// A list of what a device tells, for a report or a log. Contracts see the list of its items.
 #[derive(Debug, Drop)]
 pub struct ItemList<T> {
     items: Vec<T>,
@@ -18,7 +18,7 @@ impl<T> Model for ItemList<T> {
 impl<T> ItemList<T> {
     ghost use Rattle.std.specs.Prelude.{◌≡◌, ◌<◌, ◌==◌, length, slice_get, Some};
 
-    /// The list of those, in that order.
+    /// The list of these items, in this order.
     pub fn new(items: Vec<T>) -> ItemList<T>
         ensures { result ≡ items.items }
     {
@@ -33,21 +33,21 @@ impl<T> ItemList<T> {
         items
     }
 
-    /// How many there are.
+    /// How many items the list has.
     pub fn len(&self) -> usize
         ensures { result ≡ length self.now }
     {
         self.items.len()
     }
 
-    /// Whether there is none.
+    /// Whether the list is empty.
     pub fn is_empty(&self) -> bool
         ensures { result ≡ (length self.now == 0) }
     {
         self.items.is_empty()
     }
 
-    /// The one at place `i`, from 0.
+    /// The item at place `i`, from 0.
     pub fn get(&self, i: usize) -> &T
         requires { i < length self.now }
         ensures { slice_get self.now i ≡ Some result.now }
@@ -55,7 +55,7 @@ impl<T> ItemList<T> {
         &self.items[i]
     }
 
-    /// All of them, in order.
+    /// All items, in order.
     pub fn as_slice(&self) -> &[T]
         ensures { result.now ≡ self.now }
     {

@@ -1,32 +1,30 @@
 //! A device of the household: the versions that it made and holds, and what it knows.
 //!
-//! Its invariant (`IsDevice`): **a device knows all that it holds, with its history, and of its own author just what it made**. It
-//! knows nothing of later epochs of its own, holds no version twice, and what it holds has of its author just the earlier
-//! versions in its history.
+//! Its invariant is `IsDevice`. **A device knows all that it holds, with its history; of its own author it knows
+//! exactly what it made.** It knows nothing of its own later epochs. It holds no version twice. The history of a held
+//! version has exactly the earlier versions of its author.
 #![tactic(auto)]
 
-mod anew;
+mod cached_knowledge;
 mod change;
 mod conflict;
 mod conflicts;
 mod device;
-mod drops;
 mod each;
 mod fault;
 mod held;
 mod held_set;
 mod item_list;
+mod known_cache;
 pub mod laws;
-mod noted_knowledge;
-mod noted_versions;
 mod placing;
 mod prepared;
+mod resorted;
 mod shared_held;
-mod sought;
 mod table;
 mod takes;
 
-pub use change::Change;
+pub use change::{Change, Gain, Selection};
 pub use conflict::Conflict;
 pub use device::Device;
 pub use fault::{ChangeFault, NarrowFault};
@@ -38,7 +36,7 @@ use photo_version::Version;
 pub use shared_held::SharedHeld;
 pub use table::told_by;
 
-/// Held versions that are shared, in an order.
+/// Shared held versions, in an order.
 pub type SharedList = ItemList<SharedHeld>;
 
 /// Versions, in an order.

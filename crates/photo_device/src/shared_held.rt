@@ -1,4 +1,4 @@
-// Held versions that are shared.
+// Held versions that several sets share.
 ghost use Rattle.std.specs.Prelude.{◌≡◌, IfOk};
 
 use crate::Held;
@@ -8,9 +8,9 @@ use std::alloc::{AllocError, Global};
 use std::marker::Model;
 use std::sync::Arc;
 
-/// A held version that its copies share, in whatever set of whatever device they stand. Contracts see the held version.
+/// A held version that its copies share, in any set of any device. Contracts see the held version.
 ///
-/// Its picture and version stand beside what is shared, since most that goes along held versions looks at no more.
+/// Picture and version stand beside the pointer, since most callers that go along held versions need only these two.
 #[derive(Debug, Drop)]
 pub struct SharedHeld {
     picture: PicNo,
@@ -36,7 +36,7 @@ impl SharedHeld {
     ghost use Rattle.std.specs.Prelude.{◌≡◌, IfOk};
     ghost use Rattle.photo_device.specs.Held.{stands_before, is_of};
 
-    /// A held version that can be shared. Its only error is want of memory.
+    /// Makes a held version that can be shared. The only error is refused memory.
     pub fn new(alloc: Global, held: Held) -> Result<SharedHeld, AllocError>
         ensures { IfOk result (λ shared. shared ≡ held) }
     {
@@ -54,7 +54,7 @@ impl SharedHeld {
         &self.held
     }
 
-    /// The picture of which it is a version.
+    /// The picture of the version.
     pub fn picture(&self) -> PicNo
         ensures { result ≡ self.now.picture }
     {
@@ -68,21 +68,21 @@ impl SharedHeld {
         self.version
     }
 
-    /// Its history.
+    /// The version's history.
     pub fn made_with(&self) -> &Vector
         ensures { result.now ≡ self.now.made_with }
     {
         &self.held.made_with
     }
 
-    /// The record that it gives the picture.
+    /// The record that the version gives the picture.
     pub fn content(&self) -> &Record
         ensures { result.now ≡ self.now.content }
     {
         &self.held.content
     }
 
-    /// The same held version, which is shared. It takes no memory, and fails only where it has too many owners to count.
+    /// Another owner of the same held version. Takes no memory; the only error is a count of owners that can't grow.
     pub fn try_clone(&self) -> Result<SharedHeld, AllocError>
         ensures { IfOk result (λ copy. copy ≡ self.now) }
     {
@@ -93,14 +93,14 @@ impl SharedHeld {
         })
     }
 
-    /// Whether it stands before that version of that picture, in the order of a set.
+    /// Whether this held version stands before that version of that picture, in the order of a set.
     pub fn is_before(&self, picture: PicNo, version: Version) -> bool
         ensures { result ≡ stands_before self.now picture version }
     {
         self.picture < picture || (self.picture == picture && self.version < version)
     }
 
-    /// Whether it is that version of that picture.
+    /// Whether this held version is that version of that picture.
     pub fn is_of(&self, picture: PicNo, version: Version) -> bool
         ensures { result ≡ is_of self.now picture version }
     {

@@ -5,7 +5,7 @@ ghost use Rattle.photo_version.specs.Version as versions;
 ghost use Rattle.photo_version.specs.Vector.{denotes};
 ghost use Rattle.item_knowledge.specs.Fragments.{knows};
 ghost use Rattle.item_knowledge.specs.Tables.{in_order, keys_pass};
-ghost use Rattle.photo_device.specs.Anew.{HasBesides};
+ghost use Rattle.photo_device.specs.Resorted.{HasBesides};
 ghost use Rattle.photo_device.specs.Held.{are_in_order};
 ghost use Rattle.photo_device.specs.Own.{HasEarlier};
 ghost use Rattle.photo_device.specs.Telling.{tells};
@@ -13,10 +13,10 @@ ghost use Rattle.photo_device.specs.Telling.{tells};
 use crate::SharedHeld;
 use item_knowledge::Told;
 use photo_record::PicNo;
-use photo_version::Vector;
+use photo_version::{Vector, Version};
 use std::alloc::{AllocError, Global};
 
-// Adds what is told of a picture to a table whose pictures are none greater.
+// Appends a row to a table whose pictures are at most `picture`. A last row of the same picture gets the join of both vectors.
 fn add_row(
     table: &mut Vec<(PicNo, Vector)>,
     picture: PicNo,
@@ -40,7 +40,14 @@ fn add_row(
     Ok(())
 }
 
-// Adds what a version tells to a table whose pictures are none greater.
+// Tells that a version's number is above 0.
+fn is_numbered(version: Version)
+    ensures { 0 < version.number }
+{
+    let _number = version.n();
+}
+
+// Adds what a version tells to a table that has no greater picture.
 fn add_told(table: &mut Vec<(PicNo, Vector)>, held: &SharedHeld) -> Result<(), AllocError>
     requires earlier { HasEarlier held.now }
     requires order { in_order table.old.items ≡ true }
@@ -48,24 +55,23 @@ fn add_told(table: &mut Vec<(PicNo, Vector)>, held: &SharedHeld) -> Result<(), A
     ensures { OnOk result (HasBesides table.old.items table.new.items held.now.picture
         (λ v. denotes held.now.made_with v || versions.same_version held.now.version v)) }
 {
-    // For its fact alone: a version's number is above 0.
-    let _number = held.version().n();
+    is_numbered(held.version());
     let vector = held.made_with().with(held.version())?;
     add_row(table, held.picture(), vector)
 }
 
-// What is left of two lists that are gone along together, in the order of pictures.
+// A cursor along two lists together, in the order of pictures.
 #[derive(Drop)]
-struct Along<'a> {
+struct MergeCursor<'a> {
     heard: &'a [SharedHeld],
     handed: &'a [SharedHeld],
 }
 
-impl<'a> Along<'a> {
+impl<'a> MergeCursor<'a> {
     ghost use Rattle.std.specs.Prelude.{◌≡◌, ◌++◌, [], None, IfSome};
-    ghost use Rattle.photo_device.specs.Anew.{AreLeft, IsNextOf, is_second_next};
+    ghost use Rattle.photo_device.specs.Resorted.{AreLeft, IsNextOf, is_second_next};
 
-    // Whether the next is one of those that are handed over.
+    // Whether the next version is one of `handed`.
     fn is_handed_next(&self) -> bool
         ensures { result ≡ is_second_next self.now.heard.now self.now.handed.now }
     {
@@ -78,7 +84,7 @@ impl<'a> Along<'a> {
         }
     }
 
-    // The next of both.
+    // The next version of both lists.
     fn next(&mut self) -> Option<&'a SharedHeld>
         requires { AreLeft self.old.heard.now self.old.handed.now }
         ensures left { AreLeft self.new.heard.now self.new.handed.now }
@@ -97,7 +103,7 @@ impl<'a> Along<'a> {
     }
 }
 
-/// What both lists tell. Its only error is want of memory.
+/// What both lists tell. The only error is refused memory.
 pub fn told_by(
     alloc: Global,
     heard: &[SharedHeld],
@@ -110,7 +116,7 @@ pub fn told_by(
     ensures { IfOk result (λ told. (p : ℕ) (v : versions.Version) → 0 < p → knows told p v ≡ (tells heard.now p v || tells handed.now p v)) }
 {
     let mut table = Vec::with_capacity(alloc, heard.len().saturating_add(handed.len()))?;
-    let mut along = Along { heard, handed };
+    let mut along = MergeCursor { heard, handed };
     while let Some(held) = along.next() {
         add_told(&mut table, held)?;
     }

@@ -1,4 +1,4 @@
-// Versions that come into the store and the out of a device.
+// How versions come into the store and the out of a device.
 ghost use Rattle.std.specs.Prelude.{◌≡◌, ◌++◌, true, false, [], ◌∷◌, ◌+◌, length, IfOk, OnOk, OnErr};
 ghost use Rattle.photo_device.specs.Held.{are_in_order, held_before};
 ghost use Rattle.photo_model.specs.Ordered.{put};
@@ -9,7 +9,7 @@ use block_list::{Room, Roomy};
 use photo_filter_rules::Filter;
 use std::alloc::AllocError;
 
-/// Room for so many versions more in each of two sets. Its only error is want of memory.
+/// Reserves room for `more` versions in each of two sets. The only error is refused memory.
 pub(crate) fn rooms(
     store: &mut HeldSet,
     out: &mut HeldSet,
@@ -27,8 +27,8 @@ pub(crate) fn rooms(
     Ok((in_store, in_out))
 }
 
-/// The store takes versions that the filter matches, and the out the others: those that are handed over, and those that are
-/// taken. There is room for all of them in both, so it takes no memory.
+/// Puts handed and taken versions into the store where the filter matches them, and into the out otherwise. Takes no memory:
+/// both sets have room for all of them.
 pub(crate) fn take_in(
     wanted: &Filter,
     handed: Vec<SharedHeld>,
@@ -51,7 +51,7 @@ pub(crate) fn take_in(
     out.close(waiting);
 }
 
-// Puts versions into the store, where the filter matches them, and into the out otherwise.
+// Puts versions into the store where the filter matches them, and into the out otherwise.
 fn put_all(
     wanted: &Filter,
     coming: Vec<SharedHeld>,
@@ -68,7 +68,7 @@ fn put_all(
     }
 }
 
-// Puts a version into the store, where the filter matches it, and into the out otherwise.
+// Puts a version into the store where the filter matches it, and into the out otherwise.
 fn put_one(
     wanted: &Filter,
     held: SharedHeld,
@@ -87,7 +87,7 @@ fn put_one(
     }
 }
 
-/// Puts a version among those of a list in order, of which none is of that version. It takes no memory.
+/// Puts a version into a list in order that doesn't have it. Takes no memory.
 pub(crate) fn put_in(held: SharedHeld, list: &mut Roomy<SharedHeld>)
     requires { HasRoomFor (held ∷ []) list.old }
     ensures items { list.new.items ≡ put held_before held list.old.items }
@@ -98,8 +98,8 @@ pub(crate) fn put_in(held: SharedHeld, list: &mut Roomy<SharedHeld>)
     list.insert_behind(|other: &SharedHeld| other.is_before(picture, version), held);
 }
 
-/// The versions of two lists come into two sets: those that the filter matches into the first, and the others into the
-/// second. After want of memory both are as they were.
+/// Puts the versions of two lists into two sets: those that the filter matches into the first, the others into the second.
+/// After refused memory both sets are as they were.
 pub(crate) fn sort_in(
     wanted: &Filter,
     stored: Vec<SharedHeld>,

@@ -2,30 +2,30 @@
 use Rattle.std.proofs.Common.{◌≡◌, ℕ, ◌+◌, ◌<◌, ◌≤◌, Bool, true, false, ◌&&◌, ◌||◌, List, [], ◌∷◌, ◌++◌, Option, Some, None, refl, sym, ap, ◌∙◌, inl, inr, length, arith, subst}
 use Rattle.std.specs.Prelude.{filter, not, Option, IfSome, is_some}
 use Rattle.std.specs.Option.{is_some}
-use Rattle.std.specs.List.{AllByRecursion, cons_option}
+use Rattle.std.specs.List.{AllByRecursion}
 use Rattle.std.proofs.lemmas.Bool.{and_parts, or_cases, or_left, or_right, not-true}
-use Rattle.std.proofs.lemmas.List.{length-map}
+use Rattle.std.proofs.lemmas.Bool.Decides.{nat_tests}
 use Rattle.std.proofs.Math.Bool.{or-true}
 use Rattle.photo_version.specs.Version.{Version, same_version}
 use Rattle.item_knowledge.specs.Fragments.{Fragment, knows}
 use Rattle.photo_device.specs.declared.held.Held.{Held}
-use Rattle.photo_device.specs.Held.{find_version, count_of, times_in, helds_at, entries_of}
+use Rattle.photo_device.specs.Held.{find_version, has_version_of, is_of, count_of, entries_of, versions_of}
 use Rattle.photo_model.specs.Device.{ModelDevice, changed}
 use Rattle.photo_device.specs.Device.{Kept, unstaged, Staging, Shows}
 use Rattle.photo_device.specs.Own.{HasEarlier, IsKnownBy, KnowsNoMore}
 use Rattle.photo_device.specs.Telling.{tells}
-use Rattle.photo_device.specs.Staging.{HasStaged, MayHand, MayStage}
+use Rattle.photo_device.specs.Staging.{HasStaged, MayHand, MayStage, versions_in}
 use Rattle.photo_model.proofs.AllLemmas.{all_append, all_filter}
 use Rattle.photo_device.proofs.Changed.{all_new}
 use Rattle.photo_device.proofs.Counts.{count_of-append, count_of-filter, same_version_self, same_version_is}
 use Rattle.photo_device.proofs.OwnLemmas.{no_more_of, known_later}
 use Rattle.photo_device.proofs.TellingLemmas.{told_known, known_told}
 use Rattle.photo_device.proofs.Staged.{shows_alike}
-use Rattle.photo_pull.specs.OnHeld.{is_new, new_waiting, learns, is_dropped, is_over, is_selected, is_heard, new_stored, heard, taken_stored, versions, drops}
-use Rattle.photo_pull.specs.Findings.{AreReady, IsGained, IsHearing, HasStagedPull}
-use Rattle.photo_pull.specs.declared.hearing.Hearing.{Hearing}
+use Rattle.photo_pull.specs.OnHeld.{is_new, new_waiting, learns, is_dropped, is_over, is_selected, is_heard, new_stored, heard, dropped_stored, dropped_waiting, taken_stored, drops}
+use Rattle.photo_pull.specs.Findings.{AreReady, IsGained, IsDelta, HasStagedPull}
+use Rattle.photo_pull.specs.declared.delta.PullDelta.{PullDelta}
 use Rattle.photo_model.specs.Pull.{pulled}
-use Rattle.photo_pull.proofs.Members.{In, in_left, in_right, in_filtered, all_map, all_of, filter_mapped, found_some, found_in, only_one, find_one}
+use Rattle.photo_pull.proofs.Members.{In, in_left, in_right, in_filtered, in_any, all_of, found_in}
 use Rattle.photo_pull.proofs.Told.{known_here, found_here}
 use Rattle.photo_pull.proofs.Shown.{takes, shows_pulled}
 
@@ -33,10 +33,11 @@ use Rattle.photo_pull.proofs.Shown.{takes, shows_pulled}
 all_heard : (P : Held → Type 0) (t s : Kept) → AllByRecursion P s.store → AllByRecursion P (heard t s)
 all_heard P t s all = all_filter P (is_heard t s) (new_stored t s) (all_filter P (is_new t.knowledge) s.store all)
 
--- those of a list that are found are what is asked for
-all_found : (hs helds : List Held) → AllByRecursion (λ h. find_version h.version helds ≡ Some h) hs → helds_at (versions hs) helds ≡ hs
-all_found [] helds all = refl
-all_found (h ∷ hs) helds all = (λ i. cons_option (all.0 i) (helds_at (versions hs) helds)) ∙ ap (λ l. h ∷ l) (all_found hs helds all.1)
+of_filter : (q : Held → Bool) (xs : List Held) → AllByRecursion (λ h. has_version_of h.picture h.version xs ≡ true) (filter q xs)
+of_filter q xs = all_of _ (filter q xs) (λ h here. in_any (λ (g : Held). is_of g h.picture h.version) h xs (in_filtered q h xs here).0 (is_of_self h))
+  where
+    is_of_self : (h : Held) → is_of h h.picture h.version ≡ true
+    is_of_self h = grind (arith, nat_tests, same_version_self)
 
 module _ (t s : Kept) (ready : AreReady t s) where
   pub heard_earlier : AllByRecursion HasEarlier (heard t s)
@@ -51,12 +52,12 @@ module _ (t s : Kept) (ready : AreReady t s) where
   waiting_known : AllByRecursion (IsKnownBy s.knowledge) (new_waiting t s)
   waiting_known = all_filter (IsKnownBy s.knowledge) (is_new t.knowledge) s.out ready.source.out_known
 
-  pub drops_held : AllByRecursion (λ v. is_some (find_version v (t.store ++ t.out)) ≡ true) (drops t s)
-  drops_held = all_append _ _ _ (of_filter (is_dropped t s) t.store (λ h. in_left h t.store t.out)) (of_filter (is_over t s) t.out (λ h. in_right h t.store t.out))
-    where
-      of_filter : (q : Held → Bool) (xs : List Held) → ((h : Held) → In h xs → In h (t.store ++ t.out)) → AllByRecursion (λ v. is_some (find_version v (t.store ++ t.out)) ≡ true) (versions (filter q xs))
-      of_filter q xs inside = all_map (λ v. is_some (find_version v (t.store ++ t.out)) ≡ true) (λ (h : Held). h.version) (filter q xs) (all_of _ (filter q xs) (λ h here.
-          found_some (λ (g : Held). same_version g.version h.version) h (t.store ++ t.out) (inside h (in_filtered q h xs here).0) (same_version_self h.version)))
+  -- what is dropped stands where it is said to be
+  pub stored_held : AllByRecursion (λ h. has_version_of h.picture h.version t.store ≡ true) (dropped_stored t s)
+  stored_held = of_filter (is_dropped t s) t.store
+
+  pub waiting_held : AllByRecursion (λ h. has_version_of h.picture h.version t.out ≡ true) (dropped_waiting t s)
+  waiting_held = of_filter (is_over t s) t.out
 
   -- what the source holds and the target doesn't know, the target doesn't hold
   not_held : (w : Held) → In w (s.store ++ s.out) → is_new t.knowledge w ≡ true → find_version w.version (t.store ++ t.out) ≡ None
@@ -101,21 +102,6 @@ module _ (t s : Kept) (ready : AreReady t s) where
       let both = count_of-append v t.store t.out in
       omega arith
 
-  pub asked_once : (v : Version) → times_in v (versions (new_waiting t s)) ≤ 1
-  asked_once v =
-      let once = taken_once v in
-      let same = ap length (filter_mapped (λ w. same_version w v) (λ (h : Held). h.version) (new_waiting t s)) in
-      let mapped = length-map (filter (λ (h : Held). same_version h.version v) (new_waiting t s)) (λ (h : Held). h.version) in
-      omega arith
-
-  -- what is asked for is what waits
-  pub handed_are : helds_at (versions (new_waiting t s)) s.out ≡ new_waiting t s
-  handed_are = all_found (new_waiting t s) s.out (all_of _ (new_waiting t s) (λ w here.
-      let once = ready.source.once w.version in
-      let all = count_of-append w.version s.store s.out in
-      let same : Held → Bool = λ g. same_version g.version w.version in
-      find_one same w s.out (only_one same w s.out (in_filtered (is_new t.knowledge) w s.out here).0 (same_version_self w.version) (omega arith))))
-
   pub told_is_known : (p : ℕ) (v : Version) → (tells (heard t s) p v || tells (new_waiting t s) p v) ≡ true → knows s.knowledge p v ≡ true
   told_is_known p v h = elim (or_cases (tells (heard t s) p v) _ h) [
     | inl told ↦ told_known s.knowledge (heard t s) p v heard_known told
@@ -155,13 +141,13 @@ module _ (t s : Kept) (ready : AreReady t s) where
   pub gained_told : learns t s ≡ false → (gain : List Fragment) (hs ws : List Held) → hs ≡ heard t s → ws ≡ new_waiting t s → ((p : ℕ) (v : Version) → 0 < p → knows gain p v ≡ (tells hs p v || tells ws p v)) → IsGained t s gain
   gained_told none gain hs ws heard_is waiting_is told p v above = told p v above ∙ (λ i. tells (heard_is i) p v || tells (waiting_is i) p v) ∙ (let nothing = none in grind arith)
 
-  module _ (room : ℕ) (new : Kept) (has : HasStagedPull t s room new) (handed : List Held) (handed_is : handed ≡ new_waiting t s) where
+  module _ (new : Kept) (has : HasStagedPull t s new) (handed : List Held) (handed_is : handed ≡ new_waiting t s) where
     -- what is handed over may be taken with the change that was staged
-    pub may_hand : length handed ≤ room → IfSome new.staged (λ st. MayHand handed st new)
-    may_hand few =
+    pub may_hand : IfSome new.staged (λ st. MayHand handed st new)
+    may_hand =
         let taken : List Held = taken_stored t s in
         subst (λ (o : Option Staging). IfSome o (λ st. MayHand handed st new)) (sym has.staged.staged) (record {
-          few = few;
+          few = let all = ap length handed_is in omega arith;
           once = λ v.
               let once = taken_once t s ready v in
               let store : count_of v new.store ≡ count_of v t.store = ap (λ (k : Kept). count_of v k.store) has.staged.rest in
@@ -197,34 +183,35 @@ module _ (t s : Kept) (ready : AreReady t s) where
         known_twice e o g k is was = grind arith
 
 -- what the code found
-module _ (t s : Kept) (h : Hearing) (hearing : IsHearing t s h) where
+module _ (t s : Kept) (h : PullDelta) (delta : IsDelta t s h) where
   -- it tells, or learns all
-  pub gained_by_all : (told : Option (List Fragment)) → told ≡ None → is_some told ≡ not h.learned → (gain : List Fragment) → gain ≡ s.knowledge → IsGained t s gain
-  gained_by_all told none learned = gained_all t s hearing.ready (let is = hearing.learned in grind arith)
+  pub gained_found : (told : Option (List Fragment)) (gain : List Fragment) → is_some told ≡ not h.learned → IfSome told (λ fs. (p : ℕ) (v : Version) → 0 < p → knows fs p v ≡ (tells h.heard.items p v || tells h.handed.items p v))
+      → IfSome told (λ fs. gain ≡ fs) → (told ≡ None → gain ≡ s.knowledge) → IsGained t s gain
+  gained_found None gain learned tells_all is all = gained_all t s delta.ready (let is = delta.learned in grind arith) gain (all refl)
+  gained_found (Some fs) gain learned tells_all is all =
+      gained_told t s delta.ready (let is = delta.learned in grind arith) gain h.heard.items h.handed.items delta.heard delta.handed
+      (λ p v above. ap (λ gs. knows gs p v) is ∙ tells_all p v above)
 
-  pub gained_by_told : (told : Option (List Fragment)) (gain : List Fragment) → told ≡ Some gain → is_some told ≡ not h.learned
-      → IfSome told (λ fs. (p : ℕ) (v : Version) → 0 < p → knows fs p v ≡ (tells h.heard.items p v || tells h.handed.items p v)) → IsGained t s gain
-  gained_by_told told gain some learned tells_all =
-      gained_told t s hearing.ready (let is = hearing.learned in grind arith) gain h.heard.items h.handed.items hearing.heard hearing.handed
-      (subst (λ (o : Option (List Fragment)). IfSome o (λ fs. (p : ℕ) (v : Version) → 0 < p → knows fs p v ≡ (tells h.heard.items p v || tells h.handed.items p v))) some tells_all)
-
-  module _ (ds : List Version) (of_drops : ds ≡ drops t s) (ts : List Held) (of_takes : ts ≡ filter (is_selected t.tree) h.heard.items) (gain : List Fragment) (gained : IsGained t s gain) where
+  module _ (ts : List Held) (of_takes : ts ≡ filter (is_selected t.tree) h.heard.items) (gain : List Fragment) (gained : IsGained t s gain) where
     taken : ts ≡ taken_stored t s
-    taken = of_takes ∙ ap (filter (is_selected t.tree)) hearing.heard
+    taken = of_takes ∙ ap (filter (is_selected t.tree)) delta.heard
 
-    pub may_stage : MayStage ds ts gain t
-    may_stage = subst (λ l. MayStage ds l gain t) (sym taken) (record {
-      held = subst (AllByRecursion (λ v. is_some (find_version v (t.store ++ t.out)) ≡ true)) (sym of_drops) (drops_held t s hearing.ready);
-      new = taken_new t s hearing.ready;
-      distinct = λ v. let once = taken_once t s hearing.ready v in omega arith;
-      earlier = all_filter HasEarlier (is_selected t.tree) (heard t s) (heard_earlier t s hearing.ready);
-      known = all_filter (IsKnownBy gain) (is_selected t.tree) (heard t s) (heard_gained t s hearing.ready gain gained);
-      own = gain_own t s hearing.ready gain gained;
+    pub may_stage : MayStage h.dropped.stored.items h.dropped.waiting.items ts gain t
+    may_stage = subst (λ l. MayStage h.dropped.stored.items h.dropped.waiting.items l gain t) (sym taken) (record {
+      stored = subst (AllByRecursion (λ d. has_version_of d.picture d.version t.store ≡ true)) (sym delta.dropped_stored) (stored_held t s delta.ready);
+      waiting = subst (AllByRecursion (λ d. has_version_of d.picture d.version t.out ≡ true)) (sym delta.dropped_waiting) (waiting_held t s delta.ready);
+      new = taken_new t s delta.ready;
+      distinct = λ v. let once = taken_once t s delta.ready v in omega arith;
+      earlier = all_filter HasEarlier (is_selected t.tree) (heard t s) (heard_earlier t s delta.ready);
+      known = all_filter (IsKnownBy gain) (is_selected t.tree) (heard t s) (heard_gained t s delta.ready gain gained);
+      own = gain_own t s delta.ready gain gained;
     })
 
-    pub staged_found : (room : ℕ) (new : Kept) → HasStaged ds ts gain room t new → HasStagedPull t s room new
-    staged_found room new staged = record {
+    pub staged_found : (new : Kept) → HasStaged (versions_in h.dropped) ts gain (length h.handed.items) t new → HasStagedPull t s new
+    staged_found new staged = record {
       gain = gain;
       gained = gained;
-      staged = subst (λ l. HasStaged (drops t s) l gain room t new) taken (subst (λ l. HasStaged l ts gain room t new) of_drops staged);
+      staged = subst (λ n. HasStaged (drops t s) (taken_stored t s) gain n t new) (ap length delta.handed)
+          (subst (λ l. HasStaged (drops t s) l gain (length h.handed.items) t new) taken
+          (subst (λ l. HasStaged l ts gain (length h.handed.items) t new) (λ i. versions_of (delta.dropped_stored i) ++ versions_of (delta.dropped_waiting i)) staged));
     }

@@ -2,7 +2,6 @@
 use Rattle.std.proofs.Common.{◌≡◌, ◌≤◌, Bool, true, false, cond, not, ◌&&◌, ◌||◌, List, [], ◌∷◌, ◌++◌, length, map, Some, refl, sym, ap, ◌∙◌, subst, inl, inr, ◌⊎◌, arith}
 use Rattle.std.specs.Prelude.{filter}
 use Rattle.std.specs.List.{list_any, find, AllByRecursion}
-use Rattle.std.specs.Option.{is_some}
 use Rattle.std.proofs.lemmas.Bool.{cases_Bool, or_right}
 
 module _ {X : Type 0} where
@@ -104,11 +103,6 @@ module _ {X : Type 0} where
     | inr there ↦ let rest = found_in p x ys (rw there at e) in (inr rest.0, rest.1)
   ]
 
-  pub found_some : (p : X → Bool) (x : X) (xs : List X) → In x xs → p x ≡ true → is_some (find p xs) ≡ true
-  found_some p x [] h passes = absurd h
-  found_some p x (y ∷ ys) (inl e) passes = rw (sym (ap p e) ∙ passes) refl
-  found_some p x (y ∷ ys) (inr there) passes = grind (arith, found_some p x ys there passes)
-
 module _ {X Y : Type 0} where
   pub any_map : (f : Y → Bool) (g : X → Y) (xs : List X) → list_any f (map g xs) ≡ list_any (λ x. f (g x)) xs
   any_map f g [] = refl
@@ -117,7 +111,3 @@ module _ {X Y : Type 0} where
   pub filter_mapped : (f : Y → Bool) (g : X → Y) (xs : List X) → filter f (map g xs) ≡ map g (filter (λ x. f (g x)) xs)
   filter_mapped f g [] = refl
   filter_mapped f g (x ∷ xs) = grind (arith, filter_mapped f g xs)
-
-  pub all_map : (P : Y → Type 0) (g : X → Y) (xs : List X) → AllByRecursion (λ x. P (g x)) xs → AllByRecursion P (map g xs)
-  all_map P g [] all = tt
-  all_map P g (x ∷ xs) all = (all.0, all_map P g xs all.1)

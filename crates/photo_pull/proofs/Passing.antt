@@ -9,7 +9,7 @@ use Rattle.photo_device.specs.declared.held.Held.{Held}
 use Rattle.photo_device.specs.Held.{are_in_order, held_before, is_of}
 use Rattle.photo_device.proofs.Order.{held_order, for_version}
 use Rattle.photo_device.proofs.Putting.{found_first, told_if, any_found, map_alike}
-use Rattle.photo_pull.specs.OnHeld.{has_same, coming, HasPassed}
+use Rattle.photo_pull.specs.OnHeld.{has_same, left_of, HasPassed}
 
 -- what stands before a version is none of those that don't
 other_than : (h other k : Held) → held_before other h ≡ true → held_before k h ≡ false → is_of other k.picture k.version ≡ false
@@ -21,12 +21,12 @@ passed_one h other old left passed before = record {
   same = λ k later. sym (ap (λ b. b || has_same left k) (other_than h other k before later)) ∙ passed.same k later;
 }
 
-taken : (others left : List Held) (next : Option (Bor Held)) → YieldsFirstRef (λ (l : List Held). l) others next left → others ≡ coming next left
+taken : (others left : List Held) (next : Option (Bor Held)) → YieldsFirstRef (λ (l : List Held). l) others next left → others ≡ left_of next left
 taken others left None gives = gives.0
 taken others left (Some next) gives = gives
 
-pub passed_next : (h : Held) (other : Bor Held) (old others left : List Held) (at next : Option (Bor Held)) → HasPassed h old (coming at others) → at ≡ Some other → held_before other.now h ≡ true
-    → YieldsFirstRef (λ (l : List Held). l) others next left → HasPassed h old (coming next left)
+pub passed_next : (h : Held) (other : Bor Held) (old others left : List Held) (at next : Option (Bor Held)) → HasPassed h old (left_of at others) → at ≡ Some other → held_before other.now h ≡ true
+    → YieldsFirstRef (λ (l : List Held). l) others next left → HasPassed h old (left_of next left)
 passed_next h other old others left at next passed is before gives =
     subst (HasPassed h old) (taken others left next gives) (passed_one h other.now old others (rw is at passed) before)
 
@@ -41,7 +41,7 @@ first_is h other left order later =
 pub not_before_itself : (h : Held) → held_before h h ≡ false
 not_before_itself h = grind (arith, nat_tests)
 
-pub first_found : (h : Held) (other : Bor Held) (old others : List Held) (at : Option (Bor Held)) → HasPassed h old (coming at others) → at ≡ Some other → held_before other.now h ≡ false
+pub first_found : (h : Held) (other : Bor Held) (old others : List Held) (at : Option (Bor Held)) → HasPassed h old (left_of at others) → at ≡ Some other → held_before other.now h ≡ false
     → is_of other.now h.picture h.version ≡ has_same old h
 first_found h other old others at passed is later =
     let here : HasPassed h old (other.now ∷ others) = rw is at passed in
@@ -49,12 +49,12 @@ first_found h other old others at passed is later =
 
 -- Versions in order that are asked for in what is left of a set in order, which has the same of them that the set has
 
-pub record IsBeside (set left asked : List Held) : Type 0 where
+pub record AreBeside (set left asked : List Held) : Type 0 where
   pub order : are_in_order left ≡ true
   pub asking : are_in_order asked ≡ true
   pub same : map (λ h. has_same left h) asked ≡ map (λ h. has_same set h) asked
 
-pub beside_one : (set left new rest : List Held) (h : Held) → IsBeside set left (h ∷ rest) → HasPassed h left new → IsBeside set new rest
+pub beside_one : (set left new rest : List Held) (h : Held) → AreBeside set left (h ∷ rest) → HasPassed h left new → AreBeside set new rest
 beside_one set left new rest h beside passed =
     let behind : (list_all (held_before h) rest ≡ true) × (are_in_order rest ≡ true) = and_parts _ _ beside.asking in
     record {

@@ -15,18 +15,18 @@ use Rattle.photo_filter_rules.specs.Matching.{matches}
 use Rattle.photo_filter_rules.specs.Covers.{covers}
 use Rattle.photo_device.specs.declared.held.Held.{Held}
 use Rattle.photo_model.specs.Entry.{Entry, supersedes, superseded_by, without, put_entries}
-use Rattle.photo_device.specs.Held.{entry_of, entries_of, count_of}
+use Rattle.photo_device.specs.Held.{entry_of, entries_of, count_of, versions_of}
 use Rattle.photo_model.specs.Device.{ModelDevice, holds, knows_entry, selects, changed, without_waiting}
 use Rattle.photo_device.specs.Device.{Kept, Shows, unstaged}
 use Rattle.photo_device.specs.Own.{IsDevice}
 use Rattle.photo_model.specs.Telling.{tell}
 use Rattle.photo_device.specs.Telling.{tells}
 use Rattle.photo_device.proofs.Counts.{count_of-append, same_version_self}
-use Rattle.photo_pull.specs.Findings.{AreReady, IsHearing, IsNothing}
+use Rattle.photo_pull.specs.Findings.{AreReady, IsDelta, IsNothing}
 use Rattle.photo_model.specs.Pull.{taken, handed, noticed, told, learns_all, is_stale, leaves_store, leaves_out, pulled, handed_over, counts_of}
-use Rattle.photo_pull.specs.OnHeld.{is_new, new_stored, new_waiting, learns, is_over, is_stale_held, is_dropped, dropped_stored, dropped_waiting, is_selected, is_heard, heard, taken_stored, versions, drops, gains}
+use Rattle.photo_pull.specs.OnHeld.{is_new, new_stored, new_waiting, learns, is_over, is_stale_held, is_dropped, dropped_stored, dropped_waiting, is_selected, is_heard, heard, taken_stored, drops, gains}
 use Rattle.photo_model.specs.declared.counts.PullCounts.{PullCounts}
-use Rattle.photo_pull.specs.declared.hearing.Hearing.{Hearing}
+use Rattle.photo_pull.specs.declared.delta.PullDelta.{PullDelta}
 use Rattle.photo_pull.proofs.Members.{In, in_left, in_right, any_same, filter_alike, filter_filter, any_map, any_swap, filter_mapped, no_more, only_one}
 use Rattle.photo_pull.proofs.Told.{known_here, same_picture, is_notice, notices, heard_as, any_told, over_is}
 
@@ -53,7 +53,7 @@ parts_of h xs ys here few =
     (one, no_more (filter (same_as h) ys) (omega arith))
 
 -- whether a version is among those of what a test keeps
-among : (h : Held) (q : Held → Bool) (xs more : List Held) → filter (same_as h) xs ≡ more → list_any (λ v. same_version v h.version) (versions (filter q xs)) ≡ list_any q more
+among : (h : Held) (q : Held → Bool) (xs more : List Held) → filter (same_as h) xs ≡ more → list_any (λ v. same_version v h.version) (versions_of (filter q xs)) ≡ list_any q more
 among h q xs more is = any_map (λ v. same_version v h.version) (λ (g : Held). g.version) (filter q xs) ∙ any_swap (same_as h) q xs ∙ ap (list_any q) is
 
 -- no version is held twice
@@ -142,7 +142,7 @@ module _ (t s : Kept) (ready : AreReady t s) (tm sm : ModelDevice) (shows_t : Sh
 
   drops_have : (h : Held) (stored waiting : List Held) → filter (same_as h) t.store ≡ stored → filter (same_as h) t.out ≡ waiting → list_any (λ v. same_version v h.version) (drops t s) ≡ (list_any (is_dropped t s) stored || list_any (is_over t s) waiting)
   drops_have h stored waiting in_store in_out =
-      list_any-append (λ v. same_version v h.version) (versions (dropped_stored t s)) (versions (dropped_waiting t s))
+      list_any-append (λ v. same_version v h.version) (versions_of (dropped_stored t s)) (versions_of (dropped_waiting t s))
       ∙ (λ i. among h (is_dropped t s) t.store stored in_store i || among h (is_over t s) t.out waiting in_out i)
 
   pub stored_left : without (drops t s) tm.store ≡ filter (λ e. not (leaves_store tm sm e)) tm.store
@@ -155,8 +155,8 @@ module _ (t s : Kept) (ready : AreReady t s) (tm sm : ModelDevice) (shows_t : Sh
       let parts = parts_of h t.out t.store here (let once = once_in t ready.target h.version in omega arith) in
       ap not (drops_have h _ _ parts.1 parts.0 ∙ or-false (is_over t s h) ∙ sym (leaves_out_shown h here)))
 
-  pub handed_left : without (versions (new_waiting t s)) sm.out ≡ filter (knows_entry tm) sm.out
-  handed_left = filters_agree (λ e. not (list_any (λ v. same_version v e.version) (versions (new_waiting t s)))) (knows_entry tm) s.out sm.out shows_s.out (λ h here.
+  pub handed_left : without (versions_of (new_waiting t s)) sm.out ≡ filter (knows_entry tm) sm.out
+  handed_left = filters_agree (λ e. not (list_any (λ v. same_version v e.version) (versions_of (new_waiting t s)))) (knows_entry tm) s.out sm.out shows_s.out (λ h here.
       let parts = parts_of h s.out s.store here (let once = once_in s ready.source h.version in omega arith) in
       ap not (among h (is_new t.knowledge) s.out _ parts.0 ∙ or-false (is_new t.knowledge h) ∙ sym (new_shown h (in_right h s.store s.out here))) ∙ grind arith)
 
@@ -186,47 +186,47 @@ module _ (t s : Kept) (ready : AreReady t s) (tm sm : ModelDevice) (shows_t : Sh
       }
 
   -- the source, without what it handed over
-  pub shows_handed : (after : Kept) → Shows after (without_waiting (versions (new_waiting t s)) sm) → Shows after (handed_over tm sm)
+  pub shows_handed : (after : Kept) → Shows after (without_waiting (versions_of (new_waiting t s)) sm) → Shows after (handed_over tm sm)
   shows_handed after shows = subst (λ out. Shows after (record sm { out = out })) handed_left shows
 
 -- what the code found
-module _ (t s : Kept) (h : Hearing) (hearing : IsHearing t s h) (tm sm : ModelDevice) (shows_t : Shows t tm) (shows_s : Shows s sm) where
+module _ (t s : Kept) (h : PullDelta) (delta : IsDelta t s h) (tm sm : ModelDevice) (shows_t : Shows t tm) (shows_s : Shows s sm) where
   -- where nothing was found, both are as they were
 
   pub nothing_pulled : (known taught : Knowing) → known.known ≡ t.knowledge → taught.known ≡ s.knowledge → IsNothing h known taught → Shows t (pulled tm sm)
   nothing_pulled known taught known_is taught_is none =
-      let no_drops : drops t s ≡ [] = λ i. versions ((sym hearing.dropped_stored ∙ none.dropped_stored) i) ++ versions ((sym hearing.dropped_waiting ∙ none.dropped_waiting) i) in
-      let no_takes : takes t s ≡ [] = λ i. filter (λ (w : Held). matches t.tree w.content) ((sym hearing.heard ∙ none.heard) i) ++ (sym hearing.handed ∙ none.handed) i in
-      shows_pulled t s hearing.ready tm sm shows_t shows_s t (λ p v. learns t s && knows s.knowledge p v)
-      (λ p v above. sym ((λ i. (learns t s && knows s.knowledge p v) || (tells ((sym hearing.heard ∙ none.heard) i) p v || tells ((sym hearing.handed ∙ none.handed) i) p v)) ∙ or-false (learns t s && knows s.knowledge p v)))
+      let no_drops : drops t s ≡ [] = λ i. versions_of ((sym delta.dropped_stored ∙ none.dropped_stored) i) ++ versions_of ((sym delta.dropped_waiting ∙ none.dropped_waiting) i) in
+      let no_takes : takes t s ≡ [] = λ i. filter (λ (w : Held). matches t.tree w.content) ((sym delta.heard ∙ none.heard) i) ++ (sym delta.handed ∙ none.handed) i in
+      shows_pulled t s delta.ready tm sm shows_t shows_s t (λ p v. learns t s && knows s.knowledge p v)
+      (λ p v above. sym ((λ i. (learns t s && knows s.knowledge p v) || (tells ((sym delta.heard ∙ none.heard) i) p v || tells ((sym delta.handed ∙ none.handed) i) p v)) ∙ or-false (learns t s && knows s.knowledge p v)))
       (record {
         author = shows_t.author;
         tree = shows_t.tree;
         counter = shows_t.counter;
         store = shows_t.store ∙ sym ((λ i. put_entries (filter (selects tm) (entries_of (no_takes i))) (without (no_drops i) tm.store)) ∙ filter_all tm.store);
         out = shows_t.out ∙ sym ((λ i. put_entries (filter (λ e. not (selects tm e)) (entries_of (no_takes i))) (without (no_drops i) tm.out)) ∙ filter_all tm.out);
-        known = λ p above v. nothing_more (tm.every v) (tm.of p v) _ (learns t s) (knows s.knowledge p v) (shows_t.known p above v) (λ l h. sym (ap (λ fs. knows fs p v) known_is) ∙ none.teaches_none (hearing.learned ∙ l) p v above (ap (λ fs. knows fs p v) taught_is ∙ h));
+        known = λ p above v. nothing_more (tm.every v) (tm.of p v) _ (learns t s) (knows s.knowledge p v) (shows_t.known p above v) (λ l h. sym (ap (λ fs. knows fs p v) known_is) ∙ none.teaches_none (delta.learned ∙ l) p v above (ap (λ fs. knows fs p v) taught_is ∙ h));
       })
 
   pub nothing_handed : h.handed.items ≡ [] → Shows s (handed_over tm sm)
   nothing_handed none =
-      let kept : without (versions (new_waiting t s)) sm.out ≡ sm.out = ap (λ hs. without (versions hs) sm.out) (sym hearing.handed ∙ none) ∙ filter_all sm.out in
-      shows_handed t s hearing.ready tm sm shows_t shows_s s (subst (λ out. Shows s (record sm { out = out })) (sym kept) shows_s)
+      let kept : without (versions_of (new_waiting t s)) sm.out ≡ sm.out = ap (λ hs. without (versions_of hs) sm.out) (sym delta.handed ∙ none) ∙ filter_all sm.out in
+      shows_handed t s delta.ready tm sm shows_t shows_s s (subst (λ out. Shows s (record sm { out = out })) (sym kept) shows_s)
 
   pub counts_found : (counts : PullCounts) → counts.taken ≡ length (filter (is_selected t.tree) h.heard.items) → counts.handed ≡ length h.handed.items
       → counts.notices + counts.taken ≡ length h.heard.items → counts.dropped ≡ length h.dropped.stored.items + length h.dropped.waiting.items → counts.learned ≡ h.learned → counts ≡ counts_of tm sm
   counts_found counts taken_is handed_is notices_are dropped_is learned_is =
       let sel : Held → Bool = is_selected t.tree in
-      let as_taken : counts.taken ≡ length (taken_stored t s) = taken_is ∙ ap (λ hs. length (filter sel hs)) hearing.heard in
+      let as_taken : counts.taken ≡ length (taken_stored t s) = taken_is ∙ ap (λ hs. length (filter sel hs)) delta.heard in
       let both = length-filter_both sel (λ w. not (sel w)) (λ w. refl) (heard t s) in
-      let all = ap length hearing.heard in
+      let all = ap length delta.heard in
       let as_notices : counts.notices ≡ length (notices t s) = omega arith in
       λ i. record {
-        taken = (as_taken ∙ sym (sized _ _ (taken_shown t s hearing.ready tm sm shows_t shows_s))) i;
-        handed = (handed_is ∙ ap length hearing.handed ∙ sym (sized _ _ (handed_shown t s hearing.ready tm sm shows_t shows_s))) i;
-        notices = (as_notices ∙ sym (sized _ _ (noticed_shown t s hearing.ready tm sm shows_t shows_s))) i;
-        dropped = (dropped_is ∙ (λ j. (ap length hearing.dropped_stored ∙ sym (sized _ _ (dropped_stored_shown t s hearing.ready tm sm shows_t shows_s))) j + (ap length hearing.dropped_waiting ∙ sym (sized _ _ (dropped_waiting_shown t s hearing.ready tm sm shows_t shows_s))) j)) i;
-        learned = (learned_is ∙ hearing.learned ∙ sym (learns_shown t s hearing.ready tm sm shows_t shows_s)) i;
+        taken = (as_taken ∙ sym (sized _ _ (taken_shown t s delta.ready tm sm shows_t shows_s))) i;
+        handed = (handed_is ∙ ap length delta.handed ∙ sym (sized _ _ (handed_shown t s delta.ready tm sm shows_t shows_s))) i;
+        notices = (as_notices ∙ sym (sized _ _ (noticed_shown t s delta.ready tm sm shows_t shows_s))) i;
+        dropped = (dropped_is ∙ (λ j. (ap length delta.dropped_stored ∙ sym (sized _ _ (dropped_stored_shown t s delta.ready tm sm shows_t shows_s))) j + (ap length delta.dropped_waiting ∙ sym (sized _ _ (dropped_waiting_shown t s delta.ready tm sm shows_t shows_s))) j)) i;
+        learned = (learned_is ∙ delta.learned ∙ sym (learns_shown t s delta.ready tm sm shows_t shows_s)) i;
       }
     where
       sized : (es : List Entry) (hs : List Held) → es ≡ entries_of hs → length es ≡ length hs

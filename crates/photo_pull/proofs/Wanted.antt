@@ -12,10 +12,10 @@ use Rattle.photo_device.specs.declared.held.Held.{Held}
 use Rattle.photo_device.specs.Held.{entry_of, entries_of}
 use Rattle.photo_model.specs.Device.{ModelDevice, holds, knows_entry}
 use Rattle.photo_device.specs.Device.{Kept, Shows}
-use Rattle.photo_pull.specs.Findings.{AreReady, IsHearing, IsNothing, IsSomething, HasToPull}
+use Rattle.photo_pull.specs.Findings.{AreReady, IsDelta, IsNothing, IsSomething, HasToPull}
 use Rattle.photo_model.specs.Pull.{is_stale, is_up_to_date, IsTaughtNothing}
 use Rattle.photo_pull.specs.OnHeld.{is_new, has_above, is_heard, new_stored, new_waiting, is_over, is_dropped, is_stale_held}
-use Rattle.photo_pull.specs.declared.hearing.Hearing.{Hearing}
+use Rattle.photo_pull.specs.declared.delta.PullDelta.{PullDelta}
 use Rattle.photo_pull.proofs.Members.{any_same}
 use Rattle.photo_pull.proofs.Shown.{any_shown, new_shown, stale_shown, learns_shown}
 
@@ -79,15 +79,15 @@ module _ (t s : Kept) (ready : AreReady t s) (tm sm : ModelDevice) (shows_t : Sh
   finds_none : (list_any (is_new t.knowledge) (s.store ++ s.out) || (list_any (is_dropped t s) t.store || list_any (is_over t s) t.out)) ≡ false
   finds_none = λ i. none_new i || (none_dropped i || none_given_up i)
 
-  hears_nothing : (h : Hearing) → IsHearing t s h → IsTaughtNothing tm sm → (known taught : Knowing) → known.known ≡ t.knowledge → taught.known ≡ s.knowledge → IsNothing h known taught
-  hears_nothing h hearing nothing known taught known_is taught_is = record {
-    heard = hearing.heard ∙ ap (filter (is_heard t s)) none_stored;
-    handed = hearing.handed ∙ none_waiting;
-    dropped_stored = hearing.dropped_stored ∙ none_kept (is_dropped t s) t.store none_dropped;
-    dropped_waiting = hearing.dropped_waiting ∙ none_kept (is_over t s) t.out none_given_up;
+  hears_nothing : (h : PullDelta) → IsDelta t s h → IsTaughtNothing tm sm → (known taught : Knowing) → known.known ≡ t.knowledge → taught.known ≡ s.knowledge → IsNothing h known taught
+  hears_nothing h delta nothing known taught known_is taught_is = record {
+    heard = delta.heard ∙ ap (filter (is_heard t s)) none_stored;
+    handed = delta.handed ∙ none_waiting;
+    dropped_stored = delta.dropped_stored ∙ none_kept (is_dropped t s) t.store none_dropped;
+    dropped_waiting = delta.dropped_waiting ∙ none_kept (is_over t s) t.out none_given_up;
     teaches_none = λ l p v above knows_it.
         ap (λ fs. knows fs p v) known_is ∙ shows_t.known p above v
-        ∙ nothing (learns_shown t s ready tm sm shows_t shows_s ∙ sym hearing.learned ∙ l) p v above (sym (shows_s.known p above v) ∙ sym (ap (λ fs. knows fs p v) taught_is) ∙ knows_it);
+        ∙ nothing (learns_shown t s ready tm sm shows_t shows_s ∙ sym delta.learned ∙ l) p v above (sym (shows_s.known p above v) ∙ sym (ap (λ fs. knows fs p v) taught_is) ∙ knows_it);
   }
 
 -- where something is found the target isn't up to date
@@ -100,5 +100,5 @@ out_of_date t s something tm sm shows_t shows_s =
 pub to_pull_something : (t s : Kept) → IsSomething t s → HasToPull t s
 to_pull_something t s something = λ tm sm shows_t shows_s is _. false≢true (sym (out_of_date t s something tm sm shows_t shows_s) ∙ is)
 
-pub to_pull : (t s : Kept) (h : Hearing) → IsHearing t s h → (known taught : Knowing) → known.known ≡ t.knowledge → taught.known ≡ s.knowledge → (IsNothing h known taught → ⊥) → HasToPull t s
-to_pull t s h hearing known taught known_is taught_is some = λ tm sm shows_t shows_s is nothing. some (hears_nothing t s hearing.ready tm sm shows_t shows_s is h hearing nothing known taught known_is taught_is)
+pub to_pull : (t s : Kept) (h : PullDelta) → IsDelta t s h → (known taught : Knowing) → known.known ≡ t.knowledge → taught.known ≡ s.knowledge → (IsNothing h known taught → ⊥) → HasToPull t s
+to_pull t s h delta known taught known_is taught_is some = λ tm sm shows_t shows_s is nothing. some (hears_nothing t s delta.ready tm sm shows_t shows_s is h delta nothing known taught known_is taught_is)

@@ -1,4 +1,4 @@
--- Small pulls, worked: what is up to date, what a pull takes and tells, and what of it the code finds.
+-- Worked examples of small pulls: what is up to date, what a pull takes and tells, and what the code finds.
 use Rattle.std.specs.Prelude.{◌≡◌, true, false, pos, List, [], ◌∷◌, None}
 use Rattle.photo_record.specs.declared.record.Record.TheVariants.{Picture, Removed}
 use Rattle.photo_filter_text.specs.declared.tree.Cmp.TheVariants.{AtLeast}
@@ -15,8 +15,7 @@ use Rattle.photo_model.specs.Pull.{taken, handed, noticed, is_up_to_date, IsTaug
 use Rattle.photo_pull.specs.OnHeld.{HasPassed}
 use Rattle.photo_pull.specs.Findings.{IsSomething, HasToPull}
 
--- the first device made picture 7. The second made picture 8, then gave picture 7 one star, and then removed picture 9 of
--- the third
+-- the first device made picture 7; the second made picture 8, then gave picture 7 one star, then removed the third's picture 9
 
 abbrev pub shot : Held
 shot = held_of 8 (nth 1 1) []
@@ -27,15 +26,15 @@ dimmed = record (held_of 7 (nth 1 2) ((author 0, 1) ∷ (author 1, 1) ∷ [])) {
 abbrev pub removal : Held
 removal = record (held_of 9 (nth 1 3) ((author 1, 2) ∷ (author 2, 1) ∷ [])) { content = Removed }
 
--- the first device, which keeps what has three stars, and holds and knows just what it made
+-- the first device, which keeps what has three stars, and holds and knows exactly what it made
 abbrev pub camera : Kept
 camera = record devices.camera { tree = Rate AtLeast 3 }
 
--- the same, where it knows the second device's first version
+-- the camera when it knows the second device's first version
 abbrev pub informed : Kept
 informed = record camera { knowledge = of [] (bound 0 1 ∷ bound 1 1 ∷ []) ∷ [] }
 
--- the second device, which keeps everything, when it has made picture 8
+-- the second device, which keeps everything, after it made picture 8
 abbrev pub phone : Kept
 phone = record {
   author = author 1;
@@ -47,19 +46,19 @@ phone = record {
   staged = None;
 }
 
--- the same, where it knows the first device's version and doesn't keep it
+-- the phone when it knows the first device's version and doesn't keep it
 abbrev pub tidy : Kept
 tidy = record phone { knowledge = informed.knowledge }
 
--- a device that keeps only what has four stars: it isn't seen to keep what the camera keeps
+-- the device with a filter of four stars, so its filter doesn't cover the camera's
 abbrev pub choosy : Kept → Kept
 choosy d = record d { tree = Rate AtLeast 4 }
 
--- a device that holds nothing of what it knows
+-- the device when it holds nothing of what it knows
 abbrev pub emptied : Kept → Kept
 emptied d = record d { store = []; out = [] }
 
--- the second device when it has made all three versions
+-- the second device after it made all three versions
 abbrev pub later : Kept
 later = record phone {
   counter = 3;
@@ -68,7 +67,7 @@ later = record phone {
   knowledge = of [] (bound 1 3 ∷ []) ∷ of (7 ∷ []) (bound 0 1 ∷ bound 1 3 ∷ []) ∷ of (9 ∷ []) (bound 1 3 ∷ bound 2 1 ∷ []) ∷ [];
 }
 
--- a model device that a device shows, with all that is known under the single pictures
+-- a model device that the device shows; all knowledge stands under single pictures
 abbrev pub model : Kept → ModelDevice
 model d = record {
   author = d.author;
@@ -84,14 +83,14 @@ model d = record {
 pub record TheUpToDate : Type 0 where
   pub all_known : is_up_to_date (model informed) (model phone) ≡ true
   pub one_unknown : is_up_to_date (model camera) (model phone) ≡ false
-  -- what is unknown waits in the source's out
+  -- the source's out has an unknown version
   pub one_waiting : is_up_to_date (model camera) (model (record phone { store = []; out = shot ∷ [] })) ≡ false
-  -- the source knows what the target stores and doesn't keep it
+  -- the source knows what the target stores, and doesn't keep it
   pub one_stale : is_up_to_date (model informed) (model tidy) ≡ false
   pub kept_by_both : is_up_to_date (model informed) (model (record tidy { store = first ∷ shot ∷ [] })) ≡ true
-  -- but isn't to keep all that the target is to keep
+  -- the same, but the source's filter doesn't cover the target's
   pub not_covered : is_up_to_date (model informed) (model (choosy tidy)) ≡ true
-  -- an unknown version is known to the source alone, and not held
+  -- the source knows an unknown version, and doesn't hold it
   pub none_held : is_up_to_date (model camera) (model (emptied phone)) ≡ true
 
 -- which targets are taught nothing, and, before a ⊥, which are taught something
@@ -99,33 +98,33 @@ pub record TheTaughtNothing : Type 0 where
   pub not_covered : IsTaughtNothing (model camera) (model (choosy phone))
   pub all_known : IsTaughtNothing (model informed) (model phone)
   pub one_unknown : IsTaughtNothing (model camera) (model phone) → ⊥
-  -- the source doesn't hold it
+  -- the source doesn't hold the version
   pub none_held : IsTaughtNothing (model camera) (model (emptied phone)) → ⊥
 
--- a pull by the camera from the second device, of which it takes one version, is handed one, and is told of one
+-- a pull by the camera from the second device: it takes one version, is handed one, and notices one
 pub record TheModelPull : Type 0 where
   pub shot_taken : taken (model camera) (model later) ≡ entry_of shot ∷ []
   pub removal_handed : handed (model camera) (model later) ≡ entry_of removal ∷ []
   pub edit_noticed : noticed (model camera) (model later) ≡ entry_of dimmed ∷ []
   pub counted : counts_of (model camera) (model later) ≡ record { taken = 1; handed = 1; notices = 1; dropped = 1; learned = true }
-  -- from a source that isn't seen to keep what the camera keeps, the same is moved and told
+  -- from a source whose filter doesn't cover the camera's, the pull moves and tells the same
   pub counted_choosy : counts_of (model camera) (model (choosy later)) ≡ record { taken = 1; handed = 1; notices = 1; dropped = 1; learned = false }
-  -- the edit supersedes what the camera stored, and isn't stored
+  -- the edit supersedes what the camera stored, and the camera doesn't store it
   pub stored : (pulled (model camera) (model later)).store ≡ entry_of shot ∷ []
   pub waiting : (pulled (model camera) (model later)).out ≡ entry_of removal ∷ []
   pub source_out : (handed_over (model camera) (model later)).out ≡ []
-  -- what the target knew stays in the source's out
+  -- a version that the target knew stays in the source's out
   pub known_stays : (handed_over (model (record camera { knowledge = later.knowledge })) (model later)).out ≡ entry_of removal ∷ []
 
 abbrev pub in_order : List Held
 in_order = first ∷ shot ∷ removal ∷ []
 
--- what a list may be gone along to for the version of picture 8, and, before a ⊥, what it may not
+-- where a cursor may stand after the query for the version of picture 8, and, before a ⊥, where it may not
 pub record ThePassed : Type 0 where
   pub up_to_it : HasPassed shot in_order (shot ∷ removal ∷ [])
-  -- nothing has to be left out
+  -- the cursor may skip nothing
   pub nothing_passed : HasPassed shot in_order in_order
-  -- for the version of picture 9 it may itself be passed
+  -- at the query for the version of picture 9 it may skip the version of picture 8
   pub further : HasPassed removal in_order (removal ∷ [])
   pub itself_passed : HasPassed shot in_order (removal ∷ []) → ⊥
   pub one_behind_passed : HasPassed shot in_order (shot ∷ []) → ⊥
@@ -137,13 +136,13 @@ pub record TheFindings : Type 0 where
   pub one_stale : IsSomething informed tidy
   pub all_known : IsSomething informed phone → ⊥
   pub not_covered : IsSomething informed (choosy tidy) → ⊥
-  -- what is unknown isn't held
+  -- the source doesn't hold the unknown version
   pub none_held : IsSomething camera (emptied phone) → ⊥
 
 -- between which devices a pull may want memory, and, before a ⊥, between which it doesn't
 pub record TheWanting : Type 0 where
   pub one_new : HasToPull camera phone
-  -- nothing is held that is new, but something is learned
+  -- nothing held is new, but something is learned
   pub one_learned : HasToPull camera (emptied phone)
   pub all_known : HasToPull informed phone → ⊥
   pub not_covered : HasToPull camera (choosy (emptied phone)) → ⊥

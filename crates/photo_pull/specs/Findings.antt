@@ -1,9 +1,10 @@
--- Machinery of the proofs: what the code finds between two devices is what `OnHeld` says, and is staged on one of them.
-use Rattle.std.specs.Prelude.{◌≡◌, ℕ, ◌<◌, true, ◌||◌, List, [], ◌++◌}
+-- Machinery of the proofs: the code finds between two devices what `OnHeld` says, and stages it on the target.
+use Rattle.std.specs.Prelude.{◌≡◌, ℕ, ◌<◌, true, ◌||◌, List, [], ◌++◌, length}
 use Rattle.std.specs.List.{AllByRecursion, list_any}
 use Rattle.photo_version.specs.Version.{Version}
 use Rattle.item_knowledge.specs.Fragments.{Fragment, knows}
 use Rattle.item_knowledge.specs.Staged.{Knowing}
+use Rattle.photo_device.specs.declared.change.Selection.{Selection}
 use Rattle.photo_device.specs.Held.{are_in_order}
 use Rattle.photo_model.specs.Device.{ModelDevice}
 use Rattle.photo_device.specs.Device.{Kept, Shows, unstaged}
@@ -13,8 +14,7 @@ use Rattle.photo_model.specs.declared.counts.PullCounts.{PullCounts}
 use Rattle.photo_pull.specs.MayPull.{MayPull}
 use Rattle.photo_model.specs.Pull.{is_up_to_date, IsTaughtNothing, pulled, handed_over, counts_of}
 use Rattle.photo_pull.specs.OnHeld.{IsOrdered, is_new, is_dropped, is_over, new_stored, new_waiting, dropped_stored, dropped_waiting, heard, taken_stored, gains, learns, drops}
-use Rattle.photo_pull.specs.declared.part.Part.{Part}
-use Rattle.photo_pull.specs.declared.hearing.Hearing.{Hearing}
+use Rattle.photo_pull.specs.declared.delta.PullDelta.{PullDelta}
 
 -- two devices between which a pull may be
 pub record AreReady (t s : Kept) : Type 0 where
@@ -22,24 +22,24 @@ pub record AreReady (t s : Kept) : Type 0 where
   pub source : IsDevice (unstaged s)
   pub may : MayPull t s
 
--- news are what the target doesn't know of what the source holds
-pub record AreNews (t s : Kept) (news : Part) : Type 0 where
+-- the news is what the source holds and the target doesn't know
+pub record AreNews (t s : Kept) (news : Selection) : Type 0 where
   pub ready : AreReady t s
   pub stored : news.stored.items ≡ new_stored t s
   pub waiting : news.waiting.items ≡ new_waiting t s
   pub order : IsOrdered news
 
--- something is new to the target of what the source holds, or is given up by the target
+-- the source holds something new to the target, or the target drops something
 pub record IsSomething (t s : Kept) : Type 0 where
   pub ready : AreReady t s
   pub some : (list_any (is_new t.knowledge) (s.store ++ s.out) || (list_any (is_dropped t s) t.store || list_any (is_over t s) t.out)) ≡ true
 
--- a pull may want memory: something is to be moved, told, given up or learned
+-- a pull may want memory: something is to be moved, told, dropped or learned
 abbrev pub HasToPull : Kept → Kept → Type 0
 HasToPull t s = (tm sm : ModelDevice) → Shows t tm → Shows s sm → is_up_to_date tm sm ≡ true → IsTaughtNothing tm sm → ⊥
 
--- a target hears of what is to be heard
-pub record IsHearing (t s : Kept) (h : Hearing) : Type 0 where
+-- a delta is what the pull finds
+pub record IsDelta (t s : Kept) (h : PullDelta) : Type 0 where
   pub ready : AreReady t s
   pub learned : h.learned ≡ learns t s
   pub dropped_stored : h.dropped.stored.items ≡ dropped_stored t s
@@ -51,23 +51,23 @@ pub record IsHearing (t s : Kept) (h : Hearing) : Type 0 where
   pub heard_earlier : AllByRecursion HasEarlier h.heard.items
   pub handed_earlier : AllByRecursion HasEarlier h.handed.items
 
--- nothing is heard of, handed over or dropped, and what the source may teach is known
-pub record IsNothing (h : Hearing) (known taught : Knowing) : Type 0 where
+-- the delta has nothing heard, handed or dropped, and the target already knows what the source may teach
+pub record IsNothing (h : PullDelta) (known taught : Knowing) : Type 0 where
   pub heard : h.heard.items ≡ []
   pub handed : h.handed.items ≡ []
   pub dropped_stored : h.dropped.stored.items ≡ []
   pub dropped_waiting : h.dropped.waiting.items ≡ []
   pub teaches_none : h.learned ≡ true → (p : ℕ) (v : Version) → 0 < p → knows taught.known p v ≡ true → knows known.known p v ≡ true
 
--- a knowledge has what the target learns
+-- a knowledge has exactly what the target learns
 abbrev pub IsGained : Kept → Kept → List Fragment → Type 0
 IsGained t s gain = (p : ℕ) (v : Version) → 0 < p → knows gain p v ≡ gains t s p v
 
--- the change that a pull makes of the target is staged on it
-pub record HasStagedPull (t s : Kept) (room : ℕ) (new : Kept) : Type 0 where
+-- the change that a pull makes is staged on the target
+pub record HasStagedPull (t s new : Kept) : Type 0 where
   pub gain : List Fragment
   pub gained : IsGained t s gain
-  pub staged : HasStaged (drops t s) (taken_stored t s) gain room t new
+  pub staged : HasStaged (drops t s) (taken_stored t s) gain (length (new_waiting t s)) t new
 
 -- two devices after a pull, and its counts
 pub record HavePulled (t s after_t after_s : Kept) (counts : PullCounts) : Type 0 where

@@ -1,5 +1,5 @@
-//! What a target is to drop, to take and to learn, and its staging.
-ghost use Rattle.std.specs.Prelude.{◌≡◌, ℕ, ◌+◌, ◌<◌, ◌≤◌, ◌++◌, ◌||◌, true, not, None, [], length, vec_len, vec_capacity, IfOk, IfSome, OnOk, OnErr};
+//! What a target drops, takes and learns, and how this is staged.
+ghost use Rattle.std.specs.Prelude.{◌≡◌, ℕ, ◌<◌, ◌||◌, true, not, None, IfOk, IfSome, OnOk, OnErr};
 ghost use Rattle.std.specs.List.{AllByRecursion};
 ghost use Rattle.std.specs.Option.{is_some};
 ghost use Rattle.photo_version.specs.Version.{Version};
@@ -7,104 +7,75 @@ ghost use Rattle.item_knowledge.specs.Fragments.{knows};
 ghost use Rattle.photo_device.specs.Device.{IsAsItWas};
 ghost use Rattle.photo_device.specs.Held.{are_in_order};
 ghost use Rattle.photo_device.specs.Own.{HasEarlier};
+ghost use Rattle.photo_device.specs.Staging.{gained};
 ghost use Rattle.photo_device.specs.Telling.{tells};
-ghost use Rattle.photo_pull.specs.OnHeld.{versions};
-ghost use Rattle.photo_pull.specs.Findings.{IsHearing, HasStagedPull};
+ghost use Rattle.photo_pull.specs.OnHeld.{new_waiting};
+ghost use Rattle.photo_pull.specs.Findings.{IsDelta, HasStagedPull};
 
-use crate::filtered::{push_versions, taken_of};
-use crate::hearing::Hearing;
+use crate::delta::PullDelta;
+use crate::filtered::taken_of;
 use item_knowledge::Told;
-use photo_device::{Device, SharedHeld, SharedList, VersionList, told_by};
-use photo_record::PicNo;
-use photo_version::Version;
+use photo_device::{Change, Device, Gain, SharedHeld, SharedList, told_by};
 use std::alloc::{AllocError, Global};
 
-// Puts the pictures of those of a list behind others, as long as there is memory for that.
-fn push_pictures(pictures: &mut Vec<PicNo>, list: &[SharedHeld]) {
-    let _refused = pictures.reserve(list.len()).is_err();
-    for held in list {
-        let Ok(()) = pictures.push(held.picture()) else {
-            return;
-        };
-    }
-}
-
-// The versions of what a device drops, and beside each the picture by which it is found, as long as there is memory for that.
-fn drops_of(
-    alloc: Global,
-    stored: &[SharedHeld],
-    waiting: &[SharedHeld],
-) -> Result<(VersionList, Vec<PicNo>), AllocError>
-    ensures { IfOk result (λ all. all.0 ≡ versions stored.now ++ versions waiting.now) }
-{
-    let mut drops = Vec::new(alloc);
-    push_versions(&mut drops, stored)?;
-    push_versions(&mut drops, waiting)?;
-    let mut pictures = Vec::new(alloc);
-    push_pictures(&mut pictures, stored);
-    push_pictures(&mut pictures, waiting);
-    Ok((VersionList::new(drops), pictures))
-}
-
-/// The versions that the source hands over, in the order of its out, and an empty list with room for them.
-pub(crate) fn handed_of(
-    alloc: Global,
-    hearing: &Hearing,
-) -> Result<(Vec<Version>, Vec<SharedHeld>), AllocError>
-    ensures asked { IfOk result (λ all. all.0.items ≡ versions hearing.now.handed.items) }
-    ensures empty { IfOk result (λ all. all.1.items ≡ []) }
-    ensures room { IfOk result (λ all. vec_len all.1 + length all.0.items ≤ vec_capacity all.1) }
-{
-    let mut asked = Vec::with_capacity(alloc, hearing.handed.len())?;
-    push_versions(&mut asked, &hearing.handed)?;
-    let handed = Vec::with_capacity(alloc, asked.len())?;
-    Ok((asked, handed))
-}
-
-// What is told where the target doesn't learn all that the source knows.
-fn told_of(alloc: Global, hearing: &Hearing) -> Result<Option<Told>, AllocError>
-    requires heard_order { are_in_order hearing.now.heard.items ≡ true }
-    requires handed_order { are_in_order hearing.now.handed.items ≡ true }
-    requires heard { AllByRecursion HasEarlier hearing.now.heard.items }
-    requires handed { AllByRecursion HasEarlier hearing.now.handed.items }
+// What the news tells, if the target doesn't learn all that the source knows.
+fn told_of(alloc: Global, delta: &PullDelta) -> Result<Option<Told>, AllocError>
+    requires heard_order { are_in_order delta.now.heard.items ≡ true }
+    requires handed_order { are_in_order delta.now.handed.items ≡ true }
+    requires heard { AllByRecursion HasEarlier delta.now.heard.items }
+    requires handed { AllByRecursion HasEarlier delta.now.handed.items }
     ensures told { IfOk result (λ some. IfSome some (λ told. (p : ℕ) (v : Version) → 0 < p
-        → knows told p v ≡ (tells hearing.now.heard.items p v || tells hearing.now.handed.items p v))) }
-    ensures learned { IfOk result (λ some. is_some some ≡ not hearing.now.learned) }
+        → knows told p v ≡ (tells delta.now.heard.items p v || tells delta.now.handed.items p v))) }
+    ensures learned { IfOk result (λ some. is_some some ≡ not delta.now.learned) }
 {
-    if hearing.learned {
+    if delta.learned {
         return Ok(None);
     }
-    Ok(Some(told_by(alloc, &hearing.heard, &hearing.handed)?))
+    Ok(Some(told_by(alloc, &delta.heard, &delta.handed)?))
 }
 
-/// Stages on the target what was found, with room for so many versions that are handed over. What all the source knows is
-/// lent, and isn't copied. Its only error is want of memory, which leaves nothing staged.
+// What the target learns: what the news tells, or else all that the source knows.
+fn gain_of<'a>(told: &'a Option<Told>, source: &'a Device) -> Gain<'a>
+    ensures told { IfSome told.now (λ gain. gained result ≡ gain) }
+    ensures all { told.now ≡ None → gained result ≡ source.now.knowledge }
+{
+    match told {
+        Some(told) => Gain::Told(told),
+        None => Gain::Known(source.knowledge()),
+    }
+}
+
+/// Stages a delta on the target, and returns the versions of the source's out that it takes. The source's knowledge is lent and
+/// not copied. The only error is refused memory, which leaves nothing staged.
 pub(crate) fn stage_found(
     alloc: Global,
-    hearing: Hearing,
+    delta: PullDelta,
     target: &mut Device,
     source: &Device,
-    room: usize,
-) -> Result<(), AllocError>
-    requires hearing { IsHearing target.old source.now hearing }
+) -> Result<Vec<SharedHeld>, AllocError>
+    requires delta { IsDelta target.old source.now delta }
     requires unstaged { target.old.staged ≡ None }
-    ensures staged { OnOk result (HasStagedPull target.old source.now room target.new) }
+    ensures staged { OnOk result (HasStagedPull target.old source.now target.new) }
+    ensures handed { IfOk result (λ handed. handed.items ≡ new_waiting target.old source.now) }
     ensures err { OnErr result (IsAsItWas target.old target.new) }
     ensures unstaged { OnErr result (target.new.staged ≡ None) }
 {
-    let told = told_of(alloc, &hearing)?;
-    let Hearing { dropped, heard, .. } = hearing;
-    let (drops, pictures) = drops_of(alloc, &dropped.stored, &dropped.waiting)?;
+    let told = told_of(alloc, &delta)?;
+    let PullDelta {
+        dropped,
+        heard,
+        handed,
+        ..
+    } = delta;
     let takes = SharedList::new(taken_of(target.filter(), heard));
-    let Some(told) = told else {
-        let taught = source.knowledge();
-        if let Err((_, _, refused)) = target.stage_lent(drops, pictures, takes, taught, room) {
-            return Err(refused);
-        }
-        return Ok(());
+    let gain = gain_of(&told, source);
+    let change = Change {
+        drops: dropped,
+        takes,
+        gain,
     };
-    if let Err((_, _, refused)) = target.stage_told(drops, pictures, takes, &told, room) {
-        return Err(refused);
+    match target.stage(change, handed.len()) {
+        Ok(()) => Ok(handed),
+        Err((_, refused)) => Err(refused),
     }
-    Ok(())
 }

@@ -1,33 +1,32 @@
-//! Held versions that pass a test, in their order. A copy shares what the version carries.
+//! Held versions that pass a test, in their order. Copies share the held versions.
 ghost use Rattle.std.specs.Prelude.{◌≡◌, ◌≤◌, ◌++◌, ◌&&◌, ◌||◌, not, true, length, filter, IfOk, OnOk, OnErr};
 ghost use Rattle.std.specs.List.{list_any};
 ghost use Rattle.item_knowledge.specs.Fragments.{knows};
 ghost use Rattle.photo_device.specs.Held.{are_in_order};
-ghost use Rattle.photo_pull.specs.OnHeld.{is_gone, is_selected, has_same, part_above, part_below, versions, IsOrdered, IsGap, HasPassed};
+ghost use Rattle.photo_pull.specs.OnHeld.{is_gone, is_selected, has_same, selection_above, selection_below, IsOrdered, IsQuiet, HasPassed};
 
-use crate::gap::Gap;
-use crate::keeping::Coming;
-use crate::part::Part;
+use crate::quiet_range::QuietRange;
+use crate::selection::{has_above, has_below};
+use crate::set_cursor::SetCursor;
 use crate::superseding::without_news;
-use photo_device::{Device, HeldSet, SharedHeld};
+use photo_device::{Device, HeldSet, Selection, SharedHeld};
 use photo_filter_rules::Filter;
-use photo_version::Version;
 use std::alloc::{AllocError, Global};
 
-// What goes along beside the versions of a set, in their order: what was found of news at a picture, what is left of what a
-// device keeps, and a place to look at first in what it knows. Any place will do.
+// The cursors beside the versions of a set, which are visited in their order: the range of pictures without news, a cursor
+// along the device's store, and a hint where to search its knowledge. Any hint will do.
 #[derive(Drop)]
-struct Beside<'a> {
-    gap: Gap,
-    kept: Coming<'a>,
+struct Cursors<'a> {
+    quiet: QuietRange,
+    kept: SetCursor<'a>,
     known: usize,
 }
 
-// Whether a device knows a version, and it isn't among what is left of what the device keeps.
-fn has_given_up(device: &Device, beside: &mut Beside<'_>, held: &SharedHeld) -> bool
+// Whether the device knows the version, and the cursor along its store doesn't find it.
+fn has_given_up(device: &Device, beside: &mut Cursors<'_>, held: &SharedHeld) -> bool
     requires { are_in_order beside.old.kept ≡ true }
     ensures is { result ≡ (knows device.now.knowledge held.now.picture held.now.version && not (has_same beside.old.kept held.now)) }
-    ensures gap { beside.new.gap ≡ beside.old.gap }
+    ensures quiet { beside.new.quiet ≡ beside.old.quiet }
     ensures passed { HasPassed held.now beside.old.kept beside.new.kept }
 {
     if beside.kept.has(held) {
@@ -40,45 +39,49 @@ fn has_given_up(device: &Device, beside: &mut Beside<'_>, held: &SharedHeld) -> 
     known
 }
 
-// Whether something new supersedes a version, or a device has given it up.
-fn is_dropped(news: &Part, device: &Device, beside: &mut Beside<'_>, held: &SharedHeld) -> bool
+// Whether news supersedes the version, or the device has given it up.
+fn is_dropped(
+    news: &Selection,
+    device: &Device,
+    beside: &mut Cursors<'_>,
+    held: &SharedHeld,
+) -> bool
     requires order { IsOrdered news.now }
-    requires gap { IsGap news.now beside.old.gap }
+    requires quiet { IsQuiet news.now beside.old.quiet }
     requires kept { are_in_order beside.old.kept ≡ true }
     requires same { has_same beside.old.kept held.now ≡ has_same device.now.store held.now }
     ensures is { result ≡ is_gone news.now true device.now held.now }
-    ensures gap { IsGap news.now beside.new.gap }
+    ensures quiet { IsQuiet news.now beside.new.quiet }
     ensures passed { HasPassed held.now beside.old.kept beside.new.kept }
 {
-    if news.any_above(&mut beside.gap, held) {
+    if has_above(news, &mut beside.quiet, held) {
         return true;
     }
     has_given_up(device, beside, held)
 }
 
-// Puts copies of those of a list that something new supersedes behind others. Those of pictures of which there is no news
-// are passed together.
+// Adds copies of those versions of a list that news supersedes. Skips together the versions of pictures without news.
 #[tactic(auto, using(std::proofs::lemmas::Grind::common_steps, crate::proofs::Along::rest_in_order))]
 fn push_superseded(
     found: &mut Vec<SharedHeld>,
-    news: &Part,
-    gap: &mut Gap,
+    news: &Selection,
+    quiet: &mut QuietRange,
     list: &[SharedHeld],
 ) -> Result<(), AllocError>
     requires order { IsOrdered news.now }
     requires list { are_in_order list.now ≡ true }
-    requires gap { IsGap news.now gap.old }
-    ensures items { OnOk result (found.new.items ≡ found.old.items ++ filter (part_above news.now) list.now) }
-    ensures gap { IsGap news.now gap.new }
-    ensures err { OnErr result (list_any (part_above news.now) list.now ≡ true) }
+    requires quiet { IsQuiet news.now quiet.old }
+    ensures items { OnOk result (found.new.items ≡ found.old.items ++ filter (selection_above news.now) list.now) }
+    ensures quiet { IsQuiet news.now quiet.new }
+    ensures err { OnErr result (list_any (selection_above news.now) list.now ≡ true) }
 {
     let mut place = 0;
     while place < list.len() {
-        place += without_news(&list[place..], *gap);
+        place += without_news(&list[place..], *quiet);
         let Some(held) = list.get(place) else {
             return Ok(());
         };
-        if news.any_above(gap, held) {
+        if has_above(news, quiet, held) {
             found.push(held.try_clone()?)?;
         }
         place += 1;
@@ -86,27 +89,31 @@ fn push_superseded(
     Ok(())
 }
 
-// Copies of those of a set that something new supersedes.
+// Copies of those versions of a set that news supersedes.
 #[tactic(auto, using(std::proofs::lemmas::Grind::common_steps, crate::proofs::Along::filtered_in_order, crate::proofs::Along::order_append))]
-fn superseded_of(alloc: Global, news: &Part, set: &HeldSet) -> Result<Vec<SharedHeld>, AllocError>
+fn superseded_of(
+    alloc: Global,
+    news: &Selection,
+    set: &HeldSet,
+) -> Result<Vec<SharedHeld>, AllocError>
     requires { IsOrdered news.now }
-    ensures items { IfOk result (λ found. found.items ≡ filter (part_above news.now) set.now) }
+    ensures items { IfOk result (λ found. found.items ≡ filter (selection_above news.now) set.now) }
     ensures ordered { IfOk result (λ found. are_in_order found.items ≡ true) }
-    ensures err { OnErr result (list_any (part_above news.now) set.now ≡ true) }
+    ensures err { OnErr result (list_any (selection_above news.now) set.now ≡ true) }
 {
     let mut found = Vec::new(alloc);
-    let mut gap = Gap::none();
+    let mut quiet = QuietRange::none();
     for block in set.blocks() {
-        push_superseded(&mut found, news, &mut gap, block)?;
+        push_superseded(&mut found, news, &mut quiet, block)?;
     }
     Ok(found)
 }
 
-/// Copies of those of a set that something new supersedes, or that a device has given up whose keeping is followed.
+/// Copies of those versions of a set that news supersedes or, where `followed`, that the device has given up.
 #[tactic(auto, using(std::proofs::lemmas::Grind::common_steps, crate::proofs::Along::filtered_in_order, crate::proofs::Passing::beside_one))]
 pub(crate) fn dropped_of(
     alloc: Global,
-    news: &Part,
+    news: &Selection,
     followed: bool,
     device: &Device,
     set: &HeldSet,
@@ -120,9 +127,9 @@ pub(crate) fn dropped_of(
         return superseded_of(alloc, news, set);
     }
     let mut found = Vec::new(alloc);
-    let mut beside = Beside {
-        gap: Gap::none(),
-        kept: Coming::of(device.store()),
+    let mut beside = Cursors {
+        quiet: QuietRange::none(),
+        kept: SetCursor::of(device.store()),
         known: 0,
     };
     for held in set.iter() {
@@ -134,17 +141,21 @@ pub(crate) fn dropped_of(
     Ok(found)
 }
 
-/// Those of a list that a filter matches, or that supersede something that is dropped.
-pub(crate) fn heard_of(wanted: &Filter, dropped: &Part, list: Vec<SharedHeld>) -> Vec<SharedHeld>
+/// The versions of a list that the filter matches, or that supersede a dropped version.
+pub(crate) fn heard_of(
+    wanted: &Filter,
+    dropped: &Selection,
+    list: Vec<SharedHeld>,
+) -> Vec<SharedHeld>
     requires { IsOrdered dropped.now }
-    ensures { result.items ≡ filter (λ w. is_selected wanted.now w || part_below dropped.now w) list.items }
+    ensures { result.items ≡ filter (λ w. is_selected wanted.now w || selection_below dropped.now w) list.items }
 {
     let mut heard = list;
-    heard.retain(|held| wanted.matches(held.content()) || dropped.any_below(held));
+    heard.retain(|held| wanted.matches(held.content()) || has_below(dropped, held));
     heard
 }
 
-/// Those of a list that a filter matches.
+/// The versions of a list that the filter matches.
 pub(crate) fn taken_of(wanted: &Filter, list: Vec<SharedHeld>) -> Vec<SharedHeld>
     ensures { result.items ≡ filter (is_selected wanted.now) list.items }
 {
@@ -153,7 +164,7 @@ pub(crate) fn taken_of(wanted: &Filter, list: Vec<SharedHeld>) -> Vec<SharedHeld
     taken
 }
 
-/// How many of a list a filter matches.
+/// How many versions of a list the filter matches.
 pub(crate) fn count_of(wanted: &Filter, list: &[SharedHeld]) -> usize
     ensures count { result ≡ length (filter (is_selected wanted.now) list.now) }
     ensures fewer { result ≤ length list.now }
@@ -161,15 +172,4 @@ pub(crate) fn count_of(wanted: &Filter, list: &[SharedHeld]) -> usize
     list.iter()
         .filter(|held| wanted.matches(held.content()))
         .count()
-}
-
-/// Puts the versions of those of a list behind others.
-pub(crate) fn push_versions(found: &mut Vec<Version>, list: &[SharedHeld]) -> Result<(), AllocError>
-    ensures { OnOk result (found.new.items ≡ found.old.items ++ versions list.now) }
-{
-    found.reserve(list.len())?;
-    for held in list {
-        found.push(held.version())?;
-    }
-    Ok(())
 }

@@ -1,17 +1,17 @@
-//! One pull: a device takes and learns from another what it doesn't know. Its invariant: **all that may be refused comes before
+//! A pull: a device takes and learns from another what it doesn't know. Its invariant: **whatever may be refused comes before
 //! either device changes**.
 #![tactic(auto)]
 
 mod change;
+mod delta;
 mod filtered;
-mod gap;
-mod hearing;
-mod keeping;
 pub mod laws;
 mod news;
-mod part;
 mod previewing;
 mod pulling;
+mod quiet_range;
+mod selection;
+mod set_cursor;
 mod superseding;
 
 pub use photo_model::PullCounts;

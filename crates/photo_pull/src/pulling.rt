@@ -7,21 +7,21 @@ ghost use Rattle.photo_model.specs.Pull.{pulled, handed_over, counts_of};
 ghost use Rattle.photo_pull.specs.Findings.{AreNews, HavePulled, HasToPull};
 
 use crate::PullCounts;
-use crate::change::{handed_of, stage_found};
-use crate::hearing::heard_between;
+use crate::change::stage_found;
+use crate::delta::delta_between;
 use crate::news::news_of;
-use crate::part::Part;
-use photo_device::Device;
+use photo_device::{Device, Selection};
 use std::alloc::{AllocError, Global};
 
-/// The target takes from the source the versions that it doesn't know and is to keep, and all that the source only
-/// held for another device to take; it learns them with what they were made with, and where the source's filter covers
-/// its own, all that the source knows. It drops what it held of superseded versions, and of those that the source gave
-/// up. After want of memory both devices are as they were; none is wanted where nothing is to be moved, told, given up or
-/// learned. Nothing is staged on either then in any case.
+/// Pulls from the source to the target. The target takes the versions that it doesn't know and that its filter matches,
+/// and all unknown versions of the source's out. It learns these with their history and, if the source's filter covers
+/// its own, all that the source knows. It drops held versions that are superseded, and those that the source gave up.
 ///
-/// All that may want memory is done before either changes: the change is staged on the target, what the source only held for
-/// another device moves from its out to the target, and the change is committed.
+/// The only error is refused memory, which leaves both devices as they were. No memory is wanted where nothing is to be
+/// moved, told, dropped or learned. Nothing is staged on either device after any result.
+///
+/// Whatever may want memory comes before either device changes. The change is staged on the target, the handed versions
+/// leave the source's out, and the target commits the change with them.
 pub fn pull(
     alloc: Global,
     target: &mut Device,
@@ -44,10 +44,10 @@ pub fn pull(
     Ok(counts)
 }
 
-// The pull by what is new to the target, between two devices on which nothing is staged.
+// Pulls with this news, between two devices with nothing staged.
 fn pull_news(
     alloc: Global,
-    news: Part,
+    news: Selection,
     target: &mut Device,
     source: &mut Device,
 ) -> Result<PullCounts, AllocError>
@@ -61,14 +61,13 @@ fn pull_news(
     ensures target_still { target.new.staged ≡ None }
     ensures source_still { source.new.staged ≡ None }
 {
-    let hearing = heard_between(alloc, news, target, source)?;
-    let counts = hearing.counts(target, source);
-    if hearing.is_nothing(target.knowledge(), source.knowledge()) {
+    let delta = delta_between(alloc, news, target, source)?;
+    let counts = delta.counts(target, source);
+    if delta.is_nothing(target.knowledge(), source.knowledge()) {
         return Ok(counts);
     }
-    let (asked, mut handed) = handed_of(alloc, &hearing)?;
-    stage_found(alloc, hearing, target, source, asked.len())?;
-    source.hand_over(&asked, &mut handed);
+    let handed = stage_found(alloc, delta, target, source)?;
+    source.hand_over(&handed);
     target.commit(handed);
     Ok(counts)
 }

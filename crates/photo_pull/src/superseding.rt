@@ -1,10 +1,10 @@
-//! Searches in lists of held versions that are in the order of their pictures.
+//! Searches in lists of held versions in the order of their pictures.
 ghost use Rattle.std.specs.Prelude.{◌≡◌, ◌≤◌, ◌<◌, Bool, true, false, length, filter, drop};
 ghost use Rattle.photo_device.specs.declared.held.Held as spec;
 ghost use Rattle.photo_device.specs.Held.{are_in_order};
 ghost use Rattle.photo_pull.specs.OnHeld.{is_above, has_above, has_below};
 
-use crate::gap::Gap;
+use crate::quiet_range::QuietRange;
 use photo_device::SharedHeld;
 use photo_record::PicNo;
 
@@ -15,7 +15,7 @@ fn supersedes(newer: &SharedHeld, held: &SharedHeld) -> bool
     newer.picture() == held.picture() && newer.made_with().has(held.version())
 }
 
-/// The place of a list before which all are of smaller pictures, and none behind it is.
+/// The first place in a list whose picture isn't smaller than this one.
 pub(crate) fn first_of(list: &[SharedHeld], picture: PicNo) -> usize
     requires { are_in_order list.now ≡ true }
     ensures above { (h : spec.Held) → picture ≤ h.picture → has_above (drop result list.now) h ≡ has_above list.now h }
@@ -24,7 +24,7 @@ pub(crate) fn first_of(list: &[SharedHeld], picture: PicNo) -> usize
     list.partition_point(|held| held.picture() < picture)
 }
 
-/// The picture at a place, or more than any: of those from there on none is of a smaller one.
+/// The picture at a place, or one above all pictures. From that place on, no picture of the list is smaller.
 #[tactic(auto, using(crate::proofs::Along::above_none))]
 pub(crate) fn picture_at(list: &[SharedHeld], place: usize) -> u32
     requires { are_in_order list.now ≡ true }
@@ -36,23 +36,23 @@ pub(crate) fn picture_at(list: &[SharedHeld], place: usize) -> u32
     list[place].picture().value()
 }
 
-/// How many at the start of a list are of pictures of which there is no news, by what was found last.
-pub(crate) fn without_news(list: &[SharedHeld], gap: Gap) -> usize
+/// How many versions at the start of a list are of pictures in the quiet range.
+pub(crate) fn without_news(list: &[SharedHeld], quiet: QuietRange) -> usize
     requires { are_in_order list.now ≡ true }
     ensures bound { result ≤ length list.now }
-    ensures passed { (f : spec.Held → Bool) → ((h : spec.Held) → gap.from ≤ h.picture → h.picture < gap.end → f h ≡ false)
+    ensures passed { (f : spec.Held → Bool) → ((h : spec.Held) → quiet.from ≤ h.picture → h.picture < quiet.end → f h ≡ false)
         → filter f (drop result list.now) ≡ filter f list.now }
 {
-    if list.is_empty() || !gap.has(list[0].picture()) {
+    if list.is_empty() || !quiet.has(list[0].picture()) {
         return 0;
     }
-    if gap.has(list[list.len() - 1].picture()) {
+    if quiet.has(list[list.len() - 1].picture()) {
         return list.len();
     }
-    list.partition_point(|held| held.picture().value() < gap.end)
+    list.partition_point(|held| held.picture().value() < quiet.end)
 }
 
-/// Whether one of those from a place on supersedes the version.
+/// Whether a version of the list, from a place on, supersedes the held version.
 #[tactic(auto, using(crate::proofs::Along::above_none))]
 pub(crate) fn any_above(list: &[SharedHeld], from: usize, held: &SharedHeld) -> bool
     requires { are_in_order list.now ≡ true }
@@ -71,7 +71,7 @@ pub(crate) fn any_above(list: &[SharedHeld], from: usize, held: &SharedHeld) -> 
     false
 }
 
-/// Whether the version supersedes one of them.
+/// Whether the version supersedes a version of the list.
 #[tactic(auto, using(crate::proofs::Along::below_none))]
 pub(crate) fn any_below(list: &[SharedHeld], newer: &SharedHeld) -> bool
     requires { are_in_order list.now ≡ true }

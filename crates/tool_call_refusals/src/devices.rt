@@ -9,8 +9,8 @@ use crate::questions;
 use crate::runs::{logs, runs_command};
 use item_knowledge::Knowledge;
 use photo_device::{
-    Change, ChangeFault, Conflict, Device, Held, HeldSet, NarrowFault, Place, SharedHeld,
-    SharedList, VersionList, told_by,
+    Change, ChangeFault, Conflict, Device, Gain, Held, HeldSet, NarrowFault, Place, Selection,
+    SharedHeld, SharedList,
 };
 use photo_filter_rules::Filter;
 use photo_record::{PicNo, Record};
@@ -34,8 +34,6 @@ pub fn verdict(alloc: Global, call: &str) -> Option<Verdict> {
 fn verdict_on_others(alloc: Global, call: &str) -> Option<Verdict> {
     match call {
         "Device::stage" => on_device(alloc, 2, Call::Stage),
-        "Device::stage_lent" => on_device(alloc, 2, Call::StageLent),
-        "Device::stage_told" => on_device(alloc, 2, Call::StageTold),
         "Device::unknown_of" => on_device(alloc, 2, Call::Ask),
         "Device::unknown_by" => on_device(alloc, 2, Call::AskLent),
         "Device::narrow" => on_device(alloc, 2, Call::Narrow),
@@ -57,8 +55,6 @@ enum Call {
     Edit,
     Remove,
     Stage,
-    StageLent,
-    StageTold,
     Ask,
     AskLent,
     Narrow,
@@ -99,7 +95,6 @@ fn beside_twin(alloc: Global, device: &mut Device, count: u8, call: Call) -> Opt
 
 fn on_twins(alloc: Global, device: &mut Device, twin: &Device, call: Call) -> Option<Verdict> {
     match call {
-        Call::Stage => stage(alloc, device, twin),
         Call::Narrow => narrow(alloc, device, twin),
         Call::Refilter => refilter(alloc, device, twin),
         call => {
@@ -115,8 +110,7 @@ fn calls(alloc: Global, device: &mut Device, call: Call) -> Option<bool> {
         Call::Make => makes(alloc, device),
         Call::Edit => edits(alloc, device),
         Call::Remove => removes(alloc, device),
-        Call::StageLent => stages_lent(alloc, device),
-        Call::StageTold => stages_told(alloc, device),
+        Call::Stage => stages(alloc, device),
         Call::Ask => asks(alloc, device, Call::Ask),
         Call::AskLent => asks(alloc, device, Call::AskLent),
         Call::Command => runs_command(alloc, device),
@@ -355,70 +349,8 @@ fn removes(alloc: Global, device: &mut Device) -> Option<bool> {
     has_changed(device, made, next, picture)
 }
 
-// A change that tells a device of three versions of another device, and makes it take and drop nothing.
-fn change(alloc: Global) -> Option<Change>
-    ensures drops { IfSome result (λ change. change.drops ≡ []) }
-    ensures takes { IfSome result (λ change. change.takes ≡ []) }
-    ensures gain { IfSome result (λ change. (p : ℕ) (v : versions.Version) → 0 < p
-        → knows change.gain.known p v ≡ ((7 == p) && denotes ((author 1, 3) ∷ []) v)) }
-{
-    match told(alloc, 7, 3) {
-        Some(gain) => Some(Change {
-            drops: VersionList::new(Vec::new(alloc)),
-            takes: SharedList::new(Vec::new(alloc)),
-            gain,
-        }),
-        None => None,
-    }
-}
-
-fn stage(alloc: Global, device: &mut Device, twin: &Device) -> Option<Verdict> {
-    match change(alloc) {
-        Some(change) => stages(alloc, device, change, twin),
-        None => None,
-    }
-}
-
-fn stages(alloc: Global, device: &mut Device, change: Change, twin: &Device) -> Option<Verdict>
-    requires drops { change.drops ≡ [] }
-    requires takes { change.takes ≡ [] }
-    requires gain { (p : ℕ) (v : versions.Version) → 0 < p
-        → knows change.gain.known p v ≡ ((7 == p) && denotes ((author 1, 3) ∷ []) v) }
-{
-    if device.author().value() != 0 {
-        drop(change);
-        return None;
-    }
-    mark(alloc);
-    let done = device.stage(change, 2);
-    mark(alloc);
-    let verdict = match &done {
-        Ok(()) => judged(Some(device.staged()), true),
-        Err((change, _)) => judged(None, is_as_before(device, twin) && is_change(alloc, change)),
-    };
-    drop(done);
-    Some(verdict)
-}
-
-// Whether a device equals its twin and has nothing staged.
-fn is_as_before(device: &Device, twin: &Device) -> bool {
-    same_device(device, twin) && has_nothing_staged(device)
-}
-
-fn is_change(alloc: Global, change: &Change) -> bool {
-    let made = told(alloc, 7, 3);
-    let right = match &made {
-        Some(gain) => {
-            change.gain.same(gain) && change.drops.is_empty() && change.takes.is_empty()
-        }
-        None => false,
-    };
-    drop(made);
-    right
-}
-
 // Lends a device the knowledge of three versions of another device, and makes it take and drop nothing.
-fn stages_lent(alloc: Global, device: &mut Device) -> Option<bool> {
+fn stages(alloc: Global, device: &mut Device) -> Option<bool> {
     if device.author().value() != 0 {
         return None;
     }
@@ -431,42 +363,26 @@ fn stages_lent(alloc: Global, device: &mut Device) -> Option<bool> {
     right
 }
 
-// Lends a device what another one knows.
+// Lends a device what another one knows. `None` where memory was refused, nothing is staged, and the change came back.
 fn stages_gain(alloc: Global, device: &mut Device, gain: &Knowledge) -> Option<bool>
     requires zero { device_of_author device.old.author ≡ 0 }
     requires gain { (p : ℕ) (v : versions.Version) → 0 < p
         → knows gain.now.known p v ≡ ((7 == p) && denotes ((author 1, 3) ∷ []) v) }
 {
-    let drops = VersionList::new(Vec::new(alloc));
+    let drops = Selection {
+        stored: Vec::new(alloc),
+        waiting: Vec::new(alloc),
+    };
     let takes = SharedList::new(Vec::new(alloc));
-    let pictures = Vec::new(alloc);
+    let gain = Gain::Known(gain);
+    let change = Change { drops, takes, gain };
     mark(alloc);
-    let done = device.stage_lent(drops, pictures, takes, gain, 2);
+    let done = device.stage(change, 2);
     mark(alloc);
-    is_staged(device, done)
-}
-
-// Tells a device nothing, and makes it take and drop nothing.
-fn stages_told(alloc: Global, device: &mut Device) -> Option<bool> {
-    let told = told_by(alloc, &[], &[]).ok()?;
-    let drops = VersionList::new(Vec::new(alloc));
-    let takes = SharedList::new(Vec::new(alloc));
-    let pictures = Vec::new(alloc);
-    mark(alloc);
-    let done = device.stage_told(drops, pictures, takes, &told, 2);
-    mark(alloc);
-    is_staged(device, done)
-}
-
-// `None` where memory was refused, nothing is staged, and both lists came back.
-fn is_staged(
-    device: &Device,
-    done: Result<(), (VersionList, SharedList, AllocError)>,
-) -> Option<bool> {
     let right = match &done {
         Ok(()) => Some(device.staged()),
-        Err((drops, takes, _)) => {
-            if has_nothing_staged(device) && drops.is_empty() && takes.is_empty() {
+        Err((change, _)) => {
+            if has_nothing_staged(device) && change.takes.is_empty() {
                 None
             } else {
                 Some(false)
@@ -475,6 +391,11 @@ fn is_staged(
     };
     drop(done);
     right
+}
+
+// Whether a device equals its twin and has nothing staged.
+fn is_as_before(device: &Device, twin: &Device) -> bool {
+    same_device(device, twin) && has_nothing_staged(device)
 }
 
 fn narrow(alloc: Global, device: &mut Device, twin: &Device) -> Option<Verdict> {

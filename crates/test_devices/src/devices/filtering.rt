@@ -1,8 +1,8 @@
 // Tests of narrower filters, of any other filters, and of handing over.
-use super::steps::{Step, are, filter_of};
+use super::staging::held_of;
+use super::steps::{Step, filter_of};
 use super::{Run, is_run};
 use photo_device::{Device, NarrowFault, Place};
-use photo_version::Version;
 use std::alloc::Global;
 
 /// Whether narrowing moves that many versions to the out, or is refused because the filter doesn't cover the new one.
@@ -27,17 +27,14 @@ pub fn refilters(alloc: Global, device: &mut Device, text: &str, wanted: (u64, u
     }
 }
 
-/// Whether the device hands over exactly that when it is asked for its version of that number.
-pub fn hands_over(alloc: Global, device: &mut Device, n: u32, wanted: &[(u32, u32)]) -> bool {
-    let Some(version) = Version::new(device.author(), n) else {
+/// Whether the device hands over its version of that number, of the picture with the same number.
+pub fn hands_over(device: &mut Device, n: u32) -> bool {
+    let Some(held) = held_of(device, n) else {
         return false;
     };
-    let mut handed = Vec::new(alloc);
-    if handed.reserve(1).is_err() {
-        return false;
-    }
-    device.hand_over(&[version], &mut handed);
-    are(&handed, wanted)
+    let before = device.out().len();
+    device.hand_over(&[held]);
+    device.out().len() < before
 }
 
 const RUNS: &[Run] = &[
@@ -66,10 +63,10 @@ const RUNS: &[Run] = &[
             Step::Make(1, Some(2), (1, Place::Out)),
             Step::Make(2, Some(3), (2, Place::Store)),
             Step::Make(3, Some(1), (3, Place::Out)),
-            Step::HandOver(3, &[(3, 3)]),
-            Step::HandOver(2, &[]),
-            Step::HandOver(1, &[(1, 1)]),
-            Step::HandOver(1, &[]),
+            Step::HandOver(3, true),
+            Step::HandOver(2, false),
+            Step::HandOver(1, true),
+            Step::HandOver(1, false),
             Step::Has(&[(2, 2)], &[]),
         ],
     ),

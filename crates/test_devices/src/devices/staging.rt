@@ -1,78 +1,79 @@
 // Tests of staged changes and of copies of devices.
-ghost use Rattle.std.specs.Prelude.{◌≡◌, ℕ, false};
+ghost use Rattle.std.specs.Prelude.{◌≡◌, ℕ, true, false, [], ◌∷◌, IfSome};
+ghost use Rattle.std.specs.List.{AllByRecursion};
+ghost use Rattle.photo_device.specs.Held.{has_version_of};
 
 use super::changing::makes;
 use super::steps::Step;
 use super::{Run, is_run};
 use item_knowledge::Knowledge;
-use photo_device::{Change, Device, Place, SharedList, VersionList};
+use photo_device::{Change, Device, Gain, Place, Selection, SharedHeld, SharedList};
 use photo_record::PicNo;
 use photo_version::Version;
 use std::alloc::Global;
 
-/// Whether the device holds its version of that number and stages dropping it, with capacity for `room` more.
+/// Whether the device stores its version of that number, of the picture with the same number, and stages dropping it,
+/// with capacity for `room` more.
 pub fn stages(alloc: Global, device: &mut Device, n: u32, room: usize) -> bool {
-    let Some(version) = Version::new(device.author(), n) else {
+    let Some(held) = held_of(device, n) else {
         return false;
     };
-    if device.held(version).is_none() {
+    if !device.store().has(held.picture(), held.version()) {
         return false;
     }
-    let Ok(drops) = Vec::from_slice(alloc, &[version]) else {
+    let Some(stored) = one(alloc, held) else {
         return false;
     };
-    match Knowledge::new(alloc) {
-        Ok(gain) => {
-            let change = Change {
-                drops: VersionList::new(drops),
-                takes: SharedList::new(Vec::new(alloc)),
-                gain,
-            };
-            device.stage(change, room).is_ok()
-        }
-        Err(_) => false,
-    }
+    let drops = Selection {
+        stored,
+        waiting: Vec::new(alloc),
+    };
+    stages_drops(alloc, device, drops, room)
 }
 
-// The pictures of those numbers.
-fn pictures(alloc: Global, numbers: &[u32]) -> Option<Vec<PicNo>> {
-    let mut pictures = Vec::new(alloc);
-    for number in numbers {
-        pictures.push(PicNo::new(*number)?).ok()?;
+/// Whether the device stages dropping a version of its store and one of its out, each of the picture with its number.
+pub fn stages_both(alloc: Global, device: &mut Device, in_store: u32, in_out: u32) -> bool {
+    let (Some(held), Some(other)) = (held_of(device, in_store), held_of(device, in_out)) else {
+        return false;
+    };
+    if !device.store().has(held.picture(), held.version()) {
+        return false;
     }
-    Some(pictures)
+    if !device.out().has(other.picture(), other.version()) {
+        return false;
+    }
+    let (Some(stored), Some(waiting)) = (one(alloc, held), one(alloc, other)) else {
+        return false;
+    };
+    stages_drops(alloc, device, Selection { stored, waiting }, 0)
 }
 
-/// Whether the device holds its versions 3, 2 and 5 and stages dropping them, with hints.
-pub fn stages_hinted(alloc: Global, device: &mut Device, hints: &[u32]) -> bool {
-    let author = device.author();
-    let (Some(one), Some(two), Some(three)) = (
-        Version::new(author, 3),
-        Version::new(author, 2),
-        Version::new(author, 5),
-    ) else {
-        return false;
-    };
-    if device.held(one).is_none() {
-        return false;
-    }
-    if device.held(two).is_none() {
-        return false;
-    }
-    if device.held(three).is_none() {
-        return false;
-    }
-    let (Ok(drops), Some(hints)) = (
-        Vec::from_slice(alloc, &[one, two, three]),
-        pictures(alloc, hints),
-    ) else {
-        return false;
-    };
+/// The device's version of that number, of the picture with the same number, if it holds it.
+pub fn held_of(device: &Device, n: u32) -> Option<SharedHeld> {
+    let version = Version::new(device.author(), n)?;
+    device.held_of(PicNo::new(n)?, version)?.try_clone().ok()
+}
+
+// A list of one version.
+fn one(alloc: Global, held: SharedHeld) -> Option<Vec<SharedHeld>>
+    ensures { IfSome result (λ list. list.items ≡ held ∷ []) }
+{
+    let mut list = Vec::new(alloc);
+    list.push(held).ok()?;
+    Some(list)
+}
+
+// Whether the device stages dropping those versions, and takes and learns nothing.
+fn stages_drops(alloc: Global, device: &mut Device, drops: Selection, room: usize) -> bool
+    requires stored { AllByRecursion (λ h. has_version_of h.picture h.version device.old.store ≡ true) drops.stored.items }
+    requires waiting { AllByRecursion (λ h. has_version_of h.picture h.version device.old.out ≡ true) drops.waiting.items }
+{
     match Knowledge::new(alloc) {
-        Ok(gain) => {
-            let drops = VersionList::new(drops);
+        Ok(known) => {
             let takes = SharedList::new(Vec::new(alloc));
-            device.stage_lent(drops, hints, takes, &gain, 0).is_ok()
+            let gain = Gain::Known(&known);
+            let change = Change { drops, takes, gain };
+            device.stage(change, room).is_ok()
         }
         Err(_) => false,
     }
@@ -149,7 +150,7 @@ const RUNS: &[Run] = &[
             Step::Narrow("rating >= 4", Some(0)),
             Step::IsStaged(false),
             Step::Stage(2, 0, true),
-            Step::HandOver(2, &[]),
+            Step::HandOver(2, false),
             Step::IsStaged(false),
             Step::Stage(2, usize::MAX, false),
             Step::IsStaged(false),
@@ -175,9 +176,8 @@ const RUNS: &[Run] = &[
             Step::Knows(9, (2, 0, 6), false),
         ],
     ),
-    // the versions that are dropped are of pictures 3, 2 and 5
     (
-        "what is given up by right hints",
+        "what is dropped leaves the store and the out",
         0,
         "rating >= 3",
         &[
@@ -186,54 +186,23 @@ const RUNS: &[Run] = &[
             Step::Make(3, Some(4), (3, Place::Store)),
             Step::Make(4, Some(2), (4, Place::Out)),
             Step::Make(5, Some(5), (5, Place::Store)),
-            Step::StageHinted(&[3, 2, 5]),
+            Step::StageBoth(3, 2, true),
+            Step::Has(&[(1, 1), (3, 3), (5, 5)], &[(2, 2), (4, 4)]),
             Step::Commit,
-            Step::Has(&[(1, 1)], &[(4, 4)]),
+            Step::Has(&[(1, 1), (5, 5)], &[(4, 4)]),
         ],
     ),
     (
-        "what is given up by no hints",
+        "what stands elsewhere isn't given up",
         0,
         "rating >= 3",
         &[
             Step::Make(1, Some(5), (1, Place::Store)),
             Step::Make(2, Some(1), (2, Place::Out)),
-            Step::Make(3, Some(4), (3, Place::Store)),
-            Step::Make(4, Some(2), (4, Place::Out)),
-            Step::Make(5, Some(5), (5, Place::Store)),
-            Step::StageHinted(&[]),
+            Step::StageBoth(2, 1, false),
+            Step::StageBoth(1, 2, true),
             Step::Commit,
-            Step::Has(&[(1, 1)], &[(4, 4)]),
-        ],
-    ),
-    (
-        "what is given up by hints of no picture that is held",
-        0,
-        "rating >= 3",
-        &[
-            Step::Make(1, Some(5), (1, Place::Store)),
-            Step::Make(2, Some(1), (2, Place::Out)),
-            Step::Make(3, Some(4), (3, Place::Store)),
-            Step::Make(4, Some(2), (4, Place::Out)),
-            Step::Make(5, Some(5), (5, Place::Store)),
-            Step::StageHinted(&[9, 9, 9]),
-            Step::Commit,
-            Step::Has(&[(1, 1)], &[(4, 4)]),
-        ],
-    ),
-    (
-        "what is given up by hints of what stays",
-        0,
-        "rating >= 3",
-        &[
-            Step::Make(1, Some(5), (1, Place::Store)),
-            Step::Make(2, Some(1), (2, Place::Out)),
-            Step::Make(3, Some(4), (3, Place::Store)),
-            Step::Make(4, Some(2), (4, Place::Out)),
-            Step::Make(5, Some(5), (5, Place::Store)),
-            Step::StageHinted(&[1, 4, 1]),
-            Step::Commit,
-            Step::Has(&[(1, 1)], &[(4, 4)]),
+            Step::Has(&[], &[]),
         ],
     ),
 ];

@@ -3,7 +3,7 @@ use super::asking::{Round, asks};
 use super::changing::{Changed, edits, makes, removes};
 use super::filtering::{hands_over, narrows, refilters};
 use super::showing::{fills, is_gone_over, shows};
-use super::staging::{commits, copies, stages, stages_hinted};
+use super::staging::{commits, copies, stages, stages_both};
 use photo_device::{Device, Held, HeldSet, Place, SharedHeld};
 use photo_filter_rules::Filter;
 use photo_record::{Day, PicNo, Rating, Record, Words};
@@ -27,12 +27,12 @@ pub enum Step {
     Narrow(&'static str, Option<u64>),
     /// The device gets another filter: how many versions its store and its out then have.
     Refilter(&'static str, (u64, u64)),
-    /// The device hands over a version: what it hands over.
-    HandOver(u32, List),
-    /// The device stages dropping a version, with capacity for that many more: whether it does.
+    /// The device hands over a version: whether it does.
+    HandOver(u32, bool),
+    /// The device stages dropping a version of its store, with capacity for that many more: whether it does.
     Stage(u32, usize, bool),
-    /// The device stages dropping its versions 3, 2 and 5, with pictures as hints.
-    StageHinted(&'static [u32]),
+    /// The device stages dropping a version of its store and one of its out: whether it does.
+    StageBoth(u32, u32, bool),
     /// The device commits what is staged.
     Commit,
     /// Whether the device has something staged.
@@ -79,9 +79,11 @@ fn does_one(alloc: Global, device: &mut Device, step: &Step) -> bool {
         Step::Remove(number, made) => removes(device, *number, *made),
         Step::Narrow(text, moved) => narrows(alloc, device, text, *moved),
         Step::Refilter(text, sizes) => refilters(alloc, device, text, *sizes),
-        Step::HandOver(n, handed) => hands_over(alloc, device, *n, handed),
+        Step::HandOver(n, goes) => hands_over(device, *n) == *goes,
         Step::Stage(n, room, staged) => stages(alloc, device, *n, *room) == *staged,
-        Step::StageHinted(hints) => stages_hinted(alloc, device, hints),
+        Step::StageBoth(in_store, in_out, staged) => {
+            stages_both(alloc, device, *in_store, *in_out) == *staged
+        }
         Step::Commit => commits(alloc, device),
         Step::Ask(author, rounds) => asks(alloc, device, *author, rounds),
         _ => has_come(alloc, device, step),

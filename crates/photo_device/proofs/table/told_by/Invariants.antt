@@ -1,5 +1,5 @@
 use Rattle.std.proofs.Common.{◌++◌, length}
-use Rattle.photo_device.specs.Anew.{AreLeft}
+use Rattle.photo_device.specs.Resorted.{AreLeft}
 use Rattle.photo_device.proofs.TableLemmas.{IsTableBefore}
 use Rattle.photo_device.proofs.table.told_by.Given as goal
 

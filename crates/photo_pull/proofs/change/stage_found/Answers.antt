@@ -1,29 +1,27 @@
-use Rattle.std.proofs.Common.{◌++◌, ap, ◌∙◌}
+use Rattle.std.proofs.Common.{◌≡◌, List, ap, ◌∙◌, subst}
 use Rattle.std.specs.Prelude.{filter}
-use Rattle.photo_pull.specs.OnHeld.{is_selected, versions}
-use Rattle.photo_pull.proofs.Asked.{may_stage, staged_found, gained_by_all, gained_by_told}
+use Rattle.item_knowledge.specs.Fragments.{Fragment}
+use Rattle.photo_device.specs.Staging.{HasStaged, gained, versions_in}
+use Rattle.photo_pull.specs.OnHeld.{is_selected}
+use Rattle.photo_pull.specs.Findings.{IsGained}
+use Rattle.photo_pull.proofs.Asked.{may_stage, staged_found, gained_found}
 use Rattle.photo_pull.proofs.change.stage_found.Goals as goal
 
-pub stage_told-requires : goal.stage_told-requires
-stage_told-requires c =
-    let h = c.requires.hearing in
-    let of_drops = c.in_ok-drops.ensures ∙ (λ i. versions ((c.deref.ensures.value ∙ h.dropped_stored) i) ++ versions ((c.deref-2.ensures.value ∙ h.dropped_waiting) i)) in
-    let takes = c.new-takes.ensures ∙ c.taken_of.ensures ∙ ap (λ tree. filter (is_selected tree) c.args.hearing.heard.items) c.filter.ensures in
-    let gained = gained_by_told c.args.target.now c.args.source.now c.args.hearing h c.in_ok-told.told c.in-Some.told c.in-Some.is c.in_ok-told.ensures.learned c.in_ok-told.ensures.told in
-    record { may = may_stage c.args.target.now c.args.source.now c.args.hearing h c.in_ok-drops.drops of_drops c.new-takes.result takes c.in-Some.told gained }
+pub stage-requires : goal.stage-requires
+stage-requires c =
+    let h = c.requires.delta in
+    let takes = c.new-takes.ensures ∙ c.taken_of.ensures ∙ ap (λ tree. filter (is_selected tree) c.args.delta.heard.items) c.filter.ensures in
+    let gain : List Fragment = gained c.gain_of-gain.result in
+    let gains : IsGained c.args.target.now c.args.source.now gain =
+    gained_found c.args.target.now c.args.source.now c.args.delta h c.in_ok-told.told gain c.in_ok-told.ensures.learned c.in_ok-told.ensures.told c.gain_of-gain.ensures.told c.gain_of-gain.ensures.all in
+    record { may = may_stage c.args.target.now c.args.source.now c.args.delta h c.new-takes.result takes gain gains }
 
-pub stage_lent-requires : goal.stage_lent-requires
-stage_lent-requires c =
-    let h = c.requires.hearing in
-    let of_drops = c.in_ok-drops.ensures ∙ (λ i. versions ((c.deref.ensures.value ∙ h.dropped_stored) i) ++ versions ((c.deref-2.ensures.value ∙ h.dropped_waiting) i)) in
-    let takes = c.new-takes.ensures ∙ c.taken_of.ensures ∙ ap (λ tree. filter (is_selected tree) c.args.hearing.heard.items) c.filter.ensures in
-    let gained = gained_by_all c.args.target.now c.args.source.now c.args.hearing h c.in_ok-told.told c.in_default.is c.in_ok-told.ensures.learned c.knowledge-taught.result.now.known c.knowledge-taught.ensures.value in
-    record { may = may_stage c.args.target.now c.args.source.now c.args.hearing h c.in_ok-drops.drops of_drops c.new-takes.result takes c.knowledge-taught.result.now.known gained }
-
-pub returns-in_default-clause-staged : goal.returns-in_default-clause-staged
-returns-in_default-clause-staged c =
-    let h = c.requires.hearing in
-    let of_drops = c.in_ok-drops.ensures ∙ (λ i. versions ((c.deref.ensures.value ∙ h.dropped_stored) i) ++ versions ((c.deref-2.ensures.value ∙ h.dropped_waiting) i)) in
-    let takes = c.new-takes.ensures ∙ c.taken_of.ensures ∙ ap (λ tree. filter (is_selected tree) c.args.hearing.heard.items) c.filter.ensures in
-    let gained = gained_by_all c.args.target.now c.args.source.now c.args.hearing h c.in_ok-told.told c.in_default.is c.in_ok-told.ensures.learned c.knowledge-taught.result.now.known c.knowledge-taught.ensures.value in
-    staged_found c.args.target.now c.args.source.now c.args.hearing h c.in_ok-drops.drops of_drops c.new-takes.result takes c.knowledge-taught.result.now.known gained c.args.room c.stage_lent.new.self c.in_default-stage_lent.ensures.staged
+pub returns-in-Ok-clause-staged : goal.returns-in-Ok-clause-staged
+returns-in-Ok-clause-staged c =
+    let h = c.requires.delta in
+    let takes = c.new-takes.ensures ∙ c.taken_of.ensures ∙ ap (λ tree. filter (is_selected tree) c.args.delta.heard.items) c.filter.ensures in
+    let gain : List Fragment = gained c.gain_of-gain.result in
+    let gains : IsGained c.args.target.now c.args.source.now gain =
+    gained_found c.args.target.now c.args.source.now c.args.delta h c.in_ok-told.told gain c.in_ok-told.ensures.learned c.in_ok-told.ensures.told c.gain_of-gain.ensures.told c.gain_of-gain.ensures.all in
+    let staged = subst (λ n. HasStaged (versions_in c.args.delta.dropped) c.new-takes.result gain n c.args.target.now c.stage.new.self) (c.len.ensures ∙ c.args.delta.handed.ok.0) c.in-Ok.ensures.staged in
+    staged_found c.args.target.now c.args.source.now c.args.delta h c.new-takes.result takes gain gains c.stage.new.self staged

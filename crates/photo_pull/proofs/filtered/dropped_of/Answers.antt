@@ -5,7 +5,7 @@ use Rattle.photo_pull.proofs.filtered.dropped_of.Goals as goal
 
 pub loop-held-preserved : goal.loop-held-preserved
 loop-held-preserved c = record {
-  gap = c.is_dropped.ensures.gap;
+  quiet = c.is_dropped.ensures.quiet;
   beside = grind (arith, common_steps, beside_one);
   any = grind (arith, common_steps);
   found = grind (arith, common_steps);

@@ -27,6 +27,6 @@ returns-then-has-clause-passed c f none = none_before f c.args.list.now (length 
 pub returns-clause-passed : goal.returns-clause-passed
 returns-clause-passed c f none = none_before f c.args.list.now c.partition_point.result (λ k h l.
     let xs = c.args.list.now in
-    let less = IsPartitionPoint-from_clause (λ (h : Held). ltb h.picture c.args.gap.end) xs c.partition_point.result c.partition_point.ensures.partitioned (IsPartitionedBy-ltb (λ (h : Held). h.picture) xs c.args.gap.end (rises xs c.requires)) (λ a r f h. search rules) in
+    let less = IsPartitionPoint-from_clause (λ (h : Held). ltb h.picture c.args.quiet.end) xs c.partition_point.result c.partition_point.ensures.partitioned (IsPartitionedBy-ltb (λ (h : Held). h.picture) xs c.args.quiet.end (rises xs c.requires)) (λ a r f h. search rules) in
     let up = later xs 0 k c.index-list-0.result (get_or xs k h) c.requires (omega arith) (omega arith) c.index-list-0.is (get_or_default xs k h (get_or xs k h) (omega arith)) in
     none (get_or xs k h) (grind (arith, nat_tests)) (ltb-true _ _ (less.0 k h (omega arith) l)))

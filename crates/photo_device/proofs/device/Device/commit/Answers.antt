@@ -1,20 +1,29 @@
-use Rattle.std.proofs.Common.{◌≡◌, refl, sym, ◌∙◌}
+use Rattle.std.proofs.Common.{◌≡◌, refl, sym, ap, ◌∙◌, arith}
 use Rattle.std.specs.Prelude.{Some}
-use Rattle.photo_device.proofs.Staged.{committing, held_once, both_fit, commits, known_after, shows_after}
+use Rattle.photo_device.specs.Held.{helds_without, versions_of}
+use Rattle.photo_device.proofs.Staged.{committing, held_once, both_fit, gone_of_store, gone_of_out, commits, known_after, shows_after}
 use Rattle.photo_device.proofs.device.Device.commit.Goals as goal
 
 pub give_up-requires : goal.give_up-requires
-give_up-requires c = held_once _ _ _ _ (committing _ _ _ c.args.handed.items _ _ (sym c.take.ensures.value ∙ c.in-Some.is) c.self.view_is c.self.invariant c.requires.handed)
+give_up-requires c = λ v. omega (arith, held_once _ _ _ _ (committing _ _ _ c.args.handed.items _ _ (sym c.take.ensures.value ∙ c.in-Some.is) c.self.view_is c.self.invariant c.requires.handed) v)
+
+pub give_up-requires-2 : goal.give_up-requires-2
+give_up-requires-2 c = λ v. omega (arith, held_once _ _ _ _ (committing _ _ _ c.args.handed.items _ _ (sym c.take.ensures.value ∙ c.in-Some.is) c.self.view_is c.self.invariant c.requires.handed) v)
 
 pub take_in-requires : goal.take_in-requires
 take_in-requires c =
-    let fit = both_fit _ _ _ _ (committing _ _ _ c.args.handed.items _ _ (sym c.take.ensures.value ∙ c.in-Some.is) c.self.view_is c.self.invariant c.requires.handed) in
-    rw (c.give_up.ensures.store, c.give_up.ensures.out, c.into_vec.ensures, c.as_slice.ensures) (record { store = fit.0; out = fit.1 })
+    let are = committing _ _ _ c.args.handed.items _ _ (sym c.take.ensures.value ∙ c.in-Some.is) c.self.view_is c.self.invariant c.requires.handed in
+    let store = c.give_up.ensures ∙ ap (λ hs. helds_without (versions_of hs) c.self.inside.store) c.deref.ensures.value ∙ gone_of_store _ _ _ _ are in
+    let out = c.give_up-2.ensures ∙ ap (λ hs. helds_without (versions_of hs) c.self.inside.out) c.deref-2.ensures.value ∙ gone_of_out _ _ _ _ are in
+    let fit = both_fit _ _ _ _ are in
+    rw (store, out, c.into_vec.ensures) (record { store = fit.0; out = fit.1 })
 
 pub invariant_of-self : goal.invariant_of-self
 invariant_of-self c =
     let are = committing _ _ _ c.args.handed.items _ _ (sym c.take.ensures.value ∙ c.in-Some.is) c.self.view_is c.self.invariant c.requires.handed in
-    rw (c.take.ensures.after, c.take_in.ensures.store, c.take_in.ensures.out, c.give_up.ensures.store, c.give_up.ensures.out, c.into_vec.ensures, c.as_slice.ensures) (commits _ _ _ _ are c.commit.new.self c.commit.ensures)
+    let store = c.give_up.ensures ∙ ap (λ hs. helds_without (versions_of hs) c.self.inside.store) c.deref.ensures.value ∙ gone_of_store _ _ _ _ are in
+    let out = c.give_up-2.ensures ∙ ap (λ hs. helds_without (versions_of hs) c.self.inside.out) c.deref-2.ensures.value ∙ gone_of_out _ _ _ _ are in
+    rw (c.take.ensures.after, c.take_in.ensures.store, c.take_in.ensures.out, store, out, c.into_vec.ensures) (commits _ _ _ _ are c.commit.new.self c.commit.ensures)
 
 pub returns-clause-shows : goal.returns-clause-shows
 returns-clause-shows c =
@@ -22,6 +31,8 @@ returns-clause-shows c =
     let p = c.in-Some.prepared in
     let is : c.self.inside.prepared ≡ Some p = sym c.take.ensures.value ∙ c.in-Some.is in
     let are = committing c.self.inside.prepared c.self.inside.knowledge.staged p handed _ c.args.self.now is c.self.view_is c.self.invariant c.requires.handed in
+    let store = c.give_up.ensures ∙ ap (λ hs. helds_without (versions_of hs) c.self.inside.store) c.deref.ensures.value ∙ gone_of_store _ _ _ _ are in
+    let out = c.give_up-2.ensures ∙ ap (λ hs. helds_without (versions_of hs) c.self.inside.out) c.deref-2.ensures.value ∙ gone_of_out _ _ _ _ are in
     let known = known_after _ _ _ _ are c.commit.new.self c.commit.ensures in
     shows_after _ _ _ _ are _ c.args.self.now _ is c.self.view_is refl
-    (rw (c.take.ensures.after, known, c.take_in.ensures.store, c.take_in.ensures.out, c.give_up.ensures.store, c.give_up.ensures.out, c.into_vec.ensures, c.as_slice.ensures) refl)
+    (rw (c.take.ensures.after, known, c.take_in.ensures.store, c.take_in.ensures.out, store, out, c.into_vec.ensures) refl)

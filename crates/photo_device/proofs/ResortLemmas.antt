@@ -1,0 +1,128 @@
+-- What is true of a device that gets any new filter.
+use Rattle.std.proofs.Common.{◌≡◌, ℕ, ◌<◌, Bool, true, false, not, List, [], ◌++◌, refl, sym, ap, ◌∙◌, subst, arith}
+use Rattle.std.specs.Prelude.{filter, None}
+use Rattle.std.specs.List.{AllByRecursion}
+use Rattle.std.proofs.lemmas.List.Folds.{list_any-append}
+use Rattle.std.proofs.lemmas.Bool.Decides.{nat_tests}
+use Rattle.std.proofs.lemmas.Bool.{false≢true}
+use Rattle.photo_filter_text.specs.Tree.{Tree}
+use Rattle.photo_filter_rules.specs.Matching.{matches}
+use Rattle.photo_version.specs.Author.{Author, epoch_of_author, next_author, is_earlier_epoch}
+use Rattle.photo_version.specs.Version.{Version, version}
+use Rattle.item_knowledge.specs.Fragments.{Fragment, knows}
+use Rattle.item_knowledge.specs.Kept.{nothing_known, star_bound}
+use Rattle.photo_device.specs.declared.held.Held.{Held}
+use Rattle.photo_model.specs.Entry.{Entry, put_entries}
+use Rattle.photo_device.specs.Held.{entry_of, entries_of, put_helds}
+use Rattle.photo_model.specs.Device.{ModelDevice, holds}
+use Rattle.photo_device.specs.Device.{Kept, Shows}
+use Rattle.photo_device.specs.declared.resorted.Resorted.{Resorted}
+use Rattle.photo_device.specs.Resorted.{IsResorted}
+use Rattle.photo_device.specs.Staging.{AreParts}
+use Rattle.photo_device.specs.Own.{HasEarlier, IsKnownBy, IsDevice, KnowsItsOwn, KnowsNoLater}
+use Rattle.photo_device.specs.Taking.{AreNewTo, with_side}
+use Rattle.photo_model.specs.Telling.{tell}
+use Rattle.photo_device.specs.Telling.{tells}
+use Rattle.photo_model.specs.Refiltered.{refiltered}
+use Rattle.photo_model.proofs.AllLemmas.{all_append}
+use Rattle.photo_device.proofs.Counts.{count_of-append}
+use Rattle.photo_device.proofs.OwnLemmas.{all_of, none_up_to}
+use Rattle.photo_device.proofs.Changed.{joins_device, new_to_empty}
+use Rattle.photo_device.proofs.Shown.{entries-put_those, held_shown}
+use Rattle.photo_device.proofs.TellingLemmas.{one, tell_entries, told_known, known_told}
+
+-- a device's next epoch is a later one, and what is later than it is later than this one
+
+next_is_later : (a : Author) → epoch_of_author a < 4294967295 → is_earlier_epoch a (next_author a) ≡ true
+next_is_later a h = grind (arith, nat_tests)
+
+later_too : (a b : Author) → epoch_of_author a < 4294967295 → is_earlier_epoch (next_author a) b ≡ true → is_earlier_epoch a b ≡ true
+later_too a b h later = grind (arith, nat_tests)
+
+-- who knows no more than a device did knows no version of its next epoch, nor of any later one
+pub begins_next_epoch : (a : Author) (old new : List Fragment) → epoch_of_author a < 4294967295 → KnowsNoLater a old → star_bound new (next_author a) ≡ 0
+    → ((p : ℕ) (v : Version) → 0 < p → knows new p v ≡ true → knows old p v ≡ true) → KnowsItsOwn (next_author a) 0 new
+begins_next_epoch a old new h none_later star within = record {
+  star = star;
+  own = λ p n above. none p (version (next_author a) n) above (next_is_later a h) ∙ none_up_to n;
+  later = λ p v above later. none p v above (later_too a v.author h later);
+}
+  where
+    none : (p : ℕ) (v : Version) → 0 < p → is_earlier_epoch a v.author ≡ true → knows new p v ≡ false
+    none p v above later = let before = none_later p v above later in let here = within p v above in grind arith
+
+-- a device that holds, knows and has made nothing
+abbrev empty : Author → Tree → Kept
+empty author tree = record { author = author; tree = tree; counter = 0; store = []; out = []; knowledge = nothing_known; staged = None }
+
+empty_device : (author : Author) (tree : Tree) → IsDevice (empty author tree)
+empty_device author tree = record {
+  knows = record { star = refl; own = λ p n above. none_up_to n; later = λ p v above later. refl };
+  store = tt;
+  out = tt;
+  store_known = tt;
+  out_known = tt;
+  once = λ v. omega arith;
+}
+
+-- what is in two sets, each version once, is new to an empty set
+pub new_to_none : (stored waiting none : List Held) → none ≡ [] → AreNewTo waiting stored → AreNewTo none (waiting ++ stored)
+new_to_none stored waiting none is new =
+    subst (λ (l : List Held). AreNewTo l (waiting ++ stored)) (sym is)
+    (new_to_empty (waiting ++ stored) (λ v. let once = new.once v in omega (arith, count_of-append v stored waiting, count_of-append v waiting stored)))
+
+module _ (tree : Tree) (resorted : Resorted) (d : Kept) (told : IsResorted tree d.store d.out resorted) (is : IsDevice d) where
+  abbrev fs : List Fragment
+  fs = resorted.told.known
+
+  -- a device in its next epoch, with what it held sorted again, which knows what this tells
+  abbrev pub sorted : Kept
+  sorted = record {
+    author = next_author d.author;
+    tree = tree;
+    counter = 0;
+    store = with_side true tree (d.store ++ d.out) [];
+    out = with_side false tree (d.store ++ d.out) [];
+    knowledge = fs;
+    staged = None;
+  }
+
+  all_pairs : (p : ℕ) (v : Version) → 0 < p → knows fs p v ≡ tells (d.store ++ d.out) p v
+  all_pairs p v above = told.pairs p v above ∙ sym (list_any-append (one p v) d.store d.out)
+
+  known_before : AllByRecursion (IsKnownBy d.knowledge) (d.store ++ d.out)
+  known_before = all_append (IsKnownBy d.knowledge) d.store d.out is.store_known is.out_known
+
+  -- what is known then was known
+  within : (p : ℕ) (v : Version) → 0 < p → knows fs p v ≡ true → knows d.knowledge p v ≡ true
+  within p v above here = told_known d.knowledge (d.store ++ d.out) p v known_before (sym (all_pairs p v above) ∙ here)
+
+  known_after : AllByRecursion (IsKnownBy fs) (d.store ++ d.out)
+  known_after =
+      known_told fs (d.store ++ d.out)
+      (all_of (IsKnownBy d.knowledge) (λ (h : Held). 0 < h.picture) (λ h known. known.above) (d.store ++ d.out) known_before)
+      (λ p v above tells_it. all_pairs p v above ∙ tells_it)
+
+  -- it is what an empty device of the next epoch is that takes what was held and learns what this tells
+  sorted_device : epoch_of_author d.author < 4294967295 → IsDevice sorted
+  sorted_device h =
+      joins_device (d.store ++ d.out) fs (empty (next_author d.author) tree) (new_to_empty (d.store ++ d.out) is.once) (all_append HasEarlier d.store d.out is.store is.out)
+      (begins_next_epoch d.author d.knowledge fs h is.knows.later (told.star (next_author d.author)) within)
+      (λ p w above known. absurd (false≢true known)) known_after (empty_device (next_author d.author) tree)
+
+  pub resorted_device : epoch_of_author d.author < 4294967295 → AreParts None resorted.told.staged sorted
+  resorted_device h = record { device = sorted_device h; fits = told.staged }
+
+  side_shown : (m : ModelDevice) (q : Entry → Bool) → Shows d m → entries_of (put_helds (filter (λ (h : Held). q (entry_of h)) (d.store ++ d.out)) []) ≡ put_entries (filter q (holds m)) []
+  side_shown m q shows =
+      entries-put_those q (d.store ++ d.out) [] ∙ ap (λ es. put_entries (filter q es) []) (held_shown d m shows)
+
+  pub resorted_shows : (m : ModelDevice) → Shows d m → Shows sorted (refiltered tree m)
+  resorted_shows m shows = record {
+    author = ap next_author shows.author;
+    tree = refl;
+    counter = refl;
+    store = side_shown m (λ e. matches tree e.content) shows;
+    out = side_shown m (λ e. not (matches tree e.content)) shows;
+    known = λ p above v. all_pairs p v above ∙ tell_entries (d.store ++ d.out) p v ∙ ap (λ es. tell es p v) (held_shown d m shows);
+  }

@@ -1,0 +1,103 @@
+// What a pull finds between a target and a source.
+ghost use Rattle.std.specs.Prelude.{◌≡◌, ◌||◌, true, IfOk, OnErr};
+ghost use Rattle.std.specs.List.{list_any};
+ghost use Rattle.photo_pull.specs.OnHeld.{IsOrdered, new_stored, new_waiting, is_dropped, is_over, dropped_stored, dropped_waiting, learns};
+ghost use Rattle.photo_pull.specs.Findings.{AreNews, IsDelta, IsSomething};
+
+use crate::PullCounts;
+use crate::filtered::{count_of, dropped_of, heard_of};
+use item_knowledge::Knowledge;
+use photo_device::{Device, Selection, SharedHeld};
+use photo_filter_rules::covers;
+use std::alloc::{AllocError, Global};
+
+/// What a pull finds. The target takes what its filter matches, and only notices the rest.
+#[derive(Debug, Drop)]
+pub(crate) struct PullDelta {
+    /// Whether the target learns all that the source knows.
+    pub learned: bool,
+    /// What the target drops.
+    pub dropped: Selection,
+    /// What the target hears of in the source's store.
+    pub heard: Vec<SharedHeld>,
+    /// What the target takes from the source's out.
+    pub handed: Vec<SharedHeld>,
+}
+
+// What the target drops: what the news supersedes and, where the target learns all, what the source gave up.
+fn dropped_for(
+    alloc: Global,
+    news: &Selection,
+    learned: bool,
+    target: &Device,
+    source: &Device,
+) -> Result<Selection, AllocError>
+    requires stored { news.now.stored.items ≡ new_stored target.now source.now }
+    requires waiting { news.now.waiting.items ≡ new_waiting target.now source.now }
+    requires order { IsOrdered news.now }
+    requires learned { learned ≡ learns target.now source.now }
+    ensures stored { IfOk result (λ selection. selection.stored.items ≡ dropped_stored target.now source.now) }
+    ensures waiting { IfOk result (λ selection. selection.waiting.items ≡ dropped_waiting target.now source.now) }
+    ensures order { IfOk result (λ selection. IsOrdered selection) }
+    ensures wanted { OnErr result ((list_any (is_dropped target.now source.now) target.now.store || list_any (is_over target.now source.now) target.now.out) ≡ true) }
+{
+    let stored = dropped_of(alloc, news, learned, source, target.store())?;
+    let waiting = dropped_of(alloc, news, false, source, target.out())?;
+    Ok(Selection { stored, waiting })
+}
+
+/// The delta of a pull with this news. The only error is refused memory.
+pub(crate) fn delta_between(
+    alloc: Global,
+    news: Selection,
+    target: &Device,
+    source: &Device,
+) -> Result<PullDelta, AllocError>
+    requires { AreNews target.now source.now news }
+    ensures delta { IfOk result (λ delta. IsDelta target.now source.now delta) }
+    ensures wanted { OnErr result (IsSomething target.now source.now) }
+{
+    let learned = covers(source.filter(), target.filter());
+    let dropped = dropped_for(alloc, &news, learned, target, source)?;
+    let Selection { stored, waiting } = news;
+    let heard = heard_of(target.filter(), &dropped, stored);
+    Ok(PullDelta {
+        learned,
+        dropped,
+        heard,
+        handed: waiting,
+    })
+}
+
+impl PullDelta {
+    ghost use Rattle.std.specs.Prelude.{◌≡◌, true, false};
+    ghost use Rattle.photo_model.specs.Device.{ModelDevice};
+    ghost use Rattle.photo_device.specs.Device.{Shows};
+    ghost use Rattle.photo_model.specs.Pull.{counts_of};
+    ghost use Rattle.photo_pull.specs.Findings.{IsDelta, IsNothing};
+
+    /// The five counts of the pull. Only the contract needs the source.
+    pub fn counts(&self, target: &Device, source: &Device) -> PullCounts
+        requires { IsDelta target.now source.now self.now }
+        ensures { (t s : ModelDevice) → Shows target.now t → Shows source.now s → result ≡ counts_of t s }
+    {
+        let taken = count_of(target.filter(), &self.heard);
+        PullCounts {
+            taken: taken as u64,
+            handed: self.handed.len() as u64,
+            notices: (self.heard.len() - taken) as u64,
+            dropped: self.dropped.stored.len() as u64 + self.dropped.waiting.len() as u64,
+            learned: self.learned,
+        }
+    }
+
+    /// Whether the target hears of nothing, is handed nothing and drops nothing, and already knows what the source may teach.
+    pub fn is_nothing(&self, known: &Knowledge, taught: &Knowledge) -> bool
+        ensures nothing { result ≡ true → IsNothing self.now known.now taught.now }
+        ensures something { result ≡ false → IsNothing self.now known.now taught.now → ⊥ }
+    {
+        let none_dropped = self.dropped.stored.is_empty() && self.dropped.waiting.is_empty();
+        let none_heard = self.heard.is_empty() && self.handed.is_empty();
+        none_dropped && none_heard && (!self.learned || known.has_all(taught))
+    }
+}
