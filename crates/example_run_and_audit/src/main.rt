@@ -15,9 +15,8 @@ fn example_run_and_audit<R: Read, W: Write, T: Threads + Wait + Copy + Send + 's
     out: &mut W,
 ) -> Result<bool, RunError> {
     let script = read_source(alloc, source).map_err(RunError::Script)?;
-    let (Ok(script), Ok(gate)) = (Arc::new(alloc, script), Arc::new(alloc, OpenGate)) else {
-        return Err(RunError::NoMemory);
-    };
+    let script = Arc::new(alloc, script)?;
+    let gate = Arc::new(alloc, OpenGate)?;
     let workers = Workers::new(4).unwrap();
     let outcome = run_fleet(rt, alloc, &script, workers, gate)?;
     write_reports(alloc, out, &script, &outcome.reports)?;

@@ -63,8 +63,6 @@ pub fn plan_stream<R: Read, W: Write>(
         Ok(script) => script,
         Err(fault) => return Err(RunError::Script(fault)),
     };
-    let Ok(plan) = plan(alloc, &script) else {
-        return Err(RunError::NoMemory);
-    };
+    let plan = plan(alloc, &script)?;
     write_plan(alloc, writer, &plan)
 }

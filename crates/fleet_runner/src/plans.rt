@@ -37,15 +37,11 @@ fn write_lines<W: Write>(alloc: Global, writer: &mut W, plan: &Plan) -> Result<(
     let mut text = String::new(alloc);
     for place in 0..plan.commands() {
         text.clear();
-        let Ok(()) = push_command(&mut text, plan, place + 1) else {
-            return Err(RunError::NoMemory);
-        };
+        push_command(&mut text, plan, place + 1)?;
         write_text(writer, text.as_bytes())?;
     }
     text.clear();
-    let Ok(()) = push_count(&mut text, plan.batches()) else {
-        return Err(RunError::NoMemory);
-    };
+    push_count(&mut text, plan.batches())?;
     write_text(writer, text.as_bytes())
 }
 

@@ -60,9 +60,7 @@ fn write_texts<W: Write>(
     for report in reports {
         number += 1;
         text.clear();
-        let Ok(()) = push_report(&mut text, script, number, report) else {
-            return Err(RunError::NoMemory);
-        };
+        push_report(&mut text, script, number, report)?;
         write_text(writer, text.as_bytes())?;
     }
     Ok(())

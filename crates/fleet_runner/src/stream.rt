@@ -67,9 +67,7 @@ pub fn run_stream<R: Read, W: Write, G: Gate + 'static, T: Threads + Wait + Copy
     ensures err { IfErr result IsOfWorkersRun }
 {
     let script = script_read(alloc, reader)?;
-    let Ok(script) = Arc::new(alloc, script) else {
-        return Err(RunError::NoMemory);
-    };
+    let script = Arc::new(alloc, script)?;
     let outcome = run_fleet(rt, alloc, &script, workers, gate)?;
     write_reports(alloc, writer, &*script, outcome.reports.as_slice())
 }

@@ -1,5 +1,9 @@
 // Why a run gave no outcome.
+ghost use Rattle.std.specs.Prelude.{◌≡◌};
+ghost use Rattle.fleet_steps.specs.declared.fault.RunError.TheVariants.{NoMemory};
+
 use photo_script::ScriptFault;
+use std::alloc::{AllocError, AllocFailed};
 use thiserror::Error;
 
 /// Why a run gave no outcome, or failed to write all its reports.
@@ -20,4 +24,20 @@ pub enum RunError {
     /// The writer failed.
     #[error("E5 Write")]
     Write,
+}
+
+impl From<AllocError> for RunError {
+    ghost from_gives = { λ _ e. e ≡ NoMemory };
+
+    fn from(_: AllocError) -> RunError {
+        RunError::NoMemory
+    }
+}
+
+impl<T: Drop> From<AllocFailed<T>> for RunError {
+    ghost from_gives = { λ _ e. e ≡ NoMemory };
+
+    fn from(_: AllocFailed<T>) -> RunError {
+        RunError::NoMemory
+    }
 }

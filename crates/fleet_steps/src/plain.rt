@@ -18,13 +18,8 @@ pub fn run_plain(alloc: Global, script: &Script) -> Result<Outcome, RunError>
     ensures log { IfOk result (λ outcome. entries_of outcome.log ≡ (run script.now).log) }
     ensures err { IfErr result (λ e. e ≡ NoMemory) }
 {
-    let Ok(numbers) = numbers_to(alloc, script.commands()) else {
-        return Err(RunError::NoMemory);
-    };
-    match run_ordered(alloc, script, numbers.as_slice()) {
-        Ok(outcome) => Ok(outcome),
-        Err(_) => Err(RunError::NoMemory),
-    }
+    let numbers = numbers_to(alloc, script.commands())?;
+    Ok(run_ordered(alloc, script, numbers.as_slice())?)
 }
 
 // The numbers from 1 to `last`.

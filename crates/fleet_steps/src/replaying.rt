@@ -23,13 +23,8 @@ pub fn replay(alloc: Global, script: &Script, order: &[u32]) -> Result<Outcome, 
     ensures lawful { OnOk result (IsLawful script.now order.now) }
     ensures err { IfErr result (λ e. (e ≡ NoMemory) ⊎ ((e ≡ NotLawful) × (IsLawful script.now order.now → ⊥))) }
 {
-    match lawful(alloc, script, order) {
-        Ok(true) => {}
-        Ok(false) => return Err(RunError::NotLawful),
-        Err(_) => return Err(RunError::NoMemory),
+    if !lawful(alloc, script, order)? {
+        return Err(RunError::NotLawful);
     }
-    match run_ordered(alloc, script, order) {
-        Ok(outcome) => Ok(outcome),
-        Err(_) => Err(RunError::NoMemory),
-    }
+    Ok(run_ordered(alloc, script, order)?)
 }

@@ -55,13 +55,9 @@ pub(crate) fn run_batch<
 {
     let mut slots = slots;
     let count = slots.workers.count().min(members.len());
-    let Ok(groups) = deal(alloc, shared.script(), &mut slots.devices, members, count) else {
-        return Err(RunError::NoMemory);
-    };
+    let groups = deal(alloc, shared.script(), &mut slots.devices, members, count)?;
     let done = run_crew(rt, alloc, shared, share, groups)?;
-    let Ok(()) = take_back(shared.script(), &mut slots, done) else {
-        return Err(RunError::NoMemory);
-    };
+    take_back(shared.script(), &mut slots, done)?;
     Ok(slots)
 }
 

@@ -44,10 +44,7 @@ impl<B: Books> Running<B> {
         ensures err { IfErr result (λ e. e ≡ NoMemory) }
     {
         let Running { handle } = self;
-        match handle.join(rt) {
-            Ok(finished) => Ok(finished),
-            Err(_) => Err(RunError::NoMemory),
-        }
+        Ok(handle.join(rt)?)
     }
 }
 
@@ -74,10 +71,7 @@ pub(crate) fn run_crew<
         return Ok(Vec::new(alloc));
     };
     if groups.is_empty() {
-        let Ok(done) = run_jobs(&rt, alloc, shared, share, jobs) else {
-            return Err(RunError::NoMemory);
-        };
-        return Ok(done);
+        return Ok(run_jobs(&rt, alloc, shared, share, jobs)?);
     }
     // `left()` is called because its contract bounds what the share may count, which each worker's own share needs.
     let _left = share.left();
@@ -109,9 +103,7 @@ fn start<
         ≡ stake (share.old.parts - 1) (less share.old.left (tally_at (arc_value shared.now.script) (numbers_of jobs.items))) share.old.done) }
     ensures err { IfErr result (λ e. (e ≡ NoMemory) ⊎ (e ≡ NoWorker)) }
 {
-    let Ok(shared) = shared.try_clone() else {
-        return Err(RunError::NoMemory);
-    };
+    let shared = shared.try_clone()?;
     let share = share.split(tally(shared.script(), &jobs));
     spawn(rt, alloc, shared, share, jobs)
 }
@@ -207,8 +199,6 @@ fn gather<B: Books>(
     share.join(theirs);
     let mut done = done;
     let mut last = last;
-    match done.append(&mut last) {
-        Ok(()) => Ok(done),
-        Err(_) => Err(RunError::NoMemory),
-    }
+    done.append(&mut last)?;
+    Ok(done)
 }

@@ -62,12 +62,8 @@ pub fn run_fleet<G: Gate + 'static, R: Threads + Wait + Copy + Send + 'static>(
         log,
         ..
     } = slots;
-    let Ok(devices) = devices_out_of(alloc, devices) else {
-        return Err(RunError::NoMemory);
-    };
-    let Ok(log) = IssueLog::new(alloc, log) else {
-        return Err(RunError::NoMemory);
-    };
+    let devices = devices_out_of(alloc, devices)?;
+    let log = IssueLog::new(alloc, log)?;
     Ok(Outcome {
         devices,
         reports,
@@ -94,12 +90,8 @@ fn run_counted<
     ensures ok { IfOk result (λ r. (share : Stake) × HasEnded (arc_value script.now) r.0 share × (r.1 ≡ share.done)) }
     ensures err { IfErr result (λ e. (e ≡ NoMemory) ⊎ (e ≡ NoWorker)) }
 {
-    let Ok((ledger, share)) = open::<B>(alloc, blanks, tally_of(&**script)) else {
-        return Err(RunError::NoMemory);
-    };
-    let Ok(script) = Arc::try_clone(script) else {
-        return Err(RunError::NoMemory);
-    };
+    let (ledger, share) = open::<B>(alloc, blanks, tally_of(&**script))?;
+    let script = Arc::try_clone(script)?;
     let shared = Shared {
         script,
         ledger,
@@ -137,12 +129,8 @@ fn run_planned<
     ensures ok { IfOk result (λ slots. HasEnded (arc_value shared.now.script) slots share.new) }
     ensures err { IfErr result (λ e. (e ≡ NoMemory) ⊎ (e ≡ NoWorker)) }
 {
-    let Ok(plan) = plan(alloc, shared.script()) else {
-        return Err(RunError::NoMemory);
-    };
-    let Ok(slots) = opening_slots(alloc, shared.script(), workers) else {
-        return Err(RunError::NoMemory);
-    };
+    let plan = plan(alloc, shared.script())?;
+    let slots = opening_slots(alloc, shared.script(), workers)?;
     run_batches(rt, alloc, shared, share, &plan, slots)
 }
 

@@ -33,8 +33,6 @@ pub fn workers_stream<R: Read, W: Write, T: Threads + Wait + Copy + Send + 'stat
     ensures nothing_without_worker { result ≡ Err NoWorker → writer.new ≡ writer.old }
     ensures err { IfErr result IsOfWorkersRun }
 {
-    let Ok(gate) = Arc::new(alloc, OpenGate) else {
-        return Err(RunError::NoMemory);
-    };
+    let gate = Arc::new(alloc, OpenGate)?;
     run_stream(rt, alloc, reader, writer, workers, gate)
 }

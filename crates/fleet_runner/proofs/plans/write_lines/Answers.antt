@@ -10,14 +10,14 @@ loop-place-preserved g c =
     let p = c.args.plan.now in
     let place = c.loop-place.place in
     let within : place < length p.batches = omega (arith, c.loop-place-test.true, c.commands-place-end.ensures.count) in
-    line_written _ (g.W.Write.contents c.loop-place.writer) (g.W.Write.contents c.write_text.new.writer) p place (length p.batches) _ (plan_text p) within (c.as_bytes.ensures.value ∙ rw c.clear.ensures.bytes at c.in-Ok.ensures) c.loop-place.invariant c.in_ok-write_text.ensures.written
+    line_written _ (g.W.Write.contents c.loop-place.writer) (g.W.Write.contents c.write_text.new.writer) p place (length p.batches) _ (plan_text p) within (c.as_bytes.ensures.value ∙ rw c.clear.ensures.bytes at c.in_ok-push_command.ensures) c.loop-place.invariant c.in_ok-write_text.ensures.written
 
 pub returns-in_err-write_text-clause-front : goal.returns-in_err-write_text-clause-front
 returns-in_err-write_text-clause-front g c =
     let p = c.args.plan.now in
     let place = c.loop-place.place in
     let within : place < length p.batches = omega (arith, c.loop-place-test.true, c.commands-place-end.ensures.count) in
-    on_err _ (line_cut _ (g.W.Write.contents c.loop-place.writer) (g.W.Write.contents c.write_text.new.writer) p place (length p.batches) _ (plan_text p) within (c.as_bytes.ensures.value ∙ rw c.clear.ensures.bytes at c.in-Ok.ensures) c.loop-place.invariant c.in_err-write_text.ensures.front)
+    on_err _ (line_cut _ (g.W.Write.contents c.loop-place.writer) (g.W.Write.contents c.write_text.new.writer) p place (length p.batches) _ (plan_text p) within (c.as_bytes.ensures.value ∙ rw c.clear.ensures.bytes at c.in_ok-push_command.ensures) c.loop-place.invariant c.in_err-write_text.ensures.front)
 
 pub returns-clause-front : goal.returns-clause-front
 returns-clause-front g c =

@@ -7,5 +7,5 @@ use Rattle.fleet_steps.proofs.plain.run_plain.Goals as goal
 pub run_ordered-requires : goal.run_ordered-requires
 run_ordered-requires c =
     let script = c.args.script.now in
-    let given : c.as_slice.result.now ≡ numbers_to (length script.commands) = c.as_slice.ensures.value ∙ c.in-Ok.ensures ∙ ap numbers_to c.commands.ensures.count in
+    let given : c.as_slice.result.now ≡ numbers_to (length script.commands) = c.as_slice.ensures.value ∙ c.in_ok-numbers.ensures ∙ ap numbers_to c.commands.ensures.count in
     subst (IsLawful script) (sym given) (in_number_order script)

@@ -35,16 +35,16 @@ pub run_crew-requires-clause-start : goal.run_crew-requires-clause-start
 run_crew-requires-clause-start g c κs within =
     let script = arc_value c.args.shared.now.script in
     let state = c.requires.state in
-    let dealt = subst (λ (s : Contents). IsDealt s c.args.members.now state.2.devices c.min-count.result c.in-Ok.groups.items c.deal.new.slots.items) c.script.ensures (c.in-Ok.ensures state.2.devices state.2.here) in (
-      ready_groups script state.0 c.args.members.now c.args.slots c.deal.new.slots.items c.args.share.now c.min-count.result c.in-Ok.groups.items c.requires.script state.1 state.2 dealt,
-      subst (λ (t : Tally). Within t c.args.share.now.left) (sym (tally-permuted script c.args.members.now (numbers_of (jobs_of c.in-Ok.groups.items)) dealt.all)) c.requires.left,
+    let dealt = subst (λ (s : Contents). IsDealt s c.args.members.now state.2.devices c.min-count.result c.in_ok-groups.groups.items c.deal.new.slots.items) c.script.ensures (c.in_ok-groups.ensures state.2.devices state.2.here) in (
+      ready_groups script state.0 c.args.members.now c.args.slots c.deal.new.slots.items c.args.share.now c.min-count.result c.in_ok-groups.groups.items c.requires.script state.1 state.2 dealt,
+      subst (λ (t : Tally). Within t c.args.share.now.left) (sym (tally-permuted script c.args.members.now (numbers_of (jobs_of c.in_ok-groups.groups.items)) dealt.all)) c.requires.left,
     )
 
 pub run_crew-requires-clause-parts : goal.run_crew-requires-clause-parts
 run_crew-requires-clause-parts g c κs within =
     let state = c.requires.state in
-    let dealt = c.in-Ok.ensures state.2.devices state.2.here in
-    let many : length c.in-Ok.groups.items ≡ _ = dealt.many in
+    let dealt = c.in_ok-groups.ensures state.2.devices state.2.here in
+    let many : length c.in_ok-groups.groups.items ≡ _ = dealt.many in
     let is = c.min-count.ensures in
     let few = c.count.ensures.range.1 in
     let parts = ap (λ (s : Stake). s.parts) state.2.counted in
@@ -54,15 +54,15 @@ pub take_back-requires-clause-numbers : goal.take_back-requires-clause-numbers
 take_back-requires-clause-numbers g c =
     let script = arc_value c.args.shared.now.script in
     let state = c.requires.state in
-    let dealt = subst (λ (s : Contents). IsDealt s c.args.members.now state.2.devices c.min-count.result c.in-Ok.groups.items c.deal.new.slots.items) c.script.ensures (c.in-Ok.ensures state.2.devices state.2.here) in
-    let ready = ready_groups script state.0 c.args.members.now c.args.slots c.deal.new.slots.items c.args.share.now c.min-count.result c.in-Ok.groups.items c.requires.script state.1 state.2 dealt in
-    subst (λ (s : Contents). AllByRecursion (IsOfCommand s) c.in_ok-done.done.items) (sym c.script-2.ensures) (of_commands script (jobs_of c.in-Ok.groups.items) c.in_ok-done.done.items ready c.in_ok-done.ensures.ok.0)
+    let dealt = subst (λ (s : Contents). IsDealt s c.args.members.now state.2.devices c.min-count.result c.in_ok-groups.groups.items c.deal.new.slots.items) c.script.ensures (c.in_ok-groups.ensures state.2.devices state.2.here) in
+    let ready = ready_groups script state.0 c.args.members.now c.args.slots c.deal.new.slots.items c.args.share.now c.min-count.result c.in_ok-groups.groups.items c.requires.script state.1 state.2 dealt in
+    subst (λ (s : Contents). AllByRecursion (IsOfCommand s) c.in_ok-done.done.items) (sym c.script-2.ensures) (of_commands script (jobs_of c.in_ok-groups.groups.items) c.in_ok-done.done.items ready c.in_ok-done.ensures.ok.0)
 
 pub take_back-requires-clause-devices : goal.take_back-requires-clause-devices
 take_back-requires-clause-devices g c =
     let script = arc_value c.args.shared.now.script in
     let state = c.requires.state in
-    let dealt = c.in-Ok.ensures state.2.devices state.2.here in
+    let dealt = c.in_ok-groups.ensures state.2.devices state.2.here in
     dealt.out.long ∙ state.2.to.long ∙ ap (λ (s : Contents). length s.names) (sym c.script-2.ensures)
 
 pub take_back-requires-clause-reports : goal.take_back-requires-clause-reports
@@ -74,7 +74,7 @@ take_back-requires-clause-reports g c =
 pub returns-clause-ok : goal.returns-clause-ok
 returns-clause-ok g c = λ front few run.
     let script = arc_value c.args.shared.now.script in
-    let dealt = subst (λ (s : Contents). IsDealt s c.args.members.now run.devices c.min-count.result c.in-Ok.groups.items c.deal.new.slots.items) c.script.ensures (c.in-Ok.ensures run.devices run.here) in
-    let back = c.in-Ok-take_back.ensures in
-    after_batch script front c.args.members.now c.args.slots c.take_back.new.slots c.deal.new.slots.items c.args.share.now c.run_crew.new.share c.min-count.result c.in-Ok.groups.items c.in_ok-done.done.items c.requires.script few c.requires.apart run dealt c.in_ok-done.ensures.ok.0
+    let dealt = subst (λ (s : Contents). IsDealt s c.args.members.now run.devices c.min-count.result c.in_ok-groups.groups.items c.deal.new.slots.items) c.script.ensures (c.in_ok-groups.ensures run.devices run.here) in
+    let back = c.in_ok-take_back.ensures in
+    after_batch script front c.args.members.now c.args.slots c.take_back.new.slots c.deal.new.slots.items c.args.share.now c.run_crew.new.share c.min-count.result c.in_ok-groups.groups.items c.in_ok-done.done.items c.requires.script few c.requires.apart run dealt c.in_ok-done.ensures.ok.0
     (back.devices ∙ ap (λ (s : Contents). all_slots s c.in_ok-done.done.items c.deal.new.slots.items) c.script-2.ensures) back.reports back.log c.in_ok-done.ensures.ok.1

@@ -9,7 +9,7 @@ use Rattle.fleet_workers.proofs.Batched.{always}
 use Rattle.fleet_workers.proofs.crew.start.Goals as goal
 
 pub spawn-requires-clause-ready : goal.spawn-requires-clause-ready
-spawn-requires-clause-ready g c κs within = subst (λ (s : Contents). AreReadyJobs s c.args.jobs.items) (sym c.in-Ok.ensures) c.requires.start.0
+spawn-requires-clause-ready g c κs within = subst (λ (s : Contents). AreReadyJobs s c.args.jobs.items) (sym c.in_ok-shared.ensures) c.requires.start.0
 
 pub spawn-requires-clause-share : goal.spawn-requires-clause-share
 spawn-requires-clause-share g c κs within =
@@ -17,10 +17,10 @@ spawn-requires-clause-share g c κs within =
 
 pub returns-clause-ok : goal.returns-clause-ok
 returns-clause-ok g c =
-    subst (λ (s : Contents). IfOk c.spawn.result (λ r. (r.handle.promise.script.value ≡ s) × (r.handle.promise.jobs.value ≡ c.args.jobs))) c.in-Ok.ensures c.spawn.ensures.ok
+    subst (λ (s : Contents). IfOk c.spawn.result (λ r. (r.handle.promise.script.value ≡ s) × (r.handle.promise.jobs.value ≡ c.args.jobs))) c.in_ok-shared.ensures c.spawn.ensures.ok
 
 pub returns-clause-share : goal.returns-clause-share
 returns-clause-share g c =
     let share = c.args.share.now in
-    let of = c.tally.ensures ∙ ap (λ (s : Contents). tally_at s (numbers_of c.args.jobs.items)) (c.script.ensures ∙ c.in-Ok.ensures) in
+    let of = c.tally.ensures ∙ ap (λ (s : Contents). tally_at s (numbers_of c.args.jobs.items)) (c.script.ensures ∙ c.in_ok-shared.ensures) in
     always c.spawn.result _ (c.split-share.ensures.rest ∙ ap (λ (x : Tally). stake (share.parts - 1) (less share.left x) share.done) of)
