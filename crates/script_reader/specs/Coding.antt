@@ -1,4 +1,4 @@
--- Machinery of the proofs: a script as the tuple of its parts, by which a proof tells two of them apart.
+-- Machinery of the proofs: codes a script as the tuple of its parts, so that equality of scripts can be decided.
 use Rattle.std.specs.Prelude.{ℕ, List, refl}
 use Rattle.std.specs.Coded.{Coded, code_by, coded×, coded_ℕ, coded_list}
 use Rattle.photo_filter_text.specs.Tree.{Tree}

@@ -1,5 +1,5 @@
--- What the earlier lines of a script tell about a line: the names that they declare, the pictures that they make,
--- and how many commands they are. Each is said of the lines themselves; where one of them has a fault it doesn't matter.
+-- The context of a line: the names that the earlier lines declare, the pictures that they make, and how many commands they have.
+-- It is defined on the lines themselves, whether or not they have faults.
 use Rattle.std.specs.Prelude.{ℕ, Bool, false, not, ◌&&◌, ◌==◌, if◌then◌else◌, List, [], ◌∷◌, codes, count_by, option_to_list}
 use Rattle.std.specs.List.{flat_map, list_any}
 use Rattle.photo_filter_text.specs.Tree.{Tree}
@@ -7,23 +7,23 @@ use Rattle.photo_filter_rules.specs.Filters.{filter_of}
 use Rattle.script_reader.specs.Lines.{fields_of, third_field_on}
 use Rattle.script_reader.specs.Fields.{is_word, number_of}
 
--- a field that a comment begins with
+-- the first field of a comment
 abbrev pub is_comment : List ℕ → Bool
 is_comment [] = false
 is_comment (c ∷ cs) = c == 35
 
--- the name that a line of these fields declares
+-- the name that a line of these fields declares, if it declares one
 abbrev pub declared_by : List (List ℕ) → List (List ℕ)
 declared_by [] = []
 declared_by (word ∷ []) = []
 declared_by (word ∷ name ∷ more) = if is_word word (codes "device") then name ∷ [] else []
 
--- the filter that it declares, by the text from its third field on
+-- the filter that it declares; `text` is the line from its third field on
 abbrev pub filter_declared_by : List (List ℕ) → List ℕ → List Tree
 filter_declared_by [] text = []
 filter_declared_by (word ∷ more) text = if is_word word (codes "device") then option_to_list (filter_of text) else []
 
--- the picture that it makes
+-- the picture that it makes, if it makes one
 abbrev pub made_by : List (List ℕ) → List ℕ
 made_by [] = []
 made_by (word ∷ []) = []

@@ -1,4 +1,4 @@
--- Scripts, worked.
+-- Worked examples of scripts.
 use Rattle.std.specs.Prelude.{◌≡◌, ℕ, false, pos, List, [], ◌∷◌, replicate, None, Ok, Err, codes}
 use Rattle.photo_record.specs.declared.record.Record.TheVariants as content
 use Rattle.photo_filter_text.specs.declared.tree.Cmp.TheVariants.{AtLeast}
@@ -37,7 +37,7 @@ pub record TwoFaults : Type 0 where
   pub repeated : script_of (codes "device a all\nnew a 7 5 2024-01-01 -\nnew b 7 5 2024-01-01 -") ≡ Err (Line 3 fault.UnknownDevice)
   pub line : script_of (codes "frob\nlist") ≡ Err (Line 1 fault.UnknownCommand)
 
--- where lines end and what separates fields
+-- the ends of lines, and the separators of fields
 pub record LinesAndFields : Type 0 where
   pub returns : script_of (codes "device a all\r\nlist a\r") ≡ Ok (contents (codes "a" ∷ []) (All ∷ []) (command.List 0 ∷ []))
   pub two_returns : script_of (codes "device a all\nlist a\r\r\n") ≡ Err (Line 2 fault.UnknownDevice)
@@ -54,7 +54,7 @@ pub record Filters : Type 0 where
   pub name : script_of (codes "device A rating >= 6") ≡ Err (Line 1 fault.BadName)
   pub repeated : script_of (codes "device a all\ndevice a rating >= 6") ≡ Err (Line 2 fault.RepeatedDevice)
 
--- later versions of a picture: an `edit` says what it is, and a `remove` that it is gone. Only `new` is refused for a picture that is made
+-- later versions of a picture, by `edit` and `remove`. Only `new` is refused for a picture that an earlier line makes
 pub record Changes : Type 0 where
   pub edit : script_of (codes "device a all\nedit a 7 5 2024-01-01 x\nnew a 7 5 2024-01-01 x\nedit a 7 4 2024-01-01 -\nremove a 7\nremove a 7")
       ≡ Ok (contents (codes "a" ∷ []) (All ∷ [])
@@ -66,11 +66,11 @@ pub record Changes : Type 0 where
   pub number : script_of (codes "device a all\nremove a 07") ≡ Err (Line 2 fault.BadNumber)
   pub rating : script_of (codes "device a all\nedit a 7 6 x x,x") ≡ Err (Line 2 fault.BadRating)
 
--- two devices with no filter
+-- two devices without filters
 abbrev pub pair : List Command → Contents
 pair commands = contents (codes "a" ∷ codes "b" ∷ []) (All ∷ All ∷ []) commands
 
--- a picture and a version in a question need not be made by any line
+-- a question may name a picture and a version that no line makes
 pub record Questions : Type 0 where
   pub asked : script_of (codes "device a all\ndevice b all\nknowledge b\nknows a 7 b:100000\nknows b 999999999 a:1")
       ≡ Ok (pair (command.Knowledge 1 ∷ command.Knows 0 7 (version (author 1) 100_000) ∷ command.Knows 1 999_999_999 (version (author 0) 1) ∷ []))
@@ -89,7 +89,7 @@ pub record Questions : Type 0 where
   pub none : script_of (codes "device a all\nknowledge") ≡ Err (Line 2 fault.WrongFields)
   pub both : script_of (codes "device a all\nknowledge a a") ≡ Err (Line 2 fault.WrongFields)
 
--- versions of later epochs: read, refused, and their texts
+-- versions of later epochs: accepted ones, refused ones, and their texts
 pub record LaterEpochs : Type 0 where
   pub asked : script_of (codes "device a all\nknows a 7 a.1:1\nknows a 7 a.100000:100000")
       ≡ Ok (contents (codes "a" ∷ []) (All ∷ []) (command.Knows 0 7 (version (author_at 0 1) 1) ∷ command.Knows 0 7 (version (author_at 0 100_000) 100_000) ∷ []))
@@ -103,7 +103,7 @@ pub record LaterEpochs : Type 0 where
   pub name_first : script_of (codes "device a all\nknows a 7 b.0:0") ≡ Err (Line 2 fault.UnknownDevice)
   pub no_name : script_of (codes "device a all\nknows a 7 .1:1") ≡ Err (Line 2 fault.UnknownDevice)
 
--- a device pulls from another, and gets another filter, which is the text of its line from the third field on
+-- a pull, and a change of a filter, whose text is the line from the third field on
 pub record Moves : Type 0 where
   pub moved : script_of (codes "device a all\ndevice b all\npull a b\n narrow  b  rating >= 4 \nconflicts b")
       ≡ Ok (pair (command.Pull 0 1 ∷ command.Narrow 1 (Rate AtLeast 4) ∷ command.Conflicts 1 ∷ []))
@@ -120,7 +120,7 @@ pub record Moves : Type 0 where
   pub none : script_of (codes "device a all\nconflicts") ≡ Err (Line 2 fault.WrongFields)
   pub late : script_of (codes "device a all\nconflicts a\ndevice b all") ≡ Err (Line 3 fault.LateDevice)
 
--- a preview is asked as a pull is told, and any other filter is given as a narrower one is
+-- `preview` has the fields of `pull`, and `refilter` those of `narrow`
 pub record OtherMoves : Type 0 where
   pub previewed : script_of (codes "device a all\ndevice b all\npreview a b\nlist a\npreview b a")
       ≡ Ok (pair (command.Preview 0 1 ∷ command.List 0 ∷ command.Preview 1 0 ∷ []))
@@ -136,12 +136,12 @@ pub record OtherMoves : Type 0 where
   pub no_filter : script_of (codes "device a all\nrefilter a") ≡ Err (Line 2 fault.WrongFields)
   pub late : script_of (codes "device a all\nrefilter a none\ndevice b all") ≡ Err (Line 3 fault.LateDevice)
 
--- what lines tell that declare so many devices, all of one name
+-- the context after lines that declare so many devices, all of one name
 abbrev pub declared : ℕ → Earlier
 declared count = record { names = replicate count (codes "d"); makes = λ p. false; commands = 0 }
 
--- a 65th line that declares a device is as good as a 256th, and a 257th is one too many, whatever its name and filter, but
--- not whatever its fields
+-- the 65th and the 256th declaration are accepted, and the 257th is one too many, whatever its name and filter. A fault of its
+-- fields is found first
 pub record ManyDevices : Type 0 where
   pub more : said (declared 64) (codes "device e all") ≡ Ok None
   pub last : said (declared 255) (codes "device e all") ≡ Ok None

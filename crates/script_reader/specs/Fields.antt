@@ -1,4 +1,4 @@
--- What single fields denote.
+-- The values of single fields.
 use Rattle.std.specs.Prelude.{ℕ, Bool, false, not, ◌&&◌, ◌||◌, nat_le, nat_lt, ◌==◌, if◌then◌else◌, List, [], ◌∷◌, length, Option, Some, None, position}
 use Rattle.std.specs.List.{list_all, list_any, before_first, after_first}
 use Rattle.std.specs.Char.{is_ascii_lowercase, is_ascii_digit}
@@ -19,7 +19,7 @@ abbrev pub is_name : List ℕ → Bool
 is_name [] = false
 is_name (c ∷ cs) = is_ascii_lowercase c && (nat_lt (length cs) max_name_characters && list_all is_name_character cs)
 
--- the place of a name among the declared ones
+-- the place of a name among the declared names
 abbrev pub place_of : List (List ℕ) → List ℕ → Option ℕ
 place_of names name = position (bytes_eq name) names
 
@@ -29,7 +29,7 @@ is_colon c = c == 58
 abbrev pub is_dot : ℕ → Bool
 is_dot c = c == 46
 
--- what stands before the first such character of a text and what stands behind it, where it has one
+-- the parts of a text before and after the first such character, if it has one
 abbrev pub cut_at : (ℕ → Bool) → List ℕ → Option (List ℕ × List ℕ)
 cut_at mark text = if list_any mark text then Some (before_first mark text, after_first mark text) else None
 
@@ -44,7 +44,7 @@ abbrev pub is_decimal : List ℕ → Bool
 is_decimal [] = false
 is_decimal (d ∷ ds) = not (d == 48) && all_ascii_digits (d ∷ ds)
 
--- what digits stand for
+-- the number that digits stand for
 abbrev pub number_of : List ℕ → ℕ
 number_of digits = digits_value 10 digits
 
@@ -60,7 +60,7 @@ is_version_number n = nat_le 1 n && nat_le n max_version
 abbrev pub is_epoch : ℕ → Bool
 is_epoch n = nat_le 1 n && nat_le n max_epoch
 
--- an epoch behind a dot: one after the first
+-- the epoch after a dot, which is at least 1
 abbrev pub epoch_of : List ℕ → Option ℕ
 epoch_of text = if is_decimal text && is_epoch (number_of text) then Some (number_of text) else None
 

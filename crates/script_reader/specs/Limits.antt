@@ -1,22 +1,22 @@
 -- The limits of a script.
 use Rattle.std.specs.Prelude.{ℕ}
 
--- bytes of a script
+-- the most bytes of a script
 abbrev pub max_text_bytes : ℕ
 max_text_bytes = 8_388_608
 
--- bytes of a line
+-- the most bytes of a line
 abbrev pub max_line_bytes : ℕ
 max_line_bytes = 1024
 
--- the number of a version in a script
+-- the greatest number of a version
 abbrev pub max_version : ℕ
 max_version = 100_000
 
--- the epoch of an author in a script
+-- the greatest epoch of an author
 abbrev pub max_epoch : ℕ
 max_epoch = 100_000
 
--- characters of a device's name
+-- the most characters of a device's name
 abbrev pub max_name_characters : ℕ
 max_name_characters = 16

@@ -13,17 +13,17 @@ use Rattle.script_reader.specs.declared.fault.LineFault.{LineFault}
 use Rattle.script_reader.specs.declared.fault.ScriptFault.{ScriptFault}
 use Rattle.script_reader.specs.declared.fault.ScriptFault.TheVariants.{TooLarge, NotUtf8, Line}
 
--- what each line says, by the lines before it
+-- what each line says, given the lines before it
 abbrev pub sayings : List (List ℕ) → List (List ℕ) → List (Result (Option Command) LineFault)
 sayings before [] = []
 sayings before (line ∷ more) = said (earlier before) line ∷ sayings (before ++ line ∷ []) more
 
--- more commands in front
+-- with more commands in front
 abbrev pub with_front : List Command → Result (List Command) ScriptFault → Result (List Command) ScriptFault
 with_front front (Ok commands) = Ok (front ++ commands)
 with_front front (Err e) = Err e
 
--- the commands that lines say, numbered from a number on, or the first fault with its line
+-- the commands of lines, or the first fault with its line's number; the first line has the number `number`
 abbrev pub commands_said : ℕ → List (Result (Option Command) LineFault) → Result (List Command) ScriptFault
 commands_said number [] = Ok []
 commands_said number (Ok x ∷ more) = with_front (option_to_list x) (commands_said (number + 1) more)
@@ -43,8 +43,7 @@ script_of text =
     else (if not (is_utf8 text) then Err NotUtf8
     else script_of_lines (lines_of text))
 
--- reading the text comes to a line that isn't too long and has a field, with no fault before it: memory may be asked for
--- there
+-- memory may be asked for: the text has a line that isn't too long and has a field, and no line before it has a fault
 pub record MayWantMemory (text : List ℕ) : Type 0 where
   pub small : length text ≤ max_text_bytes
   pub utf8 : is_utf8 text ≡ true

@@ -1,4 +1,4 @@
--- What a line says, by the lines before it: a command, or nothing that runs, or its first fault.
+-- What a line says, given the lines before it: a command, or nothing that runs, or its first fault.
 use Rattle.std.specs.Prelude.{ℕ, not, nat_le, nat_lt, ◌==◌, if◌then◌else◌, List, [], ◌∷◌, length, Option, Some, None, is_some, Result, Ok, Err, codes}
 use Rattle.photo_record.specs.Reading.{rating_of_text, day_of_text, words_of_text}
 use Rattle.photo_record.specs.declared.record.Record.{Record}
@@ -23,7 +23,7 @@ abbrev pub ◌>>=◌ : {A B : Type 0} → Result A LineFault → (A → Result B
 (Ok x) >>= f = f x
 (Err e) >>= f = Err e
 
--- what a field denotes, and a fault where it denotes nothing
+-- the value of a field, or a fault if it has none
 abbrev pub or_fault : {A : Type 0} → Option A → LineFault → Result A LineFault
 or_fault None e = Err e
 or_fault (Some x) e = Ok x
@@ -50,11 +50,11 @@ record_said rating date words = do
   set ← or_fault (word_set (words_of_text words)) fault.BadKeyword
   Ok (content.Picture stars day set)
 
--- the filter that a text is
+-- the filter of a text
 unfoldable pub filter_said : List ℕ → Result Tree LineFault
 filter_said text = or_fault (filter_of text) fault.BadFilter
 
--- a name that can be declared, and the text of its filter
+-- a name that may be declared, and the text of its filter
 unfoldable pub declaration_said : Earlier → List ℕ → List ℕ → Result (Option Command) LineFault
 declaration_said before name filter =
     if nat_le max_devices (length before.names) then Err fault.TooMany
@@ -62,7 +62,7 @@ declaration_said before name filter =
     else (if is_some (place_of before.names name) then Err fault.RepeatedDevice
     else (filter_said filter >>= λ tree. Ok None)))
 
--- `device NAME FILTER`: what stands behind the first field, and the text of FILTER. It comes before all commands
+-- `device NAME FILTER`, by its fields after the first, and the text of FILTER. It comes before all commands
 unfoldable pub device_line_said : Earlier → List (List ℕ) → List ℕ → Result (Option Command) LineFault
 device_line_said before arguments filter = if nat_lt 0 before.commands then Err fault.LateDevice else by_cases arguments
   where
@@ -71,11 +71,11 @@ device_line_said before arguments filter = if nat_lt 0 before.commands then Err 
     by_cases (name ∷ []) = Err fault.WrongFields
     by_cases (name ∷ first ∷ more) = declaration_said before name filter
 
--- what is said where there is room for one command more
+-- what is said, if there is room for one more command
 abbrev pub with_room : {A : Type 0} → Earlier → Result A LineFault → Result A LineFault
 with_room before said = if nat_le max_commands before.commands then Err fault.TooMany else said
 
--- one command more
+-- one more command
 unfoldable pub command_said : Earlier → Result Command LineFault → Result (Option Command) LineFault
 command_said before said = with_room before (said >>= λ x. Ok (Some x))
 
@@ -91,7 +91,7 @@ unfoldable pub new_line_said : Earlier → List (List ℕ) → Result (Option Co
 new_line_said before (name ∷ picture ∷ rating ∷ date ∷ words ∷ []) = command_said before (creation_said before name picture (record_said rating date words))
 new_line_said before arguments = Err fault.WrongFields
 
--- a picture, also one that no line makes
+-- a picture, even one that no line makes
 unfoldable pub picture_said : List ℕ → Result ℕ LineFault
 picture_said text = or_fault (picture_of text) fault.BadNumber
 
@@ -118,14 +118,14 @@ unfoldable pub remove_line_said : Earlier → List (List ℕ) → Result (Option
 remove_line_said before (name ∷ picture ∷ []) = command_said before (removal_said before name picture)
 remove_line_said before arguments = Err fault.WrongFields
 
--- two devices, which are not one
+-- two different devices
 unfoldable pub two_said : Earlier → List ℕ → List ℕ → Result (ℕ × ℕ) LineFault
 two_said before target source = do
   first ← device_said before target
   second ← device_said before source
   if first == second then Err fault.SameDevice else Ok (first, second)
 
--- TARGET and SOURCE, of one command more
+-- TARGET and SOURCE of one more command
 unfoldable pub two_devices_said : Earlier → List (List ℕ) → Result (ℕ × ℕ) LineFault
 two_devices_said before (target ∷ source ∷ []) = with_room before (two_said before target source)
 two_devices_said before arguments = Err fault.WrongFields
@@ -144,7 +144,7 @@ filtering_said before name filter = do
   tree ← filter_said filter
   Ok (device, tree)
 
--- DEV and FILTER, of one command more: what stands behind the first field, and the text of FILTER
+-- DEV and FILTER of one more command, by its fields after the first, and the text of FILTER
 unfoldable pub device_and_filter_said : Earlier → List (List ℕ) → List ℕ → Result (ℕ × Tree) LineFault
 device_and_filter_said before [] filter = Err fault.WrongFields
 device_and_filter_said before (name ∷ []) filter = Err fault.WrongFields
@@ -179,7 +179,7 @@ author_said before text = by_cases (cut_at_dot text)
       number ← or_fault (epoch_of epoch) fault.BadNumber
       Ok (author_at device number)
 
--- `AUTHOR:N`, cut at its first colon: a version of a declared device, also one that is never made
+-- `AUTHOR:N`, cut at its first colon: a version of a declared device, even one that is never made
 unfoldable pub version_said : Earlier → List ℕ → Result Version LineFault
 version_said before text = do
   parts ← or_fault (cut_at_colon text) fault.BadNumber
@@ -204,7 +204,7 @@ unfoldable pub knows_line_said : Earlier → List (List ℕ) → Result (Option 
 knows_line_said before (name ∷ picture ∷ text ∷ []) = command_said before (question_said before name picture text)
 knows_line_said before arguments = Err fault.WrongFields
 
--- a line that asks for a report, by its first field and the others
+-- a line that asks a question, by its first field and the other fields
 unfoldable pub question_line_said : Earlier → List ℕ → List (List ℕ) → Result (Option Command) LineFault
 question_line_said before word arguments =
     if is_word word (codes "preview") then preview_line_said before arguments
@@ -214,7 +214,7 @@ question_line_said before word arguments =
     else (if is_word word (codes "knows") then knows_line_said before arguments
     else Err fault.UnknownCommand))))
 
--- a command by the first field of its line, the others and the text from the third on
+-- a command, by the first field of its line, the other fields, and the text from the third field on
 unfoldable pub command_line_said : Earlier → List ℕ → List (List ℕ) → List ℕ → Result (Option Command) LineFault
 command_line_said before word arguments filter =
     if is_word word (codes "new") then new_line_said before arguments
@@ -225,7 +225,7 @@ command_line_said before word arguments filter =
     else (if is_word word (codes "refilter") then refilter_line_said before arguments filter
     else question_line_said before word arguments)))))
 
--- a line of these fields, and its text from the third on: empty lines and comments say nothing
+-- a line, by its fields and its text from the third field on: empty lines and comments say nothing
 unfoldable pub fields_said : Earlier → List (List ℕ) → List ℕ → Result (Option Command) LineFault
 fields_said before [] filter = Ok None
 fields_said before (word ∷ arguments) filter =

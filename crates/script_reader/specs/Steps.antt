@@ -1,5 +1,5 @@
--- Machinery of the proofs, which only contracts of private functions cite: how what a reader does is tied to what lines
--- say, where memory may be refused instead.
+-- Machinery of the proofs, cited by contracts of private functions only: they tie a reader's state to the definitions of lines,
+-- where memory may be refused instead.
 use Rattle.std.specs.Prelude.{◌≡◌, ◌<◌, ℕ, Bool, true, false, ◌||◌, ◌==◌, if◌then◌else◌, List, [], ◌∷◌, ◌++◌, length, take, map, Option, Some, None, option_to_list, Result, Ok, Err}
 use Rattle.std.specs.Borrow.{Bor}
 use Rattle.std.specs.BTreeSet.{contains}
@@ -23,21 +23,21 @@ abbrev pub fault_at : ℕ → Refusal → ScriptFault
 fault_at line Memory = script.NoMemory
 fault_at line (Fault fault) = script.Line line fault
 
--- the refusal is that fault, unless memory was refused
+-- the refusal is what the definition says, unless memory was refused
 abbrev pub Refuses : {A : Type 0} → Refusal → Result A LineFault → Type 0
 Refuses Memory said = Unit {0}
 Refuses (Fault fault) said = said ≡ Err fault
 
--- the answer, seen by a view, is what is said, unless memory was refused
+-- the view of the answer is what the definition says, unless memory was refused
 abbrev pub Gives : {A B : Type 0} → (A → B) → Result A Refusal → Result B LineFault → Type 0
 Gives view (Ok x) said = said ≡ Ok (view x)
 Gives view (Err e) said = Refuses e said
 
--- what the lines tell that a reader has taken
+-- the context of the next line, by the reader's state
 abbrev pub seen : Reader → Earlier
 seen r = record { names = r.script.names; makes = λ p. contains nat_cmp r.pictures p; commands = length r.script.commands }
 
--- a reader has taken one line more, of these fields and this text from the third on, which says that command
+-- a reader has read one more line, which says `said`; `filter` is the line's text from the third field on
 pub record Takes (old : Reader) (fields : List (List ℕ)) (filter : List ℕ) (said : Option Command) (new : Reader) : Type 0 where
   pub names : new.script.names ≡ old.script.names ++ declared_by fields
   pub filters : new.script.filters ≡ old.script.filters ++ filter_declared_by fields filter
@@ -45,25 +45,25 @@ pub record Takes (old : Reader) (fields : List (List ℕ)) (filter : List ℕ) (
   pub makes : (p : ℕ) → contains nat_cmp new.pictures p ≡ (contains nat_cmp old.pictures p || list_any (λ q. q == p) (made_by fields))
   pub counted : length (option_to_list said) ≡ (if is_command fields then 1 else 0)
 
--- a reader is as it was, whatever sets of words it keeps
+-- a reader is as it was, apart from its cache of words
 abbrev pub IsAsItWas : Reader → Reader → Type 0
 IsAsItWas old new = (new.script ≡ old.script) × ((p : ℕ) → contains nat_cmp new.pictures p ≡ contains nat_cmp old.pictures p)
 
--- a reader has taken the line; or it is refused as it is said, and the reader is as it was
+-- a reader has read the line, or it refuses the line as the definition does, and is as it was
 abbrev pub Reads : Reader → List (List ℕ) → List ℕ → Result (Option Command) LineFault → Result (Unit {0}) Refusal → Reader → Type 0
 Reads old fields filter said (Ok done) new = (x : Option Command) × (said ≡ Ok x) × Takes old fields filter x new
 Reads old fields filter said (Err e) new = Refuses e said × IsAsItWas old new
 
--- a reader of no lines
+-- a reader that has read no line
 pub record IsFirst (r : Reader) : Type 0 where
   pub script : r.script ≡ contents [] [] []
   pub makes : (p : ℕ) → contains nat_cmp r.pictures p ≡ false
 
--- the place of a declared device, where there is room for one command more
+-- the place of a declared device, if there is room for one more command
 unfoldable pub first_said : Earlier → List ℕ → Result ℕ LineFault
 first_said before name = with_room before (device_said before name)
 
--- a reader has taken a line of these fields and this text from the third on, but not yet the command that it says
+-- a reader has read a line of these fields, but hasn't appended its command yet
 pub record Lacks (before : Reader) (fields : List (List ℕ)) (filter : List ℕ) (now : Reader) : Type 0 where
   pub script : now.script ≡ before.script
   pub no_name : declared_by fields ≡ []
@@ -71,11 +71,11 @@ pub record Lacks (before : Reader) (fields : List (List ℕ)) (filter : List ℕ
   pub makes : (p : ℕ) → contains nat_cmp now.pictures p ≡ (contains nat_cmp before.pictures p || list_any (λ q. q == p) (made_by fields))
   pub counts : is_command fields ≡ true
 
--- and then that command, unless memory was refused
+-- it then appends that command, unless memory was refused
 abbrev pub TakesLast : Command → Reader → Result (Unit {0}) Refusal → Reader → Type 0
 TakesLast command old result new = (before : Reader) (fields : List (List ℕ)) (filter : List ℕ) → Lacks before fields filter old → IsAsItWas before old → Reads before fields filter (Ok (Some command)) result new
 
--- the reader has taken these lines, and none has a fault
+-- the reader has read these lines, and none has a fault
 pub record HasTaken (lines : List (List ℕ)) (r : Reader) : Type 0 where
   pub names : r.script.names ≡ names_of lines
   pub filters : r.script.filters ≡ filters_of lines
@@ -83,19 +83,19 @@ pub record HasTaken (lines : List (List ℕ)) (r : Reader) : Type 0 where
   pub counted : length r.script.commands ≡ commands_of lines
   pub said : commands_said 1 (sayings [] lines) ≡ Ok r.script.commands
 
--- the command that makes the picture with the record that is said stands behind the others
+-- the script has one more command, which makes the picture with that record
 pub record HasMade (old : Contents) (device picture : ℕ) (said : Result Record LineFault) (new : Contents) : Type 0 where
   pub content : Record
   pub says : said ≡ Ok content
   pub script : new ≡ contents old.names old.filters (old.commands ++ command.New device picture content ∷ [])
 
--- the picture is not among them, whatever there was
+-- the test `has`, but false of the picture that was made
 abbrev pub without : Option ℕ → (ℕ → Bool) → ℕ → Bool
 without None has p = has p
 without (Some made) has p = if made == p then false else has p
 
--- a reader came from one that had so many devices and commands, by a line that makes that picture. There were no commands
--- where the line declares a device
+-- one line has led from the reader `was`, which had these numbers of devices and commands, to `now`; it makes that picture. If
+-- it declares a device, there were no commands
 pub record Leads (was : Reader) (devices commands : ℕ) (made : Option ℕ) (now : Reader) : Type 0 where
   pub names : was.script.names ≡ take devices now.script.names
   pub filters : was.script.filters ≡ take devices now.script.filters

@@ -4,7 +4,7 @@ ghost use Rattle.fleet_model.specs.Contents.{devices_of};
 
 use crate::Command;
 
-/// The devices that a command works on, by their places: one, and perhaps a second.
+/// Gives the devices that a command works on, by their places in order of declaration: one, and for a pull or a preview a second.
 pub fn devices_of(command: &Command) -> (u16, Option<u16>)
     ensures first { result.0 ≡ (devices_of command.now).0 }
     ensures second { result.1 ≡ (devices_of command.now).1 }

@@ -42,32 +42,32 @@ pub enum LineFault {
     /// A name is declared again.
     #[error("F9 RepeatedDevice")]
     RepeatedDevice,
-    /// A device is declared behind a command.
+    /// A device is declared after a command.
     #[error("F10 LateDevice")]
     LateDevice,
-    /// A picture's number is not decimal from 1 to 999999999 without a leading zero; or a version has no colon, or behind
-    /// it, or behind the dot of its author, no such number up to 100000.
+    /// A picture's number is not a decimal from 1 to 999999999 without a leading zero. Or a version has no colon, or its number
+    /// or its author's epoch is no such decimal from 1 to 100000.
     #[error("F11 BadNumber")]
     BadNumber,
-    /// A rating is none of 0 to 5.
+    /// A rating is not a digit from 0 to 5.
     #[error("F12 BadRating")]
     BadRating,
-    /// A date is not written `YYYY-MM-DD`, or the calendar doesn't have it.
+    /// A date is not written `YYYY-MM-DD`, or the calendar has no such day.
     #[error("F13 BadDate")]
     BadDate,
-    /// The words are no set of words.
+    /// The last field is not a set of words.
     #[error("F14 BadKeyword")]
     BadKeyword,
-    /// The text from the third field on is no filter, or one that is too wide.
+    /// The text from the third field on is not a filter, or the filter has too many parts.
     #[error("F15 BadFilter")]
     BadFilter,
-    /// An earlier line makes a picture of this number.
+    /// An earlier `new` makes a picture of this number.
     #[error("F16 RepeatedPicture")]
     RepeatedPicture,
     /// There are over 256 devices or over 100,000 commands.
     #[error("F17 TooMany")]
     TooMany,
-    /// A device is to pull from itself, or to preview that.
+    /// A pull or a preview names the same device twice.
     #[error("F19 SameDevice")]
     SameDevice,
 }

@@ -1,4 +1,4 @@
-// The fields of a line, and what single ones denote.
+// Cuts a line into fields, and reads single fields.
 ghost use Rattle.std.specs.Prelude.{◌≡◌, ◌≢◌, ◌<◌, ◌^◌, [], true, None, Some, IfSome, SomeIff, MatchOption, map, OnOk, OnErr};
 ghost use Rattle.script_reader.specs.Lines.{fields_of, without_spaces, behind_field, third_field_on};
 ghost use Rattle.script_reader.specs.Fields.{is_name, cut_at_colon, cut_at_dot, epoch_of, is_decimal, number_of, picture_of, version_number_of};
@@ -14,7 +14,7 @@ use photo_filter_text::FilterFault;
 use photo_record::PicNo;
 use std::alloc::{AllocError, Global};
 
-/// Puts the fields of a line, what stands between runs of spaces, in place of those that the list has.
+/// Replaces the list's items by the fields of a line, which runs of spaces separate.
 pub fn put_fields<'a>(fields: &mut Vec<&'a str>, line: &'a str) -> Result<(), AllocError>
     ensures fields { OnOk result (map (λ f. f.now) fields.new.items ≡ fields_of line.now) }
     ensures memory { OnErr result (fields_of line.now ≢ []) }
@@ -28,14 +28,14 @@ pub fn put_fields<'a>(fields: &mut Vec<&'a str>, line: &'a str) -> Result<(), Al
     Ok(())
 }
 
-/// The text of a line from its third field on.
+/// Gives the text of a line from its third field on.
 pub fn third_field_on(line: &str) -> &str
     ensures { result.now ≡ third_field_on line.now }
 {
     without_spaces(behind_field(behind_field(line)))
 }
 
-// A text without its first field.
+// Gives a text without its first field.
 fn behind_field(text: &str) -> &str
     ensures { result.now ≡ behind_field text.now }
 {
@@ -55,7 +55,7 @@ fn without_spaces(text: &str) -> &str
     rest
 }
 
-/// Whether a device may have that name.
+/// Tells whether a device may have that name.
 pub fn is_name(text: &str) -> bool
     ensures { result ≡ is_name text.now }
 {
@@ -70,7 +70,7 @@ pub fn is_name(text: &str) -> bool
         .all(|b| b.is_ascii_lowercase() || b.is_ascii_digit())
 }
 
-/// The number of the picture that a line of these fields makes, if it is a line of a script that makes one.
+/// Gives the number of the picture that a line of these fields makes, if it is a `new` of a script.
 pub fn made_by(fields: &[&str]) -> Option<u32>
     ensures { result ≡ made_number (texts fields.now) }
 {
@@ -89,21 +89,21 @@ fn second_picture(arguments: &[&str]) -> Option<u32>
     Some(picture_of(picture)?.value())
 }
 
-/// What stands before the first dot of a text and behind it.
+/// Splits a text at its first dot.
 pub fn cut_at_dot(text: &str) -> Option<(&str, &str)>
     ensures { MatchOption result (cut_at_dot text.now ≡ None) (λ parts. cut_at_dot text.now ≡ Some (parts.0.now, parts.1.now)) }
 {
     text.split_once('.')
 }
 
-/// What stands before the first colon of a text and behind it.
+/// Splits a text at its first colon.
 pub fn cut_at_colon(text: &str) -> Option<(&str, &str)>
     ensures { MatchOption result (cut_at_colon text.now ≡ None) (λ parts. cut_at_colon text.now ≡ Some (parts.0.now, parts.1.now)) }
 {
     text.split_once(':')
 }
 
-// What decimal digits without a leading zero stand for, if it has at most 32 bits.
+// Reads decimal digits without a leading zero as a number of at most 32 bits.
 fn number_of(text: &str) -> Option<u32>
     ensures { SomeIff result ((is_decimal text.now ≡ true) × (number_of text.now < 2 ^ 32)) (number_of text.now) }
 {
@@ -114,14 +114,14 @@ fn number_of(text: &str) -> Option<u32>
     text.parse().ok()
 }
 
-/// The picture number that a field denotes: decimal without a leading zero.
+/// Reads a picture number: a decimal without a leading zero.
 pub fn picture_of(text: &str) -> Option<PicNo>
     ensures { result ≡ picture_of text.now }
 {
     PicNo::new(number_of(text)?)
 }
 
-/// The epoch behind a dot, in the same way.
+/// Reads the epoch after a dot, a decimal without a leading zero.
 pub fn epoch_of(text: &str) -> Option<u32>
     ensures { result ≡ epoch_of text.now }
 {
@@ -132,7 +132,7 @@ pub fn epoch_of(text: &str) -> Option<u32>
     Some(number)
 }
 
-/// The number of a version that a text denotes, in the same way.
+/// Reads the number of a version, a decimal without a leading zero.
 pub fn version_number_of(text: &str) -> Option<u32>
     ensures number { result ≡ version_number_of text.now }
     ensures above_zero { IfSome result (λ n. 0 < n) }
@@ -144,7 +144,7 @@ pub fn version_number_of(text: &str) -> Option<u32>
     Some(number)
 }
 
-/// The filter that a text is.
+/// Reads a filter.
 #[tactic(auto, unfolding(crate::specs::Saying::filter_said))]
 pub fn filter_of(alloc: Global, text: &str) -> Result<Filter, Refusal>
     ensures { Gives (λ f. f) result (filter_said text.now) }

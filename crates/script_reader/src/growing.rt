@@ -1,4 +1,4 @@
-//! A script that grows by lines: each is judged as it stands behind those before it, and the last one can be taken back.
+//! A script that grows by lines. Each line is judged by the lines before it, and the last line can be taken back.
 ghost use Rattle.std.specs.Prelude.{◌≡◌, ◌≢◌, ◌≤◌, ◌==◌, ℕ, List, [], length, false, OnOk, OnErr, IfOk, IfErr, Err};
 ghost use Rattle.std.specs.List.{list_any};
 ghost use Rattle.fleet_model.specs.Contents.{Contents};
@@ -17,10 +17,10 @@ use crate::{Script, ScriptFault};
 use std::alloc::Global;
 use std::str;
 
-/// What a line puts into a script.
+/// What a line adds to a script.
 #[derive(Clone, Copy, Debug, PartialEq, Eq, Drop)]
 pub enum Said {
-    /// Nothing: it is empty or a remark.
+    /// Nothing: the line is empty or a remark.
     Nothing,
     /// A device.
     Device,
@@ -37,7 +37,7 @@ pub struct GrowingScript {
     last: Option<Last>,
 }
 
-// What the script was before its last line, and the picture that this makes.
+// The size of the script before its last line, and the picture that this line makes.
 #[derive(Clone, Copy, Debug, Drop)]
 struct Last {
     bytes: usize,
@@ -47,7 +47,7 @@ struct Last {
 }
 
 impl GrowingScript {
-    /// A script of no lines. Takes no memory.
+    /// Makes a script without lines. It takes no memory.
     pub fn new(alloc: Global) -> GrowingScript
         ensures grown { IsGrown [] result }
         ensures lines { result.lines ≡ 0 }
@@ -60,9 +60,9 @@ impl GrowingScript {
         }
     }
 
-    /// The script that a text is, which then grows. What stands behind the last LF counts as a line, also where it is empty.
+    /// Reads a text as a script that can grow. The text after the last LF counts as a line, even if it is empty.
     ///
-    /// Refused as by [`crate::read_script`].
+    /// Its errors are those of [`crate::read_script`].
     pub fn of(alloc: Global, text: &[u8]) -> Result<GrowingScript, ScriptFault>
         ensures grown { IfOk result (IsGrown text.now) }
         ensures lines { IfOk result (λ script. script.lines ≡ length (pieces_of text.now)) }
@@ -79,24 +79,25 @@ impl GrowingScript {
         read_text(alloc, text)
     }
 
-    /// The script of the lines so far.
+    /// Gives the script of the lines so far.
     pub fn script(&self) -> &Script
         ensures { result.now ≡ script_in self.now }
     {
         &self.reader.script
     }
 
-    /// How many lines there are.
+    /// Tells how many lines the script has.
     pub fn lines(&self) -> u32
         ensures { result ≡ self.now.lines }
     {
         self.lines
     }
 
-    /// Puts a line behind the others, without an LF in it or behind it, and tells what it says.
+    /// Appends a line, which has no LF, and tells what it adds.
     ///
-    /// Refused by the first fault of the text of all lines, an LF between two of them: `TooLarge`, `NotUtf8`, or the
-    /// line's own fault with its number. `NoMemory` comes in place of what would follow. The script is as it was then.
+    /// Its errors are the faults of the text of all lines, joined by LF: `TooLarge`, `NotUtf8`, or the line's own fault with its
+    /// number; the first of them is told. `NoMemory` comes where memory is refused before a later fault is found. After each
+    /// error the script is as it was.
     pub fn push(&mut self, line: &[u8]) -> Result<Said, ScriptFault>
         requires one { list_any (λ b. b == 10) line.now ≡ false }
         ensures grown { OnOk result ((text : List ℕ) → IsGrown text self.old → IsGrown (with_line self.old.lines text line.now) self.new) }
@@ -135,8 +136,8 @@ impl GrowingScript {
         }
     }
 
-    /// Takes the last line back: the script is what it was before it. It takes no memory. Does nothing where no line was put
-    /// behind the others since the last one was taken back, or since the script was made of a text.
+    /// Removes the last line, so the script is what it was before that line. It takes no memory. It does nothing if no line was
+    /// appended since a line was last removed, or since the script was read from a text.
     pub fn take_back(&mut self)
         ensures { (text : List ℕ) (lines : ℕ) → GoesBackTo text lines self.old → IsGrown text self.new × (self.new.lines ≡ lines) }
     {
@@ -149,7 +150,7 @@ impl GrowingScript {
         self.reader.go_back(last.devices, last.commands, last.made);
     }
 
-    // How many bytes the text has with that line behind it.
+    // Counts the bytes of the text with that line appended.
     fn bytes_with(&self, line: &[u8]) -> usize
         ensures { (text : List ℕ) → IsGrown text self.now → result ≡ length (with_line self.now.lines text line.now) }
     {
@@ -161,7 +162,7 @@ impl GrowingScript {
     }
 }
 
-// Reads a line, and tells the picture that it makes.
+// Reads a line, and gives the picture that it makes.
 fn read(reader: &mut Reader, line: &str) -> Result<Option<u32>, Refusal>
     ensures reads { ReadsLine reader.old line.now result reader.new }
     ensures memory { result ≡ Err Memory → length line.now ≤ max_line_bytes }
@@ -174,7 +175,7 @@ fn read(reader: &mut Reader, line: &str) -> Result<Option<u32>, Refusal>
     }
 }
 
-// What a line put into a script that had `devices` devices and `commands` commands before it.
+// Tells what a line added to a script that had `devices` devices and `commands` commands before it.
 fn said_in(script: &Script, devices: usize, commands: usize) -> Said
     ensures { (old : Contents) → length old.names ≡ devices → length old.commands ≡ commands → Grows old script.now → Adds result old script.now }
 {
@@ -187,7 +188,7 @@ fn said_in(script: &Script, devices: usize, commands: usize) -> Said
     }
 }
 
-// Reads the lines of a text, which then grow.
+// Reads the lines of a text as a script that can grow.
 fn read_text(alloc: Global, text: &str) -> Result<GrowingScript, ScriptFault>
     requires { length text.now ≤ max_text_bytes }
     ensures grown { IfOk result (IsGrown text.now) }

@@ -3,15 +3,14 @@ ghost use Rattle.script_reader.specs.Laws.{AcceptedAreScripts};
 ghost use Rattle.script_reader.specs.Examples.{SingleFaults, TwoFaults, LinesAndFields, Filters, Changes};
 ghost use Rattle.script_reader.specs.Examples.{Questions, LaterEpochs, Moves, OtherMoves, ManyDevices};
 
-/// What the definition accepts as the text of a script is a script: within the limits, with a filter for each device,
-/// commands on declared devices alone, and records in range.
+/// Every text that the definition accepts is a script: it is within the limits, each device has a filter, commands name only
+/// declared devices, and records are in range.
 pub fn accepted_are_scripts()
     ensures { AcceptedAreScripts }
 {}
 
-/// The definitions at some texts: scripts of one fault each and of two; ends of lines and spaces; filters; later versions
-/// of a picture; questions about what devices know; pulls and previews of them, narrower and other filters; the most
-/// devices.
+/// Worked examples of the definitions: scripts with one fault and with two; ends of lines and spaces; filters; later versions of
+/// a picture; questions about what devices know; pulls, previews and changes of filters; the most devices.
 pub fn examples()
     ensures single_faults { SingleFaults }
     ensures two_faults { TwoFaults }

@@ -1,6 +1,6 @@
-//! Scripts of a photo collection as they are read: which devices there are and what is done on them, in order. Its invariant
-//! (`IsScript`): **a script's commands name its devices**, two different ones where they name two, **and its records are in
-//! range**; devices and commands are no more than the limits.
+//! Reads scripts of a photo collection: devices, and commands on them in order. Its invariant (`IsScript`): **a script's commands
+//! name its devices**, two different ones where they name two, **and its records are in range**. The numbers of devices and of
+//! commands are within the limits.
 #![tactic(auto)]
 
 mod command;

@@ -7,7 +7,7 @@ use indexmap::IndexSet;
 use std::alloc::{AllocError, Global};
 use std::marker::Model;
 
-/// The names of the declared devices, all different. Contracts see the list of them, in order of declaration.
+/// The names of the declared devices, all different. Contracts see them as a list in order of declaration.
 #[derive(Debug, Drop)]
 pub struct Names {
     alloc: Global,
@@ -21,7 +21,7 @@ impl Model for Names {
 }
 
 impl Names {
-    /// No names.
+    /// Makes an empty list of names.
     pub fn new(alloc: Global) -> Names
         ensures { result ≡ [] }
     {
@@ -31,14 +31,14 @@ impl Names {
         }
     }
 
-    /// How many names there are.
+    /// Counts the names.
     pub fn len(&self) -> usize
         ensures { result ≡ length self.now }
     {
         self.texts.len()
     }
 
-    /// The name at place `i`, from 0.
+    /// Gives the name at place `i`, from 0.
     pub fn get(&self, i: usize) -> &str
         requires { i < length self.now }
         ensures { slice_get self.now i ≡ Some result.now }
@@ -46,7 +46,7 @@ impl Names {
         self.texts.get_index(i).unwrap().as_str()
     }
 
-    /// The place of a name, if it is declared.
+    /// Gives the place of a name, if it is declared.
     pub fn place(&self, name: &str) -> Option<usize>
         ensures place { result ≡ place_of self.now name.now }
         ensures within { IfSome result (λ i. i < length self.now) }
@@ -54,7 +54,7 @@ impl Names {
         self.texts.get_index_of(name)
     }
 
-    /// Puts one name more behind the others.
+    /// Appends a name.
     pub fn add(&mut self, name: &str) -> Result<(), AllocError>
         requires { place_of self.old name.now ≡ None }
         ensures ok { OnOk result (self.new ≡ self.old ++ name.now ∷ []) }
@@ -65,7 +65,7 @@ impl Names {
         Ok(())
     }
 
-    /// Keeps so many names, the first ones.
+    /// Keeps the first `count` names.
     pub fn keep(&mut self, count: usize)
         ensures { self.new ≡ take count self.old }
     {

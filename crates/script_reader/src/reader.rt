@@ -1,4 +1,4 @@
-// Reading a script, line by line.
+// Reads a script line by line.
 ghost use Rattle.std.specs.Prelude.{◌≡◌, ◌≢◌, ℕ, List, [], ◌∷◌, ◌<◌, ◌≤◌, length, map, codes, Ok, Err, IfOk, IfErr, IfSome, OnOk, OnErr, true};
 ghost use Rattle.script_reader.specs.Lines.{fields_of, lines_of, pieces_of, third_field_on};
 ghost use Rattle.script_reader.specs.Limits.{max_text_bytes, max_line_bytes};
@@ -31,8 +31,8 @@ use std::str;
 
 /// Reads a script.
 ///
-/// Refused with the first fault of the text: `TooLarge`, then `NotUtf8`, then that of the first line that has one.
-/// `NoMemory` comes in place of what would follow, so not in place of an earlier fault; `Read` never comes.
+/// The error is the first fault of the text: `TooLarge`, then `NotUtf8`, then the fault of the first line that has one.
+/// `NoMemory` comes where memory is refused before a fault is found. `Read` never comes.
 pub fn read_script(alloc: Global, bytes: &[u8]) -> Result<Script, ScriptFault>
     ensures read { IfOk result (λ script. script_of bytes.now ≡ Ok script) }
     ensures refused { IfErr result (λ fault. fault ≢ NoMemory → script_of bytes.now ≡ Err fault) }
@@ -48,7 +48,7 @@ pub fn read_script(alloc: Global, bytes: &[u8]) -> Result<Script, ScriptFault>
     read_lines(alloc, text)
 }
 
-// Reads the lines of a script. An empty piece behind the last LF says nothing, so it may count as a line.
+// Reads the lines of a script. An empty piece after the last LF adds nothing, so it may count as a line.
 fn read_lines(alloc: Global, text: &str) -> Result<Script, ScriptFault>
     requires { length text.now ≤ max_text_bytes }
     ensures read { IfOk result (λ script. script_of_lines (lines_of text.now) ≡ Ok script) }
@@ -64,14 +64,14 @@ fn read_lines(alloc: Global, text: &str) -> Result<Script, ScriptFault>
     }
 }
 
-/// A line without the CR that it may end in.
+/// Gives a line without the CR that it may end in.
 pub(crate) fn without_return(line: &str) -> &str
     ensures { result.now ≡ strip_carriage_return line.now }
 {
     line.strip_suffix('\r').unwrap_or(line)
 }
 
-/// The script of the lines so far, the pictures that they make, and the sets of words that they have.
+/// The script of the lines so far, the pictures that they make, and their sets of words.
 #[derive(Drop)]
 pub(crate) struct Reader {
     pub(crate) alloc: Global,
@@ -88,7 +88,7 @@ impl Reader {
     ghost use Rattle.script_reader.specs.Steps.{Leads, HasMade, HasTaken, IsAsItWas, IsFirst, Reads, Refuses, TakesLast, first_said, seen, texts};
     ghost use Rattle.script_reader.specs.declared.refusal.Refusal.TheVariants.{Memory};
 
-    /// A reader of no lines. Takes no memory.
+    /// Makes a reader that has read no line. It takes no memory.
     pub(crate) fn new(alloc: Global) -> Reader
         ensures { IsFirst result }
     {
@@ -100,7 +100,7 @@ impl Reader {
         }
     }
 
-    /// Reads the lines of a script from the first one on, with one list for the fields of each, and tells how many they are.
+    /// Reads all lines of a text, and counts them. `fields` is the list that each line's fields are put into.
     pub(crate) fn read_pieces<'a>(
         &mut self,
         text: &'a str,
@@ -125,7 +125,7 @@ impl Reader {
         Ok(number)
     }
 
-    /// Reads one line more, and leaves its fields in the list. A refusal leaves the script and the pictures as they were.
+    /// Reads the next line, and leaves its fields in the list. After an error the script and the pictures are as they were.
     #[tactic(auto, unfolding(crate::specs::Saying::said))]
     pub(crate) fn read_line<'a>(
         &mut self,
@@ -267,7 +267,7 @@ impl Reader {
         }
     }
 
-    // Puts the command that makes a picture behind the others.
+    // Appends the command that makes a picture.
     fn make(
         &mut self,
         device: u16,
@@ -468,7 +468,7 @@ impl Reader {
         Version::new(author, number).ok_or(LineFault::BadNumber)
     }
 
-    // The target and the source of a command, which are not one device, where there is room for one command more.
+    // Reads the target and the source of a command, which are different devices, if there is room for one more command.
     #[tactic(auto, unfolding(crate::specs::Saying::two_devices_said, crate::specs::Saying::two_said))]
     fn two_devices(&self, arguments: &[&str]) -> Result<(u16, u16), LineFault>
         ensures said { result ≡ two_devices_said (seen self.now) (texts arguments.now) }
@@ -488,7 +488,7 @@ impl Reader {
         Ok((target, source))
     }
 
-    // The device that a command names and the filter that it is to get, where there is room for one command more.
+    // Reads a command's device and the device's new filter, if there is room for one more command.
     #[tactic(auto, unfolding(crate::specs::Saying::device_and_filter_said, crate::specs::Saying::filtering_said))]
     fn device_and_filter(&self, arguments: &[&str], filter: &str) -> Result<(u16, Filter), Refusal>
         ensures said { Gives (λ new. new) result (device_and_filter_said (seen self.now) (texts arguments.now) filter.now) }
@@ -506,7 +506,7 @@ impl Reader {
         Ok((device, filter))
     }
 
-    // The device that a command names first, where there is room for one command more.
+    // Reads the first device of a command, if there is room for one more command.
     #[tactic(auto, unfolding(crate::specs::Steps::first_said))]
     fn first_device(&self, name: &str) -> Result<u16, LineFault>
         ensures said { result ≡ first_said (seen self.now) name.now }
@@ -519,7 +519,7 @@ impl Reader {
         self.device(name)
     }
 
-    // The device of that name.
+    // Gives the device of that name.
     #[tactic(auto, unfolding(crate::specs::Saying::device_said))]
     fn device(&self, name: &str) -> Result<u16, LineFault>
         ensures said { result ≡ device_said (seen self.now) name.now }
@@ -528,7 +528,7 @@ impl Reader {
         self.script.place(name).ok_or(LineFault::UnknownDevice)
     }
 
-    // A picture number that no earlier line makes, and that this one does.
+    // Reads the number of a picture that this line makes and that no earlier line makes.
     #[tactic(auto, unfolding(crate::specs::Saying::new_picture_said))]
     fn new_picture(&mut self, text: &str) -> Result<PicNo, Refusal>
         ensures said { Gives (λ number. number) result (new_picture_said (seen self.old) text.now) }
@@ -543,7 +543,7 @@ impl Reader {
         Ok(picture)
     }
 
-    /// Keeps so many devices and commands, the first ones, and not the picture that a line makes.
+    /// Keeps the first `devices` devices and the first `commands` commands, and forgets the picture `made`.
     pub(crate) fn go_back(&mut self, devices: usize, commands: usize, made: Option<u32>)
         ensures { (was : Reader) → Leads was devices commands made self.old → IsAsItWas was self.new }
     {
@@ -554,7 +554,7 @@ impl Reader {
         }
     }
 
-    // Puts the command that a line says behind the others.
+    // Appends the command of a line.
     fn take(&mut self, command: Command) -> Result<(), Refusal>
         requires room { length self.old.script.commands < max_commands }
         requires known { IsWithin (length self.old.script.names) command }
@@ -566,7 +566,7 @@ impl Reader {
     }
 }
 
-// A picture number, also one that no line makes.
+// Reads a picture number, even of a picture that no line makes.
 #[tactic(auto, unfolding(crate::specs::Saying::picture_said))]
 fn any_picture(text: &str) -> Result<PicNo, LineFault>
     ensures { result ≡ picture_said text.now }
@@ -574,7 +574,7 @@ fn any_picture(text: &str) -> Result<PicNo, LineFault>
     picture_of(text).ok_or(LineFault::BadNumber)
 }
 
-// The record of those fields, whose set of words is shared with that of earlier lines.
+// Reads a record, whose set of words is shared with earlier lines.
 #[tactic(auto, unfolding(crate::specs::Saying::record_said))]
 fn record_of(sets: &mut WordSets, rating: &str, date: &str, words: &str) -> Result<Record, Refusal>
     ensures said { Gives (λ r. r) result (record_said rating.now date.now words.now) }

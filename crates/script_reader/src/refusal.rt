@@ -13,7 +13,7 @@ pub enum Refusal {
 }
 
 impl Refusal {
-    /// The script's fault, where reading stops in the line of that number.
+    /// Gives the fault of a script whose reading stops in the line of that number.
     pub fn in_line(self, line: u32) -> ScriptFault
         ensures { result ≡ fault_at line self }
     {

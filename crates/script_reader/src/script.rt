@@ -35,7 +35,7 @@ impl Script {
     ghost use Rattle.fleet_model.specs.Contents.{contents, record_of, IsWithin, NamesDevices, AreInRange};
     ghost use Rattle.fleet_model.specs.Tallies.{tally_of};
 
-    /// A script with no devices and no commands.
+    /// Makes a script without devices and commands.
     pub(crate) fn new(alloc: Global) -> Script
         ensures { result ≡ contents [] [] [] }
     {
@@ -46,7 +46,7 @@ impl Script {
         }
     }
 
-    /// How many devices there are, at most 256.
+    /// Counts the devices, at most 256.
     pub fn devices(&self) -> usize
         ensures count { result ≡ length self.now.names }
         ensures at_most { result ≤ max_devices }
@@ -55,7 +55,7 @@ impl Script {
         self.names.len()
     }
 
-    /// The name of the device at place `i` in order of declaration, from 0.
+    /// Gives the name of the device at place `i` in order of declaration, from 0.
     pub fn name(&self, i: u16) -> &str
         requires { i < length self.now.names }
         ensures { slice_get self.now.names i ≡ Some result.now }
@@ -63,7 +63,7 @@ impl Script {
         self.names.get(usize::from(i))
     }
 
-    /// The filter of the device at place `i` in order of declaration, from 0.
+    /// Gives the filter of the device at place `i` in order of declaration, from 0.
     pub fn filter(&self, i: u16) -> &Filter
         requires { i < length self.now.names }
         ensures { slice_get self.now.filters i ≡ Some result.now }
@@ -71,7 +71,7 @@ impl Script {
         &self.filters[usize::from(i)]
     }
 
-    /// How many commands there are, at most 100,000.
+    /// Counts the commands, at most 100,000.
     pub fn commands(&self) -> usize
         ensures count { result ≡ length self.now.commands }
         ensures at_most { result ≤ max_commands }
@@ -81,7 +81,7 @@ impl Script {
         self.commands.len()
     }
 
-    /// The command of that number, from 1. It works on devices of the script.
+    /// Gives the command of that number, from 1. It works on devices of the script.
     pub fn command(&self, number: u32) -> &Command
         requires first { 0 < number }
         requires within { number ≤ length self.now.commands }
@@ -91,14 +91,14 @@ impl Script {
         &self.commands[number as usize - 1]
     }
 
-    /// How many commands of each kind there are. It takes no memory.
+    /// Counts the commands of each kind. It takes no memory.
     pub fn tally(&self) -> Tally
         ensures { result ≡ tally_of self.now }
     {
         tally::tally_of(self.commands.as_slice())
     }
 
-    /// The place of the device with that name.
+    /// Gives the place of the device with that name.
     pub(crate) fn place(&self, name: &str) -> Option<u16>
         ensures place { result ≡ place_of self.now.names name.now }
         ensures within { IfSome result (λ i. i < length self.now.names) }
@@ -107,7 +107,7 @@ impl Script {
         Some(place as u16)
     }
 
-    /// Puts one device more behind the others.
+    /// Appends a device.
     pub(crate) fn declare(&mut self, name: &str, filter: Filter) -> Result<(), AllocError>
         requires room { length self.old.names < max_devices }
         requires fresh { place_of self.old.names name.now ≡ None }
@@ -123,7 +123,7 @@ impl Script {
         Ok(())
     }
 
-    /// Puts one command more behind the others.
+    /// Appends a command.
     pub(crate) fn push(&mut self, command: Command) -> Result<(), AllocError>
         requires room { length self.old.commands < max_commands }
         requires known { IsWithin (length self.old.names) command }
@@ -135,14 +135,14 @@ impl Script {
         Ok(())
     }
 
-    /// Keeps so many commands, the first ones.
+    /// Keeps the first `count` commands.
     pub(crate) fn keep_commands(&mut self, count: usize)
         ensures { self.new ≡ contents self.old.names self.old.filters (take count self.old.commands) }
     {
         self.commands.truncate(count);
     }
 
-    /// Keeps so many devices, the first ones, where there are no commands.
+    /// Keeps the first `count` devices of a script without commands. It leaves a script with commands as it is.
     pub(crate) fn keep_devices(&mut self, count: usize)
         ensures none { self.old.commands ≡ [] → self.new ≡ contents (take count self.old.names) (take count self.old.filters) [] }
         ensures some { 0 < length self.old.commands → self.new ≡ self.old }

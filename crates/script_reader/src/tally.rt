@@ -1,11 +1,11 @@
-// Commands by their kinds.
+// Counts commands by kind.
 ghost use Rattle.std.specs.Prelude.{◌≡◌, ◌≤◌, length};
 ghost use Rattle.fleet_model.specs.Limits.{max_commands};
 ghost use Rattle.fleet_model.specs.Tallies.{tally_of_commands};
 
 use crate::{Command, Tally};
 
-// How many of the commands are of each kind.
+// Counts the commands of each kind.
 pub(crate) fn tally_of(commands: &[Command]) -> Tally
     requires { length commands.now ≤ max_commands }
     ensures { result ≡ tally_of_commands commands.now }

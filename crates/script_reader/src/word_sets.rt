@@ -1,4 +1,4 @@
-// Sets of words that lines with equal texts share.
+// Caches sets of words, so that lines with equal texts share one set.
 ghost use Rattle.std.specs.Prelude.{◌≡◌, ◌≢◌, ℕ, ◌<◌, ◌≤◌, length, IfOk, IfErr, Ok, Err};
 ghost use Rattle.script_reader.specs.Sharing.{AreKept, max_texts};
 
@@ -7,10 +7,10 @@ use photo_record::{WordFault, Words};
 use std::alloc::{AllocError, Global};
 use std::marker::Model;
 
-// So many texts are kept at most.
+// The most texts that the cache keeps.
 const MAX_TEXTS: usize = 4096;
 
-/// Sets of words by the texts that denote them, so that lines with equal texts share one set. Contracts see how many are kept.
+/// A cache of sets of words by their texts, so that lines with equal texts share one set. Contracts see how many it keeps.
 #[derive(Drop)]
 pub(crate) struct WordSets {
     alloc: Global,
@@ -29,7 +29,7 @@ impl WordSets {
     ghost use Rattle.photo_record.specs.Reading.{words_of_text};
     ghost use Rattle.photo_record.specs.declared.fault.WordFault.TheVariants.{NoMemory};
 
-    /// No sets. Takes no memory.
+    /// Makes an empty cache. It takes no memory.
     pub(crate) fn new(alloc: Global) -> WordSets
         ensures { result ≡ 0 }
     {
@@ -39,8 +39,8 @@ impl WordSets {
         }
     }
 
-    /// The set that a text denotes, as by `Words::read`, shared with the earlier lines that have the same text. Of 4,096
-    /// different texts at most the sets are kept.
+    /// Gives the set that a text denotes, as `Words::read` does. It is shared with the earlier lines that have the same text, if
+    /// the cache has it; the cache keeps at most 4,096 texts.
     pub(crate) fn read(&mut self, text: &str) -> Result<Words, WordFault>
         ensures read { IfOk result (λ words. words_of_text text.now ≡ Ok words) }
         ensures refused { IfErr result (λ fault. fault ≢ NoMemory → words_of_text text.now ≡ Err fault) }
@@ -59,7 +59,7 @@ impl WordSets {
         Ok(words)
     }
 
-    // Keeps the set that a text denotes. A refusal keeps none.
+    // Caches the set that a text denotes; after an error it isn't cached.
     fn keep(&mut self, text: &str, words: &Words) -> Result<(), AllocError>
         requires said { words_of_text text.now ≡ Ok words.now }
         requires room { self.old < max_texts }
