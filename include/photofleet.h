@@ -68,8 +68,8 @@ uint8_t photofleet_open(photofleet_session *session, const uint8_t *lines, size_
 
 /* Gives a line to a session, without an LF at its end, and puts the text of its report into 'out'. The line is judged and run
    as one that stands behind all lines before it, so a fault names its number among these. An LF within it ends a line: then
-   several are given at once, which are all taken or none. All lines are run anew, so a session of n lines costs as much as
-   scripts of 1 to n lines.
+   several are given at once, which are all taken or none. A line costs what its command costs. Several at once cost as much as
+   all lines, and so does the line behind one that had no room or no memory.
 
    DONE: the first '*written' bytes of 'out' are what the run prints behind what it printed before; none of a declaration, of an
    empty line or of a remark.

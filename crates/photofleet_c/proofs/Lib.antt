@@ -1,4 +1,3 @@
-mod Texts
 mod LineLemmas
 mod Loosed
 mod Handles

@@ -1,5 +1,4 @@
 pub mod Placed
-pub mod Printed
 pub mod Lines
 pub mod Statuses
 pub mod Refused

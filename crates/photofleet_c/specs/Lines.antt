@@ -1,12 +1,12 @@
--- The lines that say why a call gives no reports: what the program 'photofleet' writes then.
+-- The lines that tell why a call gives no reports, as the program 'photofleet' writes them.
 use Rattle.std.specs.Prelude.{ℕ, List, ◌++◌, codes}
 use Rattle.std.specs.Fmt.{decimal}
 use Rattle.script_reader.specs.declared.fault.LineFault.{LineFault}
 use Rattle.script_reader.specs.declared.fault.LineFault.TheVariants.{LineTooLong, UnknownCommand, WrongFields, BadName, UnknownDevice, RepeatedDevice, LateDevice, BadNumber, BadRating, BadDate, BadKeyword, BadFilter, RepeatedPicture, TooMany, SameDevice}
 use Rattle.script_reader.specs.declared.fault.ScriptFault.{ScriptFault}
 use Rattle.script_reader.specs.declared.fault.ScriptFault.TheVariants.{Read, TooLarge, NotUtf8, NoMemory, Line}
-use Rattle.photofleet_c.specs.declared.refusal.Refusal.{Refusal}
-use Rattle.photofleet_c.specs.declared.refusal.Refusal.TheVariants as refusal
+use Rattle.live_script.specs.declared.refusal.Refusal.{Refusal}
+use Rattle.live_script.specs.declared.refusal.Refusal.TheVariants as refusal
 
 abbrev pub line_fault_text : LineFault → List ℕ
 line_fault_text LineTooLong = codes "F4 LineTooLong"

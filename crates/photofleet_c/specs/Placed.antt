@@ -1,8 +1,8 @@
--- What a call has done to the caller's memory, by the bytes that lie there before it and after it, and by the number of
--- bytes that it tells.
+-- What a call has done to the caller's memory, by the bytes there before and after the call, and by the number of bytes that it
+-- tells.
 use Rattle.std.specs.Prelude.{◌≡◌, ◌⊎◌, ◌<◌, ℕ, List, ◌++◌, drop, length}
 
--- the text stands at the front of the memory, and what lies behind it is as it was
+-- the text stands at the front of the memory, and the bytes after it are as they were
 pub record Holds (old new : List ℕ) (written : ℕ) (text : List ℕ) : Type 0 where
   pub bytes : new ≡ text ++ drop (length text) old
   pub count : written ≡ length text

@@ -1,21 +1,9 @@
--- Why bytes give no reports, and what a call tells of them then.
-use Rattle.std.specs.Prelude.{◌≡◌, ◌≢◌, ℕ, List, Err, IsOk}
-use Rattle.script_reader.specs.Reading.{script_of, MayWantMemory}
+-- What a call tells of bytes that give no reports.
+use Rattle.std.specs.Prelude.{ℕ, List}
 use Rattle.script_reader.specs.declared.fault.ScriptFault.{ScriptFault}
-use Rattle.script_reader.specs.declared.fault.ScriptFault.TheVariants as fault
+use Rattle.live_script.specs.Refused.{IsFaultOf}
 use Rattle.photofleet_c.specs.Lines.{fault_line, want_line}
 use Rattle.photofleet_c.specs.Placed.{IsOffered}
-use Rattle.photofleet_c.specs.declared.refusal.Refusal.{Refusal}
-use Rattle.photofleet_c.specs.declared.refusal.Refusal.TheVariants as refusal
-
--- the bytes are the text of a script
-abbrev pub IsScript : List ℕ → Type 0
-IsScript bytes = IsOk (script_of bytes)
-
--- the bytes have the fault, and none before it. Want of memory is told only where reading them may ask for memory
-pub record IsFaultOf (bytes : List ℕ) (found : ScriptFault) : Type 0 where
-  pub first : found ≢ fault.NoMemory → script_of bytes ≡ Err found
-  pub memory : found ≡ fault.NoMemory → MayWantMemory bytes
 
 -- the bytes have a fault, of which the line is offered
 pub record TellsFault (bytes old new : List ℕ) (written : ℕ) : Type 0 where
@@ -26,13 +14,3 @@ pub record TellsFault (bytes old new : List ℕ) (written : ℕ) : Type 0 where
 -- the line of want of memory is offered
 abbrev pub TellsWant : List ℕ → List ℕ → ℕ → Type 0
 TellsWant old new written = IsOffered old new written want_line
-
--- the bytes have the fault, if that is why
-abbrev pub IsOfFault : List ℕ → Refusal → Type 0
-IsOfFault bytes (refusal.Script found) = IsFaultOf bytes found
-IsOfFault bytes refusal.NoMemory = Unit {0}
-
--- the bytes have the fault, or they are a script, and memory was refused for its run or for its texts
-abbrev pub IsWhy : List ℕ → Refusal → Type 0
-IsWhy bytes (refusal.Script found) = IsFaultOf bytes found
-IsWhy bytes refusal.NoMemory = IsScript bytes

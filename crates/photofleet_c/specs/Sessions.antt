@@ -1,40 +1,42 @@
 -- Sessions: the lines that were given, and what their run prints.
-use Rattle.std.specs.Prelude.{◌≡◌, ◌⊎◌, ◌↔◌, ℕ, List, ◌∷◌, ◌++◌, drop, length, string_bytes, Option, Some, None}
+use Rattle.std.specs.Prelude.{◌≡◌, ◌⊎◌, ◌↔◌, ℕ, List, ◌∷◌, ◌++◌, Option, Some, None}
+use Rattle.live_script.specs.Live.{IsTold}
+use Rattle.live_script.specs.Printed.{IsPrinted}
 use Rattle.photofleet_c.specs.declared.session.Session.{Session}
 use Rattle.photofleet_c.specs.Placed.{HasNoRoom, IsUntouched}
-use Rattle.photofleet_c.specs.Printed.{IsPrinted}
 use Rattle.photofleet_c.specs.Refused.{TellsFault, TellsWant}
 use Rattle.photofleet_c.specs.Statuses.{IsLineStatus}
 
--- the session has these bytes, and what the run of the script that they are prints
+-- the session has these bytes, which are a script, and its run prints `output`
 pub record Has (bytes : List ℕ) (s : Session) : Type 0 where
-  pub source : s.source.items ≡ bytes
-  pub printed : IsPrinted bytes (string_bytes s.output)
+  pub source : s.live ≡ bytes
+  pub output : List ℕ
+  pub printed : IsPrinted bytes output
 
--- the bytes that it has where further ones are given to it, behind an LF
+-- the session's bytes with an LF and a further line
 abbrev pub with_line : Session → List ℕ → List ℕ
-with_line s line = s.source.items ++ 10 ∷ line
+with_line s line = s.live ++ 10 ∷ line
 
--- what is printed of these alone
-abbrev pub told : Session → Session → List ℕ
-told old new = drop (length (string_bytes old.output)) (string_bytes new.output)
+-- the next session has one more line, and the text is that line's output: what the run of all lines prints after what the run of
+-- the lines before it prints
+pub record IsStepOf (session : Session) (line : List ℕ) (next : Session) (text : List ℕ) : Type 0 where
+  pub has : Has (with_line session line) next
+  pub tells : IsTold session.live (with_line session line) text
 
--- a session was kept, the next one has a line more, and the text is what is printed of that line
+-- a session was kept, and this is a step of it
 pub record IsStep (kept : Option Session) (line : List ℕ) (next : Session) (text : List ℕ) : Type 0 where
   pub session : Session
   pub was : kept ≡ Some session
-  pub has : Has (with_line session line) next
-  pub tells : text ≡ told session next
+  pub step : IsStepOf session line next text
 
--- what there is where no session comes of a line behind those of another: the fault of all of them, want of memory, or a
--- text that has no room
+-- what a call tells of a line that isn't taken: the fault of all lines, want of memory, or an output that has no room
 pub record TellsNoStep (session : Session) (line old new : List ℕ) (written status : ℕ) : Type 0 where
   pub which : (status ≡ 3) ⊎ ((status ≡ 4) ⊎ (status ≡ 5))
   pub fault : status ≡ 3 → TellsFault (with_line session line) old new written
   pub want : status ≡ 4 → TellsWant old new written
-  pub small : status ≡ 5 → (next : Session) × Has (with_line session line) next × HasNoRoom old new written (told session next)
+  pub small : status ≡ 5 → (next : Session) × (text : List ℕ) × IsStepOf session line next text × HasNoRoom old new written text
 
--- what a call with a line tells by any status but 0
+-- what a call with a line tells by its status
 pub record TellsLine (kept : Option Session) (line old new : List ℕ) (written status : ℕ) : Type 0 where
   pub which : IsLineStatus status
   -- 2: just where none is kept; nothing is told

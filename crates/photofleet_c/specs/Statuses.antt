@@ -1,7 +1,7 @@
 -- The statuses of calls.
 use Rattle.std.specs.Prelude.{◌≡◌, ◌⊎◌, ℕ}
-use Rattle.photofleet_c.specs.declared.refusal.Refusal.{Refusal}
-use Rattle.photofleet_c.specs.declared.refusal.Refusal.TheVariants.{Script, NoMemory}
+use Rattle.live_script.specs.declared.refusal.Refusal.{Refusal}
+use Rattle.live_script.specs.declared.refusal.Refusal.TheVariants.{Script, NoMemory}
 
 -- of a call on a whole script: done, no script, no memory, or no room
 abbrev pub IsPlainStatus : ℕ → Type 0

@@ -1,4 +1,4 @@
-//! The lines that tell the faults of scripts: those of the program.
+//! The lines that tell the faults of scripts, as the program writes them.
 ghost use Rattle.std.specs.Prelude.{◌≡◌, ◌+◌, ◌<◌, ◌≤◌, ◌++◌, length};
 ghost use Rattle.std.specs.Fmt.InlineText.{inline_text};
 ghost use Rattle.script_reader.specs.declared.fault.ScriptFault.TheVariants.{Line};
@@ -8,10 +8,10 @@ use itoa::Buffer;
 use photo_script::{LineFault, ScriptFault};
 use std::fmt::InlineText;
 
-/// Room for the line of each fault.
+/// A text with room for the line of each fault.
 pub type FaultLine = InlineText<128>;
 
-/// The line of a fault, with its end.
+/// Gives the line of a fault, with its LF.
 pub fn fault_line(fault: ScriptFault) -> FaultLine
     ensures { inline_text result ≡ fault_line fault }
 {
@@ -26,7 +26,7 @@ pub fn fault_line(fault: ScriptFault) -> FaultLine
     and(told, "\n")
 }
 
-// The fault of a line, with the line's number in front.
+// Appends the fault of a line, after the line's number.
 fn and_line(begun: FaultLine, line: u32, fault: LineFault) -> FaultLine
     requires { length (inline_text begun) ≤ 20 }
     ensures text { inline_text result ≡ inline_text begun ++ fault_text (Line line fault) }
@@ -60,7 +60,7 @@ fn line_fault_text(fault: LineFault) -> &'static str
     }
 }
 
-// A text behind another, where there is room for it.
+// Appends a text, for which there is room.
 fn and(text: FaultLine, part: &str) -> FaultLine
     requires { length (inline_text text) + length part.now < 128 }
     ensures text { inline_text result ≡ inline_text text ++ part.now }

@@ -9,7 +9,7 @@ use std::alloc::Global;
 use std::marker::Model;
 use std::ptr::null_mut;
 
-/// What C has of a session: where it lies, if it is open. C makes one of zeros, keeps it, and looks at none of its fields.
+/// C's handle of a session: a pointer to it, if the session is open. C makes one of zeros, and reads none of its fields.
 #[repr(C)]
 #[derive(Drop)]
 pub struct Handle {
@@ -26,7 +26,7 @@ impl Model for Handle {
 }
 
 impl Handle {
-    /// One that keeps no session.
+    /// Makes a handle without a session.
     pub fn closed() -> Handle
         ensures { result.kept ≡ None }
     {
@@ -36,7 +36,7 @@ impl Handle {
         }
     }
 
-    /// One that keeps a session.
+    /// Makes a handle that owns a session.
     pub fn of(session: Loose<Session, Global>) -> Handle
         ensures { result.kept ≡ Some session.value }
     {
@@ -47,7 +47,7 @@ impl Handle {
         }
     }
 
-    /// The session that it keeps, if it keeps one.
+    /// Gives the session that it owns, if it owns one.
     pub fn into_loose(self, alloc: Global) -> Option<Loose<Session, Global>>
         ensures { option_map (λ session. session.value) result ≡ self.kept }
     {

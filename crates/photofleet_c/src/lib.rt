@@ -1,5 +1,5 @@
-//! The proved core for C, Rust and Python: a whole script in one call, or a session line by line. What a call did to the
-//! caller's memory is told by its status, and nothing else there was touched.
+//! The proved core for C, Rust and Python: a whole script in one call, or a session line by line. A call's status tells what it
+//! did to the caller's memory; it touched nothing else there.
 #![tactic(auto)]
 
 mod exports;
@@ -7,7 +7,6 @@ mod fault_lines;
 mod handle;
 mod loose;
 mod placing;
-mod plain;
 mod refusal;
 mod session;
 mod sessions;

@@ -1,4 +1,4 @@
-//! Why a call gives no texts of reports, and how that is told.
+//! Tells why a call gives no texts of reports.
 ghost use Rattle.std.specs.Prelude.{◌≡◌, List, ℕ};
 ghost use Rattle.photofleet_c.specs.Lines.{line_of};
 ghost use Rattle.photofleet_c.specs.Placed.{IsOffered};
@@ -7,18 +7,9 @@ ghost use Rattle.photofleet_c.specs.Statuses.{status_of};
 use crate::fault_lines::fault_line;
 use crate::placing::place;
 use crate::statuses::{BAD_SCRIPT, NO_MEMORY};
-use photo_script::ScriptFault;
+use live_script::Refusal;
 
-/// Why there are no texts.
-#[derive(Clone, Copy, Drop)]
-pub enum Refusal {
-    /// The bytes are no script, or memory was refused while they were read.
-    Script(ScriptFault),
-    /// Memory was refused before that or behind it.
-    NoMemory,
-}
-
-/// Offers the line that says why, and gives the status. It takes no memory to tell that memory was refused.
+/// Offers the line of a refusal, and gives its status. It takes no memory.
 pub fn refused(refusal: Refusal, out: &mut [u8], written: &mut usize) -> u8
     ensures status { result ≡ status_of refusal }
     ensures told { IsOffered out.old out.new written.new (line_of refusal) }

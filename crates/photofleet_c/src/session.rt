@@ -1,63 +1,54 @@
-//! What a session has: the lines that were given to it, and what their run prints.
-ghost use Rattle.std.specs.Prelude.{◌≡◌, ◌∷◌, ◌++◌, IfErr, IfOk};
-ghost use Rattle.photofleet_c.specs.Refused.{IsOfFault, IsWhy};
-ghost use Rattle.photofleet_c.specs.Sessions.{Has, told, with_line};
+//! A session: the lines that were given to it, and the fleet that ran them.
+ghost use Rattle.std.specs.Prelude.{◌≡◌, ◌<◌, ◌≤◌, length, IfErr, IfOk, OnErr};
+ghost use Rattle.std.specs.Bool.{OnFalse, OnTrue};
+ghost use Rattle.live_script.specs.Live.{IsTold};
+ghost use Rattle.live_script.specs.Refused.{IsOfFault, IsWhy};
+ghost use Rattle.photofleet_c.specs.Sessions.{Has, IsStepOf, with_line};
 
-use crate::plain::plain_text;
-use crate::refusal::Refusal;
-use std::alloc::{AllocError, Global};
+use live_script::{LiveScript, Refusal, Told};
+use std::alloc::Global;
 
-/// The bytes of a script, and what its run prints.
+/// A script that runs as its lines are given.
 #[derive(Drop)]
 pub struct Session {
-    source: Vec<u8>,
-    output: String,
+    live: LiveScript,
 }
 
 impl Session {
-    /// The session that these lines begin.
+    /// Begins a session with these lines.
     pub fn of(alloc: Global, lines: &[u8]) -> Result<Session, Refusal>
         ensures ok { IfOk result (Has lines.now) }
         ensures refused { IfErr result (IsWhy lines.now) }
     {
-        match plain_text(alloc, lines) {
-            Ok(output) => match Vec::from_slice(alloc, lines) {
-                Ok(source) => Ok(Session { source, output }),
-                Err(_) => Err(Refusal::NoMemory),
-            },
+        match LiveScript::of(alloc, lines) {
+            Ok(live) => {
+                // `text` is called because its contract says that the run of the lines prints a text.
+                let _text = live.text();
+                Ok(Session { live })
+            }
             Err(refusal) => Err(refusal),
         }
     }
 
-    /// The session with a line behind the others. It runs all of them anew.
-    pub fn with(&self, alloc: Global, line: &[u8]) -> Result<Session, Refusal>
-        ensures ok { IfOk result (Has (with_line self.now line.now)) }
-        ensures refused { IfErr result (IsOfFault (with_line self.now line.now)) }
+    /// Gives a line if its output has at most `most` bytes, and tells that output. An LF within it ends a line.
+    pub fn give(&mut self, line: &[u8], most: usize) -> Result<Told, Refusal>
+        ensures step { IfOk result (λ told. OnTrue told.is_taken (IsStepOf self.old line.now self.new told.text.items)) }
+        ensures told { IfOk result (λ told. IsTold self.old.live (with_line self.old line.now) told.text.items) }
+        ensures fits { IfOk result (λ told. OnTrue told.is_taken (length told.text.items ≤ most)) }
+        ensures long { IfOk result (λ told. OnFalse told.is_taken (most < length told.text.items)) }
+        ensures left { IfOk result (λ told. OnFalse told.is_taken (self.new ≡ self.old)) }
+        ensures refused { IfErr result (IsOfFault (with_line self.old line.now)) }
+        ensures kept { OnErr result (self.new ≡ self.old) }
     {
-        let Ok(source) = joined(alloc, self.source.as_slice(), line) else {
-            return Err(Refusal::NoMemory);
-        };
-        match plain_text(alloc, source.as_slice()) {
-            Ok(output) => Ok(Session { source, output }),
-            Err(refusal) => Err(refusal),
-        }
+        self.live.give(line, most)
     }
 
-    /// What is printed behind what an earlier session printed.
-    pub fn told_behind(&self, earlier: &Session) -> &[u8]
-        ensures { result.now ≡ told earlier.now self.now }
+    /// Tells the output that a line would have, which isn't given.
+    pub fn ask(&mut self, line: &[u8]) -> Result<Vec<u8>, Refusal>
+        ensures told { IfOk result (λ text. IsTold self.old.live (with_line self.old line.now) text.items) }
+        ensures refused { IfErr result (IsOfFault (with_line self.old line.now)) }
+        ensures kept { self.new ≡ self.old }
     {
-        let bytes = self.output.as_bytes();
-        &bytes[earlier.output.len().min(bytes.len())..]
+        self.live.ask(line)
     }
-}
-
-// A text, an LF and a line.
-fn joined(alloc: Global, text: &[u8], line: &[u8]) -> Result<Vec<u8>, AllocError>
-    ensures { IfOk result (λ all. all.items ≡ text.now ++ 10 ∷ line.now) }
-{
-    let mut all = Vec::from_slice(alloc, text)?;
-    all.push(b'\n')?;
-    all.extend_from_slice(line)?;
-    Ok(all)
 }

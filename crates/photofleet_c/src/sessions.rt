@@ -1,27 +1,29 @@
-//! The calls of a session as C sees them. A session is closed, or open and then owned by its handle alone.
+//! The calls of a session, as C sees them. A session is closed, or it is open and its handle alone owns it.
 ghost use Rattle.std.specs.Prelude.{◌≡◌, ◌≢◌, ◌↔◌, ◌⊎◌, ℕ, List, None, Some, IfErr, IfOk};
 ghost use Rattle.std.specs.Option.{option_map};
 ghost use Rattle.photofleet_c.specs.declared.session.Session.{Session};
 ghost use Rattle.photofleet_c.specs.Placed.{Holds, IsUntouched};
-ghost use Rattle.photofleet_c.specs.Refused.{IsScript, IsWhy, TellsFault, TellsWant};
+ghost use Rattle.live_script.specs.Refused.{IsScript, IsWhy};
+ghost use Rattle.photofleet_c.specs.Refused.{TellsFault, TellsWant};
 ghost use Rattle.photofleet_c.specs.Sessions.{Has, IsStep, TellsLine};
 ghost use Rattle.photofleet_c.specs.Statuses.{IsClosingStatus, IsOpeningStatus};
 
 use crate::handle::Handle;
 use crate::loose::Loose;
-use crate::refusal::{Refusal, refused};
+use crate::refusal::refused;
 use crate::session::Session;
 use crate::statuses::{BAD_SESSION, DONE};
-use crate::steps::stepped;
+use crate::steps::{asked, given};
+use live_script::Refusal;
 use std::alloc::Global;
 use std::mem::replace;
 
-/// Opens a session with some lines, mostly declarations, which are a script by themselves.
+/// Opens a session with lines that are a script by themselves, mostly declarations.
 ///
-/// - 0: the session is open and has these lines. Nothing is told of them.
+/// - 0: the session is open and has these lines. Their output isn't told.
 /// - 2: it was open already. Nothing is told.
-/// - 3: the lines are no script, or memory was refused where they were read. The line of the fault is offered.
-/// - 4: the lines are a script, and memory was refused. The line of that is offered.
+/// - 3: the lines are no script, or memory was refused while they were read. The fault's line is offered.
+/// - 4: the lines are a script, and memory was refused. The line of that error is offered.
 #[unsafe(no_mangle)]
 pub extern "C" fn photofleet_open(
     alloc: Global,
@@ -52,8 +54,8 @@ pub extern "C" fn photofleet_open(
     }
 }
 
-/// Gives a line to a session, and puts the text of what is printed of it into `out`. After any other status than 0 the
-/// session is as it was, and [`TellsLine`] says what is told.
+/// Gives a line to a session, and writes its output to `out`. After any status but 0 the session is as it was, and [`TellsLine`]
+/// says what is told.
 #[unsafe(no_mangle)]
 pub extern "C" fn photofleet_give(
     alloc: Global,
@@ -72,18 +74,12 @@ pub extern "C" fn photofleet_give(
         return BAD_SESSION;
     };
     let mut kept = loose.into_box();
-    let status = match stepped(alloc, &kept, line, out, written) {
-        Ok(next) => {
-            *kept = next;
-            DONE
-        }
-        Err(status) => status,
-    };
+    let status = given(&mut kept, line, out, written);
     *session = Handle::of(Loose::of(kept));
     status
 }
 
-/// Asks a session what would be printed of a line, which it isn't given.
+/// Asks a session for the output that a line would have, which isn't given.
 #[unsafe(no_mangle)]
 pub extern "C" fn photofleet_ask(
     alloc: Global,
@@ -101,16 +97,13 @@ pub extern "C" fn photofleet_ask(
     let Some(loose) = taken(alloc, session) else {
         return BAD_SESSION;
     };
-    let kept = loose.into_box();
-    let status = match stepped(alloc, &kept, line, out, written) {
-        Ok(_) => DONE,
-        Err(status) => status,
-    };
+    let mut kept = loose.into_box();
+    let status = asked(&mut kept, line, out, written);
     *session = Handle::of(Loose::of(kept));
     status
 }
 
-/// Closes a session, and gives back its memory. 2: it is closed already.
+/// Closes a session, and frees its memory. 2: it was closed already.
 #[unsafe(no_mangle)]
 pub extern "C" fn photofleet_close(alloc: Global, session: &mut Handle) -> u8
     ensures status { IsClosingStatus result }
@@ -126,7 +119,7 @@ pub extern "C" fn photofleet_close(alloc: Global, session: &mut Handle) -> u8
     }
 }
 
-// The session that some lines begin, in a block of its own.
+// Begins a session with these lines, in a box.
 fn opened(alloc: Global, lines: &[u8]) -> Result<Box<Session>, Refusal>
     ensures ok { IfOk result (λ kept. Has lines.now kept.value) }
     ensures refused { IfErr result (IsWhy lines.now) }
@@ -140,7 +133,7 @@ fn opened(alloc: Global, lines: &[u8]) -> Result<Box<Session>, Refusal>
     }
 }
 
-// What a handle keeps, which is closed then.
+// Takes the session out of a handle, which is closed then.
 fn taken(alloc: Global, session: &mut Handle) -> Option<Loose<Session, Global>>
     ensures same { option_map (λ kept. kept.value) result ≡ session.old.kept }
     ensures closed { session.new.kept ≡ None }

@@ -2,7 +2,7 @@
 
 /// Done.
 pub const DONE: u8 = 0;
-/// The session is closed, or open where it was to be closed.
+/// The session was closed and had to be open, or it was open and had to be closed.
 pub const BAD_SESSION: u8 = 2;
 /// The bytes are no script, or memory was refused while they were read.
 pub const BAD_SCRIPT: u8 = 3;

@@ -1,34 +1,50 @@
 //! One step of a session.
-ghost use Rattle.std.specs.Prelude.{IfOk, IfErr};
+ghost use Rattle.std.specs.Prelude.{◌≡◌, ◌≢◌, ℕ, List};
 ghost use Rattle.photofleet_c.specs.Placed.{Holds};
-ghost use Rattle.photofleet_c.specs.Sessions.{Has, TellsNoStep, told, with_line};
+ghost use Rattle.photofleet_c.specs.Sessions.{IsStepOf, TellsNoStep};
+ghost use Rattle.photofleet_c.specs.declared.session.Session.{Session};
 
-use crate::placing::place;
+use crate::placing::{place, put};
 use crate::refusal::refused;
 use crate::session::Session;
-use crate::statuses::TOO_SMALL;
-use std::alloc::Global;
+use crate::statuses::{DONE, TOO_SMALL};
 
-/// The session with a line more, with the text of what is printed of it in `out`, or the status that says why there is
-/// none.
-pub fn stepped(
-    alloc: Global,
-    session: &Session,
-    line: &[u8],
-    out: &mut [u8],
-    written: &mut usize,
-) -> Result<Session, u8>
-    ensures next { IfOk result (Has (with_line session.now line.now)) }
-    ensures told { IfOk result (λ next. Holds out.old out.new written.new (told session.now next)) }
-    ensures err { IfErr result (TellsNoStep session.now line.now out.old out.new written.new) }
+/// Gives a line to a session, and writes its output to `out`. After any status but 0 the session is as it was.
+pub fn given(session: &mut Session, line: &[u8], out: &mut [u8], written: &mut usize) -> u8
+    ensures done { result ≡ 0 → (text : List ℕ) × IsStepOf session.old line.now session.new text
+        × Holds out.old out.new written.new text }
+    ensures other { result ≢ 0 → TellsNoStep session.old line.now out.old out.new written.new result }
+    ensures kept { result ≢ 0 → session.new ≡ session.old }
 {
-    match session.with(alloc, line) {
-        Ok(next) => {
-            if place(next.told_behind(session), out, written) {
-                return Ok(next);
+    match session.give(line, out.len()) {
+        Ok(told) => {
+            let text = told.text.as_slice();
+            if !told.is_taken {
+                *written = text.len();
+                return TOO_SMALL;
             }
-            Err(TOO_SMALL)
+            put(text, out, written);
+            DONE
         }
-        Err(refusal) => Err(refused(refusal, out, written)),
+        Err(refusal) => refused(refusal, out, written),
+    }
+}
+
+/// Asks a session for the output that a line would have, and writes that to `out`. The session is as it was.
+pub fn asked(session: &mut Session, line: &[u8], out: &mut [u8], written: &mut usize) -> u8
+    ensures done { result ≡ 0 → (next : Session) × (text : List ℕ) × IsStepOf session.old line.now next text
+        × Holds out.old out.new written.new text }
+    ensures other { result ≢ 0 → TellsNoStep session.old line.now out.old out.new written.new result }
+    ensures kept { session.new ≡ session.old }
+{
+    match session.ask(line) {
+        Ok(text) => {
+            if place(text.as_slice(), out, written) {
+                DONE
+            } else {
+                TOO_SMALL
+            }
+        }
+        Err(refusal) => refused(refusal, out, written),
     }
 }

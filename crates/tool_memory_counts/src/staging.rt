@@ -9,7 +9,8 @@ ghost use Rattle.item_knowledge.specs.Kept.{star_bound};
 use crate::devices::{has_made, opened};
 use item_knowledge::Knowledge;
 use photo_device::laws::with_knowledge;
-use photo_device::{Device, SharedHeld, SharedList, VersionList};
+use photo_device::{Change, Device, Gain, Selection, SharedList};
+use photo_record::PicNo;
 use photo_version::{Author, Version};
 use std::alloc::Global;
 use tool_value_counts::first_known;
@@ -30,13 +31,13 @@ fn stages_gain(alloc: Global, device: &mut Device, gain: &Knowledge) -> bool
     requires gain { (p : ℕ) (v : versions.Version) → 0 < p
         → knows gain.now.known p v ≡ ((7 == p) && denotes ((authors.author 1, 3) ∷ []) v) }
 {
-    let drops = VersionList::new(Vec::new(alloc));
+    let drops = Selection {
+        stored: Vec::new(alloc),
+        waiting: Vec::new(alloc),
+    };
     let takes = SharedList::new(Vec::new(alloc));
-    let pictures = Vec::new(alloc);
-    let done = device.stage_lent(drops, pictures, takes, gain, 0);
-    let right = done.is_ok();
-    drop(done);
-    right
+    let gain = Gain::Known(gain);
+    device.stage(Change { drops, takes, gain }, 0).is_ok()
 }
 
 fn stages_another(alloc: Global, device: &mut Device) -> bool {
@@ -53,7 +54,7 @@ fn stages_another(alloc: Global, device: &mut Device) -> bool {
 /// and `commit`, once if any calls are asked for.
 pub fn answer(alloc: Global, device: &mut Device, group: &str, times: u32) -> Option<bool> {
     if group == "handing" {
-        return Some(has_made(alloc, device, 1_000, 2) && hands(alloc, device, times));
+        return Some(has_made(alloc, device, 1_000, 2) && hands(device, times));
     }
     if !stages_another(alloc, device) {
         return None;
@@ -90,34 +91,27 @@ fn commits(alloc: Global, device: &mut Device) -> bool {
 }
 
 // Each round hands over one of a thousand versions in the out.
-fn hands(alloc: Global, device: &mut Device, times: u32) -> bool {
-    let mut room = Vec::with_capacity(alloc, 1_000);
-    let right = match &mut room {
-        Ok(handed) => hands_each(device, handed, times),
-        Err(_) => false,
-    };
-    drop(room);
-    right
-}
-
-fn hands_each(device: &mut Device, handed: &mut Vec<SharedHeld>, times: u32) -> bool {
+fn hands(device: &mut Device, times: u32) -> bool {
     for n in 0..times {
-        if !is_handed(device, n + 1, handed) {
+        if !is_handed(device, n + 1) {
             return false;
         }
     }
     true
 }
 
-fn is_handed(device: &mut Device, n: u32, handed: &mut Vec<SharedHeld>) -> bool {
-    if handed.len() >= handed.capacity() {
-        return false;
-    }
-    let Some(version) = Version::new(Author::new(0), n) else {
+fn is_handed(device: &mut Device, n: u32) -> bool {
+    let (Some(picture), Some(version)) = (PicNo::new(n), Version::new(Author::new(0), n)) else {
         return false;
     };
     let before = device.out().len();
-    device.hand_over(&[version], handed);
+    let Some(held) = device.out().of(picture, version) else {
+        return false;
+    };
+    let Ok(held) = held.try_clone() else {
+        return false;
+    };
+    device.hand_over(&[held]);
     device.out().len() < before
 }
 

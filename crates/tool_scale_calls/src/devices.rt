@@ -8,7 +8,9 @@ ghost use Rattle.item_knowledge.specs.Fragments.{knows};
 use crate::told::tell;
 use fleet_steps::{IssueLog, run_command};
 use item_knowledge::Knowledge;
-use photo_device::{Change, Device, Held, HeldSet, SharedHeld, SharedList, VersionList, told_by};
+use photo_device::{
+    Change, Device, Gain, Held, HeldSet, Selection, SharedHeld, SharedList, told_by,
+};
 use photo_record::{PicNo, Record};
 use photo_script::Command;
 use photo_version::Author;
@@ -83,9 +85,6 @@ fn on_device(rt: HostRuntime, device: &mut Device, content: &Record) {
     tell(rt, "photo_device::Device::conflicts", done);
     refilter(rt, device);
     if device.author().value() == 0 {
-        stage_lent(rt, device);
-    }
-    if device.author().value() == 0 {
         stage(rt, device);
     }
 }
@@ -155,61 +154,50 @@ fn refilter(rt: HostRuntime, device: &mut Device) {
     }
 }
 
-// Stages what another device knows, and what is told.
-fn stage_lent(rt: HostRuntime, device: &mut Device)
+fn stage(rt: HostRuntime, device: &mut Device)
     requires { device_of_author device.old.author ≡ 0 }
 {
     let made = told(rt.alloc(), 7, 3);
     if let Some(gain) = &made {
-        let done = is_staged_lent(rt.alloc(), device, gain);
-        tell(rt, "photo_device::Device::stage_lent", done);
-    }
-    drop(made);
-    let done = is_staged_told(rt.alloc(), device);
-    tell(rt, "photo_device::Device::stage_told", done);
-}
-
-fn stage(rt: HostRuntime, device: &mut Device)
-    requires { device_of_author device.old.author ≡ 0 }
-{
-    if let Some(gain) = told(rt.alloc(), 7, 3) {
-        let done = is_staged(rt.alloc(), device, gain);
+        let done = is_staged(rt.alloc(), device, gain) && is_staged_told(rt.alloc(), device);
         tell(rt, "photo_device::Device::stage", done);
     }
+    drop(made);
 }
 
-fn is_staged(alloc: Global, device: &mut Device, gain: Knowledge) -> bool
-    requires zero { device_of_author device.old.author ≡ 0 }
-    requires gain { (p : ℕ) (v : versions.Version) → 0 < p
-        → knows gain.known p v ≡ ((7 == p) && denotes ((author 1, 3) ∷ []) v) }
-{
-    let change = Change {
-        drops: VersionList::new(Vec::new(alloc)),
-        takes: SharedList::new(Vec::new(alloc)),
-        gain,
-    };
-    device.stage(change, 2).is_ok()
-}
-
-fn is_staged_lent(alloc: Global, device: &mut Device, gain: &Knowledge) -> bool
+// Stages what another device knows.
+fn is_staged(alloc: Global, device: &mut Device, gain: &Knowledge) -> bool
     requires zero { device_of_author device.old.author ≡ 0 }
     requires gain { (p : ℕ) (v : versions.Version) → 0 < p
         → knows gain.now.known p v ≡ ((7 == p) && denotes ((author 1, 3) ∷ []) v) }
 {
-    let drops = VersionList::new(Vec::new(alloc));
-    let takes = SharedList::new(Vec::new(alloc));
-    device
-        .stage_lent(drops, Vec::new(alloc), takes, gain, 2)
-        .is_ok()
+    let change = Change {
+        drops: nothing_dropped(alloc),
+        takes: SharedList::new(Vec::new(alloc)),
+        gain: Gain::Known(gain),
+    };
+    device.stage(change, 2).is_ok()
 }
 
+// Stages that versions tell nothing.
 fn is_staged_told(alloc: Global, device: &mut Device) -> bool {
     let Ok(told) = told_by(alloc, &[], &[]) else {
         return false;
     };
-    let drops = VersionList::new(Vec::new(alloc));
-    let takes = SharedList::new(Vec::new(alloc));
-    device
-        .stage_told(drops, Vec::new(alloc), takes, &told, 2)
-        .is_ok()
+    let change = Change {
+        drops: nothing_dropped(alloc),
+        takes: SharedList::new(Vec::new(alloc)),
+        gain: Gain::Told(&told),
+    };
+    device.stage(change, 2).is_ok()
+}
+
+fn nothing_dropped(alloc: Global) -> Selection
+    ensures stored { result.stored.items ≡ [] }
+    ensures waiting { result.waiting.items ≡ [] }
+{
+    Selection {
+        stored: Vec::new(alloc),
+        waiting: Vec::new(alloc),
+    }
 }

@@ -1,10 +1,10 @@
-use Rattle.std.proofs.Common.{◌≡◌, ap, refl, subst, sym}
+use Rattle.std.proofs.Common.{ap, refl, subst, sym}
 use Rattle.std.proofs.lemmas.Result.{IfErr-weaker, IfOk-weaker}
 use Rattle.std.specs.Prelude.{Err, IsOk, Result}
 use Rattle.fleet_model.specs.Contents.{Contents}
 use Rattle.script_reader.specs.declared.fault.ScriptFault.{ScriptFault}
-use Rattle.photofleet_c.specs.Refused.{IsWhy}
-use Rattle.photofleet_c.proofs.plain.plain_text.Goals as goal
+use Rattle.live_script.specs.Refused.{IsWhy}
+use Rattle.live_script.proofs.plain.plain_text.Goals as goal
 
 pub returns-in-Ok-clause-printed : goal.returns-in-Ok-clause-printed
 returns-in-Ok-clause-printed c =

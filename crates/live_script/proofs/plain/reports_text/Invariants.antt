@@ -1,8 +1,8 @@
 use Rattle.std.proofs.Common.{◌≡◌, map}
 use Rattle.std.specs.Prelude.{string_bytes}
 use Rattle.photo_script.specs.Reports.{answer_of}
-use Rattle.photofleet_c.proofs.Texts.{first_texts}
-use Rattle.photofleet_c.proofs.plain.reports_text.Given as goal
+use Rattle.live_script.proofs.Texts.{first_texts}
+use Rattle.live_script.proofs.plain.reports_text.Given as goal
 
 -- the texts of the reports so far stand there
 abbrev pub invariant-loop-report : goal.invariant-loop-report

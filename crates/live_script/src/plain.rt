@@ -3,11 +3,11 @@ ghost use Rattle.std.specs.Prelude.{◌≡◌, ◌≤◌, length, map, string_by
 ghost use Rattle.std.specs.List.{AllByRecursion};
 ghost use Rattle.fleet_model.specs.Limits.{max_commands};
 ghost use Rattle.photo_script.specs.Reports.{answer_of, texts_from, IsAbout};
-ghost use Rattle.photofleet_c.specs.Printed.{IsOutput, IsPrinted};
-ghost use Rattle.photofleet_c.specs.Refused.{IsWhy};
-ghost use Rattle.photofleet_c.specs.declared.refusal.Refusal.TheVariants.{NoMemory};
+ghost use Rattle.live_script.specs.Printed.{IsOutput, IsPrinted};
+ghost use Rattle.live_script.specs.Refused.{IsWhy};
+ghost use Rattle.live_script.specs.declared.refusal.Refusal.TheVariants.{NoMemory};
 
-use crate::refusal::Refusal;
+use crate::Refusal;
 use fleet_steps::laws::accepted_stays_sound;
 use fleet_steps::run_plain;
 use photo_script::{Report, Script, push_report, read_script};

@@ -1,8 +1,8 @@
 use Rattle.std.proofs.Common.{arith}
 use Rattle.photo_script.specs.Reports.{answer_of, IsAbout}
 use Rattle.photo_script.proofs.Listing.{all_map_at}
-use Rattle.photofleet_c.proofs.Texts.{report_added}
-use Rattle.photofleet_c.proofs.plain.reports_text.Goals as goal
+use Rattle.live_script.proofs.Texts.{report_added}
+use Rattle.live_script.proofs.plain.reports_text.Goals as goal
 
 pub push_report-requires : goal.push_report-requires
 push_report-requires c =

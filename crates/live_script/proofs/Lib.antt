@@ -1,0 +1,4 @@
+mod Behind
+mod Longer
+mod Played
+mod Texts
