@@ -12,7 +12,7 @@ use photo_script::Script;
 use std::alloc::{AllocError, Global};
 use unicode_width::UnicodeWidthStr;
 
-/// Puts the text of `chart` behind another: the script's run as an SVG.
+/// Appends the text of `chart` to another: the script's run as an SVG.
 pub fn push_chart(
     alloc: Global,
     text: &mut String,
@@ -44,7 +44,7 @@ fn push_columned(
     push_legend(text, legend)
 }
 
-/// Puts behind a text, as data, where in the chart each command's column has its middle, and where each device's lane lies.
+/// Appends to a text, as data, where in the chart each command's column has its middle, and where each device's lane lies.
 pub fn push_places(alloc: Global, text: &mut String, script: &Script) -> Result<(), AllocError> {
     let columned = columned_by(alloc, script, Columns::Commands)?;
     push_middles(alloc, text, script, &columned)
@@ -193,7 +193,7 @@ fn push_band(
     Ok(())
 }
 
-// The lane of a device, with its name, again and again, and the filter that it has at first.
+// The lane of a device, with its name repeated along it, and its first filter.
 fn push_lane(
     alloc: Global,
     text: &mut String,
@@ -258,7 +258,7 @@ fn push_shown_filter(
     push_escaped(text, &shown)
 }
 
-// The legend, whose first line stands so far from the top.
+// The legend, with the distance of its first line from the top.
 fn push_legend(text: &mut String, y: u64) -> Result<(), AllocError> {
     writeln!(text, "<g transform=\"translate(12 {y})\">")?;
     text.push_str(LEGEND)?;

@@ -28,7 +28,7 @@ pub struct Columned {
 }
 
 impl Columned {
-    // So many commands, all in the first column, and no bands.
+    // All commands in the first column, without bands.
     fn new(alloc: Global, commands: usize) -> Result<Columned, AllocError> {
         let columns = vec![in alloc; 0; commands]?;
         Ok(Columned {
@@ -152,7 +152,7 @@ fn width_of(digits: u16) -> u16 {
     digits.clamp(3, 9) * 7 + 13
 }
 
-// Of each column, how many digits the greatest number of a picture has that a change in it names.
+// For each column the digits of the greatest picture number that a change in it names.
 fn digits_of(alloc: Global, script: &Script, columned: &Columned) -> Result<Vec<u16>, AllocError> {
     let mut digits = vec![in alloc; 1; columned.width()]?;
     for (place, column) in columned.columns.iter().enumerate() {
@@ -163,7 +163,7 @@ fn digits_of(alloc: Global, script: &Script, columned: &Columned) -> Result<Vec<
     Ok(digits)
 }
 
-// How many digits the number of the picture has that the command at a place names; 1 where it names none.
+// The digits of the picture number that the command at a place names; 1 if it names none.
 fn digits_at(script: &Script, place: usize) -> u16 {
     if place >= script.commands() {
         return 1;

@@ -3,10 +3,9 @@ use photo_device::Held;
 use photo_version::Version;
 use std::alloc::{AllocError, Global};
 
-/// Of versions of one picture, oldest first, those that are current, oldest first: no other one has them in its history.
+/// Given the versions of one picture, oldest first, the current ones, oldest first: no other one has them in its history.
 ///
-/// What is superseded is superseded by a current one, which is younger; so each is only held against the current ones
-/// that are younger.
+/// A younger current version supersedes each superseded one; so each is compared with the younger current ones alone.
 pub fn current_of<'a>(alloc: Global, versions: &[&'a Held]) -> Result<Vec<&'a Held>, AllocError> {
     let mut current: Vec<&'a Held> = Vec::new(alloc);
     for held in versions.iter().rev() {

@@ -10,7 +10,7 @@ pub struct Drawing {
     pub layout: Layout,
     pub below: String,
     pub above: String,
-    /// Of each device that has conflicts, since when.
+    /// Since when each device has conflicts, if it has some.
     pub strife: Vec<Option<Since>>,
     pub alloc: Global,
 }
@@ -103,7 +103,7 @@ impl Drawing {
         )
     }
 
-    /// A text that begins a little right of a spot, and stands below its lane but so far higher, where there is room for
+    /// A text a little right of a spot and below its lane, raised by a number of pixels, where there is room for
     /// texts.
     pub fn note(
         &mut self,
@@ -122,7 +122,7 @@ impl Drawing {
         self.above.push_str("</text>")
     }
 
-    /// The same of a letter and a count, five pixels right of a spot.
+    /// A letter and a count, five pixels right of a spot, where there is room for texts.
     pub fn count(
         &mut self,
         spot: Spot,

@@ -1,10 +1,10 @@
-//! Texts as they stand in XML.
+//! Escaping of texts for XML.
 ghost use Rattle.std.specs.Prelude.{◌≡◌, option_map};
 ghost use Rattle.fleet_view.specs.Escapes.{escape_of};
 
 use std::alloc::AllocError;
 
-/// What stands for a character in XML, where it doesn't stand for itself: the marks of tags and entities have names, and what
+/// The escape of a character in XML, if it needs one: the marks of tags and entities have names, and what
 /// no XML may have is shown as U+FFFD.
 pub fn escape_of(c: char) -> Option<&'static str>
     ensures { option_map (λ s. s.now) result ≡ escape_of c }
@@ -19,7 +19,7 @@ pub fn escape_of(c: char) -> Option<&'static str>
     }
 }
 
-/// Puts a text behind another as XML has it.
+/// Appends a text to another, escaped for XML.
 pub fn push_escaped(text: &mut String, plain: &str) -> Result<(), AllocError> {
     for c in plain.chars() {
         match escape_of(c) {

@@ -32,13 +32,13 @@ fn push_cut(text: &mut String, whole: &str, most: usize) -> Result<(), AllocErro
     Ok(())
 }
 
-/// Puts a filter's whole text behind another as XML has it.
+/// Appends a filter's whole text to another, escaped for XML.
 pub fn push_whole_filter(text: &mut String, filter: &Filter) -> Result<(), AllocError> {
     let whole = print(*text.allocator(), filter.tree())?;
     push_escaped(text, &whole)
 }
 
-/// Puts a filter's whole text behind another as JSON has it.
+/// Appends a filter's whole text to another as a JSON string.
 pub fn push_quoted_filter(text: &mut String, filter: &Filter) -> Result<(), AllocError> {
     let whole = print(*text.allocator(), filter.tree())?;
     push_quoted(text, &whole)

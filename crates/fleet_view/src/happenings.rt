@@ -1,4 +1,4 @@
-//! What a command did to versions on its devices, by how these stood to them before and stand to them behind it.
+//! What a command did to versions on its devices: each device is compared before and after it.
 use crate::standing::{Standing, standing_of};
 use live_fleet::Fleet;
 use photo_device::{Device, Held, Place};
@@ -35,17 +35,17 @@ pub struct Moment<'a> {
     pub fleet: &'a Fleet,
     pub number: u32,
     pub command: &'a Command,
-    /// None of a question.
+    /// Empty for a question.
     pub before: &'a [Device],
 }
 
-/// A device before and behind a command.
+/// A device before and after a command.
 #[derive(Drop)]
 pub struct Seen<'a> {
     pub device: u16,
     pub was: &'a Device,
     pub is: &'a Device,
-    /// Of the target of a pull, the source as it was.
+    /// The source as it was before, if this is the target of a pull.
     pub source: Option<&'a Device>,
     /// Whether it is the source of a pull.
     pub lends: bool,
@@ -274,7 +274,7 @@ pub fn is_held(device: &Device, held: &Held) -> bool {
     device.store().has(held.picture, held.version) || device.out().has(held.picture, held.version)
 }
 
-/// The latest version that a device knows and that supersedes another one, with its place in the log.
+/// The latest version that a device knows and that supersedes this one, with its place in the log.
 pub fn superseder<'a>(log: &'a [Held], device: &Device, held: &Held) -> Option<(usize, &'a Held)> {
     for back in 0..log.len() {
         let place = log.len() - 1 - back;

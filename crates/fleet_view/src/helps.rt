@@ -55,7 +55,7 @@ with its filter, its store, its out and what it knows. Rows that came with the c
 that left with it red. A click on a picture's number follows it through the run.
 
 Left and right go one command back and on, Home and End to the first and the last; / asks for a picture,
-n and p go to the next and the previous command that did something to it, Esc follows none. The page's
+n and p go to the next and the previous command that did something to it, Esc stops following. The page's
 address keeps the command and the picture.
 
 Exit status: 0 done, 2 refused words, 3 script fault, 4 no memory, 5 output not written.";

@@ -1,10 +1,10 @@
-//! Texts as they stand in JSON that lies in HTML.
+//! Escaping of texts for JSON within HTML.
 ghost use Rattle.std.specs.Prelude.{◌≡◌, option_map};
 ghost use Rattle.fleet_view.specs.Escapes.{json_escape_of};
 
 use std::alloc::AllocError;
 
-/// What stands for a character between the quotes of JSON, where it doesn't stand for itself: nothing that ends the text or
+/// The escape of a character in a JSON string, if it needs one: nothing that ends the text or
 /// that HTML reads as a mark stands there as it is, and no control character.
 pub fn json_escape_of(c: char) -> Option<&'static str>
     ensures { option_map (λ s. s.now) result ≡ json_escape_of c }
@@ -23,7 +23,7 @@ pub fn json_escape_of(c: char) -> Option<&'static str>
     }
 }
 
-/// Puts a text behind another in quotes, as JSON has it.
+/// Appends a text to another as a JSON string.
 pub fn push_quoted(text: &mut String, plain: &str) -> Result<(), AllocError> {
     text.push_str("\"")?;
     push_escapes(text, plain)?;

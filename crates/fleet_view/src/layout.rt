@@ -1,4 +1,4 @@
-//! Where in a chart what stands: columns from left to right, a lane for each device from top to bottom.
+//! The geometry of a chart: columns from left to right, a lane for each device from top to bottom.
 ghost use Rattle.std.specs.Prelude.{◌≡◌, ◌+◌, ◌*◌, ◌≤◌};
 
 use std::alloc::{AllocError, Global};
@@ -16,13 +16,13 @@ pub struct Layout {
     edges: Vec<u32>,
     /// The middle of each column.
     middles: Vec<u32>,
-    /// Where the devices' names stand again.
+    /// Where the devices' names are repeated.
     names: Vec<u32>,
 }
 
 // The least room at the left.
 const LEAST: u64 = 20;
-// From where the names stand up to where they stand again: about a screen's width.
+// The distance between the names and their repetition: about a screen's width.
 const SCREEN: u32 = 1_200;
 // The first lane, and from a lane to the next.
 const TOP: u64 = 84;
@@ -49,7 +49,7 @@ impl Layout {
         })
     }
 
-    /// One column more, so wide. Where a screen's width lies behind the last names, these stand again before it, with so much
+    /// Adds a column of this width. A screen's width after the last names they are repeated before it, in a gap of this much
     /// room.
     pub fn push_column(&mut self, width: u16, room: u16) -> Result<(), AllocError> {
         let mut from = self.edges.last().copied().unwrap_or(0);
@@ -105,7 +105,7 @@ impl Layout {
         self.start() + u64::from(self.edges.last().copied().unwrap_or(0))
     }
 
-    /// Where the names stand again, from the left.
+    /// Where the names are repeated, from the left.
     pub fn names(&self) -> &[u32] {
         &self.names
     }

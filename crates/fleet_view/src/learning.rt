@@ -1,4 +1,4 @@
-//! What a device learned by a command, as data: what became different of what it knows.
+//! What a device learned by a command, as data: what changed in what it knows.
 use item_knowledge::{Fragment, Knowledge};
 use photo_device::Device;
 use photo_version::Author;
@@ -16,7 +16,7 @@ struct Known {
     alloc: Global,
 }
 
-/// Puts behind a text, as data, what became different of what a device knows: its number, 1 where it forgot what it had known and
+/// Appends to a text, as data, what changed in what a device knows: its number, 1 where it forgot what it had known and
 /// else 0, the bounds that rose for every picture, and what pictures have beyond these. Nothing where nothing did.
 pub fn push_learning(
     text: &mut String,
@@ -107,7 +107,7 @@ fn note_row(known: &mut Known, fragment: &Fragment<'_>) -> Result<(), AllocError
     Ok(())
 }
 
-// The bounds of a fragment that others don't include.
+// The bounds of a fragment that exceed others.
 fn push_bounds_beyond(
     row: &mut String,
     others: &BTreeMap<u64, u32>,
@@ -141,7 +141,7 @@ fn push_star(text: &mut String, before: &Known, knowledge: &Knowledge) -> Result
     text.push_str(risen.as_str())
 }
 
-// What pictures have beyond the star, of those of which that became different.
+// What pictures have beyond the star, for those where that changed.
 fn push_rows(text: &mut String, before: &Known, known: &Known) -> Result<(), AllocError> {
     let mut lists = Vec::new(known.alloc);
     for _ in 0..known.rows.len() {

@@ -6,7 +6,7 @@ use photo_device::{Device, Held, Place};
 use photo_script::devices_of;
 use std::alloc::AllocError;
 
-/// Puts behind a text what happened to a version on a device, and why.
+/// Appends to a text what happened to a version on a device, and why.
 pub fn push_what(
     text: &mut String,
     moment: &Moment<'_>,

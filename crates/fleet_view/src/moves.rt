@@ -8,7 +8,7 @@ use photo_device::{Device, Place, SharedHeld};
 use photo_script::Script;
 use std::alloc::{AllocError, Global};
 
-/// Puts behind a text a line for each pull that would bring its target some version of a picture that is asked for.
+/// Appends to a text a line for each pull that would bring its target some version of a picture that is asked for.
 pub fn push_moves(
     alloc: Global,
     text: &mut String,
@@ -28,7 +28,7 @@ pub fn push_moves(
     }
 }
 
-// How many devices the script and the fleet have both.
+// The number of devices of both, the script and the fleet.
 fn device_count(script: &Script, fleet: &Fleet) -> u16
     ensures { result ≤ length fleet.now.devices }
 {
@@ -67,7 +67,7 @@ fn push_pulls_to(
     Ok(())
 }
 
-// The line of a pull, the target before the source; none where it would bring nothing.
+// The line of a pull, target before source; nothing if it would bring nothing.
 fn push_pull(
     alloc: Global,
     lines: &mut String,
@@ -167,7 +167,7 @@ fn push_list(
     Ok(count)
 }
 
-// Whether a device takes a version that it doesn't know: what waits in an out it always does.
+// Whether a device takes a version that it doesn't know. It takes each that waits in an out.
 fn is_wanted(target: &Device, held: &SharedHeld, place: Place) -> bool {
     match place {
         Place::Store => target.filter().matches(held.content()),

@@ -12,7 +12,7 @@ pub fn device_name(script: &Script, place: u16) -> &str {
     }
 }
 
-/// Puts a version's name behind a text: `phone:2`, or `phone.1:2` of a later epoch.
+/// Appends a version's name to a text: `phone:2`, or `phone.1:2` of a later epoch.
 pub fn push_version(
     text: &mut String,
     script: &Script,

@@ -1,5 +1,9 @@
 //! Why the commands of a script may not run in an order.
+ghost use Rattle.std.specs.Prelude.{◌≡◌, ◌↔◌, true, IfOk};
+ghost use Rattle.photo_batcher.specs.Orders.{IsLawful};
+
 use crate::names::device_name;
+use photo_batcher::lawful;
 use photo_script::{Script, devices_of};
 use std::alloc::{AllocError, Global};
 
@@ -20,28 +24,28 @@ enum Breach {
     },
 }
 
-/// Puts behind a text why the commands of the script may not run in an order, by the first number at which that shows, and
-/// gives whether they may.
+/// Appends to a text why the commands of the script may not run in an order, by the first number at which that shows, and
+/// gives whether they may. Its only error is want of memory, behind which the text is unfinished.
 pub fn push_order(
     alloc: Global,
     text: &mut String,
     script: &Script,
     order: &[u32],
-) -> Result<bool, AllocError> {
-    match breach_of(alloc, script, order)? {
-        Some(breach) => {
-            push_breach(text, script, breach)?;
-            Ok(false)
-        }
-        None => {
-            text.push_str("no fault: it is a script, and its commands may run in that order\n")?;
-            Ok(true)
-        }
+) -> Result<bool, AllocError>
+    ensures { IfOk result (λ answer. (answer ≡ true) ↔ IsLawful script.now order.now) }
+{
+    if lawful(alloc, script, order)? {
+        text.push_str("no fault: it is a script, and its commands may run in that order\n")?;
+        return Ok(true);
     }
+    text.push_str("run error: E3 NotLawful\n")?;
+    if let Some(breach) = breach_of(alloc, script, order)? {
+        push_breach(text, script, breach)?;
+    }
+    Ok(false)
 }
 
 fn push_breach(text: &mut String, script: &Script, breach: Breach) -> Result<(), AllocError> {
-    text.push_str("run error: E3 NotLawful\n")?;
     let commands = script.commands();
     match breach {
         Breach::NoCommand(number) => write!(

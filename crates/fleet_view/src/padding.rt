@@ -1,4 +1,4 @@
-//! How far a cell of a table for a terminal is from its column's end.
+//! The padding of a table's cells on a terminal.
 ghost use Rattle.std.specs.Prelude.{◌≡◌, ◌-◌, false, chars};
 ghost use Rattle.unicode_width.specs.Width.{str_width};
 

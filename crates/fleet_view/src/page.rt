@@ -1,4 +1,4 @@
-//! The run of a script as a page to step through: what stands still, the chart, and the run as data.
+//! The run of a script as a page to step through: its fixed parts, the chart, and the run as data.
 ghost use Rattle.std.specs.Prelude.{◌≡◌, ◌≤◌, ◌<◌, ◌+◌, length};
 
 use crate::chart::{push_chart, push_places};
@@ -9,20 +9,22 @@ use crate::happenings::{
 };
 use crate::json::push_quoted;
 use crate::learning::push_learning;
-use crate::page_text::{HEAD, MIDDLE, TAIL};
+use crate::page_text::{DEVICES, FOLLOWING, HEAD, MIDDLE, REPLAY};
 use live_fleet::Fleet;
 use photo_device::{Device, Held, Place};
 use photo_script::{Command, Script, devices_of, report_text};
 use script_text::command_text;
 use std::alloc::{AllocError, Global};
 
-/// Puts the text of `page` behind another: the script's run as HTML.
+/// Appends the text of `page` to another: the script's run as HTML.
 pub fn push_page(alloc: Global, text: &mut String, script: &Script) -> Result<(), AllocError> {
     text.push_str(HEAD)?;
     push_chart(alloc, text, script, Columns::Commands)?;
     text.push_str(MIDDLE)?;
     push_data(alloc, text, script)?;
-    text.push_str(TAIL)
+    text.push_str(REPLAY)?;
+    text.push_str(DEVICES)?;
+    text.push_str(FOLLOWING)
 }
 
 // The run as JSON: the devices, where their lanes and the commands' columns lie in the chart, the commands, and the versions.
@@ -78,7 +80,7 @@ fn push_run_data(
     text.push_str("]}")
 }
 
-// Runs the script, and puts each command behind the text.
+// Runs the script, and appends each command to the text.
 fn push_commands(
     alloc: Global,
     text: &mut String,
@@ -237,7 +239,7 @@ fn word_of(what: Happening) -> &'static str {
     }
 }
 
-// The versions to which each kind of thing happened, first on the device that the command names first.
+// The versions of each kind of happening, first on the device that the command names first.
 fn push_groups(
     text: &mut String,
     moment: &Moment<'_>,
@@ -275,8 +277,8 @@ fn push_group(
     };
     let (device, word) = (kind.0, word_of(kind.1));
     write!(text, "{comma}[{device},\"{word}\",[{versions}]")?;
-    if kind.1 == Happening::GivenUp {
-        push_superseders(text, moment, list)?;
+    if matches!(kind.1, Happening::GivenUp | Happening::Learned) {
+        push_superseders(text, moment, list, kind.1)?;
     }
     text.push_str("]")
 }
@@ -286,15 +288,16 @@ fn push_number(list: &mut String, number: usize) -> Result<(), AllocError> {
     write!(list, "{comma}{number}")
 }
 
-// Of each version that was given up which one supersedes it, -1 for none.
+// For each version that was given up or learned of the one that supersedes it, or -1.
 fn push_superseders(
     text: &mut String,
     moment: &Moment<'_>,
     list: &[Happened<'_>],
+    what: Happening,
 ) -> Result<(), AllocError> {
     let mut comma = ",[";
     for event in list {
-        if event.what == Happening::GivenUp {
+        if event.what == what {
             text.push_str(comma)?;
             comma = ",";
             push_superseder(text, moment, event)?;

@@ -3,7 +3,7 @@ use photo_device::{Device, Held};
 use photo_record::Record;
 use std::alloc::AllocError;
 
-/// Puts behind a text why the device's filter doesn't select a version.
+/// Appends to a text why the device's filter doesn't select a version.
 pub fn push_unselected(text: &mut String, device: &Device, held: &Held) -> Result<(), AllocError> {
     match &held.content {
         Record::Removed => text.push_str("no filter selects a removal"),

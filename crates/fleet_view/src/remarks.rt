@@ -1,7 +1,7 @@
-//! What is strange in a text that is a script.
+//! Remarks on a script without a fault.
 use std::alloc::AllocError;
 
-/// Puts behind a text a remark on what is no fault in a script's text, and rarely meant: a line that has a word with `;` in it,
+/// Appends to a text a remark on what is no fault in a script's text, and rarely meant: a line that has a word with `;` in it,
 /// and lines that carriage returns alone would end.
 pub fn push_remarks(text: &mut String, script: &str) -> Result<(), AllocError> {
     if script.contains('\r') && !script.contains('\n') {

@@ -11,7 +11,7 @@ use live_fleet::Fleet;
 use photo_script::{Command, Script, devices_of};
 use std::alloc::{AllocError, Global};
 
-/// Runs the script, and puts what is drawn of it behind a text.
+/// Runs the script, and appends its drawing to a text.
 pub fn push_run(
     alloc: Global,
     text: &mut String,

@@ -99,7 +99,7 @@ fn push_unread(
     }
 }
 
-// Puts what is asked for of a file's bytes behind a text.
+// Appends to a text what is asked for of a file's bytes.
 fn push_answer(
     alloc: Global,
     text: &mut String,

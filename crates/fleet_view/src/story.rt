@@ -14,7 +14,7 @@ use photo_script::Script;
 use photo_version::Version;
 use std::alloc::{AllocError, Global};
 
-// When a device lost a version.
+// How a device lost a version, and at which command.
 #[derive(Clone, Copy)]
 struct Loss {
     number: u32,
@@ -30,7 +30,7 @@ struct Story {
     losses: Vec<Option<Loss>>,
 }
 
-/// Puts the text of `story` behind another.
+/// Appends the text of `story` to another.
 pub fn push_story(
     alloc: Global,
     text: &mut String,

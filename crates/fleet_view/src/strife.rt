@@ -146,9 +146,11 @@ fn push_conflict(
 ) -> Result<(), AllocError> {
     let picture = conflict.picture.value();
     write!(title, " {picture} (")?;
+    let mut gap = "";
     for version in conflict.versions.as_slice() {
+        title.push_str(gap)?;
         push_version(title, script, *version)?;
-        title.push_str(" ")?;
+        gap = " ";
     }
     title.push_str(")")
 }

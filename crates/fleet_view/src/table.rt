@@ -30,7 +30,7 @@ impl Table {
         }
     }
 
-    /// Ends a cell with what was put behind the cells before it.
+    /// Ends a cell: it has what was appended since the last one.
     pub fn end_cell(&mut self) -> Result<(), AllocError> {
         self.ends.push(self.cells.len())?;
         Ok(())
@@ -79,7 +79,7 @@ impl Table {
         Ok(())
     }
 
-    // No space stands behind the last cell of a row.
+    // The last cell of a row has no spaces after it.
     fn push_row(
         &self,
         text: &mut String,
@@ -139,7 +139,7 @@ fn width_at(widths: &[usize], column: usize) -> usize {
     widths.get(column).copied().unwrap_or(0)
 }
 
-// How much of a width the first columns leave.
+// The width that the first columns leave.
 fn room_beside(widths: &[usize], width: usize) -> usize {
     if width == 0 {
         return usize::MAX;

@@ -45,7 +45,7 @@ struct Lines {
     shown: Vec<bool>,
 }
 
-/// Puts the text of `where` behind another: a line for each of the pictures, or for each picture that was made where none is
+/// Appends the text of `where` to another: a line for each of the pictures, or for each picture that was made where none is
 /// named.
 pub fn push_whereabouts(
     alloc: Global,
@@ -105,7 +105,7 @@ fn note_histories<'a>(
     Ok(())
 }
 
-/// Whether a picture is one of those that are asked for; where none is named, each is.
+/// Whether a picture is asked for. Where none is named, each is.
 pub fn is_asked(pictures: &[u32], picture: u32) -> bool {
     pictures.is_empty() || pictures.contains(&picture)
 }
@@ -252,7 +252,7 @@ fn push_current(cells: &mut String, script: &Script, current: &[&Held]) -> Resul
     Ok(())
 }
 
-// How a device stands to the current versions, and which others it holds.
+// How a device stands to each current version, and the other versions that it holds.
 fn push_standings(
     cells: &mut String,
     script: &Script,
