@@ -250,6 +250,10 @@ class Traced:
         versions = [one for one in self.log if one.picture == picture and (last is None or one.number <= last)]
         return [one for one in versions if not any(one in other.history for other in versions)]
 
+    def current_all(self, last):
+        """Returns the current versions of all pictures after so many commands."""
+        return [one for picture in {one.picture for one in self.log} for one in self.current(picture, last)]
+
     def story(self, picture):
         """Returns what 'story' has to tell of a picture."""
         rows, losses = [["command", "device", f"what happened to picture {picture}"]], {}
