@@ -1,5 +1,7 @@
 //! Calls by their names.
-use crate::{devices, fleets, gates, growing, pulls, questions, runs, scripts, sessions, streams};
+use crate::{
+    devices, fleets, gates, growing, live, pulls, questions, runs, scripts, sessions, streams,
+};
 use std::alloc::Global;
 use std::sync::Wait;
 use std::thread::Threads;
@@ -47,6 +49,7 @@ fn of_scripts(alloc: Global, library: &str, call: &str) -> Option<Verdict> {
         "photo_pull" if call == "pull" => pulls::verdict(alloc, pulls::Call::Pull),
         "photo_pull" if call == "preview" => pulls::verdict(alloc, pulls::Call::Preview),
         "photo_device" => devices::verdict(alloc, call),
+        "live_script" => live::verdict(alloc, call),
         "photo_script" | "script_text" | "photo_batcher" => scripts::verdict(alloc, library, call),
         _ => verdict_on(alloc, library, call),
     }

@@ -8,6 +8,7 @@ mod devices;
 mod fleets;
 mod gates;
 mod growing;
+mod live;
 mod plans;
 mod pulls;
 mod questions;

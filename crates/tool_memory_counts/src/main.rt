@@ -7,6 +7,7 @@ mod devices;
 mod filters;
 mod fleets;
 mod groups;
+mod growing;
 mod held;
 mod ledgers;
 mod runs;

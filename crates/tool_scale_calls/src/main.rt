@@ -5,6 +5,7 @@
 
 mod devices;
 mod fleets;
+mod growing;
 mod knowledges;
 mod pulls;
 mod questions;
@@ -29,6 +30,7 @@ fn main(rt: HostRuntime) -> ExitCode {
         return ExitCode::from(1);
     };
     scripts::make(rt, &source);
+    growing::make(rt, &source);
     streams::make(rt, &source);
     let done = streams::is_run_stream(rt, rt.alloc(), &source);
     tell(rt, "fleet_runner::run_stream", done);

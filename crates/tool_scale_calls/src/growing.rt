@@ -1,0 +1,56 @@
+//! The calls on a script that grows, with its fleet and without one.
+use crate::told::tell;
+use live_script::{LiveScript, plain_text};
+use photo_script::GrowingScript;
+
+/// Makes them: the last line of these bytes comes behind the others.
+pub fn make(rt: HostRuntime, source: &[u8]) {
+    let Some((before, line)) = cut(source) else {
+        return;
+    };
+    grow(rt, before, line);
+    live(rt, before, line);
+    let done = plain_text(rt.alloc(), source).is_ok();
+    tell(rt, "live_script::plain_text", done);
+}
+
+// A text, which ends with an LF, before its last line, and that line.
+fn cut(source: &[u8]) -> Option<(&[u8], &[u8])> {
+    let (_, lines) = source.split_last()?;
+    let at = lines.iter().rposition(|byte| *byte == b'\n')?;
+    let (before, rest) = lines.split_at(at);
+    let (_, line) = rest.split_first()?;
+    Some((before, line))
+}
+
+fn grow(rt: HostRuntime, before: &[u8], line: &[u8]) {
+    let made = GrowingScript::of(rt.alloc(), before);
+    tell(rt, "script_reader::GrowingScript::of", made.is_ok());
+    if let Ok(mut grown) = made {
+        push(rt, &mut grown, line);
+        drop(grown);
+    }
+}
+
+fn push(rt: HostRuntime, grown: &mut GrowingScript, line: &[u8]) {
+    if !line.contains(&b'\n') {
+        let done = grown.push(line).is_ok();
+        tell(rt, "script_reader::GrowingScript::push", done);
+    }
+}
+
+fn live(rt: HostRuntime, before: &[u8], line: &[u8]) {
+    let made = LiveScript::of(rt.alloc(), before);
+    tell(rt, "live_script::LiveScript::of", made.is_ok());
+    if let Ok(mut script) = made {
+        give(rt, &mut script, line);
+        drop(script);
+    }
+}
+
+fn give(rt: HostRuntime, script: &mut LiveScript, line: &[u8]) {
+    let done = script.ask(line).is_ok();
+    tell(rt, "live_script::LiveScript::ask", done);
+    let done = matches!(script.give(line, usize::MAX), Ok(told) if told.is_taken);
+    tell(rt, "live_script::LiveScript::give", done);
+}
