@@ -7,6 +7,7 @@ use tool_value_refusals::{Verdict, judged, mark};
 
 // A line that comes behind the script of four devices, and what the run prints of it.
 const LINE: &str = "new d 3 5 2024-01-01 x,y";
+
 const TOLD: &str = "8 made d:1 store\n";
 
 /// The verdict on a call. `None` where no call has that name, or where the script that is to grow can't be made.
