@@ -1,41 +1,15 @@
-//! Shows scripts of a photo collection to people: where each picture is once a script has run, its run as a chart, and what
-//! is wrong with a script that is refused. Its invariant: **what is shown comes from public calls of the libraries alone**, and
-//! what a part of a view gives is what its contract says of it, whatever view it stands in.
+//! Shows scripts of a photo collection to people: where each picture is once a script has run, its run as a chart or a page, and
+//! what is wrong with a script that is refused. Its invariant: **a status says what was shown**: the view that the words ask for,
+//! whole, which the libraries of views make; else nothing but why.
 #![tactic(auto)]
 
-mod chart;
-mod columns;
-mod current;
-mod drawing;
-mod escaping;
-mod events;
-mod filters;
-mod happenings;
 mod helps;
-mod json;
-mod layout;
-mod learning;
-mod lines;
-mod moves;
-mod names;
 mod orders;
-mod padding;
-mod page;
-mod page_text;
-mod playing;
-mod reasons;
 mod refusals;
 mod remarks;
-mod running;
 mod serve;
 mod source;
-mod standing;
 mod statuses;
-mod story;
-mod strife;
-mod style;
-mod table;
-mod whereabouts;
 mod words;
 
 use refusals::without_words;

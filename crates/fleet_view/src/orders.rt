@@ -2,9 +2,9 @@
 ghost use Rattle.std.specs.Prelude.{◌≡◌, ◌↔◌, true, IfOk};
 ghost use Rattle.photo_batcher.specs.Orders.{IsLawful};
 
-use crate::names::device_name;
 use photo_batcher::lawful;
 use photo_script::{Script, devices_of};
+use script_views::device_name;
 use std::alloc::{AllocError, Global};
 
 // What makes an order unlawful.

@@ -1,17 +1,15 @@
 //! What the program does, from the words to the exit status.
-use crate::chart::push_chart;
 use crate::orders::push_order;
-use crate::page::push_page;
 use crate::refusals::refused;
 use crate::remarks::push_remarks;
 use crate::source::{Unread, read_bytes};
 use crate::statuses::{BAD_SCRIPT, DONE, status_of};
-use crate::story::push_story;
-use crate::whereabouts::push_whereabouts;
 use crate::words::{Request, View, request_of};
 use fleet_steps::RunError;
 use photo_script::{Script, ScriptFault, read_script};
 use script_faults::fault_view;
+use script_pages::{push_chart, push_page};
+use script_views::{push_story, push_whereabouts};
 use std::alloc::{AllocError, Global};
 use std::convert::AsStr;
 use std::io::{self, Read, Write};

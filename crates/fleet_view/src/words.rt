@@ -1,9 +1,9 @@
 //! The words of the command line, and what they ask for.
-use crate::columns::Columns;
 use crate::helps::{CHART, FAULT, OVERVIEW, PAGE, STORY, WHERE};
-use crate::whereabouts::Wanted;
 use clap::error::ErrorKind;
 use clap::{Arg, ArgAction, ArgMatches, Command, value_parser};
+use script_pages::Columns;
+use script_views::Wanted;
 use std::alloc::{AllocError, Global};
 use std::convert::AsStr;
 

@@ -1,6 +1,6 @@
 //! Escaping of texts for XML.
 ghost use Rattle.std.specs.Prelude.{◌≡◌, option_map};
-ghost use Rattle.fleet_view.specs.Escapes.{escape_of};
+ghost use Rattle.script_pages.specs.Escapes.{escape_of};
 
 use std::alloc::AllocError;
 

@@ -4,11 +4,11 @@ ghost use Rattle.std.specs.Prelude.{◌≤◌, ◌<◌, length};
 use crate::columns::picture_of;
 use crate::drawing::{Drawing, Spot};
 use crate::filters::{AT_MARK, push_whole_filter, shown_filter};
-use crate::names::{device_name, push_version};
 use photo_device::Place;
 use photo_filter_rules::Filter;
 use photo_pull::PullCounts;
 use photo_script::{Command, Report, Script, devices_of};
+use script_views::{device_name, push_version};
 use std::alloc::AllocError;
 
 /// Draws the command of that number in a column, by the report on it and what it moved.

@@ -31,19 +31,26 @@ pub enum Happening {
 /// A command that has run on a fleet, and its devices as they were before it.
 #[derive(Drop)]
 pub struct Moment<'a> {
+    /// The script that has the command.
     pub script: &'a Script,
+    /// The fleet behind the command.
     pub fleet: &'a Fleet,
+    /// The command's number.
     pub number: u32,
+    /// The command.
     pub command: &'a Command,
-    /// Empty for a question.
+    /// Its devices before it, the source of a pull behind its target; empty for a question.
     pub before: &'a [Device],
 }
 
 /// A device before and after a command.
 #[derive(Drop)]
 pub struct Seen<'a> {
+    /// Its place in the script.
     pub device: u16,
+    /// As it was before.
     pub was: &'a Device,
+    /// As it is behind.
     pub is: &'a Device,
     /// The source as it was before, if this is the target of a pull.
     pub source: Option<&'a Device>,
@@ -54,10 +61,13 @@ pub struct Seen<'a> {
 /// What happened to a version of the log on a device.
 #[derive(Drop)]
 pub struct Happened<'a> {
+    /// The device's place in the script.
     pub device: u16,
     /// The version's place in the log.
     pub place: usize,
+    /// The version.
     pub held: &'a Held,
+    /// What happened to it.
     pub what: Happening,
 }
 

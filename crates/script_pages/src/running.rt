@@ -5,10 +5,10 @@ use crate::columns::Columned;
 use crate::drawing::Drawing;
 use crate::events::draw_command;
 use crate::layout::Layout;
-use crate::moves::push_moved;
 use crate::strife::{finish_strife, note_strife};
 use live_fleet::Fleet;
 use photo_script::{Command, Script, devices_of};
+use script_views::push_moved;
 use std::alloc::{AllocError, Global};
 
 /// Runs the script, and appends its drawing to a text.

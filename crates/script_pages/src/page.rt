@@ -4,9 +4,6 @@ ghost use Rattle.std.specs.Prelude.{◌≡◌, ◌≤◌, ◌<◌, ◌+◌, leng
 use crate::chart::{push_chart, push_places};
 use crate::columns::{Columns, picture_of};
 use crate::filters::push_quoted_filter;
-use crate::happenings::{
-    Happened, Happening, Moment, devices_before, first_seen, happenings_of, superseder,
-};
 use crate::json::push_quoted;
 use crate::learning::push_learning;
 use crate::page_text::{DEVICES, FOLLOWING, HEAD, MIDDLE, REPLAY};
@@ -14,6 +11,9 @@ use live_fleet::Fleet;
 use photo_device::{Device, Held, Place};
 use photo_script::{Command, Script, devices_of, report_text};
 use script_text::command_text;
+use script_views::{
+    Happened, Happening, Moment, devices_before, first_seen, happenings_of, superseder,
+};
 use std::alloc::{AllocError, Global};
 
 /// Appends the text of `page` to another: the script's run as HTML.

@@ -5,10 +5,10 @@ use crate::columns::{Band, Columned, Columns, columned_by, layout_of};
 use crate::escaping::push_escaped;
 use crate::filters::{AT_LEFT, push_whole_filter, shown_filter};
 use crate::layout::Layout;
-use crate::names::device_name;
 use crate::running::push_run;
 use crate::style::{LEGEND, STYLE};
 use photo_script::Script;
+use script_views::device_name;
 use std::alloc::{AllocError, Global};
 use unicode_width::UnicodeWidthStr;
 

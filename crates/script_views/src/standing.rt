@@ -1,6 +1,6 @@
 //! How a device stands to a version of a picture.
 ghost use Rattle.std.specs.Prelude.{◌≡◌};
-ghost use Rattle.fleet_view.specs.Standings.{standing_of};
+ghost use Rattle.script_views.specs.Standings.{standing_of};
 
 use photo_device::Device;
 use photo_record::PicNo;

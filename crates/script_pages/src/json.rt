@@ -1,6 +1,6 @@
 //! Escaping of texts for JSON within HTML.
 ghost use Rattle.std.specs.Prelude.{◌≡◌, option_map};
-ghost use Rattle.fleet_view.specs.Escapes.{json_escape_of};
+ghost use Rattle.script_pages.specs.Escapes.{json_escape_of};
 
 use std::alloc::AllocError;
 

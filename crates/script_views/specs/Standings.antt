@@ -4,8 +4,8 @@ use Rattle.photo_version.specs.Version.{Version}
 use Rattle.item_knowledge.specs.Fragments.{knows}
 use Rattle.photo_device.specs.Device.{Kept}
 use Rattle.photo_device.specs.Held.{has_version_of}
-use Rattle.fleet_view.specs.declared.standing.Standing.{Standing}
-use Rattle.fleet_view.specs.declared.standing.Standing.TheVariants.{Stored, Waiting, Known, Unheard}
+use Rattle.script_views.specs.declared.standing.Standing.{Standing}
+use Rattle.script_views.specs.declared.standing.Standing.TheVariants.{Stored, Waiting, Known, Unheard}
 
 -- held in the store, else in the out, else known, else never heard of
 abbrev pub standing_of : Kept → ℕ → Version → Standing

@@ -2,11 +2,10 @@
 ghost use Rattle.std.specs.Prelude.{◌≤◌, ◌<◌, length};
 
 use crate::drawing::{Drawing, Spot};
-use crate::happenings::is_change;
-use crate::names::{device_name, push_version};
 use live_fleet::Fleet;
 use photo_device::{Conflict, Device};
 use photo_script::{Script, devices_of};
+use script_views::{device_name, is_change, push_version};
 use std::alloc::AllocError;
 
 /// A device's conflicts: since which column it has some, and of how many pictures.
