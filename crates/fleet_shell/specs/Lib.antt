@@ -1,0 +1,4 @@
+pub mod Statuses
+pub mod Lines
+pub mod Kinds
+pub mod Answers
