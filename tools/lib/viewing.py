@@ -1,5 +1,7 @@
-"""What the checks of `fleet_view` share: a counter, runs of a program, and scripts that are drawn."""
+"""What the checks of `fleet_view` and `fleet_shell` share: a counter, runs of a program, and scripts that are drawn."""
+import os
 import subprocess
+import sys
 
 import measuring
 
@@ -26,6 +28,27 @@ def output(program, *words, status=0):
     """Returns what the program writes; nothing where it ends with another status."""
     run = subprocess.run([*program, *words], capture_output=True)
     return run.stdout.decode() if run.returncode == status else None
+
+
+def proved(crate):
+    """Returns the built program of a crate, which is proved first where it has to be."""
+    if subprocess.run([f"{TOP}/tools/build/build-program", crate]).returncode:
+        print("0 passed, 1 failed")
+        sys.exit(1)
+    return [f"{TOP}/crates/{crate}/out/{crate}"]
+
+
+def refused(program, library, number, words, given=b""):
+    """Runs the program with its allocation of that number refused. Returns its status, output, errors, and whether one was."""
+    read, write = os.pipe()
+    os.dup2(write, 9)
+    os.close(write)
+    environment = {**os.environ, "REFUSE": str(number), "LD_PRELOAD": library}
+    run = subprocess.run([*program, *words], capture_output=True, env=environment, pass_fds=(9,), input=given)
+    os.close(9)
+    with os.fdopen(read) as file:
+        marks = file.read().split("\n")
+    return run.returncode, run.stdout, run.stderr, "refused" in marks, [mark for mark in marks if mark.startswith("blocks ")]
 
 
 def written(path, text):

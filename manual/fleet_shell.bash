@@ -1,0 +1,2 @@
+# Completion of fleet_shell for bash.
+complete -o filenames -o default -W '-h --help' fleet_shell
