@@ -1,1 +1,3 @@
+mod Behind
 mod FirstFields
+mod Returns

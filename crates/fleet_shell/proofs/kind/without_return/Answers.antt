@@ -1,6 +1,6 @@
 use Rattle.std.proofs.Common.{ap, ◌∙◌, lit<}
 use Rattle.std.proofs.lemmas.Str.Pattern.{strip_suffix_char}
-use Rattle.script_reader.proofs.Returns.{strip-from_suffix}
+use Rattle.fleet_shell.proofs.Returns.{strip-from_suffix}
 use Rattle.fleet_shell.proofs.kind.without_return.Goals as goal
 
 pub returns : goal.returns
