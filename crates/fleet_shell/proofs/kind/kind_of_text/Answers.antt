@@ -10,10 +10,10 @@ use Rattle.fleet_shell.proofs.kind.kind_of_text.Goals as goal
 
 pub returns-then-not-is_empty : goal.returns-then-not-is_empty
 returns-then-not-is_empty c =
+    let filled : is_not_empty c.in-Some.piece.now ≡ true = search rules in
     let road = YieldsList-from_str_split 32 c.args.text.now (lit< tt) (cc) (cc) (cc) in
     let turn = YieldsList-turn road c.loop-piece.yielded _ c.loop-piece.yielded_by _ _ c.in-Some.piece c.in-Some.is c.next.ensures.steps in
     let front = YieldsList-so_far road c.loop-piece.yielded _ c.loop-piece.yielded_by in
-    let filled : is_not_empty c.in-Some.piece.now ≡ true = search rules in
     c.kind_of_word.ensures
     ∙ sym (first_field (slice_split (λ b. b == 32) c.args.text.now) (length c.loop-piece.yielded) c.in-Some.piece.now (ap (filter is_not_empty) (sym front) ∙ c.loop-piece.invariant) turn.0 turn.1 filled)
 
