@@ -1,4 +1,3 @@
-pub mod Statuses
 pub mod Lines
 pub mod Kinds
 pub mod Answers

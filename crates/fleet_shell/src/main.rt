@@ -9,21 +9,18 @@ mod kind;
 mod lines;
 mod opening;
 mod own;
-mod refusals;
 mod serve;
-mod source;
-mod statuses;
 mod talk;
 mod words;
 
 use input::Input;
-use refusals::without_words;
+use script_programs::{without_memory, without_words};
 use serve::serve;
-use statuses::without_memory;
 use std::alloc::Global;
 use std::env;
 use std::io::{self, BufWriter, IsTerminal, Write};
 use std::process::ExitCode;
+use words::command_line;
 
 fn main(rt: HostRuntime) -> ExitCode {
     ExitCode::from(status(&rt))
@@ -34,7 +31,10 @@ fn status(rt: &HostRuntime) -> u8 {
     let mut err = rt.stderr();
     match given_words(rt, rt.alloc()) {
         Ok(words) => answered(rt, &words, &mut err),
-        Err(error) => without_words(rt.alloc(), error.kind(), &mut err),
+        Err(error) => {
+            let command = command_line(rt.alloc());
+            without_words(rt.alloc(), error.kind(), command, &mut err)
+        }
     }
 }
 

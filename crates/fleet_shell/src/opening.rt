@@ -1,8 +1,8 @@
 //! The lines of a file, before the talk begins.
 use crate::lines::Lines;
-use crate::source::{Unread, read_bytes};
 use fleet_steps::RunError;
 use live_script::{Refusal, plain_text};
+use script_programs::{Unread, read_file};
 use std::alloc::Global;
 use std::io::{self, Write};
 use std::rt::Files;
@@ -26,7 +26,7 @@ pub fn opened<F: Files, W: Write>(
     let Some(file) = file else {
         return Ok(Lines::none());
     };
-    match read_bytes(files, alloc, file) {
+    match read_file(files, alloc, file) {
         Ok(bytes) => match told_lines(alloc, &bytes, out) {
             Ok(lines) => Ok(lines),
             Err(error) => Err(Closed::Run(error)),

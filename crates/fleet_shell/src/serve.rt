@@ -1,12 +1,11 @@
 //! What the program does, from the words to the exit status.
 use crate::input::Input;
 use crate::opening::{Closed, opened};
-use crate::refusals::refused;
-use crate::statuses::{BAD_SCRIPT, status_of};
 use crate::talk::{Broken, talk};
 use crate::words::file_of;
 use fleet_steps::RunError;
 use photo_script::ScriptFault;
+use script_programs::{BAD_SCRIPT, refused, status_of};
 use std::alloc::Global;
 use std::convert::AsStr;
 use std::io::{self, Read, Write};

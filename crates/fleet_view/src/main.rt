@@ -5,20 +5,17 @@
 
 mod helps;
 mod orders;
-mod refusals;
 mod remarks;
 mod serve;
-mod source;
-mod statuses;
 mod words;
 
-use refusals::without_words;
+use script_programs::{without_memory, without_words};
 use serve::serve;
-use statuses::without_memory;
 use std::alloc::Global;
 use std::env;
 use std::io::{self, BufWriter, Write};
 use std::process::ExitCode;
+use words::command_line;
 
 fn main(rt: HostRuntime) -> ExitCode {
     ExitCode::from(status(&rt))
@@ -29,7 +26,10 @@ fn status(rt: &HostRuntime) -> u8 {
     let mut err = rt.stderr();
     match given_words(rt, rt.alloc()) {
         Ok(words) => answer(rt, &words, &mut err),
-        Err(error) => without_words(rt.alloc(), error.kind(), &mut err),
+        Err(error) => {
+            let command = command_line(rt.alloc());
+            without_words(rt.alloc(), error.kind(), command, &mut err)
+        }
     }
 }
 

@@ -1,14 +1,12 @@
 //! What the program does, from the words to the exit status.
 use crate::orders::push_order;
-use crate::refusals::refused;
 use crate::remarks::push_remarks;
-use crate::source::{Unread, read_bytes};
-use crate::statuses::{BAD_SCRIPT, DONE, status_of};
 use crate::words::{Request, View, request_of};
 use fleet_steps::RunError;
 use photo_script::{Script, ScriptFault, read_script};
 use script_faults::fault_view;
 use script_pages::{push_chart, push_page};
+use script_programs::{BAD_SCRIPT, DONE, Unread, read_file, read_input, refused, status_of};
 use script_views::{push_story, push_whereabouts};
 use std::alloc::{AllocError, Global};
 use std::convert::AsStr;
@@ -33,7 +31,11 @@ pub fn serve<S: AsStr, R: Files, I: Read, W: Write, E: Write>(
 ) -> u8 {
     match request_of(alloc, words) {
         Ok(request) => {
-            let source = read_bytes(rt, alloc, request.file, input);
+            let source = if request.file == "-" {
+                read_input(alloc, input)
+            } else {
+                read_file(rt, alloc, request.file)
+            };
             answer(alloc, &request, &source, out, err)
         }
         Err(refusal) => refused(alloc, &refusal, out, err),

@@ -1,6 +1,6 @@
 //! The exit statuses, and what is told beside them: those of `photofleet`.
 ghost use Rattle.std.specs.Prelude.{◌≡◌};
-ghost use Rattle.fleet_view.specs.Statuses.{status_of};
+ghost use Rattle.script_programs.specs.Statuses.{status_of};
 
 use fleet_steps::RunError;
 use std::io::Write;

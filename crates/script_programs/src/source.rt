@@ -1,4 +1,4 @@
-//! The bytes of the files that the command line names; `-` is standard input.
+//! The bytes of a file or of another input.
 use photo_script::{MAX_TEXT_BYTES, ScriptFault};
 use std::alloc::Global;
 use std::fs;
@@ -14,23 +14,16 @@ pub enum Unread {
     Script(ScriptFault),
 }
 
-/// The bytes of a file, or of standard input, which are no more than a script may have.
-pub fn read_bytes<R: Files, I: Read>(
-    rt: &R,
-    alloc: Global,
-    file: &str,
-    input: &mut I,
-) -> Result<Vec<u8>, Unread> {
-    if file == "-" {
-        return bytes_of(alloc, input);
-    }
-    match fs::open(rt, file) {
-        Ok(mut source) => bytes_of(alloc, &mut source),
+/// The bytes of a file. They are no more than a script may have.
+pub fn read_file<F: Files>(files: &F, alloc: Global, file: &str) -> Result<Vec<u8>, Unread> {
+    match fs::open(files, file) {
+        Ok(mut source) => read_input(alloc, &mut source),
         Err(error) => Err(Unread::System(error)),
     }
 }
 
-fn bytes_of<R: Read>(alloc: Global, reader: &mut R) -> Result<Vec<u8>, Unread> {
+/// The bytes of an input, up to its end. They are no more than a script may have.
+pub fn read_input<R: Read>(alloc: Global, reader: &mut R) -> Result<Vec<u8>, Unread> {
     let mut bytes = Vec::new(alloc);
     let mut piece = [0u8; 4096];
     while bytes.len() <= MAX_TEXT_BYTES {

@@ -3,7 +3,7 @@ use Rattle.std.specs.Prelude.{ℕ, Result, Ok, Err}
 use Rattle.fleet_steps.specs.declared.fault.RunError.{RunError}
 use Rattle.fleet_steps.specs.declared.fault.RunError.TheVariants.{NoMemory, NoWorker, NotLawful, Script, Write}
 
--- of what a talk came to
+-- of what was done
 abbrev pub status_of : {A : Type 0} → Result A RunError → ℕ
 status_of (Ok done) = 0
 status_of (Err (Script fault)) = 3

@@ -1,5 +1,5 @@
 use Rattle.std.proofs.Common.{◌≡◌, ◌-◌, length, vec_len}
-use Rattle.fleet_shell.proofs.source.bytes_of.Given as goal
+use Rattle.script_programs.proofs.source.read_input.Given as goal
 
 abbrev pub invariant-loop-piece : goal.invariant-loop-piece
 invariant-loop-piece g l = length l.piece ≡ 4096

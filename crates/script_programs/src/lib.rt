@@ -1,0 +1,11 @@
+//! What the programs share that show scripts and talk of them: the bytes of a file, exit statuses, and the answers to words that
+//! ask for nothing. Its invariant: **a status is that of what was done**, as `photofleet` gives it.
+#![tactic(auto)]
+
+mod refusals;
+mod source;
+mod statuses;
+
+pub use refusals::{refused, without_words};
+pub use source::{Unread, read_file, read_input};
+pub use statuses::{BAD_SCRIPT, BAD_WORDS, DONE, status_of, without_memory};
