@@ -280,6 +280,7 @@ def check_pages(counter, program, fleet, work):
         counter.tell(f"the page of {name} has data", data is not None)
         if data is not None:
             check_data(counter, name, traced, data)
+            counter.tell(f"the title of the page of {name}", data["name"] == script)
             if browser:
                 check_opened(counter, browser, name, traced, viewing.written(f"{work}/paged.html", page))
     check_words(counter, program, fleet, work, browser)

@@ -72,7 +72,7 @@ fn perform<W: Write>(
 ) -> Result<u8, RunError> {
     let mut text = String::new(alloc);
     let status = match source {
-        Ok(bytes) => push_answer(alloc, &mut text, bytes, &request.view)?,
+        Ok(bytes) => push_answer(alloc, &mut text, bytes, request)?,
         Err(Unread::Script(fault)) => push_fault(alloc, &mut text, &[], *fault, &request.view)?,
         Err(Unread::System(reason)) => push_unread(&mut text, request, reason)?,
     };
@@ -104,11 +104,11 @@ fn push_answer(
     alloc: Global,
     text: &mut String,
     bytes: &[u8],
-    view: &View,
+    request: &Request<'_>,
 ) -> Result<u8, RunError> {
     match read_script(alloc, bytes) {
-        Ok(script) => push_view(alloc, text, bytes, &script, view),
-        Err(fault) => push_fault(alloc, text, bytes, fault, view),
+        Ok(script) => push_view(alloc, text, bytes, &script, request),
+        Err(fault) => push_fault(alloc, text, bytes, fault, &request.view),
     }
 }
 
@@ -117,12 +117,12 @@ fn push_view(
     text: &mut String,
     bytes: &[u8],
     script: &Script,
-    view: &View,
+    request: &Request<'_>,
 ) -> Result<u8, RunError> {
-    let pushed = match view {
+    let pushed = match &request.view {
         View::Where(asked) => push_whereabouts(alloc, text, script, asked),
         View::Story(picture) => push_story(alloc, text, script, *picture),
-        View::Page => push_page(alloc, text, script),
+        View::Page => push_page(alloc, text, script, request.name()),
         View::Chart(columns) => push_chart(alloc, text, script, *columns),
         View::Fault(order) => return push_no_fault(alloc, text, bytes, script, order),
     };

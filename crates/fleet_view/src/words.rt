@@ -14,6 +14,17 @@ pub struct Request<'a> {
     pub view: View,
 }
 
+impl Request<'_> {
+    /// What the script is called.
+    pub fn name(&self) -> &str {
+        if self.file == "-" {
+            "standard input"
+        } else {
+            self.file
+        }
+    }
+}
+
 /// What is shown of a script.
 #[derive(Drop)]
 pub enum View {

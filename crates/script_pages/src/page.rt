@@ -16,20 +16,32 @@ use script_views::{
 };
 use std::alloc::{AllocError, Global};
 
-/// Appends the text of `page` to another: the script's run as HTML.
-pub fn push_page(alloc: Global, text: &mut String, script: &Script) -> Result<(), AllocError> {
+/// Appends the text of `page` to another: the script's run as HTML. `name` is what the script is called in the page's title.
+pub fn push_page(
+    alloc: Global,
+    text: &mut String,
+    script: &Script,
+    name: &str,
+) -> Result<(), AllocError> {
     text.push_str(HEAD)?;
     push_chart(alloc, text, script, Columns::Commands)?;
     text.push_str(MIDDLE)?;
-    push_data(alloc, text, script)?;
+    push_data(alloc, text, script, name)?;
     text.push_str(REPLAY)?;
     text.push_str(DEVICES)?;
     text.push_str(FOLLOWING)
 }
 
-// The run as JSON: the devices, where their lanes and the commands' columns lie in the chart, the commands, and the versions.
-fn push_data(alloc: Global, text: &mut String, script: &Script) -> Result<(), AllocError> {
-    text.push_str("{\"devices\":[")?;
+// The run as JSON: its name, the devices, where their lanes and the commands' columns lie in the chart, the commands, and the versions.
+fn push_data(
+    alloc: Global,
+    text: &mut String,
+    script: &Script,
+    name: &str,
+) -> Result<(), AllocError> {
+    text.push_str("{\"name\":")?;
+    push_quoted(text, name)?;
+    text.push_str(",\n\"devices\":[")?;
     push_names(text, script)?;
     text.push_str("],\n\"filters\":[")?;
     push_filters(text, script)?;

@@ -232,7 +232,7 @@ function keyed(event) {
 
 function begin() {
   const style = element("style");
-  document.title = "A run of photofleet: " + run.devices.length + " devices, " + COMMANDS + " commands";
+  document.title = run.name + ": a run of " + run.devices.length + " devices, " + COMMANDS + " commands";
   style.id = "follow";
   document.head.append(style);
   byId("at").max = COMMANDS;
