@@ -48,7 +48,8 @@ function drawWhere() {
 function drawStory() {
   const story = byId("story"), isLost = story.contains(document.activeElement);
   story.replaceChildren();
-  byId("follow").textContent = followed === null ? "" : `main tr:not([data-picture="${followed}"]){opacity:.6}`;
+  const dim = followed === null ? "" : `main tr:not([data-picture="${followed}"]){opacity:.6}`;
+  if (byId("follow").textContent !== dim) byId("follow").textContent = dim;
   if (followed === null) return;
   const told = drawTold();
   story.append(element("h2", "", "Picture " + followed), told, drawWhere());
