@@ -118,9 +118,39 @@ fn two_become_the_star(alloc: Global) -> bool {
     }
 }
 
+// Learns the first version of one picture, and the second one of another.
+fn learns_in_turn(alloc: Global, knowledge: &mut Knowledge, first: u32, second: u32) -> bool
+    requires first { IsPicNo first }
+    requires second { IsPicNo second }
+{
+    learns(alloc, knowledge, first, 0, 1) && learns(alloc, knowledge, second, 0, 2)
+}
+
+// Whether two pictures, of which two knowledges know different versions, share a fragment in their union.
+fn joins_alike(alloc: Global, knowledge: &mut Knowledge) -> bool {
+    match Knowledge::new(alloc) {
+        Ok(mut other) => {
+            learns_in_turn(alloc, knowledge, 7, 9)
+                && learns_in_turn(alloc, &mut other, 9, 7)
+                && knowledge.fragments() == 3
+                && knowledge.learn_all(&other).is_ok()
+                && knowledge.fragments() == 2
+        }
+        Err(_) => false,
+    }
+}
+
+fn two_come_to_be_alike(alloc: Global) -> bool {
+    match Knowledge::new(alloc) {
+        Ok(mut knowledge) => joins_alike(alloc, &mut knowledge),
+        Err(_) => false,
+    }
+}
+
 #[test]
 fn pictures_known_alike_are_one_fragment(rt: HostRuntime) {
     assert!(rt; two_become_the_star(rt.alloc()));
+    assert!(rt; two_come_to_be_alike(rt.alloc()));
 }
 
 // Learns as many versions of a device as its number of each of the pictures 1 to 20.
