@@ -13,21 +13,21 @@ fn example_two_devices(alloc: Global) -> Option<Session> {
     Session::new(alloc, &[all.try_clone().ok()?, all]).ok()
 }
 
-fn both_edit(alloc: Global, fleet: &mut Session) -> Option<u64> {
+fn both_edit(alloc: Global, session: &mut Session) -> Option<u64> {
     let (rating, day) = (Rating::new(4)?, Day::read("2024-05-01")?);
     let words = Words::read(alloc, "sea,sunset").ok()?;
     let (picture, record) = (PicNo::new(7)?, Record::Picture { rating, day, words });
-    fleet.make(0, picture, &record).ok()?;
-    fleet.pull(1, 0).ok()?;
-    fleet.edit(0, picture, &record).ok()?;
-    fleet.edit(1, picture, &record).ok()?;
-    Some(fleet.pull(0, 1).ok()?.taken)
+    session.make(0, picture, &record).ok()?;
+    session.pull(1, 0).ok()?;
+    session.edit(0, picture, &record).ok()?;
+    session.edit(1, picture, &record).ok()?;
+    Some(session.pull(0, 1).ok()?.taken)
 }
 
 fn main(rt: HostRuntime) -> io::Result<()> {
-    let Some(mut fleet) = example_two_devices(rt.alloc()) else {
+    let Some(mut session) = example_two_devices(rt.alloc()) else {
         return println!(rt; "memory was refused");
     };
-    let taken = both_edit(rt.alloc(), &mut fleet).unwrap_or(0);
+    let taken = both_edit(rt.alloc(), &mut session).unwrap_or(0);
     println!(rt; "the first device took {taken} version")
 }

@@ -118,20 +118,17 @@ fn two_become_the_star(alloc: Global) -> bool {
     }
 }
 
-// Learns the first version of one picture, and the second one of another.
-fn learns_in_turn(alloc: Global, knowledge: &mut Knowledge, first: u32, second: u32) -> bool
-    requires first { IsPicNo first }
-    requires second { IsPicNo second }
-{
-    learns(alloc, knowledge, first, 0, 1) && learns(alloc, knowledge, second, 0, 2)
+// Learns the first version of one device of picture 7, and that of another one of picture 9.
+fn learns_of_each(alloc: Global, knowledge: &mut Knowledge, first: u16, second: u16) -> bool {
+    learns(alloc, knowledge, 7, first, 1) && learns(alloc, knowledge, 9, second, 1)
 }
 
 // Whether two pictures, of which two knowledges know different versions, share a fragment in their union.
 fn joins_alike(alloc: Global, knowledge: &mut Knowledge) -> bool {
     match Knowledge::new(alloc) {
         Ok(mut other) => {
-            learns_in_turn(alloc, knowledge, 7, 9)
-                && learns_in_turn(alloc, &mut other, 9, 7)
+            learns_of_each(alloc, knowledge, 0, 1)
+                && learns_of_each(alloc, &mut other, 1, 0)
                 && knowledge.fragments() == 3
                 && knowledge.learn_all(&other).is_ok()
                 && knowledge.fragments() == 2
