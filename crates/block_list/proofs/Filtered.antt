@@ -1,5 +1,5 @@
 -- Blocks of which the elements that pass a test are kept.
-use Rattle.std.proofs.Common.{◌≡◌, ℕ, suc, ◌+◌, ◌<◌, ◌≤◌, Bool, not, eqb, List, [], ◌∷◌, ◌++◌, length, get_or, set, take, drop, Vec, refl, sym, ap, ◌∙◌, length-append, arith}
+use Rattle.std.proofs.Common.{◌≡◌, ℕ, suc, ◌+◌, ◌<◌, Bool, not, eqb, List, [], ◌∷◌, ◌++◌, length, get_or, set, take, drop, Vec, refl, sym, ap, ◌∙◌, length-append, arith}
 use Rattle.std.specs.Prelude.{filter}
 use Rattle.std.specs.declared.alloc.Global.{Global}
 use Rattle.std.proofs.lemmas.List.Elements.{filter-append}
@@ -28,9 +28,6 @@ module _ {T : Type 0} where
   pub length_set_block : (blocks : List (Vec T Global)) (b : ℕ) (v d : Vec T Global) → b < length blocks → d ≡ get_or blocks b d → length (joined (set blocks b v)) + length d.items ≡ length (joined blocks) + length v.items
   length_set_block blocks b v d h is =
       rw (joined_set blocks b v h, parts blocks b d h is) (simp length-append (omega arith))
-
-  pub part_within : (blocks : List (Vec T Global)) (b : ℕ) (d : Vec T Global) → b < length blocks → d ≡ get_or blocks b d → length d.items ≤ length (joined blocks)
-  part_within blocks b d h is = omega (arith, length_set_block blocks b d d h is, ap length (parts blocks b d h is), length-append (joined (take b blocks)) (d.items ++ joined (drop (suc b) blocks)), length-append d.items (joined (drop (suc b) blocks)))
 
   -- without the empty blocks
 

@@ -3,22 +3,18 @@ use Rattle.std.proofs.Common.{slice_get, Some, None, ◌≡◌, ℕ, zero, suc, 
 use Rattle.std.specs.List.{insert, remove}
 use Rattle.std.specs.declared.alloc.Global.{Global}
 use Rattle.std.proofs.lemmas.List.{set_split, set-get_or, length-take-le, take_at, drop_at, drop-drop, drop-set-lt, take_more_set, take-append-drop, take-append-le, drop-append-le, take_all}
-use Rattle.std.proofs.lemmas.List.Concat.{get_or-flat_map, flat_map-append}
+use Rattle.std.proofs.Math.Seq.{take-append-add, drop-append-add, take-append_seam, drop-append_seam}
+use Rattle.std.proofs.lemmas.List.Concat.{flat_map-append}
 use Rattle.std.proofs.lemmas.List.Folds.{length-flat_map-take}
 use Rattle.std.proofs.lemmas.Option.{slice_get-get_or, slice_get_past}
-use Rattle.std.proofs.lemmas.List.Elements.{All-take, All-drop, All-append, All-cons}
+use Rattle.std.proofs.lemmas.List.Elements.{All-set, All-take, All-drop, All-append, All-cons}
 use Rattle.std.proofs.lemmas.Grind.{common_steps}
 use Rattle.block_list.specs.Blocks.{joined, IsFilled, AreFilled, start_of, IsAt}
 
 -- the elements of the middle list from k up to before j are replaced, which are those from i up to before m of the whole
 spliced : {T : Type 0} (front items back new : List T) (i m k j : ℕ) → length front + k ≡ i → length front + j ≡ m → k ≤ j → j ≤ length items → front ++ ((take k items ++ (new ++ drop j items)) ++ back) ≡ take i (front ++ (items ++ back)) ++ (new ++ drop m (front ++ (items ++ back)))
-spliced [] items back new i m k j from to order within =
-    let i_is : i ≡ k = omega arith in
-    let m_is : m ≡ j = omega arith in
-    rw (i_is, m_is, take-append-le k items back (omega arith), drop-append-le j items back within, append_assoc (take k items) (new ++ drop j items) back, append_assoc new (drop j items) back) refl
-spliced (x ∷ front) items back new zero m k j from to order within = absurd (omega arith)
-spliced (x ∷ front) items back new (suc i) zero k j from to order within = absurd (omega arith)
-spliced (x ∷ front) items back new (suc i) (suc m) k j from to order within = ap (λ l. x ∷ l) (spliced front items back new i m k j (omega arith) (omega arith) order within)
+spliced front items back new i m k j from to order within =
+    rw (← from, ← to, take-append-add front (items ++ back) k, drop-append-add front (items ++ back) j, take-append-le k items back (omega arith), drop-append-le j items back within) (simp append_assoc)
 
 -- from a list out of which the elements from `from` up to before `at` are gone, r more go
 pub removed_more : {T : Type 0} (xs : List T) (from at r n : ℕ) → from ≤ length xs → n ≡ at + r → take from (take from xs ++ drop at xs) ++ drop (from + r) (take from xs ++ drop at xs) ≡ take from xs ++ drop n xs
@@ -66,16 +62,23 @@ module _ {T : Type 0} where
   pub joined_first : (blocks : List (Vec T Global)) (b : ℕ) (x : T) (v d : Vec T Global) → d ≡ get_or blocks b d → v.items ≡ x ∷ d.items → b < length blocks → joined (set blocks b v) ≡ insert (joined blocks) (start_of blocks b) x
   joined_first blocks b x v d is e h = joined_insert blocks b 0 (start_of blocks b) x v d is e h (omega arith) (omega arith)
 
-  -- what stands at a place is within the list
-  pub at_within : (blocks : List (Vec T Global)) (b k n : ℕ) → IsAt blocks b k n → start_of blocks b + (k + n) ≤ length (joined blocks)
-  at_within [] b k n at = let inside = at.block in absurd (omega arith)
-  at_within (d ∷ ds) b k n at = let within = at.within d in omega (arith, length-flat_map-take (λ block. block.items) (d ∷ ds) b d at.block)
+  -- blocks that are filled stay so
+
+  pub filled_insert : (blocks : List (Vec T Global)) (b : ℕ) (v : Vec T Global) → 0 < length v.items → AreFilled blocks → AreFilled (insert blocks b v)
+  filled_insert blocks b v n f = All-append IsFilled _ _ (All-take IsFilled b blocks f) (All-cons IsFilled v _ n (All-drop IsFilled b blocks f))
+
+  pub filled_cut : (blocks : List (Vec T Global)) (b : ℕ) (v w : Vec T Global) → 0 < length v.items → 0 < length w.items → AreFilled blocks → AreFilled (insert (set blocks b v) (b + 1) w)
+  filled_cut blocks b v w front back filled = filled_insert _ _ _ back (All-set IsFilled _ _ _ front filled)
+
+  -- one block further
+  pub start_more : (blocks : List (Vec T Global)) (b : ℕ) (d : Vec T Global) → b < length blocks → (start_of blocks (b + 1) ≡ start_of blocks b + length (get_or blocks b d).items) × (start_of blocks b + length (get_or blocks b d).items ≤ length (joined blocks))
+  start_more blocks b d h = (grind (arith, common_steps), length-flat_map-take (λ block. block.items) blocks b d h)
 
   pub joined_write : (blocks : List (Vec T Global)) (b k : ℕ) (x : T) (v d : Vec T Global) → IsAt blocks b k 1 → d ≡ get_or blocks b d → v.items ≡ set d.items k x → joined (set blocks b v) ≡ set (joined blocks) (start_of blocks b + k) x
   joined_write blocks b k x v d at is e =
       let inside : k < length d.items = omega (arith, at_read blocks b k 1 d at is) in
       edited blocks (start_of blocks b + k) (suc (start_of blocks b + k)) b k (suc k) (x ∷ []) v d at.block (omega arith) inside refl (omega arith) is (e ∙ set_split d.items k x inside)
-      ∙ sym (set_split (joined blocks) (start_of blocks b + k) x (omega (arith, at_within blocks b k 1 at)))
+      ∙ sym (set_split (joined blocks) (start_of blocks b + k) x (omega (arith, ap (λ (w : Vec T Global). length w.items) is, (start_more blocks b d at.block).1)))
 
   -- the list is cut behind a block that is replaced
 
@@ -87,11 +90,7 @@ module _ {T : Type 0} where
 
   pub joined_cut : (blocks : List (Vec T Global)) (b : ℕ) (v w d : Vec T Global) → b < length blocks → d ≡ get_or blocks b d → v.items ++ w.items ≡ d.items → joined (insert (set blocks b v) (b + 1) w) ≡ joined blocks
   joined_cut blocks b v w d h is e =
-      flat_map-append (λ block. block.items) (take (b + 1) (set blocks b v)) (w ∷ drop (b + 1) (set blocks b v))
-      ∙ (λ i. up_to blocks b v h i ++ (w.items ++ joined (behind blocks b v i)))
-      ∙ append_assoc (joined (take b blocks)) v.items (w.items ++ joined (drop (suc b) blocks))
-      ∙ ap (λ l. joined (take b blocks) ++ l) (sym (append_assoc v.items w.items (joined (drop (suc b) blocks))) ∙ ap (λ l. l ++ joined (drop (suc b) blocks)) e)
-      ∙ sym (parts blocks b d h is)
+      rw (flat_map-append (λ block. block.items) (take (b + 1) (set blocks b v)) (w ∷ drop (b + 1) (set blocks b v)), up_to blocks b v h, behind blocks b v, parts blocks b d h is, ← e) (simp append_assoc)
 
   -- without an empty block
   pub joined_remove : (blocks : List (Vec T Global)) (b : ℕ) (d : Vec T Global) → b < length blocks → (get_or blocks b d).items ≡ [] → joined (remove blocks b) ≡ joined blocks
@@ -99,30 +98,19 @@ module _ {T : Type 0} where
   joined_remove (x ∷ xs) zero d h e = ap (λ l. l ++ joined xs) (sym e)
   joined_remove (x ∷ xs) (suc b) d h e = ap (λ l. x.items ++ l) (joined_remove xs b d (omega arith) e)
 
-  -- blocks that are filled stay so
-
-  pub filled_insert : (blocks : List (Vec T Global)) (b : ℕ) (v : Vec T Global) → 0 < length v.items → AreFilled blocks → AreFilled (insert blocks b v)
-  filled_insert blocks b v n f = All-append IsFilled _ _ (All-take IsFilled b blocks f) (All-cons IsFilled v _ n (All-drop IsFilled b blocks f))
-
-  -- one block further
-  pub start_more : (blocks : List (Vec T Global)) (b : ℕ) (d : Vec T Global) → b < length blocks → (start_of blocks (b + 1) ≡ start_of blocks b + length (get_or blocks b d).items) × (start_of blocks b + length (get_or blocks b d).items ≤ length (joined blocks))
-  start_more blocks b d h = (grind (arith, common_steps), length-flat_map-take (λ block. block.items) blocks b d h)
-
   -- a read within a block
-  pub block_read : (blocks : List (Vec T Global)) (b k : ℕ) (v : Vec T Global) → b < length blocks → k < length (get_or blocks b v).items → slice_get (joined blocks) (start_of blocks b + k) ≡ slice_get (get_or blocks b v).items k
-  block_read blocks b k v h l = by (get_or blocks b v).items refl
-    where
-      by : (items : List T) → items ≡ (get_or blocks b v).items → slice_get (joined blocks) (start_of blocks b + k) ≡ slice_get (get_or blocks b v).items k
-      by [] e = absurd (omega (arith, ap length e))
-      by (x ∷ rest) e =
-          slice_get-get_or (joined blocks) (start_of blocks b + k) x (omega (arith, length-flat_map-take (λ block. block.items) blocks b v h))
-          ∙ ap Some (get_or-flat_map (λ block. block.items) blocks b k v x h l)
-          ∙ sym (slice_get-get_or (get_or blocks b v).items k x l)
+
+  sliced : (front items back : List T) (k : ℕ) → k < length items → slice_get (front ++ (items ++ back)) (length front + k) ≡ slice_get items k
+  sliced [] [] back k l = absurd (omega arith)
+  sliced [] (x ∷ items) back zero l = refl
+  sliced [] (x ∷ items) back (suc k) l = grind (arith, sliced [] items back k)
+  sliced (y ∷ front) items back k l = grind (arith, sliced front items back k l)
+
+  pub block_read : (blocks : List (Vec T Global)) (b k : ℕ) (v : Vec T Global) → b < length blocks → v ≡ get_or blocks b v → k < length v.items → slice_get (joined blocks) (start_of blocks b + k) ≡ slice_get v.items k
+  block_read blocks b k v h is l = ap (λ xs. slice_get xs (start_of blocks b + k)) (parts blocks b v h is) ∙ sliced (joined (take b blocks)) v.items (joined (drop (suc b) blocks)) k l
 
   pub read_at : (blocks : List (Vec T Global)) (b k : ℕ) (v : Vec T Global) (x : T) → b < length blocks → k < length v.items → v ≡ get_or blocks b v → x ≡ get_or v.items k x → slice_get (joined blocks) (start_of blocks b + k) ≡ Some x
-  read_at blocks b k v x h l read item =
-      let inner : k < length (get_or blocks b v).items = omega (arith, ap (λ (w : Vec T Global). length w.items) read) in
-      block_read blocks b k v h inner ∙ ap (λ (w : Vec T Global). slice_get w.items k) (sym read) ∙ slice_get-get_or v.items k x l ∙ ap Some (sym item)
+  read_at blocks b k v x h l is item = block_read blocks b k v h is l ∙ slice_get-get_or v.items k x l ∙ ap Some (sym item)
 
   -- behind the last element of a block
 
@@ -139,8 +127,7 @@ module _ {T : Type 0} where
 
   -- an element between two parts of a list
   insert_between : (front back : List T) (x : T) → front ++ x ∷ back ≡ insert (front ++ back) (length front) x
-  insert_between [] back x = refl
-  insert_between (y ∷ front) back x = ap (λ l. y ∷ l) (insert_between front back x)
+  insert_between front back x = rw (take-append_seam front back, drop-append_seam front back) refl
 
   -- a block of one element before another, or behind all
   pub joined_open : (blocks : List (Vec T Global)) (b : ℕ) (x : T) (w : Vec T Global) → w.items ≡ x ∷ [] → joined (insert blocks b w) ≡ insert (joined blocks) (start_of blocks b) x
@@ -155,10 +142,6 @@ module _ {T : Type 0} where
   joined_push_out blocks new b k x last v d at is e new_is =
       let front = joined (take b blocks) in
       let back = joined (drop (suc b) blocks) in
-      new_is
-      ∙ ap (λ l. insert (joined (set blocks b v)) (length l) last) (up_to blocks b v at.block)
-      ∙ ap (λ l. insert l (length (front ++ v.items)) last) (joined_set blocks b v at.block ∙ sym (append_assoc front v.items back))
-      ∙ sym (insert_between (front ++ v.items) back last)
-      ∙ append_assoc front v.items (last ∷ back)
-      ∙ ap (λ l. front ++ l) (sym (append_assoc v.items (last ∷ []) back) ∙ ap (λ l. l ++ back) e)
-      ∙ around blocks (start_of blocks b + k) (start_of blocks b + k) b k k (x ∷ []) d at.block (omega arith) (omega (arith, at_read blocks b k 0 d at is)) refl refl is
+      let i = start_of blocks b + k in
+      rw (new_is, up_to blocks b v at.block, joined_set blocks b v at.block, ← append_assoc front v.items back, ← insert_between (front ++ v.items) back last)
+      (simp append_assoc (ap (λ l. front ++ l) (sym (append_assoc v.items (last ∷ []) back) ∙ ap (λ l. l ++ back) e) ∙ around blocks i i b k k (x ∷ []) d at.block (omega arith) (omega (arith, at_read blocks b k 0 d at is)) refl refl is))

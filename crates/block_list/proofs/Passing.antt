@@ -13,9 +13,7 @@ use Rattle.block_list.proofs.Joined.{block_read}
 module _ {T : Type 0} where
   -- what was found in a block, in the list
   pub found_in_list : (p : T → Bool) (blocks : List (Vec T Global)) (b k : ℕ) (v : Vec T Global) (items : List T) → b < length blocks → v ≡ get_or blocks b v → items ≡ v.items → k < length items → passes p (slice_get items k) ≡ true → passes p (slice_get (joined blocks) (start_of blocks b + k)) ≡ true
-  found_in_list p blocks b k v items inside is items_is within there =
-      let same = ap (λ (w : Vec T Global). w.items) is in
-      ap (passes p) (block_read blocks b k v inside (omega (arith, ap length items_is, ap length same)) ∙ ap (λ l. slice_get l k) (sym same ∙ sym items_is)) ∙ there
+  found_in_list p blocks b k v items inside is items_is within there = ap (passes p) (block_read blocks b k v inside is (omega (arith, ap length items_is)) ∙ ap (λ l. slice_get l k) (sym items_is)) ∙ there
 
   -- in no block one passes
   pub none_in_blocks : (p : T → Bool) (blocks : List (Vec T Global)) → ((j : ℕ) (d : Vec T Global) → j < length blocks → list_any p (get_or blocks j d).items ≡ false) → list_any p (joined blocks) ≡ false

@@ -1,8 +1,17 @@
 //! The list in blocks: what contracts see of it, and its calls.
+ghost use Rattle.std.specs.Prelude.{◌≡◌, ◌<◌, ◌≤◌, ◌==◌, Bool, true, false, not, List, [], ◌∷◌, ◌++◌, length, take, drop, filter};
+ghost use Rattle.std.specs.Prelude.{slice_get, Some, IfOk, IfNone, IfSome, OnOk, OnErr};
+ghost use Rattle.std.specs.Option.{option_copied};
+ghost use Rattle.std.specs.List.{find, insert, list_any};
+ghost use Rattle.std.specs.List.Sorted.{IsPartitionedBy, IsPartitionPoint};
+ghost use Rattle.std.specs.Fn.{ComputesKey};
+ghost use Rattle.block_list.specs.Blocks.{joined, IsKept, IsReplaced};
+ghost use Rattle.block_list.specs.Taken.{IsTakenOut};
+
 use crate::blocks::{element_at, insert_at, insert_in, remove_some, set_in};
 use crate::kept::retain_in;
-use crate::search::{element_behind, first_failing, index_of, passing_from, spot_of};
-use crate::spare::{spare_blocks, spares_for};
+use crate::search::{element_behind, index_of, passes, spot_of};
+use crate::spare::spare_blocks;
 use crate::taken::{spot_passing, take_at};
 use crate::{Iter, Room, Roomy, Spot};
 use std::alloc::{AllocError, Global};
@@ -19,9 +28,6 @@ pub struct BlockList<T> {
 }
 
 impl<T> Model for BlockList<T> {
-    ghost use Rattle.std.specs.Prelude.{List};
-    ghost use Rattle.block_list.specs.Blocks.{joined, IsKept};
-
     ghost Value = { List T };
 
     ghost view = { λ l. joined l.blocks.items };
@@ -30,13 +36,6 @@ impl<T> Model for BlockList<T> {
 }
 
 impl<T> BlockList<T> {
-    ghost use Rattle.std.specs.Prelude.{◌≡◌, ◌<◌, ◌≤◌, ◌==◌, Bool, true, false, not, [], length, slice_get, Some};
-    ghost use Rattle.std.specs.Option.{option_copied};
-    ghost use Rattle.std.specs.List.{find};
-    ghost use Rattle.std.specs.List.Sorted.{IsPartitionedBy, IsPartitionPoint};
-    ghost use Rattle.std.specs.Fn.{ComputesKey};
-    ghost use Rattle.block_list.specs.Blocks.{joined};
-
     /// An empty list. Takes no memory.
     pub fn new(alloc: Global) -> BlockList<T>
         ensures { result ≡ [] }
@@ -98,7 +97,8 @@ impl<T> BlockList<T> {
     {
         // Reading `len` tells the proof that the list has fewer than 2 ^ 64 elements.
         let _len = self.len;
-        first_failing(&self.blocks, pred)
+        let (block, place) = spot_of(&self.blocks, pred);
+        index_of(&self.blocks, block, place)
     }
 
     /// The first element that fails the test. In the list, those that pass must stand before those that fail. Counts no blocks.
@@ -116,24 +116,14 @@ impl<T> BlockList<T> {
         ensures { (p : T → Bool) → ComputesKey P.FnMut p pred → IsPartitionedBy p self.now
             → option_copied result.0 ≡ find (λ y. not (p y)) self.now }
     {
-        if self.blocks.is_empty() {
-            return (None, Spot::start());
-        }
-        let (block, place) = spot_of(&self.blocks, pred);
-        let found = element_behind(&self.blocks, block, place);
+        let blocks = self.blocks.as_slice();
+        let (block, place) = spot_of(blocks, pred);
+        let found = element_behind(blocks, block, place);
         (found, Spot { block, place })
     }
 }
 
 impl<T: Drop> BlockList<T> {
-    ghost use Rattle.std.specs.Prelude.{◌≡◌, ◌<◌, ◌≤◌, ◌++◌, [], ◌∷◌};
-    ghost use Rattle.std.specs.Prelude.{Bool, true, false, length, take, drop, filter, IfOk, IfNone, IfSome, OnOk, OnErr};
-    ghost use Rattle.std.specs.List.{insert, list_any};
-    ghost use Rattle.std.specs.List.Sorted.{IsPartitionedBy};
-    ghost use Rattle.std.specs.Fn.{ComputesKey};
-    ghost use Rattle.block_list.specs.Blocks.{IsReplaced};
-    ghost use Rattle.block_list.specs.Taken.{IsTakenOut};
-
     /// Inserts an element before element `i`, or at the end.
     ///
     /// The only error is refused memory, also for a list of `usize::MAX` elements. It leaves the list as it was.
@@ -169,26 +159,27 @@ impl<T: Drop> BlockList<T> {
         ensures err { OnErr result (self.new ≡ self.old) }
     {
         if self.blocks.is_empty() {
-            self.insert(0, item)?;
-            return Ok(());
+            return self.insert(0, item);
         }
         let blocks = self.blocks.as_slice();
         let (block, place) = spot_of(blocks, before);
-        let Some(passing) = passing_from(blocks, block, place, &through) else {
-            let from = index_of(blocks, block, place);
-            let to = first_failing(blocks, through);
-            self.replace_range(from, to, item);
+        if !passes(element_behind(blocks, block, place), &through) {
+            if self.len == usize::MAX {
+                return Err(AllocError);
+            }
+            insert_in(&mut self.blocks, block, place, item)?;
+            self.len += 1;
             return Ok(());
-        };
-        if passing == 1 {
+        }
+        if place < blocks[block].len()
+            && !passes(element_behind(blocks, block, place + 1), &through)
+        {
             set_in(&mut self.blocks, block, place, item);
             return Ok(());
         }
-        if self.len == usize::MAX {
-            return Err(AllocError);
-        }
-        insert_in(&mut self.blocks, block, place, item)?;
-        self.len += 1;
+        let from = index_of(blocks, block, place);
+        let to = self.partition_point(through);
+        self.replace_range(from, to, item);
         Ok(())
     }
 
@@ -258,12 +249,10 @@ impl<T: Drop> BlockList<T> {
         ensures most { IfOk result (λ room. room.most ≡ length self.old) }
         ensures more { IfOk result (λ room. room.more ≡ more) }
     {
-        let Some(all) = self.len.checked_add(more) else {
-            return Err(AllocError);
-        };
+        let all = self.len.checked_add(more).ok_or(AllocError)?;
         let alloc = *self.blocks.allocator();
         let whole = Vec::with_capacity(alloc, all)?;
-        let spare = spare_blocks(alloc, spares_for(self.blocks.len(), more))?;
+        let spare = spare_blocks(alloc, self.blocks.len(), more)?;
         let _refused = self.blocks.reserve(spare.len()).is_err();
         Ok(Room {
             spare,
@@ -279,19 +268,12 @@ impl<T: Drop> BlockList<T> {
         ensures items { result.items ≡ self }
         ensures more { result.more ≡ room.more }
     {
-        let BlockList { blocks, len } = self;
-        let Room {
-            spare,
-            whole,
-            most: _,
-            more,
-        } = room;
         Roomy {
-            blocks,
-            spare,
-            whole,
-            len,
-            more,
+            blocks: self.blocks,
+            spare: room.spare,
+            whole: room.whole,
+            len: self.len,
+            more: room.more,
         }
     }
 }

@@ -4,6 +4,7 @@ ghost use Rattle.std.specs.declared.alloc.Global.{Global};
 ghost use Rattle.std.specs.List.{insert};
 ghost use Rattle.block_list.specs.Blocks.{joined, AreFilled, start_of, IsAt};
 
+use crate::placed::place_within;
 use std::alloc::AllocError;
 
 // A block of this length is cut in two after an insertion. An insertion moves the later elements of its block, and a cut moves
@@ -25,46 +26,26 @@ pub fn element_at<T>(blocks: &[Vec<T>], i: usize) -> (usize, usize)
     (block, place)
 }
 
-// The place before element `i`, or behind the last: its block, and the place in the block.
-fn place_of<T>(blocks: &[Vec<T>], i: usize) -> (usize, usize)
-    requires some { 0 < length blocks.now }
-    requires in_range { i ≤ length (joined blocks.now) }
-    ensures place { IsAt blocks.now result.0 result.1 0 }
-    ensures start { start_of blocks.now result.0 + result.1 ≡ i }
-{
-    if i == 0 {
-        return (0, 0);
-    }
-    let (block, place) = element_at(blocks, i - 1);
-    (block, place + 1)
-}
-
 // Cuts a block in two if it is long and memory allows it. The list stays the same.
 //
 // The cut is in the middle; but a list that grows at its end gets full blocks.
-fn cut_long<T>(blocks: &mut Vec<Vec<T>>, block: usize, inserted: usize)
+#[tactic(auto, using(std::proofs::lemmas::Grind::common_steps, crate::proofs::Joined::joined_cut, crate::proofs::Joined::filled_cut))]
+fn cut_long<T: Drop>(blocks: &mut Vec<Vec<T>>, block: usize, inserted: usize)
     requires filled { AreFilled blocks.old.items }
     requires in_range { block < length blocks.old.items }
     ensures same { joined blocks.new.items ≡ joined blocks.old.items }
     ensures filled { AreFilled blocks.new.items }
-    ensures no_fewer { length blocks.old.items ≤ length blocks.new.items }
 {
     let len = blocks[block].len();
-    if len < LONG {
+    if len < LONG || blocks.reserve(1).is_err() {
         return;
     }
     let at_end = block == blocks.len() - 1 && inserted == len - 1;
     let front = if at_end { len - 1 } else { len / 2 };
-    if blocks.reserve(1).is_err() {
-        return;
-    }
     let Ok(back) = blocks[block].split_off(front) else {
         return;
     };
-    match blocks.insert(block + 1, back) {
-        Ok(()) => {}
-        Err(_) => unreachable!(),
-    }
+    place_within(blocks, block + 1, back);
 }
 
 /// Inserts an element before element `i`, or at the end. An error leaves the list as it was.
@@ -81,9 +62,11 @@ pub fn insert_at<T: Drop>(blocks: &mut Vec<Vec<T>>, i: usize, item: T) -> Result
         blocks.push(block)?;
         return Ok(());
     }
-    let (block, place) = place_of(blocks, i);
-    insert_in(blocks, block, place, item)?;
-    Ok(())
+    if i == 0 {
+        return insert_in(blocks, 0, 0, item);
+    }
+    let (block, place) = element_at(blocks, i - 1);
+    insert_in(blocks, block, place + 1, item)
 }
 
 /// Inserts an element before a place in a block, or at the block's end. An error leaves the list as it was.

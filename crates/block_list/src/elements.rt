@@ -1,5 +1,5 @@
 //! Iteration over a list in blocks.
-ghost use Rattle.std.specs.Prelude.{◌≡◌, ◌++◌, [], length, Some, IfSome};
+ghost use Rattle.std.specs.Prelude.{◌≡◌, ◌++◌, List, [], length, Some, IfSome};
 ghost use Rattle.std.specs.Iterator.{YieldsFirstRef, UpTo, item_count};
 ghost use Rattle.std.specs.Iterator.SizeHint.{IsWithinCount};
 ghost use Rattle.block_list.specs.Blocks.{joined, AreFilled};
@@ -18,9 +18,6 @@ pub struct Iter<'a, T> {
 }
 
 impl<'a, T> Model for Iter<'a, T> {
-    ghost use Rattle.std.specs.Prelude.{◌≡◌, ◌++◌, List, length};
-    ghost use Rattle.block_list.specs.Blocks.{joined, AreFilled};
-
     ghost Value = { List T };
 
     ghost view = { λ it. it.block.now ++ joined it.blocks.now };

@@ -23,7 +23,7 @@ fn drop_empty<T: Drop>(blocks: &mut Vec<Vec<T>>)
 }
 
 /// Keeps the elements that pass the test. Returns how many it removes.
-#[tactic(auto, using(std::proofs::lemmas::Grind::common_steps, crate::proofs::Filtered::filter_set, crate::proofs::Filtered::passing_more, crate::proofs::Filtered::length_set_block, crate::proofs::Filtered::part_within))]
+#[tactic(auto, using(std::proofs::lemmas::Grind::common_steps, crate::proofs::Filtered::filter_set, crate::proofs::Filtered::passing_more, crate::proofs::Filtered::length_set_block, crate::proofs::Joined::start_more))]
 pub fn retain_in<T: Drop, P: Fn(&T) -> bool>(blocks: &mut Vec<Vec<T>>, pred: P) -> usize
     requires callable { P.IsAlwaysCallable pred }
     requires fits { length (joined blocks.old.items) < 2 ^ 64 }

@@ -1,25 +1,19 @@
 //! Insertions that take no memory.
-ghost use Rattle.std.specs.Prelude.{◌≡◌, ◌+◌, ◌<◌, ◌≤◌, Bool, [], ◌∷◌, ◌++◌, length, vec_len, vec_capacity};
+ghost use Rattle.std.specs.Prelude.{◌≡◌, ◌+◌, ◌<◌, ◌≤◌, [], ◌∷◌, ◌++◌, length, vec_len, vec_capacity};
 ghost use Rattle.std.specs.List.{insert, All};
-ghost use Rattle.std.specs.List.Sorted.{IsPartitionedBy};
-ghost use Rattle.std.specs.Fn.{ComputesKey};
-ghost use Rattle.block_list.specs.Blocks.{joined, AreFilled, start_of, IsAt, IsReplaced};
+ghost use Rattle.block_list.specs.Blocks.{joined, AreFilled, start_of, IsAt};
 ghost use Rattle.block_list.specs.Spares.{IsSpare};
 
-use crate::search::spot_of;
-use crate::spare::open_spare;
-
-// Inserts an element into a block that isn't full.
-fn place_within<T: Drop>(block: &mut Vec<T>, place: usize, item: T)
+/// Inserts an element into a block that isn't full.
+pub fn place_within<T: Drop>(block: &mut Vec<T>, place: usize, item: T)
     requires place { place ≤ length block.old.items }
     requires room { vec_len block.old < vec_capacity block.old }
     ensures items { block.new.items ≡ insert block.old.items place item }
     ensures capacity { vec_capacity block.old ≤ vec_capacity block.new }
 {
-    match block.insert(place, item) {
-        Ok(()) => {}
-        Err(_) => unreachable!(),
-    }
+    let Ok(()) = block.insert(place, item) else {
+        unreachable!()
+    };
 }
 
 // Inserts an element into a full block, and returns the block's last element, which gives way.
@@ -38,9 +32,14 @@ fn push_out<T: Drop>(block: &mut Vec<T>, place: usize, item: T) -> T
     last
 }
 
-// Inserts an element before those of a block, or behind all blocks: into that block, or into a spare block before it.
+/// Inserts an element before those of a block, or behind all blocks: into that block, or into a spare block before it.
 #[tactic(auto, using(crate::proofs::Joined::joined_first, crate::proofs::Joined::joined_open, crate::proofs::Joined::filled_insert))]
-fn place_first<T: Drop>(blocks: &mut Vec<Vec<T>>, spare: &mut Vec<Vec<T>>, block: usize, item: T)
+pub fn place_first<T: Drop>(
+    blocks: &mut Vec<Vec<T>>,
+    spare: &mut Vec<Vec<T>>,
+    block: usize,
+    item: T,
+)
     requires in_range { block ≤ length blocks.old.items }
     requires filled { AreFilled blocks.old.items }
     requires places { vec_len blocks.old < vec_capacity blocks.old }
@@ -55,16 +54,16 @@ fn place_first<T: Drop>(blocks: &mut Vec<Vec<T>>, spare: &mut Vec<Vec<T>>, block
         place_within(&mut blocks[block], 0, item);
         return;
     }
-    let opened = open_spare(spare, item);
-    match blocks.insert(block, opened) {
-        Ok(()) => {}
-        Err(_) => unreachable!(),
-    }
+    let Some(mut opened) = spare.pop() else {
+        unreachable!()
+    };
+    opened.push_reserved(item);
+    place_within(blocks, block, opened);
 }
 
-// Inserts an element before a place in a block, or at the block's end. The last element of a full block gives way.
+/// Inserts an element before a place in a block, or at the block's end. The last element of a full block gives way.
 #[tactic(auto, using(crate::proofs::Joined::joined_insert, crate::proofs::Joined::joined_push_out))]
-fn place_in<T: Drop>(
+pub fn place_in<T: Drop>(
     blocks: &mut Vec<Vec<T>>,
     spare: &mut Vec<Vec<T>>,
     block: usize,
@@ -87,44 +86,4 @@ fn place_in<T: Drop>(
     }
     let last = push_out(&mut blocks[block], place, item);
     place_first(blocks, spare, block + 1, last);
-}
-
-/// Inserts an element behind those that pass the test. There must be a spare block with a place for it.
-pub fn place_between<T: Drop, P: Fn(&T) -> bool>(
-    blocks: &mut Vec<Vec<T>>,
-    spare: &mut Vec<Vec<T>>,
-    before: P,
-    item: T,
-)
-    requires callable { P.IsAlwaysCallable before }
-    requires filled { AreFilled blocks.old.items }
-    requires places { vec_len blocks.old < vec_capacity blocks.old }
-    requires some { 0 < length spare.old.items }
-    requires spares { All IsSpare spare.old.items }
-    ensures list { (p : T → Bool) → ComputesKey P.FnMut p before → IsPartitionedBy p (joined blocks.old.items)
-        → IsReplaced p p (joined blocks.old.items) item (joined blocks.new.items) }
-    ensures longer { length (joined blocks.new.items) ≡ length (joined blocks.old.items) + 1 }
-    ensures filled { AreFilled blocks.new.items }
-    ensures spares { All IsSpare spare.new.items }
-    ensures capacity { vec_capacity spare.new ≡ vec_capacity spare.old }
-{
-    if blocks.is_empty() {
-        place_first(blocks, spare, 0, item);
-        return;
-    }
-    let (block, place) = spot_of(blocks, before);
-    place_in(blocks, spare, block, place, item);
-}
-
-/// Inserts an element behind those that pass the test, into the block with room for all elements.
-pub fn place_alone<T: Drop, P: Fn(&T) -> bool>(whole: &mut Vec<T>, before: P, item: T)
-    requires callable { P.IsAlwaysCallable before }
-    requires room { vec_len whole.old < vec_capacity whole.old }
-    ensures list { (p : T → Bool) → ComputesKey P.FnMut p before → IsPartitionedBy p whole.old.items
-        → IsReplaced p p whole.old.items item whole.new.items }
-    ensures longer { length whole.new.items ≡ length whole.old.items + 1 }
-    ensures capacity { vec_capacity whole.old ≤ vec_capacity whole.new }
-{
-    let place = whole.partition_point(before);
-    place_within(whole, place, item);
 }

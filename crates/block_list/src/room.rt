@@ -1,6 +1,14 @@
 //! Room that is reserved before a list grows, and a list that grows in it.
+ghost use Rattle.std.specs.Prelude.{◌≡◌, ◌+◌, ◌<◌, Bool, [], ◌++◌};
+ghost use Rattle.std.specs.List.Sorted.{IsPartitionedBy};
+ghost use Rattle.std.specs.Fn.{ComputesKey};
+ghost use Rattle.block_list.specs.Blocks.{joined, IsReplaced};
+ghost use Rattle.block_list.specs.Room.{Reserved, Growing};
+ghost use Rattle.block_list.specs.Spares.{HasRoom, IsRoomy};
+
 use crate::BlockList;
-use crate::placed::{place_alone, place_between};
+use crate::placed::{place_first, place_in, place_within};
+use crate::search::spot_of;
 use crate::spare::gather;
 use std::marker::Model;
 
@@ -17,10 +25,6 @@ pub struct Room<T> {
 }
 
 impl<T> Model for Room<T> {
-    ghost use Rattle.std.specs.Prelude.{◌≡◌, ◌+◌, []};
-    ghost use Rattle.block_list.specs.Room.{Reserved};
-    ghost use Rattle.block_list.specs.Spares.{HasRoom};
-
     ghost Value = { Reserved };
 
     ghost view = { λ r. record { most = r.most; more = r.more } };
@@ -40,11 +44,6 @@ pub struct Roomy<T> {
 }
 
 impl<T> Model for Roomy<T> {
-    ghost use Rattle.std.specs.Prelude.{◌++◌};
-    ghost use Rattle.block_list.specs.Blocks.{joined};
-    ghost use Rattle.block_list.specs.Room.{Growing};
-    ghost use Rattle.block_list.specs.Spares.{IsRoomy};
-
     ghost Value = { Growing T };
 
     ghost view = { λ r. record { items = r.whole.items ++ joined r.blocks.items; more = r.more } };
@@ -53,11 +52,6 @@ impl<T> Model for Roomy<T> {
 }
 
 impl<T: Drop> Roomy<T> {
-    ghost use Rattle.std.specs.Prelude.{◌≡◌, ◌+◌, ◌<◌, Bool};
-    ghost use Rattle.std.specs.List.Sorted.{IsPartitionedBy};
-    ghost use Rattle.std.specs.Fn.{ComputesKey};
-    ghost use Rattle.block_list.specs.Blocks.{IsReplaced};
-
     /// Inserts an element behind those that pass the test. In the list, those that pass must stand before those that
     /// fail. Takes no memory.
     pub fn insert_behind<P: Fn(&T) -> bool>(&mut self, before: P, item: T)
@@ -71,29 +65,33 @@ impl<T: Drop> Roomy<T> {
         self.more -= 1;
         let has_place = self.blocks.len() < self.blocks.capacity();
         if has_place && self.whole.is_empty() && !self.spare.is_empty() {
-            place_between(&mut self.blocks, &mut self.spare, before, item);
+            if self.blocks.is_empty() {
+                place_first(&mut self.blocks, &mut self.spare, 0, item);
+                return;
+            }
+            let (block, place) = spot_of(&self.blocks, before);
+            place_in(&mut self.blocks, &mut self.spare, block, place, item);
             return;
         }
         gather(&mut self.blocks, &mut self.whole);
-        place_alone(&mut self.whole, before, item);
+        let place = self.whole.partition_point(before);
+        place_within(&mut self.whole, place, item);
     }
 
     /// The list alone. Gives unused room back. Takes no memory.
     pub fn close(self) -> BlockList<T>
         ensures { result ≡ self.items }
     {
-        let Roomy {
-            blocks,
-            mut spare,
-            whole,
-            len,
-            more: _,
-        } = self;
-        if whole.is_empty() {
-            return BlockList { blocks, len };
+        let len = self.len;
+        if self.whole.is_empty() {
+            return BlockList {
+                blocks: self.blocks,
+                len,
+            };
         }
-        spare.clear();
-        spare.push_reserved(whole);
-        BlockList { blocks: spare, len }
+        let mut blocks = self.spare;
+        blocks.clear();
+        blocks.push_reserved(self.whole);
+        BlockList { blocks, len }
     }
 }

@@ -1,5 +1,5 @@
 //! Removes one element from the blocks of a list. No block is empty.
-ghost use Rattle.std.specs.Prelude.{◌≡◌, ◌+◌, ◌<◌, ◌≤◌, Bool, true, false, ◌++◌, length, take, drop, slice_get, Some, IfNone, IfSome};
+ghost use Rattle.std.specs.Prelude.{◌≡◌, ◌+◌, ◌<◌, Bool, true, false, ◌++◌, length, take, drop, slice_get, Some, IfNone, IfSome};
 ghost use Rattle.std.specs.List.{list_any};
 ghost use Rattle.std.specs.Fn.{ComputesKey};
 ghost use Rattle.block_list.specs.Blocks.{joined, AreFilled, start_of, IsAt, passes};
@@ -22,24 +22,14 @@ pub fn spot_passing<T, P: Fn(&T) -> bool>(
     ensures absent { IfNone result ((p : T → Bool) → ComputesKey P.FnMut p pred → list_any p (joined blocks.now) ≡ false) }
 {
     let from = near.min(blocks.len());
+    let behind = blocks.len() - from;
     for i in 0..blocks.len() {
-        let block = in_turn(from, blocks.len(), i);
+        let block = if i < behind { from + i } else { i - behind };
         if let Some(place) = first_passing(&blocks[block], &pred) {
             return Some((block, place));
         }
     }
     None
-}
-
-// The place `i` steps after `from`, where the first place follows the last.
-fn in_turn(from: usize, len: usize, i: usize) -> usize
-    requires from { from ≤ len }
-    requires i { i < len }
-    ensures behind { from + i < len → result ≡ from + i }
-    ensures before { len ≤ from + i → result + len ≡ from + i }
-{
-    let behind = len - from;
-    if i < behind { from + i } else { i - behind }
 }
 
 // The place of the first element that passes the test.

@@ -5,4 +5,4 @@ use Rattle.block_list.specs.Spares.{IsSpare}
 use Rattle.block_list.proofs.spare.spare_blocks.Given as goal
 
 abbrev pub invariant-loop-i : goal.invariant-loop-i
-invariant-loop-i g l = (length l.blocks.items ≤ l.i) × All IsSpare l.blocks.items × (l.count ≤ vec_capacity l.blocks)
+invariant-loop-i g l = (length l.spare.items ≤ l.i) × All IsSpare l.spare.items × (l.count ≤ vec_capacity l.spare)
