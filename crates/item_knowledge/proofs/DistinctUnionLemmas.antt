@@ -14,9 +14,8 @@ use Rattle.item_knowledge.specs.VectorIndex.{is_new, vectors_at, IsIndexed}
 use Rattle.item_knowledge.specs.BoundFilter.{is_marked, AreMarked}
 use Rattle.item_knowledge.specs.Rows.{flat, fragments_of, rows_of, AreRows}
 use Rattle.item_knowledge.specs.Written.{IsBeyond, IsWritten, union_table}
-use Rattle.item_knowledge.specs.DistinctUnion.{numbered, spread_of, FromLeft, IsListed, AreThere, AreDistinct, IsOther, OthersTo, AreOthers, AreAllDistinct, IsSpread}
+use Rattle.item_knowledge.specs.DistinctUnion.{numbered, spread_of, FromLeft, IsListed, AreThere, AreDistinct, IsOther, AreOthers, AreAllDistinct, IsSpread}
 use Rattle.item_knowledge.proofs.GatherLemmas.{of_one, group_begun, one_gathered, none_gathered, table_others}
-use Rattle.item_knowledge.proofs.MergeLemmas.{next_too}
 use Rattle.item_knowledge.proofs.VectorIndexLemmas.{vectors_length, vector_there}
 use Rattle.item_knowledge.proofs.RowLemmas.{entries_row, fragments_rows, rows_rows}
 use Rattle.item_knowledge.proofs.UnionLemmas.{union_order, beyond_of}
@@ -53,24 +52,17 @@ numbered_length n (g ∷ gs) = ap suc (numbered_length (suc n) gs)
 
 numbered_at : (n : ℕ) (gs : List Fragment) (k : ℕ) → k < length gs → get_or (numbered n gs) k (0, 0) ≡ (first (get_or gs k nothing).pictures, n + k)
 numbered_at n [] k l = absurd (omega (arith, l))
-numbered_at n (g ∷ gs) zero l = let e : n ≡ n + 0 = omega arith in λ i. (first g.pictures, e i)
-numbered_at n (g ∷ gs) (suc k) l =
-    let e : suc n + k ≡ n + suc k = omega arith in
-    numbered_at (suc n) gs k (omega (arith, l)) ∙ (λ i. (first (get_or gs k nothing).pictures, e i))
+numbered_at n (g ∷ gs) zero l = grind arith
+numbered_at n (g ∷ gs) (suc k) l = grind (arith, numbered_at (suc n) gs k)
 
 -- Vectors that were found to differ one after another
 
 module _ (by_vector : VectorIndex) (rows : List (List ℕ)) (listed : List (ℕ × ℕ)) (noted : by_vector.numbers.items ≡ map (λ (x : ℕ × ℕ). x.1) listed) where
-  counted : length by_vector.numbers.items ≡ length listed
-  counted = ap (length {A = ℕ}) noted ∙ length-map listed (λ (x : ℕ × ℕ). x.1)
-
   many : length (vectors_at rows by_vector.numbers.items) ≡ length listed
-  many = vectors_length rows by_vector.numbers.items ∙ counted
+  many = vectors_length rows by_vector.numbers.items ∙ ap (length {A = ℕ}) noted ∙ length-map listed (λ (x : ℕ × ℕ). x.1)
 
   at : (n : ℕ) → n < length listed → get_or rows (2 * (get_or listed n (0, 0)).1 + 1) [] ≡ get_or (vectors_at rows by_vector.numbers.items) n []
-  at n b =
-      vector_there rows by_vector.numbers.items n (get_or listed n (0, 0)).1 (omega (arith, b, counted))
-      (sym (ap (λ (ns : List ℕ). get_or ns n 0) noted ∙ get_or-map (λ (x : ℕ × ℕ). x.1) listed n (0, 0) 0 b))
+  at n b = grind (arith, many, vectors_length rows by_vector.numbers.items, noted, get_or-map (λ (x : ℕ × ℕ). x.1) listed n (0, 0) 0 b, vector_there rows by_vector.numbers.items n (get_or listed n (0, 0)).1)
 
   pub all_apart : IsIndexed by_vector rows → AreDistinct rows listed
   all_apart found j k l m e = found.placed.once j k l (omega (arith, many, m)) (sym (at j (omega (arith, l, m))) ∙ e ∙ at k m)
@@ -83,9 +75,6 @@ module _ (by_vector : VectorIndex) (rows : List (List ℕ)) (listed : List (ℕ 
 pub unmarked_other : (marks : List Bool) (rows : List (List ℕ)) (listed : List (ℕ × ℕ)) (number : ℕ) → AreMarked marks rows listed → is_marked marks (get_or rows (2 * number + 1) []) ≡ false → IsOther rows listed number
 unmarked_other marks rows listed number h none n l e = false≢true (sym none ∙ ap (is_marked marks) e ∙ h n l)
 
-pub other_too : (rows : List (List ℕ)) (index joined : List (ℕ × ℕ)) (k : ℕ) → OthersTo rows index joined k → IsOther rows joined (get_or index k (0, 0)).1 → OthersTo rows index joined (k + 1)
-other_too rows index joined k h other = next_too (λ m. IsListed joined (get_or index m (0, 0)).1 ⊎ IsOther rows joined (get_or index m (0, 0)).1) k h (inr other)
-
 -- What is written
 
 module _ {left : List (List ℕ)} {gs : List Fragment} {rows : List (List ℕ)} {index joined : List (ℕ × ℕ)} (h : IsSpread left gs rows index joined) where
@@ -96,34 +85,25 @@ module _ {left : List (List ℕ)} {gs : List Fragment} {rows : List (List ℕ)} 
   spread_rows = subst AreRows (sym h.rows_are) (rows_rows (star_first [] gs))
 
   pub there_index : AreThere rows index
-  there_index m l =
-      let long = ap (length {A = ℕ × ℕ}) h.index_is ∙ numbered_length 1 gs in
-      let at = ap (λ (ns : List (ℕ × ℕ)). (get_or ns m (0, 0)).1) h.index_is ∙ ap (λ (x : ℕ × ℕ). x.1) (numbered_at 1 gs m (omega (arith, long, l))) in
-      omega (arith, long, ap (length {A = Fragment}) fragments, at, l)
+  there_index m l = grind (arith, h.index_is, numbered_length 1 gs, numbered_at 1 gs m, fragments)
 
   pub there_joined : AreThere rows joined
   there_joined m l = omega (arith, ap (length {A = Fragment}) fragments, h.there m l)
 
   vector : (k n : ℕ) → k < length gs → n ≡ suc k → get_or rows (2 * n + 1) [] ≡ flat (entries_at gs k)
-  vector k n l e =
-      ap (λ m. get_or rows (2 * m + 1) []) e
-      ∙ ap (λ rs. get_or rs (2 * suc k + 1) []) h.rows_are
-      ∙ entries_row (star_first [] gs) (suc k) (omega (arith, l))
+  vector k n l e = grind (arith, h.rows_are, entries_row (star_first [] gs) (suc k))
 
   told_at : AreOthers rows index joined → (k : ℕ) → k < length gs → IsListed joined (suc k) ⊎ IsOther rows joined (suc k)
   told_at others k l =
-      let long = ap (length {A = ℕ × ℕ}) h.index_is ∙ numbered_length 1 gs in
-      let number : (get_or index k (0, 0)).1 ≡ suc k = ap (λ (ns : List (ℕ × ℕ)). (get_or ns k (0, 0)).1) h.index_is ∙ ap (λ (x : ℕ × ℕ). x.1) (numbered_at 1 gs k l) ∙ (omega arith) in
-      subst (λ n. IsListed joined n ⊎ IsOther rows joined n) number (others k (omega (arith, long, l)))
+      let number : (get_or index k (0, 0)).1 ≡ suc k = grind (arith, h.index_is, numbered_at 1 gs k l) in
+      subst (λ n. IsListed joined n ⊎ IsOther rows joined n) number (others k (grind (arith, h.index_is, numbered_length 1 gs)))
 
   -- one that is listed doesn't differ from all that are
   one_joined : (j k : ℕ) → j < length gs → k < length gs → entries_at gs k ≡ entries_at gs j → IsListed joined (suc j) → IsOther rows joined (suc k) → ⊥
   one_joined j k l m e a other = other a.place a.there (vector k (suc k) m refl ∙ ap flat e ∙ sym (vector j _ l a.is))
 
   both_joined : AreDistinct rows joined → (j k : ℕ) → j < k → k < length gs → entries_at gs j ≡ entries_at gs k → IsListed joined (suc j) → IsListed joined (suc k) → ⊥
-  both_joined apart j k l m e a b =
-      let same : get_or rows (2 * (get_or joined a.place (0, 0)).1 + 1) [] ≡ get_or rows (2 * (get_or joined b.place (0, 0)).1 + 1) [] = vector j _ (omega (arith, l, m)) a.is ∙ ap flat e ∙ sym (vector k _ m b.is) in
-      grind (arith, apart a.place b.place, apart b.place a.place, a.there, b.there, a.is, b.is)
+  both_joined apart j k l m e a b = grind (arith, apart a.place b.place, apart b.place a.place, a.there, b.there, a.is, b.is, vector j _ (omega (arith, l, m)) a.is, vector k _ m b.is)
 
 -- Once its vectors are told apart it is the union
 
@@ -147,21 +127,10 @@ module _ (left right : List (List ℕ)) (xs ys : List (ℕ × ℕ)) (star : List
 
   -- one that differs from all that were joined is the left's
   from_left : (k : ℕ) → k < length all → IsOther rows joined (suc k) → FromLeft left (get_or all k nothing)
-  from_left k l other = by (h.origins k l) where
-    by : IsListed joined (suc k) ⊎ FromLeft left (get_or all k nothing) → FromLeft left (get_or all k nothing)
-    by (inl a) = absurd (one_joined h k k l l refl a other)
-    by (inr b) = b
+  from_left k l other = elim (h.origins k l) [ inl a ↦ absurd (one_joined h k k l l refl a other) | inr b ↦ b ]
 
   all_differ : AreAllDistinct rows index joined → AllDiffer all
-  all_differ told j k l m e = by (told_at h told.1 j first_there) (told_at h told.1 k m) where
-    first_there : j < length all
-    first_there = omega (arith, l, m)
-
-    by : IsListed joined (suc j) ⊎ IsOther rows joined (suc j) → IsListed joined (suc k) ⊎ IsOther rows joined (suc k) → ⊥
-    by (inl a) (inl b) = both_joined h told.0 j k l m e a b
-    by (inl a) (inr b) = one_joined h j k first_there m (sym e) a b
-    by (inr a) (inl b) = one_joined h k j m first_there e b a
-    by (inr a) (inr b) = both_left (get_or all j nothing) (get_or all k nothing) (pictures_differ j k l m) e (from_left j first_there a) (from_left k m b)
+  all_differ told j k l m e = grind (arith, told_at h told.1 j, told_at h told.1 k, both_joined h told.0 j k, one_joined h j k, one_joined h k j, both_left (get_or all j nothing) (get_or all k nothing) (pictures_differ j k l m) e, from_left j, from_left k)
 
   pub distinct_written : entries_at (fragments_of left) 0 ≡ [] → entries_at (fragments_of right) 0 ≡ [] → AreAllDistinct rows index joined → IsWritten star (fragments_of left) xs (fragments_of right) ys rows index
   distinct_written one other told = record {

@@ -1,23 +1,10 @@
 -- Vectors are determined by what they denote.
 use Rattle.std.proofs.Common.{◌≡◌, ℕ, ◌<◌, ◌≤◌, true, leb, ltb, ◌&&◌, List, [], ◌∷◌, refl, sym, ◌∙◌, arith}
 use Rattle.std.specs.List.{list_all}
-use Rattle.std.proofs.lemmas.Bool.{and_parts, and_from, ltb-true, leb-true}
 use Rattle.std.proofs.lemmas.Bool.Decides.{nat_tests}
-use Rattle.item_knowledge.specs.Tables.{in_order}
-use Rattle.photo_version.specs.Author.{author_word, is_author_word, author_of_word}
+use Rattle.photo_version.specs.Author.{author_word, author_of_word}
 use Rattle.photo_version.specs.Version.{Version}
-use Rattle.item_knowledge.specs.Entries.{Entry, denotes, is_entry, is_vector, bound, most_number}
-
-pub record EntryParts (e : Entry) : Type 0 where
-  pub word : is_author_word e.0 ≡ true
-  pub positive : 0 < e.1
-  pub below : e.1 ≤ most_number
-
-pub entry_parts : (e : Entry) → is_entry e ≡ true → EntryParts e
-entry_parts e h =
-    let a = and_parts (is_author_word e.0) (ltb 0 e.1 && leb e.1 most_number) h in
-    let b = and_parts (ltb 0 e.1) (leb e.1 most_number) a.1 in
-    record { word = a.0; positive = ltb-true 0 e.1 b.0; below = leb-true e.1 most_number b.1 }
+use Rattle.item_knowledge.specs.Entries.{Entry, denotes, is_entry, is_vector, bound}
 
 pub record VectorParts (e : Entry) (es : List Entry) : Type 0 where
   pub entry : is_entry e ≡ true
@@ -26,11 +13,7 @@ pub record VectorParts (e : Entry) (es : List Entry) : Type 0 where
   pub rest : is_vector es ≡ true
 
 pub vector_parts : (e : Entry) (es : List Entry) → is_vector (e ∷ es) ≡ true → VectorParts e es
-vector_parts e es h =
-    let p = and_parts (in_order (e ∷ es)) (list_all (λ (f : Entry). is_entry f) (e ∷ es)) h in
-    let q = and_parts (list_all (λ (f : Entry). ltb e.0 f.0) es) (in_order es) p.0 in
-    let r = and_parts (is_entry e) (list_all (λ (f : Entry). is_entry f) es) p.1 in
-    record { entry = r.0; positive = (entry_parts e r.0).positive; above = q.0; rest = and_from _ _ q.1 r.1 }
+vector_parts e es h = grind (arith, nat_tests)
 
 -- an author below all has no bound
 pub bound_below : (es : List Entry) (a b : ℕ) → b ≤ a → list_all (λ (f : Entry). ltb a f.0) es ≡ true → bound es b ≡ 0
@@ -42,14 +25,10 @@ pub denotes-bound : (es : List Entry) (v : Version) → is_vector es ≡ true �
 denotes-bound [] v h = grind (arith, nat_tests)
 denotes-bound (e ∷ es) v h = let p = vector_parts e es h in grind (arith, nat_tests, denotes-bound es v p.rest, bound_below es e.0 (author_word v.author))
 
--- the version of an author's word
-abbrev pub version_at : ℕ → ℕ → Version
-version_at a n = record { author = author_of_word a; number = n }
-
 -- the bounds are determined by what a vector denotes
 pub bound_by : (xs ys : List Entry) → is_vector xs ≡ true → is_vector ys ≡ true → ((v : Version) → denotes xs v ≡ true → denotes ys v ≡ true) → (a : ℕ) → bound xs a ≤ bound ys a
 bound_by xs ys hx hy h a =
-    let v = version_at a (bound xs a) in
+    let v : Version = record { author = author_of_word a; number = bound xs a } in
     grind (arith, nat_tests, denotes-bound xs v hx, denotes-bound ys v hy, h v)
 
 -- vectors with the same bounds are one

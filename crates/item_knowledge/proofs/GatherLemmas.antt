@@ -2,15 +2,14 @@
 use Rattle.std.proofs.Common.{◌≡◌, ℕ, zero, suc, ◌+◌, ◌<◌, ◌≤◌, Bool, true, false, not, ltb, eqb, List, [], ◌∷◌, ◌++◌, length, get_or, set, map, refl, sym, subst, ap, ◌∙◌, inl, inr, arith, append-nil, length-set}
 use Rattle.std.specs.List.{list_all, filter, position_or_len}
 use Rattle.std.proofs.lemmas.List.Folds.{list_all-append, list_all-map}
-use Rattle.std.proofs.lemmas.Bool.{and_parts, and_from, or_right, not-true, lt-ltb, eq-eqb, ne_eqb, eqb-true, cases_lt, true≢false}
+use Rattle.std.proofs.lemmas.Bool.{and_parts, and_from, or_right, not-true, lt-ltb, eqb-true, cases_lt}
 use Rattle.std.proofs.lemmas.Bool.Decides.{nat_tests}
 use Rattle.std.proofs.lemmas.Grind.{common_steps}
 use Rattle.std.proofs.lemmas.List.Sums.{passes_at_first, fails_before_first}
-use Rattle.std.proofs.Math.Path.{transport}
 use Rattle.item_knowledge.specs.Tables.{keys_pass, in_order, at, each}
 use Rattle.item_knowledge.specs.Entries.{Entry, is_vector, same_entries}
 use Rattle.item_knowledge.specs.Excess.{AllDiffer}
-use Rattle.item_knowledge.specs.Fragments.{Fragment, is_empty, first, lists, rises, is_group, goes_before, are_groups, is_normal, find, or_star, known, nothing, entries_at}
+use Rattle.item_knowledge.specs.Fragments.{Fragment, first, lists, rises, is_group, goes_before, are_groups, is_normal, find, or_star, known, nothing, entries_at}
 use Rattle.item_knowledge.specs.Gathering.{IsIndex, table_of, pictures_of, pictures_at, star_first, IsGathered, IsAdded}
 use Rattle.item_knowledge.proofs.FragmentLemmas.{entries_decide, find_here, find_later}
 use Rattle.item_knowledge.proofs.PictureLemmas.{lists_head, first_listed}
@@ -27,16 +26,11 @@ all_from test (x ∷ xs) d h = and_from _ _ (h 0 (omega arith)) (all_from test x
 
 all_kept : {X : Type 0} (test keep : X → Bool) (xs : List X) → list_all test xs ≡ true → list_all test (filter keep xs) ≡ true
 all_kept test keep [] h = refl
-all_kept test keep (x ∷ xs) h =
-    let rest = all_kept test keep xs (and_parts _ _ h).1 in
-    grind arith
+all_kept test keep (x ∷ xs) h = grind (arith, all_kept test keep xs)
 
 order_kept : {A : Type 0} (keep : ℕ × A → Bool) (xs : List (ℕ × A)) → in_order xs ≡ true → in_order (filter keep xs) ≡ true
 order_kept keep [] h = refl
-order_kept keep (x ∷ xs) h =
-    let all = all_kept (λ y. ltb x.0 y.0) keep xs (and_parts _ _ h).0 in
-    let rest = order_kept keep xs (and_parts _ _ h).1 in
-    grind arith
+order_kept keep (x ∷ xs) h = grind (arith, all_kept (λ y. ltb x.0 y.0) keep xs, order_kept keep xs)
 
 each_append : {B C : Type 0} (other : B → C) (xs ys : List (ℕ × B)) → each other (xs ++ ys) ≡ each other xs ++ each other ys
 each_append other [] ys = refl
@@ -45,10 +39,7 @@ each_append other (x ∷ xs) ys = ap (λ zs. (x.0, other x.1) ∷ zs) (each_appe
 -- what stands before another is below it
 order_below : {A : Type 0} (xs : List (ℕ × A)) (y : ℕ × A) (ys : List (ℕ × A)) → in_order (xs ++ y ∷ ys) ≡ true → keys_pass (λ k. ltb k y.0) xs ≡ true
 order_below [] y ys h = refl
-order_below (x ∷ xs) y ys h =
-    let rest = order_below xs y ys (and_parts _ _ h).1 in
-    let each_of = list_all-append (λ (z : ℕ × _). ltb x.0 z.0) xs (y ∷ ys) in
-    grind arith
+order_below (x ∷ xs) y ys h = grind (arith, order_below xs y ys, list_all-append (λ (z : ℕ × _). ltb x.0 z.0) xs (y ∷ ys))
 
 -- A table of vectors
 
@@ -69,62 +60,28 @@ module _ (f : ℕ × ℕ → List Entry) (rs : List (ℕ × (ℕ × ℕ))) (orde
   table_at p none = kept (each f rs) (each_order f rs ∙ order) ∙ ap (λ d. at d (each f rs) p) none ∙ each_at f (0, 0) rs p where
     kept : (ts : List (ℕ × List Entry)) → in_order ts ≡ true → at [] (filter (λ t. not (same_entries [] t.1)) ts) p ≡ at [] ts p
     kept [] o = refl
-    kept (t ∷ ts) o =
-        let rest = kept ts (and_parts _ _ o).1 in
-        let none = at_above [] ts t.0 (and_parts _ _ o).0 in
-        let same = (entries_decide [] t.1).0 in
-        grind (arith, nat_tests)
+    kept (t ∷ ts) o = grind (arith, nat_tests, kept ts, at_above [] ts t.0, (entries_decide [] t.1).0)
 
 -- One picture more
 
 pub none_gathered : (table left : List (ℕ × List Entry)) (gs : List Fragment) (index : List (ℕ × ℕ)) → left ≡ table → gs ≡ [] → index ≡ [] → IsGathered table left gs index
-none_gathered table left gs index all g n = transport (λ i. IsGathered table left (sym g i) (sym n i))
-    (record { vectors = all; range = refl; pictures = λ k. refl; some = λ k l. absurd (omega (arith, l)); order = λ j k l m. absurd (omega (arith, m)) })
+none_gathered table left gs index all g n = grind arith
 
 -- the group is there
 pub group_grown : (p : ℕ) (v : List Entry) (gs more : List Fragment) (place : ℕ) → place < length gs → entries_at gs place ≡ v → more ≡ set gs place (record { pictures = pictures_at gs place ++ p ∷ []; entries = entries_at gs place }) → IsAdded p v gs more place
-group_grown p v gs more place inside is grown = record {
-  inside = grind (arith, common_steps);
-  vector = grind (arith, common_steps);
-  kept = λ k l. grind (arith, common_steps);
-  longer = grind (arith, common_steps);
-  pictures = λ k. grind (arith, common_steps);
-  new = λ k l m. let long = ap (length {A = Fragment}) grown ∙ length-set gs place _ in absurd (omega (arith, l, m, long));
-}
+group_grown p v gs more place inside is grown = grind (arith, common_steps)
 
 -- it begins at the end
 pub group_begun : (p : ℕ) (v : List Entry) (gs more : List Fragment) (place : ℕ) → place ≡ length gs → more ≡ gs ++ of_one p v ∷ [] → IsAdded p v gs more place
-group_begun p v gs more place end begun =
-    let long : length more ≡ length gs + 1 = grind (arith, common_steps) in
-    record {
-      inside = omega (arith, long, end);
-      vector = grind (arith, common_steps);
-      kept = λ k l. grind (arith, common_steps);
-      longer = omega (arith, long);
-      pictures = λ k. grind (arith, common_steps);
-      new = λ k l m. (omega (arith, l, m, long, end), grind (arith, common_steps));
-    }
-
-some_more : (ps qs : List ℕ) → is_empty ps ≡ false → (is_empty (ps ++ qs) ≡ false) × (first (ps ++ qs) ≡ first ps)
-some_more [] qs h = absurd (true≢false h)
-some_more (p ∷ ps) qs h = (refl, refl)
-
-listed_below : (p : ℕ) (ps : List ℕ) → list_all (λ q. ltb q p) ps ≡ true → is_empty ps ≡ false → first ps < p
-listed_below p [] h s = absurd (true≢false s)
-listed_below p (q ∷ ps) h s = grind (arith, nat_tests)
+group_begun p v gs more place end begun = grind (arith, common_steps)
 
 range_wider : (n m : ℕ) (zs : List (ℕ × ℕ)) → n ≤ m → list_all (λ z. ltb z.1 n) zs ≡ true → list_all (λ z. ltb z.1 m) zs ≡ true
 range_wider n m [] l h = refl
-range_wider n m (z ∷ zs) l h =
-    let rest = range_wider n m zs l (and_parts _ _ h).1 in
-    grind (arith, nat_tests)
+range_wider n m (z ∷ zs) l h = grind (arith, nat_tests, range_wider n m zs)
 
 each_same : (f g : ℕ → List Entry) (n : ℕ) (zs : List (ℕ × ℕ)) → ((k : ℕ) → k < n → f k ≡ g k) → list_all (λ z. ltb z.1 n) zs ≡ true → each f zs ≡ each g zs
 each_same f g n [] e h = refl
-each_same f g n (z ∷ zs) e h =
-    let rest = each_same f g n zs e (and_parts _ _ h).1 in
-    let here = e z.1 in
-    grind (arith, nat_tests)
+each_same f g n (z ∷ zs) e h = grind (arith, nat_tests, each_same f g n zs e, e z.1)
 
 module _ {table now left : List (ℕ × List Entry)} {gs : List Fragment} {index : List (ℕ × ℕ)} {p : ℕ} {v : List Entry} (h : IsGathered table now gs index) (next : now ≡ (p, v) ∷ left) (order : in_order table ≡ true)
     (new : List Fragment) (place : ℕ) (more : List (ℕ × ℕ)) (a : IsAdded p v gs new place) (other : same_entries [] v ≡ false) (pushed : more ≡ index ++ (p, place + 1) ∷ []) where
@@ -132,13 +89,7 @@ module _ {table now left : List (ℕ × List Entry)} {gs : List Fragment} {index
   below k l =
       let all : keys_pass (λ q. ltb q p) index ≡ true = sym (each_keys (entries_at (nothing ∷ gs)) (λ q. ltb q p) index) ∙ order_below (each (entries_at (nothing ∷ gs)) index) (p, v) left (subst (λ ts. in_order ts ≡ true) (sym h.vectors ∙ ap (λ ts. each (entries_at (nothing ∷ gs)) index ++ ts) next) order) in
       let each_of : list_all (λ q. ltb q p) (pictures_of (suc k) index) ≡ true = list_all-map (λ q. ltb q p) (λ (z : ℕ × ℕ). z.0) (filter (λ z. eqb z.1 (suc k)) index) ∙ all_kept (λ z. ltb z.0 p) (λ z. eqb z.1 (suc k)) index all in
-      listed_below p (pictures_at gs k) (subst (λ qs. list_all (λ q. ltb q p) qs ≡ true) (sym (h.pictures k)) each_of) (h.some k l).0
-
-  still : (k : ℕ) → k < length gs → (is_empty (pictures_at new k) ≡ false) × (first (pictures_at new k) ≡ first (pictures_at gs k))
-  still k l = subst (λ ps. (is_empty ps ≡ false) × (first ps ≡ first (pictures_at gs k))) (sym (a.pictures k)) (some_more (pictures_at gs k) (pictures_of (suc k) ((p, suc place) ∷ [])) (h.some k l).0)
-
-  begun : (k : ℕ) → length gs ≤ k → k < length new → pictures_at new k ≡ p ∷ []
-  begun k l m = let is = a.new k l m in let now = a.pictures k in grind (arith, common_steps)
+      grind (arith, nat_tests, h.pictures k, each_of, (h.some k l).0)
 
   stays : (n : ℕ) → n < suc (length gs) → entries_at (nothing ∷ new) n ≡ entries_at (nothing ∷ gs) n
   stays zero l = refl
@@ -146,34 +97,11 @@ module _ {table now left : List (ℕ × List Entry)} {gs : List Fragment} {index
 
   pub one_gathered : IsGathered table left new more
   one_gathered = record {
-    vectors =
-        let each_of = each_append (entries_at (nothing ∷ new)) index ((p, suc place) ∷ []) in
-        let same = each_same (entries_at (nothing ∷ new)) (entries_at (nothing ∷ gs)) (suc (length gs)) index stays h.range in
-        let was = h.vectors in
-        let here = a.vector in
-        grind (arith, common_steps);
-    range =
-        let wider = range_wider (suc (length gs)) (suc (length new)) index (omega (arith, a.longer)) h.range in
-        let inside = a.inside in
-        grind (arith, common_steps);
+    vectors = grind (arith, common_steps, each_append (entries_at (nothing ∷ new)) index ((p, suc place) ∷ []), each_same (entries_at (nothing ∷ new)) (entries_at (nothing ∷ gs)) (suc (length gs)) index stays h.range, h.vectors, a.vector);
+    range = grind (arith, common_steps, range_wider (suc (length gs)) (suc (length new)) index (omega (arith, a.longer)) h.range, a.inside);
     pictures = λ k. let was = h.pictures k in let now = a.pictures k in grind (arith, common_steps);
-    some = λ k l. elim (cases_lt k (length gs)) [
-      | inl before ↦ ((still k before).0, ap (same_entries []) (a.kept k before) ∙ (h.some k before).1)
-      | inr past ↦
-          let now = begun k past l in
-          let is = a.new k past l in
-          let here = a.vector in
-          grind arith
-    ];
-    order = λ j k l m. elim (cases_lt k (length gs)) [
-      | inl before ↦
-          let was = h.order j k l before in
-          omega (arith, was, (still j (omega (arith, l, before))).1, (still k before).1)
-      | inr past ↦ elim (cases_lt j (length gs)) [
-        | inl before ↦ let less = below j before in omega (arith, less, (still j before).1, ap first (begun k past m))
-        | inr also ↦ absurd (omega (arith, l, (a.new j also (omega (arith, l, m))).0, (a.new k past m).0))
-      ]
-    ];
+    some = λ k l. grind (arith, common_steps, cases_lt k (length gs), a.pictures k, a.kept k, h.some k, a.new k, a.vector);
+    order = λ j k l m. grind (arith, cases_lt k (length gs), cases_lt j (length gs), common_steps, h.order j k l, h.some j, h.some k, below j, a.pictures j, a.pictures k, a.new j, a.new k);
   }
 
 -- The next picture of a table
@@ -192,29 +120,18 @@ module _ (f : ℕ × ℕ → List Entry) {now rest : List (ℕ × (ℕ × ℕ))}
 
 rise : {A : Type 0} (zs : List (ℕ × A)) → in_order zs ≡ true → rises (map (λ z. z.0) zs) ≡ true
 rise [] h = refl
-rise (z ∷ zs) h =
-    let rest = rise zs (and_parts _ _ h).1 in
-    let each_of = list_all-map (λ q. ltb z.0 q) (λ (y : ℕ × _). y.0) zs in
-    grind arith
+rise (z ∷ zs) h = grind (arith, rise zs, list_all-map (λ q. ltb z.0 q) (λ (y : ℕ × _). y.0) zs)
 
 -- a picture is in the group of its number
 number_lists : (k : ℕ) (zs : List (ℕ × ℕ)) (p : ℕ) → in_order zs ≡ true → lists (pictures_of (suc k) zs) p ≡ eqb (at 0 zs p) (suc k)
 number_lists k [] p h = grind (arith, nat_tests)
-number_lists k (z ∷ zs) p h =
-    let rest = number_lists k zs p (and_parts _ _ h).1 in
-    let none = at_above 0 zs z.0 (and_parts _ _ h).0 in
-    grind (arith, nat_tests)
+number_lists k (z ∷ zs) p h = grind (arith, nat_tests, number_lists k zs p, at_above 0 zs z.0)
 
-find_number : (gs : List Fragment) (n p : ℕ) → ((k : ℕ) → k < length gs → n ≡ suc k → lists (get_or gs k nothing).pictures p ≡ true) → ((k : ℕ) → k < length gs → (n ≡ suc k → ⊥) → lists (get_or gs k nothing).pictures p ≡ false) → or_star [] (find gs p) ≡ entries_at (nothing ∷ gs) n
-find_number [] zero p here other = refl
-find_number [] (suc n) p here other = refl
-find_number (g ∷ gs) (suc zero) p here other = ap (or_star []) (find_here g gs p (here 0 (omega arith) refl))
-find_number (g ∷ gs) zero p here other =
-    ap (or_star []) (find_later g gs p (other 0 (omega arith) (λ e. absurd (omega (arith, e)))))
-    ∙ find_number gs zero p (λ k l e. absurd (omega (arith, e))) (λ k l e. other (suc k) (omega (arith, l)) (λ d. absurd (omega (arith, d))))
-find_number (g ∷ gs) (suc (suc n)) p here other =
-    ap (or_star []) (find_later g gs p (other 0 (omega arith) (λ e. absurd (omega (arith, e)))))
-    ∙ find_number gs (suc n) p (λ k l e. here (suc k) (omega (arith, l)) (ap suc e)) (λ k l e. other (suc k) (omega (arith, l)) (λ d. e (omega (arith, d))))
+find_number : (gs : List Fragment) (n p : ℕ) → ((k : ℕ) → k < length gs → lists (get_or gs k nothing).pictures p ≡ eqb n (suc k)) → or_star [] (find gs p) ≡ entries_at (nothing ∷ gs) n
+find_number [] n p is = grind arith
+find_number (g ∷ gs) (suc zero) p is = ap (or_star []) (find_here g gs p (is 0 (omega arith)))
+find_number (g ∷ gs) zero p is = ap (or_star []) (find_later g gs p (is 0 (omega arith))) ∙ find_number gs zero p (λ k l. is (suc k) (omega (arith, l)) ∙ (grind (arith, nat_tests)))
+find_number (g ∷ gs) (suc (suc n)) p is = ap (or_star []) (find_later g gs p (is 0 (omega arith) ∙ (grind (arith, nat_tests)))) ∙ find_number gs (suc n) p (λ k l. is (suc k) (omega (arith, l)) ∙ (grind (arith, nat_tests)))
 
 groups_from : (gs : List Fragment) → ((k : ℕ) → k < length gs → is_group [] (get_or gs k nothing) ≡ true) → ((j k : ℕ) → j < k → k < length gs → goes_before (get_or gs j nothing) (get_or gs k nothing) ≡ true) → are_groups [] gs ≡ true
 groups_from [] each before = refl
@@ -253,30 +170,21 @@ module _ {table : List (ℕ × List Entry)} {gs : List Fragment} {index : List (
 
   is_one : (k : ℕ) → k < length gs → is_group [] (get_or gs k nothing) ≡ true
   is_one k l =
-      let some = h.some k l in
-      let pictures = h.pictures k in
       let rising = rise (filter (λ z. eqb z.1 (suc k)) index) (order_kept (λ z. eqb z.1 (suc k)) index index_order) in
       let above = list_all-map (λ p. ltb 0 p) (λ (z : ℕ × ℕ). z.0) (filter (λ z. eqb z.1 (suc k)) index) ∙ all_kept (λ z. ltb 0 z.0) (λ z. eqb z.1 (suc k)) index index_positive in
-      let vector = ap is_vector (gathered_named k l) ∙ vectors (first (pictures_at gs k)) in
-      grind arith
+      grind (arith, h.some k l, h.pictures k, rising, above, ap is_vector (gathered_named k l) ∙ vectors (first (pictures_at gs k)))
 
   are_apart : (j k : ℕ) → j < k → k < length gs → goes_before (get_or gs j nothing) (get_or gs k nothing) ≡ true
   are_apart j k l m =
-      let none : (p : ℕ) → lists (pictures_at gs k) p ≡ true → not (lists (pictures_at gs j) p) ≡ true = λ p there.
-      let number = number_is k p there in
-      let lists_is = listed_at j p in
-      grind (arith, nat_tests) in
-      let other : not (same_entries (entries_at gs j) (entries_at gs k)) ≡ true =
-      let same = (entries_decide (entries_at gs j) (entries_at gs k)).0 in
-      let apart = differ j k l m in
-      grind (arith, nat_tests) in
+      let none : (p : ℕ) → lists (pictures_at gs k) p ≡ true → not (lists (pictures_at gs j) p) ≡ true = λ p there. grind (arith, nat_tests, number_is k p there, listed_at j p) in
+      let other : not (same_entries (entries_at gs j) (entries_at gs k)) ≡ true = grind (arith, nat_tests, (entries_decide (entries_at gs j) (entries_at gs k)).0, differ j k l m) in
       and_from _ _ (lt-ltb _ _ (h.order j k l m)) (and_from _ _ other (all_listed _ (pictures_at gs k) none))
 
   pub gathered_normal : is_normal us ≡ true
   gathered_normal = and_from _ _ refl (groups_from gs is_one are_apart)
 
   known_is : (p : ℕ) → known us p ≡ entries_at us (at 0 index p)
-  known_is p = find_number gs (at 0 index p) p (λ k l e. listed_at k p ∙ eq-eqb (at 0 index p) (suc k) e) (λ k l e. listed_at k p ∙ ne_eqb (at 0 index p) (suc k) e)
+  known_is p = find_number gs (at 0 index p) p (λ k l. listed_at k p)
 
   pub gathered_index : IsIndex index us
   gathered_index = record { order = index_order; positive = index_positive; range = h.range; vectors = λ p. sym (known_is p) }
@@ -298,11 +206,7 @@ groups_of table (t ∷ left) gs index order others h differ = elim (cases_lt pla
       (λ j k l m e. differ j k l (omega (arith, long, m)) (sym (added.kept j (omega (arith, long, l, m))) ∙ e ∙ added.kept k (omega (arith, long, m))))
   | inr past ↦
       groups_of table left (gs ++ of_one t.0 t.1 ∷ []) (index ++ (t.0, length gs + 1) ∷ []) order (and_parts _ _ others).1 (one_gathered h refl order _ (length gs) _ (group_begun t.0 t.1 gs _ (length gs) refl refl) other refl)
-      (λ j k l m e.
-      let was = differ j k l in
-      let unlike = fails_before_first (λ g. same_entries g.entries t.1) gs j nothing in
-      let decide = (entries_decide (entries_at gs j) t.1).1 in
-      grind (arith, common_steps))
+      (λ j k l m e. grind (arith, common_steps, differ j k l, fails_before_first (λ g. same_entries g.entries t.1) gs j nothing, (entries_decide (entries_at gs j) t.1).1))
 ]
   where
     place : ℕ

@@ -2,7 +2,7 @@
 use Rattle.std.proofs.Common.{◌≡◌, ℕ, ◌+◌, ◌<◌, Bool, true, false, leb, ltb, max, cond, ◌||◌, ◌↔◌, List, [], ◌∷◌, length, refl, sym, subst, ap, ◌∙◌, arith}
 use Rattle.std.specs.List.{list_all}
 use Rattle.std.proofs.Math.Bool.{or-true, or_comm}
-use Rattle.std.proofs.lemmas.Bool.{and_parts, and_from, false≢true}
+use Rattle.std.proofs.lemmas.Bool.{and_from, false≢true}
 use Rattle.std.proofs.lemmas.Bool.Decides.{nat_tests}
 use Rattle.photo_version.specs.Author.{Author, same_author, author_word}
 use Rattle.photo_version.specs.Version.{Version, same_version}
@@ -31,11 +31,7 @@ pub record IsOf (fs now : List Fragment) (p n : ℕ) : Type 0 where
   pub known : (v : Version) → denotes (entries_at fs n) v ≡ knows now p v
 
 pub is_of : (rows : List (List ℕ)) (xs : List (ℕ × ℕ)) (now : List Fragment) (p n : ℕ) → IsKept rows xs → fragments_of rows ≡ now → n ≡ at 0 xs p → IsOf (fragments_of rows) now p n
-is_of rows xs now p n h is e = subst (IsOf (fragments_of rows) now p) (sym e) (record {
-  there = number_below (fragments_of rows) xs p (kept_operand rows xs h);
-  vector = operand_vector (fragments_of rows) xs p (kept_operand rows xs h);
-  known = λ v. sym (kept_knows rows xs p v h) ∙ ap (λ fs. knows fs p v) is;
-})
+is_of rows xs now p n h is e = grind (arith, number_below (fragments_of rows) xs p (kept_operand rows xs h), operand_vector (fragments_of rows) xs p (kept_operand rows xs h), λ (v : Version). kept_knows rows xs p v h)
 
 -- the same by what is known
 pub number_known : (rows : List (List ℕ)) (xs : List (ℕ × ℕ)) (now : List Fragment) (p n : ℕ) → IsKept rows xs → fragments_of rows ≡ now → n ≡ at 0 xs p → n < length now
@@ -44,8 +40,7 @@ number_known rows xs now p n h is e = subst (λ fs. n < length fs) is (is_of row
 pub has_known : (rows : List (List ℕ)) (xs : List (ℕ × ℕ)) (now : List Fragment) (p n : ℕ) (v : Version) → IsKept rows xs → fragments_of rows ≡ now → n ≡ at 0 xs p → 0 < v.number → leb v.number (bound (entries_at now n) (author_word v.author)) ≡ knows now p v
 has_known rows xs now p n v h is e z =
     let of = is_of rows xs now p n h is e in
-    subst (λ fs. leb v.number (bound (entries_at fs n) (author_word v.author)) ≡ knows now p v) is
-    (grind (arith, nat_tests, of.known v, denotes-bound (entries_at (fragments_of rows) n) v of.vector))
+    grind (arith, nat_tests, of.known v, denotes-bound (entries_at (fragments_of rows) n) v of.vector)
 
 -- the vector of a fragment
 pub kept_vector : (rows : List (List ℕ)) (xs : List (ℕ × ℕ)) (k : ℕ) → IsKept rows xs → k < length (fragments_of rows) → is_vector (entries_at (fragments_of rows) k) ≡ true
@@ -53,10 +48,7 @@ kept_vector rows xs k h l = (above (fragments_of rows) xs k (kept_operand rows x
 
 -- what is known after a union
 pub joins : (rows : List (List ℕ)) (xs : List (ℕ × ℕ)) (now gs us : List Fragment) (ys zs : List (ℕ × ℕ)) → IsKept rows xs → fragments_of rows ≡ now → IsUnion (fragments_of rows) xs gs ys us zs → IsJoined now gs ys us
-joins rows xs now gs us ys zs h is u = subst (λ fs. IsJoined fs gs ys us) is (record {
-  star = λ a. u.star (author_word a);
-  pairs = λ p v z. u.pairs p v z ∙ ap (λ b. b || denotes (vector_of gs ys p) v) (sym (kept_knows rows xs p v h));
-})
+joins rows xs now gs us ys zs h is u = grind (arith, u.star, u.pairs, λ (p : ℕ) (v : Version). kept_knows rows xs p v h)
 
 -- Inclusion
 
@@ -69,22 +61,15 @@ leq_along fs gs ys p (x ∷ xs) h s = grind (arith, nat_tests, leq_along fs gs y
 
 within_leq : (fs gs : List Fragment) (xs ys : List (ℕ × ℕ)) (p : ℕ) → IsOperand fs xs → IsOperand gs ys → is_operand_within fs xs gs ys ≡ true → leq (vector_of fs xs p) (vector_of gs ys p) ≡ true
 within_leq fs gs xs ys p h g w =
-    let a = and_parts (leq (entries_at fs 0) (entries_at gs 0)) (list_all (λ r. leq (entries_at fs r.1) (vector_of gs ys r.0)) xs) w in
-    leq_along fs gs ys p xs a.1
-    (leq_trans (entries_at fs 0) (entries_at gs 0) (vector_of gs ys p) (above fs xs 0 h h.star).vector a.0 (above gs ys (at 0 ys p) g (number_below gs ys p g)).above)
+    leq_along fs gs ys p xs (grind (arith, nat_tests))
+    (leq_trans (entries_at fs 0) (entries_at gs 0) (vector_of gs ys p) (above fs xs 0 h h.star).vector (grind (arith, nat_tests)) (above gs ys (at 0 ys p) g (number_below gs ys p g)).above)
 
 -- what is known already adds nothing
 within_denotes : (rows : List (List ℕ)) (xs ys : List (ℕ × ℕ)) (gs : List Fragment) → IsKept rows xs → IsOperand gs ys → is_operand_within gs ys (fragments_of rows) xs ≡ true
     → (p : ℕ) (v : Version) → knows (fragments_of rows) p v ≡ (knows (fragments_of rows) p v || denotes (vector_of gs ys p) v)
 within_denotes rows xs ys gs h t w p v =
-    let fs = fragments_of rows in
     let s = kept_operand rows xs h in
-    let e = leq_denotes (vector_of gs ys p) (vector_of fs xs p) v (operand_vector gs ys p t) (operand_vector fs xs p s) (within_leq gs fs ys xs p t s w) in
-    rw (kept_knows rows xs p v h) (sym e ∙ or_comm (denotes (vector_of gs ys p) v) (denotes (vector_of fs xs p) v))
-
-within_knows : (rows others : List (List ℕ)) (xs ys : List (ℕ × ℕ)) → IsKept rows xs → IsKept others ys → is_operand_within (fragments_of others) ys (fragments_of rows) xs ≡ true → (p : ℕ) (v : Version) → knows (fragments_of rows) p v ≡ (knows (fragments_of rows) p v || knows (fragments_of others) p v)
-within_knows rows others xs ys h g w p v =
-    within_denotes rows xs ys (fragments_of others) h (kept_operand others ys g) w p v ∙ ap (λ b. knows (fragments_of rows) p v || b) (sym (kept_knows others ys p v g))
+    grind (arith, kept_knows rows xs p v h, or_comm (denotes (vector_of gs ys p) v) (denotes (vector_of (fragments_of rows) xs p) v), leq_denotes (vector_of gs ys p) (vector_of (fragments_of rows) xs p) v (operand_vector gs ys p t) (operand_vector (fragments_of rows) xs p s) (within_leq gs (fragments_of rows) ys xs p t s w))
 
 -- nor does a star that is within another
 star_within : (fs gs : List Fragment) (xs ys : List (ℕ × ℕ)) (a : Author) → is_operand_within fs xs gs ys ≡ true → star_bound gs a ≡ max (star_bound gs a) (star_bound fs a)
@@ -92,10 +77,7 @@ star_within fs gs xs ys a w = grind (arith, nat_tests, leq_at (entries_at fs 0) 
 
 -- so it is what is known after the union
 pub joins_none : (rows : List (List ℕ)) (xs ys : List (ℕ × ℕ)) (now gs : List Fragment) → IsKept rows xs → fragments_of rows ≡ now → IsOperand gs ys → is_operand_within gs ys (fragments_of rows) xs ≡ true → IsJoined now gs ys (fragments_of rows)
-joins_none rows xs ys now gs h is t w = subst (λ fs. IsJoined fs gs ys (fragments_of rows)) is (record {
-  star = λ a. star_within gs (fragments_of rows) ys xs a w;
-  pairs = λ p v z. within_denotes rows xs ys gs h t w p v;
-})
+joins_none rows xs ys now gs h is t w = grind (arith, λ (a : Author). star_within gs (fragments_of rows) ys xs a w, within_denotes rows xs ys gs h t w)
 
 -- a vector is at most another that denotes all that it denotes
 leq_by : (xs ys : List Entry) → is_vector xs ≡ true → is_vector ys ≡ true → ((v : Version) → denotes xs v ≡ true → denotes ys v ≡ true) → leq xs ys ≡ true
@@ -113,9 +95,7 @@ star_vector (s ∷ gs) h = (normal_parts s gs h).vector
 
 -- what an operand's star has each of its vectors has
 star_up : (gs : List Fragment) (ys : List (ℕ × ℕ)) (p : ℕ) (v : Version) → IsOperand gs ys → denotes (entries_at gs 0) v ≡ true → denotes (vector_of gs ys p) v ≡ true
-star_up gs ys p v g d =
-    sym (leq_denotes (entries_at gs 0) (vector_of gs ys p) v (above gs ys 0 g g.star).vector (operand_vector gs ys p g) (above gs ys (at 0 ys p) g (number_below gs ys p g)).above)
-    ∙ ap (λ b. b || denotes (vector_of gs ys p) v) d
+star_up gs ys p v g d = grind (arith, leq_denotes (entries_at gs 0) (vector_of gs ys p) v (above gs ys 0 g g.star).vector (operand_vector gs ys p g) (above gs ys (at 0 ys p) g (number_below gs ys p g)).above)
 
 -- an operand is within what is kept where all that it denotes is known
 within_operand : (rows : List (List ℕ)) (xs ys : List (ℕ × ℕ)) (gs : List Fragment) → IsKept rows xs → IsOperand gs ys → IsOperandKnown (fragments_of rows) gs ys → is_operand_within gs ys (fragments_of rows) xs ≡ true
@@ -132,20 +112,17 @@ within_operand rows xs ys gs h g all =
 pub known_operand : (now : List Fragment) (others : List (List ℕ)) (ys : List (ℕ × ℕ)) → IsKept others ys → IsWithin (fragments_of others) now → IsOperandKnown now (fragments_of others) ys
 known_operand now others ys g all = λ p v z d. all p v z (kept_knows others ys p v g ∙ d)
 
-within_from : (rows others : List (List ℕ)) (xs ys : List (ℕ × ℕ)) → IsKept rows xs → IsKept others ys → IsWithin (fragments_of others) (fragments_of rows) → is_operand_within (fragments_of others) ys (fragments_of rows) xs ≡ true
-within_from rows others xs ys h g all =
-    within_operand rows xs ys (fragments_of others) h (kept_operand others ys g) (known_operand (fragments_of rows) others ys g all)
-
 -- so an operand that isn't within what is kept isn't known
 pub not_known : (rows : List (List ℕ)) (xs ys : List (ℕ × ℕ)) (now gs : List Fragment) → IsKept rows xs → fragments_of rows ≡ now → IsOperand gs ys → is_operand_within gs ys (fragments_of rows) xs ≡ false → IsOperandKnown now gs ys → ⊥
 not_known rows xs ys now gs h is g outside all =
     false≢true (sym outside ∙ within_operand rows xs ys gs h g (subst (λ fs. IsOperandKnown fs gs ys) (sym is) all))
 
 pub within_pairs : (rows others : List (List ℕ)) (xs ys : List (ℕ × ℕ)) → IsKept rows xs → IsKept others ys → (is_operand_within (fragments_of others) ys (fragments_of rows) xs ≡ true) ↔ ((p : ℕ) (v : Version) → 0 < p → knows (fragments_of others) p v ≡ true → knows (fragments_of rows) p v ≡ true)
-within_pairs rows others xs ys h g = (
-  λ w p v z k. within_knows rows others xs ys h g w p v ∙ (ap (λ b. knows (fragments_of rows) p v || b) k ∙ or-true (knows (fragments_of rows) p v)),
-  λ all. within_from rows others xs ys h g all,
-)
+within_pairs rows others xs ys h g =
+    let operand = kept_operand others ys g in (
+      λ w p v z k. within_denotes rows xs ys (fragments_of others) h operand w p v ∙ (ap (λ b. knows (fragments_of rows) p v || b) (sym (kept_knows others ys p v g) ∙ k) ∙ or-true (knows (fragments_of rows) p v)),
+      λ all. within_operand rows xs ys (fragments_of others) h operand (known_operand (fragments_of rows) others ys g all),
+    )
 
 -- The star's next version
 

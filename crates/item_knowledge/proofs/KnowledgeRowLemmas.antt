@@ -1,19 +1,20 @@
 -- Rows of what exceeds a star, as they are shown.
-use Rattle.std.proofs.Common.{◌≡◌, ℕ, suc, ◌+◌, ◌*◌, ◌<◌, ◌≤◌, true, leb, max, List, [], ◌∷◌, length, get_or, set, refl, sym, subst, ap, ◌∙◌, inl, inr, arith}
+use Rattle.std.proofs.Common.{◌≡◌, ℕ, suc, ◌+◌, ◌*◌, ◌<◌, ◌≤◌, true, leb, max, List, [], ◌∷◌, length, get_or, set, refl, sym, subst, ap, ◌∙◌, arith}
 use Rattle.std.specs.Cmp.{both_ways}
+use Rattle.std.proofs.Math.Path.{transport}
 use Rattle.std.specs.List.{list_all}
 use Rattle.std.proofs.lemmas.List.{get_or-map, get_or_past}
-use Rattle.std.proofs.lemmas.Bool.{and_parts, and_from, leb-true, cases_lt, false≢true}
+use Rattle.std.proofs.lemmas.Bool.{and_from, cases_lt}
 use Rattle.std.proofs.lemmas.Bool.Decides.{nat_tests}
 use Rattle.item_knowledge.specs.Entries.{Entry, is_vector, bound, leq, joined}
 use Rattle.item_knowledge.specs.Excess.{exceeding, shown, whole, wholes, IsExcess}
-use Rattle.item_knowledge.specs.Fragments.{Fragment, is_normal, nothing, entries_at}
+use Rattle.item_knowledge.specs.Fragments.{Fragment, nothing, entries_at}
 use Rattle.item_knowledge.specs.Gathering.{IsOperand, IsUnion}
-use Rattle.item_knowledge.specs.Raising.{IsWaiting, are_level, all_raised}
+use Rattle.item_knowledge.specs.Raising.{IsWaiting, all_raised}
 use Rattle.item_knowledge.specs.Rows.{pairs, flat, IsRow, IsPlaceOf, AreRows, fragments_of, rows_of}
 use Rattle.item_knowledge.specs.Written.{IsWritten}
 use Rattle.item_knowledge.proofs.EntryLemmas.{one_by_bounds}
-use Rattle.item_knowledge.proofs.ExcessLemmas.{exceeding_none, length_wholes, entries_wholes, wholes_operand}
+use Rattle.item_knowledge.proofs.ExcessLemmas.{exceeding_none, normal_some, length_wholes, entries_wholes, wholes_operand}
 use Rattle.item_knowledge.proofs.FragmentLemmas.{leq_at}
 use Rattle.item_knowledge.proofs.JoinLemmas.{joined_bound, joined_vector, joined_left, joined_right, leq_from, vector_order, row_put}
 use Rattle.item_knowledge.proofs.MergeLemmas.{all_at}
@@ -40,13 +41,7 @@ module _ (star : List ℕ) (rows now : List (List ℕ)) (h : IsExcess star rows)
   pub shown_at : (k : ℕ) → k < length (fragments_of now) → ShownAt k
   shown_at k l =
       let there : k < length (fragments_of rows) = subst (λ n. k < n) shown_count l in
-      let entries : entries_at (fragments_of now) k ≡ joined (entries_at (fragments_of rows) k) (pairs star) = ap (λ fs. entries_at fs k) shown_are ∙ entries_wholes (pairs star) (fragments_of rows) k there in
-      record {
-        there = there;
-        pictures = ap (λ fs. (get_or fs k nothing).pictures) shown_are ∙ ap (λ (f : Fragment). f.pictures) (get_or-map (λ f. whole (pairs star) f) (fragments_of rows) k nothing nothing there);
-        entries = entries;
-        bounds = λ a. ap (λ es. bound es a) entries ∙ joined_bound (entries_at (fragments_of rows) k) (pairs star) a (h.vectors k) h.vector;
-      }
+      grind (arith, shown_are, entries_wholes (pairs star) (fragments_of rows) k there, get_or-map (λ f. whole (pairs star) f) (fragments_of rows) k nothing nothing there, λ (a : ℕ). joined_bound (entries_at (fragments_of rows) k) (pairs star) a (h.vectors k) h.vector)
 
   -- the first is the star
   pub shown_star : 0 < length (fragments_of now) → entries_at (fragments_of now) 0 ≡ pairs star
@@ -59,13 +54,12 @@ module _ (star : List ℕ) (rows now : List (List ℕ)) (h : IsExcess star rows)
   pub leq_beyond : (k : ℕ) (row : List ℕ) (es : List Entry) → k < length (fragments_of now) → pairs row ≡ entries_at (fragments_of rows) k → leq (entries_at (fragments_of now) 0) es ≡ true → leq (pairs row) es ≡ leq (entries_at (fragments_of now) k) es
   leq_beyond k row es l is star_in =
       let at = shown_at k l in
-      let own = h.vectors k in
-      let whole_vector : is_vector (entries_at (fragments_of now) k) ≡ true = ap is_vector at.entries ∙ joined_vector (entries_at (fragments_of rows) k) (pairs star) own h.vector in
+      let whole_vector : is_vector (entries_at (fragments_of now) k) ≡ true = ap is_vector at.entries ∙ joined_vector (entries_at (fragments_of rows) k) (pairs star) (h.vectors k) h.vector in
       let stars : leq (pairs star) es ≡ true = ap (λ s. leq s es) (sym (shown_star (omega arith))) ∙ star_in in
       ap (λ xs. leq xs es) is
       ∙ both_ways (leq (entries_at (fragments_of rows) k) es) (leq (entries_at (fragments_of now) k) es)
       (λ beyond. leq_from (entries_at (fragments_of now) k) es whole_vector (λ a. omega (arith, leq_at (entries_at (fragments_of rows) k) es a beyond, leq_at (pairs star) es a stars, at.bounds a)))
-      (λ all. leq_from (entries_at (fragments_of rows) k) es own (λ a. omega (arith, leq_at (entries_at (fragments_of now) k) es a all, at.bounds a)))
+      (λ all. leq_from (entries_at (fragments_of rows) k) es (h.vectors k) (λ a. omega (arith, leq_at (entries_at (fragments_of now) k) es a all, at.bounds a)))
 
 -- A star alone, and rows with a star that has no entries
 
@@ -76,16 +70,12 @@ star_shown star rows row is =
 wholes_none : (fs : List Fragment) → list_all (λ (f : Fragment). is_vector f.entries) fs ≡ true → wholes [] fs ≡ fs
 wholes_none [] h = refl
 wholes_none (f ∷ fs) h =
-    let p = and_parts (is_vector f.entries) (list_all (λ (g : Fragment). is_vector g.entries) fs) h in
-    λ i. record { pictures = f.pictures; entries = joined_left f.entries (vector_order f.entries p.0) i } ∷ wholes_none fs p.1 i
+    λ i. record { pictures = f.pictures; entries = joined_left f.entries (vector_order f.entries (grind (arith, nat_tests))) i } ∷ wholes_none fs (grind (arith, nat_tests)) i
 
 pub plain_shown : (rows : List (List ℕ)) → AreRows rows → list_all (λ (f : Fragment). is_vector f.entries) (fragments_of rows) ≡ true → shown [] rows ≡ rows
 plain_shown rows are h = ap rows_of (wholes_none (fragments_of rows) h) ∙ are
 
 -- A star that rises by one entry
-
-level_at : (fs : List Fragment) (k a b : ℕ) → are_level fs a b ≡ true → k < length fs → bound (entries_at fs k) a ≤ b
-level_at fs k a b h l = leb-true (bound (entries_at fs k) a) b (all_at (λ (f : Fragment). leb (bound f.entries a) b) fs k nothing h l)
 
 raised_each : (s : List Entry) (e : Entry) (fs : List Fragment) → is_vector s ≡ true → is_vector (e ∷ []) ≡ true → ((k : ℕ) → is_vector (entries_at fs k) ≡ true) → wholes (joined s (e ∷ [])) fs ≡ all_raised e (wholes s fs)
 raised_each s e [] hs he h = refl
@@ -110,15 +100,8 @@ module _ (star : List ℕ) (rows now : List (List ℕ)) (a n place : ℕ) (h : I
   one : is_vector (e ∷ []) ≡ true
   one = and_from _ _ refl (and_from _ _ waits.entry refl)
 
-  some : 0 < length (fragments_of now)
-  some = by (fragments_of now) waits.normal
-    where
-      by : (fs : List Fragment) → is_normal fs ≡ true → 0 < length fs
-      by [] w = absurd (false≢true w)
-      by (f ∷ fs) w = omega arith
-
   star_is : entries_at (fragments_of now) 0 ≡ pairs star
-  star_is = shown_star star rows now h is some
+  star_is = shown_star star rows now h is (normal_some (fragments_of now) waits.normal)
 
   there : IsPlaceOf (pairs star) place a
   there = found (subst (λ es. 0 < bound es a) star_is waits.some)
@@ -132,28 +115,13 @@ module _ (star : List ℕ) (rows now : List (List ℕ)) (a n place : ℕ) (h : I
 
   -- no row has a bound of the author
   beyond : (k : ℕ) → bound (entries_at (fragments_of rows) k) a ≡ 0
-  beyond k = elim (cases_lt k (length (fragments_of now))) [
-    | inl l ↦ grind (arith, level_at (fragments_of now) k a (bound (entries_at (fragments_of now) 0) a) waits.level l, (shown_at star rows now h is k l).bounds a, ap (λ es. bound es a) star_is, h.exceeds k a)
-    | inr past ↦
-        let count = shown_count star rows now h is in
-        ap (λ (f : Fragment). bound f.entries a) (get_or_past (fragments_of rows) k nothing (omega arith))
-  ]
-
-  exceeds_still : (k b : ℕ) → 0 < bound (entries_at (fragments_of rows) k) b → bound (pairs (flat (joined (pairs star) (e ∷ [])))) b < bound (entries_at (fragments_of rows) k) b
-  exceeds_still k b z = rw entries (grind (arith, nat_tests, h.exceeds k b z, joined_bound (pairs star) (e ∷ []) b h.vector one, beyond k))
+  beyond k = grind (arith, nat_tests, cases_lt k (length (fragments_of now)), all_at (λ (f : Fragment). leb (bound f.entries a) (bound (entries_at (fragments_of now) 0) a)) (fragments_of now) k nothing waits.level, λ (l : k < length (fragments_of now)). (shown_at star rows now h is k l).bounds a, star_is, h.exceeds k a, shown_count star rows now h is, get_or_past (fragments_of rows) k nothing)
 
   pub raised_star : (words : List ℕ) → words ≡ set star (2 * place + 1) n → IsRaised star words rows now (a, n)
   raised_star words put =
       let made : words ≡ flat (joined (pairs star) (e ∷ [])) = put ∙ ((λ i. set (sym h.row i) (2 * place + 1) n) ∙ row_put (pairs star) place a n (vector_order (pairs star) h.vector) there.inside there.key_is (subst (λ es. bound es a ≤ n) star_is waits.most)) in
       subst (λ ws. IsRaised star ws rows now (a, n)) (sym made) (record {
-        excess = record {
-          row = flat_row (joined (pairs star) (e ∷ []));
-          vector = ap is_vector entries ∙ joined_vector (pairs star) (e ∷ []) h.vector one;
-          are_rows = h.are_rows;
-          first = h.first;
-          vectors = h.vectors;
-          exceeds = exceeds_still;
-        };
+        excess = grind (arith, flat_row (joined (pairs star) (e ∷ [])), entries, joined_vector (pairs star) (e ∷ []) h.vector one, h.are_rows, h.first, h.vectors, nat_tests, λ (k b : ℕ). h.exceeds k b, λ (b : ℕ). joined_bound (pairs star) (e ∷ []) b h.vector one, beyond);
         shown = ap (λ es. rows_of (wholes es (fragments_of rows))) entries ∙ (ap rows_of (raised_each (pairs star) e (fragments_of rows) h.vector one h.vectors) ∙ ap (λ fs. rows_of (all_raised e fs)) (sym (shown_are star rows now h is)));
       })
 
@@ -180,8 +148,5 @@ union_made s t words one other left right out xs ys zs h is g same row both x y 
     record {
       excess = union_excess (pairs words) fs gs xs ys operand other_operand h.first g.first w.us zs w.union words out row refl vector w.rows;
       rows = rows_rows (wholes (pairs words) (fragments_of out));
-      union =
-          subst (λ ls. IsUnion ls xs (fragments_of right) ys (fragments_of (shown words out)) zs) (sym (shown_are s one left h is))
-          (subst (λ rs. IsUnion (wholes (pairs s) fs) xs rs ys (fragments_of (shown words out)) zs) (sym (shown_are t other right g same))
-          (subst (λ us. IsUnion (wholes (pairs s) fs) xs (wholes (pairs t) gs) ys us zs) (sym (fragments_rows (wholes (pairs words) (fragments_of out)) ∙ ap (wholes (pairs words)) (ap fragments_of w.rows ∙ fragments_rows w.us))) made));
+      union = transport (λ i. IsUnion (sym (shown_are s one left h is) i) xs (sym (shown_are t other right g same) i) ys (sym (fragments_rows (wholes (pairs words) (fragments_of out)) ∙ ap (wholes (pairs words)) (ap fragments_of w.rows ∙ fragments_rows w.us)) i) zs) made;
     }

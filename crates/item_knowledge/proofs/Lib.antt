@@ -14,7 +14,6 @@ pub mod SearchLemmas
 pub mod KeptLemmas
 pub mod StagedLemmas
 pub mod TableRowLemmas
-pub mod KnownLemmas
 pub mod NextLemmas
 pub mod ExcessLemmas
 pub mod KnowledgeRowLemmas

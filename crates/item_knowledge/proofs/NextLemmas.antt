@@ -1,6 +1,6 @@
 -- An author's next version, raised in place: where no fragment has the author above the star, that keeps the normal form.
-use Rattle.std.proofs.Common.{◌≡◌, ℕ, ◌+◌, ◌<◌, ◌≤◌, true, leb, ltb, max, ◌||◌, List, [], ◌∷◌, length, refl, sym, subst, ap, ◌∙◌, arith}
-use Rattle.std.proofs.lemmas.Bool.{and_from, lt-ltb, le-leb, false≢true, or_right}
+use Rattle.std.proofs.Common.{◌≡◌, ℕ, ◌+◌, ◌<◌, ◌≤◌, true, leb, ltb, List, [], ◌∷◌, length, refl, sym, subst, ap, ◌∙◌, arith}
+use Rattle.std.proofs.lemmas.Bool.{and_from, false≢true, or_right}
 use Rattle.std.proofs.lemmas.Bool.Decides.{nat_tests}
 use Rattle.photo_version.specs.Author.{Author, author_word, is_author_word}
 use Rattle.photo_version.specs.Version.{Version, version}
@@ -35,16 +35,18 @@ raised_union e fs xs i w =
     let operand = normal_operand fs xs h i in
     let level : (k : ℕ) → k < length fs → bound (entries_at fs k) e.0 ≡ bound (entries_at fs 0) e.0 = λ k l.
     grind (arith, nat_tests, leq_at (entries_at fs 0) (entries_at fs k) e.0 (above fs xs k operand l).above, all_at (λ (f : Fragment). leb (bound f.entries e.0) (bound (entries_at fs 0) e.0)) fs k nothing w.level l) in
-    let normal = joined_normal (λ es. bound es e.0 ≡ bound (entries_at fs 0) e.0) (e ∷ []) fs one h level (λ xs ys f g p q. apart xs ys e f g one (p ∙ sym q)) in
-    record {
-      normal = normal;
-      index = wholes_index (e ∷ []) fs xs h i;
-      star = λ a. ap (λ es. bound es a) (entries_wholes (e ∷ []) fs 0 operand.star) ∙ joined_bound (entries_at fs 0) (e ∷ []) a (above fs xs 0 operand operand.star).vector one;
-      pairs = λ p v z.
-          knows_vector (all_raised e fs) p v normal
-          ∙ (ap (λ es. denotes es v) (wholes_known (e ∷ []) fs p h ∙ ap (λ es. joined es (e ∷ [])) (sym (i.vectors p)))
-          ∙ joined_denotes (vector_of fs xs p) (e ∷ []) v (operand_vector fs xs p operand) one);
-    }
+    let normal = joined_normal (λ es. bound es e.0 ≡ bound (entries_at fs 0) e.0) (e ∷ []) one (λ xs ys f g p q. apart xs ys e f g one (p ∙ sym q)) fs h level in
+    grind (
+      arith,
+      normal,
+      wholes_index (e ∷ []) fs xs h i,
+      entries_wholes (e ∷ []) fs 0 operand.star,
+      λ (a : ℕ). joined_bound (entries_at fs 0) (e ∷ []) a (above fs xs 0 operand operand.star).vector one,
+      λ (p : ℕ) (v : Version). knows_vector (all_raised e fs) p v normal,
+      λ (p : ℕ). wholes_known (e ∷ []) fs p h,
+      i.vectors,
+      λ (p : ℕ) (v : Version). joined_denotes (vector_of fs xs p) (e ∷ []) v (operand_vector fs xs p operand) one,
+    )
 
 -- Where no version that is known has a number above b, no bound is above b
 
@@ -64,11 +66,8 @@ level_one f fs p a b vector z here each =
 level_groups : (star : List Entry) (gs : List Fragment) (a : Author) (b : ℕ) → are_groups star gs ≡ true → Within gs a b → are_level gs (author_word a) b ≡ true
 level_groups star [] a b groups each = refl
 level_groups star (g ∷ gs) a b groups each =
-    let group = (groups_parts star g gs groups).group in
-    let p = first g.pictures in
-    let here = first_listed g.pictures group.some in
-    and_from _ _ (level_one g gs p a b group.vector (grind (arith, nat_tests, listed (λ q. ltb 0 q) g.pictures p group.positive here)) (or_right _ _ here) each)
-    (level_groups star gs a b (groups_parts star g gs groups).rest (λ p n z h. each p n z (or_right _ _ h)))
+    let parts = groups_parts star g gs groups in
+    grind (arith, nat_tests, λ (n : ℕ). each (first g.pictures) n, level_one g gs (first g.pictures) a b parts.group.vector, listed (λ q. ltb 0 q) g.pictures (first g.pictures), first_listed g.pictures parts.group.some, level_groups star gs a b parts.rest (λ p n z h. each p n z (or_right _ _ h)))
 
 level_known : (fs : List Fragment) (a : Author) (b : ℕ) → is_normal fs ≡ true → Within fs a b → are_level fs (author_word a) b ≡ true
 level_known [] a b normal each = absurd (false≢true normal)
@@ -83,10 +82,7 @@ pub record IsOwned (w : Version) (fs : List Fragment) (xs : List (ℕ × ℕ)) (
 
 -- what is learned with the star of an author's next version
 pub next_joined : (w : Version) (before fs gs new : List Fragment) (ys : List (ℕ × ℕ)) → before ≡ fs → is_normal fs ≡ true → w.number ≡ star_bound fs w.author + 1 → gs ≡ star_of_one (author_word w.author, w.number) → ys ≡ [] → IsJoined before gs ys new → HasNext w fs new
-next_joined w before fs gs new ys known normal next is none j = record {
-  star = λ a. j.star a ∙ ((λ i. max (star_bound (known i) a) (star_bound (is i) a)) ∙ star_next fs w.author a w.number next);
-  learned = λ p v z. j.pairs p v z ∙ ((λ i. knows (known i) p v || denotes (vector_of (is i) (none i) p) v) ∙ next_known fs w p v normal z next);
-}
+next_joined w before fs gs new ys known normal next is none j = grind (arith, j.star, j.pairs, λ (a : Author). star_next fs w.author a w.number next, λ (p : ℕ) (v : Version). next_known fs w p v normal)
 
 -- the bound may be raised, and then the version is known
 module _ (w : Version) (rows : List (List ℕ)) (xs : List (ℕ × ℕ)) (fs : List Fragment) (a n : ℕ) (h : IsKept rows xs) (same : fragments_of rows ≡ fs) (word : a ≡ author_word w.author) (number : n ≡ w.number) (author : is_author_word a ≡ true) (above : 0 < n) (fits : n ≤ most_number)
@@ -95,15 +91,7 @@ module _ (w : Version) (rows : List (List ℕ)) (xs : List (ℕ × ℕ)) (fs : L
   normal = subst (λ gs. is_normal gs ≡ true) same h.normal
 
   pub own_waiting : IsWaiting (a, n) (fragments_of rows)
-  own_waiting =
-      let here : bound (entries_at fs 0) a ≡ star_bound fs w.author = ap (bound (entries_at fs 0)) word in
-      subst (IsWaiting (a, n)) (sym same) (record {
-        normal = normal;
-        entry = and_from _ _ author (and_from _ _ (lt-ltb 0 n above) (le-leb n most_number fits));
-        level = subst (λ b. are_level fs b (bound (entries_at fs 0) b) ≡ true) (sym word) (level_known fs w.author (star_bound fs w.author) normal level);
-        some = omega arith;
-        most = omega arith;
-      })
+  own_waiting = grind (arith, nat_tests, same, word, level_known fs w.author (star_bound fs w.author) normal level)
 
   pub owned : (out : List (List ℕ)) → out ≡ rows_of (all_raised (a, n) (fragments_of rows)) → IsOwned w fs xs out
   owned out is =

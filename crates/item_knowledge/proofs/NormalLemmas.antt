@@ -1,7 +1,7 @@
 -- Whatever is known of every picture, and of some besides, has a normal form: it is the union of what is known of each.
-use Rattle.std.proofs.Common.{◌≡◌, ℕ, ◌<◌, Bool, true, ltb, eqb, ◌&&◌, ◌||◌, List, [], ◌∷◌, refl, sym, ap, ◌∙◌, arith}
-use Rattle.std.specs.List.{list_any, list_all}
-use Rattle.std.proofs.Math.Bool.{or-false, or_assoc, or_comm}
+use Rattle.std.proofs.Common.{◌≡◌, ℕ, ◌<◌, Bool, true, ltb, eqb, ◌&&◌, List, [], ◌∷◌, refl, sym, ap, ◌∙◌, arith}
+use Rattle.std.specs.List.{list_all}
+use Rattle.std.proofs.Math.Bool.{or-false}
 use Rattle.std.proofs.lemmas.Bool.{and_parts, and_from}
 use Rattle.std.proofs.lemmas.Bool.Decides.{nat_tests}
 use Rattle.photo_version.specs.Version.{Version}
@@ -23,20 +23,11 @@ abbrev one_index : ℕ × List Entry → List (ℕ × ℕ)
 one_index t = (t.0, 1) ∷ []
 
 one_operand : (t : ℕ × List Entry) → is_told t ≡ true → IsOperand (one t) (one_index t)
-one_operand t h =
-    let parts = and_parts (ltb 0 t.0) (is_vector t.1) h in
-    record {
-      star = omega arith;
-      above = and_from _ _ refl (and_from _ _ (and_from _ _ parts.1 refl) refl);
-      order = refl;
-      positive = and_from _ _ parts.0 refl;
-      range = refl;
-    }
+one_operand t h = grind (arith, nat_tests)
 
 one_denoted : (t : ℕ × List Entry) (p : ℕ) (v : Version) → is_told t ≡ true → denotes (vector_of (wholes [] (one t)) (one_index t) p) v ≡ (eqb t.0 p && denotes t.1 v)
 one_denoted t p v h =
-    let same = joined_left t.1 (vector_order t.1 (and_parts (ltb 0 t.0) (is_vector t.1) h).1) in
-    grind (arith, nat_tests, ap (λ es. denotes es v) same)
+    grind (arith, nat_tests, ap (λ es. denotes es v) (joined_left t.1 (vector_order t.1 (and_parts (ltb 0 t.0) (is_vector t.1) h).1)))
 
 -- fragments that are, with the star, a normal form of some pairs
 record Form (every : List Entry) (pairs : ℕ → Version → Bool) : Type 0 where
@@ -65,7 +56,6 @@ form_of every (t ∷ some) h g =
     let made = form_of every some h parts.1 in
     let fs = made.fragments in
     let index = made.index in
-    let rest = λ (p : ℕ) (v : Version). list_any (λ u. eqb u.0 p && denotes u.1 v) some in
     let other = one_operand t parts.0 in
     let both = beyond every fs (one t) index (one_index t) made.operand other made.first refl in
     let union = whole_union every fs (one t) index (one_index t) made.operand other made.first refl both.0 both.1 both.2 every [] h refl (sym (joined_left every (vector_order every h))) in
@@ -76,12 +66,7 @@ form_of every (t ∷ some) h g =
       operand = normal_operand both.0 both.1 both.2.normal both.2.index;
       normal = union.normal;
       indexed = union.index;
-      denoted = λ p v z.
-          let left : denotes (vector_of (wholes every fs) index p) v ≡ pairs_of every some p v =
-          ap (λ es. denotes es v) (made.indexed.vectors p) ∙ (sym (knows_vector (wholes every fs) p v made.normal) ∙ made.denoted p v z) in
-          union.pairs p v z
-          ∙ ((λ i. left i || one_denoted t p v parts.0 i)
-          ∙ (or_assoc (denotes every v) (rest p v) (eqb t.0 p && denotes t.1 v) ∙ ap (λ b. denotes every v || b) (or_comm (rest p v) (eqb t.0 p && denotes t.1 v))));
+      denoted = λ p v z. grind (arith, nat_tests, union.pairs p v z, made.indexed.vectors p, knows_vector (wholes every fs) p v made.normal, made.denoted p v z, one_denoted t p v parts.0);
     }
 
 pub has_one : (every : List Entry) (some : List (ℕ × List Entry)) → is_vector every ≡ true → list_all (λ t. is_told t) some ≡ true → (fs : List Fragment) × IsTheNormalForm fs (pairs_of every some)

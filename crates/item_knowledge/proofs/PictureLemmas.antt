@@ -1,7 +1,7 @@
 -- Lists of pictures in order.
 use Rattle.std.proofs.Common.{◌≡◌, ℕ, ◌+◌, ◌≤◌, Bool, true, false, ltb, eqb, List, [], ◌∷◌, length, refl, arith}
 use Rattle.std.specs.List.{list_all}
-use Rattle.std.proofs.lemmas.Bool.{and_parts, true≢false}
+use Rattle.std.proofs.lemmas.Bool.{true≢false}
 use Rattle.std.proofs.lemmas.Bool.Decides.{nat_tests}
 use Rattle.item_knowledge.specs.Fragments.{is_empty, first, lists, rises}
 
@@ -27,11 +27,9 @@ same_pictures [] [] rx ry h = refl
 same_pictures [] (y ∷ ys) rx ry h = absurd (grind (arith, nat_tests, h y))
 same_pictures (x ∷ xs) [] rx ry h = absurd (grind (arith, nat_tests, h x))
 same_pictures (x ∷ xs) (y ∷ ys) rx ry h =
-    let a = and_parts (list_all (λ z. ltb x z) xs) (rises xs) rx in
-    let b = and_parts (list_all (λ z. ltb y z) ys) (rises ys) ry in
     let same : x ≡ y = grind (arith, nat_tests, h x, h y, listed (λ z. ltb x z) xs y, listed (λ z. ltb y z) ys x) in
     let tails : (p : ℕ) → lists xs p ≡ lists ys p = λ p. grind (arith, nat_tests, h p, listed (λ z. ltb x z) xs p, listed (λ z. ltb y z) ys p) in
-    λ i. same i ∷ same_pictures xs ys a.1 b.1 tails i
+    λ i. same i ∷ same_pictures xs ys (grind (arith, nat_tests)) (grind (arith, nat_tests)) tails i
 
 -- a number that is above all listed ones
 abbrev pub beyond : List ℕ → ℕ

@@ -1,5 +1,6 @@
 -- Rows of words.
 use Rattle.std.proofs.Common.{◌≡◌, ℕ, zero, suc, ◌+◌, ◌*◌, ◌<◌, List, [], ◌∷◌, length, get_or, refl, sym, ap, ◌∙◌, arith}
+use Rattle.std.proofs.lemmas.Grind.{common_steps}
 use Rattle.item_knowledge.specs.Entries.{Entry}
 use Rattle.item_knowledge.specs.Fragments.{Fragment, nothing, entries_at}
 use Rattle.item_knowledge.specs.Rows.{pairs, flat, IsRow, fragments_of, rows_of, AreRows}
@@ -28,11 +29,7 @@ rows_length (f ∷ fs) = omega (arith, rows_length fs)
 rows_at : (fs : List Fragment) (k : ℕ) → k < length fs → (get_or (rows_of fs) (2 * k) [] ≡ (get_or fs k nothing).pictures) × (get_or (rows_of fs) (2 * k + 1) [] ≡ flat (entries_at fs k))
 rows_at [] k l = absurd (omega arith)
 rows_at (f ∷ fs) zero l = (refl, refl)
-rows_at (f ∷ fs) (suc k) l =
-    let rest = rows_at fs k (omega arith) in
-    let e : 2 * suc k ≡ suc (suc (2 * k)) = omega arith in
-    let o : 2 * suc k + 1 ≡ suc (suc (2 * k + 1)) = omega arith in
-    (ap (λ n. get_or (rows_of (f ∷ fs)) n []) e ∙ rest.0, ap (λ n. get_or (rows_of (f ∷ fs)) n []) o ∙ rest.1)
+rows_at (f ∷ fs) (suc k) l = grind (arith, common_steps, rows_at fs k)
 
 pub entries_row : (fs : List Fragment) (k : ℕ) → k < length fs → get_or (rows_of fs) (2 * k + 1) [] ≡ flat (entries_at fs k)
 entries_row fs k l = (rows_at fs k l).1
@@ -58,10 +55,7 @@ flat_length (e ∷ es) = omega (arith, flat_length es)
 flat_at : (es : List Entry) (i : ℕ) → i < length es → (get_or (flat es) (2 * i) 0, get_or (flat es) (2 * i + 1) 0) ≡ get_or es i (0, 0)
 flat_at [] i l = absurd (omega arith)
 flat_at (e ∷ es) zero l = refl
-flat_at (e ∷ es) (suc i) l =
-    let n : 2 * suc i ≡ suc (suc (2 * i)) = omega arith in
-    let o : 2 * suc i + 1 ≡ suc (suc (2 * i + 1)) = omega arith in
-    (λ j. (get_or (flat (e ∷ es)) (n j) 0, get_or (flat (e ∷ es)) (o j) 0)) ∙ flat_at es i (omega arith)
+flat_at (e ∷ es) (suc i) l = grind (arith, common_steps, flat_at es i)
 
 pub row_length : (ws : List ℕ) → IsRow ws → length ws ≡ 2 * length (pairs ws)
 row_length ws h = ap length (sym h) ∙ flat_length (pairs ws)

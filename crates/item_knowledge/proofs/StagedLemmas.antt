@@ -1,5 +1,5 @@
 -- What is known and what is staged, as a knowledge keeps them.
-use Rattle.std.proofs.Common.{◌≡◌, ℕ, ◌<◌, true, ◌||◌, List, Option, None, Some, IfSome, Result, Ok, Err, OnErr, refl, sym, subst, ap, ◌∙◌}
+use Rattle.std.proofs.Common.{◌≡◌, ℕ, ◌<◌, true, List, Option, None, Some, IfSome, Result, Ok, Err, OnErr, sym, subst, ap, arith}
 use Rattle.std.specs.Option.{is_some}
 use Rattle.std.proofs.lemmas.Bool.{false≢true}
 use Rattle.photo_version.specs.Version.{Version}
@@ -25,8 +25,4 @@ committed (Some s) new P there has is = (subst P (sym (known_of is)) has, ap (λ
 pub operand_union : (staged : Option (List Fragment)) (left gs : List Fragment) (ys items : List (ℕ × ℕ)) → ((p : ℕ) (v : Version) → 0 < p → knows gs p v ≡ denotes (vector_of gs ys p) v)
     → items ≡ ys → is_some staged ≡ true → IfSome staged (λ s. IsJoined left gs items s) → IsStagedUnion staged left gs
 operand_union None left gs ys items known e there joined = absurd (false≢true there)
-operand_union (Some s) left gs ys items known e there joined = record {
-  there = refl;
-  star = joined.star;
-  pairs = λ p v z. joined.pairs p v z ∙ ap (λ b. knows left p v || b) (ap (λ xs. denotes (vector_of gs xs p) v) e ∙ sym (known p v z));
-}
+operand_union (Some s) left gs ys items known e there joined = grind (arith, joined.star, joined.pairs, known)

@@ -17,10 +17,9 @@ use Rattle.item_knowledge.specs.DistinctUnion.{numbered}
 use Rattle.item_knowledge.specs.Entries.{Entry, denotes, is_entry, is_vector}
 use Rattle.item_knowledge.specs.Fragments.{Fragment, reaches, knows, nothing, entries_at}
 use Rattle.item_knowledge.specs.Rows.{flat, fragments_of, rows_of, AreRows}
-use Rattle.item_knowledge.specs.Gathering.{is_above, vector_of, IsOperand, star_first}
+use Rattle.item_knowledge.specs.Gathering.{is_above, IsOperand, star_first}
 use Rattle.item_knowledge.specs.TableRows.{entries_of, told_one, told, IsTold, IsTelling}
 use Rattle.item_knowledge.proofs.DistinctUnionLemmas.{rows_snoc, numbered_snoc}
-use Rattle.item_knowledge.proofs.EntryLemmas.{vector_parts}
 use Rattle.item_knowledge.proofs.RowLemmas.{fragments_rows, rows_rows}
 
 pub got_take : {X : Type 0} (xs : List X) (i : ℕ) (x : X) → slice_get xs i ≡ Some x → take (i + 1) xs ≡ take i xs ++ x ∷ []
@@ -37,9 +36,7 @@ words_order (b ∷ bs) h = grind (arith, nat_tests, words_above b bs, words_orde
 
 pub bounds_vector : (bs : List Bound) → is_vector (entries_of bs) ≡ true → versions.is_vector bs ≡ true
 bounds_vector [] h = refl
-bounds_vector (b ∷ bs) h =
-    let p = vector_parts (author_word b.0, b.1) (entries_of bs) h in
-    grind (arith, nat_tests, words_above b bs, bounds_vector bs)
+bounds_vector (b ∷ bs) h = grind (arith, nat_tests, words_above b bs, bounds_vector bs)
 
 pub entries_denote : (bs : List Bound) (v : Version) → denotes (entries_of bs) v ≡ versions.denotes bs v
 entries_denote [] v = refl
@@ -72,8 +69,7 @@ none_told rows numbers e n = record { rows_are = e; index_is = n; positive = ref
 pub one_told : (ts : List (ℕ × List Bound)) (t : ℕ × List Bound) (rows new : List (List ℕ)) (numbers more : List (ℕ × ℕ)) (n : ℕ) → IsTold ts rows numbers → new ≡ (rows ++ (t.0 ∷ []) ∷ []) ++ flat (entries_of t.1) ∷ [] → more ≡ numbers ++ (t.0, n) ∷ [] → n ≡ length ts + 1 → 0 < t.0 → is_vector (entries_of t.1) ≡ true → IsTold (ts ++ t ∷ []) new more
 one_told ts t rows new numbers more n h is pushed number z v =
     let groups : told ts ++ told_one t ∷ [] ≡ told (ts ++ t ∷ []) = sym (map-append (λ (u : ℕ × List Bound). told_one u) ts (t ∷ [])) in
-    let many = length-map ts (λ (u : ℕ × List Bound). told_one u) in
-    let next : n ≡ 1 + length (told ts) = omega arith in
+    let next : n ≡ 1 + length (told ts) = omega (arith, length-map ts (λ (u : ℕ × List Bound). told_one u)) in
     record {
       rows_are = is ∙ (λ i. (h.rows_are i ++ (t.0 ∷ []) ∷ []) ++ flat (entries_of t.1) ∷ []) ∙ sym (rows_snoc (star_first [] (told ts)) t.0 (entries_of t.1)) ∙ ap (λ gs. rows_of (star_first [] gs)) groups;
       index_is = pushed ∙ (λ i. h.index_is i ++ (t.0, next i) ∷ []) ∙ sym (numbered_snoc 1 (told ts) t.0 (entries_of t.1)) ∙ ap (numbered 1) groups;
@@ -98,10 +94,8 @@ found_told : (gs : List Fragment) (n : ℕ) (table : List (ℕ × List Bound)) (
 found_told gs n [] p e z s = ap (λ hs. entries_at hs 0) (append-nil gs) ∙ s
 found_told gs n (t ∷ table) p e z s =
     let one = told_one t in
-    let here = ap (λ (f : Fragment). f.entries) (get_or-append_seam gs one (told table) nothing) in
     let first = ap (λ (f : Fragment). f.entries) (get_or-append gs (one ∷ []) nothing 0 (omega arith)) ∙ s in
-    let rest = found_told (gs ++ one ∷ []) (suc n) table p (omega (arith, length-append gs (one ∷ []))) (omega arith) first in
-    grind (arith, nat_tests, append_assoc gs (one ∷ []) (told table))
+    grind (arith, nat_tests, append_assoc gs (one ∷ []) (told table), ap (λ (f : Fragment). f.entries) (get_or-append_seam gs one (told table) nothing), found_told (gs ++ one ∷ []) (suc n) table p (omega (arith, length-append gs (one ∷ []))) (omega arith) first)
 
 -- What is told of a picture, found by the picture
 
@@ -134,13 +128,7 @@ module _ {table : List (ℕ × List Bound)} {rows : List (List ℕ)} {numbers : 
   told_are_vectors = ap (list_all (λ (f : Fragment). is_vector f.entries)) made ∙ vectors
 
   pub told_operand : (xs : List (ℕ × ℕ)) → xs ≡ numbers → in_order table ≡ true → IsOperand (fragments_of rows) xs
-  told_operand xs same o = subst (λ fs. IsOperand fs xs) (sym made) (subst (IsOperand (star_first [] (told table))) (sym (same ∙ h.index_is)) (record {
-    star = omega arith;
-    above = and_from _ _ refl (above (told table) vectors);
-    order = numbered_order 1 table o;
-    positive = numbered_pass (λ q. ltb 0 q) 1 table h.positive;
-    range = numbered_range 1 (suc (length (told table))) (told table) (omega arith);
-  }))
+  told_operand xs same o = subst (λ fs. IsOperand fs xs) (sym made) (subst (IsOperand (star_first [] (told table))) (sym (same ∙ h.index_is)) (grind (arith, nat_tests, above (told table) vectors, numbered_order 1 table o, numbered_pass (λ q. ltb 0 q) 1 table h.positive, numbered_range 1 (suc (length (told table))) (told table) (omega arith))))
     where
       above : (gs : List Fragment) → list_all (λ (f : Fragment). is_vector f.entries) gs ≡ true → list_all (λ (f : Fragment). is_above [] f) gs ≡ true
       above [] v = refl
@@ -150,13 +138,7 @@ module _ {table : List (ℕ × List Bound)} {rows : List (List ℕ)} {numbers : 
   told_knows p v o = ap (λ fs. knows fs p v) made ∙ any_told p v table o
 
   pub telling : (xs : List (ℕ × ℕ)) → xs ≡ numbers → in_order table ≡ true → IsTelling rows xs
-  telling xs same o = record {
-    rows = told_are_rows;
-    operand = told_operand xs same o;
-    star = told_star;
-    pairs = λ p v z. told_knows p v o ∙ sym (entries_denote (at [] table p) v)
-        ∙ ap (λ es. denotes es v) (sym ((λ i. vector_of (made i) ((same ∙ h.index_is) i) p) ∙ found_told (nothing ∷ []) 1 table p refl (omega arith) refl));
-  }
+  telling xs same o = grind (arith, told_are_rows, told_operand xs same o, told_star, made, same, h.index_is, λ (p : ℕ) (v : Version). told_knows p v o, λ (p : ℕ) (v : Version). entries_denote (at [] table p) v, λ (p : ℕ). found_told (nothing ∷ []) 1 table p refl (omega arith) refl)
 
   pub telling_pairs : (fs : List Fragment) → fs ≡ fragments_of rows → in_order table ≡ true → (p : ℕ) (v : Version) → 0 < p → knows fs p v ≡ versions.denotes (at [] table p) v
   telling_pairs fs is o p v z = ap (λ gs. knows gs p v) is ∙ told_knows p v o

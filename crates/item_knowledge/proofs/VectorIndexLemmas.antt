@@ -5,10 +5,10 @@ use Rattle.std.proofs.lemmas.List.{get_or-map, length-map, map-append}
 use Rattle.std.proofs.lemmas.Simd.{length-zip2, get_or-zip2}
 use Rattle.std.proofs.lemmas.Grind.{common_steps}
 use Rattle.item_knowledge.specs.Excess.{AllDiffer}
-use Rattle.item_knowledge.specs.Fragments.{Fragment, nothing}
+use Rattle.item_knowledge.specs.Fragments.{nothing}
 use Rattle.item_knowledge.specs.declared.vector_index.VectorIndex.{VectorIndex}
 use Rattle.item_knowledge.specs.VectorIndex.{bucket, is_new, vectors_at, IsChained, IsIndexed, CanIndex, AreGrouped}
-use Rattle.item_knowledge.specs.Rows.{pairs, flat, grouped}
+use Rattle.item_knowledge.specs.Rows.{pairs, grouped}
 use Rattle.item_knowledge.proofs.ChainLemmas.{pushed}
 use Rattle.item_knowledge.proofs.MergeLemmas.{snoc_each}
 
@@ -29,9 +29,7 @@ vectors_grown rows more [] h = refl
 vectors_grown rows more (n ∷ numbers) h = λ i. get_or-append rows more [] (2 * n + 1) (h 0 (omega arith)) i ∷ vectors_grown rows more numbers (λ k l. h (suc k) (omega (arith, l))) i
 
 pub none_placed : (by_vector : VectorIndex) (rows pictures : List (List ℕ)) → ((rs : List (List ℕ)) → IsIndexed by_vector rs) → by_vector.numbers.items ≡ [] → rows ≡ [] → pictures ≡ [] → AreGrouped by_vector rows pictures
-none_placed by_vector rows pictures found n r p =
-    let e = vectors_length rows by_vector.numbers.items in
-    record { found = found rows; even = grind arith; counted = grind arith; whole = λ k l. grind arith }
+none_placed by_vector rows pictures found n r p = grind (arith, found rows, vectors_length rows by_vector.numbers.items)
 
 -- one fragment more is found
 pub placed_more : (by_vector new : VectorIndex) (rows : List (List ℕ)) (b n : ℕ) → CanIndex by_vector rows b n → new.seed ≡ by_vector.seed
@@ -57,23 +55,14 @@ pub record IsBehind (by_vector : VectorIndex) (rows new : List (List ℕ)) (row 
 pub behind : (by_vector : VectorIndex) (rows new pictures : List (List ℕ)) (row : List ℕ) (b n : ℕ) → AreGrouped by_vector rows pictures → new ≡ (rows ++ [] ∷ []) ++ row ∷ [] → n ≡ length by_vector.numbers.items
     → b ≡ bucket by_vector.seed (length by_vector.heads.items) row → is_new (vectors_at rows by_vector.numbers.items) row → IsBehind by_vector rows new row b n
 behind by_vector rows new pictures row b n h is number in_bucket fresh =
-    let even = h.even in
     let more : length new ≡ length rows + 2 = grind (arith, common_steps) in
     let same : vectors_at new by_vector.numbers.items ≡ vectors_at rows by_vector.numbers.items =
     ap (λ rs. vectors_at rs by_vector.numbers.items) (is ∙ append_assoc rows ([] ∷ []) (row ∷ [])) ∙ vectors_grown rows ([] ∷ row ∷ []) by_vector.numbers.items h.found.there in
-    let at_end : get_or new (2 * n + 1) [] ≡ row = grind (arith, common_steps) in
+    let at_end : get_or new (2 * n + 1) [] ≡ row = grind (arith, common_steps, h.even) in
     record {
       more = more;
       vectors = λ numbers pushed. ap (vectors_at new) pushed ∙ vectors_push new by_vector.numbers.items n ∙ (λ i. same i ++ at_end i ∷ []);
-      can = record {
-        found = record {
-          placed = subst (λ vs. IsChained (bucket by_vector.seed (length by_vector.heads.items)) by_vector.heads.items by_vector.before.items vs) (sym same) h.found.placed;
-          there = λ k l. let inside = h.found.there k l in omega (arith, inside, more);
-        };
-        there = omega (arith, more, number, even);
-        in_bucket = in_bucket ∙ ap (bucket by_vector.seed (length by_vector.heads.items)) (sym at_end);
-        new = subst (λ ws. is_new (vectors_at new by_vector.numbers.items) ws) (sym at_end) (subst (λ vs. is_new vs row) (sym same) fresh);
-      };
+      can = grind (arith, h.found.placed, h.found.there, same, more, at_end, number, h.even, in_bucket, fresh);
     }
 
 -- Groups beside their vectors
@@ -85,21 +74,16 @@ pub grouped_at : (groups rows : List (List ℕ)) (k : ℕ) → length groups ≡
 grouped_at groups rows k l m = get_or-zip2 _ groups rows k [] [] nothing (omega (arith, l, m)) m
 
 pub grouped_set : (groups rows : List (List ℕ)) (k : ℕ) (ps : List ℕ) → length groups ≡ length rows → k < length rows → grouped (set groups k ps) rows ≡ set (grouped groups rows) k (record { pictures = ps; entries = pairs (get_or rows k []) })
-grouped_set [] rows k ps l m = absurd (omega arith)
-grouped_set (qs ∷ groups) [] k ps l m = absurd (omega arith)
 grouped_set (qs ∷ groups) (ws ∷ rows) zero ps l m = refl
 grouped_set (qs ∷ groups) (ws ∷ rows) (suc k) ps l m = ap (λ gs. record { pictures = qs; entries = pairs ws } ∷ gs) (grouped_set groups rows k ps (omega arith) (omega arith))
+grouped_set groups rows k ps l m = absurd (omega arith)
 
 pub grouped_push : (groups rows : List (List ℕ)) (ps row : List ℕ) → length groups ≡ length rows → grouped (groups ++ ps ∷ []) (rows ++ row ∷ []) ≡ grouped groups rows ++ record { pictures = ps; entries = pairs row } ∷ []
 grouped_push [] [] ps row l = refl
-grouped_push [] (ws ∷ rows) ps row l = absurd (omega arith)
-grouped_push (qs ∷ groups) [] ps row l = absurd (omega arith)
 grouped_push (qs ∷ groups) (ws ∷ rows) ps row l = ap (λ gs. record { pictures = qs; entries = pairs ws } ∷ gs) (grouped_push groups rows ps row (omega arith))
+grouped_push groups rows ps row l = absurd (omega arith)
 
 pub placed_differ : (by_vector : VectorIndex) (rows groups : List (List ℕ)) → AreGrouped by_vector rows groups → AllDiffer (grouped groups (vectors_at rows by_vector.numbers.items))
 placed_differ by_vector rows groups h j k l m e =
-    let long = grouped_length groups (vectors_at rows by_vector.numbers.items) h.counted in
-    let last : k < length (vectors_at rows by_vector.numbers.items) = omega (arith, long, m) in
-    let one : j < length (vectors_at rows by_vector.numbers.items) = omega (arith, long, l, m) in
-    let same = ap (λ (g : Fragment). g.entries) (sym (grouped_at groups (vectors_at rows by_vector.numbers.items) j h.counted one)) ∙ e ∙ ap (λ (g : Fragment). g.entries) (grouped_at groups (vectors_at rows by_vector.numbers.items) k h.counted last) in
-    h.found.placed.once j k l last (sym (h.whole j one) ∙ ap flat same ∙ h.whole k last)
+    let vectors = vectors_at rows by_vector.numbers.items in
+    grind (arith, grouped_length groups vectors h.counted, grouped_at groups vectors j h.counted, grouped_at groups vectors k h.counted, h.whole j, h.whole k, h.found.placed.once j k)

@@ -2,9 +2,7 @@
 use Rattle.std.specs.Prelude.{◌≡◌, ℕ, ◌<◌, Bool, true, ◌&&◌, List, [], ◌∷◌}
 use Rattle.std.specs.List.{list_all}
 use Rattle.photo_version.specs.Author.{Author, author_word}
-use Rattle.photo_version.specs.Vector as vectors
 use Rattle.photo_version.specs.Version.{Version}
-use Rattle.item_knowledge.specs.Tables.{at}
 use Rattle.item_knowledge.specs.Entries.{bound, denotes, leq}
 use Rattle.item_knowledge.specs.Fragments.{Fragment, knows, is_normal, nothing, entries_at}
 use Rattle.item_knowledge.specs.Rows.{AreRows, fragments_of}
@@ -31,11 +29,3 @@ is_operand_within fs xs gs ys =
 -- each pair that an operand denotes is known
 abbrev pub IsOperandKnown : List Fragment → List Fragment → List (ℕ × ℕ) → Type 0
 IsOperandKnown now gs ys = (p : ℕ) (v : Version) → 0 < p → denotes (vector_of gs ys p) v ≡ true → knows now p v ≡ true
-
--- each version of a vector is known of a picture
-abbrev pub IsVectorKnown : List Fragment → ℕ → List vectors.Bound → Type 0
-IsVectorKnown now p bounds = (v : Version) → vectors.denotes bounds v ≡ true → knows now p v ≡ true
-
--- each version of the vectors of a table is known of the picture beside its vector
-abbrev pub IsTableKnown : List Fragment → List (ℕ × List vectors.Bound) → Type 0
-IsTableKnown now table = (p : ℕ) → IsVectorKnown now p (at [] table p)

@@ -10,7 +10,3 @@ left_of at xs ys = paired (drop at.left xs) (drop at.right ys)
 -- the number of entries that are still to come in both indexes
 abbrev pub to_come : PictureCursor → List (ℕ × ℕ) → List (ℕ × ℕ) → ℕ
 to_come at xs ys = (length xs - at.left) + (length ys - at.right)
-
--- the cursor after one more entry of the left
-abbrev pub left_passed : PictureCursor → PictureCursor
-left_passed at = record { left = at.left + 1; right = at.right }

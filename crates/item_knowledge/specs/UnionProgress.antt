@@ -18,10 +18,3 @@ pub record IsWrittenUpTo (left right : List (List ℕ)) (xs ys : List (ℕ × �
   pub spread : IsSpread left gs (out ++ run left (2 * from) (2 * to)) index joined
   pub order : from ≤ to
   pub there : to ≤ length (fragments_of left)
-
--- where the star has nothing beyond the left's, more is written, and the run has become longer
-abbrev pub KeepsWriting : Operand → Operand → List (ℕ × ℕ) → PictureCursor → ℕ → List (ℕ × ℕ) → PictureCursor → ℕ → Type 0
-KeepsWriting left right index at to more then end = (star : List Entry) (out : List (List ℕ)) (joined : List (ℕ × ℕ)) (from : ℕ)
-    → in_order star ≡ true → exceeding (pairs left.star.now) star ≡ []
-    → IsWrittenUpTo left.rows.now right.rows.now left.index.now right.index.now star out index joined at from to
-    → IsWrittenUpTo left.rows.now right.rows.now left.index.now right.index.now star out more joined then from end

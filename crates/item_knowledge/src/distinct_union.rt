@@ -6,8 +6,6 @@ ghost use Rattle.item_knowledge.specs.DistinctUnion.{Stays, AreThere, AreOthers,
 ghost use Rattle.item_knowledge.specs.Excess.{AllDiffer, exceeding, exceeds_all, is_covered};
 ghost use Rattle.item_knowledge.specs.Fragments.{entries_at};
 ghost use Rattle.item_knowledge.specs.BoundFilter.{AreMarked};
-ghost use Rattle.item_knowledge.specs.UnionProgress.{KeepsWriting};
-ghost use Rattle.item_knowledge.specs.PictureCursor.{to_come};
 ghost use Rattle.item_knowledge.specs.VectorIndex.{IsIndexed};
 ghost use Rattle.item_knowledge.specs.Written.{IsWritten};
 ghost use Rattle.item_knowledge.specs.Rows.{pairs, IsRow, AreRows, fragments_of};
@@ -165,36 +163,6 @@ fn run_to(
     Ok(a)
 }
 
-// Lists the next pictures that only the left's index names, as long as each is alone in the fragment that continues the run. Gives
-// the new end of the run.
-fn go_on(
-    left: Operand<'_>,
-    right: Operand<'_>,
-    cursor: &mut PictureCursor,
-    to: usize,
-    index: &mut Vec<IndexEntry>,
-) -> Result<usize, AllocError>
-    requires differ { AllDiffer (fragments left) }
-    requires some { 0 < to }
-    ensures on { IfOk result (λ end. KeepsWriting left.entry right.entry index.old.items cursor.old to index.new.items cursor.new end) }
-    ensures further { OnOk result (to_come cursor.new left.entry.index.now right.entry.index.now
-        ≤ to_come cursor.old left.entry.index.now right.entry.index.now) }
-{
-    // `rows` is called because it counts the rows in a `usize`, so `end` can't overflow.
-    let _count = left.rows.rows();
-    let mut end = to;
-    while let Some((picture, number)) = cursor.left_next(left, right) {
-        if number as usize != end || !is_alone(left.rows, end, picture) {
-            break;
-        }
-        let listed = to_u32(index.len() + 1)?;
-        index.push((picture, listed))?;
-        cursor.left += 1;
-        end += 1;
-    }
-    Ok(end)
-}
-
 // Writes a fragment for each picture of which more is known than the star, and lists it. The star is written already.
 fn spread(
     alloc: Global,
@@ -228,9 +196,6 @@ fn spread(
             to = numbers.0 + 1;
             let number = to_u32(lists.index.len() + 1)?;
             lists.index.push((picture, number))?;
-            if risen.is_empty() {
-                to = go_on(left, right, &mut cursor, to, &mut lists.index)?;
-            }
             continue;
         }
         let row = pair(left, right, numbers, star, &mut room)?;

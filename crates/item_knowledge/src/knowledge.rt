@@ -2,7 +2,6 @@
 use crate::Fragment;
 use crate::index::IndexEntry;
 use crate::knowledge_rows::{KnowledgeRows, is_within};
-use crate::known_table::has_table;
 use crate::search::{NO_HINT, number_near};
 use crate::told::Told;
 use photo_record::PicNo;
@@ -65,7 +64,7 @@ impl Knowledge {
     ghost use Rattle.item_knowledge.specs.Fragments as spec;
     ghost use Rattle.item_knowledge.specs.Rows.{AreRows, fragments_of};
     ghost use Rattle.item_knowledge.specs.Gathering.{IsOperand};
-    ghost use Rattle.item_knowledge.specs.Kept.{nothing_known, star_bound, IsOperandKnown, IsTableKnown};
+    ghost use Rattle.item_knowledge.specs.Kept.{nothing_known, star_bound, IsOperandKnown};
     ghost use Rattle.item_knowledge.specs.Spare.{IsJoined};
     ghost use Rattle.item_knowledge.specs.Staged.{settled, IsStagedUnion};
 
@@ -261,21 +260,16 @@ impl Knowledge {
         Ok(())
     }
 
-    /// Learns for each picture of a table all versions of the vector beside it, in one step. Its only error is want of
-    /// memory, which changes nothing that is known. It wants no memory where all of it is known.
-    pub fn learn_table(&mut self, table: &[(PicNo, Vector)]) -> Result<(), AllocError>
+    // Learns for each picture of a table all versions of the vector beside it.
+    fn learn_table(&mut self, table: &[(PicNo, Vector)]) -> Result<(), AllocError>
         requires { in_order table.now ≡ true }
         ensures star { OnOk result ((a : Author) → star_bound self.new.known a ≡ star_bound self.old.known a) }
         ensures learned { OnOk result ((p : ℕ) (v : versions.Version) → 0 < p → spec.knows self.new.known p v
             ≡ (spec.knows self.old.known p v || vectors.denotes (at [] table.now p) v)) }
         ensures staged { self.new.staged ≡ None }
         ensures refused { OnErr result (self.new.known ≡ self.old.known) }
-        ensures wanted { OnErr result (IsTableKnown self.old.known table.now → ⊥) }
     {
         self.unstage();
-        if has_table(self, table) {
-            return Ok(());
-        }
         let told = Told::of_table(self.alloc, table)?;
         self.stage_told(&told)?;
         self.commit();

@@ -19,7 +19,6 @@ mod index;
 mod join;
 mod knowledge;
 mod knowledge_rows;
-mod known_table;
 pub mod laws;
 mod operand;
 mod picture_cursor;

@@ -74,29 +74,4 @@ impl PictureCursor {
         self.left += 1;
         Some((x.0, (x.1 as usize, y.1 as usize)))
     }
-
-    /// The next picture and the number of its fragment in the left operand, if only the left's index names it.
-    #[tactic(auto, using(crate::proofs::UnionLemmas::operand_at, crate::proofs::SearchLemmas::next_left))]
-    #[inline(always)]
-    pub(crate) fn left_next(&self, left: Operand<'_>, right: Operand<'_>) -> Option<IndexEntry>
-        ensures next { IfSome result (λ r. spec.left_of self.now left.entry.index.now right.entry.index.now
-            ≡ (r.0, (r.1, 0)) ∷ spec.left_of (spec.left_passed self.now) left.entry.index.now right.entry.index.now) }
-        ensures there { IfSome result (λ _. self.now.left < length left.entry.index.now) }
-        ensures left { IfSome result (λ r. r.1 < length (fragments left.entry)) }
-    {
-        let xs = left.index;
-        let ys = right.index;
-        if self.left >= xs.len() {
-            return None;
-        }
-        let x = xs[self.left];
-        if self.right >= ys.len() {
-            return Some(x);
-        }
-        let y = ys[self.right];
-        if x.0 < y.0 {
-            return Some(x);
-        }
-        None
-    }
 }

@@ -10,9 +10,6 @@ use crate::index::IndexEntry;
 /// The hint of a caller that has none: the whole list is searched by halves.
 pub(crate) const NO_HINT: usize = usize::MAX;
 
-// The number of pairs from a hint on that are looked at one by one before the rest is searched by halves.
-const FEW: usize = 8;
-
 /// A lent list of pairs, sorted by key: the pictures of an index with the numbers of their fragments, or the authors of a row with
 /// their bounds.
 #[derive(Clone, Copy)]
@@ -111,29 +108,6 @@ fn place_between(list: SortedPairs<'_>, from: usize, to: usize, key: u64) -> usi
     low
 }
 
-// The first place whose key isn't smaller, or the list's end. The keys before `from` are smaller. The next few are looked at one by
-// one, and the rest by halves.
-#[inline(always)]
-fn place_from(list: SortedPairs<'_>, from: usize, key: u64) -> usize
-    requires whole { IsWhole list }
-    requires order { in_order (pairs_in list) ≡ true }
-    requires place { from ≤ length (pairs_in list) }
-    requires below { AreBelow key (pairs_in list) from }
-    ensures { IsBetween key (pairs_in list.entry) result result }
-{
-    let count = pair_count(list);
-    let last = from.saturating_add(FEW).min(count);
-    let mut place = from;
-    while place < last {
-        let (found, _value) = pair_at(list, place);
-        if found >= key {
-            return place;
-        }
-        place += 1;
-    }
-    place_between(list, place, count, key)
-}
-
 // The value beside a key, 0 where the list hasn't got the key. `place` is the first place whose key isn't smaller.
 #[inline(always)]
 fn value_there(list: SortedPairs<'_>, place: usize, key: u64) -> u64
@@ -160,11 +134,8 @@ pub(crate) fn value_near(list: SortedPairs<'_>, hint: usize, key: u64) -> (u64, 
     ensures value { result.0 ≡ at 0 (pairs_in list.entry) key }
     ensures there { 0 < at 0 (pairs_in list.entry) key → IsPlaceOf (pairs_in list.entry) result.1 key }
 {
-    let place = if are_below(list, hint, key) {
-        place_from(list, hint, key)
-    } else {
-        place_between(list, 0, pair_count(list), key)
-    };
+    let from = if are_below(list, hint, key) { hint } else { 0 };
+    let place = place_between(list, from, pair_count(list), key);
     (value_there(list, place, key), place)
 }
 

@@ -36,10 +36,9 @@ fn on_tables(rt: HostRuntime, one: &[(PicNo, Vector)], other: &[(PicNo, Vector)]
     requires other { in_order other.now ≡ true }
 {
     let mut made = of_table(rt.alloc(), one);
-    tell(rt, "item_knowledge::Knowledge::learn_table", made.is_ok());
     if let Ok(knowledge) = &mut made {
         stage_told(rt, knowledge, other);
-        learn_table(rt, knowledge, other);
+        learn_others(rt, knowledge, other);
     }
     drop(made);
 }
@@ -58,7 +57,7 @@ fn stage_told(rt: HostRuntime, knowledge: &mut Knowledge, table: &[(PicNo, Vecto
 }
 
 // Learns them from another knowledge, which learns versions of two more devices then.
-fn learn_table(rt: HostRuntime, knowledge: &mut Knowledge, table: &[(PicNo, Vector)])
+fn learn_others(rt: HostRuntime, knowledge: &mut Knowledge, table: &[(PicNo, Vector)])
     requires { in_order table.now ≡ true }
 {
     let mut made = of_table(rt.alloc(), table);

@@ -1,11 +1,11 @@
 //! Tables of pictures, and a knowledge of one.
-ghost use Rattle.std.specs.Prelude.{◌≡◌, ◌<◌, true, nat_lt, ℕ, IfOk};
+ghost use Rattle.std.specs.Prelude.{◌≡◌, ◌<◌, true, nat_lt, ℕ, IfOk, OnOk};
 ghost use Rattle.photo_version.specs.Author.{Author, author};
 ghost use Rattle.photo_version.specs.Version as versions;
 ghost use Rattle.item_knowledge.specs.Kept.{star_bound};
 ghost use Rattle.item_knowledge.specs.Tables.{in_order};
 
-use item_knowledge::Knowledge;
+use item_knowledge::{Knowledge, Told};
 use photo_record::PicNo;
 use photo_version::{Author, Vector, Version};
 use std::alloc::{AllocError, Global};
@@ -38,9 +38,18 @@ pub fn of_table(alloc: Global, table: &[(PicNo, Vector)]) -> Result<Knowledge, A
     requires { in_order table.now ≡ true }
     ensures { IfOk result (λ knowledge. (a : Author) → star_bound knowledge.known a ≡ 0) }
 {
+    let told = Told::of_table(alloc, table)?;
     let mut knowledge = Knowledge::new(alloc)?;
-    match knowledge.learn_table(table) {
+    match learn(&mut knowledge, &told) {
         Ok(()) => Ok(knowledge),
         Err(error) => Err(error),
     }
+}
+
+fn learn(knowledge: &mut Knowledge, told: &Told) -> Result<(), AllocError>
+    ensures { OnOk result ((a : Author) → star_bound knowledge.new.known a ≡ star_bound knowledge.old.known a) }
+{
+    knowledge.stage_told(told)?;
+    knowledge.commit();
+    Ok(())
 }

@@ -46,7 +46,6 @@ fn calls(alloc: Global, knowledge: &mut Knowledge, call: &str) -> Option<Option<
         "Knowledge::of" => Some(tells(alloc, knowledge)),
         "Knowledge::try_clone" => Some(copies(alloc, knowledge)),
         "Knowledge::learn" => learns(alloc, knowledge),
-        "Knowledge::learn_table" => learns_table(alloc, knowledge),
         "Knowledge::stage_told" => stages_table(alloc, knowledge),
         "Told::of_table" => tells_table(alloc, knowledge),
         _ => learns_from(alloc, knowledge, call),
@@ -207,18 +206,6 @@ fn table(alloc: Global) -> Option<Vec<(PicNo, Vector)>>
     let mut table = Vec::new(alloc);
     table.push((PicNo::new(9)?, vector)).ok()?;
     Some(table)
-}
-
-fn learns_table(alloc: Global, knowledge: &mut Knowledge) -> Option<Option<bool>> {
-    match table(alloc) {
-        Some(table) => {
-            mark(alloc);
-            let done = knowledge.learn_table(table.as_slice()).is_ok();
-            mark(alloc);
-            Some(is_right(done, table.len() == 1, knowledge))
-        }
-        None => None,
-    }
 }
 
 fn stages_table(alloc: Global, knowledge: &mut Knowledge) -> Option<Option<bool>> {

@@ -3,7 +3,7 @@
 ghost use Rattle.std.specs.Prelude.{◌≡◌, true};
 ghost use Rattle.item_knowledge.specs.Tables.{in_order};
 
-use crate::table::{of_table, table};
+use crate::table::{learn, of_table, table};
 use item_knowledge::Knowledge;
 use photo_record::PicNo;
 use photo_version::Vector;
@@ -160,5 +160,5 @@ fn learn_each_table(
 
 fn learn_anew(alloc: Global, told: &Told, worked: &mut Knowledge) -> Result<(), AllocError> {
     *worked = Knowledge::new(alloc)?;
-    worked.learn_table(&told.table)
+    learn(alloc, worked, &told.table)
 }

@@ -1,11 +1,11 @@
 //! Tables of pictures, and a knowledge made from one.
-ghost use Rattle.std.specs.Prelude.{◌≡◌, ◌<◌, true, nat_lt, ℕ, IfOk};
+ghost use Rattle.std.specs.Prelude.{◌≡◌, ◌<◌, true, nat_lt, ℕ, IfOk, OnOk};
 ghost use Rattle.photo_version.specs.Author.{Author, author};
 ghost use Rattle.photo_version.specs.Version as versions;
 ghost use Rattle.item_knowledge.specs.Kept.{star_bound};
 ghost use Rattle.item_knowledge.specs.Tables.{in_order};
 
-use item_knowledge::Knowledge;
+use item_knowledge::{Knowledge, Told};
 use photo_record::PicNo;
 use photo_version::{Author, Vector, Version};
 use std::alloc::{AllocError, Global};
@@ -46,10 +46,25 @@ fn told(alloc: Global, table: &[(PicNo, Vector)]) -> Result<Knowledge, AllocErro
     ensures { IfOk result (λ knowledge. (a : Author) → star_bound knowledge.known a ≡ 0) }
 {
     let mut knowledge = Knowledge::new(alloc)?;
-    match knowledge.learn_table(table) {
+    match learn(alloc, &mut knowledge, table) {
         Ok(()) => Ok(knowledge),
         Err(error) => Err(error),
     }
+}
+
+/// The knowledge learns what a table tells.
+pub fn learn(
+    alloc: Global,
+    knowledge: &mut Knowledge,
+    table: &[(PicNo, Vector)],
+) -> Result<(), AllocError>
+    requires { in_order table.now ≡ true }
+    ensures { OnOk result ((a : Author) → star_bound knowledge.new.known a ≡ star_bound knowledge.old.known a) }
+{
+    let told = Told::of_table(alloc, table)?;
+    knowledge.stage_told(&told)?;
+    knowledge.commit();
+    Ok(())
 }
 
 /// A knowledge of exactly the first version of device 1, of every picture.

@@ -5,7 +5,7 @@ use Rattle.item_knowledge.specs.Rows.{pairs}
 use Rattle.item_knowledge.specs.Operand.{fragments}
 use Rattle.item_knowledge.proofs.JoinLemmas.{joined_left, vector_order}
 use Rattle.item_knowledge.proofs.RowLemmas.{rows_read}
-use Rattle.item_knowledge.proofs.ProgressLemmas.{no_pairs, on_stays, on_joined}
+use Rattle.item_knowledge.proofs.ProgressLemmas.{on_stays, on_joined}
 use Rattle.item_knowledge.proofs.distinct_union.spread.Goals as goal
 
 pub join-requires-clause-star : goal.join-requires-clause-star
@@ -15,27 +15,13 @@ pub stays-requires-clause-risen : goal.stays-requires-clause-risen
 stays-requires-clause-risen c = ap pairs c.deref.ensures.value ∙ c.in_ok-join.ensures.entries ∙ ap (exceeding (pairs c.args.left.star.now)) (joined_left (pairs c.args.star.now) c.requires.star)
 
 pub overflow_add-to : goal.overflow_add-to
-overflow_add-to c =
-    let rows = rows_read c.args.left.rows.now c.args.left.whole in
-    omega (arith, rows, c.in-Some.ensures.left, c.rows-count.ensures, c.rows-count.type_inv)
+overflow_add-to c = omega (arith, rows_read c.args.left.rows.now c.args.left.whole, c.in-Some.ensures.left, c.rows-count.ensures, c.rows-count.type_inv)
 
-pub loop-picture-preserved-else-is_empty : goal.loop-picture-preserved-else-is_empty
-loop-picture-preserved-else-is_empty c =
+pub loop-picture-preserved-then-stays : goal.loop-picture-preserved-then-stays
+loop-picture-preserved-then-stays c =
     let r : ℕ × (ℕ × ℕ) = (c.in-Some.picture, c.in-Some.numbers) in
     on_stays c.args.left.rows.now c.args.right.rows.now c.args.left.index.now c.args.right.index.now (pairs c.args.star.now) c.loop-picture.out c.loop-picture.lists.index.items c.loop-picture.lists.joined.items c.loop-picture.cursor c.loop-picture.from c.loop-picture.to c.loop-picture.invariant c.next.new.self r c.run_to.new.out c.push.new.self.items c.in_ok-from.from c.args.left.star.now c.args.left.excess c.requires.differ c.in-Some.ensures.next (c.stays.ensures c.if-stays.true) c.in-Some.ensures.left c.in_ok-from.ensures.order c.in_ok-from.ensures.run
     (c.in_ok-push.ensures.items ∙ ap (λ n. c.loop-picture.lists.index.items ++ (r.0, n) ∷ []) (c.in_ok-number.ensures.value ∙ search rules))
-
-pub loop-picture-preserved-in_ok-to : goal.loop-picture-preserved-in_ok-to
-loop-picture-preserved-in_ok-to c =
-    let r : ℕ × (ℕ × ℕ) = (c.in-Some.picture, c.in-Some.numbers) in
-    let level : exceeding (pairs c.args.left.star.now) (pairs c.args.star.now) ≡ [] =
-    sym (c.in_ok-join.ensures.entries ∙ ap (exceeding (pairs c.args.left.star.now)) (joined_left (pairs c.args.star.now) c.requires.star)) ∙ no_pairs c.join.new.out.items (search rules) in
-    c.in_ok-to.ensures.on (pairs c.args.star.now) c.run_to.new.out c.loop-picture.lists.joined.items c.in_ok-from.from c.requires.star level
-    (on_stays c.args.left.rows.now c.args.right.rows.now c.args.left.index.now c.args.right.index.now (pairs c.args.star.now) c.loop-picture.out c.loop-picture.lists.index.items c.loop-picture.lists.joined.items c.loop-picture.cursor c.loop-picture.from c.loop-picture.to c.loop-picture.invariant c.next.new.self r c.run_to.new.out c.push.new.self.items c.in_ok-from.from c.args.left.star.now c.args.left.excess c.requires.differ c.in-Some.ensures.next (c.stays.ensures c.if-stays.true) c.in-Some.ensures.left c.in_ok-from.ensures.order c.in_ok-from.ensures.run
-    (c.in_ok-push.ensures.items ∙ ap (λ n. c.loop-picture.lists.index.items ++ (r.0, n) ∷ []) (c.in_ok-number.ensures.value ∙ search rules)))
-
-pub loop-picture-smaller-in_ok-to : goal.loop-picture-smaller-in_ok-to
-loop-picture-smaller-in_ok-to c = omega (arith, c.in_ok-to.ensures.further, c.in-Some.ensures.further)
 
 pub loop-picture-preserved : goal.loop-picture-preserved
 loop-picture-preserved c =

@@ -1,5 +1,4 @@
-use Rattle.std.proofs.Common.{rules, ◌≡◌, ◌<◌, ◌++◌, ◌∷◌, [], take, length, sym, subst, ap, ◌∙◌, arith, Some}
-use Rattle.std.specs.List.{slice_get}
+use Rattle.std.proofs.Common.{rules, ◌≡◌, ◌++◌, ◌∷◌, [], take, sym, subst, ap, ◌∙◌, arith, Some}
 use Rattle.std.proofs.lemmas.List.{length-take-le, take_all}
 use Rattle.std.proofs.lemmas.Option.{slice_get-get_or}
 use Rattle.item_knowledge.specs.Rows.{flat}
@@ -10,17 +9,13 @@ use Rattle.item_knowledge.proofs.told.rows_of.Goals as goal
 pub loop-i-preserved : goal.loop-i-preserved
 loop-i-preserved c =
     let t = c.index-table-i.result in
-    let got : slice_get c.args.table.now c.loop-i.i ≡ Some t = slice_get-get_or c.args.table.now c.loop-i.i t c.loop-i-test.true ∙ ap Some (sym c.index-table-i.is) in
     let number : c.value-picture.result ≡ t.0 = search rules in
-    let above : 0 < c.value-picture.result = search rules in
     let row : c.write_row.new.row.items ≡ flat (entries_of t.1) = search rules in
     let rows : c.place_fragment.new.self ≡ (c.loop-i.rows ++ (c.value-picture.result ∷ []) ∷ []) ++ c.write_row.new.row.items ∷ [] = search rules in
-    let index : c.push.new.self.items ≡ c.loop-i.index.items ++ (c.value-picture.result, c.in_ok-number.number) ∷ [] = c.in_ok-push.ensures.items in
-    let many : length (take c.loop-i.i c.args.table.now) ≡ c.loop-i.i = length-take-le c.loop-i.i c.args.table.now (omega arith) in
     record {
-      told = subst (λ ts. IsTold ts c.place_fragment.new.self c.push.new.self.items) (sym (got_take c.args.table.now c.loop-i.i t got))
+      told = subst (λ ts. IsTold ts c.place_fragment.new.self c.push.new.self.items) (sym (got_take c.args.table.now c.loop-i.i t (slice_get-get_or c.args.table.now c.loop-i.i t c.loop-i-test.true ∙ ap Some (sym c.index-table-i.is))))
           (one_told (take c.loop-i.i c.args.table.now) t c.loop-i.rows c.place_fragment.new.self c.loop-i.index.items c.push.new.self.items c.in_ok-number.number c.loop-i.invariant.told
-          (rows ∙ (λ i. (c.loop-i.rows ++ (number i ∷ []) ∷ []) ++ row i ∷ [])) (index ∙ ap (λ n. c.loop-i.index.items ++ (n, c.in_ok-number.number) ∷ []) number) (omega (arith, many, c.in_ok-number.ensures.value)) (subst (λ n. 0 < n) number above) (search rules));
+          (rows ∙ (λ i. (c.loop-i.rows ++ (number i ∷ []) ∷ []) ++ row i ∷ [])) (c.in_ok-push.ensures.items ∙ ap (λ n. c.loop-i.index.items ++ (n, c.in_ok-number.number) ∷ []) number) (omega (arith, length-take-le c.loop-i.i c.args.table.now (omega arith), c.in_ok-number.ensures.value)) (search rules) (search rules));
     }
 
 pub returns : goal.returns

@@ -1,9 +1,8 @@
-use Rattle.std.proofs.Common.{rules, ◌≡◌, ◌++◌, ◌∷◌, [], take, arith, sym, subst, true, Some, refl}
-use Rattle.std.specs.List.{slice_get}
-use Rattle.std.proofs.lemmas.Bool.{and_from, lt-ltb, le-leb}
+use Rattle.std.proofs.Common.{rules, ◌≡◌, take, arith, sym, subst, true, refl}
+use Rattle.std.proofs.lemmas.Bool.Decides.{nat_tests}
 use Rattle.std.proofs.lemmas.List.{take_all}
-use Rattle.photo_version.specs.Author.{author_word, is_author_word}
-use Rattle.item_knowledge.specs.Entries.{most_number}
+use Rattle.photo_version.specs.Author.{author_word}
+use Rattle.item_knowledge.specs.Entries.{is_entry}
 use Rattle.item_knowledge.proofs.TableRowLemmas.{IsRowOf, got_take, row_more, row_vector}
 use Rattle.item_knowledge.proofs.told.write_row.Goals as goal
 
@@ -13,13 +12,10 @@ loop-i-init c = record { written = record { row_is = search rules; entries = ref
 pub loop-i-preserved : goal.loop-i-preserved
 loop-i-preserved c =
     let b = c.entry-author.result in
-    let got : slice_get c.args.vector.now c.loop-i.i ≡ Some b = search rules in
-    let is : c.push-in-loop-i.new.self.items ≡ (c.loop-i.row.items ++ author_word b.0 ∷ []) ++ b.1 ∷ [] = search rules in
-    let author : is_author_word (author_word b.0) ≡ true = subst (λ w. is_author_word w ≡ true) c.word.ensures.value c.word.ensures.of_author in
-    let entry = and_from _ _ author (and_from _ _ (lt-ltb 0 b.1 (search rules)) (le-leb b.1 most_number (omega arith))) in
+    let entry : is_entry (author_word b.0, b.1) ≡ true = grind (arith, nat_tests, c.word.ensures.value, c.word.ensures.of_author) in
     record {
-      written = subst (λ bs. IsRowOf bs c.push-in-loop-i.new.self.items) (sym (got_take c.args.vector.now c.loop-i.i b got))
-          (row_more (take c.loop-i.i c.args.vector.now) b c.loop-i.row.items c.push-in-loop-i.new.self.items c.loop-i.invariant.written is entry);
+      written = subst (λ bs. IsRowOf bs c.push-in-loop-i.new.self.items) (sym (got_take c.args.vector.now c.loop-i.i b (search rules)))
+          (row_more (take c.loop-i.i c.args.vector.now) b c.loop-i.row.items c.push-in-loop-i.new.self.items c.loop-i.invariant.written (search rules) entry);
     }
 
 pub returns : goal.returns

@@ -8,9 +8,8 @@ use Rattle.item_knowledge.proofs.knowledge.Knowledge.stage_union.Goals as goal
 
 pub returns-clause-joined : goal.returns-clause-joined
 returns-clause-joined c =
-    let union : IsUnion (fragments_of c.self.inside.live) c.deref.result.now (fragments_of c.args.rows.now) c.args.index.now (fragments_of c.union.new.out) c.in_ok-written.written.items = search rules in
     joins c.self.inside.live c.self.inside.index.items c.args.self.now.known (fragments_of c.args.rows.now) (fragments_of c.union.new.out) c.args.index.now c.in_ok-written.written.items c.self.invariant.kept (known_of c.self.view_is)
-    (subst (λ xs. IsUnion (fragments_of c.self.inside.live) xs (fragments_of c.args.rows.now) c.args.index.now (fragments_of c.union.new.out) c.in_ok-written.written.items) c.deref.ensures.value union)
+    (subst (λ xs. IsUnion (fragments_of c.self.inside.live) xs (fragments_of c.args.rows.now) c.args.index.now (fragments_of c.union.new.out) c.in_ok-written.written.items) c.deref.ensures.value (search rules))
 
 pub returns-then-is_within-clause-joined : goal.returns-then-is_within-clause-joined
 returns-then-is_within-clause-joined c =

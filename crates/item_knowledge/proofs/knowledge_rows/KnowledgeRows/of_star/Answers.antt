@@ -6,6 +6,5 @@ use Rattle.item_knowledge.proofs.knowledge_rows.KnowledgeRows.of_star.Goals as g
 pub returns : goal.returns
 returns c =
     let star : c.in_ok-star.star.items ≡ c.args.star.now = search rules in
-    let rows : c.begin.new.out ≡ [] ∷ [] ∷ [] = search rules in
-    star_shown c.in_ok-star.star.items c.begin.new.out (subst IsRow (sym star) c.requires.row) rows
+    star_shown c.in_ok-star.star.items c.begin.new.out (subst IsRow (sym star) c.requires.row) (search rules)
     ∙ (λ i. [] ∷ star i ∷ [])

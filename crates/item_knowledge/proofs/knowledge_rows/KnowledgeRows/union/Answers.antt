@@ -36,8 +36,5 @@ union-requires-clause-star c =
 pub invariant_of-out : goal.invariant_of-out
 invariant_of-out c = (union_made c.self.inside.star.items c.others.inside.star.items c.join.new.out.items c.self.inside.rows c.others.inside.rows c.args.self.now c.args.others.now c.union.new.out c.args.index.now c.args.others_index.now c.in-Ok.written.items c.self.invariant c.self.view_is c.others.invariant c.others.view_is c.in_ok-join.ensures.row (star_joined c.self.inside.star.items c.others.inside.star.items c.deref.result.now c.deref-2.result.now c.join.new.out.items c.self.inside.rows c.others.inside.rows c.self.invariant c.others.invariant c.deref.ensures.value c.deref-2.ensures.value c.in_ok-join.ensures.entries) c.requires.left c.requires.right (subst (λ ws. IsWritten (pairs ws) (fragments_of c.self.inside.rows) c.args.index.now (fragments_of c.others.inside.rows) c.args.others_index.now c.union.new.out c.in-Ok.written.items) c.deref-5.ensures.value c.in-Ok.ensures)).excess
 
-pub returns-in-Ok-clause-rows : goal.returns-in-Ok-clause-rows
-returns-in-Ok-clause-rows c = (union_made c.self.inside.star.items c.others.inside.star.items c.join.new.out.items c.self.inside.rows c.others.inside.rows c.args.self.now c.args.others.now c.union.new.out c.args.index.now c.args.others_index.now c.in-Ok.written.items c.self.invariant c.self.view_is c.others.invariant c.others.view_is c.in_ok-join.ensures.row (star_joined c.self.inside.star.items c.others.inside.star.items c.deref.result.now c.deref-2.result.now c.join.new.out.items c.self.inside.rows c.others.inside.rows c.self.invariant c.others.invariant c.deref.ensures.value c.deref-2.ensures.value c.in_ok-join.ensures.entries) c.requires.left c.requires.right (subst (λ ws. IsWritten (pairs ws) (fragments_of c.self.inside.rows) c.args.index.now (fragments_of c.others.inside.rows) c.args.others_index.now c.union.new.out c.in-Ok.written.items) c.deref-5.ensures.value c.in-Ok.ensures)).rows
-
-pub returns-in-Ok-clause-union : goal.returns-in-Ok-clause-union
-returns-in-Ok-clause-union c = (union_made c.self.inside.star.items c.others.inside.star.items c.join.new.out.items c.self.inside.rows c.others.inside.rows c.args.self.now c.args.others.now c.union.new.out c.args.index.now c.args.others_index.now c.in-Ok.written.items c.self.invariant c.self.view_is c.others.invariant c.others.view_is c.in_ok-join.ensures.row (star_joined c.self.inside.star.items c.others.inside.star.items c.deref.result.now c.deref-2.result.now c.join.new.out.items c.self.inside.rows c.others.inside.rows c.self.invariant c.others.invariant c.deref.ensures.value c.deref-2.ensures.value c.in_ok-join.ensures.entries) c.requires.left c.requires.right (subst (λ ws. IsWritten (pairs ws) (fragments_of c.self.inside.rows) c.args.index.now (fragments_of c.others.inside.rows) c.args.others_index.now c.union.new.out c.in-Ok.written.items) c.deref-5.ensures.value c.in-Ok.ensures)).union
+pub returns-in-Ok : goal.returns-in-Ok
+returns-in-Ok c = let made = union_made c.self.inside.star.items c.others.inside.star.items c.join.new.out.items c.self.inside.rows c.others.inside.rows c.args.self.now c.args.others.now c.union.new.out c.args.index.now c.args.others_index.now c.in-Ok.written.items c.self.invariant c.self.view_is c.others.invariant c.others.view_is c.in_ok-join.ensures.row (star_joined c.self.inside.star.items c.others.inside.star.items c.deref.result.now c.deref-2.result.now c.join.new.out.items c.self.inside.rows c.others.inside.rows c.self.invariant c.others.invariant c.deref.ensures.value c.deref-2.ensures.value c.in_ok-join.ensures.entries) c.requires.left c.requires.right (subst (λ ws. IsWritten (pairs ws) (fragments_of c.self.inside.rows) c.args.index.now (fragments_of c.others.inside.rows) c.args.others_index.now c.union.new.out c.in-Ok.written.items) c.deref-5.ensures.value c.in-Ok.ensures) in record { rows = made.rows; union = made.union }
