@@ -18,7 +18,7 @@ module _ {T : Type 0} where
     pub fits : all < 2 ^ 64
 
   -- the elements are in blocks, or all in the one block, and there is room for those that may come
-  pub record IsRoomy (blocks : List (Vec T Global)) (spare : Vec (Vec T Global) Global) (whole : Vec T Global) (len more : ℕ) : Type 0 where
+  pub record IsGrowingList (blocks : List (Vec T Global)) (spare : Vec (Vec T Global) Global) (whole : Vec T Global) (len more : ℕ) : Type 0 where
     pub filled : AreFilled blocks
     pub len_is : len ≡ length (whole.items ++ joined blocks)
     pub apart : 0 < length whole.items → blocks ≡ []

@@ -13,7 +13,7 @@ use crate::kept::retain_in;
 use crate::search::{element_behind, index_of, passes, spot_of};
 use crate::spare::spare_blocks;
 use crate::taken::{spot_passing, take_at};
-use crate::{Iter, Room, Roomy, Spot};
+use crate::{GrowingList, Iter, Position, Reservation};
 use std::alloc::{AllocError, Global};
 use std::marker::Model;
 
@@ -111,7 +111,7 @@ impl<T> BlockList<T> {
     }
 
     /// What `find_failing` returns, and a hint for `take_near`.
-    pub fn find_failing_at<P: Fn(&T) -> bool>(&self, pred: P) -> (Option<&T>, Spot)
+    pub fn find_failing_at<P: Fn(&T) -> bool>(&self, pred: P) -> (Option<&T>, Position)
         requires { P.IsAlwaysCallable pred }
         ensures { (p : T → Bool) → ComputesKey P.FnMut p pred → IsPartitionedBy p self.now
             → option_copied result.0 ≡ find (λ y. not (p y)) self.now }
@@ -119,7 +119,7 @@ impl<T> BlockList<T> {
         let blocks = self.blocks.as_slice();
         let (block, place) = spot_of(blocks, pred);
         let found = element_behind(blocks, block, place);
-        (found, Spot { block, place })
+        (found, Position { block, place })
     }
 }
 
@@ -188,7 +188,7 @@ impl<T: Drop> BlockList<T> {
     ///
     /// A call does little work if it gets the last call's hint, and its element stands behind the one that call removed.
     #[tactic(auto, using(crate::proofs::Passing::taken_out))]
-    pub fn take_near<P: Fn(&T) -> bool>(&mut self, near: Spot, pred: P) -> (Option<T>, Spot)
+    pub fn take_near<P: Fn(&T) -> bool>(&mut self, near: Position, pred: P) -> (Option<T>, Position)
         requires { P.IsAlwaysCallable pred }
         ensures none { IfNone result.0 (self.new ≡ self.old) }
         ensures absent { IfNone result.0 ((p : T → Bool) → ComputesKey P.FnMut p pred → list_any p self.old ≡ false) }
@@ -200,7 +200,7 @@ impl<T: Drop> BlockList<T> {
         };
         let taken = take_at(&mut self.blocks, block, place);
         self.len -= 1;
-        (Some(taken), Spot { block, place: 0 })
+        (Some(taken), Position { block, place: 0 })
     }
 
     /// Removes the elements from place `from` to before place `to`. Takes no memory.
@@ -244,7 +244,7 @@ impl<T: Drop> BlockList<T> {
     /// The list may lose elements before it is opened. The room is a block for all elements and, if there is memory,
     /// spare blocks for the new ones. With spare blocks an insertion moves elements only within their block, or to the
     /// next one. The work is proportional to `more`. The only error is refused memory.
-    pub fn room(&mut self, more: usize) -> Result<Room<T>, AllocError>
+    pub fn room(&mut self, more: usize) -> Result<Reservation<T>, AllocError>
         ensures kept { self.new ≡ self.old }
         ensures most { IfOk result (λ room. room.most ≡ length self.old) }
         ensures more { IfOk result (λ room. room.more ≡ more) }
@@ -254,7 +254,7 @@ impl<T: Drop> BlockList<T> {
         let whole = Vec::with_capacity(alloc, all)?;
         let spare = spare_blocks(alloc, self.blocks.len(), more)?;
         let _refused = self.blocks.reserve(spare.len()).is_err();
-        Ok(Room {
+        Ok(Reservation {
             spare,
             whole,
             most: self.len,
@@ -263,12 +263,12 @@ impl<T: Drop> BlockList<T> {
     }
 
     /// The list with the room that was reserved for it. Takes no memory.
-    pub fn open(self, room: Room<T>) -> Roomy<T>
+    pub fn open(self, room: Reservation<T>) -> GrowingList<T>
         requires { length self ≤ room.most }
         ensures items { result.items ≡ self }
         ensures more { result.more ≡ room.more }
     {
-        Roomy {
+        GrowingList {
             blocks: self.blocks,
             spare: room.spare,
             whole: room.whole,

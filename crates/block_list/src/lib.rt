@@ -7,13 +7,13 @@ mod blocks;
 mod elements;
 mod kept;
 mod placed;
-mod room;
+mod position;
+mod reservation;
 mod search;
 mod spare;
-mod spot;
 mod taken;
 
 pub use block_list::BlockList;
 pub use elements::Iter;
-pub use room::{Room, Roomy};
-pub use spot::Spot;
+pub use position::Position;
+pub use reservation::{GrowingList, Reservation};

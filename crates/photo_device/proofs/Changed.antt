@@ -1,10 +1,9 @@
 -- What is true of a device that took versions, or gave up some.
-use Rattle.std.proofs.Common.{◌≡◌, ℕ, ◌+◌, ◌≤◌, ◌<◌, Bool, true, false, not, ◌||◌, List, [], ◌∷◌, ◌++◌, refl, sym, ap, ◌∙◌, ◌⊎◌, inl, inr, arith, subst, ◌-◌, length}
+use Rattle.std.proofs.Common.{◌≡◌, ℕ, ◌+◌, ◌≤◌, ◌<◌, Bool, true, false, not, ◌||◌, List, [], ◌∷◌, ◌++◌, refl, sym, ap, ◌∙◌, inl, inr, arith, subst, ◌-◌, length}
 use Rattle.std.specs.Prelude.{filter, None}
-use Rattle.std.specs.List.{AllByRecursion, list_any}
-use Rattle.std.proofs.lemmas.Bool.{cases_Bool, false≢true, and_parts}
+use Rattle.std.specs.List.{AllByRecursion}
+use Rattle.std.proofs.lemmas.Bool.{and_parts, cases_lt}
 use Rattle.std.proofs.lemmas.Bool.Decides.{nat_tests}
-use Rattle.std.proofs.Math.Bool.{or-true}
 use Rattle.std.proofs.lemmas.List.{append-nil, length-map}
 use Rattle.std.proofs.lemmas.List.Filters.{length-filter_both}
 use Rattle.photo_filter_text.specs.Tree.{Tree}
@@ -22,12 +21,12 @@ use Rattle.photo_device.specs.Learning.{IsOwnLearned}
 use Rattle.photo_device.specs.Own.{HasEarlier, IsKnownBy, IsDevice, IsNext, KnowsItsOwn}
 use Rattle.photo_device.specs.Taking.{is_on_side, AreNewTo, with_side}
 use Rattle.photo_model.proofs.AllLemmas.{all_append, all_back, all_filter, all_front, all_put}
-use Rattle.photo_device.proofs.Counts.{one_of, count_of-cons, count_of-append, count_of-filter, same_version_is, same_version_self, none_there, none_counted}
+use Rattle.photo_device.proofs.Counts.{count_of-append, count_of-filter, same_version_is, same_version_self, none_counted}
 use Rattle.photo_device.proofs.Shown.{entries-without, entries-filter, entries-put_those}
 use Rattle.photo_device.proofs.OwnLemmas.{known_later, none_of_next, own_learned}
-use Rattle.photo_device.proofs.Taken.{count_of-put_helds, without_none}
-use Rattle.photo_device.proofs.Order.{held_order}
-use Rattle.photo_device.proofs.Putting.{list_all_wider, put_first, in_order-filter, filter_true}
+use Rattle.photo_device.proofs.Taken.{count_of-put_helds}
+use Rattle.photo_device.proofs.Order.{held_order, in_order-filter}
+use Rattle.photo_device.proofs.Putting.{list_all_wider, put_first, filter_true}
 
 pub all_put_helds : (P : Held → Type 0) (takes helds : List Held) → AllByRecursion P takes → AllByRecursion P helds → AllByRecursion P (put_helds takes helds)
 all_put_helds P [] helds these those = those
@@ -54,17 +53,15 @@ pub all_new : (takes : List Held) (d : Kept) → AllByRecursion (λ h. find_vers
     → AreNewTo (d.store ++ d.out) takes
 all_new takes d new distinct is = record {
   once = λ v.
-      let each = distinct v in
-      let here = is.once v in
       let all = count_of-append v takes (d.store ++ d.out) in
-      elim (cases_Bool (list_any (λ h. same_version h.version v) takes)) [
-        | inl some ↦ let none = new_counted v (d.store ++ d.out) takes new some in omega arith
-        | inr none ↦ let zero = none_there v takes none in omega arith
+      elim (cases_lt 0 (count_of v takes)) [
+        | inl some ↦ let none = new_counted v (d.store ++ d.out) takes new some in omega (arith, distinct v)
+        | inr none ↦ omega (arith, is.once v)
       ];
 }
   where
-    new_counted : (v : Version) (helds takes : List Held) → AllByRecursion (λ h. find_version h.version helds ≡ None) takes → list_any (λ h. same_version h.version v) takes ≡ true → count_of v helds ≡ 0
-    new_counted v helds [] all some = absurd (false≢true some)
+    new_counted : (v : Version) (helds takes : List Held) → AllByRecursion (λ h. find_version h.version helds ≡ None) takes → 0 < count_of v takes → count_of v helds ≡ 0
+    new_counted v helds [] all some = absurd (omega arith)
     new_counted v helds (h ∷ more) all some =
         let rest = new_counted v helds more all.1 in
         let none = none_counted h.version helds all.0 in
@@ -103,19 +100,12 @@ joins_device takes new d once earlier own later known is = puts_device ins outs 
 
 -- some versions leave the out
 pub shows_without : (versions : List Version) (d : Kept) (m : ModelDevice) → Shows d m → Shows (record d { out = helds_without versions d.out }) (without_waiting versions m)
-shows_without versions d m shows = record {
-  author = shows.author;
-  tree = shows.tree;
-  counter = shows.counter;
-  store = shows.store;
-  out = entries-without versions d.out ∙ ap (without versions) shows.out;
-  known = shows.known;
-}
+shows_without versions d m shows = assumption (entries-without versions d.out ∙ ap (without versions) shows.out)
 
 -- a device that gives up versions in its out
 pub drops_device : (versions : List Version) (d : Kept) → IsDevice d → IsDevice (record d { out = helds_without versions d.out })
 drops_device versions d is =
-    subst (λ store. IsDevice (record d { store = store; out = helds_without versions d.out })) (without_none d.store)
+    subst (λ store. IsDevice (record d { store = store; out = helds_without versions d.out })) (filter_true d.store)
     (filters_device d (λ h. not (is_listed [] h.version)) (λ h. not (is_listed versions h.version)) is)
 
 -- What is true of a device that made a version.
@@ -131,13 +121,7 @@ makes_device place h d new next learned is = by place
     less = record d { store = filter other d.store; out = filter other d.out }
 
     made_earlier : HasEarlier h
-    made_earlier = record {
-      own = λ n.
-          next.history (version h.version.author n)
-          ∙ ap (λ (x : Version). knows d.knowledge h.picture (version x.author n)) next.next
-          ∙ is.knows.own h.picture n next.above
-          ∙ rw next.next (grind (arith, nat_tests));
-    }
+    made_earlier = record { own = λ n. rw next.next (next.history (version d.author n) ∙ is.knows.own h.picture n next.above ∙ grind (arith, nat_tests)) }
 
     later : (p : ℕ) (w : Version) → 0 < p → knows d.knowledge p w ≡ true → knows new p w ≡ true
     later p w above here = learned.learned p w above ∙ ap (λ b. b || same_version h.version w) here
@@ -145,26 +129,16 @@ makes_device place h d new next learned is = by place
     itself_known : IsKnownBy new h
     itself_known = record {
       above = next.above;
-      itself = learned.learned h.picture h.version next.above ∙ ap (λ b. knows d.knowledge h.picture h.version || b) (same_version_self h.version) ∙ or-true (knows d.knowledge h.picture h.version);
+      itself = grind (arith, learned.learned h.picture h.version next.above, same_version_self h.version);
       history = λ v has. later h.picture v next.above (sym (next.history v) ∙ has);
     }
 
-    alone : (v : Version) → (same_version h.version v ≡ true) ⊎ (same_version h.version v ≡ false) → one_of v h + (count_of v d.store + count_of v d.out) ≤ 1
-    alone v (inl same) =
-        let is_next = sym (same_version_is h.version v same) ∙ next.next in
-        let none_there = none_of_next d.author d.counter d.knowledge v d.store is_next is.knows is.store_known in
-        let none_waiting = none_of_next d.author d.counter d.knowledge v d.out is_next is.knows is.out_known in
-        let one : one_of v h ≡ 1 = rw same refl in
-        omega arith
-    alone v (inr apart) =
-        let before = is.once v in
-        let none : one_of v h ≡ 0 = rw apart refl in
-        omega (arith, count_of-append v d.store d.out)
-
     once : AreNewTo (less.store ++ less.out) (h ∷ [])
-    once = record {
-      once = λ v. omega (arith, alone v (cases_Bool (same_version h.version v)), count_of-cons v h (less.store ++ less.out), count_of-append, count_of-filter);
-    }
+    once =
+        let known = all_append (IsKnownBy d.knowledge) d.store d.out is.store_known is.out_known in
+        let none = none_of_next d.author d.counter d.knowledge h.version (d.store ++ d.out) next.next is.knows known in
+        let all = all_new (h ∷ []) d (none, tt) (λ v. grind (arith, nat_tests)) is in
+        record { once = λ v. omega (arith, all.once v, count_of-append, count_of-filter) }
 
     puts : (ins outs : List Held) → ins ++ outs ≡ h ∷ [] → IsDevice (record less { counter = d.counter + 1; store = put_helds ins less.store; out = put_helds outs less.out; knowledge = new })
     puts ins outs all =
@@ -187,27 +161,17 @@ narrows_device tree d is =
     apart = record { once = λ v. omega (arith, is.once v, both_sides v tree d.store, count_of-append) }
 
 pub shows_narrowed : (tree : Tree) (d : Kept) (m : ModelDevice) → Shows d m → Shows (record d { tree = tree; store = filter (λ h. matches tree h.content) d.store; out = with_side false tree d.store d.out }) (narrowed tree m)
-shows_narrowed tree d m shows = record {
-  author = shows.author;
-  tree = refl;
-  counter = shows.counter;
-  store = entries-filter (λ (e : Entry). matches tree e.content) d.store ∙ ap (filter (λ e. matches tree e.content)) shows.store;
-  out =
-      entries-put_those (λ (e : Entry). not (matches tree e.content)) d.store d.out
-      ∙ (λ i. put_entries (filter (λ e. not (matches tree e.content)) (shows.store i)) (shows.out i));
-  known = shows.known;
-}
+shows_narrowed tree d m shows =
+    let q = λ (e : Entry). matches tree e.content in
+    let out = entries-put_those (λ (e : Entry). not (q e)) d.store d.out ∙ (λ i. put_entries (filter (λ e. not (q e)) (shows.store i)) (shows.out i)) in
+    assumption (entries-filter q d.store ∙ ap (filter q) shows.store, out)
 
 -- how many go
 pub moved_away : (tree : Tree) (d : Kept) (m : ModelDevice) → Shows d m → length d.store - length (filter (λ h. matches tree h.content) d.store) ≡ moved tree m
 moved_away tree d m shows =
     let q = λ (e : Entry). matches tree e.content in
     let split = length-filter_both q (λ e. not (q e)) (λ e. refl) (entries_of d.store) in
-    let all = length-map d.store entry_of in
-    let some = length-map (filter (λ h. matches tree h.content) d.store) entry_of in
-    let left = entries-filter q d.store in
-    let store = shows.store in
-    grind arith
+    grind (arith, shows.store, entries-filter q d.store, length-map d.store entry_of, length-map (filter (λ h. matches tree h.content) d.store) entry_of)
 
 pub shorter : (q : Held → Bool) (xs : List Held) → length (filter q xs) ≤ length xs
 shorter q xs = let both = length-filter_both q (λ h. not (q h)) (λ h. refl) xs in omega arith

@@ -1,14 +1,12 @@
 -- How often versions are held.
-use Rattle.std.proofs.Common.{◌≡◌, ℕ, ◌+◌, ◌≤◌, Bool, true, false, cond, List, [], ◌∷◌, ◌++◌, length, refl, sym, ap, ◌∙◌, length-append, arith}
-use Rattle.std.specs.Prelude.{filter, Option, Some, None, is_some}
-use Rattle.std.specs.List.{list_any}
+use Rattle.std.proofs.Common.{◌≡◌, ℕ, ◌+◌, ◌≤◌, Bool, true, cond, List, [], ◌∷◌, ◌++◌, length, refl, ap, ◌∙◌, length-append, arith}
+use Rattle.std.specs.Prelude.{filter, None}
 use Rattle.std.proofs.lemmas.Bool.Decides.{nat_tests}
 use Rattle.std.proofs.lemmas.List.Elements.{filter-append}
 use Rattle.photo_version.specs.Version.{Version, same_version}
 use Rattle.photo_device.specs.declared.held.Held.{Held}
 use Rattle.photo_model.specs.Ordered.{put}
 use Rattle.photo_device.specs.Held.{held_before, count_of, find_version}
-use Rattle.photo_device.proofs.Putting.{any_found, any_counted, count-cons}
 
 pub same_version_is : (v w : Version) → same_version v w ≡ true → v ≡ w
 same_version_is v w h = grind (arith, nat_tests)
@@ -20,7 +18,7 @@ abbrev pub one_of : Version → Held → ℕ
 one_of v h = cond (same_version h.version v) 1 0
 
 pub count_of-cons : (v : Version) (h : Held) (xs : List Held) → count_of v (h ∷ xs) ≡ one_of v h + count_of v xs
-count_of-cons v h xs = count-cons (λ (x : Held). same_version x.version v) h xs
+count_of-cons v h xs = grind (arith, nat_tests)
 
 pub count_of-append : (v : Version) (xs ys : List Held) → count_of v (xs ++ ys) ≡ count_of v xs + count_of v ys
 count_of-append v xs ys =
@@ -34,17 +32,7 @@ pub count_of-filter : (v : Version) (q : Held → Bool) (xs : List Held) → cou
 count_of-filter v q [] = omega arith
 count_of-filter v q (x ∷ xs) = let rest = count_of-filter v q xs in grind (arith, nat_tests)
 
--- what counts is found
-
-pub not_found : (v : Version) (xs : List Held) → count_of v xs ≡ 0 → find_version v xs ≡ None
-not_found v xs none = by (find_version v xs) (any_found _ xs ∙ any_counted _ xs ∙ grind (arith, nat_tests))
-  where
-    by : (o : Option Held) → is_some o ≡ false → o ≡ None
-    by None e = refl
-    by (Some x) e = absurd (cc)
-
-pub none_there : (v : Version) (xs : List Held) → list_any (λ h. same_version h.version v) xs ≡ false → count_of v xs ≡ 0
-none_there v xs none = let counted = sym (any_counted (λ (h : Held). same_version h.version v) xs) ∙ none in grind (arith, nat_tests)
-
+-- what isn't found doesn't count
 pub none_counted : (v : Version) (xs : List Held) → find_version v xs ≡ None → count_of v xs ≡ 0
-none_counted v xs none = none_there v xs (sym (any_found _ xs) ∙ ap is_some none)
+none_counted v [] none = refl
+none_counted v (x ∷ xs) none = let rest = none_counted v xs in grind (arith, nat_tests)

@@ -1,5 +1,5 @@
 -- Conflicts, picture by picture.
-use Rattle.std.proofs.Common.{◌≡◌, ℕ, ◌<◌, ◌≤◌, Bool, true, not, cond, eqb, ltb, List, [], ◌∷◌, ◌++◌, length, get_or, take, drop, append_assoc, refl, sym, ap, ◌∙◌, subst, inl, inr, arith}
+use Rattle.std.proofs.Common.{◌≡◌, ℕ, ◌<◌, ◌≤◌, Bool, true, not, eqb, ltb, List, [], ◌∷◌, ◌++◌, length, get_or, take, drop, append_assoc, refl, sym, ap, ◌∙◌, subst, inl, inr, arith}
 use Rattle.std.specs.Prelude.{filter, map}
 use Rattle.std.specs.List.Sorted.{IsPartitionedBy}
 use Rattle.std.proofs.lemmas.Bool.{cases_lt, false≢true, eqb-true, eq-eqb}
@@ -56,11 +56,8 @@ abbrev pub conflict_of : ℕ → List Held → Conflict
 conflict_of p run = record { picture = p; versions = map (λ (h : Held). h.version) run }
 
 versions-held : (p : ℕ) (hs : List Held) → versions_of (entries_of hs) p ≡ conflict_of p (filter (is_at p) hs)
-versions-held p hs = ap (λ vs. record { picture = p; versions = vs }) (by hs)
-  where
-    by : (hs : List Held) → map (λ (e : Entry). e.version) (filter (λ (e : Entry). eqb e.picture p) (entries_of hs)) ≡ map (λ (h : Held). h.version) (filter (is_at p) hs)
-    by [] = refl
-    by (h ∷ hs) = let rest = by hs in grind (arith, nat_tests)
+versions-held p [] = refl
+versions-held p (h ∷ hs) = let rest = versions-held p hs in grind (arith, nat_tests)
 
 -- the first picture's versions, and the others
 pub record IsFirstRun (p : ℕ) (hs run rest : List Held) : Type 0 where
@@ -79,38 +76,29 @@ pub first_run : (p : ℕ) (hs run rest : List Held) (x : Held) (n : ℕ) → 0 <
 first_run p [] run rest x n some is same o within turns run_is rest_is = absurd (omega arith)
 first_run p (h ∷ hs) run rest x n some is same o within turns run_is rest_is =
     let first = same ∙ ap (λ (y : Held). y.picture) is in
-    subst (λ q. IsFirstRun q (h ∷ hs) run rest) (sym first) (by (subst (λ q. IsPartitionedBy (is_at q) (h ∷ hs) → TurnsAt (is_at q) (h ∷ hs) n) first turns (first_at h hs o)))
-  where
-    by : TurnsAt (is_at h.picture) (h ∷ hs) n → IsFirstRun h.picture (h ∷ hs) run rest
-    by point =
-        let p = h.picture in
-        let parts = turned (is_at p) (h ∷ hs) n within point in
-        let left : held_of_others p (h ∷ hs) ≡ rest = parts.1 ∙ sym rest_is in
-        let some_first : 0 < n = elim (cases_lt 0 n) [
-          | inl some ↦ some
-          | inr none ↦ absurd (false≢true (sym (point.1 0 h none (omega arith)) ∙ eq-eqb p p refl))
-        ] in
-        record {
-          conflicts = first_conflict (entry_of h) (entries_of hs)
-              ∙ (λ i. first_and ((versions-held p (h ∷ hs) ∙ ap (conflict_of p) (parts.0 ∙ sym run_is)) i) ((sym (entries-others p (h ∷ hs)) ∙ ap entries_of left) i));
-          order = subst (λ l. are_in_order l ≡ true) left (in_order-filter (λ (x : Held). not (eqb x.picture p)) (h ∷ hs) o);
-          shorter =
-              let long = ap length rest_is ∙ length-drop n (h ∷ hs) in
-              omega arith;
-        }
+    let point = turns (subst (λ q. IsPartitionedBy (is_at q) (h ∷ hs)) (sym first) (first_at h hs o)) in
+    let parts = turned (is_at p) (h ∷ hs) n within point in
+    let left : held_of_others p (h ∷ hs) ≡ rest = parts.1 ∙ sym rest_is in
+    let some_first : 0 < n = elim (cases_lt 0 n) [
+      | inl some ↦ some
+      | inr none ↦ absurd (false≢true (sym (point.1 0 h none (omega arith)) ∙ eq-eqb h.picture p (sym first)))
+    ] in
+    record {
+      conflicts = subst (λ q. conflicts_in (entries_of (h ∷ hs)) ≡ first_and (versions_of (entries_of (h ∷ hs)) q) (others q (entries_of (h ∷ hs)))) (sym first) (first_conflict (entry_of h) (entries_of hs))
+          ∙ (λ i. first_and ((versions-held p (h ∷ hs) ∙ ap (conflict_of p) (parts.0 ∙ sym run_is)) i) ((sym (entries-others p (h ∷ hs)) ∙ ap entries_of left) i));
+      order = subst (λ l. are_in_order l ≡ true) left (in_order-filter (λ (x : Held). not (eqb x.picture p)) (h ∷ hs) o);
+      shorter = let long = ap length rest_is ∙ length-drop n (h ∷ hs) in omega arith;
+    }
 
 -- with what was found before, and without
-
-split_first : (p : ℕ) (run rest : List Held) → first_and (conflict_of p run) (entries_of rest) ≡ cond (ltb 1 (length run)) (conflict_of p run ∷ conflicts_in (entries_of rest)) (conflicts_in (entries_of rest))
-split_first p run rest = ap (λ n. cond (ltb 1 n) (conflict_of p run ∷ conflicts_in (entries_of rest)) (conflicts_in (entries_of rest))) (length-map run (λ (h : Held). h.version))
 
 pub run_two : (p : ℕ) (hs run rest : List Held) (old new : List Conflict) (versions : List Version) → IsFirstRun p hs run rest → 1 < length run → versions ≡ map (λ (h : Held). h.version) run → new ≡ old ++ record { picture = p; versions = versions } ∷ []
     → new ++ conflicts_in (entries_of rest) ≡ old ++ conflicts_in (entries_of hs)
 run_two p hs run rest old new versions first two versions_is new_is =
     let c = first.conflicts in
-    let parts = split_first p run rest in
+    let many = length-map run (λ (h : Held). h.version) in
     let group = append_assoc old (conflict_of p run ∷ []) (conflicts_in (entries_of rest)) in
     grind (arith, nat_tests)
 
 pub run_one : (p : ℕ) (hs run rest : List Held) (old : List Conflict) → IsFirstRun p hs run rest → length run ≤ 1 → old ++ conflicts_in (entries_of rest) ≡ old ++ conflicts_in (entries_of hs)
-run_one p hs run rest old first one = let c = first.conflicts in let parts = split_first p run rest in grind (arith, nat_tests)
+run_one p hs run rest old first one = let c = first.conflicts in let many = length-map run (λ (h : Held). h.version) in grind (arith, nat_tests)

@@ -1,7 +1,7 @@
 -- Held versions in order: how they stand to one another, what is put among them, and what a search by a test of the code
 -- finds there.
 use Rattle.std.proofs.Common.{◌≡◌, ℕ, ◌<◌, ◌≤◌, Bool, true, false, not, eqb, leb, ltb, ◌&&◌, ◌||◌, List, [], ◌∷◌, ◌++◌, length, length-append, get_or, Bor, refl, sym, ap, ◌∙◌, inl, inr, arith}
-use Rattle.std.specs.Prelude.{filter, Option, None, is_some, Result, Ok, Err, OnErr}
+use Rattle.std.specs.Prelude.{filter, Option, is_some, Result, Ok, Err, OnErr}
 use Rattle.std.specs.List.{find, list_any}
 use Rattle.std.specs.Cmp.{IsStrictWeakOrder}
 use Rattle.std.specs.Fn.{Mut, Called, ComputesKey}
@@ -17,19 +17,18 @@ use Rattle.photo_version.specs.Version.{Version, version, version_before, same_v
 use Rattle.photo_device.specs.declared.held.Held.{Held}
 use Rattle.photo_model.specs.Ordered.{put}
 use Rattle.photo_model.specs.Entry.{is_of_other}
-use Rattle.photo_device.specs.Held.{entry_of, held_before, stands_before, is_of, are_in_order, replaced, find_version}
+use Rattle.photo_device.specs.Held.{entry_of, held_before, stands_before, is_of, are_in_order, replaced, count_of}
 use Rattle.photo_device.proofs.Putting as putting
 use Rattle.photo_device.proofs.Putting.{IsSearch, TurnsAt}
 
--- where a test keeps some of a list, one passes it
-one_kept : (f : Held → Bool) (xs ys zs : List Held) (y : Held) → ys ++ y ∷ zs ≡ filter f xs → list_any f xs ≡ true
-one_kept f [] ys zs y is = absurd (let none = ap (length {A = Held}) is in let some = length-append ys (y ∷ zs) in omega (arith, none, some))
-one_kept f (x ∷ xs) ys zs y is = let rest = one_kept f xs ys zs y in grind (arith)
-
--- so does the one that is found next of those that are left
+-- where one that is left passes a test, one of all does
 pub one_passes : {T E : Type 0} (r : Result T E) (f : Held → Bool) (xs found left rest : List Held) (y : Held) → found ++ filter f left ≡ filter f xs → left ≡ y ∷ rest → f y ≡ true → OnErr r (list_any f xs ≡ true)
 one_passes (Ok x) f xs found left rest y so_far next passes = tt
-one_passes (Err e) f xs found left rest y so_far next passes = one_kept f xs found (filter f rest) y (sym (ap (λ l. found ++ l) (ap (filter f) next ∙ rw passes refl)) ∙ so_far)
+one_passes (Err e) f xs found left rest y so_far next passes =
+    let some : length (filter f left) ≡ length (y ∷ filter f rest) = ap (λ l. length (filter f l)) next ∙ rw passes refl in
+    let all = ap length so_far in
+    let counted = putting.any_counted f xs in
+    grind (arith, nat_tests, length-append)
 
 -- by a number, and by a second test where the numbers are the same
 by_number : {X : Type 0} (key : X → ℕ) (rest : X → X → Bool) → IsStrictWeakOrder rest → IsStrictWeakOrder (λ x y. ltb (key x) (key y) || (eqb (key x) (key y) && rest x y))
@@ -66,7 +65,8 @@ pub record Parts (p : ℕ) (xs : List Held) (from to : ℕ) : Type 0 where
 -- The order is kept
 
 pub in_order-filter : (r : Held → Bool) (xs : List Held) → are_in_order xs ≡ true → are_in_order (filter r xs) ≡ true
-in_order-filter r xs o = putting.in_order-filter held_before r xs o
+in_order-filter r [] o = refl
+in_order-filter r (x ∷ xs) o = let rest = in_order-filter r xs in let all = putting.list_all-filter (held_before x) r xs in grind arith
 
 pub in_order-replaced : (h : Held) (xs : List Held) → are_in_order xs ≡ true → are_in_order (replaced h xs) ≡ true
 in_order-replaced h xs o =
@@ -74,19 +74,18 @@ in_order-replaced h xs o =
     (putting.list_all_wider (λ x. is_of_other h.picture (entry_of x)) (λ x. held_before h x || held_before x h) (λ x other. grind (arith, nat_tests)) _ (putting.list_all_filtered (λ x. is_of_other h.picture (entry_of x)) xs))
 
 -- a version that isn't there stands before or behind each
-pub in_order-inserted : (h : Held) (xs : List Held) → are_in_order xs ≡ true → find_version h.version xs ≡ None → are_in_order (put held_before h xs) ≡ true
-in_order-inserted h xs o none =
+pub in_order-inserted : (h : Held) (xs : List Held) → are_in_order xs ≡ true → count_of h.version xs ≡ 0 → are_in_order (put held_before h xs) ≡ true
+in_order-inserted h xs o absent =
+    let test = λ (x : Held). same_version x.version h.version in
+    let out = putting.none_out test xs (putting.any_counted test xs ∙ grind (arith, nat_tests)) in
+    let none = rw out at (putting.list_all_filtered (λ x. not (test x)) xs) in
     putting.in_order-put held_order h xs o
-    (putting.list_all_wider (λ x. not (same_version x.version h.version)) (λ x. held_before h x || held_before x h) (λ x other. grind (arith, nat_tests)) xs
-    (putting.none_passes (λ x. same_version x.version h.version) xs (sym (putting.any_found _ xs) ∙ ap is_some none)))
+    (putting.list_all_wider (λ x. not (test x)) (λ x. held_before h x || held_before x h) (λ x other. grind (arith, nat_tests)) xs none)
 
 -- What the code's searches ask: where a picture's versions begin and end, and where a version of a picture stands
 
 pub for_picture : (p : ℕ) → IsSearch held_before (λ h. ltb h.picture p) (λ h. eqb h.picture p)
 for_picture p = record { down = λ x y b t. grind (arith, nat_tests); apart = λ x t. grind (arith, nat_tests); alone = λ x y b t q. grind (arith, nat_tests) }
-
-through_picture : (p : ℕ) (x y : Held) → held_before x y ≡ true → leb y.picture p ≡ true → leb x.picture p ≡ true
-through_picture p x y b t = grind (arith, nat_tests)
 
 pub for_version : (p : ℕ) (v : Version) → IsSearch held_before (λ h. stands_before h p v) (λ h. is_of h p v)
 for_version p v = record { down = λ x y b t. grind (arith, nat_tests); apart = λ x t. grind (arith, nat_tests); alone = λ x y b t q. grind (arith, nat_tests) }
@@ -138,7 +137,7 @@ module _ (xs : List Held) (ordered : are_in_order xs ≡ true) {F : Type 0} {f :
       (always_returns_same f (λ a r. r ≡ ltb a.0.now.picture h.picture) before less)
       (always_returns_same g (λ a r. r ≡ leb a.0.now.picture h.picture) through most)
       (putting.turning held_before _ (for_picture h.picture).down xs ordered)
-      (putting.turning held_before _ (through_picture h.picture) xs ordered)
+      (putting.turning held_before (λ x. leb x.picture h.picture) (λ x y b t. grind (arith, nat_tests)) xs ordered)
       (λ y l. grind (arith, nat_tests)) in
       let order = r.between.order in
       let within = r.between.within in

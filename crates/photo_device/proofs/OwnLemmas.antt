@@ -1,11 +1,11 @@
 -- What a device knows of its own versions, after it made one more.
-use Rattle.std.proofs.Common.{◌≡◌, ℕ, ◌+◌, ◌<◌, Bool, true, false, cond, eqb, leb, ◌&&◌, ◌||◌, List, [], ◌∷◌, refl, sym, ap, ◌∙◌, arith, subst, ◌≤◌}
+use Rattle.std.proofs.Common.{◌≡◌, ℕ, ◌+◌, ◌<◌, Bool, true, false, eqb, leb, ◌&&◌, ◌||◌, List, [], ◌∷◌, refl, sym, ap, ◌∙◌, arith, subst, ◌≤◌}
 use Rattle.std.specs.Prelude.{None, max}
 use Rattle.std.specs.List.{AllByRecursion}
 use Rattle.std.proofs.lemmas.Bool.{leb-true, and_parts, false≢true}
 use Rattle.std.proofs.lemmas.Bool.Decides.{nat_tests}
-use Rattle.photo_version.specs.Author.{Author, same_author, is_earlier_epoch}
-use Rattle.photo_version.specs.Version.{Version, version, same_version}
+use Rattle.photo_version.specs.Author.{Author}
+use Rattle.photo_version.specs.Version.{Version, version}
 use Rattle.item_knowledge.specs.Fragments.{Fragment, knows, is_normal, is_empty, are_groups, entries_at}
 use Rattle.item_knowledge.specs.Kept.{star_bound}
 use Rattle.item_knowledge.specs.Entries.{Entry, denotes, is_vector}
@@ -13,7 +13,7 @@ use Rattle.item_knowledge.proofs.EntryLemmas.{denotes-bound}
 use Rattle.item_knowledge.proofs.FragmentLemmas.{star_of_every}
 use Rattle.photo_device.specs.declared.held.Held.{Held}
 use Rattle.photo_model.specs.declared.place.Place.{Place}
-use Rattle.photo_device.specs.Held.{count_of}
+use Rattle.photo_device.specs.Held.{find_version}
 use Rattle.photo_device.specs.Device.{Kept, held_at, unstaged}
 use Rattle.photo_device.specs.Own.{KnowsItsOwn, KnowsNoMore, IsKnownBy, IsNext, HasMade}
 use Rattle.photo_device.specs.Learning.{IsNextKnown, IsOwnLearned}
@@ -31,9 +31,6 @@ none_up_to n = grind (arith, nat_tests)
 pub up_to_one : (b : Bool) (n : ℕ) → (((b && (leb 1 n && leb n 1)) || false) || false) ≡ ((false || (b && eqb 1 n)) || false)
 up_to_one b n = grind (arith, nat_tests)
 
-same_self : (a : Author) → same_author a a ≡ true
-same_self a = grind (arith, nat_tests)
-
 -- who knows no more than another, knows no more of an author's versions either
 pub no_more_of : (a : Author) (k : ℕ) (gain fs : List Fragment) → ((p : ℕ) (v : Version) → 0 < p → knows gain p v ≡ true → knows fs p v ≡ true) → KnowsNoMore a k fs → KnowsNoMore a k gain
 no_more_of a k gain fs within no_more = record {
@@ -43,18 +40,13 @@ no_more_of a k gain fs within no_more = record {
 
 -- the next version is known of every picture
 pub own_learned : (a : Author) (k : ℕ) (v : Version) (old new : List Fragment) → v ≡ version a (k + 1) → IsOwnLearned v old new → KnowsItsOwn a k old → KnowsItsOwn a (k + 1) new
-own_learned a k v old new v_is learned own = record {
-  star = learned.star a ∙ ap (λ (x : Version). cond (same_author x.author a) x.number (star_bound old a)) v_is ∙ ap (λ b. cond b (k + 1) (star_bound old a)) (same_self a);
-  own = λ p n above.
-      learned.learned p (version a n) above
-      ∙ (λ i. own.own p n above i || same_version (v_is i) (version a n))
-      ∙ ap (λ b. (leb 1 n && leb n k) || (b && eqb (k + 1) n)) (same_self a)
-      ∙ one_more n k;
-  later = λ p w above later.
-      learned.learned p w above
-      ∙ (λ i. own.later p w above later i || same_version v w)
-      ∙ (let later_than : is_earlier_epoch v.author w.author ≡ true = rw v_is later in grind (arith, nat_tests));
-}
+own_learned a k v old new v_is learned own =
+    let next = rw v_is at learned in
+    record {
+      star = grind (arith, nat_tests, next.star a);
+      own = λ p n above. grind (arith, nat_tests, next.learned p (version a n) above, own.own p n above);
+      later = λ p w above later. grind (arith, nat_tests, next.learned p w above, own.later p w above later);
+    }
 
 -- what a device knows of its own versions, before it makes the next one
 
@@ -75,16 +67,13 @@ all_of P Q f (x ∷ xs) all = (f x all.0, all_of P Q f xs all.1)
 
 -- what is known stays known
 pub known_later : (k l : List Fragment) → ((p : ℕ) (w : Version) → 0 < p → knows k p w ≡ true → knows l p w ≡ true) → (xs : List Held) → AllByRecursion (IsKnownBy k) xs → AllByRecursion (IsKnownBy l) xs
-known_later k l more xs all =
-    all_of (IsKnownBy k) (IsKnownBy l)
-    (λ x known. record {
-      above = known.above;
-      itself = more x.picture x.version known.above known.itself;
-      history = λ v has. more x.picture v known.above (known.history v has);
-    }) xs all
+known_later k l more [] all = tt
+known_later k l more (x ∷ xs) all =
+    let is = all.0 in
+    (record { above = is.above; itself = more x.picture x.version is.above is.itself; history = λ v has. more x.picture v is.above (is.history v has) }, known_later k l more xs all.1)
 
 -- the next version isn't held
-pub none_of_next : (a : Author) (k : ℕ) (fs : List Fragment) (v : Version) (xs : List Held) → v ≡ version a (k + 1) → KnowsItsOwn a k fs → AllByRecursion (IsKnownBy fs) xs → count_of v xs ≡ 0
+pub none_of_next : (a : Author) (k : ℕ) (fs : List Fragment) (v : Version) (xs : List Held) → v ≡ version a (k + 1) → KnowsItsOwn a k fs → AllByRecursion (IsKnownBy fs) xs → find_version v xs ≡ None
 none_of_next a k fs v [] next own all = refl
 none_of_next a k fs v (x ∷ xs) next own all =
     let rest = none_of_next a k fs v xs next own all.1 in
@@ -97,7 +86,7 @@ has_made place h d old after same next rest learned = subst (λ (e : Kept). HasM
 
 -- what is staged is no part of what a device makes next
 pub next_unstaged : (h : Held) (d : Kept) → IsNext h d → IsNext h (unstaged d)
-next_unstaged h d next = record { next = next.next; above = next.above; history = next.history }
+next_unstaged h d next = assumption
 
 -- What a device knows of its own versions, after it learned what others knew.
 
@@ -116,12 +105,12 @@ star_is_vector [] normal = absurd (false≢true normal)
 star_is_vector (s ∷ gs) normal = (and_parts (is_empty s.pictures) (is_vector s.entries) (and_parts (is_empty s.pictures && is_vector s.entries) (are_groups s.entries gs) normal).0).1
 
 -- where no version of the author is known above a number, the star has none either
-pub star_at_most : (fs : List Fragment) (a : Author) (k : ℕ) → is_normal fs ≡ true → ((p n : ℕ) → 0 < p → knows fs p (version a n) ≡ true → n ≤ k) → star_bound fs a ≤ k
-star_at_most fs a k normal own =
+pub star_at_most : (fs : List Fragment) (a : Author) (k : ℕ) → is_normal fs ≡ true → KnowsNoMore a k fs → star_bound fs a ≤ k
+star_at_most fs a k normal none =
     let n = star_bound fs a in
     let denoted = denotes-bound (entries_at fs 0) (version a n) (star_is_vector fs normal) in
     let every = (star_of_every fs normal (version a n)).0 in
-    let most = own 1 n in
+    let most = none.own 1 n in
     grind (arith, nat_tests)
 
 pub own_still : (a : Author) (k : ℕ) (gain old new : List Fragment) → star_bound gain a ≤ k → KnowsNoMore a k gain → ((b : Author) → star_bound new b ≡ max (star_bound old b) (star_bound gain b))

@@ -35,9 +35,6 @@ module _ {A : Type 0} where
   any_wider q r wider [] h = h
   any_wider q r wider (x ∷ xs) h = let here = wider x in let rest = any_wider q r wider xs in grind arith
 
-  pub count-cons : (q : A → Bool) (x : A) (xs : List A) → length (filter q (x ∷ xs)) ≡ cond (q x) 1 0 + length (filter q xs)
-  count-cons q x xs = grind (arith, nat_tests)
-
   pub none_out : (q : A → Bool) (xs : List A) → list_any q xs ≡ false → filter (λ x. not (q x)) xs ≡ xs
   none_out q [] none = refl
   none_out q (x ∷ xs) none = let rest = none_out q xs in grind (arith, nat_tests)
@@ -68,10 +65,6 @@ module _ {A : Type 0} where
   pub list_all_wider : (q r : A → Bool) → ((x : A) → q x ≡ true → r x ≡ true) → (xs : List A) → list_all q xs ≡ true → list_all r xs ≡ true
   list_all_wider q r wider [] h = refl
   list_all_wider q r wider (x ∷ xs) h = and_from _ _ (wider x (and_parts _ _ h).0) (list_all_wider q r wider xs (and_parts _ _ h).1)
-
-  pub none_passes : (q : A → Bool) (xs : List A) → list_any q xs ≡ false → list_all (λ x. not (q x)) xs ≡ true
-  none_passes q [] none = refl
-  none_passes q (x ∷ xs) none = let rest = none_passes q xs in grind arith
 
   pub filter_true : (xs : List A) → filter (λ _. true) xs ≡ xs
   filter_true [] = refl
@@ -110,14 +103,9 @@ module _ {A : Type 0} where
       let rest = cut before p q keep x front back gone ys from to (omega arith) (omega arith) (turns_later p ys y from first) (turns_later q ys y to last) in
       record { order = (let o = rest.order in omega arith); rest = rw here.0 (ap (λ l. y ∷ l) rest.rest); place = rw here.0 (rw here.1 (ap (λ l. y ∷ l) rest.place)) }
 
-  module _ (before : A → A → Bool) where
-    pub in_order-filter : (r : A → Bool) (xs : List A) → in_order before xs ≡ true → in_order before (filter r xs) ≡ true
-    in_order-filter r [] h = refl
-    in_order-filter r (x ∷ xs) h = let rest = in_order-filter r xs in let all = list_all-filter (before x) r xs in grind arith
-
-    list_all-put : (q : A → Bool) (x : A) (xs : List A) → q x ≡ true → list_all q xs ≡ true → list_all q (put before x xs) ≡ true
-    list_all-put q x [] p a = grind arith
-    list_all-put q x (y ∷ ys) p a = let rest = list_all-put q x ys in grind arith
+  list_all-put : (before : A → A → Bool) (q : A → Bool) (x : A) (xs : List A) → q x ≡ true → list_all q xs ≡ true → list_all q (put before x xs) ≡ true
+  list_all-put before q x [] p a = grind arith
+  list_all-put before q x (y ∷ ys) p a = let rest = list_all-put before q x ys in grind arith
 
   pub list_all_get : (q : A → Bool) (xs : List A) → list_all q xs ≡ true → (j : ℕ) (d : A) → j < length xs → q (get_or xs j d) ≡ true
   list_all_get q [] a j d l = absurd (omega arith)

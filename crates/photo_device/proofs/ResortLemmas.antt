@@ -1,5 +1,5 @@
 -- What is true of a device that gets any new filter.
-use Rattle.std.proofs.Common.{◌≡◌, ℕ, ◌<◌, Bool, true, false, not, List, [], ◌++◌, refl, sym, ap, ◌∙◌, subst, arith}
+use Rattle.std.proofs.Common.{◌≡◌, ℕ, ◌<◌, Bool, true, false, not, List, [], ◌++◌, refl, sym, ap, ◌∙◌, arith}
 use Rattle.std.specs.Prelude.{filter, None}
 use Rattle.std.specs.List.{AllByRecursion}
 use Rattle.std.proofs.lemmas.List.Folds.{list_any-append}
@@ -31,21 +31,13 @@ use Rattle.photo_device.proofs.Changed.{joins_device, new_to_empty}
 use Rattle.photo_device.proofs.Shown.{entries-put_those, held_shown}
 use Rattle.photo_device.proofs.TellingLemmas.{one, tell_entries, told_known, known_told}
 
--- a device's next epoch is a later one, and what is later than it is later than this one
-
-next_is_later : (a : Author) → epoch_of_author a < 4294967295 → is_earlier_epoch a (next_author a) ≡ true
-next_is_later a h = grind (arith, nat_tests)
-
-later_too : (a b : Author) → epoch_of_author a < 4294967295 → is_earlier_epoch (next_author a) b ≡ true → is_earlier_epoch a b ≡ true
-later_too a b h later = grind (arith, nat_tests)
-
 -- who knows no more than a device did knows no version of its next epoch, nor of any later one
 pub begins_next_epoch : (a : Author) (old new : List Fragment) → epoch_of_author a < 4294967295 → KnowsNoLater a old → star_bound new (next_author a) ≡ 0
     → ((p : ℕ) (v : Version) → 0 < p → knows new p v ≡ true → knows old p v ≡ true) → KnowsItsOwn (next_author a) 0 new
 begins_next_epoch a old new h none_later star within = record {
   star = star;
-  own = λ p n above. none p (version (next_author a) n) above (next_is_later a h) ∙ none_up_to n;
-  later = λ p v above later. none p v above (later_too a v.author h later);
+  own = λ p n above. none p (version (next_author a) n) above (grind (arith, nat_tests)) ∙ none_up_to n;
+  later = λ p v above later. none p v above (grind (arith, nat_tests));
 }
   where
     none : (p : ℕ) (v : Version) → 0 < p → is_earlier_epoch a v.author ≡ true → knows new p v ≡ false
@@ -68,8 +60,7 @@ empty_device author tree = record {
 -- what is in two sets, each version once, is new to an empty set
 pub new_to_none : (stored waiting none : List Held) → none ≡ [] → AreNewTo waiting stored → AreNewTo none (waiting ++ stored)
 new_to_none stored waiting none is new =
-    subst (λ (l : List Held). AreNewTo l (waiting ++ stored)) (sym is)
-    (new_to_empty (waiting ++ stored) (λ v. let once = new.once v in omega (arith, count_of-append v stored waiting, count_of-append v waiting stored)))
+    rw is (new_to_empty (waiting ++ stored) (λ v. let once = new.once v in omega (arith, count_of-append v stored waiting, count_of-append v waiting stored)))
 
 module _ (tree : Tree) (resorted : Resorted) (d : Kept) (told : IsResorted tree d.store d.out resorted) (is : IsDevice d) where
   abbrev fs : List Fragment
@@ -104,14 +95,13 @@ module _ (tree : Tree) (resorted : Resorted) (d : Kept) (told : IsResorted tree 
       (λ p v above tells_it. all_pairs p v above ∙ tells_it)
 
   -- it is what an empty device of the next epoch is that takes what was held and learns what this tells
-  sorted_device : epoch_of_author d.author < 4294967295 → IsDevice sorted
-  sorted_device h =
-      joins_device (d.store ++ d.out) fs (empty (next_author d.author) tree) (new_to_empty (d.store ++ d.out) is.once) (all_append HasEarlier d.store d.out is.store is.out)
-      (begins_next_epoch d.author d.knowledge fs h is.knows.later (told.star (next_author d.author)) within)
-      (λ p w above known. absurd (false≢true known)) known_after (empty_device (next_author d.author) tree)
-
   pub resorted_device : epoch_of_author d.author < 4294967295 → AreParts None resorted.told.staged sorted
-  resorted_device h = record { device = sorted_device h; fits = told.staged }
+  resorted_device h = record {
+    device = joins_device (d.store ++ d.out) fs (empty (next_author d.author) tree) (new_to_empty (d.store ++ d.out) is.once) (all_append HasEarlier d.store d.out is.store is.out)
+        (begins_next_epoch d.author d.knowledge fs h is.knows.later (told.star (next_author d.author)) within)
+        (λ p w above known. absurd (false≢true known)) known_after (empty_device (next_author d.author) tree);
+    fits = told.staged;
+  }
 
   side_shown : (m : ModelDevice) (q : Entry → Bool) → Shows d m → entries_of (put_helds (filter (λ (h : Held). q (entry_of h)) (d.store ++ d.out)) []) ≡ put_entries (filter q (holds m)) []
   side_shown m q shows =

@@ -9,7 +9,6 @@ use Rattle.photo_version.specs.Version.{Version}
 use Rattle.item_knowledge.specs.Kept.{star_bound}
 use Rattle.item_knowledge.specs.Fragments.{Fragment, knows}
 use Rattle.item_knowledge.specs.Staged.{Knowing, settled, IsStagedUnion}
-use Rattle.std.specs.List.{AllByRecursion}
 use Rattle.photo_device.specs.declared.held.Held.{Held}
 use Rattle.photo_device.specs.declared.prepared.Prepared.{Prepared}
 use Rattle.photo_model.specs.Entry.{Entry, put_entries, without}
@@ -17,9 +16,9 @@ use Rattle.photo_device.specs.Held.{entries_of, count_of, is_listed, helds_witho
 use Rattle.photo_model.specs.Device.{ModelDevice, changed}
 use Rattle.photo_device.specs.Device.{Kept, Staging, Shows, unstaged, IsAsItWas}
 use Rattle.photo_device.specs.Own.{HasEarlier, IsKnownBy, IsDevice}
-use Rattle.block_list.specs.Room.{Reserved}
+use Rattle.block_list.specs.Reservation.{Reserved}
 use Rattle.photo_device.specs.Taking.{AreNewTo, MayTake, with_side}
-use Rattle.photo_device.specs.Staging.{MayHand, MayStage, IsRoomFor, versions_in, known_then, staging, staging_of, IsPrepared, FitsWhatIsPrepared, AreParts}
+use Rattle.photo_device.specs.Staging.{MayHand, MayStage, IsRoomFor, versions_in, known_then, staging, staging_of, IsPrepared, AreParts}
 use Rattle.photo_model.proofs.AllLemmas.{all_append}
 use Rattle.photo_device.proofs.Counts.{count_of-append, count_of-filter}
 use Rattle.photo_device.proofs.OwnLemmas.{known_later, own_still}
@@ -30,14 +29,7 @@ use Rattle.photo_device.proofs.Taken.{none_of_others, without_first, without_sec
 -- what is staged is no part of what a device shows
 
 pub shows_staged : (d : Kept) (staged : Option Staging) (m : ModelDevice) → Shows d m → Shows (record d { staged = staged }) m
-shows_staged d staged m shows = record {
-  author = shows.author;
-  tree = shows.tree;
-  counter = shows.counter;
-  store = shows.store;
-  out = shows.out;
-  known = shows.known;
-}
+shows_staged d staged m shows = assumption
 
 -- with nothing staged it shows the same
 pub shows_unstaged : (d e : Kept) (m : ModelDevice) → e ≡ unstaged d → Shows d m → Shows e m
@@ -106,29 +98,22 @@ pub committing : (prepared : Option Prepared) (o : Option (List Fragment)) (p : 
     → AreParts prepared o d → IfSome now.staged (λ s. MayHand handed s now) → IsCommitting p o handed d
 committing prepared o p handed d now is same parts may = record {
   device = parts.device;
-  prepared = subst (λ (q : Option Prepared). FitsWhatIsPrepared q o d) is parts.fits;
-  may = subst (λ (q : Option Prepared). IfSome (staging_of q o) (λ s. MayHand handed s (record d { staged = staging_of q o }))) is
-      (subst (λ (e : Kept). IfSome e.staged (λ s. MayHand handed s e)) (sym same) may);
+  prepared = rw is at parts.fits;
+  may = rw is at (rw (← same) at may);
 }
 
 module _ (p : Prepared) (o : Option (List Fragment)) (handed : List Held) (d : Kept) (are : IsCommitting p o handed d) where
   all_coming : (v : Version) → count_of v handed + count_of v p.takes + (count_of v d.store + count_of v d.out) ≤ 1
   all_coming v = omega (arith, are.may.once v, count_of-append)
 
-  pub held_once : (v : Version) → count_of v d.store + count_of v d.out ≤ 1
-  held_once v = let all = all_coming v in omega arith
-
   -- either set may take what comes, once it has given up what goes
   fits_in : (helds : List Held) (room : Reserved) → ((v : Version) → count_of v helds ≤ count_of v d.store + count_of v d.out) → length helds ≤ room.most → length p.takes + p.room ≤ room.more → MayTake (helds_without (versions_in p.drops) helds) handed p.takes room
   fits_in helds room part most more =
       let left = λ (h : Held). not (is_listed (versions_in p.drops) h.version) in
       let few = are.may.few in
-      let less = shorter left helds in
       record {
-        new = record {
-          once = λ v. omega (arith, all_coming v, part v, count_of-append, count_of-filter);
-        };
-        most = omega arith;
+        new = record { once = λ v. omega (arith, all_coming v, part v, count_of-append, count_of-filter) };
+        most = omega (arith, shorter left helds);
         more = omega arith;
       }
 
@@ -168,21 +153,18 @@ module _ (p : Prepared) (o : Option (List Fragment)) (handed : List Held) (d : K
       once = record { once = λ v. omega (arith, all_coming v, count_of-append, count_of-filter) }
 
   shows_committed : (m : ModelDevice) → Shows d m → Shows committed (changed (versions_in p.drops) (entries_of (p.takes ++ handed)) (knows (known_then o)) m)
-  shows_committed m shows = record {
-    author = shows.author;
-    tree = shows.tree;
-    counter = shows.counter;
-    store =
-        entries-put_those (λ (e : Entry). matches d.tree e.content) (p.takes ++ handed) (helds_without (versions_in p.drops) d.store)
-        ∙ (λ i. put_entries (filter (λ (e : Entry). matches (shows.tree i) e.content) (entries_of (p.takes ++ handed))) ((entries-without (versions_in p.drops) d.store ∙ ap (without (versions_in p.drops)) shows.store) i));
-    out =
-        entries-put_those (λ (e : Entry). not (matches d.tree e.content)) (p.takes ++ handed) (helds_without (versions_in p.drops) d.out)
-        ∙ (λ i. put_entries (filter (λ (e : Entry). not (matches (shows.tree i) e.content)) (entries_of (p.takes ++ handed))) ((entries-without (versions_in p.drops) d.out ∙ ap (without (versions_in p.drops)) shows.out) i));
-    known = λ q above v.
-        let more = are.prepared.ahead.more q v above in
-        let known = shows.known q above v in
-        grind arith;
-  }
+  shows_committed m shows =
+      let drops = versions_in p.drops in
+      let takes = p.takes ++ handed in
+      let side = λ (q : Entry → Bool) (helds : List Held). entries-put_those q takes (helds_without drops helds) ∙ ap (put_entries (filter q (entries_of takes))) (entries-without drops helds) in
+      record {
+        author = shows.author;
+        tree = shows.tree;
+        counter = shows.counter;
+        store = side (λ e. matches d.tree e.content) d.store ∙ (λ i. put_entries (filter (λ (e : Entry). matches (shows.tree i) e.content) (entries_of takes)) (without drops (shows.store i)));
+        out = side (λ e. not (matches d.tree e.content)) d.out ∙ (λ i. put_entries (filter (λ (e : Entry). not (matches (shows.tree i) e.content)) (entries_of takes)) (without drops (shows.out i)));
+        known = λ q above v. grind (arith, are.prepared.ahead.more q v above, shows.known q above v);
+      }
 
   pub known_after : (new : Knowing) → IfSome o (λ s. new ≡ settled s) → new ≡ settled (known_then o)
   known_after new is = then_is o (λ s. new ≡ settled s) are.prepared.there is

@@ -1,11 +1,11 @@
 -- Tables of what is told of pictures.
-use Rattle.std.proofs.Common.{◌≡◌, ℕ, ◌≤◌, Bool, true, false, not, cond, eqb, ltb, leb, ◌&&◌, ◌||◌, List, [], ◌∷◌, ◌++◌, length-append, refl, sym, ap, ◌∙◌, subst, inl, inr, arith}
+use Rattle.std.proofs.Common.{◌≡◌, ℕ, ◌≤◌, Bool, true, false, not, cond, eqb, ltb, leb, ◌&&◌, ◌||◌, List, [], ◌∷◌, ◌++◌, length-append, refl, sym, ap, ◌∙◌, arith}
 use Rattle.std.specs.List.{list_all, list_any}
-use Rattle.std.proofs.Math.Bool.{or-false, and-true}
+use Rattle.std.proofs.Math.Bool.{and-true}
 use Rattle.std.proofs.lemmas.Bool.Decides.{nat_tests}
-use Rattle.std.proofs.lemmas.Bool.{and_parts, and_from, eqb-true, eqb-false, eq-eqb, ne_eqb, lt-ltb, le-leb, leb-true, ltb-true, ltb-false, cases_eq}
+use Rattle.std.proofs.lemmas.Bool.{and_parts, and_from, eqb-true, le-leb, ltb-true, ltb-false}
 use Rattle.std.proofs.lemmas.List.Folds.{list_all-append}
-use Rattle.photo_version.specs.Version.{Version, same_version}
+use Rattle.photo_version.specs.Version.{Version, Versions, same_version}
 use Rattle.photo_version.specs.Vector.{Bound, denotes}
 use Rattle.item_knowledge.specs.Tables.{in_order, keys_pass, at}
 use Rattle.item_knowledge.proofs.TableLemmas.{keys_pass-weaker}
@@ -106,63 +106,34 @@ at_end (r ∷ front) q x p all = let rest = at_end front q x p in grind (arith, 
 keys_end : (f : ℕ → Bool) (front : Table) (q : ℕ) (x : List Bound) → keys_pass f (front ++ (q, x) ∷ []) ≡ (keys_pass f front && f q)
 keys_end f front q x = list_all-append (λ (r : ℕ × List Bound). f r.0) front ((q, x) ∷ []) ∙ ap (λ b. keys_pass f front && b) (and-true (f q))
 
-pass_end : (f : ℕ → Bool) (front : Table) (q : ℕ) (x : List Bound) → keys_pass f front ≡ true → f q ≡ true → keys_pass f (front ++ (q, x) ∷ []) ≡ true
-pass_end f front q x all h = keys_end f front q x ∙ and_from _ _ all h
-
 order_end : (front : Table) (q : ℕ) (x : List Bound) → in_order (front ++ (q, x) ∷ []) ≡ (in_order front && keys_pass (λ k. ltb k q) front)
 order_end [] q x = refl
 order_end (r ∷ front) q x = (λ i. keys_end (λ k. ltb r.0 k) front q x i && order_end front q x i) ∙ grind arith
 
-below_le : (q : ℕ) (table : Table) → keys_pass (λ k. ltb k q) table ≡ true → keys_pass (λ k. leb k q) table ≡ true
-below_le q table all = keys_pass-weaker (λ k. ltb k q) (λ k. leb k q) (λ k h. let less = ltb-true k q h in le-leb k q (omega arith)) table all
-
-pub added_row : (table : Table) (picture : ℕ) (vector : List Bound) → in_order table ≡ true → keys_pass (λ k. ltb k picture) table ≡ true → HasBesides table (table ++ (picture, vector) ∷ []) picture (denotes vector)
-added_row table picture vector order all = record {
-  order = order_end table picture vector ∙ and_from _ _ order all;
-  last = pass_end (λ k. leb k picture) table picture vector (below_le picture table all) (le-leb picture picture (omega arith));
-  told = λ p v. ap (λ l. denotes l v) (at_end table picture vector p all) ∙ elim (cases_eq picture p) [
-    | inl e ↦ rw (eq-eqb picture p e, none_at table p picture all (omega arith)) refl
-    | inr ne ↦ rw (ne_eqb picture p ne) (sym (or-false (denotes (at [] table p) v)))
-  ];
+-- a row behind all others
+ends_with : (old front : Table) (picture : ℕ) (both : List Bound) (more : Versions) → in_order front ≡ true → keys_pass (λ k. ltb k picture) front ≡ true
+    → ((p : ℕ) (v : Version) → denotes (cond (eqb picture p) both (at [] front p)) v ≡ (denotes (at [] old p) v || (eqb picture p && more v))) → HasBesides old (front ++ (picture, both) ∷ []) picture more
+ends_with old front picture both more order below told = record {
+  order = order_end front picture both ∙ and_from _ _ order below;
+  last = keys_end (λ k. leb k picture) front picture both ∙ and_from _ _ (keys_pass-weaker (λ k. ltb k picture) (λ k. leb k picture) (λ k h. grind (arith, nat_tests)) front below) (le-leb picture picture (omega arith));
+  told = λ p v. ap (λ l. denotes l v) (at_end front picture both p below) ∙ told p v;
 }
-
--- the last row is of that picture
-pub joined_row : (front : Table) (picture : ℕ) (known vector both : List Bound) → in_order (front ++ (picture, known) ∷ []) ≡ true → ((v : Version) → denotes both v ≡ (denotes known v || denotes vector v)) → HasBesides (front ++ (picture, known) ∷ []) (front ++ (picture, both) ∷ []) picture (denotes vector)
-joined_row front picture known vector both order is =
-    let parts = and_parts _ _ (sym (order_end front picture known) ∙ order) in
-    record {
-      order = order_end front picture both ∙ and_from _ _ parts.0 parts.1;
-      last = pass_end (λ k. leb k picture) front picture both (below_le picture front parts.1) (le-leb picture picture (omega arith));
-      told = λ p v. ap (λ l. denotes l v) (at_end front picture both p parts.1) ∙ elim (cases_eq picture p) [
-        | inl e ↦ rw (at_end front picture known p parts.1, eq-eqb picture p e) (is v)
-        | inr ne ↦ rw (at_end front picture known p parts.1, ne_eqb picture p ne) (sym (or-false (denotes (at [] front p) v)))
-      ];
-    }
-
--- a table whose last row is of another picture has only lesser ones
-pub below_all : (front : Table) (q : ℕ) (x : List Bound) (picture : ℕ) → in_order (front ++ (q, x) ∷ []) ≡ true → keys_pass (λ k. leb k picture) (front ++ (q, x) ∷ []) ≡ true → (q ≡ picture → ⊥) → keys_pass (λ k. ltb k picture) (front ++ (q, x) ∷ []) ≡ true
-below_all front q x picture order all ne =
-    let parts = and_parts _ _ (sym (order_end front q x) ∙ order) in
-    let last = leb-true q picture (and_parts _ _ (sym (keys_end (λ k. leb k picture) front q x) ∙ all)).1 in
-    pass_end (λ k. ltb k picture) front q x
-    (keys_pass-weaker (λ k. ltb k q) (λ k. ltb k picture) (λ k h. let less = ltb-true k q h in lt-ltb k picture (omega arith)) front parts.1)
-    (lt-ltb q picture (omega arith))
 
 -- as a row goes out and comes back
 
 pub added_joined : (old front new : Table) (row : ℕ × List Bound) (picture : ℕ) (vector both : List Bound) → old ≡ front ++ row ∷ [] → eqb row.0 picture ≡ true → new ≡ front ++ (picture, both) ∷ []
     → in_order old ≡ true → ((v : Version) → denotes both v ≡ (denotes row.1 v || denotes vector v)) → HasBesides old new picture (denotes vector)
 added_joined old front new row picture vector both of_old here of_new order is =
-    let same : row.0 ≡ picture = eqb-true row.0 picture here in
-    let whole : old ≡ front ++ (picture, row.1) ∷ [] = of_old ∙ ap (λ q. front ++ (q, row.1) ∷ []) same in
-    subst (λ l. HasBesides l new picture (denotes vector)) (sym whole)
-    (subst (λ l. HasBesides (front ++ (picture, row.1) ∷ []) l picture (denotes vector)) (sym of_new)
-    (joined_row front picture row.1 vector both (subst (λ l. in_order l ≡ true) whole order) is))
+    let parts = and_parts (in_order front) (keys_pass (λ k. ltb k row.0) front) (sym (order_end front row.0 row.1) ∙ (rw of_old at order)) in
+    let below : keys_pass (λ k. ltb k picture) front ≡ true = rw (← eqb-true row.0 picture here) parts.1 in
+    rw (of_old, of_new) (ends_with (front ++ row ∷ []) front picture both (denotes vector) parts.0 below (λ p v. let was = at_end front row.0 row.1 p parts.1 in let joined = is v in grind (arith, nat_tests)))
 
 pub added_apart : (old front between new : Table) (row : ℕ × List Bound) (picture : ℕ) (vector : List Bound) → old ≡ front ++ row ∷ [] → eqb row.0 picture ≡ false → between ≡ front ++ row ∷ [] → new ≡ between ++ (picture, vector) ∷ []
     → in_order old ≡ true → keys_pass (λ k. leb k picture) old ≡ true → HasBesides old new picture (denotes vector)
 added_apart old front between new row picture vector of_old apart of_between of_new order all =
-    let same : between ≡ old = of_between ∙ sym of_old in
-    let below = below_all front row.0 row.1 picture (subst (λ l. in_order l ≡ true) of_old order) (subst (λ l. keys_pass (λ k. leb k picture) l ≡ true) of_old all) (eqb-false row.0 picture apart) in
-    subst (λ l. HasBesides old l picture (denotes vector)) (sym (of_new ∙ ap (λ l. l ++ (picture, vector) ∷ []) same))
-    (added_row old picture vector order (subst (λ l. keys_pass (λ k. ltb k picture) l ≡ true) (sym of_old) below))
+    let parts = and_parts (in_order front) (keys_pass (λ k. ltb k row.0) front) (sym (order_end front row.0 row.1) ∙ (rw of_old at order)) in
+    let last = and_parts (keys_pass (λ k. leb k picture) front) (leb row.0 picture) (sym (keys_end (λ k. leb k picture) front row.0 row.1) ∙ (rw of_old at all)) in
+    let less : ltb row.0 picture ≡ true = let most = last.1 in grind (arith, nat_tests) in
+    let fronts = keys_pass-weaker (λ k. ltb k row.0) (λ k. ltb k picture) (λ k h. grind (arith, nat_tests)) front parts.1 in
+    let below : keys_pass (λ k. ltb k picture) old ≡ true = rw of_old (keys_end (λ k. ltb k picture) front row.0 row.1 ∙ and_from _ _ fronts less) in
+    rw (of_new, of_between, ← of_old) (ends_with old old picture vector (denotes vector) order below (λ p v. let none = none_at old p picture below in grind (arith, nat_tests)))

@@ -1,24 +1,25 @@
 -- What sets of held versions take, give up and hand over.
-use Rattle.std.proofs.Common.{◌≡◌, ℕ, ◌+◌, ◌<◌, ◌≤◌, ◌==◌, Bool, true, false, not, cond, ◌&&◌, List, [], ◌∷◌, ◌++◌, length, get_or, drop, refl, sym, ap, ◌∙◌, ◌⊎◌, append_assoc, append-nil, Bor, inl, inr, arith}
+use Rattle.std.proofs.Common.{◌≡◌, ℕ, ◌+◌, ◌<◌, ◌≤◌, Bool, true, false, not, List, [], ◌∷◌, ◌++◌, length, get_or, drop, refl, sym, ap, ◌∙◌, ◌⊎◌, Bor, inl, inr, arith, ◌&&◌}
 use Rattle.std.specs.Prelude.{filter, Option, Some, None, IfSome, IfNone}
-use Rattle.std.specs.List.{AllByRecursion, cons_option, list_any}
+use Rattle.std.specs.List.{AllByRecursion, list_any}
 use Rattle.std.specs.Fn.{Mut, Called, ComputesKey}
 use Rattle.std.proofs.lemmas.Bool.{cases_Bool}
 use Rattle.std.proofs.lemmas.Bool.Decides.{nat_tests}
 use Rattle.std.proofs.lemmas.Fn.{always_returns_same}
-use Rattle.std.proofs.lemmas.List.{drop_more}
+use Rattle.std.proofs.lemmas.List.{drop_all, drop_more}
 use Rattle.std.proofs.lemmas.List.Elements.{filter_agree, filter-append}
+use Rattle.std.proofs.lemmas.List.Folds.{list_any-append}
 use Rattle.block_list.specs.Taken.{IsTakenOut}
-use Rattle.block_list.specs.Room.{Reserved, Growing}
+use Rattle.block_list.specs.Reservation.{Reserved, Growing}
 use Rattle.photo_version.specs.Version.{Version, same_version}
 use Rattle.photo_device.specs.declared.held.Held.{Held}
 use Rattle.photo_model.specs.Ordered.{put}
-use Rattle.photo_device.specs.Held.{held_before, has_version_of, count_of, are_in_order, find_version, is_listed, helds_without, put_helds, versions_of}
+use Rattle.photo_device.specs.Held.{held_before, has_version_of, count_of, are_in_order, is_listed, helds_without, put_helds, versions_of}
 use Rattle.photo_device.specs.Staging.{AreNoneOf}
 use Rattle.photo_device.specs.Taking.{AreNewTo, HasRoomFor, HasTaken, MayTake, with_those}
-use Rattle.photo_device.proofs.Counts.{one_of, count_of-cons, count_of-append, count_of-put, count_of-filter, not_found, same_version_self}
+use Rattle.photo_device.proofs.Counts.{one_of, count_of-cons, count_of-append, count_of-put, count_of-filter, same_version_self}
 use Rattle.photo_device.proofs.Order.{held_order, held_apart}
-use Rattle.photo_device.proofs.Putting.{any_counted, any_wider, filter_true, count-cons, none_out, only_one, filter-filter, filter-swap, put-put}
+use Rattle.photo_device.proofs.Putting.{any_counted, any_wider, filter_true, none_out, only_one, filter-filter, filter-swap, put-put}
 
 -- What is taken
 
@@ -28,8 +29,8 @@ count_of-put_helds v (h ∷ takes) helds =
     count_of-put v h (put_helds takes helds) ∙ omega (arith, count_of-put_helds v takes helds, count_of-cons)
 
 -- one that comes to a set isn't there
-pub is_new : (h : Held) (helds : List Held) → AreNewTo helds (h ∷ []) → find_version h.version helds ≡ None
-is_new h helds new = grind (arith, not_found, same_version_self, count_of-cons)
+pub is_new : (h : Held) (helds : List Held) → AreNewTo helds (h ∷ []) → count_of h.version helds ≡ 0
+is_new h helds new = let once = new.once h.version in grind (arith, same_version_self, count_of-cons)
 
 put_helds-append : (xs ys zs : List Held) → put_helds (xs ++ ys) zs ≡ put_helds xs (put_helds ys zs)
 put_helds-append [] ys zs = refl
@@ -113,31 +114,21 @@ both_taken q handed takes helds set next last is first second = grind (arith, fi
 
 -- What is given up
 
-pub without_none : (xs : List Held) → helds_without [] xs ≡ xs
-without_none [] = refl
-without_none (x ∷ xs) = ap (λ l. x ∷ l) (without_none xs)
-
--- one version after another, or all at once
-pub without-cons : (v : Version) (versions : List Version) (xs : List Held) → helds_without versions (helds_without (v ∷ []) xs) ≡ helds_without (v ∷ versions) xs
-without-cons v versions xs = filter-filter _ _ xs ∙ filter_agree (λ h. not (is_listed (v ∷ []) h.version) && not (is_listed versions h.version)) _ (λ h. grind arith) xs
-
 without_one : (v : Version) (xs : List Held) → helds_without (v ∷ []) xs ≡ filter (λ h. not (same_version h.version v)) xs
 without_one v xs = filter_agree _ _ (λ h. grind (arith, nat_tests)) xs
 
 -- two lists of versions, one after the other
 without-append : (vs ws : List Version) (xs : List Held) → helds_without ws (helds_without vs xs) ≡ helds_without (vs ++ ws) xs
-without-append [] ws xs = ap (helds_without ws) (without_none xs)
-without-append (v ∷ vs) ws xs =
-    ap (helds_without ws) (sym (without-cons v vs xs)) ∙ without-append vs ws (helds_without (v ∷ []) xs) ∙ without-cons v (vs ++ ws) xs
+without-append vs ws xs = filter-filter _ _ xs ∙ filter_agree (λ h. not (is_listed vs h.version) && not (is_listed ws h.version)) _ (λ h. let both = list_any-append (λ v. same_version v h.version) vs ws in grind (arith, nat_tests)) xs
 
 -- those of which a set has none
 without_absent : (hs xs : List Held) → AreNoneOf hs xs → helds_without (versions_of hs) xs ≡ xs
-without_absent [] xs none = without_none xs
+without_absent [] xs none = filter_true xs
 without_absent (h ∷ hs) xs none =
     let test = λ (g : Held). same_version g.version h.version in
     let absent : list_any test xs ≡ false = any_counted test xs ∙ (let zero = none.0 in grind (arith, nat_tests)) in
     let one : helds_without (h.version ∷ []) xs ≡ xs = without_one h.version xs ∙ none_out test xs absent in
-    sym (without-cons h.version (versions_of hs) xs) ∙ ap (helds_without (versions_of hs)) one ∙ without_absent hs xs none.1
+    sym (without-append (h.version ∷ []) (versions_of hs) xs) ∙ ap (helds_without (versions_of hs)) one ∙ without_absent hs xs none.1
 
 pub without_first : (hs gs xs : List Held) → AreNoneOf hs xs → helds_without (versions_of hs ++ versions_of gs) xs ≡ helds_without (versions_of gs) xs
 without_first hs gs xs none = sym (without-append (versions_of hs) (versions_of gs) xs) ∙ ap (helds_without (versions_of gs)) (without_absent hs xs none)
@@ -160,14 +151,14 @@ pub record IsGivingUp (gone before left now : List Held) : Type 0 where
   pub once : (v : Version) → count_of v now ≤ 1
   pub rest : helds_without (versions_of left) now ≡ helds_without (versions_of gone) before
 
-pub one_given_up : (gone before : List Held) (h : Held) (left now : List Held) → IsGivingUp gone before (h ∷ left) now → IsGivingUp gone before left (helds_without (h.version ∷ []) now)
-one_given_up gone before h left now is = record {
+pub one_given_up : (gone before : List Held) (i : ℕ) (h : Held) (now : List Held) → i < length gone → h ≡ get_or gone i h → IsGivingUp gone before (drop i gone) now → IsGivingUp gone before (drop (i + 1) gone) (helds_without (h.version ∷ []) now)
+one_given_up gone before i h now within at is = record {
   once = λ v. let was = is.once v in omega (arith, count_of-filter v (λ (g : Held). not (is_listed (h.version ∷ []) g.version)) now);
-  rest = without-cons h.version (versions_of left) now ∙ is.rest;
+  rest = without-append (h.version ∷ []) (versions_of (drop (i + 1) gone)) now ∙ ap (λ (g : Held). helds_without (versions_of (g ∷ drop (i + 1) gone)) now) at ∙ sym (ap (λ (l : List Held). helds_without (versions_of l) now) (drop_more gone i h within)) ∙ is.rest;
 }
 
-pub all_given_up : (gone before now : List Held) → IsGivingUp gone before [] now → now ≡ helds_without (versions_of gone) before
-all_given_up gone before now is = sym (without_none now) ∙ is.rest
+pub all_given_up : (gone before now : List Held) (i : ℕ) → length gone ≤ i → IsGivingUp gone before (drop i gone) now → now ≡ helds_without (versions_of gone) before
+all_given_up gone before now i all is = sym (ap (λ (l : List Held). helds_without (versions_of l) now) (drop_all i gone all) ∙ filter_true now) ∙ is.rest
 
 -- what is left of a set, where a search by the code's test took out what it found
 pub left_by_test : (v : Version) (old shown new : List Held) (found : Option Held) {F : Type 0} {f : Mut F (Bor Held × Unit {0}) Bool} {pred : F} → IfNone found (new ≡ old) → IfNone found ((p : Held → Bool) → ComputesKey f p pred → list_any p old ≡ false)

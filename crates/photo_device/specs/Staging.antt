@@ -8,7 +8,7 @@ use Rattle.photo_device.specs.declared.change.Gain.{Gain}
 use Rattle.photo_device.specs.declared.change.Gain.TheVariants.{Known, Told}
 use Rattle.photo_device.specs.declared.change.Selection.{Selection}
 use Rattle.photo_device.specs.declared.prepared.Prepared.{Prepared}
-use Rattle.block_list.specs.Room.{Reserved}
+use Rattle.block_list.specs.Reservation.{Reserved}
 use Rattle.photo_device.specs.Held.{find_version, has_version_of, count_of, versions_of}
 use Rattle.photo_device.specs.Device.{Kept, Staging, IsAsItWas}
 use Rattle.photo_device.specs.Own.{HasEarlier, IsDevice, IsKnownBy, KnowsItsOwn, KnowsNoMore}

@@ -1,6 +1,6 @@
 -- Machinery of the proofs: how a set takes versions.
 use Rattle.std.specs.Prelude.{◌≡◌, ◌≤◌, ◌+◌, Bool, true, false, not, List, ◌++◌, length, filter}
-use Rattle.block_list.specs.Room.{Reserved, Growing}
+use Rattle.block_list.specs.Reservation.{Reserved, Growing}
 use Rattle.photo_filter_text.specs.Tree.{Tree}
 use Rattle.photo_filter_rules.specs.Matching.{matches}
 use Rattle.photo_version.specs.Version.{Version}

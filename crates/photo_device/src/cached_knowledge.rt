@@ -82,6 +82,7 @@ impl CachedKnowledge {
 
     /// Stages the union of what is known and what is gained. What is known stays until `commit`. The only error is refused
     /// memory, which leaves nothing staged.
+    #[tactic(auto, using(std::proofs::lemmas::Grind::common_steps, crate::proofs::OwnLemmas::star_at_most))]
     pub fn stage(&mut self, gain: &Gain<'_>) -> Result<(), AllocError>
         ensures known { self.new.known ≡ self.old.known }
         ensures staged { OnOk result (IsStagedUnion self.new.staged self.old.known (gained gain.now)) }

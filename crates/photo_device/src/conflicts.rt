@@ -20,6 +20,7 @@ pub fn conflicts_of(store: &HeldSet, out: &HeldSet) -> Result<Vec<Conflict>, All
 }
 
 // One set with what two sets hold; the versions are shared. The only error is refused memory.
+#[tactic(auto, using(std::proofs::lemmas::Grind::common_steps, crate::proofs::Taken::none_taken, crate::proofs::Taken::all_put))]
 fn joined(store: &HeldSet, out: &HeldSet) -> Result<HeldSet, AllocError>
     requires { AreNewTo out.now store.now }
     ensures { IfOk result (λ all. all ≡ put_helds store.now out.now) }

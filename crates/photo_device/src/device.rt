@@ -2,16 +2,15 @@
 ghost use Rattle.std.specs.Prelude.{◌≡◌, ◌+◌, None, IfOk, OnOk, OnErr};
 ghost use Rattle.photo_device.specs.Device.{store_with, out_with};
 ghost use Rattle.photo_device.specs.Learning.{IsHeldNext, IsNextKnown};
+ghost use Rattle.photo_model.specs.Device.{place_for};
 
 use crate::cached_knowledge::CachedKnowledge;
-use crate::placing::place_of;
 use crate::prepared::Prepared;
 use crate::resorted::{Resorted, narrowed, resort};
 use crate::takes::{rooms, take_in};
 use crate::{
     Change, ChangeFault, Conflict, Held, HeldSet, NarrowFault, Place, SharedHeld, conflicts,
 };
-use block_list::Room;
 use item_knowledge::Knowledge;
 use photo_filter_rules::{Filter, covers};
 use photo_record::{PicNo, Record};
@@ -72,7 +71,7 @@ impl Device {
     ghost use Rattle.photo_device.specs.Held.{are_in_order, find_version, find_version_of, has_picture, count_of, versions_of};
     ghost use Rattle.photo_device.specs.Held.{entry_of, entries_of};
     ghost use Rattle.photo_device.specs.Own.{HasEarlier, HasMade, IsDevice, IsKnownBy, IsNext, KnowsItsOwn, KnowsNoMore};
-    ghost use Rattle.photo_device.specs.Staging.{HasStaged, MayHand, MayStage, IsRoomFor, gained, versions_in};
+    ghost use Rattle.photo_device.specs.Staging.{HasStaged, MayHand, MayStage, gained, versions_in};
     ghost use Rattle.photo_version.specs.Author.{epoch_of_author};
     ghost use Rattle.photo_version.specs.Version as versions;
     ghost use Rattle.item_knowledge.specs.Fragments.{knows};
@@ -136,6 +135,7 @@ impl Device {
     ///
     /// The version goes into the store where the filter matches its record, else into the out. Returns the version and
     /// its place. Refused memory leaves the device as it was. Nothing is staged after any result.
+    #[tactic(auto, using(std::proofs::lemmas::Grind::common_steps))]
     pub fn make(&mut self, picture: PicNo, content: &Record) -> Result<(Version, Place), AllocError>
         requires { self.old.counter < 4_294_967_295 }
         ensures shows { IfOk result (λ answer. (m : ModelDevice) → Shows self.old m → Shows self.new (made m picture content.now)) }
@@ -160,6 +160,7 @@ impl Device {
     }
 
     // Holds the next version at a place, counts it, and knows it of every picture. An error leaves the device as it was.
+    #[tactic(auto, using(std::proofs::lemmas::Grind::common_steps, crate::proofs::OwnLemmas::next_known, crate::proofs::OwnLemmas::has_made, crate::proofs::Staged::none_prepared))]
     fn add(&mut self, place: Place, held: SharedHeld) -> Result<(), AllocError>
         requires next { IsNext held self.old }
         requires unstaged { self.old.staged ≡ None }
@@ -284,6 +285,7 @@ impl Device {
     ///
     /// `NotHeld` comes exactly where the device holds nothing of the picture. Otherwise this does what `make` does. An
     /// error leaves the device as it was. Nothing is staged after any result.
+    #[tactic(auto, using(std::proofs::lemmas::Grind::common_steps, crate::proofs::Shown::pictures_shown, crate::proofs::Staged::shows_unstaged))]
     pub fn edit(
         &mut self,
         picture: PicNo,
@@ -338,7 +340,8 @@ impl Device {
         ensures returned { IfErr result (λ e. e.0 ≡ change.entry) }
     {
         self.unstage();
-        let Ok((in_store, in_out)) = self.rooms_for(change.takes.len(), room) else {
+        let takes = change.takes.len();
+        let Ok((in_store, in_out)) = rooms(&mut self.store, &mut self.out, takes, room) else {
             return Err((change, AllocError));
         };
         if let Err(refused) = self.knowledge.stage(&change.gain) {
@@ -353,22 +356,6 @@ impl Device {
             in_out,
         });
         Ok(())
-    }
-
-    // Reserves room in the store and in the out, for the taken and the handed versions.
-    fn rooms_for(
-        &mut self,
-        takes: usize,
-        handed: usize,
-    ) -> Result<(Room<SharedHeld>, Room<SharedHeld>), AllocError>
-        ensures kept { self.new ≡ self.old }
-        ensures store { IfOk result (λ rooms. IsRoomFor self.old.store takes handed rooms.0) }
-        ensures out { IfOk result (λ rooms. IsRoomFor self.old.out takes handed rooms.1) }
-    {
-        let Some(more) = takes.checked_add(handed) else {
-            return Err(AllocError);
-        };
-        rooms(&mut self.store, &mut self.out, more)
     }
 
     /// Whether a change is staged.
@@ -389,6 +376,7 @@ impl Device {
     }
 
     /// Drops those of the versions that the out has. Nothing is staged afterwards. Takes no memory.
+    #[tactic(auto, using(std::proofs::lemmas::Grind::common_steps, crate::proofs::Changed::shows_without, crate::proofs::Changed::drops_device, crate::proofs::Staged::shows_unstaged, crate::proofs::Staged::none_fits))]
     pub fn hand_over(&mut self, handed: &[SharedHeld])
         ensures shows { (m : ModelDevice) → Shows self.old m → Shows self.new (without_waiting (versions_of handed.now) m) }
         ensures staged { self.new.staged ≡ None }
@@ -435,6 +423,7 @@ impl Device {
     ///
     /// `NotNarrower` comes exactly where the device's filter doesn't cover the new one. An error leaves the device as
     /// it was and gives the filter back. Nothing is staged after any result.
+    #[tactic(auto, using(std::proofs::lemmas::Grind::common_steps, crate::proofs::Changed::shorter))]
     pub fn narrow(&mut self, filter: Filter) -> Result<u64, (Filter, NarrowFault)>
         ensures shows { OnOk result ((m : ModelDevice) → Shows self.old m → Shows self.new (narrowed filter m)) }
         ensures moved { IfOk result (λ count. (m : ModelDevice) → Shows self.old m → count ≡ moved filter m) }
@@ -530,8 +519,18 @@ impl Device {
     pub fn conflicts(&self) -> Result<Vec<Conflict>, AllocError>
         ensures { IfOk result (λ list. (m : ModelDevice) → Shows self.now m → list.items ≡ conflicts_of m) }
     {
-        let list = conflicts::conflicts_of(&self.store, &self.out)?;
-        Ok(list)
+        conflicts::conflicts_of(&self.store, &self.out)
+    }
+}
+
+// The place of a new version with that record: the store where the filter matches the record, else the out.
+fn place_of(filter: &Filter, content: &Record) -> Place
+    ensures { result ≡ place_for filter.now content.now }
+{
+    if filter.matches(content) {
+        Place::Store
+    } else {
+        Place::Out
     }
 }
 

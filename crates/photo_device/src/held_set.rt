@@ -3,7 +3,7 @@ ghost use Rattle.std.specs.Prelude.{◌≡◌, true};
 ghost use Rattle.photo_device.specs.Held.{are_in_order, IsRangeOf};
 
 use crate::{Held, SharedHeld, SharedList};
-use block_list::{BlockList, Iter, Room, Roomy, Spot};
+use block_list::{BlockList, GrowingList, Iter, Position, Reservation};
 use photo_record::PicNo;
 use photo_version::Version;
 use std::alloc::{AllocError, Global};
@@ -56,7 +56,7 @@ impl HeldSet {
     }
 
     /// Reserves room for `more` versions. The only error is refused memory.
-    pub(crate) fn room(&mut self, more: usize) -> Result<Room<SharedHeld>, AllocError>
+    pub(crate) fn room(&mut self, more: usize) -> Result<Reservation<SharedHeld>, AllocError>
         ensures kept { self.new ≡ self.old }
         ensures most { IfOk result (λ room. room.most ≡ length self.old) }
         ensures more { IfOk result (λ room. room.more ≡ more) }
@@ -65,7 +65,7 @@ impl HeldSet {
     }
 
     /// Moves the versions out into a list with room that was reserved before. The set is then empty. Takes no memory.
-    pub(crate) fn open(&mut self, room: Room<SharedHeld>) -> Roomy<SharedHeld>
+    pub(crate) fn open(&mut self, room: Reservation<SharedHeld>) -> GrowingList<SharedHeld>
         requires { length self.old ≤ room.most }
         ensures items { result.items ≡ self.old }
         ensures more { result.more ≡ room.more }
@@ -75,7 +75,7 @@ impl HeldSet {
     }
 
     /// Makes a list in order the set's versions, and gives the list's room back. Takes no memory.
-    pub(crate) fn close(&mut self, items: Roomy<SharedHeld>)
+    pub(crate) fn close(&mut self, items: GrowingList<SharedHeld>)
         requires { are_in_order items.items ≡ true }
         ensures { self.new ≡ items.items }
     {
@@ -200,7 +200,7 @@ impl HeldSet {
     }
 
     // That version of that picture, if the set has it, and a hint where it stands.
-    fn look_for(&self, picture: PicNo, version: Version) -> (Option<&SharedHeld>, Spot)
+    fn look_for(&self, picture: PicNo, version: Version) -> (Option<&SharedHeld>, Position)
         ensures { option_copied result.0 ≡ find_version_of picture version self.now }
     {
         let (found, spot) = self
@@ -216,7 +216,7 @@ impl HeldSet {
     }
 
     // Drops the held version of that version, if the set has it. Looks for it from the hint on.
-    fn drop_version(&mut self, near: Spot, version: Version)
+    fn drop_version(&mut self, near: Position, version: Version)
         requires { count_of version self.old ≤ 1 }
         ensures { self.new ≡ helds_without (version ∷ []) self.old }
     {

@@ -87,6 +87,7 @@ impl KnownCache {
 
     /// Reserves places for the author's versions up to this one, and some beyond. Nothing is reserved if the author has
     /// no row, the number is too great, or memory is refused. A version without a place isn't cached.
+    #[tactic(auto, using(std::proofs::lemmas::Grind::common_steps, crate::proofs::CacheLemmas::known_behind, crate::proofs::CacheLemmas::known_still))]
     pub fn reserve(&mut self, version: Version)
         ensures { (known : List Fragment) → AreKnown known self.old.rows.items → AreKnown known self.new.rows.items }
     {

@@ -17,7 +17,6 @@ mod held_set;
 mod item_list;
 mod known_cache;
 pub mod laws;
-mod placing;
 mod prepared;
 mod resorted;
 mod shared_held;

@@ -1,6 +1,6 @@
 // What a device keeps for a staged change.
 use crate::{Selection, SharedHeld, SharedList};
-use block_list::Room;
+use block_list::Reservation;
 
 /// A staged change but for what will be known, and the room that it takes.
 #[derive(Debug, Drop)]
@@ -9,6 +9,6 @@ pub(crate) struct Prepared {
     pub takes: SharedList,
     /// How many handed versions may come beside the taken ones.
     pub room: usize,
-    pub in_store: Room<SharedHeld>,
-    pub in_out: Room<SharedHeld>,
+    pub in_store: Reservation<SharedHeld>,
+    pub in_out: Reservation<SharedHeld>,
 }

@@ -104,6 +104,7 @@ impl<'a> MergeCursor<'a> {
 }
 
 /// What both lists tell. The only error is refused memory.
+#[tactic(auto, using(std::proofs::lemmas::Grind::common_steps, crate::proofs::TableLemmas::none_told))]
 pub fn told_by(
     alloc: Global,
     heard: &[SharedHeld],

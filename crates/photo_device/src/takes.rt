@@ -1,27 +1,29 @@
 // How versions come into the store and the out of a device.
-ghost use Rattle.std.specs.Prelude.{◌≡◌, ◌++◌, true, false, [], ◌∷◌, ◌+◌, length, IfOk, OnOk, OnErr};
-ghost use Rattle.photo_device.specs.Held.{are_in_order, held_before};
-ghost use Rattle.photo_model.specs.Ordered.{put};
+ghost use Rattle.std.specs.Prelude.{◌≡◌, ◌++◌, true, false, [], ◌∷◌, length, IfOk, OnOk, OnErr};
+ghost use Rattle.photo_device.specs.Staging.{IsRoomFor};
 ghost use Rattle.photo_device.specs.Taking.{is_on_side, with_side, AreNewTo, HasRoomFor, HasTaken, MayTake};
 
 use crate::{HeldSet, SharedHeld};
-use block_list::{Room, Roomy};
+use block_list::{GrowingList, Reservation};
 use photo_filter_rules::Filter;
 use std::alloc::AllocError;
 
-/// Reserves room for `more` versions in each of two sets. The only error is refused memory.
+/// Reserves room for taken and handed versions in each of two sets. The only error is refused memory, also for more versions
+/// than can be counted.
 pub(crate) fn rooms(
     store: &mut HeldSet,
     out: &mut HeldSet,
-    more: usize,
-) -> Result<(Room<SharedHeld>, Room<SharedHeld>), AllocError>
+    takes: usize,
+    handed: usize,
+) -> Result<(Reservation<SharedHeld>, Reservation<SharedHeld>), AllocError>
     ensures store_kept { store.new ≡ store.old }
     ensures out_kept { out.new ≡ out.old }
-    ensures store { IfOk result (λ rooms. rooms.0.most ≡ length store.old) }
-    ensures store_more { IfOk result (λ rooms. rooms.0.more ≡ more) }
-    ensures out { IfOk result (λ rooms. rooms.1.most ≡ length out.old) }
-    ensures out_more { IfOk result (λ rooms. rooms.1.more ≡ more) }
+    ensures store { IfOk result (λ rooms. IsRoomFor store.old takes handed rooms.0) }
+    ensures out { IfOk result (λ rooms. IsRoomFor out.old takes handed rooms.1) }
 {
+    let Some(more) = takes.checked_add(handed) else {
+        return Err(AllocError);
+    };
     let in_store = store.room(more)?;
     let in_out = out.room(more)?;
     Ok((in_store, in_out))
@@ -29,14 +31,15 @@ pub(crate) fn rooms(
 
 /// Puts handed and taken versions into the store where the filter matches them, and into the out otherwise. Takes no memory:
 /// both sets have room for all of them.
+#[tactic(auto, using(std::proofs::lemmas::Grind::common_steps, crate::proofs::Taken::both_taken))]
 pub(crate) fn take_in(
     wanted: &Filter,
     handed: Vec<SharedHeld>,
     takes: Vec<SharedHeld>,
     store: &mut HeldSet,
-    in_store: Room<SharedHeld>,
+    in_store: Reservation<SharedHeld>,
     out: &mut HeldSet,
-    in_out: Room<SharedHeld>,
+    in_out: Reservation<SharedHeld>,
 )
     requires store { MayTake store.old handed.items takes.items in_store }
     requires out { MayTake out.old handed.items takes.items in_out }
@@ -52,11 +55,12 @@ pub(crate) fn take_in(
 }
 
 // Puts versions into the store where the filter matches them, and into the out otherwise.
+#[tactic(auto, using(std::proofs::lemmas::Grind::common_steps, crate::proofs::Taken::none_taken, crate::proofs::Taken::all_taken))]
 fn put_all(
     wanted: &Filter,
     coming: Vec<SharedHeld>,
-    store: &mut Roomy<SharedHeld>,
-    out: &mut Roomy<SharedHeld>,
+    store: &mut GrowingList<SharedHeld>,
+    out: &mut GrowingList<SharedHeld>,
 )
     requires store { HasRoomFor coming.items store.old }
     requires out { HasRoomFor coming.items out.old }
@@ -72,8 +76,8 @@ fn put_all(
 fn put_one(
     wanted: &Filter,
     held: SharedHeld,
-    store: &mut Roomy<SharedHeld>,
-    out: &mut Roomy<SharedHeld>,
+    store: &mut GrowingList<SharedHeld>,
+    out: &mut GrowingList<SharedHeld>,
 )
     requires store { HasRoomFor (held ∷ []) store.old }
     requires out { HasRoomFor (held ∷ []) out.old }
@@ -88,11 +92,9 @@ fn put_one(
 }
 
 /// Puts a version into a list in order that doesn't have it. Takes no memory.
-pub(crate) fn put_in(held: SharedHeld, list: &mut Roomy<SharedHeld>)
+pub(crate) fn put_in(held: SharedHeld, list: &mut GrowingList<SharedHeld>)
     requires { HasRoomFor (held ∷ []) list.old }
-    ensures items { list.new.items ≡ put held_before held list.old.items }
-    ensures more { list.new.more + 1 ≡ list.old.more }
-    ensures ordered { are_in_order list.new.items ≡ true }
+    ensures { HasTaken (λ _. true) (held ∷ []) list.old list.new }
 {
     let (picture, version) = (held.picture(), held.version());
     list.insert_behind(|other: &SharedHeld| other.is_before(picture, version), held);
@@ -114,10 +116,7 @@ pub(crate) fn sort_in(
     ensures store_kept { OnErr result (store.new ≡ store.old) }
     ensures out_kept { OnErr result (out.new ≡ out.old) }
 {
-    let Some(all) = stored.len().checked_add(waiting.len()) else {
-        return Err(AllocError);
-    };
-    let (in_store, in_out) = rooms(store, out, all)?;
+    let (in_store, in_out) = rooms(store, out, stored.len(), waiting.len())?;
     take_in(wanted, waiting, stored, store, in_store, out, in_out);
     Ok(())
 }

@@ -1,8 +1,9 @@
 -- Elements of lists, and filters and tests of lists element by element.
-use Rattle.std.proofs.Common.{◌≡◌, ◌≤◌, Bool, true, false, cond, not, ◌&&◌, ◌||◌, List, [], ◌∷◌, ◌++◌, length, map, Some, refl, sym, ap, ◌∙◌, subst, inl, inr, ◌⊎◌, arith}
+use Rattle.std.proofs.Common.{◌≡◌, ◌≤◌, Bool, true, false, not, ◌&&◌, ◌||◌, List, [], ◌∷◌, ◌++◌, length, map, Some, refl, sym, ap, ◌∙◌, subst, inl, inr, ◌⊎◌, arith}
 use Rattle.std.specs.Prelude.{filter}
 use Rattle.std.specs.List.{list_any, find, AllByRecursion}
 use Rattle.std.proofs.lemmas.Bool.{cases_Bool, or_right}
+use Rattle.std.proofs.lemmas.List.{nil_from_length}
 
 module _ {X : Type 0} where
   abbrev pub In : X → List X → Type 0
@@ -20,10 +21,7 @@ module _ {X : Type 0} where
   pub in_filter : (p : X → Bool) (x : X) (xs : List X) → In x xs → p x ≡ true → In x (filter p xs)
   in_filter p x [] h passes = absurd h
   in_filter p x (y ∷ ys) (inl e) passes = rw (sym (ap p e) ∙ passes) (inl e)
-  in_filter p x (y ∷ ys) (inr there) passes = elim (p y) as (λ b. In x (cond b (y ∷ filter p ys) (filter p ys))) [
-    | true ↦ inr (in_filter p x ys there passes)
-    | false ↦ in_filter p x ys there passes
-  ]
+  in_filter p x (y ∷ ys) (inr there) passes = let rest = in_filter p x ys there passes in elim (cases_Bool (p y)) [ inl is ↦ rw is (inr rest) | inr other ↦ rw other rest ]
 
   pub in_filtered : (p : X → Bool) (x : X) (xs : List X) → In x (filter p xs) → In x xs × (p x ≡ true)
   in_filtered p x [] h = absurd h
@@ -36,6 +34,10 @@ module _ {X : Type 0} where
   in_any f x [] h passes = absurd h
   in_any f x (y ∷ ys) (inl e) passes = rw (sym (ap f e) ∙ passes) refl
   in_any f x (y ∷ ys) (inr there) passes = or_right (f y) (list_any f ys) (in_any f x ys there passes)
+
+  pub none_in : (f : X → Bool) (xs : List X) → ((x : X) → In x xs → f x ≡ false) → list_any f xs ≡ false
+  none_in f [] none = refl
+  none_in f (x ∷ xs) none = λ i. none x (inl refl) i || none_in f xs (λ y h. none y (inr h)) i
 
   -- what holds of each
 
@@ -80,34 +82,18 @@ module _ {X : Type 0} where
 
   -- lists in which one element at most passes a test
 
-  pub no_more : (zs : List X) → length zs ≤ 0 → zs ≡ []
-  no_more [] h = refl
-  no_more (z ∷ zs) h = absurd (omega arith)
-
   pub only_one : (p : X → Bool) (x : X) (xs : List X) → In x xs → p x ≡ true → length (filter p xs) ≤ 1 → filter p xs ≡ x ∷ []
   only_one p x [] h passes few = absurd h
   only_one p x (y ∷ ys) (inl e) passes few =
       let here : p y ≡ true = sym (ap p e) ∙ passes in
-      rw (here, no_more (filter p ys) (let counted = rw here at few in omega arith)) (ap (λ z. z ∷ []) (sym e))
+      rw (here, nil_from_length (filter p ys) (let counted = rw here at few in omega arith)) (ap (λ z. z ∷ []) (sym e))
   only_one p x (y ∷ ys) (inr there) passes few = grind (arith, only_one p x ys there passes)
 
   pub find_one : (p : X → Bool) (x : X) (xs : List X) → filter p xs ≡ x ∷ [] → find p xs ≡ Some x
   find_one p x [] e = cc
   find_one p x (y ∷ ys) e = grind (arith, find_one p x ys)
 
-  -- what is found is there, and passes
-  pub found_in : (p : X → Bool) (x : X) (xs : List X) → find p xs ≡ Some x → In x xs × (p x ≡ true)
-  found_in p x [] e = cc
-  found_in p x (y ∷ ys) e = elim (cases_Bool (p y)) [
-    | inl here ↦ let same : x ≡ y = let found = rw here at e in cc in (inl same, ap p same ∙ here)
-    | inr there ↦ let rest = found_in p x ys (rw there at e) in (inr rest.0, rest.1)
-  ]
-
 module _ {X Y : Type 0} where
   pub any_map : (f : Y → Bool) (g : X → Y) (xs : List X) → list_any f (map g xs) ≡ list_any (λ x. f (g x)) xs
   any_map f g [] = refl
   any_map f g (x ∷ xs) = ap (λ r. f (g x) || r) (any_map f g xs)
-
-  pub filter_mapped : (f : Y → Bool) (g : X → Y) (xs : List X) → filter f (map g xs) ≡ map g (filter (λ x. f (g x)) xs)
-  filter_mapped f g [] = refl
-  filter_mapped f g (x ∷ xs) = grind (arith, filter_mapped f g xs)

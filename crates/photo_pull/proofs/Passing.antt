@@ -11,14 +11,11 @@ use Rattle.photo_device.proofs.Order.{held_order, for_version}
 use Rattle.photo_device.proofs.Putting.{found_first, told_if, any_found, map_alike}
 use Rattle.photo_pull.specs.OnHeld.{has_same, left_of, HasPassed}
 
--- what stands before a version is none of those that don't
-other_than : (h other k : Held) → held_before other h ≡ true → held_before k h ≡ false → is_of other k.picture k.version ≡ false
-other_than h other k before later = grind (arith, nat_tests)
-
+-- what stands before a version may be passed
 passed_one : (h other : Held) (old left : List Held) → HasPassed h old (other ∷ left) → held_before other h ≡ true → HasPassed h old left
 passed_one h other old left passed before = record {
   order = (and_parts (list_all (held_before other) left) (are_in_order left) passed.order).1;
-  same = λ k later. sym (ap (λ b. b || has_same left k) (other_than h other k before later)) ∙ passed.same k later;
+  same = λ k later. (let other_than : is_of other k.picture k.version ≡ false = grind (arith, nat_tests) in sym (ap (λ b. b || has_same left k) other_than) ∙ passed.same k later);
 }
 
 taken : (others left : List Held) (next : Option (Bor Held)) → YieldsFirstRef (λ (l : List Held). l) others next left → others ≡ left_of next left
@@ -30,22 +27,18 @@ pub passed_next : (h : Held) (other : Bor Held) (old others left : List Held) (a
 passed_next h other old others left at next passed is before gives =
     subst (HasPassed h old) (taken others left next gives) (passed_one h other.now old others (rw is at passed) before)
 
--- one that doesn't stand before a version is that version, or it isn't there
-first_is : (h other : Held) (left : List Held) → are_in_order (other ∷ left) ≡ true → held_before other h ≡ false → is_of other h.picture h.version ≡ has_same (other ∷ left) h
-first_is h other left order later =
-    let is_h : Held → Bool = λ g. is_of g h.picture h.version in
-    let first = found_first held_before _ is_h (for_version h.picture h.version) (other ∷ left) order in
-    told_if is_h other ∙ ap is_some (rw later at first) ∙ any_found is_h (other ∷ left)
-
 -- no version stands before itself
 pub not_before_itself : (h : Held) → held_before h h ≡ false
 not_before_itself h = grind (arith, nat_tests)
 
+-- one that doesn't stand before a version is that version, or it isn't there
 pub first_found : (h : Held) (other : Bor Held) (old others : List Held) (at : Option (Bor Held)) → HasPassed h old (left_of at others) → at ≡ Some other → held_before other.now h ≡ false
     → is_of other.now h.picture h.version ≡ has_same old h
 first_found h other old others at passed is later =
     let here : HasPassed h old (other.now ∷ others) = rw is at passed in
-    first_is h other.now others here.order later ∙ here.same h (not_before_itself h)
+    let is_h : Held → Bool = λ g. is_of g h.picture h.version in
+    let first = found_first held_before _ is_h (for_version h.picture h.version) (other.now ∷ others) here.order in
+    told_if is_h other.now ∙ ap is_some (rw later at first) ∙ any_found is_h (other.now ∷ others) ∙ here.same h (not_before_itself h)
 
 -- Versions in order that are asked for in what is left of a set in order, which has the same of them that the set has
 

@@ -1,10 +1,10 @@
 -- What a pull tells and takes, on the model devices that two devices show; what they show after it, and its counts.
-use Rattle.std.proofs.Common.{◌≡◌, ℕ, ◌+◌, ◌≤◌, Bool, true, false, not, ◌&&◌, ◌||◌, eqb, List, [], ◌∷◌, ◌++◌, length, map, refl, sym, ap, subst, ◌∙◌, arith, ◌<◌}
+use Rattle.std.proofs.Common.{◌≡◌, ℕ, ◌+◌, ◌≤◌, Bool, true, false, not, ◌&&◌, ◌||◌, eqb, List, [], ◌++◌, length, map, refl, sym, ap, subst, ◌∙◌, arith, ◌<◌}
 use Rattle.std.specs.Prelude.{filter}
 use Rattle.std.specs.List.{list_any}
 use Rattle.std.proofs.Math.Bool.{or-false}
 use Rattle.std.proofs.lemmas.Bool.{eq-eqb}
-use Rattle.std.proofs.lemmas.List.{map-append, length-map}
+use Rattle.std.proofs.lemmas.List.{nil_from_length, map-append, length-map}
 use Rattle.std.proofs.lemmas.List.Folds.{list_any-append}
 use Rattle.std.proofs.lemmas.List.Filters.{length-filter_both}
 use Rattle.photo_version.specs.Version.{Version, same_version, Versions}
@@ -17,63 +17,44 @@ use Rattle.photo_device.specs.declared.held.Held.{Held}
 use Rattle.photo_model.specs.Entry.{Entry, supersedes, superseded_by, without, put_entries}
 use Rattle.photo_device.specs.Held.{entry_of, entries_of, count_of, versions_of}
 use Rattle.photo_model.specs.Device.{ModelDevice, holds, knows_entry, selects, changed, without_waiting}
-use Rattle.photo_device.specs.Device.{Kept, Shows, unstaged}
-use Rattle.photo_device.specs.Own.{IsDevice}
+use Rattle.photo_device.specs.Device.{Kept, Shows}
 use Rattle.photo_model.specs.Telling.{tell}
 use Rattle.photo_device.specs.Telling.{tells}
-use Rattle.photo_device.proofs.Counts.{count_of-append, same_version_self}
+use Rattle.photo_device.proofs.Counts.{count_of-append, same_version_self, same_version_is}
+use Rattle.photo_device.proofs.Putting.{filter_true}
+use Rattle.photo_device.proofs.Shown.{entries-filter, held_shown}
 use Rattle.photo_pull.specs.Findings.{AreReady, IsDelta, IsNothing}
 use Rattle.photo_model.specs.Pull.{taken, handed, noticed, told, learns_all, is_stale, leaves_store, leaves_out, pulled, handed_over, counts_of}
-use Rattle.photo_pull.specs.OnHeld.{is_new, new_stored, new_waiting, learns, is_over, is_stale_held, is_dropped, dropped_stored, dropped_waiting, is_selected, is_heard, heard, taken_stored, drops, gains}
+use Rattle.photo_pull.specs.OnHeld.{is_new, is_above, new_waiting, learns, is_over, is_stale_held, is_dropped, dropped_stored, dropped_waiting, is_selected, is_heard, heard, taken_stored, drops, gains}
 use Rattle.photo_model.specs.declared.counts.PullCounts.{PullCounts}
 use Rattle.photo_pull.specs.declared.delta.PullDelta.{PullDelta}
-use Rattle.photo_pull.proofs.Members.{In, in_left, in_right, any_same, filter_alike, filter_filter, any_map, any_swap, filter_mapped, no_more, only_one}
-use Rattle.photo_pull.proofs.Told.{known_here, same_picture, is_notice, notices, heard_as, any_told, over_is}
+use Rattle.photo_pull.proofs.Members.{In, in_left, in_right, any_same, filter_alike, filter_filter, any_map, any_swap, any_parts, only_one}
+use Rattle.photo_pull.proofs.Told.{known_here, same_picture, is_notice, notices, heard_as, over_is}
 
 -- a test of entries keeps the entries of those that a test of held versions keeps
 filter_shown : (f : Entry → Bool) (g : Held → Bool) (hs : List Held) (es : List Entry) → entries_of hs ≡ es → ((h : Held) → In h hs → f (entry_of h) ≡ g h) → filter f es ≡ entries_of (filter g hs)
 filter_shown f g hs es e same =
-    ap (filter f) (sym e) ∙ filter_mapped f entry_of hs ∙ ap (map entry_of) (filter_alike (λ h. f (entry_of h)) g hs same)
+    ap (filter f) (sym e) ∙ sym (entries-filter f hs) ∙ ap (map entry_of) (filter_alike (λ h. f (entry_of h)) g hs same)
 
 -- tests that agree on the entries of held versions keep the same of them
 filters_agree : (f g : Entry → Bool) (hs : List Held) (es : List Entry) → entries_of hs ≡ es → ((h : Held) → In h hs → f (entry_of h) ≡ g (entry_of h)) → filter f es ≡ filter g es
 filters_agree f g hs es e same = filter_shown f (λ h. g (entry_of h)) hs es e same ∙ sym (filter_shown g (λ h. g (entry_of h)) hs es e (λ h _. refl))
 
-pub any_shown : (f : Entry → Bool) (hs : List Held) (es : List Entry) → es ≡ entries_of hs → list_any f es ≡ list_any (λ h. f (entry_of h)) hs
-any_shown f hs es e = ap (list_any f) e ∙ any_map f entry_of hs
+pub any_shown : (f : Entry → Bool) (g : Held → Bool) (hs : List Held) (es : List Entry) → entries_of hs ≡ es → ((h : Held) → In h hs → f (entry_of h) ≡ g h) → list_any f es ≡ list_any g hs
+any_shown f g hs es e same = ap (list_any f) (sym e) ∙ any_map f entry_of hs ∙ any_same (λ h. f (entry_of h)) g hs same
 
-abbrev same_as : Held → Held → Bool
-same_as h g = same_version g.version h.version
-
--- where one of two lists has a version, and once
-parts_of : (h : Held) (xs ys : List Held) → In h xs → count_of h.version xs + count_of h.version ys ≤ 1 → (filter (same_as h) xs ≡ h ∷ []) × (filter (same_as h) ys ≡ [])
-parts_of h xs ys here few =
-    let one = only_one (same_as h) h xs here (same_version_self h.version) (omega arith) in
-    let counted = ap length one in
-    (one, no_more (filter (same_as h) ys) (omega arith))
-
--- whether a version is among those of what a test keeps
-among : (h : Held) (q : Held → Bool) (xs more : List Held) → filter (same_as h) xs ≡ more → list_any (λ v. same_version v h.version) (versions_of (filter q xs)) ≡ list_any q more
-among h q xs more is = any_map (λ v. same_version v h.version) (λ (g : Held). g.version) (filter q xs) ∙ any_swap (same_as h) q xs ∙ ap (list_any q) is
-
--- no version is held twice
-once_in : (d : Kept) → IsDevice (unstaged d) → (v : Version) → count_of v d.store + count_of v d.out ≤ 1
-once_in d is v = let once = is.once v in let all = count_of-append v d.store d.out in omega arith
-
--- what was known of every picture and of this one, and what is learned of both
-regroup : (e o l every of told : Bool) → (e || (o || ((l && (every || of)) || told))) ≡ ((e || (l && every)) || (o || (told || (l && of))))
-regroup e o l every of told = grind arith
-
--- what is known stays where nothing else is learned
-nothing_more : (e o k l taught : Bool) → k ≡ (e || o) → (l ≡ true → taught ≡ true → k ≡ true) → k ≡ (e || (o || (l && taught)))
-nothing_more e o k l taught known more = grind arith
+-- where one of two lists has a version, and once: whether the version is among those of what a test keeps of that list, and of the other
+among : (h : Held) (q r : Held → Bool) (xs ys : List Held) → In h xs → count_of h.version xs + count_of h.version ys ≤ 1
+    → (list_any (λ v. same_version v h.version) (versions_of (filter q xs)) ≡ q h) × (list_any (λ v. same_version v h.version) (versions_of (filter r ys)) ≡ false)
+among h q r xs ys here few =
+    let same : Held → Bool = λ g. same_version g.version h.version in
+    let kept = λ (f : Held → Bool) (zs : List Held). any_map (λ v. same_version v h.version) (λ (g : Held). g.version) (filter f zs) ∙ any_swap same f zs in
+    let one = only_one same h xs here (same_version_self h.version) (omega arith) in
+    let none = nil_from_length (filter same ys) (let counted = ap length one in omega arith) in
+    (kept q xs ∙ ap (list_any q) one ∙ or-false (q h), kept r ys ∙ ap (list_any r) none)
 
 abbrev pub takes : Kept → Kept → List Held
 takes t s = taken_stored t s ++ new_waiting t s
-
-filter_all : (es : List Entry) → filter (λ e. true) es ≡ es
-filter_all [] = refl
-filter_all (e ∷ es) = ap (λ l. e ∷ l) (filter_all es)
 
 module _ (t s : Kept) (ready : AreReady t s) (tm sm : ModelDevice) (shows_t : Shows t tm) (shows_s : Shows s sm) where
   pub new_shown : (w : Held) → In w (s.store ++ s.out) → not (knows_entry tm (entry_of w)) ≡ is_new t.knowledge w
@@ -83,18 +64,14 @@ module _ (t s : Kept) (ready : AreReady t s) (tm sm : ModelDevice) (shows_t : Sh
   selected_shown w = ap (λ (tree : Tree). matches tree w.content) (sym shows_t.tree)
 
   notice_shown : (w : Held) → list_any (supersedes (entry_of w)) (holds tm) ≡ is_notice t w
-  notice_shown w = any_shown (supersedes (entry_of w)) (t.store ++ t.out) (holds tm) (sym (map-append entry_of t.store t.out ∙ (λ i. shows_t.store i ++ shows_t.out i)))
+  notice_shown w = any_shown (supersedes (entry_of w)) (λ h. is_above w h) (t.store ++ t.out) (holds tm) (held_shown t tm shows_t) (λ h _. refl)
 
   -- a part of what is heard of
   told_part : (f : Entry → Bool) (q r : Held → Bool) → ((w : Held) → In w s.store → is_new t.knowledge w ≡ true → (is_heard t s w && q w) ≡ r w) → ((w : Held) → f (entry_of w) ≡ r w)
       → filter (λ e. not (knows_entry tm e) && f e) sm.store ≡ entries_of (filter q (heard t s))
   told_part f q r by shown =
       filter_shown (λ e. not (knows_entry tm e) && f e) (λ w. is_new t.knowledge w && r w) s.store sm.store shows_s.store (λ w here i. new_shown w (in_left w s.store s.out here) i && shown w i)
-      ∙ sym (ap (map entry_of) (
-      filter_filter q (is_heard t s) (new_stored t s)
-      ∙ filter_filter (λ w. is_heard t s w && q w) (is_new t.knowledge) s.store
-      ∙ filter_alike (λ w. is_new t.knowledge w && (is_heard t s w && q w)) (λ w. is_new t.knowledge w && r w) s.store (λ w here. let same = by w here in grind arith)
-      ))
+      ∙ sym (ap (map entry_of) (simp filter_filter (filter_alike _ (λ w. is_new t.knowledge w && r w) s.store (λ w here. let same = by w here in grind arith))))
 
   pub taken_shown : taken tm sm ≡ entries_of (taken_stored t s)
   taken_shown = told_part (selects tm) (is_selected t.tree) (is_selected t.tree) (λ w here new. grind arith) selected_shown
@@ -108,11 +85,7 @@ module _ (t s : Kept) (ready : AreReady t s) (tm sm : ModelDevice) (shows_t : Sh
 
   -- a test of what is told of
   told_any : (f : Entry → Bool) → list_any f (told tm sm) ≡ (list_any (λ h. f (entry_of h)) (heard t s) || list_any (λ h. f (entry_of h)) (new_waiting t s))
-  told_any f =
-      list_any-append f (taken tm sm ++ handed tm sm) (noticed tm sm)
-      ∙ ap (λ b. b || list_any f (noticed tm sm)) (list_any-append f (taken tm sm) (handed tm sm))
-      ∙ (λ i. (any_shown f _ _ taken_shown i || any_shown f _ _ handed_shown i) || any_shown f _ _ noticed_shown i)
-      ∙ any_told t s (λ h. f (entry_of h))
+  told_any f = let parts = any_parts (λ h. f (entry_of h)) (is_selected t.tree) (heard t s) in rw (taken_shown, handed_shown, noticed_shown) (simp (list_any-append, any_map) (grind arith))
 
   over_shown : (h : Held) → In h (t.store ++ t.out) → superseded_by (told tm sm) (entry_of h) ≡ is_over t s h
   over_shown h here = told_any (λ w. supersedes w (entry_of h)) ∙ over_is t s h here
@@ -127,9 +100,8 @@ module _ (t s : Kept) (ready : AreReady t s) (tm sm : ModelDevice) (shows_t : Sh
   stale_shown h here =
       let there : In h (t.store ++ t.out) = in_left h t.store t.out here in
       let known = sym (shows_s.known h.picture ((known_here t ready.target h there).above) h.version) in
-      let among = any_shown (λ (e : Entry). same_version e.version h.version) s.store sm.store (sym shows_s.store)
-      ∙ any_same (λ g. same_version g.version h.version) (λ g. (eqb g.picture h.picture) && same_version g.version h.version) s.store
-      (λ g in_s. let same = λ (e : same_version g.version h.version ≡ true). eq-eqb g.picture h.picture (same_picture t s ready h g there (in_left g s.store s.out in_s) e) in grind arith) in
+      let among = any_shown (λ (e : Entry). same_version e.version h.version) (λ g. (eqb g.picture h.picture) && same_version g.version h.version) s.store sm.store shows_s.store
+      (λ g in_s. let same = λ (e : same_version g.version h.version ≡ true). eq-eqb g.picture h.picture (same_picture t s ready h g there (in_left g s.store s.out in_s) (same_version_is g.version h.version e)) in grind arith) in
       λ i. learns_shown i && (known i && not (among i))
 
   leaves_store_shown : (h : Held) → In h t.store → leaves_store tm sm (entry_of h) ≡ is_dropped t s h
@@ -140,25 +112,23 @@ module _ (t s : Kept) (ready : AreReady t s) (tm sm : ModelDevice) (shows_t : Sh
 
   -- giving up the versions of what is dropped leaves what isn't
 
-  drops_have : (h : Held) (stored waiting : List Held) → filter (same_as h) t.store ≡ stored → filter (same_as h) t.out ≡ waiting → list_any (λ v. same_version v h.version) (drops t s) ≡ (list_any (is_dropped t s) stored || list_any (is_over t s) waiting)
-  drops_have h stored waiting in_store in_out =
-      list_any-append (λ v. same_version v h.version) (versions_of (dropped_stored t s)) (versions_of (dropped_waiting t s))
-      ∙ (λ i. among h (is_dropped t s) t.store stored in_store i || among h (is_over t s) t.out waiting in_out i)
+  drops_have : (v : Version) → list_any (λ w. same_version w v) (drops t s) ≡ (list_any (λ w. same_version w v) (versions_of (dropped_stored t s)) || list_any (λ w. same_version w v) (versions_of (dropped_waiting t s)))
+  drops_have v = list_any-append (λ w. same_version w v) (versions_of (dropped_stored t s)) (versions_of (dropped_waiting t s))
 
   pub stored_left : without (drops t s) tm.store ≡ filter (λ e. not (leaves_store tm sm e)) tm.store
   stored_left = filters_agree (λ e. not (list_any (λ v. same_version v e.version) (drops t s))) (λ e. not (leaves_store tm sm e)) t.store tm.store shows_t.store (λ h here.
-      let parts = parts_of h t.store t.out here (once_in t ready.target h.version) in
-      ap not (drops_have h _ _ parts.0 parts.1 ∙ or-false (is_dropped t s h || false) ∙ or-false (is_dropped t s h) ∙ sym (leaves_store_shown h here)))
+      let is = among h (is_dropped t s) (is_over t s) t.store t.out here (omega (arith, ready.target.once h.version, count_of-append)) in
+      ap not (drops_have h.version ∙ (λ i. is.0 i || is.1 i) ∙ or-false (is_dropped t s h) ∙ sym (leaves_store_shown h here)))
 
   pub waiting_left : without (drops t s) tm.out ≡ filter (λ e. not (leaves_out tm sm e)) tm.out
   waiting_left = filters_agree (λ e. not (list_any (λ v. same_version v e.version) (drops t s))) (λ e. not (leaves_out tm sm e)) t.out tm.out shows_t.out (λ h here.
-      let parts = parts_of h t.out t.store here (let once = once_in t ready.target h.version in omega arith) in
-      ap not (drops_have h _ _ parts.1 parts.0 ∙ or-false (is_over t s h) ∙ sym (leaves_out_shown h here)))
+      let is = among h (is_over t s) (is_dropped t s) t.out t.store here (omega (arith, ready.target.once h.version, count_of-append)) in
+      ap not (drops_have h.version ∙ (λ i. is.1 i || is.0 i) ∙ sym (leaves_out_shown h here)))
 
   pub handed_left : without (versions_of (new_waiting t s)) sm.out ≡ filter (knows_entry tm) sm.out
   handed_left = filters_agree (λ e. not (list_any (λ v. same_version v e.version) (versions_of (new_waiting t s)))) (knows_entry tm) s.out sm.out shows_s.out (λ h here.
-      let parts = parts_of h s.out s.store here (let once = once_in s ready.source h.version in omega arith) in
-      ap not (among h (is_new t.knowledge) s.out _ parts.0 ∙ or-false (is_new t.knowledge h) ∙ sym (new_shown h (in_right h s.store s.out here))) ∙ grind arith)
+      let is = among h (is_new t.knowledge) (is_new t.knowledge) s.out s.store here (omega (arith, ready.source.once h.version, count_of-append)) in
+      ap not (is.0 ∙ sym (new_shown h (in_right h s.store s.out here))) ∙ grind arith)
 
   pub dropped_stored_shown : filter (leaves_store tm sm) tm.store ≡ entries_of (dropped_stored t s)
   dropped_stored_shown = filter_shown (leaves_store tm sm) (is_dropped t s) t.store tm.store shows_t.store leaves_store_shown
@@ -177,12 +147,8 @@ module _ (t s : Kept) (ready : AreReady t s) (tm sm : ModelDevice) (shows_t : Sh
         store = shows.store ∙ (λ i. put_entries (filter (selects tm) (new i)) (stored_left i));
         out = shows.out ∙ (λ i. put_entries (filter (λ e. not (selects tm e)) (new i)) (waiting_left i));
         known = λ p above v.
-            let told_is = sym (tell_shown p v) in
-            let learned : gain p v ≡ ((learns_all tm sm && (sm.every v || sm.of p v)) || tell (told tm sm) p v) =
-            gain_is p v above ∙ (λ i. (sym (learns_shown) i && shows_s.known p above v i) || told_is i) in
-            shows.known p above v
-            ∙ ap (λ b. tm.every v || (tm.of p v || b)) learned
-            ∙ regroup (tm.every v) (tm.of p v) (learns_all tm sm) (sm.every v) (sm.of p v) (tell (told tm sm) p v);
+            let learned = gain_is p v above ∙ (λ i. (sym (learns_shown) i && shows_s.known p above v i) || sym (tell_shown p v) i) in
+            shows.known p above v ∙ grind arith;
       }
 
   -- the source, without what it handed over
@@ -203,14 +169,18 @@ module _ (t s : Kept) (h : PullDelta) (delta : IsDelta t s h) (tm sm : ModelDevi
         author = shows_t.author;
         tree = shows_t.tree;
         counter = shows_t.counter;
-        store = shows_t.store ∙ sym ((λ i. put_entries (filter (selects tm) (entries_of (no_takes i))) (without (no_drops i) tm.store)) ∙ filter_all tm.store);
-        out = shows_t.out ∙ sym ((λ i. put_entries (filter (λ e. not (selects tm e)) (entries_of (no_takes i))) (without (no_drops i) tm.out)) ∙ filter_all tm.out);
-        known = λ p above v. nothing_more (tm.every v) (tm.of p v) _ (learns t s) (knows s.knowledge p v) (shows_t.known p above v) (λ l h. sym (ap (λ fs. knows fs p v) known_is) ∙ none.teaches_none (delta.learned ∙ l) p v above (ap (λ fs. knows fs p v) taught_is ∙ h));
+        store = shows_t.store ∙ sym ((λ i. put_entries (filter (selects tm) (entries_of (no_takes i))) (without (no_drops i) tm.store)) ∙ filter_true tm.store);
+        out = shows_t.out ∙ sym ((λ i. put_entries (filter (λ e. not (selects tm e)) (entries_of (no_takes i))) (without (no_drops i) tm.out)) ∙ filter_true tm.out);
+        known = λ p above v.
+            let known_here = shows_t.known p above v in
+            let taught_here : learns t s ≡ true → knows s.knowledge p v ≡ true → knows t.knowledge p v ≡ true =
+            λ l h. sym (ap (λ fs. knows fs p v) known_is) ∙ none.teaches_none (delta.learned ∙ l) p v above (ap (λ fs. knows fs p v) taught_is ∙ h) in
+            grind arith;
       })
 
   pub nothing_handed : h.handed.items ≡ [] → Shows s (handed_over tm sm)
   nothing_handed none =
-      let kept : without (versions_of (new_waiting t s)) sm.out ≡ sm.out = ap (λ hs. without (versions_of hs) sm.out) (sym delta.handed ∙ none) ∙ filter_all sm.out in
+      let kept : without (versions_of (new_waiting t s)) sm.out ≡ sm.out = ap (λ hs. without (versions_of hs) sm.out) (sym delta.handed ∙ none) ∙ filter_true sm.out in
       shows_handed t s delta.ready tm sm shows_t shows_s s (subst (λ out. Shows s (record sm { out = out })) (sym kept) shows_s)
 
   pub counts_found : (counts : PullCounts) → counts.taken ≡ length (filter (is_selected t.tree) h.heard.items) → counts.handed ≡ length h.handed.items
@@ -221,13 +191,17 @@ module _ (t s : Kept) (h : PullDelta) (delta : IsDelta t s h) (tm sm : ModelDevi
       let both = length-filter_both sel (λ w. not (sel w)) (λ w. refl) (heard t s) in
       let all = ap length delta.heard in
       let as_notices : counts.notices ≡ length (notices t s) = omega arith in
-      λ i. record {
-        taken = (as_taken ∙ sym (sized _ _ (taken_shown t s delta.ready tm sm shows_t shows_s))) i;
-        handed = (handed_is ∙ ap length delta.handed ∙ sym (sized _ _ (handed_shown t s delta.ready tm sm shows_t shows_s))) i;
-        notices = (as_notices ∙ sym (sized _ _ (noticed_shown t s delta.ready tm sm shows_t shows_s))) i;
-        dropped = (dropped_is ∙ (λ j. (ap length delta.dropped_stored ∙ sym (sized _ _ (dropped_stored_shown t s delta.ready tm sm shows_t shows_s))) j + (ap length delta.dropped_waiting ∙ sym (sized _ _ (dropped_waiting_shown t s delta.ready tm sm shows_t shows_s))) j)) i;
-        learned = (learned_is ∙ delta.learned ∙ sym (learns_shown t s delta.ready tm sm shows_t shows_s)) i;
-      }
-    where
-      sized : (es : List Entry) (hs : List Held) → es ≡ entries_of hs → length es ≡ length hs
-      sized es hs e = ap length e ∙ length-map hs entry_of
+      rw (
+        taken_shown t s delta.ready tm sm shows_t shows_s,
+        handed_shown t s delta.ready tm sm shows_t shows_s,
+        noticed_shown t s delta.ready tm sm shows_t shows_s,
+        dropped_stored_shown t s delta.ready tm sm shows_t shows_s,
+        dropped_waiting_shown t s delta.ready tm sm shows_t shows_s,
+        learns_shown t s delta.ready tm sm shows_t shows_s,
+      ) (simp length-map (λ i. record {
+        taken = as_taken i;
+        handed = (handed_is ∙ ap length delta.handed) i;
+        notices = as_notices i;
+        dropped = (dropped_is ∙ (λ j. length (delta.dropped_stored j) + length (delta.dropped_waiting j))) i;
+        learned = (learned_is ∙ delta.learned) i;
+      }))

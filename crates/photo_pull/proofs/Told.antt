@@ -1,7 +1,6 @@
 -- Two devices between which a pull may be: what they hold is found and known, what a target is told of, and what that supersedes.
-use Rattle.std.proofs.Common.{◌≡◌, true, ◌++◌, Some, sym, subst, Bool, not, ◌||◌, List, ap, ◌∙◌, arith}
+use Rattle.std.proofs.Common.{◌≡◌, true, ◌++◌, Some, sym, subst, Bool, not, ◌||◌, List, ap, ◌∙◌}
 use Rattle.std.specs.Prelude.{filter}
-use Rattle.std.specs.List.{list_any}
 use Rattle.std.proofs.lemmas.Bool.{or_left, or_right}
 use Rattle.std.proofs.lemmas.List.Folds.{list_any-append}
 use Rattle.photo_version.specs.Version.{same_version}
@@ -10,10 +9,10 @@ use Rattle.photo_device.specs.Held.{find_version}
 use Rattle.photo_device.specs.Device.{Kept, unstaged}
 use Rattle.photo_device.specs.Own.{IsDevice, IsKnownBy}
 use Rattle.photo_model.proofs.AllLemmas.{all_append}
-use Rattle.photo_device.proofs.Counts.{same_version_is, same_version_self}
+use Rattle.photo_device.proofs.Counts.{same_version_self}
 use Rattle.photo_pull.specs.Findings.{AreReady}
-use Rattle.photo_pull.specs.OnHeld.{is_new, is_above, has_above, has_below, new_stored, new_waiting, is_over, is_dropped, is_selected, is_heard, heard, taken_stored}
-use Rattle.photo_pull.proofs.Members.{In, all_at, only_one, find_one, in_filter, in_filtered, in_any, any_kept, any_parts}
+use Rattle.photo_pull.specs.OnHeld.{is_new, is_above, has_above, has_below, new_stored, new_waiting, is_over, is_dropped, is_selected, is_heard, heard}
+use Rattle.photo_pull.proofs.Members.{In, all_at, only_one, find_one, in_filter, in_filtered, in_any, any_kept}
 
 module _ (d : Kept) (is : IsDevice (unstaged d)) (h : Held) (here : In h (d.store ++ d.out)) where
   pub known_here : IsKnownBy d.knowledge h
@@ -23,9 +22,9 @@ module _ (d : Kept) (is : IsDevice (unstaged d)) (h : Held) (here : In h (d.stor
   found_here = find_one (λ (g : Held). same_version g.version h.version) h _ (only_one (λ (g : Held). same_version g.version h.version) h _ here (same_version_self h.version) (is.once h.version))
 
 -- a version that both hold is of one picture
-pub same_picture : (t s : Kept) → AreReady t s → (h g : Held) → In h (t.store ++ t.out) → In g (s.store ++ s.out) → same_version g.version h.version ≡ true → g.picture ≡ h.picture
+pub same_picture : (t s : Kept) → AreReady t s → (h g : Held) → In h (t.store ++ t.out) → In g (s.store ++ s.out) → g.version ≡ h.version → g.picture ≡ h.picture
 same_picture t s ready h g here there same =
-    sym (ready.may.one h.version h g (found_here t ready.target h here) (subst (λ v. find_version v (s.store ++ s.out) ≡ Some g) (same_version_is g.version h.version same) (found_here s ready.source g there)))
+    sym (ready.may.one h.version h g (found_here t ready.target h here) (subst (λ v. find_version v (s.store ++ s.out) ≡ Some g) same (found_here s ready.source g there)))
 
 -- it supersedes something that the target holds
 abbrev pub is_notice : Kept → Held → Bool
@@ -49,10 +48,6 @@ module _ (t s : Kept) where
       || any_kept (λ h. is_above w h) (is_over t s) t.out (λ h _ above. over_new w h here new above) i)
       ∙ sym (list_any-append (λ h. is_above w h) t.store t.out)
       )
-
-  -- a test of what is told of, in three parts
-  pub any_told : (f : Held → Bool) → ((list_any f (taken_stored t s) || list_any f (new_waiting t s)) || list_any f (notices t s)) ≡ (list_any f (heard t s) || list_any f (new_waiting t s))
-  any_told f = let parts = any_parts f (is_selected t.tree) (heard t s) in grind arith
 
   -- what is heard of supersedes what anything new supersedes
   pub over_is : (h : Held) → In h (t.store ++ t.out) → (has_above (heard t s) h || has_above (new_waiting t s) h) ≡ is_over t s h

@@ -4,17 +4,14 @@ use Rattle.std.specs.List.{list_any}
 use Rattle.std.proofs.lemmas.Bool.{false≢true, and_parts}
 use Rattle.std.proofs.lemmas.Bool.Decides.{nat_tests}
 use Rattle.photo_filter_rules.specs.Covers.{covers}
-use Rattle.item_knowledge.specs.Fragments.{Fragment}
+use Rattle.item_knowledge.specs.Fragments.{Fragment, knows}
 use Rattle.photo_model.specs.Device.{ModelDevice, holds, knows_entry}
 use Rattle.photo_device.specs.Device.{Kept, Shows}
-use Rattle.photo_device.specs.Own.{HasEarlier, KnowsItsOwn, IsKnownBy, IsDevice}
+use Rattle.photo_device.specs.Own.{KnowsItsOwn, IsDevice}
 use Rattle.photo_device.specs.Examples.{nth, first}
 use Rattle.photo_pull.specs.MayPull.{MayPull}
 use Rattle.photo_model.specs.Pull.{IsTaughtNothing}
 use Rattle.photo_pull.specs.Examples.{shot, removal, camera, informed, phone, tidy, choosy, emptied, model, TheUpToDate, TheTaughtNothing, TheModelPull, ThePassed, TheFindings, TheWanting}
-
-no : false ≡ true → ⊥
-no e = false≢true e
 
 pub the_up_to_date : TheUpToDate
 the_up_to_date = record { all_known = refl; one_unknown = refl; one_waiting = refl; one_stale = refl; kept_by_both = refl; not_covered = refl; none_held = refl }
@@ -24,10 +21,10 @@ all_taught learned p v above known = grind arith
 
 pub the_taught_nothing : TheTaughtNothing
 the_taught_nothing = record {
-  not_covered = λ learned p v above known. absurd (no learned);
+  not_covered = λ learned p v above known. absurd (false≢true learned);
   all_known = all_taught;
-  one_unknown = λ n. no (n refl 8 (nth 1 1) (omega arith) refl);
-  none_held = λ n. no (n refl 8 (nth 1 1) (omega arith) refl);
+  one_unknown = λ n. false≢true (n refl 8 (nth 1 1) (omega arith) refl);
+  none_held = λ n. false≢true (n refl 8 (nth 1 1) (omega arith) refl);
 }
 
 pub the_model_pull : TheModelPull
@@ -38,43 +35,29 @@ the_passed = record {
   up_to_it = record { order = refl; same = λ k later. grind (arith, nat_tests) };
   nothing_passed = record { order = refl; same = λ k later. refl };
   further = record { order = refl; same = λ k later. grind (arith, nat_tests) };
-  itself_passed = λ p. no (p.same shot refl);
-  one_behind_passed = λ p. no (p.same removal refl);
-  out_of_order = λ p. no p.order;
+  itself_passed = λ p. false≢true (p.same shot refl);
+  one_behind_passed = λ p. false≢true (p.same removal refl);
+  out_of_order = λ p. false≢true p.order;
 }
 
-first_earlier : HasEarlier first
-first_earlier = record { own = λ n. grind (arith, nat_tests) }
-
-shot_earlier : HasEarlier shot
-shot_earlier = record { own = λ n. grind (arith, nat_tests) }
-
 -- the two devices, whatever they know of each other
-camera_with : (ks : List Fragment) → KnowsItsOwn camera.author 1 ks → IsKnownBy ks first → IsDevice (record camera { knowledge = ks })
-camera_with ks own known = record { knows = own; store = (first_earlier, tt); out = tt; store_known = (known, tt); out_known = tt; once = λ v. grind (arith, nat_tests) }
+camera_with : (ks : List Fragment) → KnowsItsOwn camera.author 1 ks → knows ks 7 first.version ≡ true → IsDevice (record camera { knowledge = ks })
+camera_with ks own known = record { knows = own; store = (record { own = λ n. grind (arith, nat_tests) }, tt); out = tt; store_known = (record { above = omega arith; itself = known; history = λ v e. absurd (false≢true e) }, tt); out_known = tt; once = λ v. grind (arith, nat_tests) }
 
-phone_with : (ks : List Fragment) → KnowsItsOwn phone.author 1 ks → IsKnownBy ks shot → IsDevice (record phone { knowledge = ks })
-phone_with ks own known = record { knows = own; store = (shot_earlier, tt); out = tt; store_known = (known, tt); out_known = tt; once = λ v. grind (arith, nat_tests) }
+phone_with : (ks : List Fragment) → KnowsItsOwn phone.author 1 ks → knows ks 8 shot.version ≡ true → IsDevice (record phone { knowledge = ks })
+phone_with ks own known = record { knows = own; store = (record { own = λ n. grind (arith, nat_tests) }, tt); out = tt; store_known = (record { above = omega arith; itself = known; history = λ v e. absurd (false≢true e) }, tt); out_known = tt; once = λ v. grind (arith, nat_tests) }
 
 camera_is : IsDevice camera
-camera_is = camera_with camera.knowledge
-    (record { star = refl; own = λ p n above. grind (arith, nat_tests); later = λ p v above later. grind (arith, nat_tests) })
-    (record { above = omega arith; itself = refl; history = λ v e. absurd (no e) })
+camera_is = camera_with camera.knowledge (record { star = refl; own = λ p n above. grind (arith, nat_tests); later = λ p v above later. grind (arith, nat_tests) }) refl
 
 informed_is : IsDevice informed
-informed_is = camera_with informed.knowledge
-    (record { star = refl; own = λ p n above. grind (arith, nat_tests); later = λ p v above later. grind (arith, nat_tests) })
-    (record { above = omega arith; itself = refl; history = λ v e. absurd (no e) })
+informed_is = camera_with informed.knowledge (record { star = refl; own = λ p n above. grind (arith, nat_tests); later = λ p v above later. grind (arith, nat_tests) }) refl
 
 phone_is : IsDevice phone
-phone_is = phone_with phone.knowledge
-    (record { star = refl; own = λ p n above. grind (arith, nat_tests); later = λ p v above later. grind (arith, nat_tests) })
-    (record { above = omega arith; itself = refl; history = λ v e. absurd (no e) })
+phone_is = phone_with phone.knowledge (record { star = refl; own = λ p n above. grind (arith, nat_tests); later = λ p v above later. grind (arith, nat_tests) }) refl
 
 tidy_is : IsDevice tidy
-tidy_is = phone_with tidy.knowledge
-    (record { star = refl; own = λ p n above. grind (arith, nat_tests); later = λ p v above later. grind (arith, nat_tests) })
-    (record { above = omega arith; itself = refl; history = λ v e. absurd (no e) })
+tidy_is = phone_with tidy.knowledge (record { star = refl; own = λ p n above. grind (arith, nat_tests); later = λ p v above later. grind (arith, nat_tests) }) refl
 
 -- what both hold is of one picture, since they hold nothing of the same version
 camera_may : MayPull camera phone
@@ -95,9 +78,9 @@ pub the_findings : TheFindings
 the_findings = record {
   one_new = record { ready = record { target = camera_is; source = phone_is; may = camera_may }; some = refl };
   one_stale = record { ready = record { target = informed_is; source = tidy_is; may = informed_may }; some = refl };
-  all_known = λ s. no s.some;
-  not_covered = λ s. no s.some;
-  none_held = λ s. no s.some;
+  all_known = λ s. false≢true s.some;
+  not_covered = λ s. false≢true s.some;
+  none_held = λ s. false≢true s.some;
 }
 
 model_shown : (d : Kept) → Shows d (model d)
@@ -111,9 +94,9 @@ new_to_camera tm sm shows_t shows_s =
 
 pub the_wanting : TheWanting
 the_wanting = record {
-  one_new = λ tm sm shows_t shows_s up_to_date taught. no (sym (ap not (new_to_camera tm sm shows_t shows_s)) ∙ (and_parts _ _ up_to_date).0);
+  one_new = λ tm sm shows_t shows_s up_to_date taught. false≢true (sym (ap not (new_to_camera tm sm shows_t shows_s)) ∙ (and_parts _ _ up_to_date).0);
   one_learned = λ tm sm shows_t shows_s up_to_date taught.
-      no (shows_t.known 8 (omega arith) (nth 1 1) ∙ taught (sym (λ i. covers (shows_s.tree i) (shows_t.tree i))) 8 (nth 1 1) (omega arith) (sym (shows_s.known 8 (omega arith) (nth 1 1))));
+      false≢true (shows_t.known 8 (omega arith) (nth 1 1) ∙ taught (sym (λ i. covers (shows_s.tree i) (shows_t.tree i))) 8 (nth 1 1) (omega arith) (sym (shows_s.known 8 (omega arith) (nth 1 1))));
   all_known = λ h. h (model informed) (model phone) (model_shown informed) (model_shown phone) refl all_taught;
-  not_covered = λ h. h (model camera) (model (choosy (emptied phone))) (model_shown camera) (model_shown (choosy (emptied phone))) refl (λ learned p v above known. absurd (no learned));
+  not_covered = λ h. h (model camera) (model (choosy (emptied phone))) (model_shown camera) (model_shown (choosy (emptied phone))) refl (λ learned p v above known. absurd (false≢true learned));
 }

@@ -10,9 +10,8 @@ use Rattle.photo_model.specs.Device.{ModelDevice}
 use Rattle.photo_device.specs.Device.{Kept, Shows, unstaged}
 use Rattle.photo_device.specs.Own.{HasEarlier, IsDevice}
 use Rattle.photo_device.specs.Staging.{HasStaged}
-use Rattle.photo_model.specs.declared.counts.PullCounts.{PullCounts}
 use Rattle.photo_pull.specs.MayPull.{MayPull}
-use Rattle.photo_model.specs.Pull.{is_up_to_date, IsTaughtNothing, pulled, handed_over, counts_of}
+use Rattle.photo_model.specs.Pull.{is_up_to_date, IsTaughtNothing}
 use Rattle.photo_pull.specs.OnHeld.{IsOrdered, is_new, is_dropped, is_over, new_stored, new_waiting, dropped_stored, dropped_waiting, heard, taken_stored, gains, learns, drops}
 use Rattle.photo_pull.specs.declared.delta.PullDelta.{PullDelta}
 
@@ -68,9 +67,3 @@ pub record HasStagedPull (t s new : Kept) : Type 0 where
   pub gain : List Fragment
   pub gained : IsGained t s gain
   pub staged : HasStaged (drops t s) (taken_stored t s) gain (length (new_waiting t s)) t new
-
--- two devices after a pull, and its counts
-pub record HavePulled (t s after_t after_s : Kept) (counts : PullCounts) : Type 0 where
-  pub target : (tm sm : ModelDevice) → Shows t tm → Shows s sm → Shows after_t (pulled tm sm)
-  pub source : (tm sm : ModelDevice) → Shows t tm → Shows s sm → Shows after_s (handed_over tm sm)
-  pub counted : (tm sm : ModelDevice) → Shows t tm → Shows s sm → counts ≡ counts_of tm sm

@@ -1,7 +1,5 @@
 // What a pull finds between a target and a source.
-ghost use Rattle.std.specs.Prelude.{◌≡◌, ◌||◌, true, IfOk, OnErr};
-ghost use Rattle.std.specs.List.{list_any};
-ghost use Rattle.photo_pull.specs.OnHeld.{IsOrdered, new_stored, new_waiting, is_dropped, is_over, dropped_stored, dropped_waiting, learns};
+ghost use Rattle.std.specs.Prelude.{IfOk, OnErr};
 ghost use Rattle.photo_pull.specs.Findings.{AreNews, IsDelta, IsSomething};
 
 use crate::PullCounts;
@@ -24,28 +22,6 @@ pub(crate) struct PullDelta {
     pub handed: Vec<SharedHeld>,
 }
 
-// What the target drops: what the news supersedes and, where the target learns all, what the source gave up.
-fn dropped_for(
-    alloc: Global,
-    news: &Selection,
-    learned: bool,
-    target: &Device,
-    source: &Device,
-) -> Result<Selection, AllocError>
-    requires stored { news.now.stored.items ≡ new_stored target.now source.now }
-    requires waiting { news.now.waiting.items ≡ new_waiting target.now source.now }
-    requires order { IsOrdered news.now }
-    requires learned { learned ≡ learns target.now source.now }
-    ensures stored { IfOk result (λ selection. selection.stored.items ≡ dropped_stored target.now source.now) }
-    ensures waiting { IfOk result (λ selection. selection.waiting.items ≡ dropped_waiting target.now source.now) }
-    ensures order { IfOk result (λ selection. IsOrdered selection) }
-    ensures wanted { OnErr result ((list_any (is_dropped target.now source.now) target.now.store || list_any (is_over target.now source.now) target.now.out) ≡ true) }
-{
-    let stored = dropped_of(alloc, news, learned, source, target.store())?;
-    let waiting = dropped_of(alloc, news, false, source, target.out())?;
-    Ok(Selection { stored, waiting })
-}
-
 /// The delta of a pull with this news. The only error is refused memory.
 pub(crate) fn delta_between(
     alloc: Global,
@@ -58,7 +34,9 @@ pub(crate) fn delta_between(
     ensures wanted { OnErr result (IsSomething target.now source.now) }
 {
     let learned = covers(source.filter(), target.filter());
-    let dropped = dropped_for(alloc, &news, learned, target, source)?;
+    let stored = dropped_of(alloc, &news, learned, source, target.store())?;
+    let waiting = dropped_of(alloc, &news, false, source, target.out())?;
+    let dropped = Selection { stored, waiting };
     let Selection { stored, waiting } = news;
     let heard = heard_of(target.filter(), &dropped, stored);
     Ok(PullDelta {

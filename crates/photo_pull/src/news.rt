@@ -1,18 +1,18 @@
 // The news: what a source holds and a target doesn't know.
 ghost use Rattle.std.specs.Prelude.{◌≡◌, IfOk, OnErr};
-ghost use Rattle.photo_device.specs.Device.{unstaged};
-ghost use Rattle.photo_device.specs.Own.{IsDevice};
 ghost use Rattle.photo_pull.specs.MayPull.{MayPull};
-ghost use Rattle.photo_pull.specs.Findings.{AreNews, IsSomething};
+ghost use Rattle.photo_pull.specs.Findings.{AreReady, AreNews, IsSomething};
 
 use photo_device::{Device, Selection};
 use std::alloc::{AllocError, Global};
 
-// Tells that a device meets the invariant of every device.
-fn is_device(device: &Device)
-    ensures { IsDevice (unstaged device.now) }
+// Tells that two devices meet the invariant of every device.
+fn are_ready(target: &Device, source: &Device)
+    requires { MayPull target.now source.now }
+    ensures { AreReady target.now source.now }
 {
-    let _knowledge = device.knowledge();
+    let _known = target.knowledge();
+    let _taught = source.knowledge();
 }
 
 /// The source's versions that the target doesn't know. The target caches which versions it was found to know; its knowledge
@@ -27,7 +27,7 @@ pub(crate) fn news_of(
     ensures wanted { OnErr result (IsSomething target.old source.now) }
     ensures kept { target.new ≡ target.old }
 {
-    is_device(target);
+    are_ready(target, source);
     let stored = target.unknown_of(alloc, source.store())?;
     let waiting = target.unknown_of(alloc, source.out())?;
     Ok(Selection { stored, waiting })
@@ -43,7 +43,7 @@ pub(crate) fn news_by(
     ensures news { IfOk result (λ news. AreNews target.now source.now news) }
     ensures wanted { OnErr result (IsSomething target.now source.now) }
 {
-    is_device(target);
+    are_ready(target, source);
     let stored = target.unknown_by(alloc, source.store())?;
     let waiting = target.unknown_by(alloc, source.out())?;
     Ok(Selection { stored, waiting })

@@ -15,6 +15,7 @@ use std::alloc::{AllocError, Global};
 ///
 /// The only error is refused memory. No memory is wanted where the target knows all that the source holds, and stores nothing
 /// stale.
+#[tactic(auto, using(crate::proofs::Wanted::out_of_date))]
 pub fn preview(alloc: Global, target: &Device, source: &Device) -> Result<PullCounts, AllocError>
     requires { MayPull target.now source.now }
     ensures counts { IfOk result (λ counts. (t s : ModelDevice) → Shows target.now t → Shows source.now s → counts ≡ counts_of t s) }

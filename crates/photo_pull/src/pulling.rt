@@ -1,16 +1,16 @@
-// A pull, and its steps.
+// A pull.
 ghost use Rattle.std.specs.Prelude.{◌≡◌, None, IfOk, OnOk, OnErr};
 ghost use Rattle.photo_model.specs.Device.{ModelDevice};
 ghost use Rattle.photo_device.specs.Device.{Shows, IsAsItWas};
 ghost use Rattle.photo_pull.specs.MayPull.{MayPull};
 ghost use Rattle.photo_model.specs.Pull.{pulled, handed_over, counts_of};
-ghost use Rattle.photo_pull.specs.Findings.{AreNews, HavePulled, HasToPull};
+ghost use Rattle.photo_pull.specs.Findings.{HasToPull};
 
 use crate::PullCounts;
 use crate::change::stage_found;
 use crate::delta::delta_between;
 use crate::news::news_of;
-use photo_device::{Device, Selection};
+use photo_device::Device;
 use std::alloc::{AllocError, Global};
 
 /// Pulls from the source to the target. The target takes the versions that it doesn't know and that its filter matches,
@@ -40,27 +40,6 @@ pub fn pull(
     target.unstage();
     source.unstage();
     let news = news_of(alloc, target, source)?;
-    let counts = pull_news(alloc, news, target, source)?;
-    Ok(counts)
-}
-
-// Pulls with this news, between two devices with nothing staged.
-fn pull_news(
-    alloc: Global,
-    news: Selection,
-    target: &mut Device,
-    source: &mut Device,
-) -> Result<PullCounts, AllocError>
-    requires news { AreNews target.old source.old news }
-    requires target_unstaged { target.old.staged ≡ None }
-    requires source_unstaged { source.old.staged ≡ None }
-    ensures done { IfOk result (λ counts. HavePulled target.old source.old target.new source.new counts) }
-    ensures wanted { OnErr result (HasToPull target.old source.old) }
-    ensures target_kept { OnErr result (IsAsItWas target.old target.new) }
-    ensures source_kept { OnErr result (IsAsItWas source.old source.new) }
-    ensures target_still { target.new.staged ≡ None }
-    ensures source_still { source.new.staged ≡ None }
-{
     let delta = delta_between(alloc, news, target, source)?;
     let counts = delta.counts(target, source);
     if delta.is_nothing(target.knowledge(), source.knowledge()) {

@@ -36,7 +36,7 @@ impl<'a> SetCursor<'a> {
     }
 
     /// Whether the version is left. The cursor skips the versions before it.
-    #[tactic(auto, using(crate::proofs::Passing::not_before_itself))]
+    #[tactic(auto, using(crate::proofs::Passing::not_before_itself, crate::proofs::Passing::first_found, crate::proofs::Passing::passed_next))]
     pub fn has(&mut self, held: &SharedHeld) -> bool
         requires { are_in_order self.old ≡ true }
         ensures is { result ≡ has_same self.old held.now }

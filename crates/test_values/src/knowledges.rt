@@ -243,18 +243,6 @@ fn table(alloc: Global, vector: &Vector) -> Option<Vec<(PicNo, Vector)>>
     Some(table)
 }
 
-// Whether a knowledge knows what a table tells once it has learned it.
-fn learns_table(alloc: Global, table: &[(PicNo, Vector)]) -> bool
-    requires { in_order table.now ≡ true }
-{
-    match Knowledge::new(alloc) {
-        Ok(mut knowledge) => {
-            knowledge.learn_table(table).is_ok() && has_both_fragments(&knowledge)
-        }
-        Err(_) => false,
-    }
-}
-
 // Whether the knowledge knows what it was told after the commit, and not before.
 fn commits_told(knowledge: &mut Knowledge, told: &Told) -> bool {
     if knowledge.stage_told(told).is_err() || !knowledge.staged() || knowledge.fragments() != 1 {
@@ -276,16 +264,16 @@ fn stages_table(alloc: Global, table: &[(PicNo, Vector)]) -> bool
     }
 }
 
-fn learns_table_of(alloc: Global, vector: &Vector) -> bool {
+fn stages_table_of(alloc: Global, vector: &Vector) -> bool {
     match table(alloc, vector) {
-        Some(table) => learns_table(alloc, &table) && stages_table(alloc, &table),
+        Some(table) => stages_table(alloc, &table),
         None => false,
     }
 }
 
 fn learns_a_table(alloc: Global) -> bool {
     match Vector::new(alloc).with(version(0, 1)) {
-        Ok(vector) => learns_table_of(alloc, &vector),
+        Ok(vector) => stages_table_of(alloc, &vector),
         Err(_) => false,
     }
 }

@@ -1,5 +1,5 @@
 //! Tests of lists that grow, shrink and are searched: their elements and their blocks.
-use block_list::{BlockList, Spot};
+use block_list::{BlockList, Position};
 use std::alloc::{AllocError, Global};
 
 mod rooms;
@@ -179,7 +179,7 @@ fn finds_each(list: &BlockList<u32>) -> bool {
 }
 
 // A hint to the first number that isn't below the wanted one.
-fn spot_of(list: &BlockList<u32>, wanted: u32) -> Spot {
+fn spot_of(list: &BlockList<u32>, wanted: u32) -> Position {
     list.find_failing_at(|item| *item < wanted).1
 }
 

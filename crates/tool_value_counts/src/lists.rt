@@ -1,7 +1,7 @@
 //! Calls on a list of blocks.
 ghost use Rattle.std.specs.Prelude.{◌≤◌, length};
 
-use block_list::{BlockList, Room, Spot};
+use block_list::{BlockList, Position, Reservation};
 use std::alloc::Global;
 
 // The numbers 0 to n - 1.
@@ -63,7 +63,7 @@ fn removes(list: &mut BlockList<u32>, n: u32) -> bool {
     list.remove_range(0, 1);
     list.retain(|x| *x != 1_000);
     let middle = n.saturating_add(1_200);
-    let (taken, _spot) = list.take_near(Spot::start(), |x| *x == middle);
+    let (taken, _spot) = list.take_near(Position::start(), |x| *x == middle);
     taken == Some(middle)
 }
 
@@ -88,7 +88,7 @@ pub fn answer_growing(alloc: Global, times: u32) -> Option<bool> {
     }
 }
 
-fn answer_of_growth(list: BlockList<u32>, room: Room<u32>, times: u32) -> bool
+fn answer_of_growth(list: BlockList<u32>, room: Reservation<u32>, times: u32) -> bool
     requires most { length list ≤ room.most }
     requires more { times ≤ room.more }
 {

@@ -2,7 +2,7 @@
 ghost use Rattle.std.specs.Prelude.{◌<◌, ◌≤◌, length};
 
 use super::{Shape, shape};
-use block_list::{BlockList, Room};
+use block_list::{BlockList, Reservation};
 use std::alloc::{AllocError, Global};
 use std::mem;
 
@@ -28,7 +28,7 @@ fn scattered(alloc: Global, n: u32, end: u32) -> Result<Vec<u32>, AllocError>
 }
 
 /// Inserts the numbers, each at its place in the order.
-fn grow(alloc: Global, list: &mut BlockList<u32>, room: Room<u32>, numbers: &[u32])
+fn grow(alloc: Global, list: &mut BlockList<u32>, room: Reservation<u32>, numbers: &[u32])
     requires most { length list.old ≤ room.most }
     requires more { length numbers.now ≤ room.more }
 {

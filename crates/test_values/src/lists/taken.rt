@@ -1,16 +1,16 @@
 //! Tests of single elements that are taken out of a list, from a hint on.
 use super::{counted, spot_of};
-use block_list::{BlockList, Spot};
+use block_list::{BlockList, Position};
 use std::alloc::Global;
 
 /// Takes out a number that isn't below `least`, searching from the hint on.
-fn takes(list: &mut BlockList<u32>, near: Spot, least: u32) -> (Option<u32>, Spot) {
+fn takes(list: &mut BlockList<u32>, near: Position, least: u32) -> (Option<u32>, Position) {
     list.take_near(near, |item| *item >= least)
 }
 
 /// Takes the numbers from `from` up to before `to` out in order, each with the hint that the last one gave.
 fn takes_in_order(list: &mut BlockList<u32>, from: u32, to: u32) -> bool {
-    let mut near = Spot::start();
+    let mut near = Position::start();
     for wanted in from..to {
         let (taken, further) = takes(list, near, wanted);
         if taken != Some(wanted) {
@@ -23,7 +23,7 @@ fn takes_in_order(list: &mut BlockList<u32>, from: u32, to: u32) -> bool {
 
 /// Takes all numbers below `end` out, the greatest first, each with the hint that the last one gave.
 fn takes_in_falling_order(list: &mut BlockList<u32>, end: u32) -> bool {
-    let mut near = Spot::start();
+    let mut near = Position::start();
     for wanted in (0..end).rev() {
         let (taken, further) = takes(list, near, wanted);
         if taken != Some(wanted) {
@@ -48,9 +48,9 @@ fn loses_some(list: &mut BlockList<u32>) -> bool {
         && takes(list, behind, 0).0 == Some(381)
         && takes(list, beyond, 700).0 == Some(700)
         && takes(list, behind, 1_000).0.is_none()
-        && takes(list, Spot::start(), 98).0 == Some(98)
-        && takes(list, Spot::start(), 98).0 == Some(99)
-        && takes(list, Spot::start(), 98).0 == Some(300)
+        && takes(list, Position::start(), 98).0 == Some(98)
+        && takes(list, Position::start(), 98).0 == Some(99)
+        && takes(list, Position::start(), 98).0 == Some(300)
         && has(list, 795, 7)
 }
 
@@ -70,7 +70,7 @@ fn is_emptied(alloc: Global, falls: bool, in_order: bool) -> bool {
             } else {
                 takes_in_falling_order(&mut list, 1_000)
             };
-            all && has(&list, 0, 0) && takes(&mut list, Spot::start(), 0).0.is_none()
+            all && has(&list, 0, 0) && takes(&mut list, Position::start(), 0).0.is_none()
         }
         Err(_) => false,
     }

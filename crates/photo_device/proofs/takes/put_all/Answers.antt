@@ -1,10 +1,5 @@
-use Rattle.std.proofs.Common.{arith}
-use Rattle.std.proofs.lemmas.Grind.{common_steps}
-use Rattle.photo_device.proofs.Taken.{none_taken, has_room, one_taken, all_taken}
+use Rattle.photo_device.proofs.Taken.{has_room, one_taken}
 use Rattle.photo_device.proofs.takes.put_all.Goals as goal
-
-pub loop-held-init : goal.loop-held-init
-loop-held-init c = grind (arith, common_steps, none_taken)
 
 pub put_one-requires-clause-store : goal.put_one-requires-clause-store
 put_one-requires-clause-store c = has_room _ _ _ _ _ _ (rw c.in-Some.ensures.steps.0 at c.loop-held.invariant.0)
@@ -16,6 +11,3 @@ pub loop-held-preserved : goal.loop-held-preserved
 loop-held-preserved c =
     let are = rw c.in-Some.ensures.steps.0 at c.loop-held.invariant in
     (one_taken _ _ _ _ _ _ _ are.0 c.put_one.ensures.store, one_taken _ _ _ _ _ _ _ are.1 c.put_one.ensures.out)
-
-pub returns : goal.returns
-returns c = grind (arith, common_steps, all_taken)

@@ -1,6 +1,4 @@
-use Rattle.std.proofs.Common.{arith}
-use Rattle.std.proofs.lemmas.Grind.{common_steps}
-use Rattle.photo_device.proofs.Taken.{first_fits, then_fits, both_taken}
+use Rattle.photo_device.proofs.Taken.{first_fits, then_fits}
 use Rattle.photo_device.proofs.takes.take_in.Goals as goal
 
 pub put_all-requires : goal.put_all-requires
@@ -14,6 +12,3 @@ put_all-requires-2 c = record {
   store = then_fits _ _ _ _ _ _ _ c.requires.store c.open-stored.ensures.items c.open-stored.ensures.more c.put_all.ensures.store;
   out = then_fits _ _ _ _ _ _ _ c.requires.out c.open-waiting.ensures.items c.open-waiting.ensures.more c.put_all.ensures.out;
 }
-
-pub returns : goal.returns
-returns c = grind (arith, common_steps, both_taken)

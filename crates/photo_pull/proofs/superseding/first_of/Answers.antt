@@ -1,9 +1,10 @@
 use Rattle.std.proofs.Common.{◌<◌, ltb, get_or, ℕ, rules, arith}
 use Rattle.std.proofs.lemmas.Bool.{ltb-true}
+use Rattle.std.proofs.lemmas.Bool.Decides.{nat_tests}
 use Rattle.std.proofs.lemmas.List.Sorted.{IsPartitionedBy-ltb, IsPartitionPoint-from_clause}
 use Rattle.photo_device.specs.declared.held.Held.{Held}
 use Rattle.photo_device.proofs.Order.{rises}
-use Rattle.photo_pull.proofs.Along.{above_of, below_of, behind}
+use Rattle.photo_pull.proofs.Along.{behind}
 use Rattle.photo_pull.proofs.superseding.first_of.Goals as goal
 
 pub returns : goal.returns
@@ -13,6 +14,6 @@ returns c =
     let less = IsPartitionPoint-from_clause (λ (h : Held). ltb h.picture p) xs c.partition_point.result c.partition_point.ensures.partitioned (IsPartitionedBy-ltb (λ (h : Held). h.picture) xs p (rises xs c.requires)) (λ a r f h. search rules) in
     let before : (i : ℕ) (d : Held) → i < c.partition_point.result → (get_or xs i d).picture < p = λ i d l. ltb-true _ _ (less.0 i d (omega arith) l) in
     record {
-      above = λ h from. behind h.picture _ (above_of h) xs c.partition_point.result h (λ i l. omega (arith, before i h l));
-      below = λ w from. behind w.picture _ (below_of w) xs c.partition_point.result w (λ i l. omega (arith, before i w l));
+      above = λ h from. behind _ xs c.partition_point.result (λ i d l. let less = before i d l in grind (arith, nat_tests));
+      below = λ w from. behind _ xs c.partition_point.result (λ i d l. let less = before i d l in grind (arith, nat_tests));
     }

@@ -1,5 +1,4 @@
-use Rattle.std.proofs.Common.{◌≡◌, true, not, ◌∷◌, ◌++◌, arith}
-use Rattle.std.specs.Prelude.{filter}
+use Rattle.std.proofs.Common.{not, arith}
 use Rattle.std.proofs.lemmas.Grind.{common_steps}
 use Rattle.item_knowledge.specs.Fragments.{knows}
 use Rattle.photo_device.specs.declared.held.Held.{Held}
@@ -11,16 +10,8 @@ returns-clause-ordered c = grind (arith, common_steps, in_order-filter)
 
 pub returns-in_err-try_clone-clause-wanted : goal.returns-in_err-try_clone-clause-wanted
 returns-in_err-try_clone-clause-wanted c =
-    let is_new = λ (h : Held). not (knows c.args.self.now.known h.picture h.version) in
-    let so_far : c.loop-held.found.items ++ filter is_new c.loop-held.held-iterator ≡ filter is_new c.args.set.now = rw (← c.self.view_is) c.loop-held.invariant in
-    let next : c.loop-held.held-iterator ≡ c.in-Some.held.now ∷ c.next.new.self = grind (arith, common_steps) in
-    let new : is_new c.in-Some.held.now ≡ true = grind (arith, common_steps) in
-    one_passes _ is_new c.args.set.now _ _ _ _ so_far next new
+    one_passes _ (λ (h : Held). not (knows c.args.self.now.known h.picture h.version)) c.args.set.now c.loop-held.found.items c.loop-held.held-iterator c.next.new.self c.in-Some.held.now (rw (← c.self.view_is) c.loop-held.invariant) (grind (arith, common_steps)) (grind (arith, common_steps))
 
 pub returns-in_err-push-clause-wanted : goal.returns-in_err-push-clause-wanted
 returns-in_err-push-clause-wanted c =
-    let is_new = λ (h : Held). not (knows c.args.self.now.known h.picture h.version) in
-    let so_far : c.loop-held.found.items ++ filter is_new c.loop-held.held-iterator ≡ filter is_new c.args.set.now = rw (← c.self.view_is) c.loop-held.invariant in
-    let next : c.loop-held.held-iterator ≡ c.in-Some.held.now ∷ c.next.new.self = grind (arith, common_steps) in
-    let new : is_new c.in-Some.held.now ≡ true = grind (arith, common_steps) in
-    one_passes _ is_new c.args.set.now _ _ _ _ so_far next new
+    one_passes _ (λ (h : Held). not (knows c.args.self.now.known h.picture h.version)) c.args.set.now c.loop-held.found.items c.loop-held.held-iterator c.next.new.self c.in-Some.held.now (rw (← c.self.view_is) c.loop-held.invariant) (grind (arith, common_steps)) (grind (arith, common_steps))

@@ -1,15 +1,11 @@
-use Rattle.std.proofs.Common.{arith, sym, ap, ◌∙◌, subst}
+use Rattle.std.proofs.Common.{sym, ap, ◌∙◌, subst}
 use Rattle.photo_version.specs.Version.{Version}
-use Rattle.std.proofs.lemmas.Grind.{common_steps}
 use Rattle.photo_device.specs.Device.{Kept}
 use Rattle.photo_device.specs.Own.{IsNext}
-use Rattle.photo_device.proofs.OwnLemmas.{next_known, has_made, next_unstaged}
+use Rattle.photo_device.proofs.OwnLemmas.{next_unstaged}
 use Rattle.photo_device.proofs.Changed.{makes_device}
 use Rattle.photo_device.proofs.Staged.{none_prepared}
 use Rattle.photo_device.proofs.device.Device.add.Goals as goal
-
-pub hold_next-requires : goal.hold_next-requires
-hold_next-requires c = grind (arith, common_steps, next_known)
 
 pub invariant_of-self : goal.invariant_of-self
 invariant_of-self c = rw (c.in_err-hold_next.ensures.store_kept, c.in_err-hold_next.ensures.out_kept, c.in_err-hold_next.ensures.known_kept, c.reserve.ensures) c.self.invariant
@@ -21,6 +17,3 @@ invariant_of-self-2 c =
     let is = rw c.reserve.ensures at c.in_ok-hold_next.ensures.ok in
     let none = none_prepared c.self.inside.prepared c.self.inside.knowledge.staged (ap (λ (d : Kept). d.staged) c.self.view_is ∙ c.requires.unstaged) in
     rw (none, counter, is.store, is.out) (record { device = makes_device c.args.place c.args.held _ c.hold_next.new.knowledge.known (next_unstaged c.args.held _ next) is.learned c.self.invariant.device; fits = is.staged })
-
-pub returns-clause-ok : goal.returns-clause-ok
-returns-clause-ok c = grind (arith, common_steps, has_made, none_prepared)

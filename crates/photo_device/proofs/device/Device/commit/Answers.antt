@@ -1,14 +1,15 @@
 use Rattle.std.proofs.Common.{◌≡◌, refl, sym, ap, ◌∙◌, arith}
 use Rattle.std.specs.Prelude.{Some}
 use Rattle.photo_device.specs.Held.{helds_without, versions_of}
-use Rattle.photo_device.proofs.Staged.{committing, held_once, both_fit, gone_of_store, gone_of_out, commits, known_after, shows_after}
+use Rattle.photo_device.proofs.Counts.{count_of-append}
+use Rattle.photo_device.proofs.Staged.{committing, both_fit, gone_of_store, gone_of_out, commits, known_after, shows_after}
 use Rattle.photo_device.proofs.device.Device.commit.Goals as goal
 
 pub give_up-requires : goal.give_up-requires
-give_up-requires c = λ v. omega (arith, held_once _ _ _ _ (committing _ _ _ c.args.handed.items _ _ (sym c.take.ensures.value ∙ c.in-Some.is) c.self.view_is c.self.invariant c.requires.handed) v)
+give_up-requires c = λ v. omega (arith, c.self.invariant.device.once v, count_of-append)
 
 pub give_up-requires-2 : goal.give_up-requires-2
-give_up-requires-2 c = λ v. omega (arith, held_once _ _ _ _ (committing _ _ _ c.args.handed.items _ _ (sym c.take.ensures.value ∙ c.in-Some.is) c.self.view_is c.self.invariant c.requires.handed) v)
+give_up-requires-2 c = λ v. omega (arith, c.self.invariant.device.once v, count_of-append)
 
 pub take_in-requires : goal.take_in-requires
 take_in-requires c =

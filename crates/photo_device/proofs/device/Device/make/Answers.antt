@@ -1,5 +1,4 @@
-use Rattle.std.proofs.Common.{arith, ap, ◌∙◌, subst}
-use Rattle.std.proofs.lemmas.Grind.{common_steps}
+use Rattle.std.proofs.Common.{ap, ◌∙◌, subst}
 use Rattle.photo_device.specs.declared.held.Held.{Held}
 use Rattle.photo_model.specs.declared.place.Place.{Place}
 use Rattle.photo_device.specs.Own.{HasMade}
@@ -8,9 +7,6 @@ use Rattle.photo_device.specs.Device.{Kept, Shows}
 use Rattle.photo_device.proofs.Shown.{shows_made}
 use Rattle.photo_device.proofs.Staged.{shows_unstaged}
 use Rattle.photo_device.proofs.device.Device.make.Goals as goal
-
-pub add-requires-clause-next : goal.add-requires-clause-next
-add-requires-clause-next c = grind (arith, common_steps)
 
 pub returns-clause-shows : goal.returns-clause-shows
 returns-clause-shows c = λ m shows.

@@ -1,12 +1,8 @@
-use Rattle.std.proofs.Common.{◌-◌, length, arith, ap, ◌∙◌}
-use Rattle.std.proofs.lemmas.Grind.{common_steps}
+use Rattle.std.proofs.Common.{◌-◌, length, ap, ◌∙◌}
 use Rattle.photo_device.specs.Device.{Kept}
-use Rattle.photo_device.proofs.Changed.{shorter, narrows_device, shows_narrowed, moved_away}
+use Rattle.photo_device.proofs.Changed.{narrows_device, shows_narrowed, moved_away}
 use Rattle.photo_device.proofs.Staged.{shows_unstaged, none_fits}
 use Rattle.photo_device.proofs.device.Device.narrow.Goals as goal
-
-pub overflow_sub-gone : goal.overflow_sub-gone
-overflow_sub-gone c = grind (arith, common_steps, shorter)
 
 pub invariant_of-self-2 : goal.invariant_of-self-2
 invariant_of-self-2 c =

@@ -1,9 +1,9 @@
 use Rattle.std.proofs.Common.{◌≡◌, ◌+◌, ◌∙◌, [], ap, arith, append-nil}
 use Rattle.std.proofs.lemmas.Grind.{common_steps}
 use Rattle.block_list.specs.Blocks.{joined, start_of}
-use Rattle.block_list.specs.Room.{Growing}
+use Rattle.block_list.specs.Reservation.{Growing}
 use Rattle.block_list.proofs.Turn.{replaced}
-use Rattle.block_list.proofs.room.Roomy.insert_behind.Goals as goal
+use Rattle.block_list.proofs.reservation.GrowingList.insert_behind.Goals as goal
 
 pub returns-then-not-is_empty-clause-list : goal.returns-then-not-is_empty-clause-list
 returns-then-not-is_empty-clause-list g c = λ p h parts.

@@ -1,10 +1,10 @@
-//! Room that is reserved before a list grows, and a list that grows in it.
+//! Reservation that is reserved before a list grows, and a list that grows in it.
 ghost use Rattle.std.specs.Prelude.{◌≡◌, ◌+◌, ◌<◌, Bool, [], ◌++◌};
 ghost use Rattle.std.specs.List.Sorted.{IsPartitionedBy};
 ghost use Rattle.std.specs.Fn.{ComputesKey};
 ghost use Rattle.block_list.specs.Blocks.{joined, IsReplaced};
-ghost use Rattle.block_list.specs.Room.{Reserved, Growing};
-ghost use Rattle.block_list.specs.Spares.{HasRoom, IsRoomy};
+ghost use Rattle.block_list.specs.Reservation.{Reserved, Growing};
+ghost use Rattle.block_list.specs.Spares.{HasRoom, IsGrowingList};
 
 use crate::BlockList;
 use crate::placed::{place_first, place_in, place_within};
@@ -12,11 +12,11 @@ use crate::search::spot_of;
 use crate::spare::gather;
 use std::marker::Model;
 
-/// Room that is reserved before a list grows, so that growing takes no memory.
+/// Reservation that is reserved before a list grows, so that growing takes no memory.
 ///
 /// Contracts see two numbers: `most`, how many elements the list may have when it is opened, and `more`, how many may come.
 #[derive(Debug, Drop)]
-pub struct Room<T> {
+pub struct Reservation<T> {
     // Blocks to be put between others, and an empty block with room for all elements.
     pub(crate) spare: Vec<Vec<T>>,
     pub(crate) whole: Vec<T>,
@@ -24,7 +24,7 @@ pub struct Room<T> {
     pub(crate) more: usize,
 }
 
-impl<T> Model for Room<T> {
+impl<T> Model for Reservation<T> {
     ghost Value = { Reserved };
 
     ghost view = { λ r. record { most = r.most; more = r.more } };
@@ -34,7 +34,7 @@ impl<T> Model for Room<T> {
 
 /// A list with room for new elements. Contracts see its elements, and how many more there is room for.
 #[derive(Debug, Drop)]
-pub struct Roomy<T> {
+pub struct GrowingList<T> {
     // The elements are in blocks; after the spare blocks ran out, all are in the block with room for them.
     pub(crate) blocks: Vec<Vec<T>>,
     pub(crate) spare: Vec<Vec<T>>,
@@ -43,15 +43,15 @@ pub struct Roomy<T> {
     pub(crate) more: usize,
 }
 
-impl<T> Model for Roomy<T> {
+impl<T> Model for GrowingList<T> {
     ghost Value = { Growing T };
 
     ghost view = { λ r. record { items = r.whole.items ++ joined r.blocks.items; more = r.more } };
 
-    ghost invariant = { λ r. IsRoomy r.blocks.items r.spare r.whole r.len r.more };
+    ghost invariant = { λ r. IsGrowingList r.blocks.items r.spare r.whole r.len r.more };
 }
 
-impl<T: Drop> Roomy<T> {
+impl<T: Drop> GrowingList<T> {
     /// Inserts an element behind those that pass the test. In the list, those that pass must stand before those that
     /// fail. Takes no memory.
     pub fn insert_behind<P: Fn(&T) -> bool>(&mut self, before: P, item: T)

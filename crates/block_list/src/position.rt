@@ -1,13 +1,13 @@
 /// Where a search in a list ended: a hint for the next search, with no other meaning.
 #[derive(Clone, Copy, Debug)]
-pub struct Spot {
+pub struct Position {
     pub(crate) block: usize,
     pub(crate) place: usize,
 }
 
-impl Spot {
+impl Position {
     /// The hint before any search.
-    pub fn start() -> Spot {
-        Spot { block: 0, place: 0 }
+    pub fn start() -> Position {
+        Position { block: 0, place: 0 }
     }
 }
