@@ -1,4 +1,4 @@
--- Reservation for new elements.
+-- Memory reserved for new elements.
 use Rattle.std.specs.Prelude.{ℕ, List}
 
 -- reserved room: how many elements the list may have when it is opened, and how many may come

@@ -1,4 +1,4 @@
-//! Reservation that is reserved before a list grows, and a list that grows in it.
+//! Memory that is reserved before a list grows, and a list that grows in it.
 ghost use Rattle.std.specs.Prelude.{◌≡◌, ◌+◌, ◌<◌, Bool, [], ◌++◌};
 ghost use Rattle.std.specs.List.Sorted.{IsPartitionedBy};
 ghost use Rattle.std.specs.Fn.{ComputesKey};
@@ -12,7 +12,7 @@ use crate::search::spot_of;
 use crate::spare::gather;
 use std::marker::Model;
 
-/// Reservation that is reserved before a list grows, so that growing takes no memory.
+/// Memory that is reserved before a list grows, so that growing takes none.
 ///
 /// Contracts see two numbers: `most`, how many elements the list may have when it is opened, and `more`, how many may come.
 #[derive(Debug, Drop)]
