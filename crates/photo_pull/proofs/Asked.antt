@@ -1,8 +1,8 @@
 -- What a change of the target asks of what it gives up, takes and learns; it may be staged, and is committed with what the source handed over.
-use Rattle.std.proofs.Common.{◌≡◌, ℕ, ◌+◌, ◌<◌, ◌≤◌, Bool, true, ◌&&◌, ◌||◌, List, ◌++◌, Option, Some, None, refl, sym, ap, ◌∙◌, inl, inr, length, arith, subst}
+use Rattle.std.proofs.Common.{◌≡◌, ℕ, ◌+◌, ◌<◌, ◌≤◌, Bool, true, false, ◌&&◌, ◌||◌, List, [], ◌∷◌, ◌++◌, Option, Some, None, refl, sym, ap, ◌∙◌, inl, inr, length, arith, subst}
 use Rattle.std.specs.Prelude.{filter, not, Option, IfSome, is_some}
 use Rattle.std.specs.Option.{is_some}
-use Rattle.std.specs.List.{AllByRecursion}
+use Rattle.std.specs.List.{AllByRecursion, list_any}
 use Rattle.std.proofs.lemmas.Bool.{cases_Bool, or_left, or_right, not-true}
 use Rattle.std.proofs.lemmas.Bool.Decides.{nat_tests}
 use Rattle.std.proofs.Math.Bool.{or-true}
@@ -17,7 +17,7 @@ use Rattle.photo_device.specs.Telling.{tells}
 use Rattle.photo_device.specs.Staging.{HasStaged, MayHand, MayStage, versions_in}
 use Rattle.photo_model.proofs.AllLemmas.{all_append, all_filter}
 use Rattle.photo_device.proofs.Changed.{all_new}
-use Rattle.photo_device.proofs.Counts.{count_of-append, count_of-filter, same_version_self, same_version_is, not_found, none_there}
+use Rattle.photo_device.proofs.Counts.{count_of-append, count_of-filter, same_version_self, same_version_is}
 use Rattle.photo_device.proofs.OwnLemmas.{no_more_of, known_later, all_of as all_weaker}
 use Rattle.photo_device.proofs.TellingLemmas.{told_known, known_told}
 use Rattle.photo_device.proofs.Staged.{shows_alike}
@@ -28,6 +28,11 @@ use Rattle.photo_model.specs.Pull.{pulled}
 use Rattle.photo_pull.proofs.Members.{In, in_left, in_right, in_filtered, in_any, all_of, none_in}
 use Rattle.photo_pull.proofs.Told.{known_here, same_picture}
 use Rattle.photo_pull.proofs.Shown.{takes, shows_pulled}
+
+-- a version that none of a list is isn't found there
+not_found : (v : Version) (xs : List Held) → list_any (λ h. same_version h.version v) xs ≡ false → find_version v xs ≡ None
+not_found v [] none = refl
+not_found v (x ∷ xs) none = grind (arith, nat_tests, not_found v xs)
 
 -- what holds of all that the source holds, holds of what the target hears of
 all_heard : (P : Held → Type 0) (t s : Kept) → AllByRecursion P s.store → AllByRecursion P (heard t s)
@@ -48,14 +53,14 @@ module _ (t s : Kept) (ready : AreReady t s) where
   all_fresh xs held = all_of _ _ (λ w here.
       let from = in_filtered (is_new t.knowledge) w xs here in
       let unknown = not-true (knows t.knowledge w.picture w.version) from.1 in
-      not_found w.version _ (none_there w.version _ (none_in (λ g. same_version g.version w.version) (t.store ++ t.out) (λ g there. elim (cases_Bool (same_version g.version w.version)) [
+      not_found w.version _ (none_in (λ g. same_version g.version w.version) (t.store ++ t.out) (λ g there. elim (cases_Bool (same_version g.version w.version)) [
         | inl same ↦
             let is = same_version_is g.version w.version same in
             let picture = same_picture t s ready g w there (held w from.0) (sym is) in
             let known = (known_here t ready.target g there).itself in
             absurd (cc)
         | inr other ↦ other
-      ]))))
+      ])))
 
   pub taken_new : AllByRecursion (λ h. find_version h.version (t.store ++ t.out) ≡ None) (taken_stored t s)
   taken_new = all_filter _ (is_selected t.tree) (heard t s) (all_filter _ (is_heard t s) (new_stored t s) (all_fresh s.store (λ w. in_left w s.store s.out)))
