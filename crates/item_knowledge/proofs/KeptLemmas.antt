@@ -126,12 +126,6 @@ within_pairs rows others xs ys h g =
 
 -- The star's next version
 
--- what the star has is known of every picture
-pub star_has : (rows : List (List ℕ)) (xs : List (ℕ × ℕ)) (now : List Fragment) (p : ℕ) (v : Version) → IsKept rows xs → fragments_of rows ≡ now → 0 < v.number → 0 < p → leb v.number (bound (entries_at now 0) (author_word v.author)) ≡ true → knows now p v ≡ true
-star_has rows xs now p v h is above z l =
-    let normal = subst (λ fs. is_normal fs ≡ true) is h.normal in
-    (star_of_every now normal v).0 (grind (arith, nat_tests, denotes-bound (entries_at now 0) v (star_vector now normal))) p z
-
 -- an author's versions up to the next one are those that the star has, and the next one
 pub next_known : (fs : List Fragment) (w : Version) (p : ℕ) (v : Version) → is_normal fs ≡ true → 0 < p → w.number ≡ star_bound fs w.author + 1 → (knows fs p v || denotes ((author_word w.author, w.number) ∷ []) v) ≡ (knows fs p v || same_version w v)
 next_known fs w p v h z e =

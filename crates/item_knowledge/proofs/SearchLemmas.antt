@@ -1,8 +1,9 @@
 -- Searches in tables.
 use Rattle.std.proofs.Common.{◌≡◌, ℕ, zero, suc, ◌+◌, ◌<◌, ◌≤◌, true, ltb, List, [], ◌∷◌, length, get_or, drop, refl, subst, ap, ◌∙◌, inl, inr, arith}
-use Rattle.std.proofs.lemmas.Bool.{and_parts, ltb-true, cases_lt}
+use Rattle.std.proofs.lemmas.Bool.{and_parts, ltb-true, cases_lt, cases_eq}
 use Rattle.std.proofs.lemmas.Bool.Decides.{nat_tests}
 use Rattle.std.proofs.lemmas.List.{drop_all}
+use Rattle.item_knowledge.specs.Rows.{IsPlaceOf}
 use Rattle.item_knowledge.specs.Searching.{AreBelow, IsBetween}
 use Rattle.item_knowledge.specs.Tables.{keys_pass, in_order, at, merge}
 use Rattle.item_knowledge.proofs.MergeLemmas.{drop_next, all_at}
@@ -29,6 +30,16 @@ absent_at (x ∷ xs) p (suc i) o h n =
     let less = h.below 0 (omega arith) in
     let rest : IsBetween p xs i i = record { below = λ k g. h.below (suc k) (omega arith); from = λ k g m. h.from (suc k) (omega arith) (omega arith) } in
     grind (arith, nat_tests, absent_at xs p i (and_parts (keys_pass (λ k. ltb x.0 k) xs) (in_order xs) o).1 rest (λ l. n (omega arith)))
+
+-- where no key before a place reaches one that counts, and none from it on is smaller, the place is its own
+pub place_there : (xs : List (ℕ × ℕ)) (p i : ℕ) → in_order xs ≡ true → IsBetween p xs i i → 0 < at 0 xs p → IsPlaceOf xs i p
+place_there xs p i o h some = elim (cases_lt i (length xs)) [
+  | inr over ↦ let none = absent_at xs p i o h (λ l. absurd (omega arith)) in absurd (omega arith)
+  | inl l ↦ elim (cases_eq (get_or xs i (0, 0)).0 p) [
+    | inl same ↦ record { inside = l; key_is = same }
+    | inr other ↦ let none = absent_at xs p i o h (λ _. other) in absurd (omega arith)
+  ]
+]
 
 -- where a place has a smaller key, all up to it are smaller
 pub below_to : (xs : List (ℕ × ℕ)) (key place : ℕ) → in_order xs ≡ true → place < length xs → (get_or xs place (0, 0)).0 < key → AreBelow key xs (place + 1)

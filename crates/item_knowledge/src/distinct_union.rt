@@ -19,7 +19,7 @@ use crate::join::join;
 use crate::operand::Operand;
 use crate::picture_cursor::{PictureCursor, pictures_together};
 use crate::rows::Rows;
-use crate::search::{NO_HINT, bound_near, entry_at, entry_count};
+use crate::search::{bound_of, entry_at, entry_count};
 use crate::union::{begin, entries, pair};
 use crate::vector_index::VectorIndex;
 use std::alloc::{AllocError, Global};
@@ -40,12 +40,9 @@ fn exceeds(row: &[u64], star: &[u64]) -> bool
     requires star { in_order (pairs star.now) ≡ true }
     ensures { result ≡ exceeds_all (pairs star.now) (pairs row.now) }
 {
-    let mut hint = 0;
     for i in 0..entry_count(row) {
         let (author, n) = entry_at(row, i);
-        let (least, next) = bound_near(star, hint, author);
-        hint = next;
-        if n <= least {
+        if n <= bound_of(star, author) {
             return false;
         }
     }
@@ -62,12 +59,9 @@ fn adds_nothing(row: &[u64], other: &[u64], star: &[u64]) -> bool
     requires star { in_order (pairs star.now) ≡ true }
     ensures { result ≡ is_covered (pairs star.now) (pairs other.now) (pairs row.now) }
 {
-    let mut hint = 0;
     for i in 0..entry_count(row) {
         let (author, n) = entry_at(row, i);
-        let (most, next) = bound_near(other, hint, author);
-        hint = next;
-        if n > most && n > bound_near(star, NO_HINT, author).0 {
+        if n > bound_of(other, author) && n > bound_of(star, author) {
             return false;
         }
     }

@@ -6,7 +6,7 @@ ghost use Rattle.item_knowledge.specs.Excess.{exceeding};
 ghost use Rattle.item_knowledge.specs.EntryCursor as spec;
 ghost use Rattle.item_knowledge.specs.Rows.{pairs, IsRow};
 
-use crate::search::{bound_near, entry_at, entry_count};
+use crate::search::{bound_of, entry_at, entry_count};
 use std::alloc::AllocError;
 
 /// A cursor along two rows of entries at once: the place of the next entry in each.
@@ -89,11 +89,8 @@ pub(crate) fn join(
     out.clear();
     out.reserve(xs.len().saturating_add(ys.len()))?;
     let mut cursor = EntryCursor::new();
-    let mut hint = 0;
     while let Some((author, n)) = cursor.next(xs, ys) {
-        let (least, next) = bound_near(star, hint, author);
-        hint = next;
-        if least < n {
+        if bound_of(star, author) < n {
             out.push(author)?;
             out.push(n)?;
         }

@@ -2,7 +2,7 @@
 use crate::Fragment;
 use crate::index::IndexEntry;
 use crate::knowledge_rows::{KnowledgeRows, is_within};
-use crate::search::{NO_HINT, number_near};
+use crate::search::number_of;
 use crate::told::Told;
 use photo_record::PicNo;
 use photo_version::{Vector, Version};
@@ -84,28 +84,12 @@ impl Knowledge {
     }
 
     /// Whether the version is known of the picture. Takes no memory.
-    #[tactic(auto, using(crate::proofs::KeptLemmas::number_known, crate::proofs::KeptLemmas::has_known, crate::proofs::KeptLemmas::star_has))]
+    #[tactic(auto, using(crate::proofs::KeptLemmas::number_known, crate::proofs::KeptLemmas::has_known))]
     pub fn knows(&self, picture: PicNo, version: Version) -> bool
         ensures { result ≡ spec.knows self.now.known picture version }
     {
-        // A field is read because the proof then knows the invariant: there is a star.
-        let _index = &self.index;
-        if self.has_at(0, version) {
-            return true;
-        }
-        let (number, _place) = number_near(&self.index, NO_HINT, picture.value());
+        let number = number_of(&self.index, picture.value());
         self.has_at(number, version)
-    }
-
-    /// Whether the version is known of the picture, and a hint for the next question. Takes no memory. The answer is right with
-    /// any hint. It takes little work if pictures are asked in rising order, each with the hint of the question before.
-    #[tactic(auto, using(crate::proofs::KeptLemmas::number_known, crate::proofs::KeptLemmas::has_known))]
-    #[inline(always)]
-    pub fn knows_near(&self, hint: usize, picture: PicNo, version: Version) -> (bool, usize)
-        ensures { result.0 ≡ spec.knows self.now.known picture version }
-    {
-        let (number, next) = number_near(&self.index, hint, picture.value());
-        (self.has_at(number, version), next)
     }
 
     // Whether the fragment of a number has a version. Each fragment has all that the star has.
@@ -160,7 +144,7 @@ impl Knowledge {
     pub fn of(&self, picture: PicNo) -> Result<Vector, AllocError>
         ensures { IfOk result (λ vector. (v : versions.Version) → vectors.denotes vector v ≡ spec.knows self.now.known picture v) }
     {
-        let (number, _place) = number_near(&self.index, NO_HINT, picture.value());
+        let number = number_of(&self.index, picture.value());
         self.live.fragment(number).vector(self.alloc)
     }
 

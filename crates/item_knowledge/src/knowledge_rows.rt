@@ -11,7 +11,7 @@ use crate::index::IndexEntry;
 use crate::join::join;
 use crate::operand::Operand;
 use crate::rows::Rows;
-use crate::search::{NO_HINT, bound_near, entry_at, entry_count, number_near};
+use crate::search::{bound_of, entry_at, entry_count, entry_place, number_of};
 use crate::union::{begin, entries, union};
 use std::alloc::{AllocError, Global};
 use std::marker::Model;
@@ -105,12 +105,11 @@ impl KnowledgeRows {
         requires order { in_order (entries_at (fragments_of self.now) k) ≡ true }
         ensures { result ≡ bound (entries_at (fragments_of self.now) k) author }
     {
-        let (beyond, _place) = bound_near(entries(&self.rows, k), 0, author);
+        let beyond = bound_of(entries(&self.rows, k), author);
         if beyond > 0 {
             return beyond;
         }
-        let (bound, _behind) = bound_near(&self.star, NO_HINT, author);
-        bound
+        bound_of(&self.star, author)
     }
 
     /// Fragment number `k`. It is lent, and nothing is copied.
@@ -181,7 +180,7 @@ impl KnowledgeRows {
         requires waiting { IsWaiting (author, n) (fragments_of self.old) }
         ensures { self.new ≡ rows_of (all_raised (author, n) (fragments_of self.old)) }
     {
-        let (_bound, place) = bound_near(&self.star, NO_HINT, author);
+        let place = entry_place(&self.star, author);
         self.star[2 * place + 1] = n;
     }
 
@@ -265,12 +264,10 @@ pub(crate) fn is_within(
     if !rows.is_star_leq(others) {
         return false;
     }
-    let mut hint = 0;
     for i in 0..index.len() {
         let (picture, own) = index[i];
         let number = own as usize;
-        let (other, next) = number_near(others_index, hint, picture);
-        hint = next;
+        let other = number_of(others_index, picture);
         if !rows.is_leq(number, others, other) {
             return false;
         }

@@ -136,14 +136,12 @@ impl CachedKnowledge {
         ensures kept { self.new ≡ self.old }
     {
         let mut found = Vec::new(alloc);
-        let mut hint = 0;
         for held in set.iter() {
             let (picture, version) = (held.picture(), held.version());
             if self.cache.has(picture, version) {
                 continue;
             }
-            let (known, next) = self.knowledge.knows_near(hint, picture, version);
-            hint = next;
+            let known = self.knowledge.knows(picture, version);
             self.cache.reserve(version);
             if !known {
                 found.push(held.try_clone()?)?;
@@ -162,15 +160,12 @@ impl CachedKnowledge {
         ensures wanted { OnErr result (list_any (λ h. not (knows self.now.known h.picture h.version)) set.now ≡ true) }
     {
         let mut found = Vec::new(alloc);
-        let mut hint = 0;
         for held in set.iter() {
             let (picture, version) = (held.picture(), held.version());
             if self.cache.has(picture, version) {
                 continue;
             }
-            let (known, next) = self.knowledge.knows_near(hint, picture, version);
-            hint = next;
-            if !known {
+            if !self.knowledge.knows(picture, version) {
                 found.push(held.try_clone()?)?;
             }
         }

@@ -13,13 +13,12 @@ use photo_device::{Device, HeldSet, Selection, SharedHeld};
 use photo_filter_rules::Filter;
 use std::alloc::{AllocError, Global};
 
-// The cursors beside the versions of a set, which are visited in their order: the range of pictures without news, a cursor
-// along the device's store, and a hint where to search its knowledge. Any hint will do.
+// The cursors beside the versions of a set, which are visited in their order: the range of pictures without news, and a cursor
+// along the device's store.
 #[derive(Drop)]
 struct Cursors<'a> {
     quiet: QuietRange,
     kept: SetCursor<'a>,
-    known: usize,
 }
 
 // Whether the device knows the version, and the cursor along its store doesn't find it.
@@ -32,11 +31,7 @@ fn has_given_up(device: &Device, beside: &mut Cursors<'_>, held: &SharedHeld) ->
     if beside.kept.has(held) {
         return false;
     }
-    let (known, next) = device
-        .knowledge()
-        .knows_near(beside.known, held.picture(), held.version());
-    beside.known = next;
-    known
+    device.knowledge().knows(held.picture(), held.version())
 }
 
 // Whether news supersedes the version, or the device has given it up.
@@ -130,7 +125,6 @@ pub(crate) fn dropped_of(
     let mut beside = Cursors {
         quiet: QuietRange::none(),
         kept: SetCursor::of(device.store()),
-        known: 0,
     };
     for held in set.iter() {
         if !is_dropped(news, device, &mut beside, held) {

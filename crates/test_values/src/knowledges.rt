@@ -74,9 +74,7 @@ fn learns_two(alloc: Global, knowledge: &mut Knowledge) -> bool {
         && knowledge.knows(picture(7), version(0, 1))
         && !knowledge.knows(picture(7), version(0, 2))
         && !knowledge.knows(picture(8), version(0, 1))
-        && knowledge
-            .knows_near(usize::MAX, picture(9), version(0, 1))
-            .0
+        && knowledge.knows(picture(9), version(0, 1))
 }
 
 // Whether the knowledge equals the star once it has learned it, and stays so.

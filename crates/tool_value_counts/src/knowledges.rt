@@ -95,8 +95,7 @@ fn knows_eleven(knowledge: &Knowledge) -> bool {
     let (Some(picture), Some(version)) = (PicNo::new(11), Version::new(Author::new(0), 11)) else {
         return false;
     };
-    let (known, _hint) = knowledge.knows_near(3, picture, version);
-    known && knowledge.knows(picture, version) && knowledge.fragments() == 21
+    knowledge.knows(picture, version) && knowledge.fragments() == 21
 }
 
 fn has_fragments(knowledge: &Knowledge) -> bool {

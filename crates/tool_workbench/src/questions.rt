@@ -17,7 +17,6 @@ pub fn ask(alloc: Global, kind: &str, n: u32, times: u32) -> Result<u64, AllocEr
 fn known(knowledge: &Knowledge, kind: &str, n: u32, times: u32) -> u64 {
     match kind {
         "knows" => known_at_random(knowledge, n, times),
-        "knows_in_order" => known_in_order(knowledge, n, times),
         _ => known_of_star(knowledge, n, times),
     }
 }
@@ -38,33 +37,12 @@ fn known_at_random(knowledge: &Knowledge, n: u32, times: u32) -> u64 {
     sum
 }
 
-// Asks of all pictures in rising order, again and again, whether their last version is known, or the one after it. Each
-// question uses the hint of the answer before.
-fn known_in_order(knowledge: &Knowledge, n: u32, times: u32) -> u64 {
-    let mut sum = 0u64;
-    let mut hint = 0;
-    for i in 0..times {
-        let number = i % n.max(1) + 1;
-        if let Some(picture) = PicNo::new(number) {
-            let (known, next) = knowledge.knows_near(hint, picture, version(1, number + i % 2));
-            hint = next;
-            if known {
-                sum = sum.wrapping_add(1);
-            }
-        }
-    }
-    sum
-}
-
-// The same for the first version of every picture, or the one after it.
+// Asks of pictures in rising order, again and again, whether the first version of every picture is known, or the one after it.
 fn known_of_star(knowledge: &Knowledge, n: u32, times: u32) -> u64 {
     let mut sum = 0u64;
-    let mut hint = 0;
     for i in 0..times {
         if let Some(picture) = PicNo::new(i % n.max(1) + 1) {
-            let (known, next) = knowledge.knows_near(hint, picture, version(1, 1 + i % 2));
-            hint = next;
-            if known {
+            if knowledge.knows(picture, version(1, 1 + i % 2)) {
                 sum = sum.wrapping_add(1);
             }
         }

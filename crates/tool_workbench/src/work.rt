@@ -31,7 +31,7 @@ fn of_kind(alloc: Global, kind: &str, n: u32, times: u32) -> Result<u64, AllocEr
         "learn_own" => learn_own(alloc, n, times),
         "learn" | "learn_few" => learn_of_one(alloc, kind, n, times),
         "learn_risen" => learn_risen(alloc, n, times),
-        "knows" | "knows_in_order" | "knows_of_star" => ask(alloc, kind, n, times),
+        "knows" | "knows_of_star" => ask(alloc, kind, n, times),
         _ => work(alloc, kind, n, times),
     }
 }

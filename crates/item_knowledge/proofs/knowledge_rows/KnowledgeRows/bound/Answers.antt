@@ -7,11 +7,11 @@ use Rattle.item_knowledge.proofs.knowledge_rows.KnowledgeRows.bound.Goals as goa
 pub returns-then-beyond-gt0 : goal.returns-then-beyond-gt0
 returns-then-beyond-gt0 c =
     let at = shown_at c.self.inside.star.items c.self.inside.rows c.args.self.now c.self.invariant c.self.view_is c.args.k c.requires.number in
-    let beyond = c.bound_near-beyond.ensures.bound ∙ ap (λ es. bound es c.args.author) c.entries.ensures.entries in
+    let beyond = c.bound_of-beyond.ensures ∙ ap (λ es. bound es c.args.author) c.entries.ensures.entries in
     omega (arith, at.bounds c.args.author, beyond, c.self.invariant.exceeds c.args.k c.args.author (omega arith))
 
 pub returns : goal.returns
 returns c =
     let at = shown_at c.self.inside.star.items c.self.inside.rows c.args.self.now c.self.invariant c.self.view_is c.args.k c.requires.number in
-    let beyond = c.bound_near-beyond.ensures.bound ∙ ap (λ es. bound es c.args.author) c.entries.ensures.entries in
-    omega (arith, at.bounds c.args.author, beyond, c.bound_near-bound.ensures.bound ∙ ap (λ ws. bound (pairs ws) c.args.author) c.deref.ensures.value)
+    let beyond = c.bound_of-beyond.ensures ∙ ap (λ es. bound es c.args.author) c.entries.ensures.entries in
+    omega (arith, at.bounds c.args.author, beyond, c.bound_of.ensures ∙ ap (λ ws. bound (pairs ws) c.args.author) c.deref.ensures.value)

@@ -1,6 +1,6 @@
 use Rattle.std.proofs.Common.{◌-◌, ◌≤◌, length}
 use Rattle.item_knowledge.specs.Searching.{pairs_in, IsBetween}
-use Rattle.item_knowledge.proofs.search.place_between.Given as goal
+use Rattle.item_knowledge.proofs.search.place_of.Given as goal
 
 abbrev pub invariant-loop-low : goal.invariant-loop-low
 invariant-loop-low l = record {

@@ -1,7 +1,7 @@
 use Rattle.std.proofs.Common.{ℕ, ◌+◌, ◌<◌, ◌-◌, ◌/◌, length, ap, arith}
 use Rattle.item_knowledge.specs.Searching.{pairs_in}
 use Rattle.item_knowledge.proofs.SearchLemmas.{below_to, from_on}
-use Rattle.item_knowledge.proofs.search.place_between.Goals as goal
+use Rattle.item_knowledge.proofs.search.place_of.Goals as goal
 
 pub loop-low-preserved-then-found-key : goal.loop-low-preserved-then-found-key
 loop-low-preserved-then-found-key c =
